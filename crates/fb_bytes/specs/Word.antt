@@ -1,0 +1,17 @@
+-- The numbers that stand in a buffer, and a buffer whose reads are counted.
+use Rattle.std.specs.Prelude.{ℕ, ℤ, zero, suc, ◌+◌, ◌*◌, List, slice_index}
+use Rattle.std.specs.Int.{cast_signed, w32}
+
+-- the number in the n bytes at p, the lowest byte first
+unfoldable pub word : List ℕ → ℕ → ℕ → ℕ
+word bytes p zero = 0
+word bytes p (suc n) = slice_index bytes p + 256 * word bytes (suc p) n
+
+-- the number in the four bytes at p, in two's complement
+abbrev pub signed_word : List ℕ → ℕ → ℤ
+signed_word bytes p = cast_signed w32 (word bytes p 4)
+
+-- a buffer, and how many reads were made of it
+pub record Metered : Type 0 where
+  pub bytes : List ℕ
+  pub count : ℕ
