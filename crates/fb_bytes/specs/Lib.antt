@@ -1,2 +1,4 @@
 pub mod Ends
+pub mod Framing
+pub mod Messages
 pub mod Word

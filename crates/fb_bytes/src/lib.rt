@@ -2,17 +2,27 @@
 //!
 //! A [`Meter`] counts every number that is read of a buffer. Sealed, it is a [`Window`], whose reads are
 //! free. [`Source`] and [`Sink`] are readers and writers that tell how often they were called, how often
-//! they failed, and whether the input has ended; [`Counted`] makes one of any reader or writer of std.
+//! they failed, and whether the input has ended; [`Counted`] makes one of any reader or writer of std. A
+//! [`Framer`] finds the messages in a stream of size-prefixed buffers that comes in pieces.
 #![tactic(auto)]
 
 pub mod counted;
 pub mod ends;
+pub mod framer;
+pub mod messages;
 pub mod meter;
+pub mod stream_fault;
+pub mod window;
+
+#[cfg(test)]
+mod framer_tests;
 #[cfg(test)]
 mod tests;
-pub mod window;
 
 pub use counted::Counted;
 pub use ends::{Sink, Source};
+pub use framer::{Framer, Taken};
+pub use messages::{one_reading, some_reading};
 pub use meter::{Meter, TooLong};
+pub use stream_fault::{LimitOutOfRange, StreamFault};
 pub use window::Window;

@@ -26,7 +26,7 @@ struct Vtable {
 
 /// The fault at this position, in this field, with the reads so far.
 fn fault(meter: &Meter<'_>, at: u64, field: Option<u16>, reason: Reason) -> Fault
-    ensures { result.reads ≡ meter.now.count }
+    ensures { result ≡ record { at = at; object = 0; field = field; reason = reason; reads = meter.now.count } }
 {
     Fault {
         at,
@@ -49,6 +49,7 @@ fn check_inline(
     ensures ok { OnOk result (IsInline meter.now.bytes at n alignment) }
     ensures short { length meter.now.bytes < 2 ^ 31 }
     ensures reads { IfErr result (λ f. f.reads ≡ meter.now.count) }
+    ensures field { IfErr result (λ f. f.field ≡ field) }
 {
     if !meter.fits(at, n) {
         return Err(fault(meter, at, field, Reason::OutOfBuffer));
@@ -68,6 +69,7 @@ fn read_offset(meter: &mut Meter<'_>, at: u64, field: Option<u16>) -> Result<u64
     ensures bytes { meter.new.bytes ≡ meter.old.bytes }
     ensures price { meter.new.count ≤ meter.old.count + 1 }
     ensures reads { IfErr result (λ f. f.reads ≡ meter.new.count) }
+    ensures field { IfErr result (λ f. f.field ≡ field) }
 {
     check_inline(meter, at, 4, 4, field)?;
     let offset = meter.u32_at(at);
@@ -132,6 +134,7 @@ fn check_string(meter: &mut Meter<'_>, at: u64, field: Option<u16>) -> Result<()
     ensures bytes { meter.new.bytes ≡ meter.old.bytes }
     ensures price { meter.new.count ≤ meter.old.count + 2 }
     ensures reads { IfErr result (λ f. f.reads ≡ meter.new.count) }
+    ensures field { IfErr result (λ f. f.field ≡ field) }
 {
     check_inline(meter, at, 4, 4, field)?;
     let count = u64::from(meter.u32_at(at));
@@ -152,6 +155,7 @@ fn check_text(meter: &mut Meter<'_>, at: u64, field: Option<u16>) -> Result<(), 
     ensures bytes { meter.new.bytes ≡ meter.old.bytes }
     ensures price { meter.new.count ≤ meter.old.count + 3 }
     ensures reads { IfErr result (λ f. f.reads ≡ meter.new.count) }
+    ensures field { IfErr result (λ f. f.field ≡ field) }
 {
     let string = read_offset(meter, at, field)?;
     check_string(meter, string, field)

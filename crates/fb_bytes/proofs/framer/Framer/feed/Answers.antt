@@ -1,0 +1,134 @@
+use Rattle.std.proofs.Common.{rules, ◌≡◌, ◌+◌, ◌-◌, ◌<◌, ◌≤◌, true, ◌++◌, length, take, drop, sym, ap, ap₂, ◌∙◌, refl, arith, length-append, length-drop, length-take}
+use Rattle.fb_bytes.specs.Messages.{declared}
+use Rattle.fb_bytes.specs.Framing.{Framing, held_bytes}
+use Rattle.fb_bytes.proofs.MessageLemmas.{declared_front}
+use Rattle.fb_bytes.proofs.FramingLemmas.{Completes, completed-held, completed-long, completed-stream, completed-oversize, completed-grown, completed-unfinished, fed-fits}
+use Rattle.fb_bytes.proofs.framer.Framer.feed.Goals as goal
+
+pub returns-then-declared-self-clause-fault : goal.returns-then-declared-self-clause-fault
+returns-then-declared-self-clause-fault g c = λ fine.
+    let f = c.self.inside in
+    let used = c.fill_prefix-used.result in
+    let prefix' = c.fill_prefix-used.new.prefix in
+    let body = f.body.items in
+    let piece = c.args.piece.now in
+    let w : Completes f.prefix prefix' body piece f.filled used = record {
+      four = c.self.invariant.four;
+      four' = search rules;
+      sum = search rules;
+      within = search rules;
+      bytes = c.fill_prefix-used.ensures.bytes;
+      full = c.self.invariant.full;
+      front = c.self.invariant.front;
+    } in
+    let held : held_bytes f.prefix f.filled body ≡ c.args.self.now.held = ap (λ (v : Framing). v.held) c.self.view_is in
+    let limit : f.limit ≡ c.args.self.now.limit = ap (λ (v : Framing). v.limit) c.self.view_is in
+    let front : take 4 (c.args.self.now.held ++ piece) ≡ prefix' = ap (λ l. take 4 (l ++ piece)) (sym held) ∙ completed-stream f.prefix prefix' body piece f.filled used w in
+    let number : declared (c.args.self.now.held ++ piece) ≡ declared prefix' = declared_front _ prefix' front in
+    let told : c.number_in-declared.result ≡ declared prefix' = c.number_in-declared.ensures in
+    let over : f.limit < 4 + declared prefix' = search rules in
+    let alone = completed-oversize f.limit f.prefix prefix' body piece f.filled used w (c.self.invariant.within (search rules)) over in
+    record {
+      oversize = (omega (arith, length-take 4 (c.args.self.now.held ++ piece), ap length front, w.four'), omega arith);
+      number = told ∙ sym number;
+      after = ap₂ (λ l h. record { limit = l; held = h; failed = true }) limit (alone ∙ sym front);
+    }
+
+pub returns-then-declared-self-clause-oversize : goal.returns-then-declared-self-clause-oversize
+returns-then-declared-self-clause-oversize g c = λ fine over.
+    let refused = returns-then-declared-self-clause-fault g c fine in
+    let number = refused.number in
+    cc
+
+pub returns-in-Ok-clause-ok : goal.returns-in-Ok-clause-ok
+returns-in-Ok-clause-ok g c =
+    let f = c.self.inside in
+    let used = c.fill_prefix-used.result in
+    let more = c.in-Ok.more.used in
+    let prefix' = c.fill_prefix-used.new.prefix in
+    let body = f.body.items in
+    let body' = c.grow.new.body.items in
+    let piece = c.args.piece.now in
+    let now = held_bytes prefix' (f.filled + used) body' in
+    let w : Completes f.prefix prefix' body piece f.filled used = record {
+      four = c.self.invariant.four;
+      four' = search rules;
+      sum = search rules;
+      within = search rules;
+      bytes = c.fill_prefix-used.ensures.bytes;
+      full = c.self.invariant.full;
+      front = c.self.invariant.front;
+    } in
+    let held : held_bytes f.prefix f.filled body ≡ c.args.self.now.held = ap (λ (v : Framing). v.held) c.self.view_is in
+    let limit : f.limit ≡ c.args.self.now.limit = ap (λ (v : Framing). v.limit) c.self.view_is in
+    let grown = completed-grown f.prefix prefix' body body' piece f.filled used more w c.in-Ok.ensures.held in
+    let at4 : length now ≡ length (held_bytes prefix' 4 body') = ap (λ n. length (held_bytes prefix' n body')) w.sum in
+    let number : declared now ≡ declared prefix' = declared_front now prefix' grown.1 in
+    let told : c.number_in-declared.result ≡ declared prefix' = c.number_in-declared.ensures in
+    let long : 4 ≤ length now = omega (arith, length-take 4 now, ap length grown.1, w.four') in
+    let fits : length (held_bytes prefix' 4 body') ≤ 4 + c.number_in-declared.result = c.in-Ok.ensures.fits in
+    let all : declared prefix' ≤ f.limit - 4 = search rules in
+    let low = c.self.invariant.low in
+    record {
+      limit = limit;
+      fine = search rules;
+      within = search rules;
+      held = grown.0 ∙ ap (λ l. l ++ take (used + more) piece) held;
+      message = λ whole.
+          let sized : length (held_bytes prefix' 4 body') ≡ 4 + c.number_in-declared.result = c.in-Ok.ensures.whole.0 (search rules) in
+          record { prefixed = long; whole = omega arith; within = omega arith };
+      partial = λ part.
+          let short : length (held_bytes prefix' 4 body') ≡ 4 + c.number_in-declared.result → ⊥ = λ e. let sure = c.in-Ok.ensures.whole.1 e in search rules in
+          let grew = ap length c.in-Ok.ensures.held in
+          let room = c.in-Ok.ensures.used in
+          let least = length-append (held_bytes prefix' 4 body) (take more (drop used piece)) in
+          let taken = length-take more (drop used piece) in
+          let rest = length-drop used piece in
+          (λ _. (omega arith, omega arith), omega arith);
+    }
+
+pub returns-in-Ok-clause-oversize : goal.returns-in-Ok-clause-oversize
+returns-in-Ok-clause-oversize g c = λ fine over.
+    absurd (fed-fits c.args.self.now _ c.args.piece.now _ _ (returns-in-Ok-clause-ok g c) over)
+
+pub returns-in-Err-clause-fault : goal.returns-in-Err-clause-fault
+returns-in-Err-clause-fault g c = λ fine.
+    let f = c.self.inside in
+    let used = c.fill_prefix-used.result in
+    let prefix' = c.fill_prefix-used.new.prefix in
+    let body = f.body.items in
+    let piece = c.args.piece.now in
+    let before = held_bytes prefix' 4 body in
+    let w : Completes f.prefix prefix' body piece f.filled used = record {
+      four = c.self.invariant.four;
+      four' = search rules;
+      sum = search rules;
+      within = search rules;
+      bytes = c.fill_prefix-used.ensures.bytes;
+      full = c.self.invariant.full;
+      front = c.self.invariant.front;
+    } in
+    let held : held_bytes f.prefix f.filled body ≡ c.args.self.now.held = ap (λ (v : Framing). v.held) c.self.view_is in
+    let limit : f.limit ≡ c.args.self.now.limit = ap (λ (v : Framing). v.limit) c.self.view_is in
+    let front : take 4 (c.args.self.now.held ++ piece) ≡ prefix' = ap (λ l. take 4 (l ++ piece)) (sym held) ∙ completed-stream f.prefix prefix' body piece f.filled used w in
+    let number : declared (c.args.self.now.held ++ piece) ≡ declared prefix' = declared_front _ prefix' front in
+    let told : c.number_in-declared.result ≡ declared prefix' = c.number_in-declared.ensures in
+    let was : before ≡ c.args.self.now.held ++ take used piece = completed-held f.prefix prefix' body piece f.filled used w ∙ ap (λ l. l ++ take used piece) held in
+    let short : length before < 4 + declared (c.args.self.now.held ++ piece) = omega (arith, c.in-Err.ensures.short) in
+    let long = completed-long f.prefix prefix' body piece f.filled used w in
+    let all : declared prefix' ≤ f.limit - 4 = search rules in
+    let low = c.self.invariant.low in
+    record {
+      unfinished = completed-unfinished c.args.self.now.limit c.args.self.now.held piece used (omega (arith, ap length was));
+      prefixed = omega (arith, length-take 4 (c.args.self.now.held ++ piece), ap length front, w.four');
+      some = omega arith;
+      fits = omega arith;
+      held = (used, w.within, ap (λ n. held_bytes prefix' n c.grow.new.body.items) w.sum ∙ c.in-Err.ensures.err ∙ was);
+      limit = limit;
+      failed = refl;
+    }
+
+pub returns-in-Err-clause-oversize : goal.returns-in-Err-clause-oversize
+returns-in-Err-clause-oversize g c = λ fine over.
+    let starved = returns-in-Err-clause-fault g c fine in
+    absurd (omega (arith, starved.fits, over.1))

@@ -1,0 +1,5 @@
+//! What the crates do where memory is scarce, by a little heap that refuses what doesn't fit.
+#![tactic(auto)]
+
+#[cfg(test)]
+mod framer_tests;
