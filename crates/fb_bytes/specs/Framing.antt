@@ -36,6 +36,7 @@ pub record IsStarved (old new : Framing) (piece : List ℕ) : Type 0 where
   pub some : 0 < declared (old.held ++ piece)
   pub fits : 4 + declared (old.held ++ piece) ≤ old.limit
   pub held : (n : ℕ) × (n ≤ length piece) × (new.held ≡ old.held ++ take n piece)
+  pub part : IsPartial new.limit new.held
   pub limit : new.limit ≡ old.limit
   pub failed : new.failed ≡ true
 
@@ -61,3 +62,4 @@ pub record IsFramed (limit filled : ℕ) (prefix body : List ℕ) (failed : Bool
   pub full : 0 < length body → filled ≡ 4
   pub front : 0 < length body → take 4 body ≡ prefix
   pub fits : 0 < length body → length body ≤ 4 + declared prefix
+  pub most : length (held_bytes prefix filled body) ≤ limit

@@ -148,9 +148,11 @@ impl<A: Allocator> Framer<A> {
         Err(StreamFault::Truncated { held })
     }
 
-    /// How many bytes are held.
+    /// How many bytes are held, which is never more than the limit.
     pub fn held(&self) -> u64
-        ensures { result ≡ length self.now.held }
+        ensures value { result ≡ length self.now.held }
+        ensures within { result ≤ self.now.limit }
+        ensures sound { self.now.failed ≡ false → IsHeld self.now.limit self.now.held }
     {
         self.bytes().len() as u64
     }
@@ -158,6 +160,7 @@ impl<A: Allocator> Framer<A> {
     #[tactic(auto, using(crate::proofs::MessageLemmas::declared_front))]
     fn bytes(&self) -> &[u8]
         ensures value { result.now ≡ self.now.held }
+        ensures within { length self.now.held ≤ self.now.limit }
         ensures sound { self.now.failed ≡ false → IsHeld self.now.limit self.now.held }
     {
         if self.body.is_empty() {

@@ -2,7 +2,7 @@ use Rattle.std.proofs.Common.{rules, ◌≡◌, ◌+◌, ◌-◌, ◌<◌, ◌�
 use Rattle.fb_bytes.specs.Messages.{declared}
 use Rattle.fb_bytes.specs.Framing.{Framing, held_bytes}
 use Rattle.fb_bytes.proofs.MessageLemmas.{declared_front}
-use Rattle.fb_bytes.proofs.FramingLemmas.{Completes, completed-held, completed-long, completed-stream, completed-oversize, completed-grown, completed-unfinished, fed-fits}
+use Rattle.fb_bytes.proofs.FramingLemmas.{Completes, completed-held, completed-front, completed-long, completed-stream, completed-oversize, completed-grown, completed-unfinished, fed-fits}
 use Rattle.fb_bytes.proofs.framer.Framer.feed.Goals as goal
 
 pub returns-then-declared-self-clause-fault : goal.returns-then-declared-self-clause-fault
@@ -116,6 +116,8 @@ returns-in-Err-clause-fault g c = λ fine.
     let was : before ≡ c.args.self.now.held ++ take used piece = completed-held f.prefix prefix' body piece f.filled used w ∙ ap (λ l. l ++ take used piece) held in
     let short : length before < 4 + declared (c.args.self.now.held ++ piece) = omega (arith, c.in-Err.ensures.short) in
     let long = completed-long f.prefix prefix' body piece f.filled used w in
+    let same = ap (λ n. held_bytes prefix' n c.grow.new.body.items) w.sum ∙ c.in-Err.ensures.err in
+    let begun : declared before ≡ declared prefix' = declared_front before prefix' (completed-front f.prefix prefix' body piece f.filled used w) in
     let all : declared prefix' ≤ f.limit - 4 = search rules in
     let low = c.self.invariant.low in
     record {
@@ -123,7 +125,8 @@ returns-in-Err-clause-fault g c = λ fine.
       prefixed = omega (arith, length-take 4 (c.args.self.now.held ++ piece), ap length front, w.four');
       some = omega arith;
       fits = omega arith;
-      held = (used, w.within, ap (λ n. held_bytes prefix' n c.grow.new.body.items) w.sum ∙ c.in-Err.ensures.err ∙ was);
+      held = (used, w.within, same ∙ was);
+      part = λ four. (omega (arith, ap length same, ap declared same), omega (arith, ap declared same));
       limit = limit;
       failed = refl;
     }
