@@ -9,15 +9,14 @@
 pub mod counted;
 pub mod ends;
 pub mod framer;
+#[cfg(test)]
+mod framer_tests;
 pub mod messages;
 pub mod meter;
 pub mod stream_fault;
-pub mod window;
-
-#[cfg(test)]
-mod framer_tests;
 #[cfg(test)]
 mod tests;
+pub mod window;
 
 pub use counted::Counted;
 pub use ends::{Sink, Source};

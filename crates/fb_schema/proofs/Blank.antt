@@ -1,0 +1,20 @@
+-- What goals name in place of an item that isn't there.
+use Rattle.std.proofs.Common.{[], false, pos, None}
+use Rattle.fb_schema.specs.declared.kinds.Kind.TheVariants.{Scalar}
+use Rattle.fb_schema.specs.declared.kinds.Scalar.TheVariants.{UType}
+use Rattle.fb_schema.specs.declared.views.FieldView.{FieldView}
+use Rattle.fb_schema.specs.declared.rows.TypeRow.{TypeRow}
+use Rattle.fb_schema.specs.declared.rows.FieldRow.{FieldRow}
+use Rattle.fb_schema.specs.declared.rows.MemberRow.{MemberRow}
+
+abbrev pub blank_type : TypeRow
+blank_type = record { base = pos 0; element = pos 0; index = pos 0; fixed_length = 0 }
+
+abbrev pub blank_field : FieldRow
+blank_field = record { name = record { ref_ptr = (0, 0); now = [] }; ty = blank_type; slot = 0; default = pos 0; deprecated = false; required = false; optional = false; offset64 = false }
+
+abbrev pub blank_member : MemberRow
+blank_member = record { name = record { ref_ptr = (0, 0); now = [] }; value = pos 0; ty = blank_type }
+
+abbrev pub blank_view : FieldView
+blank_view = record { number = 0; slot = 0; name = record { ref_ptr = (0, 0); now = [] }; kind = Scalar UType; default = pos 0; required = false; optional = false; size = 0; align = 0; companion = None }

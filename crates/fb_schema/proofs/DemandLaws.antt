@@ -1,0 +1,248 @@
+-- The laws of the first illegal demand.
+use Rattle.std.proofs.Common.{◌≡◌, ℕ, zero, suc, ℤ, ◌<◌, ◌≤◌, ◌⊎◌, inl, inr, Bool, true, false, List, [], ◌∷◌, length, slice_get, Option, Some, None, refl, sym, ◌∙◌, ap, subst, arith, if◌then◌else◌}
+use Rattle.fb_schema.specs.declared.fault.Code.{Code}
+use Rattle.fb_schema.specs.declared.fault.SchemaFault.{SchemaFault}
+use Rattle.fb_schema.specs.Rows.{Field, Object, Enum, Rows}
+use Rattle.fb_schema.specs.Demands.{Demand, Key, IsBefore, IsBroken, IsLegal, IsFirstIllegal, demands_at, demands_of_object, demands_of_struct_field, demands_of_table_field, demands_of_enum, demands_of_member, first_code, part_of}
+use Rattle.fb_schema.proofs.Numbers.{lt_or_eq, le_or_lt, least, is_none_or_some, slice_get_past}
+
+-- a broken demand of a list
+abbrev pub IsBrokenIn : List Demand → ℕ → Code → Type 0
+IsBrokenIn ds line code = slice_get ds line ≡ Some (record { code = code; broken = true })
+
+pub passed_over : (b : Bool) (c : Code) (rest : Option Code) → (if b then Some c else rest) ≡ None → (b ≡ false) × (rest ≡ None)
+passed_over true c rest e = absurd (cc)
+passed_over false c rest e = (refl, e)
+
+found_here : (b : Bool) (c code : Code) (rest : Option Code) → (if b then Some c else rest) ≡ Some code → ((b ≡ true) × (c ≡ code)) ⊎ ((b ≡ false) × (rest ≡ Some code))
+found_here true c code rest e = inl (refl, (let w : c ≡ code = cc in w))
+found_here false c code rest e = inr (refl, e)
+
+is_broken : (d : Demand) (code : Code) → Some d ≡ Some (record { code = code; broken = true }) → d.broken ≡ true
+is_broken d code e = let w : d ≡ (record { code = code; broken = true }) = cc in ap (λ (d : Demand). d.broken) w
+
+pub none_broken : (ds : List Demand) → first_code ds ≡ None → (line : ℕ) (code : Code) → IsBrokenIn ds line code → ⊥
+none_broken [] h line code b = cc
+none_broken (d ∷ ds) h zero code b = let p = passed_over d.broken d.code (first_code ds) h in let q = is_broken d code b in let w : true ≡ false = sym q ∙ p.0 in cc
+none_broken (d ∷ ds) h (suc line) code b = none_broken ds (passed_over d.broken d.code (first_code ds) h).1 line code b
+
+-- where no demand of a list is broken, the one at this line isn't
+pub clear_line : (ds : List Demand) → first_code ds ≡ None → (line : ℕ) (d : Demand) → slice_get ds line ≡ Some d → d.broken ≡ false
+clear_line [] h line d e = absurd (cc)
+clear_line (x ∷ ds) h zero d e = let same : x ≡ d = cc in ap (λ (d : Demand). d.broken) (sym same) ∙ (passed_over x.broken x.code (first_code ds) h).0
+clear_line (x ∷ ds) h (suc line) d e = clear_line ds (passed_over x.broken x.code (first_code ds) h).1 line d e
+
+-- the line of the first broken demand
+pub first_line : (ds : List Demand) (code : Code) → first_code ds ≡ Some code → (line : ℕ) × IsBrokenIn ds line code × ((m : ℕ) (c : Code) → m < line → IsBrokenIn ds m c → ⊥)
+first_line [] code h = absurd (cc)
+first_line (d ∷ ds) code h = elim (found_here d.broken d.code code (first_code ds) h) [
+  | inl e ↦ (0, (let w : d ≡ (record { code = code; broken = true }) = λ i. record { code = e.1 i; broken = e.0 i } in ap Some w), λ m c lt. absurd (omega arith))
+  | inr e ↦ (let later = first_line ds code e.1 in (suc later.0, later.1, first_before d ds e.0 later.0 later.2))
+] where
+  first_before : (d : Demand) (ds : List Demand) → d.broken ≡ false → (line : ℕ) → ((m : ℕ) (c : Code) → m < line → IsBrokenIn ds m c → ⊥) → (m : ℕ) (c : Code) → m < suc line → IsBrokenIn (d ∷ ds) m c → ⊥
+  first_before d ds whole line none zero c lt b = let q = is_broken d c b in let w : true ≡ false = sym q ∙ whole in cc
+  first_before d ds whole line none (suc m) c lt b = none m c (omega arith) b
+
+-- no demand is broken at this place of this owner
+abbrev pub IsClear : Rows → ℕ → ℕ → ℕ → Type 0
+IsClear rows level n place = first_code (demands_at rows level n place) ≡ None
+
+-- nor at any lower level, nor before this owner of its level, nor before this place of it
+pub record AreLevelsClear (rows : Rows) (level : ℕ) : Type 0 where
+  pub at : (l m place : ℕ) → l < level → IsClear rows l m place
+
+pub record AreClearBelow (rows : Rows) (level n : ℕ) : Type 0 where
+  pub at : (m place : ℕ) → m < n → IsClear rows level m place
+
+pub record IsClearBelow (rows : Rows) (level n place : ℕ) : Type 0 where
+  pub at : (p : ℕ) → p < place → IsClear rows level n p
+
+pub first_illegal : (rows : Rows) (level n place : ℕ) (code : Code) → AreLevelsClear rows level → AreClearBelow rows level n → IsClearBelow rows level n place → first_code (demands_at rows level n place) ≡ Some code → IsFirstIllegal rows (record { code = code; owner = n; part = part_of place })
+first_illegal rows level n place code levels owners clear h =
+    let l = first_line (demands_at rows level n place) code h in
+    record {
+      key = record { level = level; number = n; place = place; line = l.0 };
+      broken = l.1;
+      owner = refl;
+      part = refl;
+      first = λ k c before b. elim before [
+        | inl lower ↦ none_broken _ (levels.at k.level k.number k.place lower) k.line c b
+        | inr same ↦ (let at_level : IsBrokenIn (demands_at rows level k.number k.place) k.line c = subst (λ l. IsBrokenIn (demands_at rows l k.number k.place) k.line c) same.0 b in
+            elim same.1 [
+              | inl lower ↦ none_broken _ (owners.at k.number k.place lower) k.line c at_level
+              | inr owner ↦ (let at_n : IsBrokenIn (demands_at rows level n k.place) k.line c = subst (λ m. IsBrokenIn (demands_at rows level m k.place) k.line c) owner.0 at_level in
+                  elim owner.1 [
+                    | inl lower ↦ none_broken _ (clear.at k.place lower) k.line c at_n
+                    | inr there ↦ l.2 k.line c there.1 (subst (λ p. IsBrokenIn (demands_at rows level n p) k.line c) there.0 at_n)
+                  ])
+            ])
+      ];
+    }
+
+-- how many levels there are, how many owners a level has, and how many places an owner
+levels_end : ℕ
+levels_end = 2
+
+owners_end : Rows → ℕ → ℕ
+owners_end rows zero = length rows.objects
+owners_end rows (suc level) = length rows.enums
+
+object_end : Option Object → ℕ
+object_end None = 0
+object_end (Some o) = suc (length o.fields)
+
+enum_end : Option Enum → ℕ
+enum_end None = 0
+enum_end (Some e) = suc (length e.members)
+
+places_end : Rows → ℕ → ℕ → ℕ
+places_end rows zero n = object_end (slice_get rows.objects n)
+places_end rows (suc level) n = enum_end (slice_get rows.enums n)
+
+past_levels : (rows : Rows) (level n place : ℕ) → levels_end ≤ level → IsClear rows level n place
+unfolding levels_end
+past_levels rows zero n place h = absurd (omega arith)
+past_levels rows (suc zero) n place h = absurd (omega arith)
+past_levels rows (suc (suc level)) n place h = refl
+
+pub past_objects : (rows : Rows) (n place : ℕ) → length rows.objects ≤ n → IsClear rows 0 n place
+past_objects rows n place h = ap (λ o. first_code (demands_of_object rows n place o)) (slice_get_past rows.objects n h)
+
+pub past_enums : (rows : Rows) (n place : ℕ) → length rows.enums ≤ n → IsClear rows 1 n place
+past_enums rows n place h = ap (λ e. first_code (demands_of_enum rows place e)) (slice_get_past rows.enums n h)
+
+past_owners : (rows : Rows) (level n place : ℕ) → owners_end rows level ≤ n → IsClear rows level n place
+unfolding owners_end
+past_owners rows zero n place h = past_objects rows n place h
+past_owners rows (suc zero) n place h = past_enums rows n place h
+past_owners rows (suc (suc level)) n place h = refl
+
+past_list : (rows : Rows) (b : Bool) (bytesize : ℤ) (fields : List Field) (p : ℕ) → length fields ≤ p → first_code (if b then demands_of_struct_field rows bytesize fields p (slice_get fields p) else demands_of_table_field rows fields p (slice_get fields p)) ≡ None
+past_list rows true bytesize fields p h = ap (λ f. first_code (demands_of_struct_field rows bytesize fields p f)) (slice_get_past fields p h)
+past_list rows false bytesize fields p h = ap (λ f. first_code (demands_of_table_field rows fields p f)) (slice_get_past fields p h)
+
+past_fields : (rows : Rows) (n place : ℕ) (o : Option Object) → object_end o ≤ place → first_code (demands_of_object rows n place o) ≡ None
+unfolding object_end
+past_fields rows n place None h = refl
+past_fields rows n zero (Some o) h = absurd (omega arith)
+past_fields rows n (suc p) (Some o) h = past_list rows o.is_struct o.bytesize o.fields p (omega arith)
+
+pub nothing_asked : (b : Bool) (ds : List Demand) → first_code ds ≡ None → first_code (if b then ds else []) ≡ None
+nothing_asked true ds h = h
+nothing_asked false ds h = refl
+
+past_members : (rows : Rows) (place : ℕ) (e : Option Enum) → enum_end e ≤ place → first_code (demands_of_enum rows place e) ≡ None
+unfolding enum_end
+past_members rows place None h = refl
+past_members rows zero (Some e) h = refl
+past_members rows (suc p) (Some e) h = nothing_asked e.is_union _ (ap (λ m. first_code (demands_of_member rows e.members p m)) (slice_get_past e.members p (omega arith)))
+
+past_places : (rows : Rows) (level n place : ℕ) → places_end rows level n ≤ place → IsClear rows level n place
+unfolding places_end
+past_places rows zero n place h = past_fields rows n place (slice_get rows.objects n) h
+past_places rows (suc zero) n place h = past_members rows place (slice_get rows.enums n) h
+past_places rows (suc (suc level)) n place h = refl
+
+pub is_legal : (rows : Rows) → ((level n place : ℕ) → IsClear rows level n place) → IsLegal rows
+is_legal rows clear = record { none = λ k c b. none_broken _ (clear k.level k.number k.place) k.line c b }
+
+-- objects and enums are clear
+pub both_clear : (rows : Rows) → AreClearBelow rows 0 (length rows.objects) → AreClearBelow rows 1 (length rows.enums) → IsLegal rows
+both_clear rows objects enums = is_legal rows clear where
+  clear : (level n place : ℕ) → IsClear rows level n place
+  clear zero n place = elim (le_or_lt (length rows.objects) n) [ inl past ↦ past_objects rows n place past | inr lt ↦ objects.at n place lt ]
+  clear (suc zero) n place = elim (le_or_lt (length rows.enums) n) [ inl past ↦ past_enums rows n place past | inr lt ↦ enums.at n place lt ]
+  clear (suc (suc level)) n place = refl
+
+pub objects_clear : (rows : Rows) → AreClearBelow rows 0 (length rows.objects) → AreLevelsClear rows 1
+objects_clear rows objects = record { at = go } where
+  go : (l m place : ℕ) → l < 1 → IsClear rows l m place
+  go zero m place lt = elim (le_or_lt (length rows.objects) m) [ inl past ↦ past_objects rows m place past | inr low ↦ objects.at m place low ]
+  go (suc l) m place lt = absurd (omega arith)
+
+pub no_levels : (rows : Rows) → AreLevelsClear rows 0
+no_levels rows = record { at = λ l m place lt. absurd (omega arith) }
+
+-- Of two keys one is before the other, or they are the same.
+is_before_or_same : (a b : Key) → IsBefore a b ⊎ (IsBefore b a ⊎ (a ≡ b))
+is_before_or_same a b = elim (le_or_lt a.level b.level) [
+  | inr more ↦ inr (inl (inl more))
+  | inl le ↦ elim (lt_or_eq a.level b.level le) [
+    | inl less ↦ inl (inl less)
+    | inr v ↦ elim (le_or_lt a.number b.number) [
+      | inr more ↦ inr (inl (inr (sym v, inl more)))
+      | inl le ↦ elim (lt_or_eq a.number b.number le) [
+        | inl less ↦ inl (inr (v, inl less))
+        | inr n ↦ elim (le_or_lt a.place b.place) [
+          | inr more ↦ inr (inl (inr (sym v, inr (sym n, inl more))))
+          | inl le ↦ elim (lt_or_eq a.place b.place le) [
+            | inl less ↦ inl (inr (v, inr (n, inl less)))
+            | inr p ↦ elim (le_or_lt a.line b.line) [
+              | inr more ↦ inr (inl (inr (sym v, inr (sym n, inr (sym p, more)))))
+              | inl le ↦ elim (lt_or_eq a.line b.line le) [
+                | inl less ↦ inl (inr (v, inr (n, inr (p, less))))
+                | inr l ↦ inr (inr (λ i. record { level = v i; number = n i; place = p i; line = l i }))
+              ]
+            ]
+          ]
+        ]
+      ]
+    ]
+  ]
+]
+
+same_code : (c d : Code) → ◌≡◌ {A = Option Demand} (Some (record { code = c; broken = true })) (Some (record { code = d; broken = true })) → c ≡ d
+same_code c d e = let w : ◌≡◌ {A = Demand} (record { code = c; broken = true }) (record { code = d; broken = true }) = cc in ap (λ (d : Demand). d.code) w
+
+-- At most one fault is the first.
+pub one_first : (rows : Rows) (f g : SchemaFault) → IsFirstIllegal rows f → IsFirstIllegal rows g → f ≡ g
+one_first rows f g a b = elim (is_before_or_same a.key b.key) [
+  | inl before ↦ absurd (b.first a.key f.code before a.broken)
+  | inr other ↦ elim other [
+    | inl before ↦ absurd (a.first b.key g.code before b.broken)
+    | inr same ↦ (
+        let there : IsBroken rows b.key f.code = subst (λ (k : Key). IsBroken rows k f.code) same a.broken in
+        let code = same_code f.code g.code (sym there ∙ b.broken) in
+        let owner : f.owner ≡ g.owner = a.owner ∙ ap (λ (k : Key). k.number) same ∙ sym b.owner in
+        let part : f.part ≡ g.part = a.part ∙ ap (λ (k : Key). part_of k.place) same ∙ sym b.part in
+        λ i. record { code = code i; owner = owner i; part = part i })
+  ]
+]
+
+-- Rows are legal or have a first illegal demand: the least level, in it the least owner, in it the least place.
+abbrev IsRefusedAt : Rows → ℕ → ℕ → Type 0
+IsRefusedAt rows level n = (place : ℕ) × (code : Code) × (first_code (demands_at rows level n place) ≡ Some code) × IsClearBelow rows level n place
+
+abbrev IsRefusedIn : Rows → ℕ → Type 0
+IsRefusedIn rows level = (n : ℕ) × IsRefusedAt rows level n × AreClearBelow rows level n
+
+decide_owner : (rows : Rows) (level n : ℕ) → ((place : ℕ) → IsClear rows level n place) ⊎ IsRefusedAt rows level n
+decide_owner rows level n =
+    elim (least (λ p. (code : Code) × (first_code (demands_at rows level n p) ≡ Some code)) (IsClear rows level n) (λ p. is_none_or_some (first_code (demands_at rows level n p))) (places_end rows level n)) [
+      | inl clear ↦ inl (λ p. elim (le_or_lt (places_end rows level n) p) [ inl past ↦ past_places rows level n p past | inr lt ↦ clear p lt ])
+      | inr found ↦ inr (found.0, found.2.0, found.2.1, record { at = found.3 })
+    ]
+
+decide_level : (rows : Rows) (level : ℕ) → ((n place : ℕ) → IsClear rows level n place) ⊎ IsRefusedIn rows level
+decide_level rows level =
+    elim (least (IsRefusedAt rows level) (λ n. (place : ℕ) → IsClear rows level n place) (decide_owner rows level) (owners_end rows level)) [
+      | inl clear ↦ inl (λ n p. elim (le_or_lt (owners_end rows level) n) [ inl past ↦ past_owners rows level n p past | inr lt ↦ clear n lt p ])
+      | inr found ↦ inr (found.0, found.2, record { at = λ m p lt. found.3 m lt p })
+    ]
+
+pub decide : (rows : Rows) → IsLegal rows ⊎ ((f : SchemaFault) × IsFirstIllegal rows f)
+decide rows =
+    elim (least (IsRefusedIn rows) (λ l. (n place : ℕ) → IsClear rows l n place) (decide_level rows) levels_end) [
+      | inl clear ↦ inl (is_legal rows (λ l n p. elim (le_or_lt levels_end l) [ inl past ↦ past_levels rows l n p past | inr lt ↦ clear l lt n p ]))
+      | inr found ↦ (let here = found.2.1 in inr (
+        record { code = here.1; owner = found.2.0; part = part_of here.0 },
+        first_illegal rows found.0 found.2.0 here.0 here.1 (record { at = λ l m p lt. found.3 l lt m p }) found.2.2 here.3 here.2,
+      ))
+    ]
+
+-- Rows are legal exactly where no fault is the first.
+pub legal_without_first : (rows : Rows) → ((f : SchemaFault) → IsFirstIllegal rows f → ⊥) → IsLegal rows
+legal_without_first rows none = elim (decide rows) [ inl legal ↦ legal | inr found ↦ absurd (none found.0 found.1) ]
+
+pub no_first_if_legal : (rows : Rows) → IsLegal rows → (f : SchemaFault) → IsFirstIllegal rows f → ⊥
+no_first_if_legal rows legal f first = legal.none first.key f.code first.broken

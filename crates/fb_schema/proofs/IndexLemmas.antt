@@ -1,0 +1,108 @@
+-- The steps by which the index of a schema is made.
+use Rattle.std.proofs.Common.{◌≡◌, ℕ, zero, suc, ◌+◌, ◌<◌, ◌⊎◌, inl, inr, Bool, true, false, not, ◌||◌, ◌==◌, ◌%◌, nat_lt, List, [], ◌∷◌, ◌++◌, length, get_or, slice_get, take, map, max, Some, None, refl, sym, ◌∙◌, ap, subst, arith, if◌then◌else◌}
+use Rattle.std.proofs.lemmas.List.{length-map, map-append, get_or-take, get_or-map, length-take-le}
+use Rattle.std.proofs.lemmas.List.Folds.{list_any-from_Any}
+use Rattle.std.proofs.lemmas.Option.{slice_get-get_or}
+use Rattle.std.proofs.lemmas.Bool.Decides.{Decides-eqb}
+use Rattle.std.proofs.lemmas.Grind.{take_at_read}
+use Rattle.fb_schema.specs.declared.fault.Code.TheVariants.{BadSlot}
+use Rattle.fb_schema.specs.Demands.{Demand, IsLegal, demands_of_object, demands_of_table_field, demands_of_struct_field, stands_before, same_slot}
+use Rattle.fb_schema.specs.Live.{AreApart, live_rows, widest_of}
+use Rattle.fb_schema.specs.Matched.{AreMatched}
+use Rattle.fb_schema.specs.Rows.{Rows, Field, Object}
+use Rattle.fb_schema.proofs.Numbers.{lt_or_eq, le_or_lt, get_or_default}
+use Rattle.fb_schema.proofs.WalkLemmas.{mapped_at}
+
+pub same_length : {X Y Z : Type 0} (f : X → Z) (g : Y → Z) (xs : List X) (ys : List Y) → map f xs ≡ map g ys → length xs ≡ length ys
+same_length f g xs ys e = sym (length-map xs f) ∙ ap length e ∙ length-map ys g
+
+-- In a legal table no slot stands twice.
+or_true : (a b c : Bool) → c ≡ true → (a || b || c) ≡ true
+or_true true b c e = refl
+or_true false true c e = refl
+or_true false false c e = e
+
+pub table_list : (b : Bool) (some other : List Demand) → b ≡ false → (if b then some else other) ≡ other
+table_list true some other e = absurd (let w : true ≡ false = e in cc)
+table_list false some other e = refl
+
+no_slot_again : (rows : Rows) (n : ℕ) (o : Object) → IsLegal rows → slice_get rows.objects n ≡ Some o → o.is_struct ≡ false → (i j : ℕ) (d : Field) → i < j → j < length o.fields → (get_or o.fields i d).slot ≡ (get_or o.fields j d).slot → ⊥
+no_slot_again rows n o legal at table i j d lt within e =
+    let f = get_or o.fields j d in
+    let g = get_or o.fields i d in
+    let short = length-take-le j o.fields (omega arith) in
+    let taken : stands_before same_slot o.fields j f ≡ true =
+    list_any-from_Any (λ x. same_slot x f) (take j o.fields) (i, g, omega arith, get_or-take j o.fields i g lt ∙ get_or_default o.fields i g d (omega arith), (Decides-eqb g.slot f.slot).1 e) in
+    legal.none (record { level = 0; number = n; place = suc j; line = 1 }) BadSlot
+    (ap (λ x. slice_get (demands_of_object rows n (suc j) x) 1) at
+    ∙ ap (λ ds. slice_get ds 1) (table_list o.is_struct (demands_of_struct_field rows o.bytesize o.fields j (slice_get o.fields j)) (demands_of_table_field rows o.fields j (slice_get o.fields j)) table)
+    ∙ ap (λ x. slice_get (demands_of_table_field rows o.fields j x) 1) (slice_get-get_or o.fields j d within)
+    ∙ ap (λ b. Some (record { code = BadSlot; broken = b })) (or_true (not (f.slot % 2 == 0)) (nat_lt f.slot 4) (stands_before same_slot o.fields j f) taken))
+
+pub legal_slots : (rows : Rows) (n : ℕ) (o : Object) → IsLegal rows → slice_get rows.objects n ≡ Some o → o.is_struct ≡ false → AreApart o.fields
+legal_slots rows n o legal at table = record {
+  at = λ i j d a b e. elim (le_or_lt i j) [
+    | inl le ↦ elim (lt_or_eq i j le) [ inl lt ↦ absurd (no_slot_again rows n o legal at table i j d lt b e) | inr same ↦ same ]
+    | inr lt ↦ absurd (no_slot_again rows n o legal at table j i d lt a (sym e))
+  ];
+}
+
+-- Matched lists grow together.
+slice_get_end : {X : Type 0} (xs : List X) (x y : X) (n : ℕ) → slice_get (xs ++ x ∷ []) n ≡ Some y → (slice_get xs n ≡ Some y) ⊎ ((n ≡ length xs) × (x ≡ y))
+slice_get_end [] x y zero e = inr (refl, (let w : x ≡ y = cc in w))
+slice_get_end [] x y (suc n) e = absurd (let w : None ≡ Some y = e in cc)
+slice_get_end (z ∷ zs) x y zero e = inl e
+slice_get_end (z ∷ zs) x y (suc n) e = elim (slice_get_end zs x y n e) [ inl a ↦ inl a | inr b ↦ inr (ap suc b.0, b.1) ]
+
+slice_get_below : {X : Type 0} (xs : List X) (x : X) (n : ℕ) → slice_get xs n ≡ Some x → n < length xs
+slice_get_below [] x n e = absurd (let w : None ≡ Some x = e in cc)
+slice_get_below (y ∷ ys) x zero e = omega arith
+slice_get_below (y ∷ ys) x (suc n) e = let w = slice_get_below ys x n e in omega arith
+
+length_one : {X : Type 0} (xs : List X) (x : X) → length (xs ++ x ∷ []) ≡ suc (length xs)
+length_one [] x = refl
+length_one (y ∷ ys) x = ap suc (length_one ys x)
+
+pub matched_more : {X Y : Type 0} (R : X → Y → Type 0) (xs : List X) (ys : List Y) (x : X) (y : Y) → AreMatched R xs ys → R x y → AreMatched R (xs ++ x ∷ []) (ys ++ y ∷ [])
+matched_more R xs ys x y h r = record {
+  long = length_one ys y ∙ ap suc h.long ∙ sym (length_one xs x);
+  at = λ n a b e f. elim (slice_get_end xs x a n e) [
+    | inl old ↦ elim (slice_get_end ys y b n f) [
+      | inl there ↦ h.at n a b old there
+      | inr here ↦ absurd (let lt = slice_get_below xs a n old in let m = here.0 in let l = h.long in omega arith)
+    ]
+    | inr new ↦ elim (slice_get_end ys y b n f) [
+      | inl there ↦ absurd (let lt = slice_get_below ys b n there in let m = new.0 in let l = h.long in omega arith)
+      | inr here ↦ subst (λ z. R z b) new.1 (subst (R x) here.1 r)
+    ]
+  ];
+}
+
+pub matched_pushed : {X Y : Type 0} (R : X → Y → Type 0) (xs xs' : List X) (ys ys' : List Y) (x : X) (y : Y) → AreMatched R xs ys → xs' ≡ xs ++ x ∷ [] → ys' ≡ ys ++ y ∷ [] → R x y → AreMatched R xs' ys'
+matched_pushed R xs xs' ys ys' x y h e f r = subst (λ zs. AreMatched R zs ys') (sym e) (subst (AreMatched R (xs ++ x ∷ [])) (sym f) (matched_more R xs ys x y h r))
+
+-- a step of the loops over owners
+pub matched_step : {X Y : Type 0} (R : X → Y → Type 0) (xs : List X) (i : ℕ) (x : X) (old new : List Y) (y : Y) → i < length xs → x ≡ get_or xs i x → AreMatched R (take i xs) old → new ≡ old ++ y ∷ [] → R x y → AreMatched R (take (i + 1) xs) new
+matched_step R xs i x old new y lt is h e r =
+    let grown = matched_more R (take i xs) old x y h r in
+    let more : take i xs ++ x ∷ [] ≡ take (i + 1) xs = ap (λ z. take i xs ++ z ∷ []) is ∙ sym (take_at_read xs i x lt).1 in
+    subst (λ zs. AreMatched R zs new) more (subst (AreMatched R (take i xs ++ x ∷ [])) (sym e) grown)
+
+pub lists_step : {X Y Z : Type 0} (f : List Y → Z) (g : X → Z) (xs : List X) (i : ℕ) (x : X) (old new : List (List Y)) (y : List Y) → i < length xs → x ≡ get_or xs i x → map f old ≡ map g (take i xs) → new ≡ old ++ y ∷ [] → f y ≡ g x → map f new ≡ map g (take (i + 1) xs)
+lists_step f g xs i x old new y lt is h e r =
+    ap (map f) e ∙ map-append f old (y ∷ []) ∙ ap (λ zs. zs ++ f y ∷ []) h ∙ ap (λ z. map g (take i xs) ++ z ∷ []) (r ∙ ap g is)
+    ∙ sym (map-append g (take i xs) (get_or xs i x ∷ [])) ∙ ap (map g) (sym (take_at_read xs i x lt).1)
+
+widest_end : (xs : List Object) (o : Object) → widest_of (xs ++ o ∷ []) ≡ max (widest_of xs) (length (live_rows o))
+widest_end [] o = omega arith
+widest_end (x ∷ xs) o = let e = widest_end xs o in omega arith
+
+pub widest_step : (xs : List Object) (i : ℕ) (o : Object) (old new count : ℕ) → i < length xs → o ≡ get_or xs i o → old ≡ widest_of (take i xs) → new ≡ max old count → count ≡ length (live_rows o) → new ≡ widest_of (take (i + 1) xs)
+widest_step xs i o old new count lt is h e c =
+    e ∙ ap (λ n. max n count) h ∙ ap (max (widest_of (take i xs))) (c ∙ ap (λ z. length (live_rows z)) is) ∙ sym (widest_end (take i xs) (get_or xs i o)) ∙ ap widest_of (sym (take_at_read xs i o lt).1)
+
+pub kept_read : {X Y : Type 0} (f : X → Y) (xs : List X) (i : ℕ) (x : X) → i < length xs → x ≡ get_or xs i x → slice_get (map f xs) i ≡ Some (f x)
+kept_read f xs i x lt is = mapped_at f xs i x (slice_get-get_or xs i x lt ∙ ap Some (sym is))
+
+pub mapped_read : {X Y : Type 0} (f : X → Y) (xs : List X) (i : ℕ) (x : X) → i < length xs → x ≡ get_or xs i x → f x ≡ get_or (map f xs) i (f x)
+mapped_read f xs i x lt is = ap f is ∙ sym (get_or-map f xs i x (f x) lt)

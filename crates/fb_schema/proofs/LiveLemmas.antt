@@ -1,0 +1,247 @@
+-- Fields in rising slot are those that an insertion sort gives.
+use Rattle.std.proofs.Common.{◌≡◌, ◌≢◌, ℕ, zero, suc, ◌+◌, ◌-◌, ◌<◌, ◌≤◌, ◌==◌, ◌⊎◌, inl, inr, Bool, true, false, List, [], ◌∷◌, length, get_or, map, filter, position, Some, None, refl, sym, ◌∙◌, ap, subst, arith, IsPermutation, nat_le, if◌then◌else◌, cond}
+use Rattle.std.proofs.lemmas.Cmp.{nat_cmp_total, tied_itself}
+use Rattle.std.proofs.lemmas.List.{length-map, get_or-map}
+use Rattle.std.proofs.lemmas.List.Sorted.{IsPermutation-keeps, IsPermutation-map, Contains-permutation, IsPermutation-sym}
+use Rattle.std.proofs.lemmas.List.Edits.{swapped_from_swap}
+use Rattle.std.proofs.lemmas.List.Elements.{Contains-get_or}
+use Rattle.std.proofs.lemmas.Bool.Decides.{Decides-eqb}
+use borrow.Author.Tests.{leb-true, le-leb}
+use Rattle.std.specs.List.{Contains, swap}
+use Rattle.std.specs.List.Sorted.{IsSortedBy, IsNonDecreasingBy, IsPartitionPoint}
+use Rattle.std.specs.Ordering.{nat_cmp, is_lt, ordering_index}
+use Rattle.std.specs.declared.cmp.Ordering.TheVariants.{Less, Equal, Greater}
+use Rattle.fb_schema.specs.declared.rows.FieldRow.{FieldRow}
+use Rattle.fb_schema.specs.Rows.{Field, field_of}
+use Rattle.fb_schema.specs.Live.{insert_by_slot, by_slot, is_live, AreApart, AreRising}
+use Rattle.fb_schema.proofs.Numbers.{lt_or_eq, le_or_lt, slice_get_some}
+use Rattle.fb_schema.proofs.OrderLemmas.{length-swap}
+use Rattle.fb_schema.proofs.PositionLemmas.{found_position, no_position}
+use Rattle.fb_schema.proofs.Search.{nat_tied, search_missed, not_true}
+
+contains_cases : {X : Type 0} (y z : X) (ys : List X) → Contains (y ∷ ys) z → (y ≡ z) ⊎ Contains ys z
+contains_cases y z ys (zero, lt, e) = inl e
+contains_cases y z ys (suc k, lt, e) = inr (k, omega arith, e)
+
+contains_head : {X : Type 0} (y : X) (ys : List X) → Contains (y ∷ ys) y
+contains_head y ys = (0, omega arith, refl)
+
+contains_tail : {X : Type 0} (y z : X) (ys : List X) → Contains ys z → Contains (y ∷ ys) z
+contains_tail y z ys h = (suc h.0, omega (arith, h.1), h.2)
+
+-- each slot is below those after it
+abbrev pub Rises : List Field → Type 0
+Rises [] = Unit {0}
+Rises (f ∷ fs) = ((g : Field) → Contains fs g → f.slot < g.slot) × Rises fs
+
+-- rising lists of the same fields are one list
+same_rising : (xs ys : List Field) → Rises xs → Rises ys → ((z : Field) → Contains xs z → Contains ys z) → ((z : Field) → Contains ys z → Contains xs z) → xs ≡ ys
+same_rising [] [] r s f g = refl
+same_rising [] (y ∷ ys) r s f g = absurd (let w = g y (contains_head y ys) in omega (arith, w.1))
+same_rising (x ∷ xs) [] r s f g = absurd (let w = f x (contains_head x xs) in omega (arith, w.1))
+same_rising (x ∷ xs) (y ∷ ys) r s f g =
+    let same : x ≡ y = elim (contains_cases y x ys (f x (contains_head x xs))) [
+      | inl e ↦ sym e
+      | inr there ↦ elim (contains_cases x y xs (g y (contains_head y ys))) [
+        | inl e ↦ e
+        | inr here ↦ absurd (let a = s.0 x there in let b = r.0 y here in omega arith)
+      ]
+    ] in
+    λ i. same i ∷ same_rising xs ys r.1 s.1
+    (λ z h. elim (contains_cases y z ys (f z (contains_tail x z xs h))) [ inl e ↦ absurd (let a = r.0 z h in let b = ap (λ (f : Field). f.slot) (same ∙ e) in omega arith) | inr t ↦ t ])
+    (λ z h. elim (contains_cases x z xs (g z (contains_tail y z ys h))) [ inl e ↦ absurd (let a = s.0 z h in let b = ap (λ (f : Field). f.slot) (sym same ∙ e) in omega arith) | inr t ↦ t ]) i
+
+abbrev SameMembers : List Field → List Field → Field → Type 0
+SameMembers xs ys z = (Contains xs z → Contains ys z) × (Contains ys z → Contains xs z)
+
+one_inserted : (f g z : Field) (gs rest : List Field) → SameMembers rest (f ∷ gs) z → (b : Bool) → SameMembers (if b then f ∷ g ∷ gs else g ∷ rest) (f ∷ g ∷ gs) z
+one_inserted f g z gs rest ih true = (λ h. h, λ h. h)
+one_inserted f g z gs rest ih false = (
+  λ h. elim (contains_cases g z rest h) [
+    | inl e ↦ contains_tail f z (g ∷ gs) (subst (Contains (g ∷ gs)) e (contains_head g gs))
+    | inr t ↦ elim (contains_cases f z gs (ih.0 t)) [ inl e ↦ subst (Contains (f ∷ g ∷ gs)) e (contains_head f (g ∷ gs)) | inr u ↦ contains_tail f z (g ∷ gs) (contains_tail g z gs u) ]
+  ],
+  λ h. elim (contains_cases f z (g ∷ gs) h) [
+    | inl e ↦ contains_tail g z rest (ih.1 (subst (Contains (f ∷ gs)) e (contains_head f gs)))
+    | inr t ↦ elim (contains_cases g z gs t) [ inl e ↦ subst (Contains (g ∷ rest)) e (contains_head g rest) | inr u ↦ contains_tail g z rest (ih.1 (contains_tail f z gs u)) ]
+  ],
+)
+
+inserted : (f z : Field) (gs : List Field) → SameMembers (insert_by_slot f gs) (f ∷ gs) z
+inserted f z [] = (λ h. h, λ h. h)
+inserted f z (g ∷ gs) = one_inserted f g z gs (insert_by_slot f gs) (inserted f z gs) (nat_le f.slot g.slot)
+
+one_rises : (f g : Field) (gs rest : List Field) → Rises (g ∷ gs) → ((z : Field) → Contains (g ∷ gs) z → f.slot ≢ z.slot) → ((z : Field) → Contains rest z → Contains (f ∷ gs) z) → Rises rest
+    → (b : Bool) → (b ≡ true → f.slot ≤ g.slot) → (f.slot ≤ g.slot → b ≡ true) → Rises (if b then f ∷ g ∷ gs else g ∷ rest)
+one_rises f g gs rest r apart members ih true le _ = (
+  λ z h. elim (contains_cases g z gs h) [
+    | inl e ↦ (let a = apart g (contains_head g gs) in let b = le refl in let c = ap (λ (f : Field). f.slot) e in omega arith)
+    | inr t ↦ (let a = apart g (contains_head g gs) in let b = le refl in let c = r.0 z t in omega arith)
+  ],
+  r,
+)
+one_rises f g gs rest r apart members ih false _ less = (
+  λ z h. elim (contains_cases f z gs (members z h)) [
+    | inl e ↦ elim (le_or_lt f.slot g.slot) [ inl le ↦ absurd (let w : false ≡ true = less le in cc) | inr lt ↦ (let c = ap (λ (f : Field). f.slot) e in omega arith) ]
+    | inr t ↦ r.0 z t
+  ],
+  ih,
+)
+
+insert_rises : (f : Field) (gs : List Field) → Rises gs → ((g : Field) → Contains gs g → f.slot ≢ g.slot) → Rises (insert_by_slot f gs)
+insert_rises f [] r apart = (λ g h. absurd (omega (arith, h.1)), tt)
+insert_rises f (g ∷ gs) r apart =
+    one_rises f g gs (insert_by_slot f gs) r apart (λ z. (inserted f z gs).0) (insert_rises f gs r.1 (λ z h. apart z (contains_tail g z gs h))) (nat_le f.slot g.slot) (leb-true f.slot g.slot) (le-leb f.slot g.slot)
+
+pub sorted_members : (z : Field) (fs : List Field) → SameMembers (by_slot fs) fs z
+sorted_members z [] = (λ h. h, λ h. h)
+sorted_members z (f ∷ fs) = (
+  λ h. elim (contains_cases f z (by_slot fs) ((inserted f z (by_slot fs)).0 h)) [ inl e ↦ subst (Contains (f ∷ fs)) e (contains_head f fs) | inr t ↦ contains_tail f z fs ((sorted_members z fs).0 t) ],
+  λ h. (inserted f z (by_slot fs)).1 (elim (contains_cases f z fs h) [ inl e ↦ subst (Contains (f ∷ by_slot fs)) e (contains_head f (by_slot fs)) | inr t ↦ contains_tail f z (by_slot fs) ((sorted_members z fs).1 t) ]),
+)
+
+apart_tail : (f : Field) (fs : List Field) → AreApart (f ∷ fs) → AreApart fs
+apart_tail f fs h = record { at = λ i j d a b e. (let w : suc i ≡ suc j = h.at (suc i) (suc j) d (omega arith) (omega arith) e in omega arith) }
+
+apart_head : (f : Field) (fs : List Field) → AreApart (f ∷ fs) → (g : Field) → Contains fs g → f.slot ≢ g.slot
+apart_head f fs h g c e = let w : 0 ≡ suc c.0 = h.at 0 (suc c.0) g (omega arith) (omega (arith, c.1)) (e ∙ ap (λ (f : Field). f.slot) (sym c.2)) in omega arith
+
+pub sorted_rises : (fs : List Field) → AreApart fs → Rises (by_slot fs)
+sorted_rises [] h = tt
+sorted_rises (f ∷ fs) h = insert_rises f (by_slot fs) (sorted_rises fs (apart_tail f fs h)) (λ g c. apart_head f fs h g ((sorted_members g fs).0 c))
+
+rises_from_order : (fs : List Field) → IsNonDecreasingBy (λ (f : Field). f.slot) fs → AreApart fs → Rises fs
+rises_from_order [] up h = tt
+rises_from_order (f ∷ fs) up h = (
+  λ g c. (let a = apart_head f fs h g c in let b = up 0 (suc c.0) g (omega arith) (omega (arith, c.1)) in let e = ap (λ (f : Field). f.slot) c.2 in omega arith),
+  rises_from_order fs (λ i j d a b. up (suc i) (suc j) d (omega arith) (omega arith)) (apart_tail f fs h),
+)
+
+apart_permutation : (xs ys : List Field) → IsPermutation xs ys → AreApart xs → AreApart ys
+apart_permutation xs ys p h = IsPermutation-keeps xs AreApart h (λ l i j p q old. record {
+  at = λ a b d la lb e.
+      let s = swapped_from_swap l (swap l i j) i j d p q refl in
+      let la' : a < length l = rw (length-swap l i j p q) at la in
+      let lb' : b < length l = rw (length-swap l i j p q) at lb in
+      let o = old.at in
+      grind (arith, s, o);
+}) ys p
+
+is_by_slot : (xs ys : List Field) → AreApart xs → IsPermutation xs ys → IsNonDecreasingBy (λ (f : Field). f.slot) ys → ys ≡ by_slot xs
+is_by_slot xs ys apart p up =
+    same_rising ys (by_slot xs) (rises_from_order ys up (apart_permutation xs ys p apart)) (sorted_rises xs apart)
+    (λ z h. (sorted_members z xs).1 (Contains-permutation ys xs z (IsPermutation-sym xs ys p) h))
+    (λ z h. Contains-permutation xs ys z p ((sorted_members z xs).0 h))
+
+-- Live fields.
+filter-map : {X Y : Type 0} (p : Y → Bool) (f : X → Y) (xs : List X) → filter p (map f xs) ≡ map f (filter (λ x. p (f x)) xs)
+filter-map p f [] = refl
+filter-map p f (x ∷ xs) = go (p (f x)) (filter-map p f xs) where
+  go : (b : Bool) → filter p (map f xs) ≡ map f (filter (λ x. p (f x)) xs) → cond b (f x ∷ filter p (map f xs)) (filter p (map f xs)) ≡ map f (cond b (x ∷ filter (λ x. p (f x)) xs) (filter (λ x. p (f x)) xs))
+  go true ih = ap (λ ys. f x ∷ ys) ih
+  go false ih = ih
+
+shorter_cond : {X : Type 0} (b : Bool) (x : X) (ys xs : List X) → length ys ≤ length xs → length (cond b (x ∷ ys) ys) ≤ length (x ∷ xs)
+shorter_cond true x ys xs h = omega arith
+shorter_cond false x ys xs h = omega arith
+
+pub shorter : {X : Type 0} (p : X → Bool) (xs : List X) → length (filter p xs) ≤ length xs
+shorter p [] = omega arith
+shorter p (x ∷ xs) = shorter_cond (p x) x (filter p xs) xs (shorter p xs)
+
+contains_cond : (b : Bool) (f z : Field) (gs fs : List Field) → (Contains gs z → Contains fs z) → Contains (cond b (f ∷ gs) gs) z → Contains (f ∷ fs) z
+contains_cond true f z gs fs ih h = elim (contains_cases f z gs h) [ inl e ↦ subst (Contains (f ∷ fs)) e (contains_head f fs) | inr t ↦ contains_tail f z fs (ih t) ]
+contains_cond false f z gs fs ih h = contains_tail f z fs (ih h)
+
+pub filter_contains : (p : Field → Bool) (fs : List Field) (z : Field) → Contains (filter p fs) z → Contains fs z
+filter_contains p [] z h = h
+filter_contains p (f ∷ fs) z h = contains_cond (p f) f z (filter p fs) fs (filter_contains p fs z) h
+
+apart_cons : (f : Field) (gs : List Field) → ((g : Field) → Contains gs g → f.slot ≢ g.slot) → AreApart gs → AreApart (f ∷ gs)
+apart_cons f gs head tail = record { at = go } where
+  go : (i j : ℕ) (d : Field) → i < length (f ∷ gs) → j < length (f ∷ gs) → (get_or (f ∷ gs) i d).slot ≡ (get_or (f ∷ gs) j d).slot → i ≡ j
+  go zero zero d a b e = refl
+  go zero (suc j) d a b e = absurd (head (get_or gs j d) (Contains-get_or gs j d (omega arith)) e)
+  go (suc i) zero d a b e = absurd (head (get_or gs i d) (Contains-get_or gs i d (omega arith)) (sym e))
+  go (suc i) (suc j) d a b e = ap suc (tail.at i j d (omega arith) (omega arith) e)
+
+apart_cond : (b : Bool) (f : Field) (gs : List Field) → ((g : Field) → Contains gs g → f.slot ≢ g.slot) → AreApart gs → AreApart (cond b (f ∷ gs) gs)
+apart_cond true f gs head tail = apart_cons f gs head tail
+apart_cond false f gs head tail = tail
+
+pub filter_apart : (p : Field → Bool) (fs : List Field) → AreApart fs → AreApart (filter p fs)
+filter_apart p [] h = h
+filter_apart p (f ∷ fs) h = apart_cond (p f) f (filter p fs) (λ g c. apart_head f fs h g (filter_contains p fs g c)) (filter_apart p fs (apart_tail f fs h))
+
+mapped_up : (rows : List FieldRow) → IsNonDecreasingBy (λ (r : FieldRow). r.slot) rows → IsNonDecreasingBy (λ (f : Field). f.slot) (map field_of rows)
+mapped_up [] up = λ i j d le lt. absurd (omega arith)
+mapped_up (r ∷ rs) up = λ i j d le lt.
+    let rows = r ∷ rs in
+    let low : j < length rows = rw length-map at lt in
+    let here : i < length rows = omega arith in
+    rw (get_or-map field_of rows i r d here, get_or-map field_of rows j r d low) (up i j r le low)
+
+module _ (fields old new : List FieldRow) (apart : AreApart (map field_of fields)) (all : old ≡ filter (λ r. is_live (field_of r)) fields) (moved : IsPermutation old new) (up : IsNonDecreasingBy (λ (r : FieldRow). r.slot) new) where
+  same : map field_of old ≡ filter is_live (map field_of fields)
+  same = ap (map field_of) all ∙ sym (filter-map is_live field_of fields)
+
+  moved_live : IsPermutation (filter is_live (map field_of fields)) (map field_of new)
+  moved_live = subst (λ xs. IsPermutation xs (map field_of new)) same (IsPermutation-map field_of old new moved)
+
+  -- the live rows that were sorted are the definition's
+  pub live_value : map field_of new ≡ by_slot (filter is_live (map field_of fields))
+  live_value = is_by_slot _ _ (filter_apart is_live (map field_of fields) apart) moved_live (mapped_up new up)
+
+  -- and their slots rise
+  pub live_rising : AreRising new
+  live_rising =
+      let a = apart_permutation _ _ moved_live (filter_apart is_live (map field_of fields) apart) in
+      record {
+        at = λ i j d lt within.
+            let le = up i j d (omega arith) within in
+            let low : i < length new = omega arith in
+            elim (lt_or_eq (get_or new i d).slot (get_or new j d).slot le) [
+              | inl less ↦ less
+              | inr e ↦ absurd (let w : i ≡ j = a.at i j (field_of d) (rw length-map low) (rw length-map within) (ap (λ (f : Field). f.slot) (get_or-map field_of new i d (field_of d) low) ∙ e ∙ sym (ap (λ (f : Field). f.slot) (get_or-map field_of new j d (field_of d) within))) in omega arith)
+            ];
+      }
+
+-- The field in the slot two below.
+module _ (live : List FieldRow) (rising : AreRising live) (slot : ℕ) where
+  slot_at : (k : ℕ) (d : FieldRow) → k < length live → (get_or (map field_of live) k (field_of d)).slot ≡ (get_or live k d).slot
+  slot_at k d lt = ap (λ (f : Field). f.slot) (get_or-map field_of live k d (field_of d) lt)
+
+  one_slot : (i j : ℕ) (d : FieldRow) → i < length live → j < length live → (get_or live i d).slot ≡ (get_or live j d).slot → i ≡ j
+  one_slot i j d a b e = elim (le_or_lt i j) [
+    | inl le ↦ elim (lt_or_eq i j le) [ inl lt ↦ absurd (let w = rising.at i j d lt b in omega arith) | inr same ↦ same ]
+    | inr lt ↦ absurd (let w = rising.at j i d lt a in omega arith)
+  ]
+
+  rising_order : IsSortedBy (λ (a b : FieldRow). is_lt (nat_cmp a.slot b.slot)) live
+  rising_order k d _ lt = not_true _ (λ e. below_itself (get_or live (k + 1) d).slot (get_or live k d).slot e (rising.at k (k + 1) d (omega arith) lt)) where
+    below_itself : (x y : ℕ) → is_lt (nat_cmp x y) ≡ true → y < x → ⊥
+    below_itself x y e lt = grind (arith, e)
+
+  pub found_below : (at : ℕ) (d : FieldRow) → 2 ≤ slot → at < length live → nat_cmp (get_or live at d).slot (slot - 2) ≡ Equal → Some at ≡ position (λ (g : Field). g.slot + 2 == slot) (map field_of live)
+  found_below at d le lt tied =
+      let here : (get_or live at d).slot ≡ slot - 2 = nat_tied _ _ tied in
+      let it = slot_at at d lt in
+      sym (found_position (λ (g : Field). g.slot + 2 == slot) (map field_of live) at (field_of d) (rw length-map lt) ((Decides-eqb _ slot).1 (omega arith))
+      (λ j within passes.
+      let low : j < length live = rw length-map at within in
+      let there = (Decides-eqb ((get_or (map field_of live) j (field_of d)).slot + 2) slot).0 passes in
+      let e = slot_at j d low in
+      one_slot j at d low lt (omega arith)))
+
+  pub none_two_below : slot < 2 → None ≡ position (λ (g : Field). g.slot + 2 == slot) (map field_of live)
+  none_two_below lt = sym (no_position (λ (g : Field). g.slot + 2 == slot) (map field_of live) (λ j d within passes. let w = (Decides-eqb ((get_or (map field_of live) j d).slot + 2) slot).0 passes in omega arith))
+
+  pub missed_below : (at : ℕ) → 2 ≤ slot → (IsNonDecreasingBy (λ (y : FieldRow). ordering_index (nat_cmp y.slot (slot - 2))) live → IsPartitionPoint (λ (y : FieldRow). nat_cmp y.slot (slot - 2) ≡ Less) (λ (y : FieldRow). nat_cmp y.slot (slot - 2) ≡ Greater) live at)
+      → None ≡ position (λ (g : Field). g.slot + 2 == slot) (map field_of live)
+  missed_below at le split = sym (no_position (λ (g : Field). g.slot + 2 == slot) (map field_of live) (λ j d within passes.
+      let low : j < length live = rw length-map at within in
+      let row = (slice_get_some live j low).0 in
+      let there = (Decides-eqb ((get_or (map field_of live) j d).slot + 2) slot).0 passes in
+      let e = ap (λ (f : Field). f.slot) (get_or-map field_of live j row d low) in
+      let is : (get_or live j row).slot ≡ slot - 2 = omega arith in
+      search_missed nat_cmp nat_cmp_total (λ (y : FieldRow). y.slot) live (slot - 2) at rising_order split j row low (ap (λ n. nat_cmp n (slot - 2)) is ∙ tied_itself nat_cmp_total (slot - 2))))

@@ -1,0 +1,149 @@
+-- The steps of the walk over the members of a union.
+use Rattle.std.proofs.Common.{◌≡◌, ℕ, ◌<◌, ◌≤◌, pos, ◌⊎◌, inl, inr, Bool, true, false, not, ◌&&◌, ◌||◌, List, [], ◌∷◌, length, slice_get, take, map, int_lt, Option, Some, None, refl, sym, ◌∙◌, ap, arith, Decides}
+use Rattle.std.proofs.lemmas.List.{length-map}
+use Rattle.std.specs.Cmp.{signed_Decides}
+use Rattle.std.specs.List.{list_any}
+use Rattle.std.specs.Ordering.{int_cmp, bool_cmp, int_eq, is_eq, ordering_then}
+use Rattle.std.specs.Str.{bytes_eq}
+use Rattle.std.specs.declared.cmp.Ordering.{Ordering}
+use Rattle.std.specs.declared.cmp.Ordering.TheVariants.{Less, Equal, Greater}
+use Rattle.fb_schema.specs.declared.rows.MemberRow.{MemberRow}
+use Rattle.fb_schema.specs.Order.{IsAgain, IsFirstAgain, name_cmp, member_cmp, member_value, member_key}
+use Rattle.fb_schema.specs.Rows.{Rows, Member, member_of_row}
+use Rattle.fb_schema.specs.Demands.{is_at, first_code, stands_before, same_value, same_member_name, Demand, member_demands, members_asked, demands_of_member}
+use Rattle.fb_schema.proofs.DemandLaws.{clear_line}
+use Rattle.fb_schema.proofs.KeyLemmas.{test_from_again, is_at_test}
+use Rattle.fb_schema.proofs.Numbers.{slice_get_some, slice_get_past, le_or_lt}
+use Rattle.fb_schema.proofs.WalkLemmas.{names_agree, mapped_at, values_agree, or_false}
+
+-- both rows stand for the union without a value, or neither does, and they have one name
+abbrev same_key : Member → Member → Bool
+same_key a b = is_eq (bool_cmp (int_eq a.value (pos 0)) (int_eq b.value (pos 0))) && bytes_eq a.name b.name
+
+pub both_equal : (p q : Ordering) (b : Bool) → Decides b (q ≡ Equal) → Decides (is_eq p && b) (ordering_then p q ≡ Equal)
+both_equal Less q b d = (λ e. absurd (let w : false ≡ true = e in cc), λ e. absurd (let w : Less ≡ Equal = e in cc))
+both_equal Equal q b d = d
+both_equal Greater q b d = (λ e. absurd (let w : false ≡ true = e in cc), λ e. absurd (let w : Greater ≡ Equal = e in cc))
+
+keys_agree : (a b : MemberRow) → Decides (same_key (member_of_row a) (member_of_row b)) (member_cmp (member_key a) (member_key b) ≡ Equal)
+keys_agree a b = both_equal (bool_cmp (int_eq a.value (pos 0)) (int_eq b.value (pos 0))) (name_cmp a.name b.name) (bytes_eq a.name.now b.name.now) (names_agree a.name.now b.name.now)
+
+real_pair : (zero_a zero_b named : Bool) → zero_b ≡ false → (is_eq (bool_cmp zero_a zero_b) && named) ≡ (not zero_a && not zero_b && named)
+real_pair true true named e = absurd (let w : true ≡ false = e in cc)
+real_pair true false named e = refl
+real_pair false true named e = absurd (let w : true ≡ false = e in cc)
+real_pair false false named e = refl
+
+none_pair : (zero_a zero_b named : Bool) → zero_b ≡ true → (not zero_a && not zero_b && named) ≡ false
+none_pair true zero_b named e = refl
+none_pair false true named e = refl
+none_pair false false named e = absurd (let w : false ≡ true = e in cc)
+
+-- of a member the test by keys is the one by names
+real_test : (members : List Member) (p : ℕ) (m : Member) → int_eq m.value (pos 0) ≡ false → stands_before same_key members p m ≡ stands_before same_member_name members p m
+real_test members p m e = ap (λ t. list_any t (take p members)) (λ i y. real_pair (int_eq y.value (pos 0)) (int_eq m.value (pos 0)) (bytes_eq y.name m.name) e i)
+
+none_any : {X : Type 0} (xs : List X) → list_any (λ _. false) xs ≡ false
+none_any [] = refl
+none_any (x ∷ xs) = none_any xs
+
+-- of the union without a value none is asked
+none_test : (members : List Member) (p : ℕ) (m : Member) → int_eq m.value (pos 0) ≡ true → stands_before same_member_name members p m ≡ false
+none_test members p m e = ap (λ t. list_any t (take p members)) (λ i y. none_pair (int_eq y.value (pos 0)) (int_eq m.value (pos 0)) (bytes_eq y.name m.name) e i) ∙ none_any (take p members)
+
+or_weaker : (a b c d : Bool) → (a ≡ true → b ≡ true) → (c ≡ true → d ≡ true) → (a || c) ≡ true → (b || d) ≡ true
+or_weaker true true c d f g h = refl
+or_weaker true false c d f g h = absurd (let w : false ≡ true = f refl in cc)
+or_weaker false true c d f g h = refl
+or_weaker false false c d f g h = g h
+
+any_weaker : {X : Type 0} (s t : X → Bool) → ((x : X) → s x ≡ true → t x ≡ true) → (xs : List X) → list_any s xs ≡ true → list_any t xs ≡ true
+any_weaker s t f [] h = h
+any_weaker s t f (x ∷ xs) h = or_weaker (s x) (t x) (list_any s xs) (list_any t xs) (f x) (any_weaker s t f xs) h
+
+both_none : (zero_a zero_b named : Bool) → zero_b ≡ true → (is_eq (bool_cmp zero_a zero_b) && named) ≡ true → zero_a ≡ true
+both_none true zero_b named e h = refl
+both_none false true named e h = absurd (let w : false ≡ true = h in cc)
+both_none false false named e h = absurd (let w : false ≡ true = e in cc)
+
+-- two rows without a value have one value
+none_value : (members : List Member) (p : ℕ) (m : Member) → int_eq m.value (pos 0) ≡ true → stands_before same_key members p m ≡ true → stands_before same_value members p m ≡ true
+none_value members p m e = any_weaker (λ y. same_key y m) (λ y. same_value y m) (λ y h.
+    let here = (signed_Decides m.value (pos 0)).0 e in
+    let there = (signed_Decides y.value (pos 0)).0 (both_none (int_eq y.value (pos 0)) (int_eq m.value (pos 0)) (bytes_eq y.name m.name) e h) in
+    (signed_Decides y.value m.value).1 (there ∙ sym here)) (take p members)
+
+pub is_true_or_false : (b : Bool) → (b ≡ true) ⊎ (b ≡ false)
+is_true_or_false true = inl refl
+is_true_or_false false = inr refl
+
+module _ (rows : Rows) (members : List MemberRow) where
+  pub asked_at : ℕ → MemberRow → List Demand
+  asked_at p row = member_demands rows (member_of_row row) (stands_before same_value (map member_of_row members) p (member_of_row row)) (stands_before same_member_name (map member_of_row members) p (member_of_row row))
+
+  pub member_at : (p : ℕ) (row : MemberRow) → slice_get members p ≡ Some row → members_asked rows (map member_of_row members) p ≡ asked_at p row
+  unfolding asked_at
+  member_at p row at = ap (demands_of_member rows (map member_of_row members) p) (mapped_at member_of_row members p row at)
+
+  pub clear_demands : (q : ℕ) (row : MemberRow) → slice_get members q ≡ Some row → first_code (members_asked rows (map member_of_row members) q) ≡ None
+      → first_code (member_demands rows (member_of_row row) (stands_before same_value (map member_of_row members) q (member_of_row row)) (stands_before same_member_name (map member_of_row members) q (member_of_row row))) ≡ None
+  unfolding asked_at
+  clear_demands q row at clear = ap first_code (sym (member_at q row at)) ∙ clear
+
+  not_taken_member : (q : ℕ) → first_code (members_asked rows (map member_of_row members) q) ≡ None → (row : MemberRow) → slice_get members q ≡ Some row → stands_before same_value (map member_of_row members) q (member_of_row row) ≡ true → ⊥
+  unfolding asked_at
+  not_taken_member q clear row at old =
+      let c : first_code (asked_at q row) ≡ None = ap first_code (sym (member_at q row at)) ∙ clear in
+      let new = or_false (int_lt row.value (pos 0)) (int_lt (pos 255) row.value) (stands_before same_value (map member_of_row members) q (member_of_row row)) (clear_line (asked_at q row) c 0 _ refl) in
+      let w : true ≡ false = sym old ∙ new in cc
+
+  not_named_member : (q : ℕ) → first_code (members_asked rows (map member_of_row members) q) ≡ None → (row : MemberRow) → slice_get members q ≡ Some row → stands_before same_member_name (map member_of_row members) q (member_of_row row) ≡ true → ⊥
+  unfolding asked_at
+  not_named_member q clear row at old =
+      let c : first_code (asked_at q row) ≡ None = ap first_code (sym (member_at q row at)) ∙ clear in
+      let new = clear_line (asked_at q row) c 1 _ refl in
+      let w : true ≡ false = sym old ∙ new in cc
+
+  pub value_not_again : (q : ℕ) → first_code (members_asked rows (map member_of_row members) q) ≡ None → IsAgain int_cmp (map member_value members) q → ⊥
+  value_not_again q clear a =
+      let here = slice_get_some members q (rw length-map at a.within) in
+      not_taken_member q clear here.0 here.1 (test_from_again int_cmp member_value member_of_row same_value values_agree members q here.0 here.1 a)
+
+  pub name_not_again : (q : ℕ) → first_code (members_asked rows (map member_of_row members) q) ≡ None → IsAgain member_cmp (map member_key members) q → ⊥
+  name_not_again q clear a =
+      let here = slice_get_some members q (rw length-map at a.within) in
+      let row = here.0 in
+      let same = test_from_again member_cmp member_key member_of_row same_key keys_agree members q row here.1 a in
+      elim (is_true_or_false (int_eq row.value (pos 0))) [
+        | inl none ↦ not_taken_member q clear row here.1 (none_value (map member_of_row members) q (member_of_row row) none same)
+        | inr real ↦ not_named_member q clear row here.1 (sym (real_test (map member_of_row members) q (member_of_row row) real) ∙ same)
+      ]
+
+  name_test : (p : ℕ) (row : MemberRow) (again : Option ℕ) → slice_get members p ≡ Some row → IsFirstAgain member_cmp (map member_key members) again
+      → ((q : ℕ) → q < p → first_code (members_asked rows (map member_of_row members) q) ≡ None)
+      → (not (int_eq row.value (pos 0)) && is_at again p) ≡ stands_before same_member_name (map member_of_row members) p (member_of_row row)
+  name_test p row again at h clear = elim (is_true_or_false (int_eq row.value (pos 0))) [
+    | inl none ↦ ap (λ b. not b && is_at again p) none ∙ sym (none_test (map member_of_row members) p (member_of_row row) none)
+    | inr real ↦ ap (λ b. not b && is_at again p) real ∙ is_at_test member_cmp member_key member_of_row same_key keys_agree members p row at again h (λ q lt. name_not_again q (clear q lt))
+        ∙ real_test (map member_of_row members) p (member_of_row row) real
+  ]
+
+  -- what the walk computes at p is what is demanded there
+  pub member_code : (p : ℕ) (row : MemberRow) (value_again name_again : Option ℕ) (taken named : Bool) → slice_get members p ≡ Some row
+      → IsFirstAgain int_cmp (map member_value members) value_again → IsFirstAgain member_cmp (map member_key members) name_again
+      → ((q : ℕ) → q < p → first_code (members_asked rows (map member_of_row members) q) ≡ None)
+      → taken ≡ is_at value_again p → named ≡ (not (int_eq row.value (pos 0)) && is_at name_again p)
+      → first_code (member_demands rows (member_of_row row) taken named) ≡ first_code (members_asked rows (map member_of_row members) p)
+  unfolding asked_at
+  member_code p row value_again name_again taken named at h k clear t n =
+      let same_taken = t ∙ is_at_test int_cmp member_value member_of_row same_value values_agree members p row at value_again h (λ q lt. value_not_again q (clear q lt)) in
+      let same_named = n ∙ name_test p row name_again at k clear in
+      let all : member_demands rows (member_of_row row) taken named ≡ asked_at p row = λ i. member_demands rows (member_of_row row) (same_taken i) (same_named i) in
+      ap first_code all ∙ ap first_code (sym (member_at p row at))
+
+  -- past the last member nothing is demanded
+  pub past_members : (n : ℕ) → length members ≤ n → ((q : ℕ) → q < n → first_code (members_asked rows (map member_of_row members) q) ≡ None) → (q : ℕ) → first_code (members_asked rows (map member_of_row members) q) ≡ None
+  past_members n le h q = elim (le_or_lt (length members) q) [
+    | inl past ↦ ap (λ m. first_code (demands_of_member rows (map member_of_row members) q m)) (slice_get_past (map member_of_row members) q (rw length-map past))
+    | inr lt ↦ h q (omega arith)
+  ]

@@ -1,0 +1,116 @@
+-- The live fields of a legal table are found by name.
+use Rattle.std.proofs.Common.{◌≡◌, ℕ, zero, suc, ◌<◌, inl, inr, Bool, true, false, not, IsTrue, if◌then◌else◌, List, [], ◌∷◌, length, get_or, slice_get, map, filter, Some, None, refl, sym, ◌∙◌, ap, arith}
+use Rattle.std.proofs.lemmas.List.{length-map, get_or-map}
+use Rattle.std.proofs.lemmas.List.Elements.{Contains-get_or}
+use Rattle.std.proofs.lemmas.Cmp.{tied_itself, nat_list_cmp_total}
+use Rattle.std.proofs.lemmas.Map.Lookups.{exact_bytes}
+use Rattle.std.specs.Cmp.Lexicographic.{slice_cmp}
+use Rattle.std.specs.Ordering.{nat_cmp}
+use Rattle.std.specs.declared.cmp.Ordering.TheVariants.{Equal}
+use Rattle.fb_schema.specs.declared.rows.ObjectRow.{ObjectRow}
+use Rattle.fb_schema.specs.declared.views.FieldView.{FieldView}
+use Rattle.fb_schema.specs.Demands.{IsLegal, first_code, table_asked, demands_of_object, demands_of_struct_field, demands_of_table_field}
+use Rattle.fb_schema.specs.Index.{view_name}
+use Rattle.fb_schema.specs.Live.{Live, by_slot, is_live, live_of, live_of_view, live_in, AreApart}
+use Rattle.fb_schema.specs.Order.{IsAgain, name_cmp, field_name}
+use Rattle.fb_schema.specs.Rows.{Rows, Field, field_of, object_of, is_some_table}
+use Rattle.fb_schema.proofs.IndexLemmas.{legal_slots, table_list, same_length}
+use Rattle.fb_schema.proofs.LegalLemmas.{legal_clear}
+use Rattle.fb_schema.proofs.LiveLemmas.{Rises, sorted_rises, sorted_members, filter_apart, filter_contains}
+use Rattle.fb_schema.proofs.Numbers.{lt_or_eq, le_or_lt, get_or_default, slice_get_some}
+use Rattle.fb_schema.proofs.WalkLemmas.{not_named_table}
+
+-- no field of a legal table has an earlier one's name
+no_name_again : (rows : Rows) (n : ℕ) (row : ObjectRow) → IsLegal rows → slice_get rows.objects n ≡ Some (object_of row) → row.is_struct ≡ false → (q : ℕ) → IsAgain name_cmp (map field_name row.fields.items) q → ⊥
+no_name_again rows n row legal at table q a =
+    let fields = map field_of row.fields.items in
+    let here : first_code (table_asked rows fields q) ≡ None =
+    sym (ap (λ x. first_code (demands_of_object rows n (suc q) x)) at ∙ ap first_code (table_list row.is_struct (demands_of_struct_field rows row.bytesize fields q (slice_get fields q)) (demands_of_table_field rows fields q (slice_get fields q)) table))
+    ∙ legal_clear rows legal 0 n (suc q) in
+    not_named_table rows row.fields.items q here a
+
+-- two of a table's fields with one name are one
+one_name : (rows : Rows) (n : ℕ) (row : ObjectRow) → IsLegal rows → slice_get rows.objects n ≡ Some (object_of row) → row.is_struct ≡ false
+    → (i j : ℕ) (d : Field) → i < length (map field_of row.fields.items) → j < length (map field_of row.fields.items) → (get_or (map field_of row.fields.items) i d).name ≡ (get_or (map field_of row.fields.items) j d).name → i ≡ j
+one_name rows n row legal at table i j d a b e = elim (le_or_lt i j) [
+  | inl le ↦ elim (lt_or_eq i j le) [ inl lt ↦ absurd (no_name_again rows n row legal at table j (again i j lt b e)) | inr same ↦ same ]
+  | inr lt ↦ absurd (no_name_again rows n row legal at table i (again j i lt a (sym e)))
+] where
+  again : (i j : ℕ) → i < j → j < length (map field_of row.fields.items) → (get_or (map field_of row.fields.items) i d).name ≡ (get_or (map field_of row.fields.items) j d).name → IsAgain name_cmp (map field_name row.fields.items) j
+  again i j lt within e =
+      let rs = row.fields.items in
+      let low : j < length rs = rw length-map at within in
+      let x = (slice_get_some rs j low).0 in
+      let first : i < length rs = omega arith in
+      let name_i = ap (λ (f : Field). f.name) (get_or-map field_of rs i x d first) in
+      let name_j = ap (λ (f : Field). f.name) (get_or-map field_of rs j x d low) in
+      let same : (get_or rs i x).name.now ≡ (get_or rs j x).name.now = sym name_i ∙ e ∙ name_j in
+      record {
+        earlier = i;
+        before = lt;
+        within = rw length-map low;
+        alike = λ z. ap (λ y. name_cmp y (get_or (map field_name rs) j z)) (get_or-map field_name rs i x z first) ∙ ap (name_cmp (get_or rs i x).name) (get_or-map field_name rs j x z low)
+            ∙ ap (λ y. slice_cmp nat_cmp y (get_or rs j x).name.now) same ∙ tied_itself nat_list_cmp_total (get_or rs j x).name.now;
+      }
+
+rises_at : (fs : List Field) → Rises fs → (i j : ℕ) (d : Field) → i < j → j < length fs → (get_or fs i d).slot < (get_or fs j d).slot
+rises_at [] r i j d lt within = absurd (omega arith)
+rises_at (f ∷ fs) r zero zero d lt within = absurd (omega arith)
+rises_at (f ∷ fs) r zero (suc j) d lt within = r.0 (get_or fs j d) (Contains-get_or fs j d (omega arith))
+rises_at (f ∷ fs) r (suc i) zero d lt within = absurd (omega arith)
+rises_at (f ∷ fs) r (suc i) (suc j) d lt within = rises_at fs r.1 i j d (omega arith) (omega arith)
+
+-- nor do two live fields have one name
+live_names : (fields : List Field) → AreApart fields → ((i j : ℕ) (d : Field) → i < length fields → j < length fields → (get_or fields i d).name ≡ (get_or fields j d).name → i ≡ j)
+    → (i j : ℕ) (d : Field) → i < j → j < length (by_slot (filter is_live fields)) → (get_or (by_slot (filter is_live fields)) i d).name ≡ (get_or (by_slot (filter is_live fields)) j d).name → ⊥
+live_names fields apart one i j d lt within e =
+    let live = by_slot (filter is_live fields) in
+    let x = get_or live i d in
+    let y = get_or live j d in
+    let a = filter_contains is_live fields x ((sorted_members x (filter is_live fields)).0 (Contains-get_or live i d (omega arith))) in
+    let b = filter_contains is_live fields y ((sorted_members y (filter is_live fields)).0 (Contains-get_or live j d within)) in
+    let x_at : get_or fields a.0 d ≡ x = get_or_default fields a.0 d x a.1 ∙ a.2 in
+    let y_at : get_or fields b.0 d ≡ y = get_or_default fields b.0 d y b.1 ∙ b.2 in
+    let same : a.0 ≡ b.0 = one a.0 b.0 d a.1 b.1 (ap (λ (f : Field). f.name) x_at ∙ e ∙ ap (λ (f : Field). f.name) (sym y_at)) in
+    let one_field : x ≡ y = sym x_at ∙ ap (λ k. get_or fields k d) same ∙ y_at in
+    let slots = ap (λ (f : Field). f.slot) one_field in
+    let up = rises_at live (sorted_rises (filter is_live fields) (filter_apart is_live fields apart)) i j d lt within in
+    omega arith
+
+-- the views of a table's live fields have names of their own
+pub view_not_again : (rows : Rows) (n : ℕ) (row : ObjectRow) → IsLegal rows → slice_get rows.objects n ≡ Some (object_of row) → row.is_struct ≡ false → (views : List FieldView)
+    → map live_of_view views ≡ map (live_of rows (by_slot (filter is_live (map field_of row.fields.items)))) (by_slot (filter is_live (map field_of row.fields.items)))
+    → (q : ℕ) → IsAgain name_cmp (map view_name views) q → ⊥
+view_not_again rows n row legal at table views same q a =
+    let fields = map field_of row.fields.items in
+    let live = by_slot (filter is_live fields) in
+    let long = same_length live_of_view (live_of rows live) views live same in
+    let within : q < length views = rw length-map at a.within in
+    let first : a.earlier < length views = let lt = a.before in omega arith in
+    let v = (slice_get_some views q within).0 in
+    let f = (slice_get_some live q (let w = within in omega arith)).0 in
+    let name_at : (k : ℕ) → k < length views → (get_or views k v).name.now ≡ (get_or live k f).name =
+    λ k lt. ap (λ (l : Live). l.name) (sym (get_or-map live_of_view views k v (live_of_view v) lt) ∙ ap (λ ls. get_or ls k (live_of_view v)) same ∙ get_or-map (live_of rows live) live k f (live_of_view v) (omega arith)) in
+    let e = get_or-map view_name views a.earlier v v.name first in
+    let g = get_or-map view_name views q v v.name within in
+    let tied : slice_cmp nat_cmp (get_or views a.earlier v).name.now (get_or views q v).name.now ≡ Equal = ap (λ z. name_cmp z (get_or views q v).name) (sym e) ∙ ap (name_cmp (get_or (map view_name views) a.earlier v.name)) (sym g) ∙ a.alike v.name in
+    live_names fields (legal_slots rows n (object_of row) legal at table) (one_name rows n row legal at table) a.earlier q f a.before (omega arith)
+    (sym (name_at a.earlier first) ∙ exact_bytes _ _ tied ∙ name_at q within)
+
+-- a table's row
+pub table_at : (objects : List ObjectRow) (n : ℕ) → IsTrue (is_some_table (slice_get (map object_of objects) n)) → (row : ObjectRow) × (slice_get objects n ≡ Some row) × (row.is_struct ≡ false)
+table_at [] n h = absurd (let w : false ≡ true = h in cc)
+table_at (o ∷ os) zero h = (o, refl, not_it o.is_struct h) where
+  not_it : (b : Bool) → not b ≡ true → b ≡ false
+  not_it true h = absurd (let w : false ≡ true = h in cc)
+  not_it false h = refl
+table_at (o ∷ os) (suc n) h = table_at os n h
+
+live_list : (b : Bool) (xs : List Field) → b ≡ false → (if b then [] else xs) ≡ xs
+live_list true xs e = absurd (let w : true ≡ false = e in cc)
+live_list false xs e = refl
+
+-- the live fields of a table are those of its list
+pub live_in_table : (rows : Rows) (row : ObjectRow) → row.is_struct ≡ false
+    → live_in rows (Some (object_of row)) ≡ map (live_of rows (by_slot (filter is_live (map field_of row.fields.items)))) (by_slot (filter is_live (map field_of row.fields.items)))
+live_in_table rows row e = ap (λ live. map (live_of rows live) live) (live_list row.is_struct (by_slot (filter is_live (map field_of row.fields.items))) e)

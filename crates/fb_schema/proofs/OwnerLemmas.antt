@@ -1,0 +1,115 @@
+-- The steps of the walk over objects and enums.
+use Rattle.std.proofs.Common.{◌≡◌, ℕ, zero, suc, ◌+◌, ◌<◌, ◌≤◌, inl, inr, Bool, true, false, List, length, slice_get, map, Option, Some, None, refl, sym, ◌∙◌, ap, subst, arith, Result, Ok, Err, OnOk}
+use Rattle.std.proofs.lemmas.List.{length-map}
+use Rattle.fb_schema.specs.declared.fault.Code.{Code}
+use Rattle.fb_schema.specs.declared.rows.ObjectRow.{ObjectRow}
+use Rattle.fb_schema.specs.Order.{IsAgain, IsFirstAgain, name_cmp, object_name}
+use Rattle.fb_schema.specs.Rows.{Rows, Object, Enum, object_of}
+use Rattle.fb_schema.specs.Demands.{is_at, first_code, stands_before, same_object_name, object_demands, demands_of_object, demands_of_enum, demands_of_field, demands_of_union, demands_at, IsFirstOf, IsFirstIllegal, IsLegal, AreClear}
+use Rattle.fb_schema.proofs.DemandLaws.{IsClear, AreLevelsClear, AreClearBelow, clear_line, first_illegal, is_legal, no_levels, past_objects, past_enums}
+use Rattle.fb_schema.proofs.KeyLemmas.{test_from_again, is_at_test}
+use Rattle.fb_schema.proofs.Numbers.{slice_get_some, le_or_lt, lt_or_eq}
+use Rattle.fb_schema.proofs.WalkLemmas.{object_names_agree, mapped_at}
+
+pub level_clear : (rows : Rows) (level n : ℕ) → AreClearBelow rows level n → ((m place : ℕ) → n ≤ m → IsClear rows level m place) → AreClear rows level
+level_clear rows level n clear past = record { at = λ m place. elim (le_or_lt n m) [ inl le ↦ past m place le | inr lt ↦ clear.at m place lt ] }
+
+pub all_objects : (rows : Rows) (n : ℕ) → length rows.objects ≤ n → AreClearBelow rows 0 n → AreClear rows 0
+all_objects rows n le clear = level_clear rows 0 n clear (λ m place lt. past_objects rows m place (omega arith))
+
+pub all_enums : (rows : Rows) (n : ℕ) → length rows.enums ≤ n → AreClearBelow rows 1 n → AreClear rows 1
+all_enums rows n le clear = level_clear rows 1 n clear (λ m place lt. past_enums rows m place (omega arith))
+
+pub both_levels : (rows : Rows) → AreClear rows 0 → AreClear rows 1 → IsLegal rows
+both_levels rows objects enums = is_legal rows clear where
+  clear : (level n place : ℕ) → IsClear rows level n place
+  clear zero n place = objects.at n place
+  clear (suc zero) n place = enums.at n place
+  clear (suc (suc level)) n place = refl
+
+-- a level below 1 is that of the objects
+objects_level : (rows : Rows) → AreClear rows 0 → AreLevelsClear rows 1
+objects_level rows objects = record { at = go } where
+  go : (l m place : ℕ) → l < 1 → IsClear rows l m place
+  go zero m place lt = objects.at m place
+  go (suc l) m place lt = absurd (omega arith)
+
+-- clear up to an owner, and that owner too
+pub one_more : (rows : Rows) (level n : ℕ) → AreClearBelow rows level n → ((place : ℕ) → IsClear rows level n place) → AreClearBelow rows level (n + 1)
+one_more rows level n clear here = record { at = λ m place lt. elim (lt_or_eq m n (omega arith)) [ inl l ↦ clear.at m place l | inr e ↦ subst (λ m. IsClear rows level m place) (sym e) (here place) ] }
+
+-- where all heads are clear, no object's name stood before
+pub no_object_again : (rows : Rows) (objects : List ObjectRow) → rows.objects ≡ map object_of objects → ((q : ℕ) → IsClear rows 0 q 0) → (q : ℕ) → IsAgain name_cmp (map object_name objects) q → ⊥
+no_object_again rows objects same clear q a =
+    let here = slice_get_some objects q (rw length-map at a.within) in
+    let r = here.0 in
+    let at : slice_get rows.objects q ≡ Some (object_of r) = ap (λ os. slice_get os q) same ∙ mapped_at object_of objects q r here.1 in
+    let head : first_code (demands_at rows 0 q 0) ≡ first_code (object_demands (object_of r) (stands_before same_object_name (map object_of objects) q (object_of r))) = ap (λ x. first_code (demands_of_object rows q 0 x)) at ∙ ap (λ os. first_code (object_demands (object_of r) (stands_before same_object_name os q (object_of r)))) same in
+    let old = test_from_again name_cmp object_name object_of same_object_name object_names_agree objects q r here.1 a in
+    let new = clear_line (object_demands (object_of r) (stands_before same_object_name (map object_of objects) q (object_of r))) (sym head ∙ clear q) 0 _ refl in
+    let w : true ≡ false = sym old ∙ new in cc
+
+-- Objects: the list of rows in memory, the object at n among them, and the first whose name stood before.
+module _ (rows : Rows) (objects : List ObjectRow) (same : rows.objects ≡ map object_of objects) (n : ℕ) (row : ObjectRow) (at : slice_get objects n ≡ Some row) (again : Option ℕ) (h : IsFirstAgain name_cmp (map object_name objects) again) (clear : AreClearBelow rows 0 n) where
+  o : Object
+  o = object_of row
+
+  object_at : (q : ℕ) (r : ObjectRow) → slice_get objects q ≡ Some r → slice_get rows.objects q ≡ Some (object_of r)
+  object_at q r at = ap (λ os. slice_get os q) same ∙ mapped_at object_of objects q r at
+
+  head_at : (q : ℕ) (r : ObjectRow) → slice_get objects q ≡ Some r → first_code (demands_at rows 0 q 0) ≡ first_code (object_demands (object_of r) (stands_before same_object_name (map object_of objects) q (object_of r)))
+  head_at q r at = ap (λ x. first_code (demands_of_object rows q 0 x)) (object_at q r at) ∙ ap (λ os. first_code (object_demands (object_of r) (stands_before same_object_name os q (object_of r)))) same
+
+  not_again : (q : ℕ) → IsClear rows 0 q 0 → IsAgain name_cmp (map object_name objects) q → ⊥
+  not_again q clear a =
+      let here = slice_get_some objects q (rw length-map at a.within) in
+      let old = test_from_again name_cmp object_name object_of same_object_name object_names_agree objects q here.0 here.1 a in
+      let new = clear_line (object_demands (object_of here.0) (stands_before same_object_name (map object_of objects) q (object_of here.0))) (sym (head_at q here.0 here.1) ∙ clear) 0 _ refl in
+      let w : true ≡ false = sym old ∙ new in cc
+
+  head_code : (named : Bool) → named ≡ is_at again n → first_code (object_demands (object_of row) named) ≡ first_code (demands_at rows 0 n 0)
+  head_code named e =
+      ap (λ b. first_code (object_demands (object_of row) b)) (e ∙ is_at_test name_cmp object_name object_of same_object_name object_names_agree objects n row at again h (λ q lt. not_again q (clear.at q 0 lt)))
+      ∙ sym (head_at n row at)
+
+  pub refused_object : (named : Bool) (code : Code) → named ≡ is_at again n → Some code ≡ first_code (object_demands (object_of row) named) → IsFirstIllegal rows (record { code = code; owner = n; part = None })
+  refused_object named code e h = first_illegal rows 0 n 0 code (no_levels rows) clear (record { at = λ p lt. absurd (omega arith) }) (sym (head_code named e) ∙ sym h)
+
+  field_at : (p : ℕ) → first_code (demands_at rows 0 n (suc p)) ≡ first_code (demands_of_field rows (object_of row) p)
+  field_at p = ap (λ x. first_code (demands_of_object rows n (suc p) x)) (object_at n row at)
+
+  pub refused_field : (named : Bool) → named ≡ is_at again n → None ≡ first_code (object_demands (object_of row) named) → (code : Code) (p : ℕ) → IsFirstOf (demands_of_field rows (object_of row)) (Some (code, p)) → IsFirstIllegal rows (record { code = code; owner = n; part = Some p })
+  refused_field named e none code p r = first_illegal rows 0 n (suc p) code (no_levels rows) clear (record { at = below }) (field_at p ∙ r.0) where
+    below : (q : ℕ) → q < suc p → IsClear rows 0 n q
+    below zero lt = sym (head_code named e) ∙ sym none
+    below (suc q) lt = field_at q ∙ r.1 q (omega arith)
+
+  pub clear_object : (named : Bool) → named ≡ is_at again n → None ≡ first_code (object_demands (object_of row) named) → IsFirstOf (demands_of_field rows (object_of row)) None → AreClearBelow rows 0 (n + 1)
+  clear_object named e none r = one_more rows 0 n clear here where
+    here : (place : ℕ) → IsClear rows 0 n place
+    here zero = sym (head_code named e) ∙ sym none
+    here (suc p) = field_at p ∙ r p
+
+-- Enums: the one at n.
+module _ (rows : Rows) (objects : AreClear rows 0) (n : ℕ) (e : Enum) (at : slice_get rows.enums n ≡ Some e) (clear : AreClearBelow rows 1 n) where
+  head_clear : IsClear rows 1 n 0
+  head_clear = ap (λ x. first_code (demands_of_enum rows 0 x)) at
+
+  member_at : (p : ℕ) → first_code (demands_at rows 1 n (suc p)) ≡ first_code (demands_of_union rows e p)
+  member_at p = ap (λ x. first_code (demands_of_enum rows (suc p) x)) at
+
+  pub refused_member : (code : Code) (p : ℕ) → IsFirstOf (demands_of_union rows e) (Some (code, p)) → IsFirstIllegal rows (record { code = code; owner = n; part = Some p })
+  refused_member code p r = first_illegal rows 1 n (suc p) code (objects_level rows objects) clear (record { at = below }) (member_at p ∙ r.0) where
+    below : (q : ℕ) → q < suc p → IsClear rows 1 n q
+    below zero lt = head_clear
+    below (suc q) lt = member_at q ∙ r.1 q (omega arith)
+
+  pub clear_enum : IsFirstOf (demands_of_union rows e) None → AreClearBelow rows 1 (n + 1)
+  clear_enum r = one_more rows 1 n clear here where
+    here : (place : ℕ) → IsClear rows 1 n place
+    here zero = head_clear
+    here (suc p) = member_at p ∙ r p
+
+pub legal_if : (rows : Rows) {X E : Type 0} (r : Result X E) → AreClear rows 0 → OnOk r (AreClear rows 1) → OnOk r (IsLegal rows)
+legal_if rows (Ok x) objects enums = both_levels rows objects enums
+legal_if rows (Err e) objects enums = enums

@@ -1,0 +1,68 @@
+-- Keys are found by their order.
+use Rattle.std.proofs.Common.{◌≡◌, ℕ, ◌<◌, inl, inr, Bool, false, List, length, get_or, map, Option, Some, None, refl, sym, ◌∙◌, ap, arith, position, Decides}
+use Rattle.std.proofs.lemmas.List.{length-map, get_or-map}
+use Rattle.std.specs.Cmp.{IsTotalOrder}
+use Rattle.std.specs.List.{HoldsAt}
+use Rattle.std.specs.List.Sorted.{IsSortedBy, IsNonDecreasingBy, IsPartitionPoint}
+use Rattle.std.specs.Ordering.{is_lt, ordering_index, ordering_then, ordering_reverse}
+use Rattle.std.specs.declared.cmp.Ordering.{Ordering}
+use Rattle.std.specs.declared.cmp.Ordering.TheVariants.{Less, Equal, Greater}
+use Rattle.fb_schema.specs.Order.{IsOrderOf, IsPlaceOf, IsAgain}
+use Rattle.fb_schema.proofs.Numbers.{lt_or_eq, le_or_lt, get_or_default, slice_get_some}
+use Rattle.fb_schema.proofs.OrderLemmas.{is_key, stands}
+use Rattle.fb_schema.proofs.PositionLemmas.{found_position, no_position}
+use Rattle.fb_schema.proofs.Search.{search_missed}
+
+not_less_first : (p q : Ordering) → is_lt (ordering_then p q) ≡ false → is_lt p ≡ false
+not_less_first Less q h = h
+not_less_first Equal q h = refl
+not_less_first Greater q h = refl
+
+module _ {K : Type 0} (R : K → K → Ordering) (o : IsTotalOrder R) (keys : List K) (order : List (K × ℕ)) (h : IsOrderOf R keys order) (key : K) where
+  keys_rise : IsSortedBy (λ (a b : K × ℕ). is_lt (R a.0 b.0)) order
+  keys_rise k d le lt = not_less_first _ _ (h.rises k d le lt)
+
+  pub place_found : (at : ℕ) → at < length order → (d : K × ℕ) → HoldsAt (λ (e : K × ℕ). R e.0 key ≡ Equal) order at → IsPlaceOf R keys key (Some (get_or order at d).1)
+  place_found at lt d holds =
+      let k = is_key R o keys order h at d lt in
+      (k.0, λ e. ap (λ z. R z key) (get_or_default keys _ e d.0 k.0 ∙ k.1) ∙ holds d)
+
+  pub place_missing : (at : ℕ) → (IsNonDecreasingBy (λ (e : K × ℕ). ordering_index (R e.0 key)) order → IsPartitionPoint (λ (e : K × ℕ). R e.0 key ≡ Less) (λ (e : K × ℕ). R e.0 key ≡ Greater) order at) → IsPlaceOf R keys key None
+  place_missing at split = λ k d lt same.
+      let u = stands R o keys order h k d lt in
+      search_missed R o (λ (e : K × ℕ). e.0) order key at keys_rise split u.0 (get_or keys k d, k) u.1 (ap (λ (e : K × ℕ). R e.0 key) u.2 ∙ same)
+
+-- The place of a key is the position of its row, where no two keys are alike.
+module _ {X Y K : Type 0} (R : K → K → Ordering) (o : IsTotalOrder R) (name : X → K) (f : X → Y) (xs : List X) (key : K) (p : Y → Bool) (agrees : (x : X) → Decides (p (f x)) (R (name x) key ≡ Equal)) where
+  key_of : (k : ℕ) (x : X) → k < length xs → R (get_or (map name xs) k (name x)) key ≡ R (name (get_or xs k x)) key
+  key_of k x lt = ap (λ z. R z key) (get_or-map name xs k x (name x) lt)
+
+  passes : (k : ℕ) (x : X) → k < length xs → p (get_or (map f xs) k (f x)) ≡ p (f (get_or xs k x))
+  passes k x lt = ap p (get_or-map f xs k x (f x) lt)
+
+  pub alike_one : ((q : ℕ) → IsAgain R (map name xs) q → ⊥) → (i j : ℕ) (x : X) → i < length xs → j < length xs → R (name (get_or xs i x)) key ≡ Equal → R (name (get_or xs j x)) key ≡ Equal → i ≡ j
+  alike_one none i j x a b e e' = elim (le_or_lt i j) [
+    | inl le ↦ elim (lt_or_eq i j le) [ inl lt ↦ absurd (none j (again i j lt b e e')) | inr same ↦ same ]
+    | inr lt ↦ absurd (none i (again j i lt a e' e))
+  ] where
+    again : (i j : ℕ) → i < j → j < length xs → R (name (get_or xs i x)) key ≡ Equal → R (name (get_or xs j x)) key ≡ Equal → IsAgain R (map name xs) j
+    again i j lt b e e' = record {
+      earlier = i;
+      before = lt;
+      within = rw length-map b;
+      alike = λ d. ap (λ z. R z (get_or (map name xs) j d)) (get_or-map name xs i x d (omega arith)) ∙ ap (R (name (get_or xs i x))) (get_or-map name xs j x d b)
+          ∙ o.congr (name (get_or xs i x)) key (name (get_or xs j x)) e ∙ o.antisymm key (name (get_or xs j x)) ∙ ap ordering_reverse e';
+    }
+
+  pub place_position : ((q : ℕ) → IsAgain R (map name xs) q → ⊥) → (place : Option ℕ) → IsPlaceOf R (map name xs) key place → place ≡ position p (map f xs)
+  place_position none None h = sym (no_position p (map f xs) (λ j d within e.
+      let lt : j < length xs = rw length-map at within in
+      let x = (slice_get_some xs j lt).0 in
+      h j (name x) (rw length-map lt) (key_of j x lt ∙ (agrees (get_or xs j x)).0 (sym (passes j x lt) ∙ ap p (get_or_default (map f xs) j (f x) d within) ∙ e))))
+  place_position none (Some k) h =
+      let lt : k < length xs = rw length-map at h.0 in
+      let x = (slice_get_some xs k lt).0 in
+      let here = sym (key_of k x lt) ∙ h.1 (name x) in
+      sym (found_position p (map f xs) k (f x) (rw length-map lt) (passes k x lt ∙ (agrees (get_or xs k x)).1 here) (λ j within e.
+      let low : j < length xs = rw length-map at within in
+      alike_one none j k x low lt ((agrees (get_or xs j x)).0 (sym (passes j x low) ∙ e)) here))

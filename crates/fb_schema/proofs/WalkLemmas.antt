@@ -1,0 +1,137 @@
+-- The steps of the walk over the rows.
+use Rattle.std.proofs.Common.{◌≡◌, ℕ, ◌<◌, ◌≤◌, ℤ, inl, inr, Bool, true, false, not, ◌||◌, ◌==◌, ◌%◌, nat_lt, List, length, slice_get, map, Option, Some, None, refl, sym, ◌∙◌, ap, arith, Decides}
+use Rattle.std.proofs.lemmas.List.{length-map}
+use Rattle.std.proofs.lemmas.Option.{slice_get-map}
+use Rattle.std.proofs.lemmas.Slice.Eq.{bytes_eq-Decides}
+use Rattle.std.proofs.lemmas.Bool.Decides.{Decides-eqb}
+use Rattle.std.proofs.lemmas.Cmp.{nat_list_cmp_total, nat_cmp_total, tied_itself, on_total}
+use Rattle.std.proofs.lemmas.Map.Lookups.{exact_bytes}
+use Rattle.std.specs.Option.{option_map}
+use Rattle.std.specs.Borrow.{Bor}
+use Rattle.std.specs.Cmp.{Equal-is, IsTotalOrder}
+use Rattle.std.specs.Cmp.Lexicographic.{slice_cmp}
+use Rattle.std.specs.Ordering.{nat_cmp, int_cmp}
+use Rattle.std.specs.Str.{bytes_eq}
+use Rattle.std.specs.declared.cmp.Ordering.TheVariants.{Equal}
+use Rattle.fb_schema.specs.declared.rows.ObjectRow.{ObjectRow}
+use Rattle.fb_schema.specs.declared.rows.FieldRow.{FieldRow}
+use Rattle.fb_schema.specs.declared.rows.MemberRow.{MemberRow}
+use Rattle.fb_schema.specs.Order.{IsAgain, IsFirstAgain, name_cmp, object_name, field_name, field_slot, member_value}
+use Rattle.fb_schema.specs.Rows.{Rows, field_of, object_of, member_of_row}
+use Rattle.fb_schema.specs.Demands.{is_at, first_code, stands_before, same_object_name, same_field_name, same_slot, same_value, struct_field_demands, struct_asked, demands_of_struct_field, Demand, table_field_demands, table_asked, demands_of_table_field, stands_below}
+use Rattle.fb_schema.specs.declared.kinds.TypeField.TheVariants.{ForUnion, ForUnions}
+use Rattle.fb_schema.proofs.DemandLaws.{passed_over, clear_line}
+use Rattle.fb_schema.proofs.KeyLemmas.{test_from_again, is_at_test}
+use Rattle.fb_schema.proofs.Numbers.{slice_get_some, slice_get_past, le_or_lt}
+use Rattle.fb_schema.proofs.Search.{nat_tied}
+
+pub names_agree : (a b : List ℕ) → Decides (bytes_eq a b) (slice_cmp nat_cmp a b ≡ Equal)
+names_agree a b = (
+  λ e. ap (λ x. slice_cmp nat_cmp x b) ((bytes_eq-Decides a b).0 e) ∙ tied_itself nat_list_cmp_total b,
+  λ e. (bytes_eq-Decides a b).1 (exact_bytes a b e),
+)
+
+pub names_total : IsTotalOrder name_cmp
+names_total = on_total (λ (b : Bor (List ℕ)). b.now) nat_list_cmp_total
+
+pub field_names_agree : (a b : FieldRow) → Decides (same_field_name (field_of a) (field_of b)) (name_cmp (field_name a) (field_name b) ≡ Equal)
+field_names_agree a b = names_agree a.name.now b.name.now
+
+pub object_names_agree : (a b : ObjectRow) → Decides (same_object_name (object_of a) (object_of b)) (name_cmp (object_name a) (object_name b) ≡ Equal)
+object_names_agree a b = names_agree a.name.now b.name.now
+
+pub slots_agree : (a b : FieldRow) → Decides (same_slot (field_of a) (field_of b)) (nat_cmp (field_slot a) (field_slot b) ≡ Equal)
+slots_agree a b = (
+  λ e. ap (λ x. nat_cmp x b.slot) ((Decides-eqb a.slot b.slot).0 e) ∙ tied_itself nat_cmp_total b.slot,
+  λ e. (Decides-eqb a.slot b.slot).1 (nat_tied a.slot b.slot e),
+)
+
+pub values_agree : (a b : MemberRow) → Decides (same_value (member_of_row a) (member_of_row b)) (int_cmp (member_value a) (member_value b) ≡ Equal)
+values_agree a b = Equal-is (int_cmp a.value b.value)
+
+-- a mapped row
+pub mapped_at : {X Y : Type 0} (f : X → Y) (xs : List X) (p : ℕ) (x : X) → slice_get xs p ≡ Some x → slice_get (map f xs) p ≡ Some (f x)
+mapped_at f xs p x at = slice_get-map f xs p ∙ ap (option_map f) at
+
+-- Structs.
+module _ (rows : Rows) (bytesize : ℤ) (fields : List FieldRow) where
+  struct_at : (p : ℕ) (row : FieldRow) → slice_get fields p ≡ Some row
+      → struct_asked rows bytesize (map field_of fields) p ≡ struct_field_demands rows bytesize (field_of row) (stands_before same_field_name (map field_of fields) p (field_of row))
+  struct_at p row at = ap (demands_of_struct_field rows bytesize (map field_of fields) p) (mapped_at field_of fields p row at)
+
+  not_again_struct : (q : ℕ) → first_code (struct_asked rows bytesize (map field_of fields) q) ≡ None → IsAgain name_cmp (map field_name fields) q → ⊥
+  not_again_struct q clear a =
+      let here = slice_get_some fields q (rw length-map at a.within) in
+      let c : first_code (struct_field_demands rows bytesize (field_of here.0) (stands_before same_field_name (map field_of fields) q (field_of here.0))) ≡ None = ap first_code (sym (struct_at q here.0 here.1)) ∙ clear in
+      let new = (passed_over _ _ _ c).0 in
+      let old = test_from_again name_cmp field_name field_of same_field_name field_names_agree fields q here.0 here.1 a in
+      let w : true ≡ false = sym old ∙ new in cc
+
+  -- what the walk computes at p is what is demanded there
+  pub struct_code : (p : ℕ) (row : FieldRow) (first : Option ℕ) (named : Bool) → slice_get fields p ≡ Some row → IsFirstAgain name_cmp (map field_name fields) first
+      → ((q : ℕ) → q < p → first_code (struct_asked rows bytesize (map field_of fields) q) ≡ None) → named ≡ is_at first p
+      → first_code (struct_field_demands rows bytesize (field_of row) named) ≡ first_code (struct_asked rows bytesize (map field_of fields) p)
+  struct_code p row first named at h clear n =
+      ap (λ b. first_code (struct_field_demands rows bytesize (field_of row) b)) (n ∙ is_at_test name_cmp field_name field_of same_field_name field_names_agree fields p row at first h (λ q lt. not_again_struct q (clear q lt)))
+      ∙ ap first_code (sym (struct_at p row at))
+
+  -- past the last field nothing is demanded
+  pub past_struct : (n : ℕ) → length fields ≤ n → ((q : ℕ) → q < n → first_code (struct_asked rows bytesize (map field_of fields) q) ≡ None) → (q : ℕ) → first_code (struct_asked rows bytesize (map field_of fields) q) ≡ None
+  past_struct n le h q = elim (le_or_lt (length fields) q) [
+    | inl past ↦ ap (λ f. first_code (demands_of_struct_field rows bytesize (map field_of fields) q f)) (slice_get_past (map field_of fields) q (rw length-map past))
+    | inr lt ↦ h q (omega arith)
+  ]
+
+-- Tables.
+pub or_false : (a b c : Bool) → (a || b || c) ≡ false → c ≡ false
+or_false true b c e = absurd (let w : true ≡ false = e in cc)
+or_false false true c e = absurd (let w : true ≡ false = e in cc)
+or_false false false c e = e
+
+module _ (rows : Rows) (fields : List FieldRow) where
+  table_asked_at : ℕ → FieldRow → List Demand
+  table_asked_at p row = table_field_demands rows (field_of row) (stands_before same_field_name (map field_of fields) p (field_of row)) (stands_before same_slot (map field_of fields) p (field_of row))
+      (stands_below ForUnion (map field_of fields) row.slot) (stands_below ForUnions (map field_of fields) row.slot)
+
+  table_at : (p : ℕ) (row : FieldRow) → slice_get fields p ≡ Some row → table_asked rows (map field_of fields) p ≡ table_asked_at p row
+  unfolding table_asked_at
+  table_at p row at = ap (demands_of_table_field rows (map field_of fields) p) (mapped_at field_of fields p row at)
+
+  pub not_named_table : (q : ℕ) → first_code (table_asked rows (map field_of fields) q) ≡ None → IsAgain name_cmp (map field_name fields) q → ⊥
+  unfolding table_asked_at
+  not_named_table q clear a =
+      let here = slice_get_some fields q (rw length-map at a.within) in
+      let c : first_code (table_asked_at q here.0) ≡ None = ap first_code (sym (table_at q here.0 here.1)) ∙ clear in
+      let new = clear_line (table_asked_at q here.0) c 0 _ refl in
+      let old = test_from_again name_cmp field_name field_of same_field_name field_names_agree fields q here.0 here.1 a in
+      let w : true ≡ false = sym old ∙ new in cc
+
+  not_taken_table : (q : ℕ) → first_code (table_asked rows (map field_of fields) q) ≡ None → IsAgain nat_cmp (map field_slot fields) q → ⊥
+  unfolding table_asked_at
+  not_taken_table q clear a =
+      let here = slice_get_some fields q (rw length-map at a.within) in
+      let c : first_code (table_asked_at q here.0) ≡ None = ap first_code (sym (table_at q here.0 here.1)) ∙ clear in
+      let row = here.0 in
+      let new = or_false (not (row.slot % 2 == 0)) (nat_lt row.slot 4) (stands_before same_slot (map field_of fields) q (field_of row)) (clear_line (table_asked_at q row) c 1 _ refl) in
+      let old = test_from_again nat_cmp field_slot field_of same_slot slots_agree fields q here.0 here.1 a in
+      let w : true ≡ false = sym old ∙ new in cc
+
+  -- what the walk computes at p is what is demanded there
+  pub table_code : (p : ℕ) (row : FieldRow) (name_again slot_again : Option ℕ) (named taken byte vector : Bool) → slice_get fields p ≡ Some row
+      → IsFirstAgain name_cmp (map field_name fields) name_again → IsFirstAgain nat_cmp (map field_slot fields) slot_again
+      → ((q : ℕ) → q < p → first_code (table_asked rows (map field_of fields) q) ≡ None)
+      → named ≡ is_at name_again p → taken ≡ is_at slot_again p → byte ≡ stands_below ForUnion (map field_of fields) row.slot → vector ≡ stands_below ForUnions (map field_of fields) row.slot
+      → first_code (table_field_demands rows (field_of row) named taken byte vector) ≡ first_code (table_asked rows (map field_of fields) p)
+  unfolding table_asked_at
+  table_code p row name_again slot_again named taken byte vector at h k clear n t b v =
+      let same_named = n ∙ is_at_test name_cmp field_name field_of same_field_name field_names_agree fields p row at name_again h (λ q lt. not_named_table q (clear q lt)) in
+      let same_taken = t ∙ is_at_test nat_cmp field_slot field_of same_slot slots_agree fields p row at slot_again k (λ q lt. not_taken_table q (clear q lt)) in
+      let all : table_field_demands rows (field_of row) named taken byte vector ≡ table_asked_at p row = λ i. table_field_demands rows (field_of row) (same_named i) (same_taken i) (b i) (v i) in
+      ap first_code all ∙ ap first_code (sym (table_at p row at))
+
+  -- past the last field nothing is demanded
+  pub past_table : (n : ℕ) → length fields ≤ n → ((q : ℕ) → q < n → first_code (table_asked rows (map field_of fields) q) ≡ None) → (q : ℕ) → first_code (table_asked rows (map field_of fields) q) ≡ None
+  past_table n le h q = elim (le_or_lt (length fields) q) [
+    | inl past ↦ ap (λ f. first_code (demands_of_table_field rows (map field_of fields) q f)) (slice_get_past (map field_of fields) q (rw length-map past))
+    | inr lt ↦ h q (omega arith)
+  ]

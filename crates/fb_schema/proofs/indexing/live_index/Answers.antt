@@ -1,0 +1,41 @@
+use Rattle.std.proofs.Common.{◌<◌, Some, map, length, sym, ap, subst, ◌∙◌, arith}
+use Rattle.std.proofs.lemmas.List.{length-map}
+use Rattle.fb_schema.specs.Index.{view_name}
+use Rattle.fb_schema.specs.FlatLists.{lists_of}
+use Rattle.fb_schema.specs.Live.{live_in, live_of, live_of_view, live_rows}
+use Rattle.fb_schema.specs.Order.{IsOrderOf, name_cmp}
+use Rattle.fb_schema.specs.Rows.{borrowed_rows, object_of}
+use Rattle.fb_schema.proofs.IndexLemmas.{legal_slots, matched_pushed, lists_step, widest_step, same_length, kept_read, mapped_read}
+use Rattle.fb_schema.proofs.indexing.live_index.Goals as goal
+
+pub table_views-requires-clause-apart : goal.table_views-requires-clause-apart
+table_views-requires-clause-apart c = λ table.
+    legal_slots (borrowed_rows c.args.rows.now) c.loop-object.object-index (object_of c.object-item.result) c.requires.legal
+    (kept_read object_of c.args.rows.now.objects.now c.loop-object.object-index c.object-item.result c.loop-object-test.true c.object-item.is) table
+
+pub view_names-requires : goal.view_names-requires
+view_names-requires c = rw c.deref.ensures.value c.in_ok-fields.ensures.few
+
+pub overflow_cast-len : goal.overflow_cast-len
+overflow_cast-len c = omega (arith, c.in_ok-fields.ensures.few, c.len.ensures, c.in_ok-fields.fields.ok.0)
+
+pub loop-object-preserved : goal.loop-object-preserved
+loop-object-preserved c =
+    let objects = c.args.rows.now.objects.now in
+    let rows = borrowed_rows c.args.rows.now in
+    let i = c.loop-object.object-index in
+    let row = c.object-item.result in
+    let o = object_of row in
+    let lt = c.loop-object-test.true in
+    let is = mapped_read object_of objects i row lt c.object-item.is in
+    let low : i < length (map object_of objects) = rw length-map lt in
+    let views = c.in_ok-fields.fields.items in
+    record {
+      live = lists_step (map live_of_view) (λ o. live_in rows (Some o)) (map object_of objects) i o (lists_of c.loop-object.index.fields) _ c.deref-in-loop-object.result.now low is c.loop-object.invariant.live c.in_ok-push.ensures
+          (ap (map live_of_view) c.deref-in-loop-object.ensures.value ∙ c.in_ok-fields.ensures.value);
+      names = matched_pushed (λ fields order. IsOrderOf name_cmp (map view_name fields) order) (lists_of c.loop-object.index.fields) _ (lists_of c.loop-object.index.names) _ c.deref-in-loop-object.result.now c.deref-in-loop-object-2.result.now c.loop-object.invariant.names c.in_ok-push.ensures c.in_ok-push-2.ensures
+          (subst (λ fields. IsOrderOf name_cmp (map view_name fields) c.deref-in-loop-object-2.result.now) (c.deref.ensures.value ∙ sym c.deref-in-loop-object.ensures.value) (subst (λ order. IsOrderOf name_cmp (map view_name c.deref.result.now) order) (sym c.deref-in-loop-object-2.ensures.value) c.in_ok-names.ensures));
+      widest = widest_step (map object_of objects) i o c.loop-object.index.widest c.max.result c.len.result low is c.loop-object.invariant.widest c.max.ensures
+          (c.len.ensures ∙ c.in_ok-fields.fields.ok.0 ∙ same_length live_of_view (live_of rows (live_rows o)) views (live_rows o) c.in_ok-fields.ensures.value);
+      few = omega (arith, c.max.ensures, c.loop-object.invariant.few, c.in_ok-fields.ensures.few, c.len.ensures, c.in_ok-fields.fields.ok.0);
+    }

@@ -1,0 +1,30 @@
+use Rattle.std.proofs.Common.{◌≡◌, Some, slice_get, refl, sym, ap, ◌∙◌, inl}
+use Rattle.std.proofs.lemmas.List.{length-map}
+use Rattle.std.proofs.lemmas.Option.{slice_get-get_or}
+use Rattle.fb_schema.specs.Rows.{borrowed_rows}
+use Rattle.fb_schema.proofs.OwnerLemmas.{refused_object, refused_field, clear_object, all_objects}
+use Rattle.fb_schema.proofs.legal.objects_legal.Goals as goal
+use Rattle.fb_schema.proofs.legal.objects_legal.Goals.{After-object_fault}
+
+at_row : (c : After-object_fault) → slice_get c.args.rows.now.objects.now c.loop-n.n ≡ Some c.object-item.result
+at_row c = slice_get-get_or c.args.rows.now.objects.now c.loop-n.n c.object-item.result c.loop-n-test.true ∙ ap Some (sym c.object-item.is)
+
+pub returns-in-Some-clause-refused : goal.returns-in-Some-clause-refused
+returns-in-Some-clause-refused c =
+    let d = (goal.at.returns-in-Some-clause-refused c).After-object_fault in
+    inl (refused_object (borrowed_rows c.args.rows.now) c.args.rows.now.objects.now refl c.loop-n.n c.object-item.result (at_row d) c.args.again c.requires.again c.loop-n.invariant c.is_at.result c.in-Some.code c.is_at.ensures (sym c.in-Some.is ∙ c.object_fault.ensures))
+
+pub returns-in-Ok-Some-clause-refused : goal.returns-in-Ok-Some-clause-refused
+returns-in-Ok-Some-clause-refused c =
+    let d = (goal.at.returns-in-Ok-Some-clause-refused c).After-object_fault in
+    inl (refused_field (borrowed_rows c.args.rows.now) c.args.rows.now.objects.now refl c.loop-n.n c.object-item.result (at_row d) c.args.again c.requires.again c.loop-n.invariant c.is_at.result c.is_at.ensures (sym c.in_default.is ∙ c.object_fault.ensures) c.in-Ok-Some.code c.in-Ok-Some.p
+    (rw c.in-Ok-Some.field-0-is at c.in-Ok-Some.ensures))
+
+pub loop-n-preserved : goal.loop-n-preserved
+loop-n-preserved c =
+    let d = (goal.at.loop-n-preserved c).After-object_fault in
+    clear_object (borrowed_rows c.args.rows.now) c.args.rows.now.objects.now refl c.loop-n.n c.object-item.result (at_row d) c.args.again c.requires.again c.loop-n.invariant c.is_at.result c.is_at.ensures (sym c.in_default.is ∙ c.object_fault.ensures)
+    (rw c.in-Ok-None.field-0-is at c.in-Ok-None.ensures)
+
+pub returns-clause-clear : goal.returns-clause-clear
+returns-clause-clear c = all_objects (borrowed_rows c.args.rows.now) c.loop-n.n (rw length-map c.loop-n-test.false) c.loop-n.invariant

@@ -1,0 +1,91 @@
+use Rattle.std.proofs.Common.{◌≡◌, ◌<◌, ℕ, Some, None, map, length, slice_get, get_or, find, filter, IsTrue, true, false, unsigned_abs, refl, sym, ap, subst, ◌∙◌, arith, to_z, of_z, w64}
+use Rattle.std.proofs.lemmas.List.{length-map, get_or-map}
+use Rattle.std.specs.Option.{option_map}
+use Rattle.std.specs.Str.{bytes_eq}
+use Rattle.std.specs.declared.cmp.Ordering.TheVariants.{Equal}
+use Rattle.fb_schema.specs.declared.rows.EnumRow.{EnumRow}
+use Rattle.fb_schema.specs.Demands.{first_code, members_asked}
+use Rattle.fb_schema.specs.Members.{member_named, is_member_value}
+use Rattle.fb_schema.specs.Order.{IsPlaceOf, member_cmp, member_key}
+use Rattle.fb_schema.specs.Rows.{Rows, Member, rows_of, is_union, member_of_row}
+use Rattle.fb_schema.proofs.Blank.{blank_member}
+use Rattle.fb_schema.proofs.UnionLemmas.{union_at, members_clear}
+use Rattle.fb_schema.proofs.MemberNames.{name_found, name_missing, member_named_is, real_at, small_value, fits_small}
+use Rattle.std.proofs.lemmas.Option.{get_or_from_slice_get}
+use Rattle.std.proofs.lemmas.Int.{to_z-of_z}
+use Rattle.fb_schema.proofs.Numbers.{get_or_default}
+use Rattle.fb_schema.specs.declared.rows.MemberRow.{MemberRow}
+use Rattle.fb_schema.proofs.schema.Schema.member_named.Goals as goal
+use Rattle.fb_schema.proofs.schema.Schema.member_named.Goals.{After-place_of}
+
+union_row : (c : After-place_of) → (row : EnumRow) × (slice_get c.self.inside.enums.items c.args.e ≡ Some row) × (row.is_union ≡ true)
+union_row c = union_at c.self.inside.enums.items c.args.e (subst (λ (r : Rows). IsTrue (is_union r c.args.e)) (sym c.self.view_is) c.requires)
+
+rows : (c : After-place_of) → Rows
+rows c = rows_of c.self.inside.objects.items c.self.inside.enums.items
+
+placed : (c : After-place_of) → IsPlaceOf member_cmp (map member_key (union_row c).0.members.items) (false, c.args.name) c.place_of.result
+placed c = c.place_of.ensures (map member_key (union_row c).0.members.items) (c.self.invariant.kinds.names.at c.args.e (union_row c).0 c.get-names.result.now (union_row c).1 c.get-names.ensures)
+
+clear : (c : After-place_of) (q : ℕ) → first_code (members_asked (rows c) (map member_of_row (union_row c).0.members.items) q) ≡ None
+unfolding rows
+clear c = members_clear (rows c) c.self.inside.enums.items refl c.self.invariant.legal c.args.e (union_row c).0 (union_row c).1 (union_row c).2
+
+read : (c : After-place_of) → member_named (rows c) c.args.e c.args.name.now ≡ option_map (λ m. unsigned_abs m.value) (find (λ m. bytes_eq m.name c.args.name.now) (filter (λ m. is_member_value m.value) (map member_of_row (union_row c).0.members.items)))
+unfolding rows
+read c = member_named_is (rows c) c.self.inside.enums.items refl c.args.e (union_row c).0 (union_row c).1 (union_row c).2 c.args.name.now
+
+seen : (c : After-place_of) → member_named (rows c) c.args.e c.args.name.now ≡ member_named c.args.self.now c.args.e c.args.name.now
+unfolding rows
+seen c = ap (λ r. member_named r c.args.e c.args.name.now) c.self.view_is
+
+pub returns-in-None : goal.returns-in-None
+returns-in-None c =
+    let d = (goal.at.returns-in-None c).After-place_of in
+    let members = (union_row d).0.members.items in
+    let h : IsPlaceOf member_cmp (map member_key members) (false, c.args.name) None = subst (IsPlaceOf member_cmp (map member_key members) (false, c.args.name)) c.in-None.is (placed d) in
+    sym (ap (option_map (λ (m : Member). unsigned_abs m.value)) (name_missing (rows d) members (clear d) c.args.name (λ k x lt e. h k (member_key x) (rw length-map lt) (ap (λ z. member_cmp z (false, c.args.name)) (get_or-map member_key members k x (member_key x) lt) ∙ e))))
+    ∙ sym (read d) ∙ seen d
+
+-- the member at the place of the name
+found : (c : After-place_of) (place : ℕ) → c.place_of.result ≡ Some place → (place < length (union_row c).0.members.items) × (member_cmp (member_key (get_or (union_row c).0.members.items place blank_member)) (false, c.args.name) ≡ Equal)
+found c place is =
+    let members = (union_row c).0.members.items in
+    let h : IsPlaceOf member_cmp (map member_key members) (false, c.args.name) (Some place) = subst (IsPlaceOf member_cmp (map member_key members) (false, c.args.name)) is (placed c) in
+    let lt : place < length members = rw length-map at h.0 in
+    (lt, ap (λ z. member_cmp z (false, c.args.name)) (sym (get_or-map member_key members place blank_member (member_key blank_member) lt)) ∙ h.1 (member_key blank_member))
+
+-- the row that was read is the union's
+same_row : (c : After-place_of) (r : EnumRow) → r ≡ get_or c.self.inside.enums.items c.args.e r → r ≡ (union_row c).0
+same_row c r e = e ∙ get_or_from_slice_get c.self.inside.enums.items c.args.e (union_row c).0 r (union_row c).1
+
+pub index-requires-in-Some : goal.index-requires-in-Some
+index-requires-in-Some c =
+    let d = (goal.at.index-requires-in-Some c).After-place_of in
+    let lt = (found d c.in-Some.place c.in-Some.is).0 in
+    let same = ap (λ (r : EnumRow). length r.members.items) (same_row d c.index.result.now c.index.ensures) in
+    let long = c.index.result.now.members.ok.0 in
+    omega arith
+
+-- the member that was read
+read_value : (c : After-place_of) (place : ℕ) (is : c.place_of.result ≡ Some place) (r : EnumRow) (m : MemberRow) (n : ℕ) → r ≡ get_or c.self.inside.enums.items c.args.e r → m ≡ get_or r.members.items place m → n ≡ unsigned_abs (to_z w64 (of_z w64 m.value))
+    → (n < 256) × (Some n ≡ member_named c.args.self.now c.args.e c.args.name.now)
+read_value c place is r m n e f g =
+    let members = (union_row c).0.members.items in
+    let h = found c place is in
+    let x = get_or members place blank_member in
+    let same : m ≡ x = f ∙ ap (λ (r : EnumRow). get_or r.members.items place m) (same_row c r e) ∙ get_or_default members place m blank_member h.0 in
+    let real = real_at (rows c) members (clear c) c.args.name place blank_member h.0 h.1 in
+    let value : n ≡ unsigned_abs x.value = g ∙ ap (λ (m : MemberRow). unsigned_abs (to_z w64 (of_z w64 m.value))) same ∙ ap unsigned_abs (to_z-of_z w64 x.value (fits_small x.value real)) in
+    let small = small_value x.value real in (
+      omega arith,
+      ap Some value ∙ sym (ap (option_map (λ (m : Member). unsigned_abs m.value)) (name_found (rows c) members (clear c) c.args.name place blank_member h.0 h.1)) ∙ sym (read c) ∙ seen c,
+    )
+
+pub overflow_cast-result : goal.overflow_cast-result
+overflow_cast-result c =
+    let small = (read_value (goal.at.overflow_cast-result c).After-place_of c.in-Some.place c.in-Some.is c.index.result.now c.index-in-Some.result.now c.unsigned_abs.result c.index.ensures c.index-in-Some.ensures c.unsigned_abs.ensures.value).0 in
+    record { fits = omega arith }
+
+pub returns-in-Some : goal.returns-in-Some
+returns-in-Some c = (read_value (goal.at.returns-in-Some c).After-place_of c.in-Some.place c.in-Some.is c.index.result.now c.index-in-Some.result.now c.unsigned_abs.result c.index.ensures c.index-in-Some.ensures c.unsigned_abs.ensures.value).1

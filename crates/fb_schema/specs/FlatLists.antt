@@ -1,0 +1,8 @@
+-- What flat lists stand for.
+use Rattle.std.specs.Prelude.{List, map}
+use Rattle.fb_schema.specs.declared.lists.Lists.{Lists}
+use Rattle.fb_schema.specs.Flat.{part}
+
+-- the lists, one by one
+abbrev pub lists_of : {T : Type 0} → Lists T → List (List T)
+lists_of s = map (part s.rows.items) s.ranges.items

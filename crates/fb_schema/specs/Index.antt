@@ -1,0 +1,36 @@
+-- What the index of a schema has to do with its rows.
+use Rattle.std.specs.Prelude.{◌≡◌, ◌<◌, ◌^◌, ℕ, List, map, unwrap_or, Some}
+use Rattle.std.specs.Borrow.{Bor}
+use Rattle.std.specs.Ordering.{int_cmp}
+use Rattle.fb_schema.specs.declared.kinds.Kind.{Kind}
+use Rattle.fb_schema.specs.declared.kinds.Kind.TheVariants.{Text}
+use Rattle.fb_schema.specs.declared.rows.EnumRow.{EnumRow}
+use Rattle.fb_schema.specs.declared.views.FieldView.{FieldView}
+use Rattle.fb_schema.specs.declared.index.LiveIndex.{LiveIndex}
+use Rattle.fb_schema.specs.declared.index.MemberIndex.{MemberIndex}
+use Rattle.fb_schema.specs.FlatLists.{lists_of}
+use Rattle.fb_schema.specs.Kinds.{kind_of}
+use Rattle.fb_schema.specs.Live.{live_of_view, live_in, widest_of}
+use Rattle.fb_schema.specs.Matched.{AreMatched}
+use Rattle.fb_schema.specs.Order.{IsOrderOf, name_cmp, member_cmp, member_value, member_key}
+use Rattle.fb_schema.specs.Rows.{Rows, Object, Member, member_of_row}
+
+abbrev pub view_name : FieldView → Bor (List ℕ)
+view_name f = f.name
+
+-- the live fields of these objects among the rows, each list with the order of its names, and the longest
+pub record IsLiveIndex (rows : Rows) (objects : List Object) (index : LiveIndex) : Type 0 where
+  pub live : map (map live_of_view) (lists_of index.fields) ≡ map (λ o. live_in rows (Some o)) objects
+  pub names : AreMatched (λ fields order. IsOrderOf name_cmp (map view_name fields) order) (lists_of index.fields) (lists_of index.names)
+  pub widest : index.widest ≡ widest_of objects
+  pub few : index.widest < 2 ^ 31
+
+-- the kind of a member; legal rows give each member of a union one
+abbrev pub member_kind : Rows → Member → Kind
+member_kind rows m = unwrap_or (kind_of rows m.ty) Text
+
+-- the kinds of these enums' members, and the orders of their values and names
+pub record IsMemberIndex (rows : Rows) (enums : List EnumRow) (index : MemberIndex) : Type 0 where
+  pub kinds : AreMatched (λ row kinds. kinds ≡ map (λ m. member_kind rows (member_of_row m)) row.members.items) enums (lists_of index.kinds)
+  pub values : AreMatched (λ row order. IsOrderOf int_cmp (map member_value row.members.items) order) enums (lists_of index.values)
+  pub names : AreMatched (λ row order. IsOrderOf member_cmp (map member_key row.members.items) order) enums (lists_of index.names)

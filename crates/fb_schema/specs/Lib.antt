@@ -1,0 +1,12 @@
+pub mod Demands
+pub mod Flat
+pub mod FlatLists
+pub mod Heads
+pub mod Index
+pub mod Indexed
+pub mod Kinds
+pub mod Live
+pub mod Matched
+pub mod Members
+pub mod Order
+pub mod Rows

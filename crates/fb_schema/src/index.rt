@@ -1,0 +1,21 @@
+// The index of a schema: live fields, the kinds of members, and orders by which names and values are found.
+
+use crate::kinds::Kind;
+use crate::lists::Lists;
+use crate::views::FieldView;
+
+/// The live fields of each object in rising slot, the order of their names, and the length of the longest list.
+#[derive(Drop)]
+pub struct LiveIndex<'n> {
+    pub fields: Lists<FieldView<'n>>,
+    pub names: Lists<(&'n [u8], u32)>,
+    pub widest: u32,
+}
+
+/// The kinds of each enum's members, and the orders of their values and names.
+#[derive(Drop)]
+pub struct MemberIndex<'n> {
+    pub kinds: Lists<Kind>,
+    pub values: Lists<(i64, u32)>,
+    pub names: Lists<((bool, &'n [u8]), u32)>,
+}

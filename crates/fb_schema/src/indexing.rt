@@ -1,0 +1,95 @@
+// How the index of legal rows is made.
+
+ghost use Rattle.std.specs.Prelude.{◌≡◌, ◌<◌, ◌^◌, map, length, IfOk, All, vec_len};
+ghost use Rattle.fb_schema.specs.Order.{IsOrderOf, name_cmp};
+ghost use Rattle.fb_schema.specs.Rows.{borrowed_rows, member_of_row};
+ghost use Rattle.fb_schema.specs.Index.{view_name, member_kind, IsLiveIndex, IsMemberIndex};
+ghost use Rattle.fb_schema.specs.Demands.{IsLegal};
+
+use crate::index::{LiveIndex, MemberIndex};
+use crate::keys::{member_names, member_values};
+use crate::kinds::Kind;
+use crate::lists::Lists;
+use crate::live::table_views;
+use crate::order::put_in_order;
+use crate::rows::MemberRow;
+use crate::types::RowLists;
+use crate::views::FieldView;
+use std::alloc::{AllocError, Global};
+
+/// The names of live fields in order.
+fn view_names<'n>(
+    alloc: Global,
+    fields: &[FieldView<'n>],
+) -> Result<Vec<(&'n [u8], u32)>, AllocError>
+    requires { length fields.now < 2 ^ 31 }
+    ensures { IfOk result (λ order. IsOrderOf name_cmp (map view_name fields.now) order.items) }
+{
+    let mut order = Vec::new(alloc);
+    for (p, field) in fields.iter().enumerate() {
+        order.push((field.name, p as u32))?;
+    }
+    put_in_order(&mut order);
+    Ok(order)
+}
+
+/// The kinds of members.
+fn member_kinds(
+    alloc: Global,
+    rows: &RowLists,
+    members: &[MemberRow],
+) -> Result<Vec<Kind>, AllocError>
+    ensures { IfOk result (λ kinds. kinds.items ≡ map (λ m. member_kind (borrowed_rows rows.now) (member_of_row m)) members.now) }
+{
+    let mut kinds = Vec::new(alloc);
+    for member in members {
+        kinds.push(rows.kind_of(member.ty).unwrap_or(Kind::Text))?;
+    }
+    Ok(kinds)
+}
+
+/// The live fields of each object.
+pub fn live_index<'n>(alloc: Global, rows: &RowLists<'_, 'n>) -> Result<LiveIndex<'n>, AllocError>
+    requires legal { IsLegal (borrowed_rows rows.now) }
+    requires few_fields { All (λ o. vec_len o.fields < 2 ^ 31) rows.now.objects.now }
+    ensures { IfOk result (IsLiveIndex (borrowed_rows rows.now) (borrowed_rows rows.now).objects) }
+{
+    let mut index = LiveIndex {
+        fields: Lists::new(alloc),
+        names: Lists::new(alloc),
+        widest: 0,
+    };
+    for object in rows.objects {
+        let fields = table_views(alloc, rows, object)?;
+        let names = view_names(alloc, &fields)?;
+        index.widest = index.widest.max(fields.len() as u32);
+        index.fields.push(&fields)?;
+        index.names.push(&names)?;
+    }
+    Ok(index)
+}
+
+/// The members of each enum.
+pub fn member_index<'n>(
+    alloc: Global,
+    rows: &RowLists<'_, 'n>,
+) -> Result<MemberIndex<'n>, AllocError>
+    requires { All (λ e. vec_len e.members < 2 ^ 31) rows.now.enums.now }
+    ensures { IfOk result (IsMemberIndex (borrowed_rows rows.now) rows.now.enums.now) }
+{
+    let mut index = MemberIndex {
+        kinds: Lists::new(alloc),
+        values: Lists::new(alloc),
+        names: Lists::new(alloc),
+    };
+    for row in rows.enums {
+        let members = row.members.as_slice();
+        let kinds = member_kinds(alloc, rows, members)?;
+        let values = member_values(alloc, members)?;
+        let names = member_names(alloc, members)?;
+        index.kinds.push(&kinds)?;
+        index.values.push(&values)?;
+        index.names.push(&names)?;
+    }
+    Ok(index)
+}

@@ -1,0 +1,16 @@
+// What follows from the definitions alone. These functions have no body: their contracts are the theorems.
+
+ghost use Rattle.std.specs.Prelude.{◌≡◌, ◌↔◌};
+ghost use Rattle.fb_schema.specs.Rows.{Rows};
+ghost use Rattle.fb_schema.specs.Demands.{IsLegal, IsFirstIllegal};
+ghost use Rattle.fb_schema.specs.declared.fault.SchemaFault.{SchemaFault};
+
+/// At most one fault is the first.
+pub fn one_fault_is_first()
+    ensures { (rows : Rows) (f g : SchemaFault) → IsFirstIllegal rows f → IsFirstIllegal rows g → f ≡ g }
+{}
+
+/// Rows are legal exactly where no fault is the first.
+pub fn legal_where_none_is_first()
+    ensures { (rows : Rows) → IsLegal rows ↔ ((f : SchemaFault) → IsFirstIllegal rows f → ⊥) }
+{}

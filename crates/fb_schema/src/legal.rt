@@ -1,0 +1,113 @@
+// Rows are refused by the first demand that they break.
+
+ghost use Rattle.std.specs.Prelude.{◌<◌, ◌^◌, map, length, IfOk, OnOk, IfErr, All, vec_len};
+ghost use Rattle.fb_schema.specs.Order.{IsOrderOf, IsFirstAgain, name_cmp, object_name};
+ghost use Rattle.fb_schema.specs.Rows.{AreFew, object_of, enum_of, borrowed_rows};
+ghost use Rattle.fb_schema.specs.Demands.{IsLegal, AreClear, Refuses, IsFirstOf, demands_of_field, demands_of_union};
+
+use crate::demands::object_fault;
+use crate::fault::{Code, SchemaFault, out_of_memory};
+use crate::order::first_again;
+use crate::rows::{EnumRow, ObjectRow};
+use crate::types::RowLists;
+use crate::walk::{is_at, members_fault, struct_fields_fault, table_fields_fault};
+use std::alloc::{AllocError, Global};
+
+/// The first demand that a field of an object breaks, with the field's place.
+fn fields_fault(
+    alloc: Global,
+    rows: &RowLists,
+    object: &ObjectRow,
+) -> Result<Option<(Code, u32)>, AllocError>
+    requires { vec_len object.now.fields < 2 ^ 31 }
+    ensures { IfOk result (λ first. IsFirstOf (demands_of_field (borrowed_rows rows.now) (object_of object.now)) first) }
+{
+    let fields = object.fields.as_slice();
+    if object.is_struct {
+        struct_fields_fault(alloc, rows, object, fields)
+    } else {
+        table_fields_fault(alloc, rows, fields)
+    }
+}
+
+/// The first demand that a member of an enum breaks, with the member's place. An enum that is no union is asked nothing.
+fn union_fault(
+    alloc: Global,
+    rows: &RowLists,
+    row: &EnumRow,
+) -> Result<Option<(Code, u32)>, AllocError>
+    requires { vec_len row.now.members < 2 ^ 31 }
+    ensures { IfOk result (λ first. IsFirstOf (demands_of_union (borrowed_rows rows.now) (enum_of row.now)) first) }
+{
+    if row.is_union {
+        members_fault(alloc, rows, row.members.as_slice())
+    } else {
+        Ok(None)
+    }
+}
+
+/// Refuses objects by the first demand that one of them breaks. `again` is the first object whose name stood before.
+fn objects_legal(alloc: Global, rows: &RowLists, again: Option<u32>) -> Result<(), SchemaFault>
+    requires few { length rows.now.objects.now < 2 ^ 31 }
+    requires few_fields { All (λ o. vec_len o.fields < 2 ^ 31) rows.now.objects.now }
+    requires again { IsFirstAgain name_cmp (map object_name rows.now.objects.now) again }
+    ensures clear { OnOk result (AreClear (borrowed_rows rows.now) 0) }
+    ensures refused { IfErr result (Refuses (borrowed_rows rows.now)) }
+{
+    for (n, object) in rows.objects.iter().enumerate() {
+        if let Some(code) = object_fault(object, is_at(again, n)) {
+            return Err(SchemaFault {
+                code,
+                owner: n as u32,
+                part: None,
+            });
+        }
+        match fields_fault(alloc, rows, object) {
+            Err(_) => return Err(out_of_memory()),
+            Ok(Some((code, p))) => {
+                return Err(SchemaFault {
+                    code,
+                    owner: n as u32,
+                    part: Some(p),
+                });
+            }
+            Ok(None) => {}
+        }
+    }
+    Ok(())
+}
+
+/// Refuses unions by the first demand that one of their members breaks.
+fn unions_legal(alloc: Global, rows: &RowLists) -> Result<(), SchemaFault>
+    requires few { length rows.now.enums.now < 2 ^ 31 }
+    requires few_members { All (λ e. vec_len e.members < 2 ^ 31) rows.now.enums.now }
+    requires objects { AreClear (borrowed_rows rows.now) 0 }
+    ensures clear { OnOk result (AreClear (borrowed_rows rows.now) 1) }
+    ensures refused { IfErr result (Refuses (borrowed_rows rows.now)) }
+{
+    for (n, row) in rows.enums.iter().enumerate() {
+        match union_fault(alloc, rows, row) {
+            Err(_) => return Err(out_of_memory()),
+            Ok(Some((code, p))) => {
+                return Err(SchemaFault {
+                    code,
+                    owner: n as u32,
+                    part: Some(p),
+                });
+            }
+            Ok(None) => {}
+        }
+    }
+    Ok(())
+}
+
+/// Refuses rows by the first demand that they break. The order is that of the objects' names.
+pub fn legal(alloc: Global, rows: &RowLists, order: &[(&[u8], u32)]) -> Result<(), SchemaFault>
+    requires few { AreFew rows.now.objects.now rows.now.enums.now }
+    requires order { IsOrderOf name_cmp (map object_name rows.now.objects.now) order.now }
+    ensures legal { OnOk result (IsLegal (borrowed_rows rows.now)) }
+    ensures refused { IfErr result (Refuses (borrowed_rows rows.now)) }
+{
+    objects_legal(alloc, rows, first_again(order))?;
+    unions_legal(alloc, rows)
+}

@@ -1,0 +1,29 @@
+// Schema rows, checked once, and look-ups in them.
+#![tactic(auto)]
+
+mod demands;
+mod fault;
+mod index;
+mod indexing;
+mod keys;
+mod kinds;
+pub mod laws;
+mod legal;
+mod lists;
+mod live;
+mod order;
+mod rows;
+mod schema;
+mod type_fields;
+mod types;
+mod views;
+mod walk;
+
+pub use fault::{Code, SchemaFault};
+pub use kinds::{Kind, Scalar};
+pub use rows::{EnumRow, FieldRow, MemberRow, ObjectRow, TypeRow};
+pub use schema::Schema;
+pub use views::{FieldView, ObjectView};
+
+#[cfg(test)]
+mod tests;

@@ -1,0 +1,47 @@
+// Lists in one vector.
+
+ghost use Rattle.std.specs.Prelude.{length};
+ghost use Rattle.fb_schema.specs.Flat.{AreWithin};
+
+use std::alloc::{AllocError, Global};
+
+/// Lists, one after another in one vector, with a range for each.
+#[derive(Drop)]
+pub struct Lists<T: Drop> {
+    ranges: Vec<(usize, usize)>,
+    rows: Vec<T>,
+    ghost within: { AreWithin rows.items ranges.items },
+}
+
+impl<T: Copy> Lists<T> {
+    ghost use Rattle.std.specs.Prelude.{◌≡◌, ◌<◌, [], ◌∷◌, ◌++◌, OnOk, slice_get, Some};
+    ghost use Rattle.fb_schema.specs.FlatLists.{lists_of};
+
+    pub fn new(alloc: Global) -> Lists<T>
+        ensures { lists_of result ≡ [] }
+    {
+        Lists {
+            ranges: Vec::new(alloc),
+            rows: Vec::new(alloc),
+        }
+    }
+
+    /// Adds a list at the end.
+    pub fn push(&mut self, list: &[T]) -> Result<(), AllocError>
+        ensures { OnOk result (lists_of self.new ≡ lists_of self.old ++ list.now ∷ []) }
+    {
+        let start = self.rows.len();
+        self.rows.extend_from_slice(list)?;
+        self.ranges.push((start, self.rows.len()))?;
+        Ok(())
+    }
+
+    /// The list at `n`.
+    pub fn get(&self, n: usize) -> &[T]
+        requires { n < length (lists_of self.now) }
+        ensures { slice_get (lists_of self.now) n ≡ Some result.now }
+    {
+        let (start, end) = self.ranges[n];
+        &self.rows[start..end]
+    }
+}

@@ -1,0 +1,119 @@
+// The live fields of tables in rising slot.
+
+ghost use Rattle.std.specs.Prelude.{◌≡◌, ◌<◌, ◌^◌, ◌+◌, ◌==◌, filter, map, position, length, vec_len, IfOk, false, ◌≤◌};
+ghost use Rattle.fb_schema.specs.Rows.{field_of, object_of, borrowed_rows};
+ghost use Rattle.fb_schema.specs.Live.{is_live, by_slot, field_kind, companion_of, live_of, live_of_view, live_in, AreApart, AreRising};
+
+use crate::kinds::Kind;
+use crate::rows::{FieldRow, ObjectRow};
+use crate::types::RowLists;
+use crate::views::FieldView;
+use std::alloc::{AllocError, Global};
+
+/// The rows of live fields in rising slot.
+fn live_rows<'n>(alloc: Global, fields: &[FieldRow<'n>]) -> Result<Vec<FieldRow<'n>>, AllocError>
+    requires { AreApart (map field_of fields.now) }
+    ensures value { IfOk result (λ live. map field_of live.items ≡ by_slot (filter is_live (map field_of fields.now))) }
+    ensures rising { IfOk result (λ live. AreRising live.items) }
+    ensures fewer { IfOk result (λ live. length live.items ≤ length fields.now) }
+{
+    let mut live = Vec::new(alloc);
+    for field in fields {
+        if !field.deprecated {
+            live.push(*field)?;
+        }
+    }
+    live.sort_unstable_by_key(|f| f.slot);
+    Ok(live)
+}
+
+/// The place of the field in the slot two below.
+fn place_below(live: &[FieldRow], slot: u16) -> Option<u32>
+    requires few { length live.now < 2 ^ 31 }
+    requires rising { AreRising live.now }
+    ensures { result ≡ position (λ g. g.slot + 2 == slot) (map field_of live.now) }
+{
+    if slot < 2 {
+        return None;
+    }
+    match live.binary_search_by_key(&(slot - 2), |f| f.slot) {
+        Ok(at) => Some(at as u32),
+        Err(_) => None,
+    }
+}
+
+fn field_kind(rows: &RowLists, field: &FieldRow) -> Kind
+    ensures { result ≡ field_kind (borrowed_rows rows.now) (field_of field.now) }
+{
+    rows.kind_of(field.ty).unwrap_or(Kind::Text)
+}
+
+/// The place of the type field of a union and of a vector of unions.
+fn companion(live: &[FieldRow], slot: u16, kind: Kind) -> Option<u32>
+    requires few { length live.now < 2 ^ 31 }
+    requires rising { AreRising live.now }
+    ensures { result ≡ companion_of (map field_of live.now) slot kind }
+{
+    match kind {
+        Kind::Union(_) | Kind::Unions(_) => place_below(live, slot),
+        _ => None,
+    }
+}
+
+/// A field among the live fields of its table.
+fn view_of<'n>(rows: &RowLists, live: &[FieldRow<'n>], field: &FieldRow<'n>) -> FieldView<'n>
+    requires few { length live.now < 2 ^ 31 }
+    requires rising { AreRising live.now }
+    ensures { live_of_view result ≡ live_of (borrowed_rows rows.now) (map field_of live.now) (field_of field.now) }
+{
+    let kind = field_kind(rows, field);
+    FieldView {
+        number: field.slot.saturating_sub(4) / 2,
+        slot: field.slot,
+        name: field.name,
+        kind,
+        default: field.default,
+        required: field.required,
+        optional: field.optional,
+        size: rows.kind_size(kind),
+        align: rows.kind_align(kind),
+        companion: companion(live, field.slot, kind),
+    }
+}
+
+/// The views of the live fields of a table.
+fn views<'n>(
+    alloc: Global,
+    rows: &RowLists,
+    live: &[FieldRow<'n>],
+) -> Result<Vec<FieldView<'n>>, AllocError>
+    requires few { length live.now < 2 ^ 31 }
+    requires rising { AreRising live.now }
+    ensures value { IfOk result (λ views. map live_of_view views.items ≡ map (live_of (borrowed_rows rows.now) (map field_of live.now)) (map field_of live.now)) }
+    ensures len { IfOk result (λ views. length views.items ≡ length live.now) }
+{
+    let mut views = Vec::new(alloc);
+    for field in live {
+        views.push(view_of(rows, live, field))?;
+    }
+    Ok(views)
+}
+
+/// The live fields of an object, none where it is a struct.
+pub fn table_views<'n>(
+    alloc: Global,
+    rows: &RowLists,
+    object: &ObjectRow<'n>,
+) -> Result<Vec<FieldView<'n>>, AllocError>
+    requires few { vec_len object.now.fields < 2 ^ 31 }
+    requires apart { object.now.is_struct ≡ false → AreApart (map field_of object.now.fields.items) }
+    ensures value { IfOk result (λ views. map live_of_view views.items ≡ live_in (borrowed_rows rows.now) (Some (object_of object.now))) }
+    ensures few { IfOk result (λ views. length views.items < 2 ^ 31) }
+{
+    if object.is_struct {
+        return Ok(Vec::new(alloc));
+    }
+    let live = live_rows(alloc, object.fields.as_slice())?;
+    let views = views(alloc, rows, &live)?;
+    Ok(views)
+}

@@ -1,0 +1,211 @@
+// A legal schema.
+
+ghost use Rattle.std.specs.Prelude.{◌≡◌, ◌<◌, map, length, IfOk, OnOk, IfErr, IsTrue, option_map, slice_get, Some};
+ghost use Rattle.std.specs.Prelude.{position, ◌≤◌, ◌^◌};
+ghost use Rattle.std.specs.Str.{bytes_eq};
+ghost use Rattle.fb_schema.specs.Rows.{AreFew, rows_of, is_table, is_union};
+ghost use Rattle.fb_schema.specs.Heads.{head_of, head_of_view};
+ghost use Rattle.fb_schema.specs.Live.{live_fields, live_of_view, field_named, widest};
+ghost use Rattle.fb_schema.specs.Members.{member_of, member_named};
+ghost use Rattle.fb_schema.specs.Demands.{IsLegal, Refuses};
+
+use crate::fault::{SchemaFault, out_of_memory};
+use crate::index::{LiveIndex, MemberIndex};
+use crate::indexing::{live_index, member_index};
+use crate::keys::object_names;
+use crate::kinds::Kind;
+use crate::legal::legal;
+use crate::order::place_of;
+use crate::rows::{EnumRow, ObjectRow};
+use crate::types::RowLists;
+use crate::views::{FieldView, ObjectView};
+use std::alloc::Global;
+use std::marker::Model;
+
+/// Rows that are legal, with an index by which look-ups answer. Contracts see the rows that were handed in.
+#[derive(Drop)]
+pub struct Schema<'n> {
+    objects: Vec<ObjectRow<'n>>,
+    enums: Vec<EnumRow<'n>>,
+    order: Vec<(&'n [u8], u32)>,
+    live: LiveIndex<'n>,
+    members: MemberIndex<'n>,
+}
+
+impl<'n> Model for Schema<'n> {
+    ghost use Rattle.fb_schema.specs.Rows.{Rows, rows_of};
+    ghost use Rattle.fb_schema.specs.Indexed.{IsIndexed};
+
+    ghost Value = { Rows };
+
+    ghost view = { λ s. rows_of s.objects.items s.enums.items };
+
+    ghost invariant = { λ s. IsIndexed s.objects.items s.enums.items s.order.items s.live s.members };
+}
+
+impl<'n> Schema<'n> {
+    /// Takes rows that are legal, and refuses others by the first demand that they break (C1 to C8). C9 is answered only where a
+    /// growth was refused. What was handed in is dropped on a refusal.
+    pub fn build(
+        alloc: Global,
+        objects: Vec<ObjectRow<'n>>,
+        enums: Vec<EnumRow<'n>>,
+    ) -> Result<Schema<'n>, SchemaFault>
+        requires { AreFew objects.items enums.items }
+        ensures legal { OnOk result (IsLegal (rows_of objects.entry.items enums.entry.items)) }
+        ensures rows { IfOk result (λ s. s ≡ rows_of objects.entry.items enums.entry.items) }
+        ensures refused { IfErr result (Refuses (rows_of objects.entry.items enums.entry.items)) }
+    {
+        let rows = RowLists {
+            objects: objects.as_slice(),
+            enums: enums.as_slice(),
+        };
+        let order = match object_names(alloc, rows.objects) {
+            Ok(order) => order,
+            Err(_) => return Err(out_of_memory()),
+        };
+        legal(alloc, &rows, &order)?;
+        let live = match live_index(alloc, &rows) {
+            Ok(live) => live,
+            Err(_) => return Err(out_of_memory()),
+        };
+        let members = match member_index(alloc, &rows) {
+            Ok(members) => members,
+            Err(_) => return Err(out_of_memory()),
+        };
+        Ok(Schema {
+            objects,
+            enums,
+            order,
+            live,
+            members,
+        })
+    }
+
+    /// The rows of a schema are legal. The call does nothing: its contract is what it is for.
+    pub fn lawful(&self)
+        ensures { IsLegal self.now }
+    {
+        let _objects = &self.objects;
+    }
+
+    /// How many objects there are.
+    pub fn object_count(&self) -> u32
+        ensures { result ≡ length self.now.objects }
+    {
+        self.objects.len() as u32
+    }
+
+    /// Whether the object of this number is a table.
+    pub fn is_table(&self, n: u32) -> bool
+        ensures { result ≡ is_table self.now n }
+    {
+        match self.objects.get(n as usize) {
+            Some(object) => !object.is_struct,
+            None => false,
+        }
+    }
+
+    /// Whether the enum of this number is a union.
+    pub fn is_union(&self, e: u32) -> bool
+        ensures { result ≡ is_union self.now e }
+    {
+        match self.enums.get(e as usize) {
+            Some(row) => row.is_union,
+            None => false,
+        }
+    }
+
+    /// An object without its fields.
+    pub fn object(&self, n: u32) -> ObjectView<'n>
+        requires { n < length self.now.objects }
+        ensures { option_map head_of (slice_get self.now.objects n) ≡ Some (head_of_view result) }
+    {
+        let object = &self.objects[n as usize];
+        ObjectView {
+            name: object.name,
+            is_struct: object.is_struct,
+            minalign: object.minalign,
+            bytesize: object.bytesize,
+        }
+    }
+
+    /// The live fields of a table in rising slot.
+    pub fn fields_of(&self, n: u32) -> &[FieldView<'n>]
+        requires { IsTrue (is_table self.now n) }
+        ensures value { map live_of_view result.now ≡ live_fields self.now n }
+        ensures within { length result.now ≤ widest self.now }
+        ensures few { length result.now < 2 ^ 32 }
+    {
+        self.live.fields.get(n as usize)
+    }
+
+    /// The object of this name.
+    pub fn object_named(&self, name: &[u8]) -> Option<u32>
+        ensures { result ≡ position (λ o. bytes_eq o.name name.now) self.now.objects }
+    {
+        place_of(&self.order, &name)
+    }
+
+    /// The place of the live field of this name, among the live fields of a table in rising slot.
+    pub fn field_named(&self, n: u32, name: &[u8]) -> Option<u32>
+        requires { IsTrue (is_table self.now n) }
+        ensures { result ≡ field_named self.now n name.now }
+    {
+        place_of(self.live.names.get(n as usize), &name)
+    }
+
+    /// How many live fields a table has.
+    pub fn field_count(&self, n: u32) -> u32
+        requires { IsTrue (is_table self.now n) }
+        ensures { result ≡ length (live_fields self.now n) }
+    {
+        self.fields_of(n).len() as u32
+    }
+
+    /// The i-th live field of a table in rising slot.
+    pub fn field_at(&self, n: u32, i: u32) -> FieldView<'n>
+        requires table { IsTrue (is_table self.now n) }
+        requires field { i < length (live_fields self.now n) }
+        ensures { slice_get (live_fields self.now n) i ≡ Some (live_of_view result) }
+    {
+        self.fields_of(n)[i as usize]
+    }
+
+    /// The kind of the member of a union with this value, none where no member has it. The value 0 is the union without a value.
+    pub fn member_of(&self, e: u32, value: u8) -> Option<Kind>
+        requires { IsTrue (is_union self.now e) }
+        ensures { result ≡ member_of self.now e value }
+    {
+        if value == 0 {
+            return None;
+        }
+        let values = self.members.values.get(e as usize);
+        match place_of(values, &i64::from(value)) {
+            Some(place) => Some(self.members.kinds.get(e as usize)[place as usize]),
+            None => None,
+        }
+    }
+
+    /// The value, from 1 to 255, of the member of a union with this name.
+    pub fn member_named(&self, e: u32, name: &[u8]) -> Option<u8>
+        requires { IsTrue (is_union self.now e) }
+        ensures { result ≡ member_named self.now e name.now }
+    {
+        let names = self.members.names.get(e as usize);
+        match place_of(names, &(false, name)) {
+            Some(place) => {
+                let value = self.enums[e as usize].members[place as usize].value;
+                Some(value.unsigned_abs() as u8)
+            }
+            None => None,
+        }
+    }
+
+    /// The greatest number of live fields of a table, 0 without tables.
+    pub fn widest(&self) -> u32
+        ensures { result ≡ widest self.now }
+    {
+        self.live.widest
+    }
+}

@@ -1,0 +1,46 @@
+// The type fields of a table, by whose slots unions are found to have one.
+
+ghost use Rattle.std.specs.Prelude.{◌≡◌, ◌==◌, List, map, IfOk};
+ghost use Rattle.std.specs.List.{list_any};
+ghost use Rattle.std.specs.List.Sorted.{IsSorted};
+ghost use Rattle.std.specs.Ordering.{nat_cmp};
+ghost use Rattle.fb_schema.specs.Rows.{Field, field_of};
+ghost use Rattle.fb_schema.specs.Demands.{stands_below};
+ghost use Rattle.fb_schema.specs.Order.{AreTypeSlots};
+ghost use Rattle.fb_schema.specs.declared.kinds.TypeField.{TypeField};
+
+use crate::kinds::TypeField;
+use crate::rows::FieldRow;
+use crate::types::{is_type_field, shape_of};
+use std::alloc::{AllocError, Global};
+
+/// The slots of the live type fields, in order.
+pub fn type_slots(
+    alloc: Global,
+    wanted: TypeField,
+    fields: &[FieldRow],
+) -> Result<Vec<u16>, AllocError>
+    ensures { IfOk result (λ slots. AreTypeSlots wanted (map field_of fields.now) slots.items) }
+{
+    let mut slots = Vec::new(alloc);
+    for field in fields {
+        if !field.deprecated && is_type_field(wanted, shape_of(field.ty)) {
+            slots.push(field.slot)?;
+        }
+    }
+    slots.sort_unstable();
+    Ok(slots)
+}
+
+fn contains(slots: &[u16], slot: u16) -> bool
+    ensures { IsSorted nat_cmp slots.now → result ≡ list_any (λ s. s == slot) slots.now }
+{
+    slots.binary_search(&slot).is_ok()
+}
+
+/// Whether a live type field has the slot two below.
+pub fn stands_below(slots: &[u16], slot: u16) -> bool
+    ensures { (wanted : TypeField) (fields : List Field) → AreTypeSlots wanted fields slots.now → result ≡ stands_below wanted fields slot }
+{
+    slot >= 2 && contains(slots, slot - 2)
+}

@@ -1,0 +1,328 @@
+// What types are and what they name, read off the rows.
+
+ghost use Rattle.std.specs.Prelude.{◌≡◌, ◌^◌, pos, neg_ℤ, ◌<ℤ◌};
+ghost use Rattle.fb_schema.specs.Rows.{entry_at, is_some_table, is_some_union, borrowed_rows, found_object, found_enum};
+ghost use Rattle.fb_schema.specs.Kinds.{element_of, shape_of, scalar_size, kind_of, object_kind, union_kind, struct_size, struct_align, kind_size, kind_align};
+ghost use Rattle.fb_schema.specs.Demands.{is_inline, is_supported, is_for_member, is_object, is_union_shape, is_type_field, names_no_object, names_table, names_no_union, inline_bytes, bytes_in, element_bytes};
+ghost use Rattle.fb_schema.specs.declared.kinds.Kind.{Kind};
+
+use crate::kinds::{Element, Kind, Scalar, Shape, TypeField};
+use crate::rows::{EnumRow, ObjectRow, TypeRow};
+
+/// The two lists of rows while they are checked.
+#[derive(Clone, Copy)]
+pub struct RowLists<'r, 'n> {
+    pub objects: &'r [ObjectRow<'n>],
+    pub enums: &'r [EnumRow<'n>],
+}
+
+/// The bytes of a scalar, which are its alignment too.
+pub fn scalar_size(scalar: Scalar) -> u32
+    ensures { result ≡ scalar_size scalar }
+{
+    match scalar {
+        Scalar::UType | Scalar::Bool | Scalar::Byte | Scalar::UByte => 1,
+        Scalar::Short | Scalar::UShort => 2,
+        Scalar::Int | Scalar::UInt | Scalar::Float => 4,
+        Scalar::Long | Scalar::ULong | Scalar::Double => 8,
+    }
+}
+
+/// What a base type holds one of, by its number in `BaseType` of reflection.fbs.
+#[tactic(auto, unfolding(crate::specs::Kinds::base_types))]
+fn element_of(base: i8) -> Option<Element>
+    ensures { result ≡ element_of base }
+{
+    match base {
+        1 => Some(Element::Scalar(Scalar::UType)),
+        2 => Some(Element::Scalar(Scalar::Bool)),
+        3 => Some(Element::Scalar(Scalar::Byte)),
+        4 => Some(Element::Scalar(Scalar::UByte)),
+        5 => Some(Element::Scalar(Scalar::Short)),
+        6 => Some(Element::Scalar(Scalar::UShort)),
+        7 => Some(Element::Scalar(Scalar::Int)),
+        8 => Some(Element::Scalar(Scalar::UInt)),
+        9 => Some(Element::Scalar(Scalar::Long)),
+        10 => Some(Element::Scalar(Scalar::ULong)),
+        11 => Some(Element::Scalar(Scalar::Float)),
+        12 => Some(Element::Scalar(Scalar::Double)),
+        13 => Some(Element::Text),
+        15 => Some(Element::Object),
+        16 => Some(Element::Union),
+        _ => None,
+    }
+}
+
+/// What a type holds. Its element counts in a vector and an array alone.
+#[tactic(auto, unfolding(crate::specs::Kinds::shape_of))]
+pub fn shape_of(ty: TypeRow) -> Option<Shape>
+    ensures { result ≡ shape_of ty }
+{
+    match ty.base {
+        14 => Some(Shape::Vector(element_of(ty.element)?)),
+        17 => Some(Shape::Array(element_of(ty.element)?)),
+        _ => Some(Shape::One(element_of(ty.base)?)),
+    }
+}
+
+/// Whether a struct may hold it.
+pub fn is_inline(shape: Option<Shape>) -> bool
+    ensures { result ≡ is_inline shape }
+{
+    match shape {
+        Some(Shape::One(Element::Scalar(_) | Element::Object)) => true,
+        Some(Shape::Array(Element::Scalar(_) | Element::Object)) => true,
+        _ => false,
+    }
+}
+
+/// Whether a table may hold it.
+pub fn is_supported(shape: Option<Shape>) -> bool
+    ensures { result ≡ is_supported shape }
+{
+    match shape {
+        Some(Shape::One(_) | Shape::Vector(_)) => true,
+        _ => false,
+    }
+}
+
+/// Whether a union may hold it.
+pub fn is_for_member(shape: Option<Shape>) -> bool
+    ensures { result ≡ is_for_member shape }
+{
+    match shape {
+        Some(Shape::One(Element::Object | Element::Text)) => true,
+        _ => false,
+    }
+}
+
+fn is_object(shape: Option<Shape>) -> bool
+    ensures { result ≡ is_object shape }
+{
+    match shape {
+        Some(
+            Shape::One(Element::Object)
+            | Shape::Vector(Element::Object)
+            | Shape::Array(Element::Object),
+        ) => true,
+        _ => false,
+    }
+}
+
+fn is_union(shape: Option<Shape>) -> bool
+    ensures { result ≡ is_union_shape shape }
+{
+    match shape {
+        Some(Shape::One(Element::Union) | Shape::Vector(Element::Union)) => true,
+        _ => false,
+    }
+}
+
+/// Whether it holds the types of a union's value, or of a vector of these.
+pub fn is_type_field(wanted: TypeField, shape: Option<Shape>) -> bool
+    ensures { result ≡ is_type_field wanted shape }
+{
+    match (wanted, shape) {
+        (TypeField::ForUnion, Some(Shape::One(Element::Scalar(Scalar::UType)))) => true,
+        (TypeField::ForUnions, Some(Shape::Vector(Element::Scalar(Scalar::UType)))) => true,
+        _ => false,
+    }
+}
+
+impl<'r, 'n> RowLists<'r, 'n> {
+    /// The object that an index names.
+    pub fn object_at(&self, index: i32) -> Option<&'r ObjectRow<'n>>
+        ensures { found_object result ≡ entry_at (borrowed_rows self.now).objects index }
+    {
+        if index < 0 {
+            None
+        } else {
+            self.objects.get(index as usize)
+        }
+    }
+
+    /// The enum that an index names.
+    pub fn enum_at(&self, index: i32) -> Option<&'r EnumRow<'n>>
+        ensures { found_enum result ≡ entry_at (borrowed_rows self.now).enums index }
+    {
+        if index < 0 {
+            None
+        } else {
+            self.enums.get(index as usize)
+        }
+    }
+
+    /// Whether a type, or its element, is an object that isn't there.
+    #[tactic(auto, unfolding(crate::specs::Demands::names_no_object))]
+    pub fn names_no_object(&self, ty: TypeRow) -> bool
+        ensures { result ≡ names_no_object (borrowed_rows self.now) ty }
+    {
+        is_object(shape_of(ty)) && self.object_at(ty.index).is_none()
+    }
+
+    /// Whether a type, or its element, is an object that is a table.
+    #[tactic(auto, unfolding(crate::specs::Demands::names_table))]
+    pub fn names_table(&self, ty: TypeRow) -> bool
+        ensures { result ≡ names_table (borrowed_rows self.now) ty }
+    {
+        is_object(shape_of(ty)) && self.is_table_at(ty.index)
+    }
+
+    fn is_table_at(&self, index: i32) -> bool
+        ensures { result ≡ is_some_table (entry_at (borrowed_rows self.now).objects index) }
+    {
+        match self.object_at(index) {
+            Some(object) => !object.is_struct,
+            None => false,
+        }
+    }
+
+    /// Whether a type, or its element, is a union that isn't there or is no union.
+    #[tactic(auto, unfolding(crate::specs::Demands::names_no_union))]
+    pub fn names_no_union(&self, ty: TypeRow) -> bool
+        ensures { result ≡ names_no_union (borrowed_rows self.now) ty }
+    {
+        is_union(shape_of(ty)) && !self.is_union_at(ty.index)
+    }
+
+    fn is_union_at(&self, index: i32) -> bool
+        ensures { result ≡ is_some_union (entry_at (borrowed_rows self.now).enums index) }
+    {
+        match self.enum_at(index) {
+            Some(row) => row.is_union,
+            None => false,
+        }
+    }
+
+    fn object_bytes(&self, index: i32) -> i32
+        ensures { result ≡ bytes_in (entry_at (borrowed_rows self.now).objects index) }
+    {
+        match self.object_at(index) {
+            Some(object) => object.bytesize,
+            None => 0,
+        }
+    }
+
+    fn element_bytes(&self, element: Element, index: i32) -> i32
+        ensures { result ≡ element_bytes (entry_at (borrowed_rows self.now).objects index) element }
+    {
+        match element {
+            Element::Scalar(scalar) => scalar_size(scalar) as i32,
+            Element::Object => self.object_bytes(index),
+            Element::Text | Element::Union => 0,
+        }
+    }
+
+    /// The bytes that a struct's field of this type takes. They can be negative, where the struct that it names has such a size.
+    #[tactic(auto, unfolding(crate::specs::Demands::inline_bytes))]
+    pub fn inline_bytes(&self, ty: TypeRow) -> i64
+        ensures value { result ≡ inline_bytes (borrowed_rows self.now) ty }
+        ensures low { neg_ℤ (pos (2 ^ 48)) <ℤ result }
+        ensures high { result <ℤ pos (2 ^ 48) }
+    {
+        match shape_of(ty) {
+            Some(Shape::One(element)) => i64::from(self.element_bytes(element, ty.index)),
+            Some(Shape::Array(element)) => {
+                i64::from(ty.fixed_length) * i64::from(self.element_bytes(element, ty.index))
+            }
+            _ => 0,
+        }
+    }
+
+    /// The kind of a type, none where tables can't have it or its object or enum isn't there.
+    #[tactic(auto, unfolding(crate::specs::Kinds::kind_of))]
+    pub fn kind_of(&self, ty: TypeRow) -> Option<Kind>
+        ensures { result ≡ kind_of (borrowed_rows self.now) ty }
+    {
+        let index = ty.index;
+        match shape_of(ty)? {
+            Shape::One(Element::Scalar(scalar)) => Some(Kind::Scalar(scalar)),
+            Shape::One(Element::Text) => Some(Kind::Text),
+            Shape::One(Element::Object) => self.object_kind(index),
+            Shape::One(Element::Union) => self.union_kind(index),
+            Shape::Vector(Element::Scalar(scalar)) => Some(Kind::Scalars(scalar)),
+            Shape::Vector(Element::Text) => Some(Kind::Texts),
+            Shape::Vector(Element::Object) => self.objects_kind(index),
+            Shape::Vector(Element::Union) => self.unions_kind(index),
+            Shape::Array(_) => None,
+        }
+    }
+
+    fn object_kind(&self, index: i32) -> Option<Kind>
+        ensures { result ≡ object_kind index Kind.Struct Kind.Table (entry_at (borrowed_rows self.now).objects index) }
+    {
+        let object = self.object_at(index)?;
+        let number = index as u32;
+        Some(if object.is_struct {
+            Kind::Struct(number)
+        } else {
+            Kind::Table(number)
+        })
+    }
+
+    fn objects_kind(&self, index: i32) -> Option<Kind>
+        ensures { result ≡ object_kind index Kind.Structs Kind.Tables (entry_at (borrowed_rows self.now).objects index) }
+    {
+        let object = self.object_at(index)?;
+        let number = index as u32;
+        Some(if object.is_struct {
+            Kind::Structs(number)
+        } else {
+            Kind::Tables(number)
+        })
+    }
+
+    fn union_kind(&self, index: i32) -> Option<Kind>
+        ensures { result ≡ union_kind index Kind.Union (entry_at (borrowed_rows self.now).enums index) }
+    {
+        self.enum_at(index)?;
+        Some(Kind::Union(index as u32))
+    }
+
+    fn unions_kind(&self, index: i32) -> Option<Kind>
+        ensures { result ≡ union_kind index Kind.Unions (entry_at (borrowed_rows self.now).enums index) }
+    {
+        self.enum_at(index)?;
+        Some(Kind::Unions(index as u32))
+    }
+
+    fn struct_size(&self, number: u32) -> u32
+        ensures { result ≡ struct_size (borrowed_rows self.now) number }
+    {
+        match self.objects.get(number as usize) {
+            Some(object) => object.bytesize.unsigned_abs(),
+            None => 0,
+        }
+    }
+
+    fn struct_align(&self, number: u32) -> u32
+        ensures { result ≡ struct_align (borrowed_rows self.now) number }
+    {
+        match self.objects.get(number as usize) {
+            Some(object) => object.minalign.unsigned_abs(),
+            None => 0,
+        }
+    }
+
+    /// The bytes of a scalar or struct, or of one element of a vector of these; of any other kind those of an offset.
+    pub fn kind_size(&self, kind: Kind) -> u32
+        ensures { result ≡ kind_size (borrowed_rows self.now) kind }
+    {
+        match kind {
+            Kind::Scalar(scalar) | Kind::Scalars(scalar) => scalar_size(scalar),
+            Kind::Struct(number) | Kind::Structs(number) => self.struct_size(number),
+            _ => 4,
+        }
+    }
+
+    /// The alignment of these.
+    pub fn kind_align(&self, kind: Kind) -> u32
+        ensures { result ≡ kind_align (borrowed_rows self.now) kind }
+    {
+        match kind {
+            Kind::Scalar(scalar) | Kind::Scalars(scalar) => scalar_size(scalar),
+            Kind::Struct(number) | Kind::Structs(number) => self.struct_align(number),
+            _ => 4,
+        }
+    }
+}

@@ -1,0 +1,31 @@
+// What look-ups answer.
+
+use crate::kinds::Kind;
+
+/// An object without its fields.
+#[derive(Clone, Copy, Debug)]
+pub struct ObjectView<'n> {
+    pub name: &'n [u8],
+    pub is_struct: bool,
+    pub minalign: i32,
+    pub bytesize: i32,
+}
+
+/// A live field of a table, with what a reader of buffers needs.
+///
+/// `number` is the field number and `slot` the place of its word in a vtable, in bytes. `size` and `align` are, in bytes, those of
+/// a scalar or struct, of one element of a vector of these, and 4 for every other kind. `companion` is, for a union and
+/// a vector of unions, the place of its type field among the live fields of the table.
+#[derive(Clone, Copy, Debug)]
+pub struct FieldView<'n> {
+    pub number: u16,
+    pub slot: u16,
+    pub name: &'n [u8],
+    pub kind: Kind,
+    pub default: i64,
+    pub required: bool,
+    pub optional: bool,
+    pub size: u32,
+    pub align: u32,
+    pub companion: Option<u32>,
+}

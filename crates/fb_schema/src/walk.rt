@@ -1,0 +1,110 @@
+// The walk over the rows in the order of their demands.
+
+ghost use Rattle.std.specs.Prelude.{◌≡◌, ◌<◌, ◌^◌, pos, not, ◌&&◌, map, length, IfOk, OnOk, IfErr, All, vec_len};
+ghost use Rattle.std.specs.Ordering.{int_eq};
+ghost use Rattle.fb_schema.specs.Order.{IsOrderOf, name_cmp, object_name};
+ghost use Rattle.fb_schema.specs.Rows.{field_of, object_of, member_of_row, borrowed_rows};
+ghost use Rattle.fb_schema.specs.Demands.{is_at, IsFirstOf, struct_asked, table_asked, members_asked, demands_of_field};
+
+use crate::demands::{Beside, member_fault, object_fault, struct_field_fault, table_field_fault};
+use crate::fault::Code;
+use crate::keys::{field_names, field_slots, is_none, member_names, member_values};
+use crate::kinds::TypeField;
+use crate::order::first_again;
+use crate::rows::{FieldRow, MemberRow, ObjectRow};
+use crate::type_fields::{stands_below, type_slots};
+use crate::types::RowLists;
+use std::alloc::{AllocError, Global};
+
+pub fn is_at(again: Option<u32>, place: usize) -> bool
+    ensures { result ≡ is_at again place }
+{
+    match again {
+        Some(first) => first as usize == place,
+        None => false,
+    }
+}
+
+/// The first demand that a field of a struct breaks, with the field's place.
+pub fn struct_fields_fault(
+    alloc: Global,
+    rows: &RowLists,
+    object: &ObjectRow,
+    fields: &[FieldRow],
+) -> Result<Option<(Code, u32)>, AllocError>
+    requires { length fields.now < 2 ^ 31 }
+    ensures { IfOk result (λ first. IsFirstOf (struct_asked (borrowed_rows rows.now) object.now.bytesize (map field_of fields.now)) first) }
+{
+    let order = field_names(alloc, fields)?;
+    let again = first_again(&order);
+    for (p, field) in fields.iter().enumerate() {
+        let named = is_at(again, p);
+        if let Some(code) = struct_field_fault(rows, object, field, named) {
+            return Ok(Some((code, p as u32)));
+        }
+    }
+    Ok(None)
+}
+
+/// The first demand that a field of a table breaks, with the field's place.
+pub fn table_fields_fault(
+    alloc: Global,
+    rows: &RowLists,
+    fields: &[FieldRow],
+) -> Result<Option<(Code, u32)>, AllocError>
+    requires { length fields.now < 2 ^ 31 }
+    ensures { IfOk result (λ first. IsFirstOf (table_asked (borrowed_rows rows.now) (map field_of fields.now)) first) }
+{
+    let names = field_names(alloc, fields)?;
+    let slots = field_slots(alloc, fields)?;
+    let bytes = type_slots(alloc, TypeField::ForUnion, fields)?;
+    let vectors = type_slots(alloc, TypeField::ForUnions, fields)?;
+    let name_again = first_again(&names);
+    let slot_again = first_again(&slots);
+    for (p, field) in fields.iter().enumerate() {
+        let named = is_at(name_again, p);
+        let taken = is_at(slot_again, p);
+        let byte = stands_below(&bytes, field.slot);
+        let vector = stands_below(&vectors, field.slot);
+        let beside = Beside {
+            named,
+            taken,
+            byte,
+            vector,
+        };
+        if let Some(code) = table_field_fault(rows, field, &beside) {
+            return Ok(Some((code, p as u32)));
+        }
+    }
+    Ok(None)
+}
+
+/// Whether an earlier member has the name of this one, which isn't the union without a value.
+fn is_named(member: &MemberRow, again: Option<u32>, place: usize) -> bool
+    ensures { result ≡ (not (int_eq member.now.value (pos 0)) && is_at again place) }
+{
+    !is_none(member) && is_at(again, place)
+}
+
+/// The first demand that a member of a union breaks, with the member's place.
+pub fn members_fault(
+    alloc: Global,
+    rows: &RowLists,
+    members: &[MemberRow],
+) -> Result<Option<(Code, u32)>, AllocError>
+    requires { length members.now < 2 ^ 31 }
+    ensures { IfOk result (λ first. IsFirstOf (members_asked (borrowed_rows rows.now) (map member_of_row members.now)) first) }
+{
+    let values = member_values(alloc, members)?;
+    let names = member_names(alloc, members)?;
+    let value_again = first_again(&values);
+    let name_again = first_again(&names);
+    for (p, member) in members.iter().enumerate() {
+        let taken = is_at(value_again, p);
+        let named = is_named(member, name_again, p);
+        if let Some(code) = member_fault(rows, member, taken, named) {
+            return Ok(Some((code, p as u32)));
+        }
+    }
+    Ok(None)
+}
