@@ -1,15 +1,16 @@
 -- The steps by which the index of a schema is made.
-use Rattle.std.proofs.Common.{◌≡◌, ℕ, zero, suc, ◌+◌, ◌<◌, ◌⊎◌, inl, inr, Bool, true, false, not, ◌||◌, ◌==◌, ◌%◌, nat_lt, List, [], ◌∷◌, ◌++◌, length, get_or, slice_get, take, map, max, Some, None, refl, sym, ◌∙◌, ap, subst, arith, if◌then◌else◌}
+use Rattle.std.proofs.Common.{◌≡◌, ℕ, zero, suc, ◌+◌, ◌<◌, ◌≤◌, ◌⊎◌, inl, inr, Bool, true, false, not, ◌||◌, ◌==◌, ◌%◌, nat_lt, List, [], ◌∷◌, ◌++◌, length, get_or, slice_get, take, map, max, Some, None, refl, sym, ◌∙◌, ap, subst, arith, if◌then◌else◌}
 use Rattle.std.proofs.lemmas.List.{length-map, map-append, get_or-take, get_or-map, length-take-le}
 use Rattle.std.proofs.lemmas.List.Folds.{list_any-from_Any}
 use Rattle.std.proofs.lemmas.Option.{slice_get-get_or}
 use Rattle.std.proofs.lemmas.Bool.Decides.{Decides-eqb}
 use Rattle.std.proofs.lemmas.Grind.{take_at_read}
 use Rattle.fb_schema.specs.declared.fault.Code.TheVariants.{BadSlot}
+use Rattle.fb_schema.specs.declared.rows.FieldRow.{FieldRow}
 use Rattle.fb_schema.specs.Demands.{Demand, IsLegal, demands_of_object, demands_of_table_field, demands_of_struct_field, stands_before, same_slot}
-use Rattle.fb_schema.specs.Live.{AreApart, live_rows, widest_of}
+use Rattle.fb_schema.specs.Live.{AreApart, AreSpaced, live_rows, widest_of}
 use Rattle.fb_schema.specs.Matched.{AreMatched}
-use Rattle.fb_schema.specs.Rows.{Rows, Field, Object}
+use Rattle.fb_schema.specs.Rows.{Rows, Field, Object, field_of}
 use Rattle.fb_schema.proofs.Numbers.{lt_or_eq, le_or_lt, get_or_default}
 use Rattle.fb_schema.proofs.WalkLemmas.{mapped_at}
 
@@ -106,3 +107,13 @@ kept_read f xs i x lt is = mapped_at f xs i x (slice_get-get_or xs i x lt ∙ ap
 
 pub mapped_read : {X Y : Type 0} (f : X → Y) (xs : List X) (i : ℕ) (x : X) → i < length xs → x ≡ get_or xs i x → f x ≡ get_or (map f xs) i (f x)
 mapped_read f xs i x lt is = ap f is ∙ sym (get_or-map f xs i x (f x) lt)
+
+-- a step of the loop over live rows
+pub views_step : {X Y Z W : Type 0} (f : X → Y) (g : Y → Z) (v : W → Z) (xs : List X) (i : ℕ) (d : X) (old new : List W) (w : W) → i < length xs → map v old ≡ map g (map f (take i xs)) → new ≡ old ++ w ∷ [] → v w ≡ g (f (get_or xs i d)) → map v new ≡ map g (map f (take (i + 1) xs))
+views_step f g v xs i d old new w lt h e r =
+    ap (map v) e ∙ map-append v old (w ∷ []) ∙ ap (λ zs. zs ++ v w ∷ []) h ∙ ap (λ z. map g (map f (take i xs)) ++ z ∷ []) r
+    ∙ sym (map-append g (map f (take i xs)) (f (get_or xs i d) ∷ [])) ∙ ap (map g) (sym (map-append f (take i xs) (get_or xs i d ∷ []))) ∙ ap (λ z. map g (map f z)) (sym (take_at_read xs i d lt).1)
+
+-- a slot of 16 bits leaves room below it for so many others
+pub few_step : (live : List FieldRow) (i : ℕ) (d : FieldRow) → AreSpaced (map field_of live) → i < length live → (get_or live i d).slot < 65536 → i + 1 ≤ 32766
+few_step live i d spaced lt range = let least = spaced.at i (field_of (get_or live i d)) (mapped_at field_of live i (get_or live i d) (slice_get-get_or live i d lt)) in omega (arith, least, range)

@@ -18,3 +18,5 @@ pub mod FindLemmas
 pub mod UnionLemmas
 pub mod NameLemmas
 pub mod MemberNames
+pub mod KindLemmas
+pub mod TypedLemmas

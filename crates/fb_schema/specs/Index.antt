@@ -1,5 +1,5 @@
 -- What the index of a schema has to do with its rows.
-use Rattle.std.specs.Prelude.{◌≡◌, ◌<◌, ◌^◌, ℕ, List, map, unwrap_or, Some}
+use Rattle.std.specs.Prelude.{◌≡◌, ◌≤◌, ℕ, List, map, unwrap_or, Some}
 use Rattle.std.specs.Borrow.{Bor}
 use Rattle.std.specs.Ordering.{int_cmp}
 use Rattle.fb_schema.specs.declared.kinds.Kind.{Kind}
@@ -23,7 +23,7 @@ pub record IsLiveIndex (rows : Rows) (objects : List Object) (index : LiveIndex)
   pub live : map (map live_of_view) (lists_of index.fields) ≡ map (λ o. live_in rows (Some o)) objects
   pub names : AreMatched (λ fields order. IsOrderOf name_cmp (map view_name fields) order) (lists_of index.fields) (lists_of index.names)
   pub widest : index.widest ≡ widest_of objects
-  pub few : index.widest < 2 ^ 31
+  pub few : index.widest ≤ 32766
 
 -- the kind of a member; legal rows give each member of a union one
 abbrev pub member_kind : Rows → Member → Kind

@@ -10,3 +10,4 @@ pub mod Matched
 pub mod Members
 pub mod Order
 pub mod Rows
+pub mod Served

@@ -1,5 +1,5 @@
 -- The live fields of a table in rising slot, with what a reader of buffers needs.
-use Rattle.std.specs.Prelude.{◌≡◌, ◌<◌, slice_index_or, ℕ, ◌+◌, ◌-◌, ◌/◌, ℤ, Bool, not, nat_le, ◌==◌, if◌then◌else◌, List, [], ◌∷◌, map, filter, length, max, position, slice_get, Option, Some, None, unwrap_or}
+use Rattle.std.specs.Prelude.{◌≡◌, ◌<◌, ◌≤◌, slice_index_or, ℕ, ◌+◌, ◌*◌, ◌-◌, ◌/◌, ℤ, Bool, not, nat_le, ◌==◌, if◌then◌else◌, List, [], ◌∷◌, map, filter, length, max, position, slice_get, Option, Some, None, unwrap_or}
 use Rattle.std.specs.Str.{bytes_eq}
 use Rattle.fb_schema.specs.declared.kinds.Kind.{Kind}
 use Rattle.fb_schema.specs.declared.kinds.Kind.TheVariants.{Text, Union, Unions}
@@ -94,3 +94,7 @@ pub record AreApart (fields : List Field) : Type 0 where
 -- each slot is below those after it
 pub record AreRising (fields : List FieldRow) : Type 0 where
   pub at : (i j : ℕ) (d : FieldRow) → i < j → j < length fields → (slice_index_or fields i d).slot < (slice_index_or fields j d).slot
+
+-- the first slot is 4 at least, and each is two above the one before it at least
+pub record AreSpaced (fields : List Field) : Type 0 where
+  pub at : (i : ℕ) (f : Field) → slice_get fields i ≡ Some f → 4 + 2 * i ≤ f.slot

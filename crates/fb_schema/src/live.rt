@@ -2,7 +2,7 @@
 
 ghost use Rattle.std.specs.Prelude.{◌≡◌, ◌<◌, ◌^◌, ◌+◌, ◌==◌, filter, map, position, length, vec_len, IfOk, false, ◌≤◌};
 ghost use Rattle.fb_schema.specs.Rows.{field_of, object_of, borrowed_rows};
-ghost use Rattle.fb_schema.specs.Live.{is_live, by_slot, field_kind, companion_of, live_of, live_of_view, live_in, AreApart, AreRising};
+ghost use Rattle.fb_schema.specs.Live.{is_live, by_slot, field_kind, companion_of, live_of, live_of_view, live_in, AreApart, AreRising, AreSpaced};
 
 use crate::kinds::Kind;
 use crate::rows::{FieldRow, ObjectRow};
@@ -64,7 +64,8 @@ fn companion(live: &[FieldRow], slot: u16, kind: Kind) -> Option<u32>
 fn view_of<'n>(rows: &RowLists, live: &[FieldRow<'n>], field: &FieldRow<'n>) -> FieldView<'n>
     requires few { length live.now < 2 ^ 31 }
     requires rising { AreRising live.now }
-    ensures { live_of_view result ≡ live_of (borrowed_rows rows.now) (map field_of live.now) (field_of field.now) }
+    ensures value { live_of_view result ≡ live_of (borrowed_rows rows.now) (map field_of live.now) (field_of field.now) }
+    ensures slot { field.now.slot < 2 ^ 16 }
 {
     let kind = field_kind(rows, field);
     FieldView {
@@ -89,8 +90,9 @@ fn views<'n>(
 ) -> Result<Vec<FieldView<'n>>, AllocError>
     requires few { length live.now < 2 ^ 31 }
     requires rising { AreRising live.now }
+    requires spaced { AreSpaced (map field_of live.now) }
     ensures value { IfOk result (λ views. map live_of_view views.items ≡ map (live_of (borrowed_rows rows.now) (map field_of live.now)) (map field_of live.now)) }
-    ensures len { IfOk result (λ views. length views.items ≡ length live.now) }
+    ensures few { IfOk result (λ views. length views.items ≤ 32766) }
 {
     let mut views = Vec::new(alloc);
     for field in live {
@@ -107,8 +109,10 @@ pub fn table_views<'n>(
 ) -> Result<Vec<FieldView<'n>>, AllocError>
     requires few { vec_len object.now.fields < 2 ^ 31 }
     requires apart { object.now.is_struct ≡ false → AreApart (map field_of object.now.fields.items) }
+    requires spaced { object.now.is_struct ≡ false → AreSpaced (by_slot (filter is_live (map field_of object.now.fields.items))) }
     ensures value { IfOk result (λ views. map live_of_view views.items ≡ live_in (borrowed_rows rows.now) (Some (object_of object.now))) }
-    ensures few { IfOk result (λ views. length views.items < 2 ^ 31) }
+    // A slot is a number of 16 bits.
+    ensures few { IfOk result (λ views. length views.items ≤ 32766) }
 {
     if object.is_struct {
         return Ok(Vec::new(alloc));

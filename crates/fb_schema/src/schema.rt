@@ -8,6 +8,7 @@ ghost use Rattle.fb_schema.specs.Heads.{head_of, head_of_view};
 ghost use Rattle.fb_schema.specs.Live.{live_fields, live_of_view, field_named, widest};
 ghost use Rattle.fb_schema.specs.Members.{member_of, member_named};
 ghost use Rattle.fb_schema.specs.Demands.{IsLegal, Refuses};
+ghost use Rattle.fb_schema.specs.Served.{IsServed};
 
 use crate::fault::{SchemaFault, out_of_memory};
 use crate::index::{LiveIndex, MemberIndex};
@@ -82,9 +83,11 @@ impl<'n> Schema<'n> {
         })
     }
 
-    /// The rows of a schema are legal. The call does nothing: its contract is what it is for.
+    /// The rows of a schema are legal, and serve a reader of buffers: what kinds name is there, and a union's type field stands
+    /// before it. The call does nothing: its contract is what it is for.
     pub fn lawful(&self)
-        ensures { IsLegal self.now }
+        ensures legal { IsLegal self.now }
+        ensures served { IsServed self.now }
     {
         let _objects = &self.objects;
     }

@@ -18,3 +18,4 @@ pub mod Standings
 pub mod Verdicts
 pub mod Prices
 pub mod Shown
+pub mod Serving

@@ -13,6 +13,7 @@ pub mod limits;
 mod most;
 mod row;
 mod scratch;
+mod serves;
 mod site;
 mod stack;
 pub mod start;

@@ -3,7 +3,6 @@
 ghost use Rattle.std.specs.Prelude.{◌≡◌, ◌≤◌, length, IfOk, IfErr, IsTrue};
 ghost use Rattle.fb_schema.specs.Rows.{is_table};
 ghost use Rattle.fb_verify.specs.MostReads.{most_reads};
-ghost use Rattle.fb_verify.specs.Rows.{Serves};
 ghost use Rattle.fb_verify.specs.Stops.{Stops};
 ghost use Rattle.fb_verify.specs.Verdict.{Reports, HasNone};
 
@@ -13,6 +12,7 @@ use crate::element::Child;
 use crate::fault::{Fault, Report};
 use crate::limits::Limits;
 use crate::scratch::Scratch;
+use crate::serves::serves;
 use crate::site::Site;
 use crate::stack::Walk;
 use crate::start::{Ident, Start};
@@ -22,8 +22,6 @@ use fb_schema::Schema;
 /// Checks a buffer of which nothing was read yet: from its start, and from its root table of this object on, by the schema and
 /// within the limits (FlatBuffers Internals). The scratch must have as many levels as the depth limit says, and serves again
 /// after every answer.
-///
-/// The schema must serve a walk: what its kinds and members name is there, and a union's type field stands before it.
 ///
 /// The report counts the visits of tables, the greatest number of tables open at once, and the reads.
 ///
@@ -42,7 +40,6 @@ pub fn walk(
     scratch: &mut Scratch,
 ) -> Result<Report, Fault>
     requires fresh { meter.old.count ≡ 0 }
-    requires serves { Serves schema.now }
     requires table { IsTrue (is_table schema.now root) }
     requires room { limits.depth ≤ scratch.old }
     // A yes: a tree is well formed and within the limits, and the report counts it.
@@ -57,6 +54,7 @@ pub fn walk(
     ensures bytes { meter.new.bytes ≡ meter.old.bytes }
     ensures scratch { scratch.new ≡ scratch.old }
 {
+    serves(schema);
     let site = Site {
         object: root,
         field: None,

@@ -3,7 +3,6 @@
 ghost use Rattle.std.specs.Prelude.{◌≡◌, ◌+◌, ◌*◌, ◌^◌, ◌<◌, ◌≤◌, length, IfOk, IfErr, IsTrue};
 ghost use Rattle.fb_schema.specs.Rows.{is_table};
 ghost use Rattle.fb_verify.specs.MostReads.{most_reads};
-ghost use Rattle.fb_verify.specs.Rows.{Serves};
 ghost use Rattle.fb_verify.specs.Stops.{Stops};
 ghost use Rattle.fb_verify.specs.Verdict.{Reports, HasNone};
 ghost use Rattle.fb_verify.specs.Sealed.{IsUnfolded};
@@ -105,7 +104,6 @@ pub fn verify<'b, 's, 'n>(
     scratch: &mut Scratch,
 ) -> Result<Verified<'b, 's, 'n>, Fault>
     requires fresh { meter.count ≡ 0 }
-    requires serves { Serves schema.now }
     requires table { IsTrue (is_table schema.now root) }
     requires room { limits.depth ≤ scratch.old }
     // A yes: a tree is well formed and within the limits, and the report counts it.

@@ -1,11 +1,12 @@
-use Rattle.std.proofs.Common.{◌<◌, Some, map, length, sym, ap, subst, ◌∙◌, arith}
+use Rattle.std.proofs.Common.{◌<◌, [], filter, if◌then◌else◌, Some, map, length, sym, ap, subst, ◌∙◌, arith}
 use Rattle.std.proofs.lemmas.List.{length-map}
 use Rattle.fb_schema.specs.Index.{view_name}
 use Rattle.fb_schema.specs.FlatLists.{lists_of}
-use Rattle.fb_schema.specs.Live.{live_in, live_of, live_of_view, live_rows}
+use Rattle.fb_schema.specs.Live.{live_in, live_of, live_of_view, live_rows, by_slot, is_live, AreSpaced}
 use Rattle.fb_schema.specs.Order.{IsOrderOf, name_cmp}
 use Rattle.fb_schema.specs.Rows.{borrowed_rows, object_of}
 use Rattle.fb_schema.proofs.IndexLemmas.{legal_slots, matched_pushed, lists_step, widest_step, same_length, kept_read, mapped_read}
+use Rattle.fb_schema.proofs.TypedLemmas.{rows_spaced}
 use Rattle.fb_schema.proofs.indexing.live_index.Goals as goal
 
 pub table_views-requires-clause-apart : goal.table_views-requires-clause-apart
@@ -13,8 +14,15 @@ table_views-requires-clause-apart c = λ table.
     legal_slots (borrowed_rows c.args.rows.now) c.loop-object.object-index (object_of c.object-item.result) c.requires.legal
     (kept_read object_of c.args.rows.now.objects.now c.loop-object.object-index c.object-item.result c.loop-object-test.true c.object-item.is) table
 
+pub table_views-requires-clause-spaced : goal.table_views-requires-clause-spaced
+table_views-requires-clause-spaced c = λ table.
+    let o = object_of c.object-item.result in
+    subst (λ b. AreSpaced (if b then [] else by_slot (filter is_live o.fields))) table
+    (rows_spaced (borrowed_rows c.args.rows.now) c.requires.legal c.loop-object.object-index o
+    (kept_read object_of c.args.rows.now.objects.now c.loop-object.object-index c.object-item.result c.loop-object-test.true c.object-item.is))
+
 pub view_names-requires : goal.view_names-requires
-view_names-requires c = rw c.deref.ensures.value c.in_ok-fields.ensures.few
+view_names-requires c = let few = c.in_ok-fields.ensures.few in rw c.deref.ensures.value (omega (arith, few))
 
 pub overflow_cast-len : goal.overflow_cast-len
 overflow_cast-len c = omega (arith, c.in_ok-fields.ensures.few, c.len.ensures, c.in_ok-fields.fields.ok.0)

@@ -1,6 +1,18 @@
-use Rattle.std.proofs.Common.{subst}
+use Rattle.std.proofs.Common.{subst, arith}
 use Rattle.fb_schema.specs.Demands.{IsLegal}
+use Rattle.fb_schema.specs.Live.{widest}
+use Rattle.fb_schema.specs.Rows.{rows_of}
+use Rattle.fb_schema.specs.Served.{IsServed}
+use Rattle.fb_schema.proofs.TypedLemmas.{served_by}
 use Rattle.fb_schema.proofs.schema.Schema.lawful.Goals as goal
 
-pub returns : goal.returns
-returns c = subst IsLegal c.self.view_is c.self.invariant.legal
+pub returns-clause-legal : goal.returns-clause-legal
+returns-clause-legal c = subst IsLegal c.self.view_is c.self.invariant.legal
+
+pub returns-clause-served : goal.returns-clause-served
+unfolding widest
+returns-clause-served c =
+    let s = c.self.inside in
+    let few = c.self.invariant.fields.few in
+    let most = c.self.invariant.fields.widest in
+    subst IsServed c.self.view_is (served_by (rows_of s.objects.items s.enums.items) c.self.invariant.legal (omega arith))

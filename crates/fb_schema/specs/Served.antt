@@ -1,0 +1,51 @@
+-- What the rows of a schema give a reader of buffers.
+use Rattle.std.specs.Prelude.{◌≡◌, ℕ, ◌+◌, ◌<◌, ◌≤◌, List, length, slice_get, Option, Some, IsTrue}
+use Rattle.fb_schema.specs.declared.kinds.Kind.{Kind}
+use Rattle.fb_schema.specs.declared.kinds.Kind.TheVariants.{Scalar, Text, Struct, Table, Union, Scalars, Texts, Structs, Tables, Unions}
+use Rattle.fb_schema.specs.declared.kinds.Scalar.TheVariants.{UType}
+use Rattle.fb_schema.specs.Rows.{Rows, is_table, is_union}
+use Rattle.fb_schema.specs.Kinds.{struct_align}
+use Rattle.fb_schema.specs.Live.{Live, live_fields}
+use Rattle.fb_schema.specs.Members.{member_of}
+
+-- what a field's kind names is there, and what stands in place has an alignment
+abbrev pub KindHolds : Rows → Live → Kind → Type 0
+KindHolds rows f (Scalar s) = 0 < f.align
+KindHolds rows f Text = Unit {0}
+KindHolds rows f (Struct k) = 0 < f.align
+KindHolds rows f (Table k) = IsTrue (is_table rows k)
+KindHolds rows f (Union e) = IsTrue (is_union rows e)
+KindHolds rows f (Scalars s) = 0 < f.align
+KindHolds rows f Texts = Unit {0}
+KindHolds rows f (Structs k) = 0 < f.align
+KindHolds rows f (Tables k) = IsTrue (is_table rows k)
+KindHolds rows f (Unions e) = IsTrue (is_union rows e)
+
+-- before place i, a live field of this kind in the slot two below
+pub record HasTypeField (fs : List Live) (i slot : ℕ) (kind : Kind) : Type 0 where
+  pub place : ℕ
+  pub lower : place < i
+  pub field : Live
+  pub found : slice_get fs place ≡ Some field
+  pub below : field.slot + 2 ≡ slot
+  pub kind_is : field.kind ≡ kind
+  pub size_is : field.size ≡ 1
+
+-- a union, or a vector of unions, has its type field before it
+abbrev pub IsTyped : List Live → ℕ → ℕ → Kind → Type 0
+IsTyped fs i slot (Union e) = HasTypeField fs i slot (Scalar UType)
+IsTyped fs i slot (Unions e) = HasTypeField fs i slot (Scalars UType)
+IsTyped fs i slot _ = Unit {0}
+
+-- what a member of a union names is there
+abbrev pub MemberHolds : Rows → Option Kind → Type 0
+MemberHolds rows (Some (Table k)) = IsTrue (is_table rows k)
+MemberHolds rows (Some (Struct k)) = (k < length rows.objects) × (0 < struct_align rows k)
+MemberHolds rows _ = Unit {0}
+
+-- what a reader of buffers may look up by the rows
+pub record IsServed (rows : Rows) : Type 0 where
+  pub few : (k : ℕ) → length (live_fields rows k) ≤ 32766
+  pub kinds : (k i : ℕ) (f : Live) → slice_get (live_fields rows k) i ≡ Some f → KindHolds rows f f.kind
+  pub typed : (k i : ℕ) (f : Live) → slice_get (live_fields rows k) i ≡ Some f → IsTyped (live_fields rows k) i f.slot f.kind
+  pub members : (e value : ℕ) → MemberHolds rows (member_of rows e value)
