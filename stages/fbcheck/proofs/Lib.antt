@@ -1,0 +1,8 @@
+mod BareLemmas
+mod DefaultLemmas
+mod LinesLemmas
+mod Pieces
+mod ProgramLemmas
+mod RunLemmas
+mod StreamLemmas
+mod WordsLemmas
