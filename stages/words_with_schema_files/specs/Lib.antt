@@ -1,3 +1,0 @@
-pub mod CommandLine
-pub mod Refusal
-pub mod Values
