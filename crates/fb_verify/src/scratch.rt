@@ -7,7 +7,7 @@ ghost use Rattle.fb_verify.specs.Stack.{blank};
 use crate::field::Table;
 use crate::head::Head;
 use crate::row::{NO_ROW, Row};
-use std::alloc::Global;
+use std::alloc::{Allocator, Global};
 use std::marker::Model;
 
 /// The greatest depth, in tables.
@@ -56,11 +56,11 @@ impl Frame {
 ///
 /// A contract sees it as the number of its levels. After every answer of a walk it serves again, for every schema.
 #[derive(Drop)]
-pub struct Scratch {
-    pub(crate) frames: Vec<Frame>,
+pub struct Scratch<A: Allocator = Global> {
+    pub(crate) frames: Vec<Frame, A>,
 }
 
-impl Model for Scratch {
+impl<A: Allocator> Model for Scratch<A> {
     ghost use Rattle.std.specs.Prelude.{ℕ, ◌≤◌, length};
 
     ghost Value = { ℕ };
@@ -79,14 +79,14 @@ pub enum ScratchFault {
     OutOfMemory,
 }
 
-impl Scratch {
+impl<A: Allocator> Scratch<A> {
     /// Room for so many tables open at once, at most 4,096.
     ///
     /// # Errors
     ///
     /// `LimitOutOfRange` where `depth` is above 4,096, and only then: this is tested before memory is asked for.
     /// `OutOfMemory` where memory was refused.
-    pub fn new(alloc: Global, depth: u32) -> Result<Self, ScratchFault>
+    pub fn new(alloc: A, depth: u32) -> Result<Scratch<A>, ScratchFault>
         ensures depth { IfOk result (λ s. (s ≡ depth) × (depth ≤ 4096)) }
         ensures range { IfErr result (λ f. f ≡ LimitOutOfRange → 4096 < depth) }
         ensures memory { IfErr result (λ f. f ≡ OutOfMemory → depth ≤ 4096) }

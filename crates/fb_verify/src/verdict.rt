@@ -18,6 +18,7 @@ use crate::stack::Walk;
 use crate::start::{Ident, Start};
 use fb_bytes::Meter;
 use fb_schema::Schema;
+use std::alloc::Allocator;
 
 /// Checks a buffer of which nothing was read yet: from its start, and from its root table of this object on, by the schema and
 /// within the limits (FlatBuffers Internals). The scratch must have as many levels as the depth limit says, and serves again
@@ -29,7 +30,7 @@ use fb_schema::Schema;
 ///
 /// The first condition that fails, with the reads made up to it. Afterwards the meter has the same bytes, and its count is
 /// the number of reads that the report or the fault tells.
-pub fn walk(
+pub fn walk<A: Allocator>(
     meter: &mut Meter<'_>,
     schema: &Schema<'_>,
     root: u32,
@@ -37,7 +38,7 @@ pub fn walk(
     ident: Ident,
     limits: Limits,
     checks: Checks,
-    scratch: &mut Scratch,
+    scratch: &mut Scratch<A>,
 ) -> Result<Report, Fault>
     requires fresh { meter.old.count ≡ 0 }
     requires table { IsTrue (is_table schema.now root) }

@@ -15,6 +15,7 @@ use crate::start::{Ident, Start};
 use crate::verdict::walk;
 use fb_bytes::{Meter, Window};
 use fb_schema::Schema;
+use std::alloc::Allocator;
 use std::marker::Model;
 
 /// A buffer that unfolds by the schema from the root. It borrows the bytes and the schema.
@@ -93,7 +94,7 @@ impl<'b, 's, 'n> Verified<'b, 's, 'n> {
 /// # Errors
 ///
 /// The fault that `walk` answers.
-pub fn verify<'b, 's, 'n>(
+pub fn verify<'b, 's, 'n, A: Allocator>(
     meter: Meter<'b>,
     schema: &'s Schema<'n>,
     root: u32,
@@ -101,7 +102,7 @@ pub fn verify<'b, 's, 'n>(
     ident: Ident,
     limits: Limits,
     checks: Checks,
-    scratch: &mut Scratch,
+    scratch: &mut Scratch<A>,
 ) -> Result<Verified<'b, 's, 'n>, Fault>
     requires fresh { meter.count ≡ 0 }
     requires table { IsTrue (is_table schema.now root) }
