@@ -26,4 +26,8 @@ pub use schema::Schema;
 pub use views::{FieldView, ObjectView};
 
 #[cfg(test)]
+mod lookup_tests;
+#[cfg(test)]
+mod plain;
+#[cfg(test)]
 mod tests;

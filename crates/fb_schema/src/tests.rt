@@ -8,19 +8,25 @@ use std::alloc::{AllocError, Global};
 use std::process::Abort;
 use std::test::Fail;
 
-const OBJECT: i8 = 15;
+// Numbers of `BaseType` in reflection.fbs.
 
-const UNION: i8 = 16;
+pub const UNSIGNED_TYPE: i8 = 1;
 
-const VECTOR: i8 = 14;
+pub const UBYTE: i8 = 4;
 
-const ARRAY: i8 = 17;
+pub const INT: i8 = 7;
 
-const TEXT: i8 = 13;
+pub const LONG: i8 = 9;
 
-const INT: i8 = 7;
+pub const TEXT: i8 = 13;
 
-fn one(base: i8, index: i32) -> TypeRow {
+pub const VECTOR: i8 = 14;
+
+pub const OBJECT: i8 = 15;
+
+pub const UNION: i8 = 16;
+
+pub fn one(base: i8, index: i32) -> TypeRow {
     TypeRow {
         base,
         element: 0,
@@ -29,7 +35,7 @@ fn one(base: i8, index: i32) -> TypeRow {
     }
 }
 
-fn vector(element: i8, index: i32) -> TypeRow {
+pub fn vector(element: i8, index: i32) -> TypeRow {
     TypeRow {
         base: VECTOR,
         element,
@@ -38,7 +44,7 @@ fn vector(element: i8, index: i32) -> TypeRow {
     }
 }
 
-fn field<'n>(name: &'n [u8], slot: u16, ty: TypeRow) -> FieldRow<'n> {
+pub fn field<'n>(name: &'n [u8], slot: u16, ty: TypeRow) -> FieldRow<'n> {
     FieldRow {
         name,
         ty,
@@ -51,7 +57,7 @@ fn field<'n>(name: &'n [u8], slot: u16, ty: TypeRow) -> FieldRow<'n> {
     }
 }
 
-fn table<'n>(
+pub fn table<'n>(
     alloc: Global,
     name: &'n [u8],
     fields: &[FieldRow<'n>],
@@ -65,7 +71,7 @@ fn table<'n>(
     })
 }
 
-fn structure<'n>(
+pub fn structure<'n>(
     alloc: Global,
     name: &'n [u8],
     bytesize: i32,
@@ -81,11 +87,11 @@ fn structure<'n>(
     })
 }
 
-fn member<'n>(name: &'n [u8], value: i64, ty: TypeRow) -> MemberRow<'n> {
+pub fn member<'n>(name: &'n [u8], value: i64, ty: TypeRow) -> MemberRow<'n> {
     MemberRow { name, value, ty }
 }
 
-fn union<'n>(
+pub fn union<'n>(
     alloc: Global,
     name: &'n [u8],
     members: &[MemberRow<'n>],
@@ -127,7 +133,7 @@ fn are_few(objects: &[ObjectRow], enums: &[EnumRow]) -> bool
     objects.len() < MANY && enums.len() < MANY && fields_few(objects) && members_few(enums)
 }
 
-fn built<'n>(
+pub fn built<'n>(
     rt: &impl Abort,
     alloc: Global,
     objects: Vec<ObjectRow<'n>>,
@@ -151,14 +157,15 @@ fn table_fault(
     Ok(built(rt, alloc, objects, Vec::new(alloc)).err())
 }
 
-/// What one object and these enums are refused by.
+/// What a union of these members is refused by, beside one empty table.
 fn union_fault(
     rt: &impl Abort,
     alloc: Global,
     members: &[MemberRow],
 ) -> Result<Option<SchemaFault>, AllocError> {
+    let objects = vec![in alloc; table(alloc, b"A", &[])?]?;
     let enums = vec![in alloc; union(alloc, b"U", members)?]?;
-    Ok(built(rt, alloc, Vec::new(alloc), enums).err())
+    Ok(built(rt, alloc, objects, enums).err())
 }
 
 #[test]
@@ -220,7 +227,7 @@ fn a_union_field_needs_its_type_field(rt: HostRuntime) -> Result<(), Fail> {
 }
 
 #[test]
-fn structs_objects_and_unions_are_refused(rt: HostRuntime) -> Result<(), Fail> {
+fn structs_and_names_of_objects_are_refused(rt: HostRuntime) -> Result<(), Fail> {
     let alloc = rt.alloc();
     let empty = vec![in alloc; structure(alloc, b"S", 0, 4, &[])?]?;
     assert_eq!(rt;
@@ -237,13 +244,15 @@ fn structs_objects_and_unions_are_refused(rt: HostRuntime) -> Result<(), Fail> {
         built(&rt, alloc, twice, Vec::new(alloc)).err(),
         fault(Code::NameTwice, 1, None)
     );
+    Ok(())
+}
+
+#[test]
+fn a_union_is_refused_by_its_first_bad_member(rt: HostRuntime) -> Result<(), Fail> {
+    let alloc = rt.alloc();
     assert_eq!(rt;
         union_fault(&rt, alloc, &[member(b"m", 256, one(TEXT, 0))])?,
         fault(Code::BadMember, 0, Some(0))
-    );
-    assert_eq!(rt;
-        union_fault(&rt, alloc, &[member(b"m", 1, one(OBJECT, 5))])?,
-        fault(Code::NoSuchObject, 0, Some(0))
     );
     assert_eq!(rt;
         union_fault(
@@ -252,6 +261,11 @@ fn structs_objects_and_unions_are_refused(rt: HostRuntime) -> Result<(), Fail> {
             &[member(b"m", 0, one(0, 0)), member(b"n", 0, one(0, 0))]
         )?,
         fault(Code::BadMember, 0, Some(1))
+    );
+    let enums = vec![in alloc; union(alloc, b"U", &[member(b"m", 1, one(OBJECT, 5))])?]?;
+    assert_eq!(rt;
+        built(&rt, alloc, Vec::new(alloc), enums).err(),
+        fault(Code::NoSuchObject, 0, Some(0))
     );
     Ok(())
 }
@@ -269,34 +283,37 @@ fn no_rows_are_a_schema(rt: HostRuntime) -> Result<(), Fail> {
     Ok(())
 }
 
-/// table A { v: int; } struct W { x: long; } union U { A = 1, W = 2, T: string = 3 } table R { u: U; } table Q { us: [U]; }
-fn unions<'n>(rt: &impl Abort, alloc: Global) -> Result<Schema<'n>, Fail> {
-    let objects = vec![in alloc;
+/// The objects of: table A { v: int; } struct W { x: long; } union U { A = 1, W = 2, T: string = 3 } table R { u: U; } table Q { us: [U]; }
+pub fn objects_with_unions<'n>(alloc: Global) -> Result<Vec<ObjectRow<'n>>, AllocError> {
+    let single = [
+        field(b"u_type", 4, one(UNSIGNED_TYPE, 0)),
+        field(b"u", 6, one(UNION, 0)),
+    ];
+    let several = [
+        field(b"us_type", 4, vector(UNSIGNED_TYPE, 0)),
+        field(b"us", 6, vector(UNION, 0)),
+    ];
+    Ok(vec![in alloc;
         table(alloc, b"A", &[field(b"v", 4, one(INT, 0))])?,
-        structure(alloc, b"W", 8, 8, &[field(b"x", 0, one(9, 0))])?,
-        table(
-            alloc,
-            b"R",
-            &[
-                field(b"u_type", 4, one(1, 0)),
-                field(b"u", 6, one(UNION, 0))
-            ]
-        )?,
-        table(
-            alloc,
-            b"Q",
-            &[
-                field(b"us_type", 4, vector(1, 0)),
-                field(b"us", 6, vector(UNION, 0))
-            ]
-        )?,
-    ]?;
+        structure(alloc, b"W", 8, 8, &[field(b"x", 0, one(LONG, 0))])?,
+        table(alloc, b"R", &single)?,
+        table(alloc, b"Q", &several)?,
+    ]?)
+}
+
+/// The union U of these objects.
+pub fn union_of_three<'n>(alloc: Global) -> Result<Vec<EnumRow<'n>>, AllocError> {
     let members = [
         member(b"A", 1, one(OBJECT, 0)),
         member(b"W", 2, one(OBJECT, 1)),
         member(b"T", 3, one(TEXT, 0)),
     ];
-    let enums = vec![in alloc; union(alloc, b"U", &members)?]?;
+    Ok(vec![in alloc; union(alloc, b"U", &members)?]?)
+}
+
+pub fn unions<'n>(rt: &impl Abort, alloc: Global) -> Result<Schema<'n>, Fail> {
+    let objects = objects_with_unions(alloc)?;
+    let enums = union_of_three(alloc)?;
     Ok(built(rt, alloc, objects, enums).ok().ok_or("refused")?)
 }
 
