@@ -9,6 +9,7 @@ use Rattle.fb_schema.specs.declared.kinds.Kind.{Kind}
 use Rattle.fb_schema.specs.declared.kinds.Kind.TheVariants.{Scalar, Text, Struct, Table, Union, Scalars, Texts, Structs, Tables, Unions}
 use Rattle.fb_schema.specs.Rows.{Rows, Object, is_table, is_some_table}
 use Rattle.fb_schema.specs.Live.{Live, live_fields}
+use Rattle.fb_schema.specs.Served.{IsServed}
 use Rattle.fb_verify.specs.declared.checks.Checks.{Checks}
 use Rattle.fb_verify.specs.declared.fault.Fault.{Fault}
 use Rattle.fb_verify.specs.declared.field.Table.{Table as TableOf}
@@ -20,8 +21,8 @@ use Rattle.fb_verify.specs.Cost.{head_reads, slot_reads, reads_if_present, prese
 use Rattle.fb_verify.specs.Places.{field_place}
 use Rattle.fb_verify.specs.Fields.{Lead, to_table, to_struct, to_string, to_nothing, type_place}
 use Rattle.fb_verify.specs.Told.{IsHead}
-use Rattle.fb_verify.specs.Rows.{first_word, word_at, past_first, IsRow, Serves, AreLeads, AreTypesNear}
-use Rattle.fb_verify.specs.Stack.{blank, IsFrame, frame_work}
+use Rattle.fb_verify.specs.Rows.{first_word, word_at, past_first, IsRow, AreLeads, AreTypesNear}
+use Rattle.fb_verify.specs.Stack.{opened, IsFrame, frame_work}
 use Rattle.fb_verify.proofs.Words.{row_on}
 
 -- the exit of a `?`
@@ -137,8 +138,11 @@ module _ (c : Checks) (b : List ℕ) (S : Rows) where
   pub frame_passed : (fr : Frame) (number : ℕ) (row : Row) → fr.next + 1 ≤ length (live_fields S (fr.table).object) → IsRow b S row → IsFrame c b S fr → IsFrame c b S (record { table = fr.table; next = fr.next + 1; number = number; row = row })
   frame_passed fr number row i r h = record { object = h.object; near = h.near; head = h.head; next = i; row = r }
 
-  pub frame_opened : (fr : Frame) (table : TableOf) → fr ≡ record { table = table; next = blank.next; number = blank.number; row = blank.row } → IsTrue (is_table S table.object) → table.at < 2 ^ 33 → IsHead c b table.at table.head → IsFrame c b S fr
-  frame_opened fr table e o n h = rw e (record { object = o; near = n; head = h; next = omega arith; row = record { place = omega arith; left = omega arith; leads = λ m. absurd (omega arith) } })
+  pub frame_next : (fr : Frame) → fr.next + 1 ≤ length (live_fields S (fr.table).object) → IsFrame c b S fr → IsFrame c b S (record { table = fr.table; next = fr.next + 1; number = fr.number; row = fr.row })
+  frame_next fr i h = record { object = h.object; near = h.near; head = h.head; next = i; row = h.row }
 
-  pub work_opened : (fr : Frame) (table : TableOf) → fr ≡ record { table = table; next = blank.next; number = blank.number; row = blank.row } → Serves S → frame_work S fr ≤ 1 + 2 ^ 33 * 32766
-  work_opened fr table e h = rw e (omega (arith, h.few table.object))
+  pub frame_opened : (table : TableOf) → IsTrue (is_table S table.object) → table.at < 2 ^ 33 → IsHead c b table.at table.head → IsFrame c b S (opened table)
+  frame_opened table o n h = record { object = o; near = n; head = h; next = omega arith; row = record { place = omega arith; left = omega arith; leads = λ m. absurd (omega arith) } }
+
+  pub work_opened : (table : TableOf) → IsServed S → frame_work S (opened table) ≤ 1 + 2 ^ 33 * 32766
+  work_opened table h = omega (arith, h.few table.object)

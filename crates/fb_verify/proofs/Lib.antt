@@ -18,4 +18,4 @@ pub mod Standings
 pub mod Verdicts
 pub mod Prices
 pub mod Shown
-pub mod Serving
+pub mod Walking

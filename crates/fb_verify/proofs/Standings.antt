@@ -1,10 +1,9 @@
 -- The turns of a walk, on the whole stack.
-use Rattle.std.proofs.Common.{◌≡◌, ℕ, ◌+◌, ◌-◌, max, ◌<◌, ◌≤◌, ◌⊎◌, inl, inr, List, [], ◌∷◌, ◌++◌, length, take, get_or, refl, sym, ◌∙◌, ap, subst, arith, Option, Some, None}
+use Rattle.std.proofs.Common.{◌≡◌, ℕ, ◌+◌, max, ◌<◌, ◌≤◌, ◌⊎◌, inl, inr, List, [], ◌∷◌, ◌++◌, length, refl, sym, ◌∙◌, ap, subst, arith, Option, Some, None}
 use Rattle.std.specs.Prelude.{slice_get}
-use Rattle.std.proofs.Math.ListN.{set, length-set}
-use Rattle.std.proofs.lemmas.List.{length-take, get_or-set_same, take-set-le}
 use Rattle.fb_schema.specs.Rows.{Rows}
 use Rattle.fb_schema.specs.Live.{Live, live_fields}
+use Rattle.fb_schema.specs.Served.{IsServed}
 use Rattle.fb_verify.specs.declared.checks.Checks.{Checks}
 use Rattle.fb_verify.specs.declared.fault.Fault.{Fault}
 use Rattle.fb_verify.specs.declared.field.Table.{Table}
@@ -23,12 +22,11 @@ use Rattle.fb_verify.specs.Order.{Failure, ◌▷◌, head_failure, own_failure,
 use Rattle.fb_verify.specs.Way.{Way, way_to_table}
 use Rattle.fb_verify.specs.Stops.{in_head, in_field, in_element, fault_of, budget_failure, fault_at, StopsFrom}
 use Rattle.fb_verify.specs.Told.{told, way_at}
-use Rattle.fb_verify.specs.Rows.{words_of, first_word, past_first, IsLeafLead, Serves, IsTyped}
+use Rattle.fb_verify.specs.Rows.{words_of, first_word, past_first, IsLeafLead, IsTyped}
 use Rattle.fb_verify.specs.Walked.{ended, TableWalked, IsInside, IsInField}
-use Rattle.fb_verify.specs.Stack.{blank, reached, Resting, Middle, Goes, Context, Origin, Standing}
+use Rattle.fb_verify.specs.Stack.{opened as opened_frame, reached, Resting, Middle, Goes, Context, Origin, Standing}
 use Rattle.fb_verify.proofs.Chains.{head_none, own_none, element_none}
 use Rattle.fb_verify.proofs.Steps.{same_way, field_deep, opened, entered, passed_on, field_done, closed, waits, resumed, stops_at_head, stops_at_field, stops_at_element, stops_below}
-use Rattle.fb_verify.proofs.Stacks.{top_is}
 use Rattle.fb_verify.proofs.Words.{row_front, row_none, first_place}
 use Rattle.fb_verify.proofs.Typed.{typed_before}
 use Rattle.fb_verify.proofs.Contexts.{context_push, context_pop, context_stop, context_links}
@@ -73,24 +71,17 @@ module _ (c : Checks) (b : List ℕ) (S : Rows) where
       rw v (same_way _ _ refl refl refl refl refl (sym number))
 
   module _ (L : Bounds) (s : Origin) where
-    -- a stack, by its top and what is below it
-    make : (ys : List Frame) (m n d r : ℕ) (below : List Frame) (top : Frame) (v : Way) → (s.way).links ≡ 0 → take (m - 1) ys ≡ below → get_or ys (m - 1) blank ≡ top
-        → Context c b S below s.object s.position s.way (top.table).object (top.table).at v → Resting c b S top v n d r ⊎ Middle c b S top v n d r → Standing c b S s ys m n d r
-    make ys m n d r below top v z e e' x h = record { v = v; root = z; below = rw (e, e') x; top = rw e' h }
-
     -- a table that was opened
     fresh : (table : Table) (u : Way) (m n d r : ℕ) → u.links ≡ m → u.passed ≡ n → u.deepest ≡ d → u.paid ≡ r → head_failure c b table.at ≡ None
-        → Resting c b S (record { table = table; next = blank.next; number = blank.number; row = blank.row }) u (n + 1) (max d (m + 1)) (r + head_reads c)
+        → Resting c b S (opened_frame table) u (n + 1) (max d (m + 1)) (r + head_reads c)
     fresh table u m n d r ul un ud ur h =
         let i = opened c b S table.object table.at u ((head_none c b table.at).0 h) in
         record { none = refl; inside = subst (λ x. IsInside c b S table.object table.at u 0 x) (same_way _ _ refl (omega (arith, un)) (omega (arith, ul, ud)) (omega (arith, ur)) refl refl) i }
 
     -- the first table is opened
-    pub begin : (xs : List Frame) (table : Table) (d : ℕ) → 0 < length xs → (s.way).links ≡ 0 → (s.way).deepest ≡ d → table.object ≡ s.object → table.at ≡ s.position → head_failure c b table.at ≡ None
-        → Standing c b S s (set xs 0 (record { table = table; next = blank.next; number = blank.number; row = blank.row })) 1 ((s.way).passed + 1) (max d 1) ((s.way).paid + head_reads c)
-    begin xs table d more z e o p h =
-        let fr : Frame = record { table = table; next = blank.next; number = blank.number; row = blank.row } in
-        make (set xs 0 fr) 1 _ _ _ [] fr s.way z refl (get_or-set_same xs 0 fr blank more) (sym o, sym p, refl) (inl (fresh table s.way 0 (s.way).passed d (s.way).paid z refl e refl h))
+    pub begin : (table : Table) (d : ℕ) → (s.way).links ≡ 0 → (s.way).deepest ≡ d → table.object ≡ s.object → table.at ≡ s.position → head_failure c b table.at ≡ None
+        → Standing c b S s [] (opened_frame table) ((s.way).passed + 1) (max d 1) ((s.way).paid + head_reads c)
+    begin table d z e o p h = record { v = s.way; root = z; under = (sym o, sym p, refl); at = inl (fresh table s.way 0 (s.way).passed d (s.way).paid z refl e refl h) }
 
     -- it stops before the first table, or at its head
     pub stop_at_root : (t : ℕ) (site : Site) (n d r : ℕ) (f : Fault) → s.way ≡ way_at 0 n d r site → t ≡ s.position → n ≤ L.tables → d ≤ L.depth
@@ -103,10 +94,7 @@ module _ (c : Checks) (b : List ℕ) (S : Rows) where
         let g : fault_at c b S L (in_head s.object t) u ≡ Some f = rw (i, j) at h in
         rw (p, sym e) at (stops_at_head c b S s.object t u L f (record { within = record { tables = a; depth = x }; first = g }))
 
-    module _ (xs : List Frame) (m n d r : ℕ) (open' : 0 < m) (room : m ≤ length xs) (h : Standing c b S s xs m n d r) where
-      abbrev top : Frame
-      top = get_or xs (m - 1) blank
-
+    module _ (below : List Frame) (top : Frame) (n d r : ℕ) (h : Standing c b S s below top n d r) where
       abbrev here : Site
       here = record { object = (top.table).object; field = Some top.number }
 
@@ -114,18 +102,18 @@ module _ (c : Checks) (b : List ℕ) (S : Rows) where
       abbrev v' : Way
       v' = reached h.v (top.table).object (Some top.number) n d r
 
-      links_is : (h.v).links + 1 ≡ m
-      links_is = omega (arith, context_links c b S (take (m - 1) xs) s.object s.position (top.table).object (top.table).at s.way h.v h.below, h.root, length-take (m - 1) xs)
+      links_is : (h.v).links ≡ length below
+      links_is = omega (arith, context_links c b S below s.object s.position (top.table).object (top.table).at s.way h.v h.under, h.root)
 
       middle : 0 < (top.row).left → IsInField c b S (top.table).object (top.table).at h.v top.next top.number (first_word b S top.row ∷ words_of b S (past_first top.row)) v'
-      middle l = in_middle top h.v n d r l h.top
+      middle l = in_middle top h.v n d r l h.at
 
       rests : (top.row).left ≡ 0 → Resting c b S top h.v n d r
-      rests e = at_rest top h.v n d r e h.top
+      rests e = at_rest top h.v n d r e h.at
 
       -- where the top stops the walk does
       stop : (f : Fault) → StopsFrom c b S L (top.table).object (top.table).at h.v f → StopsFrom c b S L s.object s.position s.way f
-      stop f g = context_stop c b S L f (take (m - 1) xs) s.object s.position (top.table).object (top.table).at s.way h.v h.below g
+      stop f g = context_stop c b S L f below s.object s.position (top.table).object (top.table).at s.way h.v h.under g
 
       module _ (few : n ≤ L.tables) (shallow : d ≤ L.depth) where
         pub stop_at_element : (f : Fault) → 0 < (top.row).left → told here r (element_failure c b (first_word b S top.row)) ≡ Some f → StopsFrom c b S L s.object s.position s.way f
@@ -145,17 +133,17 @@ module _ (c : Checks) (b : List ℕ) (S : Rows) where
             stop f (stops_at_field c b S (top.table).object (top.table).at h.v L f top.next (reached h.v (top.table).object None n d r) field (rests l).inside i (record { within = record { tables = few; depth = shallow }; first = g }))
 
         -- the next offset word leads to a table, which can't be opened or has no head
-        pub stop_at_table : (f : Fault) (k t : ℕ) → 0 < (top.row).left → element_failure c b (first_word b S top.row) ≡ None → (first_word b S top.row).lead ≡ to_table k → t ≡ target b (top.row).place
+        pub stop_at_table : (m : ℕ) (f : Fault) (k t : ℕ) → m ≡ length below + 1 → 0 < (top.row).left → element_failure c b (first_word b S top.row) ≡ None → (first_word b S top.row).lead ≡ to_table k → t ≡ target b (top.row).place
             → (q : ℕ) → q ≡ r + (first_word b S top.row).reads + lead_reads (first_word b S top.row).lead
             → (told here q (budget_failure L (way_at m n d q here) t) ▷ told (record { object = k; field = None }) q (head_failure c b t)) ≡ Some f → StopsFrom c b S L s.object s.position s.way f
         unfolding fault_at
-        stop_at_table f k t l o e p q z g =
+        stop_at_table m f k t mi l o e p q z g =
             let x = first_word b S top.row in
             let offset = table_lead x.place x.lead k e ((element_none c b x).0 o) in
             let wait = waits c b S (top.table).object (top.table).at h.v top.next top.number x (words_of b S (past_first top.row)) v' k t (middle l) e offset (rw (first_place b S top.row) p) in
             let one : lead_reads x.lead ≡ 1 = rw e refl in
             let u = way_to_table x v' in
-            let u_is : u ≡ way_at m n d q here = same_way _ _ links_is refl refl (omega (arith, z, one)) refl refl in
+            let u_is : u ≡ way_at m n d q here = same_way _ _ (omega (arith, mi, links_is)) refl refl (omega (arith, z, one)) refl refl in
             let w = way_at m n d q here in
             let i = told_is w here (budget_failure L w t) refl refl in
             let j = told_is (record w { object = k; field = None }) (record { object = k; field = None }) (head_failure c b t) refl refl in
@@ -166,7 +154,7 @@ module _ (c : Checks) (b : List ℕ) (S : Rows) where
       -- an offset word that leads to no table is passed
       pub pass_leaf : (row : Row) (q : ℕ) → row ≡ past_first top.row → 0 < (top.row).left → element_failure c b (first_word b S top.row) ≡ None → IsLeafLead (first_word b S top.row).lead
           → q ≡ r + (first_word b S top.row).reads + lead_reads (first_word b S top.row).lead
-          → Standing c b S s (set xs (m - 1) (record { table = top.table; next = top.next; number = top.number; row = row })) m n d q
+          → Standing c b S s below (record { table = top.table; next = top.next; number = top.number; row = row }) n d q
       unfolding element_size element_depth element_cost
       pass_leaf row q re l o k z =
           let x = first_word b S top.row in
@@ -174,65 +162,60 @@ module _ (c : Checks) (b : List ℕ) (S : Rows) where
           let unfolds = leaf_unfolds x.place x.lead k ((element_none c b x).0 o) in
           let deep = field_deep c b S (top.table).object (top.table).at h.v top.next top.number _ v' (middle l) in
           let on = passed_on c b S (top.table).object (top.table).at h.v top.next top.number x (words_of b S (past_first top.row)) v' u leaf (middle l) unfolds (same_way _ _ refl (omega arith) (omega (arith, deep)) (omega (arith, z)) refl refl) in
-          let y : Frame = record { table = top.table; next = top.next; number = top.number; row = row } in
-          make (set xs (m - 1) y) m n d q (take (m - 1) xs) y h.v h.root (take-set-le (m - 1) xs (m - 1) y (omega arith)) (get_or-set_same xs (m - 1) y blank (omega arith)) h.below (inr (rw re on))
+          record { v = h.v; root = h.root; under = h.under; at = inr (rw re on) }
 
       -- a field is passed
       pub pass_more : (field : Live) (row : Row) (number q : ℕ) → (top.row).left ≡ 0 → slice_get (live_fields S (top.table).object) top.next ≡ Some field → number ≡ field.number
           → own_failure c b S (top.table).at field ≡ None → entries b S (top.table).at field ≡ words_of b S row → q ≡ r + own_reads b (top.table).at field
-          → Standing c b S s (set xs (m - 1) (record { table = top.table; next = top.next + 1; number = number; row = row })) m n d q
+          → Standing c b S s below (record { table = top.table; next = top.next + 1; number = number; row = row }) n d q
       pass_more field row number q l i ne o e z =
           let t = (top.table).at in
           let u = reached h.v (top.table).object None n d r in
           let enter = entered c b S (top.table).object t h.v top.next u field (rests l).inside i ((own_none c b S t field).0 o) in
-          let y : Frame = record { table = top.table; next = top.next + 1; number = number; row = row } in
-          make (set xs (m - 1) y) m n d q (take (m - 1) xs) y h.v h.root (take-set-le (m - 1) xs (m - 1) y (omega arith)) (get_or-set_same xs (m - 1) y blank (omega arith)) h.below
-          (inr (rw (ne, z, sym e) enter))
+          record { v = h.v; root = h.root; under = h.under; at = inr (rw (ne, z, sym e) enter) }
+
+      -- a field that leads nowhere is passed
+      pub pass_over : (field : Live) (row : Row) (q : ℕ) → (top.row).left ≡ 0 → slice_get (live_fields S (top.table).object) top.next ≡ Some field → row.left ≡ 0
+          → own_failure c b S (top.table).at field ≡ None → entries b S (top.table).at field ≡ words_of b S row → q ≡ r + own_reads b (top.table).at field
+          → Standing c b S s below (record { table = top.table; next = top.next + 1; number = top.number; row = top.row }) n d q
+      pass_over field row q l i none o e z =
+          let y : Frame = record { table = top.table; next = top.next + 1; number = field.number; row = row } in
+          let on = pass_more field row field.number q l i refl o e z in
+          record { v = on.v; root = on.root; under = on.under; at = inl (record { none = l; inside = (at_rest y on.v n d q none on.at).inside }) }
 
       -- a table is opened
-      pub open_more : (j : ℕ) (row : Row) (table : Table) (k q : ℕ) → j ≡ m → m < length xs → row ≡ past_first top.row → 0 < (top.row).left → element_failure c b (first_word b S top.row) ≡ None
+      pub open_more : (m : ℕ) (row : Row) (table : Table) (k q : ℕ) → m ≡ length below + 1 → row ≡ past_first top.row → 0 < (top.row).left → element_failure c b (first_word b S top.row) ≡ None
           → (first_word b S top.row).lead ≡ to_table k → table.object ≡ k → table.at ≡ target b (top.row).place → q ≡ r + (first_word b S top.row).reads + lead_reads (first_word b S top.row).lead → head_failure c b table.at ≡ None
-          → Standing c b S s (set (set xs (m - 1) (record { table = top.table; next = top.next; number = top.number; row = row })) j (record { table = table; next = blank.next; number = blank.number; row = blank.row })) (m + 1) (n + 1) (max d (m + 1)) (q + head_reads c)
-      open_more j row table k q ji more re l o e ko p z g =
+          → Standing c b S s (below ++ record { table = top.table; next = top.next; number = top.number; row = row } ∷ []) (opened_frame table) (n + 1) (max d (m + 1)) (q + head_reads c)
+      open_more m row table k q mi re l o e ko p z g =
           let x = first_word b S top.row in
           let offset = table_lead x.place x.lead k e ((element_none c b x).0 o) in
           let u = way_to_table x v' in
           let wait = waits c b S (top.table).object (top.table).at h.v top.next top.number x (words_of b S (past_first top.row)) v' k table.at (middle l) e offset (rw (first_place b S top.row) p) in
           let one : lead_reads x.lead ≡ 1 = rw e refl in
           let y : Frame = record { table = top.table; next = top.next; number = top.number; row = row } in
-          let fr : Frame = record { table = table; next = blank.next; number = blank.number; row = blank.row } in
-          let ys = set xs (m - 1) y in
           let goes : Goes c b S y h.v k table.at u = rw re wait in
-          let push = context_push c b S (take (m - 1) xs) y s.object s.position s.way h.v k table.at u h.below goes in
-          let long : length ys ≡ length xs = length-set xs (m - 1) y in
-          let y_is : get_or ys (m - 1) blank ≡ y = get_or-set_same xs (m - 1) y blank (omega arith) in
-          let lower : take m ys ≡ take (m - 1) xs ++ y ∷ [] = rw (y_is, take-set-le (m - 1) xs (m - 1) y (omega arith)) at (top_is ys m blank open' (omega (arith, long))) in
-          let top' : m + 1 - 1 ≡ m = omega arith in
-          let below : take (m + 1 - 1) (set ys j fr) ≡ take (m - 1) xs ++ y ∷ [] = rw top' (take-set-le m ys j fr (omega arith) ∙ lower) in
-          let new : get_or (set ys j fr) (m + 1 - 1) blank ≡ fr = rw (top', ji) (get_or-set_same ys m fr blank (omega (arith, long))) in
-          make (set ys j fr) (m + 1) (n + 1) (max d (m + 1)) (q + head_reads c) _ fr u h.root below new (rw ko push)
-          (inl (fresh table u m n d q links_is refl refl (omega (arith, z, one)) g))
+          let push = context_push c b S below y s.object s.position s.way h.v k table.at u h.under goes in
+          record { v = u; root = h.root; under = rw ko push; at = inl (fresh table u m n d q (omega (arith, mi, links_is)) refl refl (omega (arith, z, one)) g) }
 
       -- the table of the top has no more fields
       close : (top.row).left ≡ 0 → length (live_fields S (top.table).object) ≤ top.next → TableWalked c b S (top.table).object (top.table).at h.v (ended h.v n d r)
       close l i = closed c b S (top.table).object (top.table).at h.v top.next (reached h.v (top.table).object None n d r) (ended h.v n d r) (rests l).inside i refl
 
-      pub close_last : m - 1 ≡ 0 → (top.row).left ≡ 0 → length (live_fields S (top.table).object) ≤ top.next → TableWalked c b S s.object s.position s.way (ended s.way n d r)
+      pub close_last : below ≡ [] → (top.row).left ≡ 0 → length (live_fields S (top.table).object) ≤ top.next → TableWalked c b S s.object s.position s.way (ended s.way n d r)
       close_last e l i =
-          let t = close l i in
-          let x = subst (λ j. Context c b S (take j xs) s.object s.position s.way (top.table).object (top.table).at h.v) e h.below in
-          rw (x.0, x.1, x.2) t
+          let x = subst (λ ys. Context c b S ys s.object s.position s.way (top.table).object (top.table).at h.v) e h.under in
+          rw (x.0, x.1, x.2) (close l i)
 
-      pub close_more : 0 < m - 1 → (top.row).left ≡ 0 → length (live_fields S (top.table).object) ≤ top.next → Standing c b S s xs (m - 1) n d r
-      close_more gt l i =
-          let under = get_or xs (m - 1 - 1) blank in
-          let x = subst (λ ys. Context c b S ys s.object s.position s.way (top.table).object (top.table).at h.v) (top_is xs (m - 1) blank gt (omega arith)) h.below in
-          let p = context_pop c b S (take (m - 1 - 1) xs) under s.object s.position (top.table).object (top.table).at s.way h.v x in
+      pub close_more : (rest : List Frame) (under : Frame) → below ≡ rest ++ under ∷ [] → (top.row).left ≡ 0 → length (live_fields S (top.table).object) ≤ top.next → Standing c b S s rest under n d r
+      close_more rest under e l i =
+          let x = subst (λ ys. Context c b S ys s.object s.position s.way (top.table).object (top.table).at h.v) e h.under in
+          let p = context_pop c b S rest under s.object s.position (top.table).object (top.table).at s.way h.v x in
           let on = resumed c b S (under.table).object (under.table).at p.0 under.next under.number (words_of b S under.row) (top.table).object (top.table).at h.v (ended h.v n d r) p.2 (close l i) in
-          record { v = p.0; root = h.root; below = p.1; top = inr (rw (goes_way under p.0 (top.table).object (top.table).at h.v n d r p.2) at on) }
+          record { v = p.0; root = h.root; under = p.1; at = inr (rw (goes_way under p.0 (top.table).object (top.table).at h.v n d r p.2) at on) }
 
       -- the types of the next field were checked
-      pub next_typed : (field : Live) → Serves S → (top.row).left ≡ 0 → slice_get (live_fields S (top.table).object) top.next ≡ Some field → IsTyped b (top.table).at field.slot field.kind
+      pub next_typed : (field : Live) → IsServed S → (top.row).left ≡ 0 → slice_get (live_fields S (top.table).object) top.next ≡ Some field → IsTyped b (top.table).at field.slot field.kind
       next_typed field serves l i =
           let k = (top.table).object in
           let inside = (rests l).inside in

@@ -6,12 +6,13 @@ use Rattle.fb_schema.specs.declared.kinds.Kind.TheVariants.{Scalar, Text, Struct
 use Rattle.fb_schema.specs.declared.kinds.Scalar.TheVariants.{UType}
 use Rattle.fb_schema.specs.Rows.{Rows}
 use Rattle.fb_schema.specs.Live.{Live}
+use Rattle.fb_schema.specs.Served.{HasTypeField, IsTyped as IsTypedIn}
 use Rattle.fb_verify.specs.declared.checks.Checks.{Checks}
 use Rattle.fb_verify.specs.Places.{field_place}
 use Rattle.fb_verify.specs.Fields.{IsPresent, IsPresentOrAbsent, IsField, type_place}
 use Rattle.fb_verify.specs.Tree.{Kids, no_kids, kid}
 use Rattle.fb_verify.specs.Unfolds.{FieldsUnfold}
-use Rattle.fb_verify.specs.Rows.{HasTypes, HasTypesBefore, TypeFits, TypesFit, IsTyped}
+use Rattle.fb_verify.specs.Rows.{TypeFits, TypesFit, IsTyped}
 
 get_take : {A : Type 0} (xs : List A) (m n : ℕ) → m < n → slice_get (take n xs) m ≡ slice_get xs m
 get_take [] m zero h = refl
@@ -38,27 +39,27 @@ module _ (c : Checks) (b : List ℕ) (S : Rows) (t : ℕ) where
 
   module _ (kids : Kids) (fs : List Live) (i o : ℕ) (u : FieldsUnfold kids c b S t (take i fs)) where
     -- the type field that legal rows give is passed, and stands where the union's slot says
-    types_at : (kind : Kind) (h : HasTypes fs i o kind) (q : ℕ) → type_place b t o ≡ Some q → IsPresent c b S t h.field q kind
+    types_at : (kind : Kind) (h : HasTypeField fs i o kind) (q : ℕ) → type_place b t o ≡ Some q → IsPresent c b S t h.field q kind
     types_at kind h q e =
         let met = field_met kids (take i fs) h.place h.field u (get_take fs h.place i h.lower ∙ h.found) in
-        let s : o - 2 ≡ (h.field).slot = omega (arith, h.slot) in
+        let s : o - 2 ≡ (h.field).slot = omega (arith, h.below) in
         present h.field q kind met (rw s at e) h.kind_is
 
-    type_fits : HasTypes fs i o (Scalar UType) → TypeFits b t o
+    type_fits : HasTypeField fs i o (Scalar UType) → TypeFits b t o
     type_fits h = record {
-      slot = omega (arith, h.slot);
+      slot = omega (arith, h.below);
       within = λ q e. omega (arith, h.size_is, (types_at (Scalar UType) h q e).value.within);
     }
 
-    types_fit : HasTypes fs i o (Scalars UType) → TypesFit b t o
+    types_fit : HasTypeField fs i o (Scalars UType) → TypesFit b t o
     types_fit h = record {
-      slot = omega (arith, h.slot);
+      slot = omega (arith, h.below);
       offset = λ q e. (types_at (Scalars UType) h q e).offset.within;
       count = λ q e. (types_at (Scalars UType) h q e).vector.count;
       types = λ q e. let v = (types_at (Scalars UType) h q e).vector.within in let one = h.size_is in omega (arith, rw one at v);
     }
 
-    pub typed_before : (kind : Kind) → HasTypesBefore fs i o kind → IsTyped b t o kind
+    pub typed_before : (kind : Kind) → IsTypedIn fs i o kind → IsTyped b t o kind
     typed_before (Scalar s) h = tt
     typed_before Text h = tt
     typed_before (Struct k) h = tt

@@ -1,13 +1,10 @@
 -- The offset words that are left of a field, as a walk keeps them.
-use Rattle.std.specs.Prelude.{◌≡◌, ℕ, ◌+◌, ◌-◌, ◌*◌, ◌<◌, ◌≤◌, ◌^◌, List, length, slice_get, Option, Some, IsTrue}
+use Rattle.std.specs.Prelude.{◌≡◌, ℕ, ◌+◌, ◌-◌, ◌*◌, ◌<◌, ◌≤◌, ◌^◌, List, length, Some, IsTrue}
 use Rattle.fb_bytes.specs.Word.{word}
 use Rattle.fb_schema.specs.declared.kinds.Kind.{Kind}
-use Rattle.fb_schema.specs.declared.kinds.Kind.TheVariants.{Scalar, Text, Struct, Table, Union, Scalars, Texts, Structs, Tables, Unions}
-use Rattle.fb_schema.specs.declared.kinds.Scalar.TheVariants.{UType}
+use Rattle.fb_schema.specs.declared.kinds.Kind.TheVariants.{Union, Unions}
 use Rattle.fb_schema.specs.Rows.{Rows, is_table, is_union}
-use Rattle.fb_schema.specs.Kinds.{struct_align}
 use Rattle.fb_schema.specs.Members.{member_of}
-use Rattle.fb_schema.specs.Live.{Live, live_fields}
 use Rattle.fb_verify.specs.declared.row.Referent.{Referent}
 use Rattle.fb_verify.specs.declared.row.Referent.TheVariants.{Text as AText, Table as ATable, Struct as AStruct, Nothing}
 use Rattle.fb_verify.specs.declared.row.Leads.{Leads}
@@ -75,12 +72,6 @@ abbrev pub AreLeads : List ℕ → Rows → ℕ → Leads → Type 0
 AreLeads b S n (All referent) = IsReferent S referent
 AreLeads b S n (ByType e q) = IsTrue (is_union S e) × (q + n ≤ length b) × (q + n < 2 ^ 36)
 
--- what the member of a union refers to can be asked of the schema
-abbrev pub IsMember : Rows → Option Kind → Type 0
-IsMember S (Some (Table k)) = IsTrue (is_table S k)
-IsMember S (Some (Struct k)) = (k < length S.objects) × (0 < struct_align S k)
-IsMember S _ = Unit {0}
-
 -- a row that a walk can go on with
 pub record IsRow (b : List ℕ) (S : Rows) (r : Row) : Type 0 where
   pub place : r.place + 4 * r.left < 2 ^ 35
@@ -102,38 +93,3 @@ abbrev pub IsTyped : List ℕ → ℕ → ℕ → Kind → Type 0
 IsTyped b t o (Union e) = TypeFits b t o
 IsTyped b t o (Unions e) = TypesFit b t o
 IsTyped b t o _ = Unit {0}
-
--- what a field's kind names is there
-abbrev pub IsKind : Rows → Live → Kind → Type 0
-IsKind S f (Scalar s) = 0 < f.align
-IsKind S f Text = Unit {0}
-IsKind S f (Struct k) = 0 < f.align
-IsKind S f (Table k) = IsTrue (is_table S k)
-IsKind S f (Union e) = IsTrue (is_union S e)
-IsKind S f (Scalars s) = 0 < f.align
-IsKind S f Texts = Unit {0}
-IsKind S f (Structs k) = 0 < f.align
-IsKind S f (Tables k) = IsTrue (is_table S k)
-IsKind S f (Unions e) = IsTrue (is_union S e)
-
--- an earlier live field with the types of the field with slot o
-pub record HasTypes (fs : List Live) (i o : ℕ) (kind : Kind) : Type 0 where
-  pub place : ℕ
-  pub lower : place < i
-  pub field : Live
-  pub found : slice_get fs place ≡ Some field
-  pub slot : field.slot + 2 ≡ o
-  pub kind_is : field.kind ≡ kind
-  pub size_is : field.size ≡ 1
-
-abbrev pub HasTypesBefore : List Live → ℕ → ℕ → Kind → Type 0
-HasTypesBefore fs i o (Union e) = HasTypes fs i o (Scalar UType)
-HasTypesBefore fs i o (Unions e) = HasTypes fs i o (Scalars UType)
-HasTypesBefore fs i o _ = Unit {0}
-
--- what the rows of a schema give a walk
-pub record Serves (S : Rows) : Type 0 where
-  pub few : (k : ℕ) → length (live_fields S k) ≤ 32766
-  pub kinds : (k i : ℕ) (f : Live) → slice_get (live_fields S k) i ≡ Some f → IsKind S f f.kind
-  pub typed : (k i : ℕ) (f : Live) → slice_get (live_fields S k) i ≡ Some f → HasTypesBefore (live_fields S k) i f.slot f.kind
-  pub members : (e value : ℕ) → IsMember S (member_of S e value)

@@ -1,17 +1,23 @@
 -- The frames of a walk: what they say of the walk so far, and the work that is left to it.
-use Rattle.std.specs.Prelude.{◌≡◌, ℕ, ◌+◌, ◌-◌, ◌*◌, ◌^◌, ◌<◌, ◌≤◌, ◌⊎◌, IsTrue, List, [], ◌∷◌, length, take, slice_index_or, Option, Some, None}
+use Rattle.std.specs.Prelude.{◌≡◌, ℕ, ◌+◌, ◌-◌, ◌*◌, ◌^◌, ◌<◌, ◌≤◌, ◌⊎◌, IsTrue, List, [], ◌∷◌, length, Option, Some, None}
 use Rattle.std.specs.List.{All, sum_by}
 use Rattle.fb_schema.specs.Rows.{Rows, is_table}
 use Rattle.fb_schema.specs.Live.{live_fields}
+use Rattle.fb_schema.specs.Served.{IsServed}
+use Rattle.fb_bytes.specs.Word.{Metered}
 use Rattle.fb_verify.specs.declared.checks.Checks.{Checks}
+use Rattle.fb_verify.specs.declared.fault.Fault.{Fault}
 use Rattle.fb_verify.specs.declared.row.Referent.TheVariants.{Nothing}
 use Rattle.fb_verify.specs.declared.row.Leads.TheVariants.{All as AllTo}
 use Rattle.fb_verify.specs.declared.scratch.Frame.{Frame}
+use Rattle.fb_verify.specs.declared.field.Table.{Table}
+use Rattle.fb_verify.specs.declared.stack.Walk.{Walk}
 use Rattle.fb_verify.specs.Bounds.{Bounds}
 use Rattle.fb_verify.specs.Way.{Way}
 use Rattle.fb_verify.specs.Told.{IsHead}
 use Rattle.fb_verify.specs.Rows.{words_of, IsRow}
-use Rattle.fb_verify.specs.Walked.{IsInside, IsInField, Waits}
+use Rattle.fb_verify.specs.Stops.{StopsFrom}
+use Rattle.fb_verify.specs.Walked.{ended, TableWalked, IsInside, IsInField, Waits}
 
 -- what no walk has written
 abbrev pub blank : Frame
@@ -29,9 +35,9 @@ pub record IsFrame (c : Checks) (b : List ℕ) (S : Rows) (fr : Frame) : Type 0 
 abbrev pub frame_work : Rows → Frame → ℕ
 frame_work S fr = 1 + 2 ^ 33 * (length (live_fields S (fr.table).object) - fr.next) + 8 * (fr.row).left
 
--- and for the whole stack, after so many tables
-unfoldable pub work : Rows → Bounds → List Frame → ℕ → ℕ
-work S L frames tables = sum_by (frame_work S) frames + 2 ^ 49 * (L.tables - tables)
+-- and for the whole stack, the frames that wait below and the top, after so many tables
+unfoldable pub work : Rows → Bounds → List Frame → Frame → ℕ → ℕ
+work S L below top tables = sum_by (frame_work S) below + frame_work S top + 2 ^ 49 * (L.tables - tables)
 
 abbrev pub AreFrames : Checks → List ℕ → Rows → List Frame → Type 0
 AreFrames c b S frames = All (IsFrame c b S) frames
@@ -65,12 +71,41 @@ pub record Origin : Type 0 where
   pub position : ℕ
   pub way : Way
 
-abbrev pub top_of : List Frame → ℕ → Frame
-top_of frames m = slice_index_or frames (m - 1) blank
+-- what is below the top of a walk: where it began, and the frames that wait
+pub record Waiting : Type 0 where
+  pub start : Origin
+  pub frames : List Frame
 
--- the first m frames are a walk that began there and isn't over: it came to n tables, the depth d and r reads
-pub record Standing (c : Checks) (b : List ℕ) (S : Rows) (s : Origin) (frames : List Frame) (m n d r : ℕ) : Type 0 where
+-- the frames below lead from there to the top, where the walk came to n tables, the depth d and r reads
+pub record Standing (c : Checks) (b : List ℕ) (S : Rows) (s : Origin) (below : List Frame) (top : Frame) (n d r : ℕ) : Type 0 where
   pub v : Way
   pub root : (s.way).links ≡ 0
-  pub below : Context c b S (take (m - 1) frames) s.object s.position s.way ((top_of frames m).table).object ((top_of frames m).table).at v
-  pub top : Resting c b S (top_of frames m) v n d r ⊎ Middle c b S (top_of frames m) v n d r
+  pub under : Context c b S below s.object s.position s.way (top.table).object (top.table).at v
+  pub at : Resting c b S top v n d r ⊎ Middle c b S top v n d r
+
+-- a walk that is under way, with these frames below the top, within these limits
+pub record IsUnderWay (c : Checks) (b : List ℕ) (S : Rows) (L : Bounds) (s : Origin) (below : List Frame) (top : Frame) (n d r : ℕ) : Type 0 where
+  pub served : IsServed S
+  pub tables : n ≤ L.tables
+  pub deepest : d ≤ L.depth
+  pub links : length below < L.depth
+  pub low : length below < 4096
+  pub frames : AreFrames c b S below
+  pub frame : IsFrame c b S top
+  pub standing : Standing c b S s below top n d r
+
+-- the same of what a walk carries and of the buffer that it reads
+abbrev pub IsWalking : Walk → Metered → Origin → List Frame → Frame → Type 0
+IsWalking w m s below top = IsUnderWay w.checks m.bytes w.schema.now w.limits s below top w.tables w.deepest m.count
+
+-- the walk is over: the table where it began was walked
+abbrev pub IsOver : Walk → Metered → Origin → Type 0
+IsOver w m s = TableWalked w.checks m.bytes w.schema.now s.object s.position s.way (ended s.way w.tables w.deepest m.count)
+
+-- it stops at this fault
+abbrev pub IsStopped : Walk → Metered → Origin → Fault → Type 0
+IsStopped w m s f = StopsFrom w.checks m.bytes w.schema.now w.limits s.object s.position s.way f
+
+-- the frame of a table that was opened
+abbrev pub opened : Table → Frame
+opened table = record { table = table; next = blank.next; number = blank.number; row = blank.row }

@@ -8,7 +8,8 @@ ghost use Rattle.fb_verify.specs.Cost.{lead_reads};
 ghost use Rattle.fb_verify.specs.Fields.{to_table};
 ghost use Rattle.fb_verify.specs.Order.{lead_failure, element_failure};
 ghost use Rattle.fb_verify.specs.Told.{told};
-ghost use Rattle.fb_verify.specs.Rows.{lead_to, first_word, IsSized, IsRow, IsLeafLead, Serves};
+ghost use Rattle.fb_verify.specs.Rows.{lead_to, first_word, IsSized, IsRow, IsLeafLead};
+ghost use Rattle.fb_schema.specs.Served.{IsServed};
 
 use crate::checks::Checks;
 use crate::fault::Fault;
@@ -72,7 +73,7 @@ pub fn pass_element(
     site: Site,
     row: Row,
 ) -> Result<Option<Child>, Fault>
-    requires lawful { Serves schema.now }
+    requires served { IsServed schema.now }
     requires more { 0 < row.left }
     requires row { IsRow meter.old.bytes schema.now row }
     requires few { meter.old.count < 2 ^ 96 }

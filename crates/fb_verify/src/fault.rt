@@ -39,9 +39,9 @@ pub struct Fault {
     pub object: u32,
     /// The number of its field under check, none while its head is checked.
     pub field: Option<u16>,
-    pub reason: Reason,
     /// The counted reads up to the test that failed.
     pub reads: u128,
+    pub reason: Reason,
 }
 
 /// What was counted in a buffer that is well formed.

@@ -8,10 +8,11 @@ ghost use Rattle.fb_schema.specs.Live.{live_of_view};
 ghost use Rattle.fb_verify.specs.Places.{target, has_slot, field_place};
 ghost use Rattle.fb_verify.specs.Fields.{type_place, union_type, type_count, types_begin, entries, union_entry, lead_of};
 ghost use Rattle.fb_verify.specs.Cost.{own_reads, slot_reads, reads_if_present};
-ghost use Rattle.fb_verify.specs.Order.{after, inline_field_failure, vector_field_failure, unions_field_failure, union_field_failure, own_failure};
+ghost use Rattle.fb_verify.specs.Order.{after, vector_field_failure, unions_field_failure, union_field_failure, own_failure};
 ghost use Rattle.fb_verify.specs.declared.row.Leads.TheVariants.{All, ByType};
 ghost use Rattle.fb_verify.specs.Told.{told, IsHead, IsVtable};
-ghost use Rattle.fb_verify.specs.Rows.{words_of, lead_to, IsReferent, IsRow, IsMember, TypeFits, TypesFit, IsTyped, IsKind, Serves};
+ghost use Rattle.fb_schema.specs.Served.{IsServed, KindHolds, MemberHolds};
+ghost use Rattle.fb_verify.specs.Rows.{words_of, lead_to, IsReferent, IsRow, TypeFits, TypesFit, IsTyped};
 
 use crate::checks::Checks;
 use crate::fault::{Fault, Reason};
@@ -45,35 +46,8 @@ struct Vector {
     count: u32,
 }
 
-/// Checks a scalar or struct field of this size and alignment, which stands at the spot.
-fn check_inline_field(
-    meter: &Meter<'_>,
-    checks: Checks,
-    spot: Spot,
-    size: u32,
-    align: u32,
-) -> Result<(), Fault>
-    requires align { 0 < align }
-    requires near { spot.table.at < 2 ^ 33 }
-    requires near_place { spot.place < 2 ^ 34 }
-    requires head { IsHead checks meter.now.bytes spot.table.at spot.table.head }
-    ensures ok { IfOk result (λ _. inline_field_failure checks meter.now.bytes spot.table.at spot.place size align ≡ None) }
-    ensures err { IfErr result (λ f. told spot.site meter.now.count (inline_field_failure checks meter.now.bytes spot.table.at spot.place size align) ≡ Some f) }
-    ensures stopped { IfErr result (λ f. f.reads ≡ meter.now.count) }
-{
-    check_end(
-        meter,
-        checks,
-        spot.site,
-        spot.table.at,
-        spot.table.head,
-        spot.place,
-        size,
-    )?;
-    check_inline(meter, checks, spot.site, spot.place, size, align)
-}
-
 /// Reads the offset word at the spot, and the vector of elements of this size and alignment to which it leads.
+#[inline(never)]
 fn read_vector_field(
     meter: &mut Meter<'_>,
     checks: Checks,
@@ -150,7 +124,7 @@ fn read_types(meter: &mut Meter<'_>, table: Table, slot: u16) -> Vector
 
 /// What an offset word of a union refers to whose type has this member.
 pub fn referent_of(schema: &Schema<'_>, member: Option<Kind>) -> Referent
-    requires member { IsMember schema.now member }
+    requires member { MemberHolds schema.now member }
     ensures lead { lead_to result ≡ lead_of schema.now member }
     ensures referent { IsReferent schema.now result }
 {
@@ -169,6 +143,7 @@ pub fn referent_of(schema: &Schema<'_>, member: Option<Kind>) -> Referent
 }
 
 /// Checks a present union field with this slot, and answers its offset word where its type has a member.
+#[inline(never)]
 #[tactic(auto, unfolding(crate::specs::Fields::row))]
 fn pass_union(
     meter: &mut Meter<'_>,
@@ -178,7 +153,7 @@ fn pass_union(
     slot: u16,
     union: u32,
 ) -> Result<Row, Fault>
-    requires lawful { Serves schema.now }
+    requires served { IsServed schema.now }
     requires union { IsTrue (is_union schema.now union) }
     requires present { IsTrue (has_slot meter.old.bytes spot.table.at slot) }
     requires typed { TypeFits meter.old.bytes spot.table.at slot }
@@ -210,6 +185,7 @@ fn pass_union(
 }
 
 /// Checks a present vector of unions with this slot, and answers its offset words.
+#[inline(never)]
 fn pass_unions(
     meter: &mut Meter<'_>,
     checks: Checks,
@@ -245,6 +221,7 @@ fn pass_unions(
 }
 
 /// Checks a present vector of offset words that all refer to the same, and answers these.
+#[inline(never)]
 fn pass_vector(
     meter: &mut Meter<'_>,
     checks: Checks,
@@ -279,8 +256,8 @@ pub fn pass_field(
     table: Table,
     field: &FieldView<'_>,
 ) -> Result<Row, Fault>
-    requires lawful { Serves schema.now }
-    requires kind { IsKind schema.now (live_of_view field.now) (field.now).kind }
+    requires served { IsServed schema.now }
+    requires kind { KindHolds schema.now (live_of_view field.now) (field.now).kind }
     requires typed { IsTyped meter.old.bytes table.at (field.now).slot (field.now).kind }
     requires few { meter.old.count < 2 ^ 96 + 2 ^ 95 }
     requires near { table.at < 2 ^ 33 }
@@ -302,10 +279,10 @@ pub fn pass_field(
         }
         return Ok(NO_ROW);
     };
-    let spot = Spot { site, table, place };
     match field.kind {
         Kind::Scalar(_) | Kind::Struct(_) => {
-            check_inline_field(meter, checks, spot, field.size, field.align)?;
+            check_end(meter, checks, site, table.at, table.head, place, field.size)?;
+            check_inline(meter, checks, site, place, field.size, field.align)?;
             Ok(NO_ROW)
         }
         Kind::Text => {
@@ -316,13 +293,26 @@ pub fn pass_field(
             check_end(meter, checks, site, table.at, table.head, place, 4)?;
             Ok(Row::one(Referent::Table(object), place))
         }
-        Kind::Union(union) => pass_union(meter, schema, checks, spot, field.slot, union),
+        Kind::Union(union) => {
+            let spot = Spot { site, table, place };
+            pass_union(meter, schema, checks, spot, field.slot, union)
+        }
         Kind::Scalars(_) | Kind::Structs(_) => {
+            let spot = Spot { site, table, place };
             read_vector_field(meter, checks, spot, field.size, field.align)?;
             Ok(NO_ROW)
         }
-        Kind::Texts => pass_vector(meter, checks, spot, Referent::Text),
-        Kind::Tables(object) => pass_vector(meter, checks, spot, Referent::Table(object)),
-        Kind::Unions(union) => pass_unions(meter, checks, spot, field.slot, union),
+        Kind::Texts => {
+            let spot = Spot { site, table, place };
+            pass_vector(meter, checks, spot, Referent::Text)
+        }
+        Kind::Tables(object) => {
+            let spot = Spot { site, table, place };
+            pass_vector(meter, checks, spot, Referent::Table(object))
+        }
+        Kind::Unions(union) => {
+            let spot = Spot { site, table, place };
+            pass_unions(meter, checks, spot, field.slot, union)
+        }
     }
 }

@@ -13,7 +13,6 @@ pub mod limits;
 mod most;
 mod row;
 mod scratch;
-mod serves;
 mod site;
 mod stack;
 pub mod start;
@@ -29,3 +28,6 @@ pub use scratch::{Scratch, ScratchFault};
 pub use start::{Ident, Start};
 pub use verdict::walk;
 pub use verified::{Verified, verify};
+
+#[cfg(test)]
+mod tests;

@@ -1,7 +1,7 @@
 // Where a walk is, for the fault that it may answer.
 
 ghost use Rattle.std.specs.Prelude.{◌≡◌};
-ghost use Rattle.std.specs.Prelude.{◌<◌};
+ghost use Rattle.std.specs.Prelude.{◌<◌, ◌%◌, ◌==◌};
 ghost use Rattle.fb_verify.specs.Places.{is_aligned};
 
 use crate::checks::Checks;
@@ -28,11 +28,25 @@ pub fn fault(meter: &Meter<'_>, site: Site, at: u64, reason: Reason) -> Fault
     }
 }
 
+/// Whether a position is a multiple of its alignment. The usual alignments need no division at run time.
+fn is_multiple(at: u64, align: u32) -> bool
+    requires { 0 < align }
+    ensures { result ≡ (at % align == 0) }
+{
+    match align {
+        1 => true,
+        2 => at % 2 == 0,
+        4 => at % 4 == 0,
+        8 => at % 8 == 0,
+        _ => at % u64::from(align) == 0,
+    }
+}
+
 /// Whether a position is a multiple of its alignment, where that is checked.
 #[tactic(auto, unfolding(crate::specs::Places::is_aligned))]
 pub fn is_aligned(checks: Checks, at: u64, align: u32) -> bool
     requires { 0 < align }
     ensures { result ≡ is_aligned checks at align }
 {
-    !checks.alignment || at % u64::from(align) == 0
+    !checks.alignment || is_multiple(at, align)
 }

@@ -1,14 +1,15 @@
 // The walk: a loop over the frames of the open tables.
 
-ghost use Rattle.std.specs.Prelude.{◌≡◌, ◌+◌, ◌-◌, ◌*◌, ◌^◌, ◌<◌, ◌≤◌, max, length, take, IfOk, IfErr, IsTrue, Some, None};
+ghost use Rattle.std.specs.Prelude.{◌≡◌, ◌+◌, ◌-◌, ◌*◌, ◌^◌, ◌<◌, ◌≤◌, max, length, take, slice_index_or, [], ◌∷◌, ◌++◌, IfOk, IfErr, IfSome, MatchOption, IsTrue, Some, None, true, false};
 ghost use Rattle.fb_schema.specs.Rows.{is_table};
+ghost use Rattle.fb_schema.specs.Live.{live_fields};
+ghost use Rattle.fb_schema.specs.Served.{IsServed};
 ghost use Rattle.fb_verify.specs.Cost.{head_reads};
 ghost use Rattle.fb_verify.specs.Order.{◌▷◌, head_failure};
 ghost use Rattle.fb_verify.specs.Stops.{budget_failure, StopsFrom};
 ghost use Rattle.fb_verify.specs.Told.{told, way_at, IsHead};
-ghost use Rattle.fb_verify.specs.Rows.{Serves};
 ghost use Rattle.fb_verify.specs.Walked.{TableWalked, ended};
-ghost use Rattle.fb_verify.specs.Stack.{AreFrames, Origin, Standing, work};
+ghost use Rattle.fb_verify.specs.Stack.{blank, Origin, Waiting, frame_work, work, opened, IsWalking, IsOver, IsStopped};
 
 use crate::checks::Checks;
 use crate::element::{Child, pass_element};
@@ -33,6 +34,7 @@ pub struct Walk<'s, 'n> {
 
 impl<'s, 'n> Walk<'s, 'n> {
     /// Opens a table, if the limits allow it, and reads its head. So many tables are open before.
+    #[inline(always)]
     fn open_table(
         &mut self,
         meter: &mut Meter<'_>,
@@ -69,63 +71,115 @@ impl<'s, 'n> Walk<'s, 'n> {
         })
     }
 
-    /// One step at the top of the stack: passes an offset word, opens the table to which it leads, passes a field, or closes a table.
-    /// So many tables are open before, and the answer says how many are after.
-    fn turn(
-        &mut self,
-        meter: &mut Meter<'_>,
-        frames: &mut [Frame],
-        links: u32,
-    ) -> Result<u32, Fault>
-        ghost start: { Origin }
-        requires lawful { Serves self.old.schema.now }
-        requires open { 0 < links }
-        requires links { links ≤ (self.old.limits).depth }
-        requires room { (self.old.limits).depth ≤ length frames.old }
-        requires within { self.old.tables ≤ (self.old.limits).tables }
-        requires shallow { self.old.deepest ≤ (self.old.limits).depth }
-        requires few { meter.old.count < 2 ^ 96 }
-        requires frames { AreFrames self.old.checks meter.old.bytes self.old.schema.now (take links frames.old) }
-        requires standing { Standing self.old.checks meter.old.bytes self.old.schema.now start frames.old links self.old.tables self.old.deepest meter.old.count }
-        ensures same { IfOk result (λ _. self.new ≡ record self.old { tables = self.new.tables; deepest = self.new.deepest }) }
-        ensures bytes { meter.new.bytes ≡ meter.old.bytes }
-        ensures links { IfOk result (λ m. m ≤ (self.old.limits).depth) }
-        ensures within { IfOk result (λ _. self.new.tables ≤ (self.old.limits).tables) }
-        ensures shallow { IfOk result (λ _. self.new.deepest ≤ (self.old.limits).depth) }
-        ensures frames { IfOk result (λ m. AreFrames self.old.checks meter.old.bytes self.old.schema.now (take m frames.new)) }
-        ensures standing { IfOk result (λ m. 0 < m → Standing self.old.checks meter.old.bytes self.old.schema.now start frames.new m self.new.tables self.new.deepest meter.new.count) }
-        ensures done { IfOk result (λ m. m ≡ 0 → TableWalked self.old.checks meter.old.bytes self.old.schema.now start.object start.position start.way (ended start.way self.new.tables self.new.deepest meter.new.count)) }
-        ensures falls { IfOk result (λ m. meter.new.count + work self.old.schema.now self.old.limits (take m frames.new) self.new.tables < meter.old.count + work self.old.schema.now self.old.limits (take links frames.old) self.old.tables) }
+    /// Passes fields of the top table until one leads on, and answers whether one does.
+    fn pass_fields(&self, meter: &mut Meter<'_>, top: &mut Frame) -> Result<bool, Fault>
+        ghost under: { Waiting }
+        requires walking { IsWalking self.now meter.old under.start under.frames top.old }
+        requires rests { (top.old.row).left ≡ 0 }
+        requires few { meter.old.count < 2 ^ 95 }
+        ensures walking { IfOk result (λ _. IsWalking self.now meter.new under.start under.frames top.new) }
+        ensures leads { IfOk result (λ more. more ≡ true → 0 < (top.new.row).left) }
+        ensures rests { IfOk result (λ more. more ≡ false → (top.new.row).left ≡ 0) }
+        ensures all { IfOk result (λ more. more ≡ false → length (live_fields self.now.schema.now (top.new.table).object) ≤ top.new.next) }
+        ensures falls { IfOk result (λ _. meter.new.count + frame_work self.now.schema.now top.new ≤ meter.old.count + frame_work self.now.schema.now top.old) }
         ensures grows { IfOk result (λ _. meter.old.count ≤ meter.new.count) }
-        ensures err { IfErr result (λ f. StopsFrom self.old.checks meter.old.bytes self.old.schema.now self.old.limits start.object start.position start.way f) }
+        ensures bytes { meter.new.bytes ≡ meter.old.bytes }
+        ensures err { IfErr result (λ f. IsStopped self.now meter.old under.start f) }
         ensures stopped { IfErr result (λ f. meter.new.count ≡ f.reads) }
     {
-        let at = links as usize - 1;
-        let top = frames[at];
-        if top.row.left > 0 {
+        let fields = self.schema.fields_of(top.table.object);
+        while let Some(field) = fields.get(top.next as usize) {
+            let row = pass_field(meter, self.schema, self.checks, top.table, field)?;
+            top.next += 1;
+            if row.left > 0 {
+                top.number = field.number;
+                top.row = row;
+                return Ok(true);
+            }
+        }
+        Ok(false)
+    }
+
+    /// Passes offset words that are left of the top table's field until one leads to a table, which is opened. So many
+    /// frames wait below the top.
+    fn pass_elements(
+        &mut self,
+        meter: &mut Meter<'_>,
+        waiting: u32,
+        top: &mut Frame,
+    ) -> Result<Option<Table>, Fault>
+        ghost under: { Waiting }
+        requires waiting { waiting ≡ length under.frames }
+        requires walking { IsWalking self.old meter.old under.start under.frames top.old }
+        requires leads { 0 < (top.old.row).left }
+        requires few { meter.old.count < 2 ^ 95 + 2 ^ 94 }
+        ensures same { IfOk result (λ _. self.new ≡ record self.old { tables = self.new.tables; deepest = self.new.deepest }) }
+        ensures walking { IfOk result (λ o. MatchOption o
+            (IsWalking self.new meter.new under.start under.frames top.new)
+            (λ table. IsWalking self.new meter.new under.start (under.frames ++ top.new ∷ []) (opened table))) }
+        ensures falls { IfOk result (λ o. MatchOption o
+            (meter.new.count + work self.old.schema.now self.old.limits under.frames top.new self.new.tables < meter.old.count + work self.old.schema.now self.old.limits under.frames top.old self.old.tables)
+            (λ table. meter.new.count + work self.old.schema.now self.old.limits (under.frames ++ top.new ∷ []) (opened table) self.new.tables < meter.old.count + work self.old.schema.now self.old.limits under.frames top.old self.old.tables)) }
+        ensures grows { IfOk result (λ _. meter.old.count ≤ meter.new.count) }
+        ensures bytes { meter.new.bytes ≡ meter.old.bytes }
+        ensures err { IfErr result (λ f. IsStopped self.old meter.old under.start f) }
+        ensures stopped { IfErr result (λ f. meter.new.count ≡ f.reads) }
+    {
+        while top.row.left > 0 {
             let site = Site {
                 object: top.table.object,
                 field: Some(top.number),
             };
             let child = pass_element(meter, self.schema, self.checks, site, top.row)?;
-            frames[at].row = top.row.past_first();
-            let Some(child) = child else {
-                return Ok(links);
-            };
-            let table = self.open_table(meter, links, site, child)?;
-            frames[at + 1] = Frame::opened(table);
-            return Ok(links + 1);
+            top.row = top.row.past_first();
+            if let Some(child) = child {
+                let table = self.open_table(meter, waiting + 1, site, child)?;
+                return Ok(Some(table));
+            }
         }
-        let fields = self.schema.fields_of(top.table.object);
-        let Some(field) = fields.get(top.next as usize) else {
-            return Ok(links - 1);
+        Ok(None)
+    }
+
+    /// One step of the walk: goes on in the top table to a table below it, which becomes the top, or to its end, where the
+    /// table above it becomes the top. So many frames wait below the top, and the answer says how many do after; none where
+    /// the first table is closed.
+    fn turn(
+        &mut self,
+        meter: &mut Meter<'_>,
+        frames: &mut [Frame],
+        waiting: u32,
+    ) -> Result<Option<u32>, Fault>
+        ghost under: { Waiting }
+        requires under { under.frames ≡ take waiting frames.old }
+        requires walking { IsWalking self.old meter.old under.start under.frames (slice_index_or frames.old waiting blank) }
+        requires room { (self.old.limits).depth ≤ length frames.old }
+        requires few { meter.old.count < 2 ^ 95 }
+        ensures same { IfOk result (λ _. self.new ≡ record self.old { tables = self.new.tables; deepest = self.new.deepest }) }
+        ensures walking { IfOk result (λ o. MatchOption o
+            (IsOver self.new meter.new under.start)
+            (λ after. IsWalking self.new meter.new under.start (take after frames.new) (slice_index_or frames.new after blank))) }
+        ensures within { IfOk result (λ _. self.new.tables ≤ (self.old.limits).tables) }
+        ensures shallow { IfOk result (λ _. self.new.deepest ≤ (self.old.limits).depth) }
+        ensures falls { IfOk result (λ o. IfSome o (λ after. meter.new.count + work self.old.schema.now self.old.limits (take after frames.new) (slice_index_or frames.new after blank) self.new.tables < meter.old.count + work self.old.schema.now self.old.limits under.frames (slice_index_or frames.old waiting blank) self.old.tables)) }
+        ensures grows { IfOk result (λ _. meter.old.count ≤ meter.new.count) }
+        ensures bytes { meter.new.bytes ≡ meter.old.bytes }
+        ensures err { IfErr result (λ f. IsStopped self.old meter.old under.start f) }
+        ensures stopped { IfErr result (λ f. meter.new.count ≡ f.reads) }
+    {
+        let _schema = self.schema;
+        let at = waiting as usize;
+        let top = &mut frames[at];
+        if top.row.left == 0 && !self.pass_fields(meter, top)? {
+            if waiting == 0 {
+                return Ok(None);
+            }
+            return Ok(Some(waiting - 1));
+        }
+        let Some(table) = self.pass_elements(meter, waiting, top)? else {
+            return Ok(Some(waiting));
         };
-        let row = pass_field(meter, self.schema, self.checks, top.table, field)?;
-        let here = &mut frames[at];
-        here.next = top.next + 1;
-        here.number = field.number;
-        here.row = row;
-        Ok(links)
+        frames[at + 1] = Frame::opened(table);
+        Ok(Some(waiting + 1))
     }
 
     /// Walks a table and all below it, over these frames.
@@ -138,7 +192,7 @@ impl<'s, 'n> Walk<'s, 'n> {
     ) -> Result<(), Fault>
         ghost start: { Origin }
         requires here { start ≡ record { object = root.object; position = root.at; way = way_at 0 self.old.tables self.old.deepest meter.old.count site } }
-        requires lawful { Serves self.old.schema.now }
+        requires served { IsServed self.old.schema.now }
         requires table { IsTrue (is_table self.old.schema.now root.object) }
         requires near { root.at < 2 ^ 33 }
         requires room { (self.old.limits).depth ≤ length frames.old }
@@ -154,9 +208,9 @@ impl<'s, 'n> Walk<'s, 'n> {
     {
         let table = self.open_table(meter, 0, site, root)?;
         frames[0] = Frame::opened(table);
-        let mut links = 1;
-        while links > 0 {
-            links = self.turn(meter, frames, links)?;
+        let mut waiting = 0;
+        while let Some(after) = self.turn(meter, frames, waiting)? {
+            waiting = after;
         }
         Ok(())
     }

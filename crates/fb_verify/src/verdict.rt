@@ -12,7 +12,6 @@ use crate::element::Child;
 use crate::fault::{Fault, Report};
 use crate::limits::Limits;
 use crate::scratch::Scratch;
-use crate::serves::serves;
 use crate::site::Site;
 use crate::stack::Walk;
 use crate::start::{Ident, Start};
@@ -55,7 +54,7 @@ pub fn walk<A: Allocator>(
     ensures bytes { meter.new.bytes ≡ meter.old.bytes }
     ensures scratch { scratch.new ≡ scratch.old }
 {
-    serves(schema);
+    schema.lawful();
     let site = Site {
         object: root,
         field: None,

@@ -3,3 +3,5 @@
 
 #[cfg(test)]
 mod framer_tests;
+#[cfg(test)]
+mod walk_tests;

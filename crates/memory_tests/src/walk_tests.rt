@@ -1,0 +1,160 @@
+//! A walk takes no memory: it serves where there is none left.
+
+use fb_bytes::Meter;
+use fb_schema::{FieldRow, ObjectRow, Schema, TypeRow};
+use fb_verify::{Checks, Fault, Ident, Limits, Reason, Report, Scratch, ScratchFault, Start, walk};
+use linked_list_allocator::LocalHeap;
+use std::alloc::{AllocError, Allocator, Global};
+use std::process::Abort;
+use std::test::Fail;
+
+/// The size of a heap that holds many of the greatest scratches.
+const AMPLE: usize = 0x100_0000;
+
+/// `table Node { next: Node; }`
+fn nodes<'n>(alloc: Global) -> Result<Schema<'n>, Fail> {
+    let next = FieldRow {
+        name: b"next",
+        ty: TypeRow {
+            base: 15,
+            element: 0,
+            index: 0,
+            fixed_length: 0,
+        },
+        slot: 4,
+        default: 0,
+        deprecated: false,
+        required: false,
+        optional: false,
+        offset64: false,
+    };
+    let mut fields = Vec::new(alloc);
+    fields.push(next)?;
+    let mut objects = Vec::new(alloc);
+    objects.push(ObjectRow {
+        name: b"Node",
+        fields,
+        is_struct: false,
+        minalign: 1,
+        bytesize: 0,
+    })?;
+    Ok(Schema::build(alloc, objects, Vec::new(alloc))?)
+}
+
+fn push(bytes: &mut Vec<u8>, word: u32) -> Result<(), AllocError> {
+    bytes.extend_from_slice(&word.to_le_bytes())
+}
+
+/// A node that leads to the next, and so on, so many times.
+fn list(alloc: Global, links: u16) -> Result<Vec<u8>, AllocError> {
+    let start = [16, 0, 0, 0, 6, 0, 8, 0, 4, 0, 0, 0, 4, 0, 4, 0];
+    let mut bytes = Vec::from_slice(alloc, start.as_slice())?;
+    for link in 0..links {
+        push(&mut bytes, 12 + 8 * u32::from(link))?;
+        push(&mut bytes, 4)?;
+    }
+    push(&mut bytes, 4 + 8 * u32::from(links))?;
+    Ok(bytes)
+}
+
+/// What `walk` answers of a bare list under the published checks.
+fn answer<A: Allocator>(
+    rt: &impl Abort,
+    schema: &Schema<'_>,
+    bytes: &[u8],
+    limits: Limits,
+    scratch: &mut Scratch<A>,
+) -> Result<Report, Fault> {
+    assert!(rt; schema.is_table(0) && limits.depth() <= scratch.depth());
+    let mut meter = Meter::new(bytes).expect(rt, "a short buffer");
+    let checks = Checks::published();
+    walk(
+        &mut meter,
+        schema,
+        0,
+        Start::Bare,
+        Ident::Any,
+        limits,
+        checks,
+        scratch,
+    )
+}
+
+fn yes(tables: u32, depth: u32, reads: u128) -> Result<Report, Fault> {
+    Ok(Report {
+        tables,
+        depth,
+        reads,
+    })
+}
+
+fn too_deep(at: u64, reads: u128) -> Result<Report, Fault> {
+    Err(Fault {
+        at,
+        object: 0,
+        field: Some(0),
+        reason: Reason::TooDeep,
+        reads,
+    })
+}
+
+/// How many bytes of a heap a scratch of so many levels takes.
+fn room_of_scratch(alloc: Global, depth: u32) -> Result<usize, Fail> {
+    let heap = LocalHeap::new(alloc, AMPLE)?;
+    let scratch = Scratch::new(&heap, depth)?;
+    let room = heap.used();
+    drop(scratch);
+    Ok(room)
+}
+
+/// Asserts what is answered of lists within several limits, by one scratch of this heap, and that no walk takes of the heap.
+fn lists_are_answered(rt: &impl Abort, alloc: Global, heap: &LocalHeap) -> Result<(), Fail> {
+    let schema = nodes(alloc)?;
+    let (deep, flat) = (list(alloc, 4095)?, list(alloc, 63)?);
+    let mut scratch = Scratch::new(heap, 4096)?;
+    let used = heap.used();
+    let cases = [
+        (&deep, 4096, yes(4096, 4096, 16_383)),
+        (&deep, 4095, too_deep(32_776, 16_381)),
+        (&deep, 64, too_deep(528, 257)),
+        (&flat, 64, yes(64, 64, 255)),
+    ];
+    for (bytes, depth, expected) in cases.iter().chain(cases.iter().rev()) {
+        let limits = Limits::new(*depth, 1_000_000)?;
+        let answered = answer(rt, &schema, bytes, limits, &mut scratch);
+        assert_eq!(rt; answered, *expected);
+        assert_eq!(rt; heap.used(), used);
+    }
+    Ok(())
+}
+
+#[test]
+fn a_walk_takes_no_memory(rt: HostRuntime) -> Result<(), Fail> {
+    let heap = LocalHeap::new(rt.alloc(), AMPLE)?;
+    lists_are_answered(&rt, rt.alloc(), &heap)
+}
+
+#[test]
+fn a_walk_serves_where_the_scratch_took_the_last_byte(rt: HostRuntime) -> Result<(), Fail> {
+    let alloc = rt.alloc();
+    let heap = LocalHeap::new(alloc, room_of_scratch(alloc, 4096)?)?;
+    let scratch = Scratch::new(&heap, 4096)?;
+    assert!(rt; Vec::from_slice(&heap, [0u8].as_slice()).is_err());
+    drop(scratch);
+    lists_are_answered(&rt, alloc, &heap)
+}
+
+#[test]
+fn refused_memory_makes_no_scratch(rt: HostRuntime) -> Result<(), Fail> {
+    let heap = LocalHeap::new(rt.alloc(), 64)?;
+    for (depth, fault) in [
+        (0, None),
+        (64, Some(ScratchFault::OutOfMemory)),
+        (4096, Some(ScratchFault::OutOfMemory)),
+        (4097, Some(ScratchFault::LimitOutOfRange)),
+    ] {
+        assert_eq!(rt; Scratch::new(&heap, depth).err(), fault, "at {depth}");
+        assert_eq!(rt; heap.used(), 0);
+    }
+    Ok(())
+}
