@@ -1,0 +1,85 @@
+-- For who reads by a schema that they know: which steps are allowed, and what is here after them.
+use Rattle.std.proofs.Common.{◌≡◌, ℕ, ◌<◌, ◌+◌, ◌*◌, nat_lt, if◌then◌else◌, true, IsTrue, List, [], ◌∷◌, refl, sym, ◌∙◌, ap, subst, arith, Option, Some, None, inl}
+use Rattle.std.specs.Prelude.{option_map}
+use Rattle.std.proofs.lemmas.Bool.Decides.{nat_tests}
+use Rattle.fb_bytes.specs.Word.{word}
+use Rattle.fb_schema.specs.declared.kinds.Kind.{Kind}
+use Rattle.fb_schema.specs.declared.kinds.Kind.TheVariants.{Scalar as AScalar, Text, Struct, Table, Union, Scalars, Texts, Structs, Tables, Unions}
+use Rattle.fb_schema.specs.Rows.{Rows}
+use Rattle.fb_schema.specs.Kinds.{scalar_size, struct_size}
+use Rattle.fb_schema.specs.Live.{Live}
+use Rattle.fb_verify.specs.Places.{target}
+use Rattle.fb_access.specs.declared.step.Step.{Step}
+use Rattle.fb_access.specs.declared.step.Step.TheVariants.{Field, Element}
+use Rattle.fb_access.specs.declared.spot.Spot.{Spot}
+use Rattle.fb_access.specs.declared.spot.Spot.TheVariants.{AtTable, AtInline, AtStruct, AtText, AtScalars, AtStructs, AtTexts, AtTables, AtUnions, AtUnion, AtNoElement}
+use Rattle.fb_access.specs.Fitting.{numbered, element_kind, next_kind}
+use Rattle.fb_access.specs.Spots.{kind_at, field_spot, spot_of_element}
+use Rattle.fb_access.specs.Denotes.{next_spot, Leads, allows, Reaches, Shown, vector, value}
+use Rattle.fb_access.specs.Here.{IsHere, MayBeHere, sure_kind, Shows}
+use Rattle.fb_access.proofs.StepKinds.{kind_allows, field_kind}
+use Rattle.fb_access.proofs.Sure.{is_sure, sure_kind_of, table_here}
+
+-- what is here allows the steps of its kind
+pub here_allows : (S : Rows) (p : Spot) (s : Step) (kind onward : Kind) → IsHere p kind → next_kind S kind s ≡ Some onward → IsTrue (allows S p s)
+here_allows S p s kind onward h e = kind_allows S p s kind onward (inl h) e
+
+field_fits : (S : Rows) (k n : ℕ) (f : Live) → numbered S k n ≡ Some f → next_kind S (Table k) (Field n) ≡ Some f.kind
+unfolding next_kind
+field_fits S k n f e = rw e refl
+
+-- a sure step is a step of the kind
+pub sure_fits : (S : Rows) (kind : Kind) (s : Step) (onward : Kind) → sure_kind S kind s ≡ Some onward → next_kind S kind s ≡ Some onward
+sure_fits S kind s onward e =
+    let i = is_sure S kind s onward e in
+    let fits = field_fits S i.object i.number i.field i.found ∙ ap Some (sure_kind_of i.field onward i.sure) in
+    subst (λ x. next_kind S x s ≡ Some onward) (sym i.is_table) (subst (λ x. next_kind S (Table i.object) x ≡ Some onward) (sym i.is_field) fits)
+
+pub sure_allows : (S : Rows) (p : Spot) (s : Step) (kind onward : Kind) → IsHere p kind → sure_kind S kind s ≡ Some onward → IsTrue (allows S p s)
+sure_allows S p s kind onward h e = here_allows S p s kind onward h (sure_fits S kind s onward e)
+
+module _ (b : List ℕ) (S : Rows) where
+  -- a field of a table that is here is here, or absent
+  pub field_may_be_here : (p : Spot) (k n : ℕ) (onward : Kind) (q : Spot) → IsHere p (Table k) → next_kind S (Table k) (Field n) ≡ Some onward → Leads b S p (Field n) q → MayBeHere q onward
+  unfolding next_kind next_spot
+  field_may_be_here p k n onward q h e l =
+      let t = table_here p k h in
+      numbered_may t.0 (numbered S k n) q onward e (subst (λ x. next_spot b S x (Field n) ≡ Some q) t.1 l) where
+        numbered_may : (t : ℕ) (o : Option Live) (q : Spot) (onward : Kind) → option_map (λ f. f.kind) o ≡ Some onward → option_map (field_spot b t) o ≡ Some q → MayBeHere q onward
+        numbered_may t None q onward e l = absurd cc
+        numbered_may t (Some f) q onward e l =
+            let i : f.kind ≡ onward = cc in
+            let j : field_spot b t f ≡ q = cc in
+            subst (λ x. MayBeHere x onward) j (subst (MayBeHere (field_spot b t f)) i (field_kind b t f))
+
+  if_below : (j n : ℕ) (spot q : Spot) (kind onward : Kind) → IsHere spot kind → Some kind ≡ Some onward → j < n → Some (if nat_lt j n then spot else AtNoElement) ≡ Some q → IsHere q onward
+  if_below j n spot q kind onward h e l i =
+      let t : nat_lt j n ≡ true = grind (arith, nat_tests) in
+      let r : Some spot ≡ Some q = rw t at i in
+      let m : spot ≡ q = cc in
+      subst (λ x. kind_at x ≡ Some onward) m (h ∙ e)
+
+  -- an element below the count of a vector that is here is here
+  pub element_is_here : (p : Spot) (j n : ℕ) (kind onward : Kind) (q : Spot) → IsHere p kind → element_kind kind ≡ Some onward → value b S p ≡ vector n → j < n → Leads b S p (Element j) q → IsHere q onward
+  unfolding next_spot spot_of_element value
+  element_is_here (AtScalars s c) j n kind onward q h e v l d = let i : kind ≡ Scalars s = cc in let w : word b c 4 ≡ n = cc in if_below j (word b c 4) (AtInline s (c + 4 + scalar_size s * j)) q (AScalar s) onward refl (rw i at e) (rw w l) d
+  element_is_here (AtStructs k c) j n kind onward q h e v l d = let i : kind ≡ Structs k = cc in let w : word b c 4 ≡ n = cc in if_below j (word b c 4) (AtStruct k (c + 4 + struct_size S k * j)) q (Struct k) onward refl (rw i at e) (rw w l) d
+  element_is_here (AtTexts c) j n kind onward q h e v l d = let i : kind ≡ Texts = cc in let w : word b c 4 ≡ n = cc in if_below j (word b c 4) (AtText (target b (c + 4 + 4 * j))) q Text onward refl (rw i at e) (rw w l) d
+  element_is_here (AtTables k c) j n kind onward q h e v l d = let i : kind ≡ Tables k = cc in let w : word b c 4 ≡ n = cc in if_below j (word b c 4) (AtTable k (target b (c + 4 + 4 * j))) q (Table k) onward refl (rw i at e) (rw w l) d
+  element_is_here (AtUnions u t c) j n kind onward q h e v l d = let i : kind ≡ Unions u = cc in let w : word b c 4 ≡ n = cc in if_below j (word b c 4) (AtUnion u (word b (t + j) 1) (c + 4 + 4 * j)) q (Union u) onward refl (rw i at e) (rw w l) d
+  element_is_here p j n kind onward q h e v l d = absurd cc
+
+  -- what is shown here, and past a step
+  pub shows_here : (p : Spot) → Shows b S p [] (value b S p)
+  shows_here p = (p, refl, refl)
+
+  pub shows_after : (p q : Spot) (s : Step) (steps : List Step) (x : Shown) → Leads b S p s q → Shows b S q steps x → Shows b S p (s ∷ steps) x
+  shows_after p q s steps x l h = (h.0, (q, l, h.1), h.2)
+
+  -- a path shows one value
+  reaches_one : (p : Spot) (steps : List Step) (q r : Spot) → Reaches b S p steps q → Reaches b S p steps r → q ≡ r
+  reaches_one p [] q r h i = sym h ∙ i
+  reaches_one p (s ∷ steps) q r h i = let e : i.0 ≡ h.0 = (let a = h.1 in let c = i.1 in cc) in reaches_one h.0 steps q r h.2 (subst (λ m. Reaches b S m steps r) e i.2)
+
+  pub shows_one : (p : Spot) (steps : List Step) (x y : Shown) → Shows b S p steps x → Shows b S p steps y → x ≡ y
+  shows_one p steps x y h i = h.2 ∙ ap (value b S) (reaches_one p steps h.0 i.0 h.1 i.1) ∙ sym i.2

@@ -1,0 +1,127 @@
+-- A field of a table leads to a spot where what is to hold holds.
+use Rattle.std.proofs.Common.{◌≡◌, ℕ, zero, suc, ◌+◌, ◌≤◌, ◌<◌, ℤ, List, [], ◌∷◌, length, refl, arith, Option, Some, None, Bool, true, false}
+use Rattle.std.specs.Prelude.{slice_get, IfSome}
+use Rattle.fb_bytes.specs.Word.{word}
+use Rattle.fb_schema.specs.declared.kinds.Scalar.{Scalar}
+use Rattle.fb_schema.specs.declared.kinds.Scalar.TheVariants.{UType, Bool as AsBool, Byte, UByte, Short, UShort, Int, UInt, Long, ULong, Float, Double}
+use Rattle.fb_schema.specs.declared.kinds.Kind.{Kind}
+use Rattle.fb_schema.specs.declared.kinds.Kind.TheVariants.{Scalar as AScalar, Text, Struct, Table, Union, Scalars, Texts, Structs, Tables, Unions}
+use Rattle.fb_schema.specs.Rows.{Rows, Object}
+use Rattle.fb_schema.specs.Kinds.{kind_size, kind_align, align_in}
+use Rattle.fb_schema.specs.Live.{Live}
+use Rattle.fb_schema.specs.Members.{member_of}
+use Rattle.fb_schema.specs.Served.{IsServed, KindHolds}
+use Rattle.fb_verify.specs.declared.checks.Checks.{Checks}
+use Rattle.fb_verify.specs.Places.{target, field_place}
+use Rattle.fb_verify.specs.Fields.{IsPresent, IsPresentOrAbsent, IsField, entries, entries_of, entries_at, union_entry, union_type, type_count, types_begin, type_place, to_table, to_string, lead_of}
+use Rattle.fb_verify.specs.Tree.{Elements}
+use Rattle.fb_verify.specs.Unfolds.{ElementsUnfold}
+use Rattle.fb_verify.specs.Rows.{TypesFit, IsTyped}
+use Rattle.fb_access.specs.Fitting.{numbered}
+use Rattle.fb_access.specs.Spots.{default_spot, absent_spot, present_spot, spot_at, field_spot}
+use Rattle.fb_access.specs.Held.{IsTableAt, IsLed, IsSpot, IsReadable}
+use Rattle.fb_access.proofs.Leading.{row_led, union_row_led, one_led, led_to_table, led_to_string, led_to_nothing}
+use Rattle.fb_access.proofs.TableFields.{HoldsField, field_holds}
+
+-- what has an alignment is there
+object_there : (os : List Object) (k : ℕ) → 0 < align_in (slice_get os k) → k < length os
+object_there [] zero h = absurd (omega arith)
+object_there [] (suc k) h = absurd (omega arith)
+object_there (o ∷ os) zero h = omega arith
+object_there (o ∷ os) (suc k) h = let r = object_there os k h in omega arith
+
+module _ (c : Checks) (b : List ℕ) (S : Rows) (t : ℕ) (f : Live) (p : ℕ) where
+  -- the types of a vector of unions, as many as its values
+  types_within : TypesFit b t f.slot → (n : ℕ) → (types : Option ℕ) → type_place b t f.slot ≡ types → n ≡ type_count b types → types_begin b types + n ≤ length b
+  types_within h n None e same = omega arith
+  types_within h n (Some q) e same = let w = h.types q e in omega (arith, w, same)
+
+  union_led : (ys : Elements) (member : Option Kind) → ElementsUnfold ys c b S (union_entry S p member) → IsLed b S p (lead_of S member)
+  union_led ys None u = led_to_nothing c b S p
+  union_led ys (Some kind) u = one_led c b S ys (lead_of S (Some kind)) p 0 u
+
+  -- a present field leads to such a spot
+  present_holds : (ys : Elements) (kind : Kind) → IsPresent c b S t f p kind → ElementsUnfold ys c b S (entries_of b S t f p kind) → KindHolds S f kind → f.size ≡ kind_size S kind → f.align ≡ kind_align S kind → IsTyped b t f.slot kind → IsSpot b S (present_spot b t f.slot p kind)
+  unfolding IsSpot present_spot
+  present_holds ys (AScalar s) h u k size align typed = omega (arith, h.value.within, size)
+  present_holds ys Text h u k size align typed = (led_to_string b S p (one_led c b S ys to_string p 0 u)).1
+  present_holds ys (Struct o) h u k size align typed = record { object = object_there S.objects o (omega (arith, k, align)); within = omega (arith, h.value.within, size) }
+  present_holds ys (Table o) h u k size align typed = (led_to_table b S p o k (one_led c b S ys (to_table o) p 0 u)).1
+  present_holds ys (Union e) h u k size align typed = record { union = k; led = union_led ys (member_of S e (union_type b (type_place b t f.slot))) u }
+  present_holds ys (Scalars s) h u k size align typed = record { count = h.vector.count; within = rw size at h.vector.within }
+  present_holds ys Texts h u k size align typed = record { counted = record { count = h.vector.count; within = h.vector.within }; led = row_led c b S ys to_string (target b p + 4) (word b (target b p) 4) u }
+  present_holds ys (Structs o) h u k size align typed = record { object = object_there S.objects o (omega (arith, k, align)); counted = record { count = h.vector.count; within = rw size at h.vector.within } }
+  present_holds ys (Tables o) h u k size align typed = record { object = k; counted = record { count = h.vector.count; within = h.vector.within }; led = row_led c b S ys (to_table o) (target b p + 4) (word b (target b p) 4) u }
+  present_holds ys (Unions e) h u k size align typed = record {
+    union = k;
+    counted = record { count = h.field.vector.count; within = h.field.vector.within };
+    types = types_within typed (word b (target b p) 4) (type_place b t f.slot) refl h.counts_agree;
+    led = union_row_led c b S ys e (types_begin b (type_place b t f.slot)) (target b p + 4) (word b (target b p) 4) u;
+  }
+
+  -- and what following it needs is there
+  present_readable : (ys : Elements) (kind : Kind) → IsPresent c b S t f p kind → ElementsUnfold ys c b S (entries_of b S t f p kind) → KindHolds S f kind → IsTyped b t f.slot kind → IsReadable b t f.slot p kind
+  present_readable ys (AScalar s) h u k typed = tt
+  present_readable ys Text h u k typed = (led_to_string b S p (one_led c b S ys to_string p 0 u)).0
+  present_readable ys (Struct o) h u k typed = tt
+  present_readable ys (Table o) h u k typed = (led_to_table b S p o k (one_led c b S ys (to_table o) p 0 u)).0
+  present_readable ys (Union e) h u k typed = typed
+  present_readable ys (Scalars s) h u k typed = h.offset.within
+  present_readable ys Texts h u k typed = h.offset.within
+  present_readable ys (Structs o) h u k typed = h.offset.within
+  present_readable ys (Tables o) h u k typed = h.offset.within
+  present_readable ys (Unions e) h u k typed = (h.field.offset.within, typed)
+
+module _ (b : List ℕ) (S : Rows) where
+  default_holds : (d : ℤ) (s : Scalar) → IsSpot b S (default_spot d s)
+  unfolding IsSpot default_spot
+  default_holds d UType = tt
+  default_holds d AsBool = tt
+  default_holds d Byte = tt
+  default_holds d UByte = tt
+  default_holds d Short = tt
+  default_holds d UShort = tt
+  default_holds d Int = tt
+  default_holds d UInt = tt
+  default_holds d Long = tt
+  default_holds d ULong = tt
+  default_holds d Float = tt
+  default_holds d Double = tt
+
+  absent_holds : (optional : Bool) (d : ℤ) (kind : Kind) → IsSpot b S (absent_spot optional d kind)
+  unfolding IsSpot absent_spot
+  absent_holds true d kind = tt
+  absent_holds false d (AScalar s) = default_holds d s
+  absent_holds false d Text = tt
+  absent_holds false d (Struct o) = tt
+  absent_holds false d (Table o) = tt
+  absent_holds false d (Union e) = tt
+  absent_holds false d (Scalars s) = tt
+  absent_holds false d Texts = tt
+  absent_holds false d (Structs o) = tt
+  absent_holds false d (Tables o) = tt
+  absent_holds false d (Unions e) = tt
+
+  module _ (c : Checks) (t : ℕ) (f : Live) where
+    spot_holds : (place : Option ℕ) (ys : Elements) → IsPresentOrAbsent c b S t f place → ElementsUnfold ys c b S (entries_at b S t f place) → KindHolds S f f.kind → f.size ≡ kind_size S f.kind → f.align ≡ kind_align S f.kind → IsTyped b t f.slot f.kind → IsSpot b S (spot_at b t f place)
+    spot_holds None ys h u k size align typed = absent_holds f.optional f.default f.kind
+    spot_holds (Some p) ys h u k size align typed = present_holds c b S t f p ys f.kind h u k size align typed
+
+    spot_readable : (place : Option ℕ) (ys : Elements) → IsPresentOrAbsent c b S t f place → ElementsUnfold ys c b S (entries_at b S t f place) → KindHolds S f f.kind → IsTyped b t f.slot f.kind → IfSome place (λ p. IsReadable b t f.slot p f.kind)
+    spot_readable None ys h u k typed = tt
+    spot_readable (Some p) ys h u k typed = present_readable c b S t f p ys f.kind h u k typed
+
+    field_spot_held : HoldsField c b S t f → IsSpot b S (field_spot b t f)
+    unfolding IsField entries
+    field_spot_held h = spot_holds (field_place b t f.slot) h.found h.met h.unfolds h.kind h.size_is h.align_is h.typed
+
+    field_read : HoldsField c b S t f → IfSome (field_place b t f.slot) (λ p. IsReadable b t f.slot p f.kind)
+    unfolding IsField entries
+    field_read h = spot_readable (field_place b t f.slot) h.found h.met h.unfolds h.kind h.typed
+
+  -- a live field of a table that unfolds leads to a spot where what is to hold holds, and can be followed
+  pub field_spot_holds : (k t n : ℕ) (f : Live) → IsServed S → IsTableAt b S k t → numbered S k n ≡ Some f → IsSpot b S (field_spot b t f)
+  field_spot_holds k t n f s h e = field_spot_held h.checks t f (field_holds b S k t n f s h e)
+
+  pub field_readable : (k t n : ℕ) (f : Live) → IsServed S → IsTableAt b S k t → numbered S k n ≡ Some f → IfSome (field_place b t f.slot) (λ p. IsReadable b t f.slot p f.kind)
+  field_readable k t n f s h e = field_read h.checks t f (field_holds b S k t n f s h e)

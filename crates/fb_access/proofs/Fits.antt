@@ -1,0 +1,149 @@
+-- The steps that parts are, and the kinds to which they lead.
+use Rattle.std.proofs.Common.{◌≡◌, ℕ, List, slice_get, Option, Some, None, Ok, Err, IsTrue, IsSome, unwrap_or, refl, sym, ◌∙◌, ap, subst}
+use Rattle.std.specs.Str.{bytes_eq}
+use Rattle.fb_schema.specs.declared.kinds.Kind.{Kind}
+use Rattle.fb_schema.specs.declared.kinds.Kind.TheVariants.{Scalar, Text, Struct, Table, Union, Scalars, Texts, Structs, Tables, Unions}
+use Rattle.fb_schema.specs.declared.views.FieldView.{FieldView}
+use Rattle.fb_schema.specs.Demands.{IsLegal}
+use Rattle.fb_schema.specs.Live.{Live, live_fields, live_of_view, field_named}
+use Rattle.fb_schema.specs.Members.{member_of, member_named}
+use Rattle.fb_schema.specs.Rows.{Rows, is_union}
+use Rattle.fb_schema.specs.Served.{KindHolds, MemberHolds, IsServed}
+use Rattle.fb_access.specs.declared.step.Step.{Step}
+use Rattle.fb_access.specs.declared.step.Step.TheVariants.{Field, Element, Member}
+use Rattle.fb_access.specs.declared.misfit.Misfit.TheVariants.{NoSuchField}
+use Rattle.fb_access.specs.declared.misfit.Fitted.{Fitted}
+use Rattle.fb_access.specs.Fitting.{element_kind, next_kind}
+use Rattle.fb_access.specs.Grammar.{Part, field, element, member, number_of}
+use Rattle.fb_access.specs.Kept.{IsThere}
+use Rattle.fb_access.specs.Resolving.{field_with_name, to_field, to_element, to_member, field_step, member_step, fitting}
+use Rattle.fb_access.proofs.Found.{found_at, none_found, found_there}
+use Rattle.fb_access.proofs.MemberKinds.{IsMemberKind, member_there}
+use Rattle.fb_access.proofs.NumberedFields.{found_by_number}
+
+-- a table without the field
+pub no_field : (S : Rows) (kind : Kind) (k : ℕ) (name : List ℕ) → kind ≡ Table k → field_named S k name ≡ None → Err NoSuchField ≡ field_step S kind name
+no_field S kind k name is e = sym (ap (λ x. field_step S x name) is ∙ ap to_field (none_found (λ (f : Live). bytes_eq f.name name) (live_fields S k) e))
+
+-- and one with it
+pub a_field : (S : Rows) (kind : Kind) (k i : ℕ) (name : List ℕ) (f : FieldView) → kind ≡ Table k → field_named S k name ≡ Some i → slice_get (live_fields S k) i ≡ Some (live_of_view f) → Ok (record { step = Field f.number; kind = f.kind }) ≡ field_step S kind name
+a_field S kind k i name f is e at = sym (ap (λ x. field_step S x name) is ∙ ap to_field (found_at (λ (f : Live). bytes_eq f.name name) (live_fields S k) i e ∙ at))
+
+-- a member that is named has a kind
+pub has_kind : (S : Rows) (kind : Kind) (e v : ℕ) (name : List ℕ) → IsLegal S → IsThere S kind → kind ≡ Union e → member_named S e name ≡ Some v → IsSome (member_of S e v)
+has_kind S kind e v name legal there is named =
+    let h : IsTrue (is_union S e) = subst (IsThere S) is there in
+    let k = member_there S e v name legal h named in
+    subst IsSome (sym k.1) refl
+
+-- Where a step leads.
+pub record Leads (S : Rows) (kind : Kind) (x : Fitted) : Type 0 where
+  pub next : next_kind S kind x.step ≡ Some x.kind
+  pub there : IsThere S x.kind
+
+field_kind_there : (S : Rows) (f : Live) (kind : Kind) → KindHolds S f kind → IsThere S kind
+field_kind_there S f (Scalar s) h = tt
+field_kind_there S f Text h = tt
+field_kind_there S f (Struct k) h = tt
+field_kind_there S f (Table k) h = h
+field_kind_there S f (Union e) h = h
+field_kind_there S f (Scalars s) h = tt
+field_kind_there S f Texts h = tt
+field_kind_there S f (Structs k) h = tt
+field_kind_there S f (Tables k) h = h
+field_kind_there S f (Unions e) h = h
+
+member_kind_there : (S : Rows) (kind : Kind) → IsMemberKind kind → MemberHolds S (Some kind) → IsThere S kind
+member_kind_there S (Scalar s) m h = tt
+member_kind_there S Text m h = tt
+member_kind_there S (Struct k) m h = tt
+member_kind_there S (Table k) m h = h
+member_kind_there S (Union e) m h = absurd m
+member_kind_there S (Scalars s) m h = tt
+member_kind_there S Texts m h = tt
+member_kind_there S (Structs k) m h = tt
+member_kind_there S (Tables k) m h = absurd m
+member_kind_there S (Unions e) m h = absurd m
+
+-- a step that fits, with the kind to which it leads
+abbrev fitted : Step → Kind → Fitted
+fitted step kind = record { step = step; kind = kind }
+
+module _ (S : Rows) (legal : IsLegal S) (served : IsServed S) where
+  field_leads : (k : ℕ) (name : List ℕ) (o : Option Live) (x : Fitted) → field_with_name S k name ≡ o → to_field o ≡ Ok x → Leads S (Table k) x
+  unfolding next_kind
+  field_leads k name None x e h = absurd cc
+  field_leads k name (Some f) x e h =
+      let t = found_there (λ (f : Live). bytes_eq f.name name) (live_fields S k) f e in
+      let same : fitted (Field f.number) f.kind ≡ x = cc in
+      subst (Leads S (Table k)) same (record {
+        next = rw (found_by_number S legal k t.0 f t.1) refl;
+        there = field_kind_there S f f.kind (served.kinds k t.0 f t.1);
+      })
+
+  member_leads : (e : ℕ) (name : List ℕ) (o : Option ℕ) (x : Fitted) → IsTrue (is_union S e) → member_named S e name ≡ o → to_member S e o ≡ Ok x → Leads S (Union e) x
+  unfolding next_kind
+  member_leads e name None x u n h = absurd cc
+  member_leads e name (Some v) x u n h =
+      let k = member_there S e v name legal u n in
+      let kind : unwrap_or (member_of S e v) Text ≡ k.0 = ap (λ o. unwrap_or o Text) k.1 in
+      let same : fitted (Member v) (unwrap_or (member_of S e v) Text) ≡ x = cc in
+      subst (Leads S (Union e)) same (record {
+        next = k.1 ∙ ap Some (sym kind);
+        there = subst (IsThere S) (sym kind) (member_kind_there S k.0 k.2 (subst (MemberHolds S) k.1 (served.members e v)));
+      })
+
+  element_leads : (kind : Kind) (j : ℕ) (o : Option Kind) (x : Fitted) → element_kind kind ≡ o → ((to : Kind) → element_kind kind ≡ Some to → IsThere S to) → to_element j o ≡ Ok x → Leads S kind x
+  unfolding next_kind
+  element_leads kind j None x e t h = absurd cc
+  element_leads kind j (Some to) x e t h =
+      let same : fitted (Element j) to ≡ x = cc in
+      subst (Leads S kind) same (record { next = e; there = t to e })
+
+  some_there : (from to : Kind) → Some from ≡ Some to → IsThere S from → IsThere S to
+  some_there from to e h = let same : from ≡ to = cc in subst (IsThere S) same h
+
+  none_there : (to : Kind) → None ≡ Some to → IsThere S to
+  none_there to e = absurd cc
+
+  element_there : (kind to : Kind) → IsThere S kind → element_kind kind ≡ Some to → IsThere S to
+  element_there (Scalar s) to h e = none_there to e
+  element_there Text to h e = none_there to e
+  element_there (Struct k) to h e = none_there to e
+  element_there (Table k) to h e = none_there to e
+  element_there (Union u) to h e = none_there to e
+  element_there (Scalars s) to h e = some_there (Scalar s) to e tt
+  element_there Texts to h e = some_there Text to e tt
+  element_there (Structs k) to h e = some_there (Struct k) to e tt
+  element_there (Tables k) to h e = some_there (Table k) to e h
+  element_there (Unions u) to h e = some_there (Union u) to e h
+
+  named_leads : (kind : Kind) (name : List ℕ) (x : Fitted) → field_step S kind name ≡ Ok x → Leads S kind x
+  named_leads (Table k) name x h = field_leads k name (field_with_name S k name) x refl h
+  named_leads (Scalar s) name x h = absurd cc
+  named_leads Text name x h = absurd cc
+  named_leads (Struct k) name x h = absurd cc
+  named_leads (Union e) name x h = absurd cc
+  named_leads (Scalars s) name x h = absurd cc
+  named_leads Texts name x h = absurd cc
+  named_leads (Structs k) name x h = absurd cc
+  named_leads (Tables k) name x h = absurd cc
+  named_leads (Unions e) name x h = absurd cc
+
+  chosen_leads : (kind : Kind) (name : List ℕ) (x : Fitted) → IsThere S kind → member_step S kind name ≡ Ok x → Leads S kind x
+  chosen_leads (Union e) name x t h = member_leads e name (member_named S e name) x t refl h
+  chosen_leads (Scalar s) name x t h = absurd cc
+  chosen_leads Text name x t h = absurd cc
+  chosen_leads (Struct k) name x t h = absurd cc
+  chosen_leads (Table k) name x t h = absurd cc
+  chosen_leads (Scalars s) name x t h = absurd cc
+  chosen_leads Texts name x t h = absurd cc
+  chosen_leads (Structs k) name x t h = absurd cc
+  chosen_leads (Tables k) name x t h = absurd cc
+  chosen_leads (Unions e) name x t h = absurd cc
+
+  -- a part that fits leads to a kind that is there
+  pub leads : (kind : Kind) (p : Part) (x : Fitted) → IsThere S kind → fitting S kind p ≡ Ok x → Leads S kind x
+  leads kind (field name) x t h = named_leads kind name x h
+  leads kind (element digits) x t h = element_leads kind (number_of digits) (element_kind kind) x refl (λ to e. element_there kind to t e) h
+  leads kind (member name) x t h = chosen_leads kind name x t h

@@ -1,0 +1,155 @@
+-- A member of a union that has a name has a kind too.
+use Rattle.std.proofs.Common.{◌≡◌, ℕ, suc, ℤ, pos, negsuc, Bool, true, false, not, ◌&&◌, List, [], slice_get, filter, Option, Some, None, option_map, unsigned_abs, IsTrue, refl, sym, ◌∙◌, ap, find, is_none, if◌then◌else◌}
+use Rattle.std.specs.Cmp.{signed_Decides}
+use Rattle.std.specs.Option.{option_and_then}
+use Rattle.std.specs.Ordering.{int_eq}
+use Rattle.std.specs.Str.{bytes_eq}
+use Rattle.fb_schema.specs.declared.kinds.Kind.{Kind}
+use Rattle.fb_schema.specs.declared.kinds.Kind.TheVariants.{Text, Struct, Table}
+use Rattle.fb_schema.specs.declared.kinds.Element.TheVariants.{Scalar as OfScalar, Text as OfText, Object as OfObject, Union as OfUnion}
+use Rattle.fb_schema.specs.declared.kinds.Shape.{Shape}
+use Rattle.fb_schema.specs.declared.kinds.Shape.TheVariants.{One, Vector, Array}
+use Rattle.fb_schema.specs.Demands.{IsLegal, first_code, member_demands, members_asked, demands_of_enum, demands_of_member, is_for_member, is_object, names_no_object}
+use Rattle.fb_schema.specs.Kinds.{kind_of, shape_of, shape_kind, object_kind}
+use Rattle.fb_schema.specs.Members.{is_member_value, member_of, member_named, members_in, members_of}
+use Rattle.fb_schema.specs.Rows.{Rows, Object, Member, Enum, entry_at, is_union, is_some_union}
+use Rattle.fb_schema.proofs.DemandLaws.{clear_line}
+use Rattle.fb_schema.proofs.FindLemmas.{find_filter}
+use Rattle.fb_schema.proofs.LegalLemmas.{legal_clear}
+use Rattle.fb_access.proofs.Found.{found_there, some_found}
+use Rattle.fb_access.proofs.ScanSteps.{false≢true}
+
+-- Tests.
+not_and : (a b : Bool) → (not a && not b) ≡ false → a ≡ false → b ≡ true
+not_and true b h e = absurd (false≢true (sym e))
+not_and false true h e = refl
+not_and false false h e = absurd (false≢true (sym h))
+
+and_false : (a b : Bool) → (not a && b) ≡ false → a ≡ false → b ≡ false
+and_false true b h e = absurd (false≢true (sym e))
+and_false false b h e = h
+
+first : (a b : Bool) → (a && b) ≡ true → a ≡ true
+first true b h = refl
+first false b h = h
+
+both : (a b : Bool) → a ≡ true → b ≡ true → (a && b) ≡ true
+both true b e h = h
+both false b e h = e
+
+-- Values.
+real_not_zero : (z : ℤ) → is_member_value z ≡ true → int_eq z (pos 0) ≡ false
+real_not_zero z h = go (int_eq z (pos 0)) refl where
+  zero_not_real : (z : ℤ) → z ≡ pos 0 → is_member_value z ≡ true → ⊥
+  zero_not_real z e h = false≢true (ap is_member_value (sym e) ∙ h)
+
+  go : (b : Bool) → int_eq z (pos 0) ≡ b → int_eq z (pos 0) ≡ false
+  go true e = absurd (zero_not_real z ((signed_Decides z (pos 0)).0 e) h)
+  go false e = e
+
+real_value : (z : ℤ) (v : ℕ) → is_member_value z ≡ true → unsigned_abs z ≡ v → int_eq z (pos v) ≡ true
+real_value (pos n) v h e = (signed_Decides (pos n) (pos v)).1 (ap pos e)
+real_value (negsuc n) v h e = absurd (false≢true h)
+
+-- the members of a union, by its row
+chosen : (b : Bool) {X : Type 0} (xs ys : List X) → b ≡ true → (if b then xs else ys) ≡ xs
+chosen true xs ys e = refl
+chosen false xs ys e = absurd (false≢true e)
+
+module _ (rows : Rows) (e : ℕ) (row : Enum) (at : slice_get rows.enums e ≡ Some row) (union : row.is_union ≡ true) where
+  members_are : members_of rows e ≡ filter (λ m. is_member_value m.value) row.members
+  members_are = ap members_in at ∙ chosen row.is_union (filter (λ m. is_member_value m.value) row.members) [] union
+
+  found_among : (p : Member → Bool) → find p (members_of rows e) ≡ find (λ m. is_member_value m.value && p m) row.members
+  found_among p = ap (find p) members_are ∙ find_filter p (λ m. is_member_value m.value) row.members
+
+  clear : IsLegal rows → (q : ℕ) → first_code (members_asked rows row.members q) ≡ None
+  clear legal q = sym (ap first_code (ap (demands_of_enum rows (suc q)) at ∙ chosen row.is_union (members_asked rows row.members q) [] union)) ∙ legal_clear rows legal 1 e (suc q)
+
+-- what a member may be
+abbrev pub IsMemberKind : Kind → Type 0
+IsMemberKind Text = Unit {0}
+IsMemberKind (Struct k) = Unit {0}
+IsMemberKind (Table k) = Unit {0}
+IsMemberKind _ = ⊥
+
+object_is_member : (n : ℕ) (b : Bool) → IsMemberKind (if b then Struct n else Table n)
+object_is_member n true = tt
+object_is_member n false = tt
+
+-- the kind that a type has
+record HasKind (kind : Option Kind) : Type 0 where
+  is : Kind
+  of_member : IsMemberKind is
+  has : kind ≡ Some is
+
+-- the type of a member is an object that is there, or a text
+kind_of_shape : (rows : Rows) (index : ℤ) (s : Option Shape) → is_for_member s ≡ true → (is_object s && is_none (entry_at rows.objects index)) ≡ false → HasKind (shape_kind rows index s)
+kind_of_shape rows (pos n) (Some (One OfObject)) h e = go (slice_get rows.objects n) e where
+  go : (o : Option Object) → is_none o ≡ false → HasKind (object_kind (pos n) Struct Table o)
+  go None e = absurd (false≢true (sym e))
+  go (Some o) e = record { is = if o.is_struct then Struct n else Table n; of_member = object_is_member n o.is_struct; has = refl }
+kind_of_shape rows (negsuc n) (Some (One OfObject)) h e = absurd (false≢true (sym e))
+kind_of_shape rows index (Some (One OfText)) h e = record { is = Text; of_member = tt; has = refl }
+kind_of_shape rows index None h e = absurd (false≢true h)
+kind_of_shape rows index (Some (One (OfScalar s))) h e = absurd (false≢true h)
+kind_of_shape rows index (Some (One OfUnion)) h e = absurd (false≢true h)
+kind_of_shape rows index (Some (Vector s)) h e = absurd (false≢true h)
+kind_of_shape rows index (Some (Array s)) h e = absurd (false≢true h)
+
+-- a member that breaks no demand has a kind
+member_has_kind : (rows : Rows) (m : Member) (taken named : Bool) → first_code (member_demands rows m taken named) ≡ None → is_member_value m.value ≡ true → HasKind (kind_of rows m.ty)
+unfolding kind_of names_no_object
+member_has_kind rows m taken named clear h =
+    let ds = member_demands rows m taken named in
+    let real = real_not_zero m.value h in
+    let fits = not_and (int_eq m.value (pos 0)) (is_for_member (shape_of m.ty)) (clear_line ds clear 2 _ refl) real in
+    let there = and_false (int_eq m.value (pos 0)) (is_object (shape_of m.ty) && is_none (entry_at rows.objects m.ty.index)) (clear_line ds clear 3 _ refl) real in
+    kind_of_shape rows m.ty.index (shape_of m.ty) fits there
+
+asked_at : (rows : Rows) (members : List Member) (q : ℕ) (m : Member) → slice_get members q ≡ Some m → first_code (members_asked rows members q) ≡ None → is_member_value m.value ≡ true → HasKind (kind_of rows m.ty)
+asked_at rows members q m at clear h = member_has_kind rows m _ _ (sym (ap (λ x. first_code (demands_of_member rows members q x)) at) ∙ clear) h
+
+-- a union that is there has a row
+union_row : (o : Option Enum) → IsTrue (is_some_union o) → (row : Enum) × (o ≡ Some row) × (row.is_union ≡ true)
+union_row None h = absurd (false≢true h)
+union_row (Some row) h = (row, refl, h)
+
+named_value : (o : Option Member) (v : ℕ) → option_map (λ (m : Member). unsigned_abs m.value) o ≡ Some v → (m : Member) × (o ≡ Some m) × (unsigned_abs m.value ≡ v)
+named_value None v e = absurd (let w : None ≡ Some v = e in cc)
+named_value (Some m) v e = (m, refl, (let w : unsigned_abs m.value ≡ v = cc in w))
+
+-- the row of a member that is found by one test has a value by which a member is found
+value_found : (members : List Member) (v : ℕ) (p : Member → Bool) (m : Member) → find (λ m. is_member_value m.value && p m) members ≡ Some m → unsigned_abs m.value ≡ v → (y : Member) × (find (λ m. is_member_value m.value && int_eq m.value (pos v)) members ≡ Some y)
+value_found members v p m found e =
+    let t = found_there (λ m. is_member_value m.value && p m) members m found in
+    let real = first (is_member_value m.value) (p m) t.2 in
+    some_found (λ m. is_member_value m.value && int_eq m.value (pos v)) members t.0 m t.1 (both (is_member_value m.value) (int_eq m.value (pos v)) real (real_value m.value v real e))
+
+-- and what is found by its value has a kind
+kind_found : (rows : Rows) (members : List Member) (v : ℕ) (y : Member) → ((q : ℕ) → first_code (members_asked rows members q) ≡ None) → find (λ m. is_member_value m.value && int_eq m.value (pos v)) members ≡ Some y → HasKind (kind_of rows y.ty)
+kind_found rows members v y clear found =
+    let t = found_there (λ m. is_member_value m.value && int_eq m.value (pos v)) members y found in
+    asked_at rows members t.0 y t.1 (clear t.0) (first (is_member_value y.value) (int_eq y.value (pos v)) t.2)
+
+looked_up : (rows : Rows) (e v : ℕ) (y : Member) (kind : Kind) → find (λ m. int_eq m.value (pos v)) (members_of rows e) ≡ Some y → kind_of rows y.ty ≡ Some kind → member_of rows e v ≡ Some kind
+unfolding member_of
+looked_up rows e v y kind found k = ap (option_and_then (λ (m : Member). kind_of rows m.ty)) found ∙ k
+
+named_is : (rows : Rows) (e v : ℕ) (name : List ℕ) → member_named rows e name ≡ Some v → (m : Member) × (find (λ m. bytes_eq m.name name) (members_of rows e) ≡ Some m) × (unsigned_abs m.value ≡ v)
+unfolding member_named
+named_is rows e v name h = named_value (find (λ m. bytes_eq m.name name) (members_of rows e)) v h
+
+in_row : (rows : Rows) (e v : ℕ) (name : List ℕ) → IsLegal rows → (row : Enum) → slice_get rows.enums e ≡ Some row → row.is_union ≡ true → member_named rows e name ≡ Some v → (kind : Kind) × (member_of rows e v ≡ Some kind) × IsMemberKind kind
+in_row rows e v name legal row at union named =
+    let n = named_is rows e v name named in
+    let f : find (λ m. is_member_value m.value && bytes_eq m.name name) row.members ≡ Some n.0 = sym (found_among rows e row at union (λ m. bytes_eq m.name name)) ∙ n.1 in
+    let s = value_found row.members v (λ m. bytes_eq m.name name) n.0 f n.2 in
+    let k = kind_found rows row.members v s.0 (clear rows e row at union legal) s.1 in
+    let g : find (λ m. int_eq m.value (pos v)) (members_of rows e) ≡ Some s.0 = found_among rows e row at union (λ m. int_eq m.value (pos v)) ∙ s.1 in
+    (k.is, looked_up rows e v s.0 k.is g k.has, k.of_member)
+
+pub member_there : (rows : Rows) (e v : ℕ) (name : List ℕ) → IsLegal rows → IsTrue (is_union rows e) → member_named rows e name ≡ Some v → (kind : Kind) × (member_of rows e v ≡ Some kind) × IsMemberKind kind
+member_there rows e v name legal h named =
+    let u = union_row (slice_get rows.enums e) h in
+    in_row rows e v name legal u.0 u.1 u.2 named

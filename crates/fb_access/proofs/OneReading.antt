@@ -1,0 +1,53 @@
+-- A text has one reading.
+use Rattle.std.proofs.Common.{◌≡◌, ℕ, List, [], ◌∷◌, ◌++◌, refl, sym, ◌∙◌, ap}
+use Rattle.std.specs.List.{AllByRecursion}
+use Rattle.fb_access.specs.Grammar.{Part, field, element, member, IsPart, IsReading, spelling}
+use Rattle.fb_access.proofs.Cuts.{tail_is, marks_differ}
+use Rattle.fb_access.proofs.ScanAccepts.{GoOn}
+use Rattle.fb_access.proofs.Words.{Stops, parts_stop, name_word, number_word, word_is, after_word}
+
+-- one word begins a text, and one rest follows it
+record SameWord (v w s t : List ℕ) : Type 0 where
+  words : v ≡ w
+  rests : s ≡ t
+
+one_word : (v w s t : List ℕ) → GoOn v → Stops s → GoOn w → Stops t → v ++ s ≡ w ++ t → SameWord v w s t
+one_word v w s t a b c d e = record {
+  words = sym (word_is (v ++ s) v s a b refl) ∙ word_is (v ++ s) w t c d e;
+  rests = sym (after_word (v ++ s) v s a b refl) ∙ after_word (v ++ s) w t c d e;
+}
+
+not_empty : (c : ℕ) (t : List ℕ) → c ∷ t ≡ [] → ⊥
+not_empty c t e = cc
+
+one_spelling : (ps qs : List Part) → AllByRecursion IsPart ps → AllByRecursion IsPart qs → spelling ps ≡ spelling qs → ps ≡ qs
+one_spelling [] [] a b e = refl
+one_spelling [] (field m ∷ qs) a b e = absurd (not_empty 46 (m ++ spelling qs) (sym e))
+one_spelling [] (element m ∷ qs) a b e = absurd (not_empty 91 (m ++ 93 ∷ spelling qs) (sym e))
+one_spelling [] (member m ∷ qs) a b e = absurd (not_empty 64 (m ++ spelling qs) (sym e))
+one_spelling (field n ∷ ps) [] a b e = absurd (not_empty 46 (n ++ spelling ps) e)
+one_spelling (element n ∷ ps) [] a b e = absurd (not_empty 91 (n ++ 93 ∷ spelling ps) e)
+one_spelling (member n ∷ ps) [] a b e = absurd (not_empty 64 (n ++ spelling ps) e)
+one_spelling (field n ∷ ps) (field m ∷ qs) a b e =
+    let w = one_word n m (spelling ps) (spelling qs) (name_word n a.0) (parts_stop ps) (name_word m b.0) (parts_stop qs) (tail_is 46 46 _ _ e) in
+    let later = one_spelling ps qs a.1 b.1 w.rests in
+    ap (λ x. field x ∷ ps) w.words ∙ ap (λ x. field m ∷ x) later
+one_spelling (element n ∷ ps) (element m ∷ qs) a b e =
+    let w = one_word n m (93 ∷ spelling ps) (93 ∷ spelling qs) (number_word n a.0) refl (number_word m b.0) refl (tail_is 91 91 _ _ e) in
+    let later = one_spelling ps qs a.1 b.1 (tail_is 93 93 _ _ w.rests) in
+    ap (λ x. element x ∷ ps) w.words ∙ ap (λ x. element m ∷ x) later
+one_spelling (member n ∷ ps) (member m ∷ qs) a b e =
+    let w = one_word n m (spelling ps) (spelling qs) (name_word n a.0) (parts_stop ps) (name_word m b.0) (parts_stop qs) (tail_is 64 64 _ _ e) in
+    let later = one_spelling ps qs a.1 b.1 w.rests in
+    ap (λ x. member x ∷ ps) w.words ∙ ap (λ x. member m ∷ x) later
+one_spelling (field n ∷ ps) (element m ∷ qs) a b e = absurd (marks_differ 46 91 _ _ refl e)
+one_spelling (field n ∷ ps) (member m ∷ qs) a b e = absurd (marks_differ 46 64 _ _ refl e)
+one_spelling (element n ∷ ps) (field m ∷ qs) a b e = absurd (marks_differ 91 46 _ _ refl e)
+one_spelling (element n ∷ ps) (member m ∷ qs) a b e = absurd (marks_differ 91 64 _ _ refl e)
+one_spelling (member n ∷ ps) (field m ∷ qs) a b e = absurd (marks_differ 64 46 _ _ refl e)
+one_spelling (member n ∷ ps) (element m ∷ qs) a b e = absurd (marks_differ 64 91 _ _ refl e)
+
+pub one_reading : (text name other : List ℕ) (parts others : List Part) → IsReading text name parts → IsReading text other others → (name ≡ other) × (parts ≡ others)
+one_reading text name other parts others a b =
+    let w = one_word name other (spelling parts) (spelling others) (name_word name a.is_name) (parts_stop parts) (name_word other b.is_name) (parts_stop others) (sym a.spelled ∙ b.spelled) in
+    (w.words, one_spelling parts others a.are_parts b.are_parts w.rests)

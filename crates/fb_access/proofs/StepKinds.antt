@@ -1,0 +1,166 @@
+-- Which steps lead on from what is here, and to what kind.
+use Rattle.std.proofs.Common.{◌≡◌, ℕ, ◌+◌, ◌*◌, ◌==◌, nat_lt, if◌then◌else◌, ℤ, Bool, true, false, IsTrue, List, refl, sym, ◌∙◌, ap, subst, Option, Some, None, is_some, inl, inr}
+use Rattle.std.specs.Prelude.{option_map}
+use Rattle.fb_bytes.specs.Word.{word}
+use Rattle.fb_schema.specs.declared.kinds.Scalar.{Scalar}
+use Rattle.fb_schema.specs.declared.kinds.Scalar.TheVariants.{UType, Bool as AsBool, Byte, UByte, Short, UShort, Int, UInt, Long, ULong, Float, Double}
+use Rattle.fb_schema.specs.declared.kinds.Kind.{Kind}
+use Rattle.fb_schema.specs.declared.kinds.Kind.TheVariants.{Scalar as AScalar, Text, Struct, Table, Union, Scalars, Texts, Structs, Tables, Unions}
+use Rattle.fb_schema.specs.Rows.{Rows}
+use Rattle.fb_schema.specs.Kinds.{scalar_size, struct_size}
+use Rattle.fb_schema.specs.Live.{Live}
+use Rattle.fb_schema.specs.Members.{member_of}
+use Rattle.fb_verify.specs.Places.{target, field_place}
+use Rattle.fb_access.specs.declared.step.Step.{Step}
+use Rattle.fb_access.specs.declared.step.Step.TheVariants.{Field, Element, Member}
+use Rattle.fb_access.specs.declared.spot.Spot.{Spot}
+use Rattle.fb_access.specs.declared.spot.Spot.TheVariants.{AtTable, AtInline, AtStruct, AtText, AtScalars, AtStructs, AtTexts, AtTables, AtUnions, AtUnion, AtAbsent, AtNoElement, AtOtherMember}
+use Rattle.fb_access.specs.Fitting.{numbered, next_kind}
+use Rattle.fb_access.specs.Spots.{kind_at, present_spot, default_spot, absent_spot, spot_at, field_spot, spot_of_element, member_spot}
+use Rattle.fb_access.specs.Denotes.{next_spot, Leads, allows}
+use Rattle.fb_access.specs.Here.{IsHere, MayBeHere, IsOfKind, KindsGoOn}
+
+map_same : {A B C : Type 0} (f : A → B) (g : A → C) (o : Option A) → is_some (option_map f o) ≡ is_some (option_map g o)
+map_same f g None = refl
+map_same f g (Some x) = refl
+
+map_some : {A B : Type 0} (f : A → B) (o : Option A) → is_some (option_map f o) ≡ is_some o
+map_some f None = refl
+map_some f (Some x) = refl
+
+-- a step leads on exactly where it is allowed
+pub leads_where_allowed : (b : List ℕ) (S : Rows) (p : Spot) (s : Step) → is_some (next_spot b S p s) ≡ allows S p s
+unfolding next_spot spot_of_element next_kind
+leads_where_allowed b S (AtTable k t) (Field n) = map_same (field_spot b t) (λ f. f.kind) (numbered S k n)
+leads_where_allowed b S (AtUnion e y p) (Member m) = map_some (λ kind. if y == m then member_spot b p kind else AtOtherMember) (member_of S e m)
+leads_where_allowed b S AtAbsent s = refl
+leads_where_allowed b S AtNoElement s = refl
+leads_where_allowed b S AtOtherMember s = refl
+leads_where_allowed b S p (Field n) = refl
+leads_where_allowed b S p (Element j) = refl
+leads_where_allowed b S p (Member m) = refl
+
+pub allowed_leads : (b : List ℕ) (S : Rows) (p : Spot) (s : Step) → IsTrue (allows S p s) → next_spot b S p s ≡ None → ⊥
+allowed_leads b S p s h e = let i : is_some (next_spot b S p s) ≡ false = rw e refl in let j = leads_where_allowed b S p s in absurd cc
+
+module _ (b : List ℕ) (t o : ℕ) where
+  pub present_kind : (p : ℕ) (kind : Kind) → IsHere (present_spot b t o p kind) kind
+  unfolding present_spot
+  present_kind p (AScalar s) = refl
+  present_kind p Text = refl
+  present_kind p (Struct k) = refl
+  present_kind p (Table k) = refl
+  present_kind p (Union e) = refl
+  present_kind p (Scalars s) = refl
+  present_kind p Texts = refl
+  present_kind p (Structs k) = refl
+  present_kind p (Tables k) = refl
+  present_kind p (Unions e) = refl
+
+default_kind : (d : ℤ) (s : Scalar) → MayBeHere (default_spot d s) (AScalar s)
+unfolding default_spot
+default_kind d UType = inl refl
+default_kind d AsBool = inl refl
+default_kind d Byte = inl refl
+default_kind d UByte = inl refl
+default_kind d Short = inl refl
+default_kind d UShort = inl refl
+default_kind d Int = inl refl
+default_kind d UInt = inl refl
+default_kind d Long = inl refl
+default_kind d ULong = inl refl
+default_kind d Float = inr refl
+default_kind d Double = inr refl
+
+absent_kind : (optional : Bool) (d : ℤ) (kind : Kind) → MayBeHere (absent_spot optional d kind) kind
+unfolding absent_spot
+absent_kind true d kind = inr refl
+absent_kind false d (AScalar s) = default_kind d s
+absent_kind false d Text = inr refl
+absent_kind false d (Struct k) = inr refl
+absent_kind false d (Table k) = inr refl
+absent_kind false d (Union e) = inr refl
+absent_kind false d (Scalars s) = inr refl
+absent_kind false d Texts = inr refl
+absent_kind false d (Structs k) = inr refl
+absent_kind false d (Tables k) = inr refl
+absent_kind false d (Unions e) = inr refl
+
+place_kind : (b : List ℕ) (t : ℕ) (f : Live) (place : Option ℕ) → MayBeHere (spot_at b t f place) f.kind
+place_kind b t f None = absent_kind f.optional f.default f.kind
+place_kind b t f (Some p) = inl (present_kind b t f.slot p f.kind)
+
+-- a field is of its kind, or absent
+pub field_kind : (b : List ℕ) (t : ℕ) (f : Live) → MayBeHere (field_spot b t f) f.kind
+field_kind b t f = place_kind b t f (field_place b t f.slot)
+
+may_be_of : (q : Spot) (kind : Kind) → MayBeHere q kind → IsOfKind q kind
+may_be_of q kind (inl h) = inl h
+may_be_of q kind (inr e) = inr (rw e refl)
+
+if_kind : (v : Bool) (p : Spot) (kind : Kind) → IsHere p kind → IsOfKind (if v then p else AtNoElement) kind
+if_kind true p kind h = inl h
+if_kind false p kind h = inr refl
+
+member_kind : (b : List ℕ) (p : ℕ) (kind : Kind) → IsOfKind (member_spot b p kind) kind
+unfolding member_spot
+member_kind b p (AScalar s) = inr refl
+member_kind b p Text = inl refl
+member_kind b p (Struct k) = inl refl
+member_kind b p (Table k) = inl refl
+member_kind b p (Union e) = inr refl
+member_kind b p (Scalars s) = inr refl
+member_kind b p Texts = inr refl
+member_kind b p (Structs k) = inr refl
+member_kind b p (Tables k) = inr refl
+member_kind b p (Unions e) = inr refl
+
+if_member : (b : List ℕ) (p : ℕ) (kind : Kind) (v : Bool) → IsOfKind (if v then member_spot b p kind else AtOtherMember) kind
+if_member b p kind true = member_kind b p kind
+if_member b p kind false = inr refl
+
+along : (q r : Spot) (kind onward : Kind) → IsOfKind q kind → Some q ≡ Some r → Some kind ≡ Some onward → IsOfKind r onward
+along q r kind onward h e i = let e1 : q ≡ r = cc in let i1 : kind ≡ onward = cc in subst (λ k. IsOfKind r k) i1 (subst (λ x. IsOfKind x kind) e1 h)
+
+module _ (b : List ℕ) (S : Rows) where
+  numbered_kind : (t : ℕ) (o : Option Live) (q : Spot) (onward : Kind) → option_map (λ f. f.kind) o ≡ Some onward → option_map (field_spot b t) o ≡ Some q → IsOfKind q onward
+  numbered_kind t None q onward e l = absurd cc
+  numbered_kind t (Some f) q onward e l = along (field_spot b t f) q f.kind onward (may_be_of (field_spot b t f) f.kind (field_kind b t f)) l e
+
+  valued_kind : (p y m : ℕ) (o : Option Kind) (q : Spot) (onward : Kind) → o ≡ Some onward → option_map (λ kind. if y == m then member_spot b p kind else AtOtherMember) o ≡ Some q → IsOfKind q onward
+  valued_kind p y m None q onward e l = absurd cc
+  valued_kind p y m (Some kind) q onward e l = along (if y == m then member_spot b p kind else AtOtherMember) q kind onward (if_member b p kind (y == m)) l e
+
+  -- from what is here
+  own_kinds : (p : Spot) (s : Step) (q : Spot) (kind onward : Kind) → kind_at p ≡ Some kind → next_kind S kind s ≡ Some onward → Leads b S p s q → IsOfKind q onward
+  unfolding next_spot spot_of_element next_kind
+  own_kinds (AtTable k t) (Field n) q kind onward h e l = let i : kind ≡ Table k = cc in numbered_kind t (numbered S k n) q onward (rw i at e) l
+  own_kinds (AtScalars s c) (Element j) q kind onward h e l = let i : kind ≡ Scalars s = cc in along _ q (AScalar s) onward (if_kind (nat_lt j (word b c 4)) (AtInline s (c + 4 + scalar_size s * j)) (AScalar s) refl) l (rw i at e)
+  own_kinds (AtStructs k c) (Element j) q kind onward h e l = let i : kind ≡ Structs k = cc in along _ q (Struct k) onward (if_kind (nat_lt j (word b c 4)) (AtStruct k (c + 4 + struct_size S k * j)) (Struct k) refl) l (rw i at e)
+  own_kinds (AtTexts c) (Element j) q kind onward h e l = let i : kind ≡ Texts = cc in along _ q Text onward (if_kind (nat_lt j (word b c 4)) (AtText (target b (c + 4 + 4 * j))) Text refl) l (rw i at e)
+  own_kinds (AtTables k c) (Element j) q kind onward h e l = let i : kind ≡ Tables k = cc in along _ q (Table k) onward (if_kind (nat_lt j (word b c 4)) (AtTable k (target b (c + 4 + 4 * j))) (Table k) refl) l (rw i at e)
+  own_kinds (AtUnions u t c) (Element j) q kind onward h e l = let i : kind ≡ Unions u = cc in along _ q (Union u) onward (if_kind (nat_lt j (word b c 4)) (AtUnion u (word b (t + j) 1) (c + 4 + 4 * j)) (Union u) refl) l (rw i at e)
+  own_kinds (AtUnion u y p) (Member m) q kind onward h e l = let i : kind ≡ Union u = cc in valued_kind p y m (member_of S u m) q onward (rw i at e) l
+  own_kinds AtAbsent s q kind onward h e l = absurd cc
+  own_kinds AtNoElement s q kind onward h e l = absurd cc
+  own_kinds AtOtherMember s q kind onward h e l = absurd cc
+  own_kinds p (Field n) q kind onward h e l = absurd cc
+  own_kinds p (Element j) q kind onward h e l = absurd cc
+  own_kinds p (Member m) q kind onward h e l = absurd cc
+
+  -- where nothing is, every step stays
+  pub stays : (p : Spot) (s : Step) → kind_at p ≡ None → Leads b S p s p
+  unfolding next_spot
+  stays AtAbsent s h = refl
+  stays AtNoElement s h = refl
+  stays AtOtherMember s h = refl
+  stays p s h = absurd cc
+
+  pub kinds_go_on : (p : Spot) (s : Step) (q : Spot) → Leads b S p s q → KindsGoOn S p s q
+  kinds_go_on p s q l kind onward (inl h) e = own_kinds p s q kind onward h e l
+  kinds_go_on p s q l kind onward (inr h) e = let same : p ≡ q = (let i = stays p s h in cc) in inr (ap kind_at (sym same) ∙ h)
+
+-- a step that fits the kind of what is here is allowed
+pub kind_allows : (S : Rows) (p : Spot) (s : Step) (kind onward : Kind) → IsOfKind p kind → next_kind S kind s ≡ Some onward → IsTrue (allows S p s)
+kind_allows S p s kind onward (inl h) e = rw (h, e) refl
+kind_allows S p s kind onward (inr h) e = rw h refl

@@ -1,0 +1,51 @@
+-- Steps that fit lead on from the root.
+use Rattle.std.proofs.Common.{◌≡◌, ℕ, ◌+◌, ◌<◌, suc, get_or, add-one, List, [], ◌∷◌, ◌++◌, length, take, drop, refl, sym, subst, IsTrue, inl}
+use Rattle.std.proofs.Math.Seq.{drop-cons}
+use Rattle.std.proofs.lemmas.List.{take_more}
+use Rattle.fb_schema.specs.declared.kinds.Kind.{Kind}
+use Rattle.fb_schema.specs.Rows.{Rows}
+use Rattle.fb_verify.specs.Places.{target}
+use Rattle.fb_verify.specs.WellFormed.{base}
+use Rattle.fb_verify.specs.Sealed.{Sealed, IsUnfolded}
+use Rattle.fb_access.specs.declared.step.Step.{Step}
+use Rattle.fb_access.specs.declared.spot.Spot.{Spot}
+use Rattle.fb_access.specs.declared.spot.Spot.TheVariants.{AtTable}
+use Rattle.fb_access.specs.Fitting.{StepsFit}
+use Rattle.fb_access.specs.Denotes.{Leads, allows, Reaches}
+use Rattle.fb_access.specs.Held.{IsSpot, IsPlaced}
+use Rattle.fb_access.specs.Here.{IsHere}
+use Rattle.fb_access.specs.Walked.{IsWalked}
+use Rattle.fb_access.proofs.StepKinds.{kind_allows, kinds_go_on}
+
+-- the root table of a buffer that unfolds
+pub root_placed : (v : Sealed) (k t : ℕ) → IsUnfolded v → k ≡ v.root → t ≡ target v.bytes (base v.start) → IsPlaced (record { sealed = v; spot = AtTable k t })
+unfolding IsSpot
+root_placed v k t h i e = record { unfolds = h; spot = rw (i, e) (record { object = h.root_is_table; checks = v.checks; found = h.found; unfolds = h.well_formed.unfolds }) }
+
+module _ (b : List ℕ) (S : Rows) where
+  reaches_more : (p : Spot) (ss : List Step) (q : Spot) (s : Step) (m : Spot) → Reaches b S p ss q → Leads b S q s m → Reaches b S p (ss ++ s ∷ []) m
+  reaches_more p [] q s m e l = (m, rw (sym e) at l, refl)
+  reaches_more p (x ∷ ss) q s m r l = (r.0, r.1, reaches_more r.0 ss q s m r.2 l)
+
+  module _ (first : Spot) where
+    -- before the first step
+    pub walked_none : (kind : Kind) (ss : List Step) → IsHere first kind → StepsFit S kind ss → IsWalked b S first [] ss first
+    walked_none kind ss h fits = record { reached = refl; kind = kind; is = inl h; fits = fits }
+
+    walked_allows : (taken left : List Step) (s : Step) (q : Spot) → IsWalked b S first taken (s ∷ left) q → IsTrue (allows S q s)
+    walked_allows taken left s q w = kind_allows S q s w.kind w.fits.0 w.is w.fits.1
+
+    walked_more : (taken left : List Step) (s : Step) (q m : Spot) → IsWalked b S first taken (s ∷ left) q → Leads b S q s m → IsWalked b S first (taken ++ s ∷ []) left m
+    walked_more taken left s q m w l = record {
+      reached = reaches_more first taken q s m w.reached l;
+      kind = w.fits.0;
+      is = kinds_go_on b S q s m l w.kind w.fits.0 w.is w.fits.1;
+      fits = w.fits.2;
+    }
+
+    -- the next step is allowed, and leads on
+    pub walked_allows_at : (ss : List Step) (i : ℕ) (d : Step) (q : Spot) → i < length ss → IsWalked b S first (take i ss) (drop i ss) q → IsTrue (allows S q (get_or ss i d))
+    walked_allows_at ss i d q l w = walked_allows (take i ss) (drop (suc i) ss) (get_or ss i d) q (subst (λ r. IsWalked b S first (take i ss) r q) (drop-cons ss i d l) w)
+
+    pub walked_more_at : (ss : List Step) (i : ℕ) (d : Step) (q m : Spot) → i < length ss → IsWalked b S first (take i ss) (drop i ss) q → Leads b S q (get_or ss i d) m → IsWalked b S first (take (i + 1) ss) (drop (i + 1) ss) m
+    walked_more_at ss i d q m l w g = rw (take_more ss i d l, add-one) (walked_more (take i ss) (drop (suc i) ss) (get_or ss i d) q m (subst (λ r. IsWalked b S first (take i ss) r q) (drop-cons ss i d l) w) g)

@@ -1,0 +1,13 @@
+use Rattle.std.proofs.Common.{arith, ◌∙◌}
+use Rattle.fb_access.proofs.Walks.{walked_allows_at, walked_more_at}
+use Rattle.fb_access.proofs.place.get_steps.Goals as goal
+
+pub go-place-requires : goal.go-place-requires
+go-place-requires c =
+    rw c.loop-step.invariant.same (walked_allows_at _ _ _ _ _ _ _ (omega arith) c.loop-step.invariant.walked)
+
+pub loop-step-preserved : goal.loop-step-preserved
+loop-step-preserved c = record {
+  same = c.go-place.ensures.same ∙ c.loop-step.invariant.same;
+  walked = walked_more_at _ _ _ _ _ _ _ _ (omega arith) c.loop-step.invariant.walked (rw c.loop-step.invariant.same at c.go-place.ensures.leads);
+}

@@ -1,0 +1,47 @@
+-- Which steps a kind has, and to which kind each leads.
+use Rattle.std.specs.Prelude.{◌≡◌, ℕ, ◌==◌, List, [], ◌∷◌, find, Option, Some, None, option_map}
+use Rattle.fb_schema.specs.declared.kinds.Kind.{Kind}
+use Rattle.fb_schema.specs.declared.kinds.Kind.TheVariants.{Scalar, Text, Struct, Table, Union, Scalars, Texts, Structs, Tables, Unions}
+use Rattle.fb_schema.specs.Rows.{Rows}
+use Rattle.fb_schema.specs.Live.{Live, live_fields}
+use Rattle.fb_schema.specs.Members.{member_of}
+use Rattle.fb_access.specs.declared.step.Step.{Step}
+use Rattle.fb_access.specs.declared.step.Step.TheVariants.{Field, Element, Member}
+
+-- the live field of table k with this number
+abbrev pub numbered : Rows → ℕ → ℕ → Option Live
+numbered S k n = find (λ f. f.number == n) (live_fields S k)
+
+-- the kind of the elements of a vector
+abbrev pub element_kind : Kind → Option Kind
+element_kind (Scalar s) = None
+element_kind Text = None
+element_kind (Struct k) = None
+element_kind (Table k) = None
+element_kind (Union e) = None
+element_kind (Scalars s) = Some (Scalar s)
+element_kind Texts = Some Text
+element_kind (Structs k) = Some (Struct k)
+element_kind (Tables k) = Some (Table k)
+element_kind (Unions e) = Some (Union e)
+
+-- the kind of the field of a table with this number
+abbrev pub field_kind : Rows → Kind → ℕ → Option Kind
+field_kind S (Table k) n = option_map (λ f. f.kind) (numbered S k n)
+field_kind S _ n = None
+
+-- the kind of the member of a union with this value
+abbrev pub member_kind : Rows → Kind → ℕ → Option Kind
+member_kind S (Union e) m = member_of S e m
+member_kind S _ m = None
+
+-- the kind to which a step leads from a kind, if it has this step
+unfoldable pub next_kind : Rows → Kind → Step → Option Kind
+next_kind S kind (Field n) = field_kind S kind n
+next_kind S kind (Element j) = element_kind kind
+next_kind S kind (Member m) = member_kind S kind m
+
+-- each step fits the kind to which those before it lead
+abbrev pub StepsFit : Rows → Kind → List Step → Type 0
+StepsFit S kind [] = Unit {0}
+StepsFit S kind (s ∷ steps) = (next : Kind) × (next_kind S kind s ≡ Some next) × StepsFit S next steps

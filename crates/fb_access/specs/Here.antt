@@ -1,0 +1,88 @@
+-- From where something is, certain steps lead to where something is; and numbers are as wide as their scalars.
+use Rattle.std.specs.Prelude.{◌≡◌, ℕ, ◌<◌, ◌^◌, Bool, true, false, ◌||◌, ◌⊎◌, if◌then◌else◌, List, Option, Some, None, option_and_then}
+use Rattle.std.specs.Int.{Width, w8, w16, w32, w64}
+use Rattle.std.specs.Int.RustNames.{FitsSigned}
+use Rattle.fb_schema.specs.declared.kinds.Scalar.{Scalar}
+use Rattle.fb_schema.specs.declared.kinds.Scalar.TheVariants.{Byte, Short, Int as AsInt, Float as AsFloat, Double}
+use Rattle.fb_schema.specs.declared.kinds.Kind.{Kind}
+use Rattle.fb_schema.specs.declared.kinds.Kind.TheVariants.{Scalar as AScalar, Table}
+use Rattle.fb_schema.specs.Rows.{Rows}
+use Rattle.fb_schema.specs.Kinds.{scalar_size}
+use Rattle.fb_schema.specs.Live.{Live}
+use Rattle.fb_access.specs.declared.step.Step.{Step}
+use Rattle.fb_access.specs.declared.step.Step.TheVariants.{Field, Element, Member}
+use Rattle.fb_access.specs.declared.spot.Spot.{Spot}
+use Rattle.fb_access.specs.declared.spot.Spot.TheVariants.{AtAbsent}
+use Rattle.fb_access.specs.declared.answer.Answer.{Answer}
+use Rattle.fb_access.specs.declared.answer.Answer.TheVariants.{Int, UInt}
+use Rattle.fb_access.specs.Fitting.{numbered, next_kind}
+use Rattle.fb_access.specs.Spots.{kind_at}
+use Rattle.fb_access.specs.Denotes.{Reaches, Shown, value}
+
+-- a value of this kind is here, or its default
+abbrev pub IsHere : Spot → Kind → Type 0
+IsHere p kind = kind_at p ≡ Some kind
+
+-- a value of this kind is here, or a field of this kind is absent
+abbrev pub MayBeHere : Spot → Kind → Type 0
+MayBeHere p kind = IsHere p kind ⊎ (p ≡ AtAbsent)
+
+-- a value of this kind is here, or nothing is
+abbrev pub IsOfKind : Spot → Kind → Type 0
+IsOfKind p kind = IsHere p kind ⊎ (kind_at p ≡ None)
+
+-- from a spot of a kind such a step leads to a spot of the next kind
+abbrev pub KindsGoOn : Rows → Spot → Step → Spot → Type 0
+KindsGoOn S p s q = (kind next : Kind) → IsOfKind p kind → next_kind S kind s ≡ Some next → IsOfKind q next
+
+-- whether a scalar has a default
+abbrev pub has_default : Scalar → Bool
+has_default AsFloat = false
+has_default Double = false
+has_default _ = true
+
+-- whether a field that isn't required is here even so: a scalar by its default
+abbrev pub defaults : Bool → Kind → Bool
+defaults true kind = false
+defaults false (AScalar s) = has_default s
+defaults false _ = false
+
+-- the kind of a field that is certainly here
+abbrev pub sure_field : Live → Option Kind
+sure_field f = if f.required || defaults f.optional f.kind then Some f.kind else None
+
+-- the kind of a table's field with this number, if it is certainly here
+abbrev pub sure_field_of : Rows → Kind → ℕ → Option Kind
+sure_field_of S (Table k) n = option_and_then sure_field (numbered S k n)
+sure_field_of S _ n = None
+
+-- the kind to which a step certainly leads: one to a field that is required or has a default
+unfoldable pub sure_kind : Rows → Kind → Step → Option Kind
+sure_kind S kind (Field n) = sure_field_of S kind n
+sure_kind S kind (Element j) = None
+sure_kind S kind (Member m) = None
+
+-- from where something is, such a step leads to where something is
+abbrev pub HereGoesOn : Rows → Spot → Step → Spot → Type 0
+HereGoesOn S p s q = (kind next : Kind) → IsHere p kind → sure_kind S kind s ≡ Some next → IsHere q next
+
+-- the width of a signed scalar
+abbrev pub width_of : Scalar → Width
+width_of Byte = w8
+width_of Short = w16
+width_of AsInt = w32
+width_of _ = w64
+
+-- a number fits the scalar
+abbrev pub FitsScalar : Scalar → Answer → Type 0
+FitsScalar s (Int z) = FitsSigned (width_of s) z
+FitsScalar s (UInt n) = n < 256 ^ scalar_size s
+FitsScalar s _ = Unit {0}
+
+-- the number at a scalar fits it
+abbrev pub IsNarrow : Spot → Answer → Type 0
+IsNarrow p a = (s : Scalar) → IsHere p (AScalar s) → FitsScalar s a
+
+-- the steps from this spot lead to one with this value
+abbrev pub Shows : List ℕ → Rows → Spot → List Step → Shown → Type 0
+Shows b S p steps x = (q : Spot) × Reaches b S p steps q × (x ≡ value b S q)

@@ -1,0 +1,12 @@
+pub mod Fitting
+pub mod Spots
+pub mod Denotes
+pub mod Held
+pub mod Here
+pub mod Walked
+pub mod PlaceLaws
+pub mod Cutting
+pub mod Grammar
+pub mod Kept
+pub mod Resolving
+pub mod Scanned

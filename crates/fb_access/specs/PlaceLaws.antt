@@ -1,0 +1,15 @@
+-- The laws of paths and values.
+use Rattle.std.specs.Prelude.{◌≡◌, ℕ, List, is_some}
+use Rattle.fb_schema.specs.Rows.{Rows}
+use Rattle.fb_verify.specs.declared.start.Start.{Start}
+use Rattle.fb_access.specs.declared.step.Step.{Step}
+use Rattle.fb_access.specs.declared.spot.Spot.{Spot}
+use Rattle.fb_access.specs.Denotes.{next_spot, allows, Shown, Denotes}
+
+-- a step leads on exactly where it is allowed
+abbrev pub LeadsWhereAllowed : Type 0
+LeadsWhereAllowed = (b : List ℕ) (S : Rows) (p : Spot) (s : Step) → is_some (next_spot b S p s) ≡ allows S p s
+
+-- steps have at most one value
+abbrev pub HasOneValue : Type 0
+HasOneValue = (b : List ℕ) (S : Rows) (start : Start) (root : ℕ) (steps : List Step) (x y : Shown) → Denotes b S start root steps x → Denotes b S start root steps y → x ≡ y

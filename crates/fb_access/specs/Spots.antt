@@ -1,0 +1,97 @@
+-- Where values stand: of a field that is present or absent, of an element of a vector, of a member of a union.
+use Rattle.std.specs.Prelude.{ℕ, ℤ, ◌+◌, ◌*◌, ◌==◌, nat_lt, Bool, true, false, if◌then◌else◌, List, Option, Some, None, option_map}
+use Rattle.fb_bytes.specs.Word.{word}
+use Rattle.fb_schema.specs.declared.kinds.Scalar.{Scalar}
+use Rattle.fb_schema.specs.declared.kinds.Scalar.TheVariants.{Float, Double}
+use Rattle.fb_schema.specs.declared.kinds.Kind.{Kind}
+use Rattle.fb_schema.specs.declared.kinds.Kind.TheVariants.{Scalar as AScalar, Text, Struct, Table, Union, Scalars, Texts, Structs, Tables, Unions}
+use Rattle.fb_schema.specs.Rows.{Rows}
+use Rattle.fb_schema.specs.Kinds.{scalar_size, struct_size}
+use Rattle.fb_schema.specs.Live.{Live}
+use Rattle.fb_schema.specs.Members.{member_of}
+use Rattle.fb_verify.specs.Places.{target, field_place}
+use Rattle.fb_verify.specs.Fields.{type_place, union_type, types_begin}
+use Rattle.fb_access.specs.declared.spot.Spot.{Spot}
+use Rattle.fb_access.specs.declared.spot.Spot.TheVariants.{AtTable, AtInline, AtStruct, AtText, AtScalars, AtStructs, AtTexts, AtTables, AtUnions, AtUnion, AtDefault, AtAbsent, AtNoElement, AtOtherMember}
+use Rattle.fb_access.specs.Fitting.{numbered}
+
+-- the kind of what is here, none where nothing is
+abbrev pub kind_at : Spot → Option Kind
+kind_at (AtTable k t) = Some (Table k)
+kind_at (AtInline s p) = Some (AScalar s)
+kind_at (AtStruct k p) = Some (Struct k)
+kind_at (AtText c) = Some Text
+kind_at (AtScalars s c) = Some (Scalars s)
+kind_at (AtStructs k c) = Some (Structs k)
+kind_at (AtTexts c) = Some Texts
+kind_at (AtTables k c) = Some (Tables k)
+kind_at (AtUnions e q c) = Some (Unions e)
+kind_at (AtUnion e y p) = Some (Union e)
+kind_at (AtDefault s d) = Some (AScalar s)
+kind_at AtAbsent = None
+kind_at AtNoElement = None
+kind_at AtOtherMember = None
+
+-- a field of the table at t with the slot o that is present at p: an offset word there leads to all but scalars, structs and unions
+unfoldable pub present_spot : List ℕ → ℕ → ℕ → ℕ → Kind → Spot
+present_spot b t o p (AScalar s) = AtInline s p
+present_spot b t o p (Struct k) = AtStruct k p
+present_spot b t o p Text = AtText (target b p)
+present_spot b t o p (Table k) = AtTable k (target b p)
+present_spot b t o p (Union e) = AtUnion e (union_type b (type_place b t o)) p
+present_spot b t o p (Scalars s) = AtScalars s (target b p)
+present_spot b t o p Texts = AtTexts (target b p)
+present_spot b t o p (Structs k) = AtStructs k (target b p)
+present_spot b t o p (Tables k) = AtTables k (target b p)
+present_spot b t o p (Unions e) = AtUnions e (types_begin b (type_place b t o)) (target b p)
+
+-- an absent scalar has its default, but floats have none
+unfoldable pub default_spot : ℤ → Scalar → Spot
+default_spot d Float = AtAbsent
+default_spot d Double = AtAbsent
+default_spot d s = AtDefault s d
+
+-- a field that is absent: a scalar that isn't optional has its default
+unfoldable pub absent_spot : Bool → ℤ → Kind → Spot
+absent_spot true d kind = AtAbsent
+absent_spot false d (AScalar s) = default_spot d s
+absent_spot false d _ = AtAbsent
+
+-- the field f of the table at t, if it stands at this place
+abbrev pub spot_at : List ℕ → ℕ → Live → Option ℕ → Spot
+spot_at b t f None = absent_spot f.optional f.default f.kind
+spot_at b t f (Some p) = present_spot b t f.slot p f.kind
+
+-- the field f of the table at t
+abbrev pub field_spot : List ℕ → ℕ → Live → Spot
+field_spot b t f = spot_at b t f (field_place b t f.slot)
+
+-- to the field with this number
+abbrev pub spot_of_field : List ℕ → Rows → Spot → ℕ → Option Spot
+spot_of_field b S (AtTable k t) n = option_map (field_spot b t) (numbered S k n)
+spot_of_field b S _ n = None
+
+-- a spot, if the vector at c has an element j
+abbrev pub if_element : List ℕ → ℕ → ℕ → Spot → Spot
+if_element b c j spot = if nat_lt j (word b c 4) then spot else AtNoElement
+
+-- to element j: the elements stand behind the count, in place or as offset words; a union has the j-th type
+unfoldable pub spot_of_element : List ℕ → Rows → Spot → ℕ → Option Spot
+spot_of_element b S (AtScalars s c) j = Some (if_element b c j (AtInline s (c + 4 + scalar_size s * j)))
+spot_of_element b S (AtStructs k c) j = Some (if_element b c j (AtStruct k (c + 4 + struct_size S k * j)))
+spot_of_element b S (AtTexts c) j = Some (if_element b c j (AtText (target b (c + 4 + 4 * j))))
+spot_of_element b S (AtTables k c) j = Some (if_element b c j (AtTable k (target b (c + 4 + 4 * j))))
+spot_of_element b S (AtUnions e q c) j = Some (if_element b c j (AtUnion e (word b (q + j) 1) (c + 4 + 4 * j)))
+spot_of_element b S _ j = None
+
+-- what an offset word at p of a union leads to; a member is of one of these three kinds
+unfoldable pub member_spot : List ℕ → ℕ → Kind → Spot
+member_spot b p (Table k) = AtTable k (target b p)
+member_spot b p (Struct k) = AtStruct k (target b p)
+member_spot b p Text = AtText (target b p)
+member_spot b p _ = AtOtherMember
+
+-- to the member with the value m: there if the type is m
+abbrev pub spot_of_member : List ℕ → Rows → Spot → ℕ → Option Spot
+spot_of_member b S (AtUnion e y p) m = option_map (λ kind. if y == m then member_spot b p kind else AtOtherMember) (member_of S e m)
+spot_of_member b S _ m = None

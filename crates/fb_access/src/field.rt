@@ -1,0 +1,166 @@
+// Where a field of a verified table leads.
+
+ghost use Rattle.std.specs.Prelude.{◌≡◌, ◌+◌, ◌-◌, ◌*◌, ◌^◌, ◌<◌, ◌≤◌, length, IfSome, IsTrue, Some, None, ℕ, option_map};
+ghost use Rattle.fb_bytes.specs.Word.{word};
+ghost use Rattle.fb_schema.specs.Rows.{is_table};
+ghost use Rattle.fb_schema.specs.Live.{live_of_view};
+ghost use Rattle.fb_verify.specs.Places.{target, vtable, field_place};
+ghost use Rattle.fb_verify.specs.Fields.{type_place, union_type, types_begin};
+ghost use Rattle.fb_verify.specs.Rows.{TypeFits, TypesFit};
+ghost use Rattle.fb_access.specs.Fitting.{numbered};
+ghost use Rattle.fb_access.specs.Spots.{present_spot, absent_spot, default_spot, field_spot};
+ghost use Rattle.fb_access.specs.Held.{HasVtable, IsReadable};
+
+use crate::spot::Spot;
+use fb_bytes::Window;
+use fb_schema::{FieldView, Kind, Scalar, Schema};
+
+/// The live field of a table with this number.
+pub fn field_numbered<'s, 'n>(
+    schema: &'s Schema<'n>,
+    object: u32,
+    number: u16,
+) -> Option<&'s FieldView<'n>>
+    requires { IsTrue (is_table schema.now object) }
+    ensures { option_map (λ f. live_of_view f.now) result ≡ numbered schema.now object number }
+{
+    for field in schema.fields_of(object) {
+        if field.number == number {
+            return Some(field);
+        }
+    }
+    None
+}
+
+/// Where the vtable of the table at a position stands.
+#[tactic(auto, unfolding(fb_verify::specs::Places::has_vtable, fb_verify::specs::Places::vtable))]
+fn vtable_of(window: &Window<'_>, at: u64) -> u64
+    requires short { length window.now < 2 ^ 31 }
+    requires table { HasVtable window.now at }
+    ensures { result ≡ vtable window.now at }
+{
+    (at as i64 - i64::from(window.i32_at(at))) as u64
+}
+
+/// Where the field with this slot stands in the table at a position, none where it is absent.
+#[tactic(auto, unfolding(fb_verify::specs::Places::field_place))]
+fn place_of(window: &Window<'_>, at: u64, slot: u16) -> Option<u64>
+    requires short { length window.now < 2 ^ 31 }
+    requires table { HasVtable window.now at }
+    ensures { result ≡ field_place window.now at slot }
+{
+    let vtable = vtable_of(window, at);
+    if u32::from(window.u16_at(vtable)) < u32::from(slot) + 2 {
+        return None;
+    }
+    let offset = window.u16_at(vtable + u64::from(slot));
+    if offset == 0 {
+        return None;
+    }
+    Some(at + u64::from(offset))
+}
+
+/// Where the offset word at a position leads.
+pub fn target_of(window: &Window<'_>, at: u64) -> u64
+    requires short { length window.now < 2 ^ 31 }
+    requires fits { at + 4 ≤ length window.now }
+    ensures { result ≡ target window.now at }
+{
+    at + u64::from(window.u32_at(at))
+}
+
+/// Where the type field stands of the union, or the vector of unions, with this slot. It has the slot before.
+fn type_place(window: &Window<'_>, at: u64, slot: u16) -> Option<u64>
+    requires short { length window.now < 2 ^ 31 }
+    requires table { HasVtable window.now at }
+    requires slot { 2 ≤ slot }
+    ensures { result ≡ type_place window.now at slot }
+{
+    place_of(window, at, slot - 2)
+}
+
+/// The type of the union with this slot, 0 where its type field is absent.
+fn type_of(window: &Window<'_>, at: u64, slot: u16) -> u8
+    requires short { length window.now < 2 ^ 31 }
+    requires table { HasVtable window.now at }
+    requires typed { TypeFits window.now at slot }
+    ensures { result ≡ union_type window.now (type_place window.now at slot) }
+{
+    match type_place(window, at, slot) {
+        None => 0,
+        Some(place) => window.u8_at(place),
+    }
+}
+
+/// Where the types begin of the vector of unions with this slot, 0 where their field is absent.
+fn types_of(window: &Window<'_>, at: u64, slot: u16) -> u64
+    requires short { length window.now < 2 ^ 31 }
+    requires table { HasVtable window.now at }
+    requires typed { TypesFit window.now at slot }
+    ensures { result ≡ types_begin window.now (type_place window.now at slot) }
+{
+    match type_place(window, at, slot) {
+        None => 0,
+        Some(place) => target_of(window, place) + 4,
+    }
+}
+
+/// An absent scalar that isn't optional: its default, and nothing for a float.
+#[tactic(auto, unfolding(crate::specs::Spots::default_spot))]
+fn default_of(default: i64, scalar: Scalar) -> Spot
+    ensures { result ≡ default_spot default scalar }
+{
+    match scalar {
+        Scalar::Float | Scalar::Double => Spot::AtAbsent,
+        _ => Spot::AtDefault(scalar, default),
+    }
+}
+
+/// What an absent field is.
+#[tactic(auto, unfolding(crate::specs::Spots::absent_spot))]
+fn absent(field: &FieldView<'_>) -> Spot
+    ensures { result ≡ absent_spot (field.now).optional (field.now).default (field.now).kind }
+{
+    match field.kind {
+        Kind::Scalar(scalar) if !field.optional => default_of(field.default, scalar),
+        _ => Spot::AtAbsent,
+    }
+}
+
+/// Where a field of the table at a position leads that is present at `place`.
+#[tactic(auto, unfolding(crate::specs::Spots::present_spot))]
+fn present(window: &Window<'_>, at: u64, slot: u16, place: u64, kind: Kind) -> Spot
+    requires short { length window.now < 2 ^ 31 }
+    requires table { HasVtable window.now at }
+    requires readable { IsReadable window.now at slot place kind }
+    ensures { result ≡ present_spot window.now at slot place kind }
+{
+    match kind {
+        Kind::Scalar(scalar) => Spot::AtInline(scalar, place),
+        Kind::Struct(object) => Spot::AtStruct(object, place),
+        Kind::Union(union) => Spot::AtUnion(union, type_of(window, at, slot), place),
+        Kind::Text => Spot::AtText(target_of(window, place)),
+        Kind::Table(object) => Spot::AtTable(object, target_of(window, place)),
+        Kind::Scalars(scalar) => Spot::AtScalars(scalar, target_of(window, place)),
+        Kind::Structs(object) => Spot::AtStructs(object, target_of(window, place)),
+        Kind::Texts => Spot::AtTexts(target_of(window, place)),
+        Kind::Tables(object) => Spot::AtTables(object, target_of(window, place)),
+        Kind::Unions(union) => {
+            let types = types_of(window, at, slot);
+            Spot::AtUnions(union, types, target_of(window, place))
+        }
+    }
+}
+
+/// Where a field of the table at a position leads.
+pub fn spot_of(window: &Window<'_>, at: u64, field: &FieldView<'_>) -> Spot
+    requires short { length window.now < 2 ^ 31 }
+    requires table { HasVtable window.now at }
+    requires readable { IfSome (field_place window.now at (field.now).slot) (λ p. IsReadable window.now at (field.now).slot p (field.now).kind) }
+    ensures { result ≡ field_spot window.now at (live_of_view field.now) }
+{
+    match place_of(window, at, field.slot) {
+        None => absent(field),
+        Some(place) => present(window, at, field.slot, place, field.kind),
+    }
+}

@@ -1,0 +1,32 @@
+//! Reads values out of a verified buffer by a path, without generated code and without a check of one's own.
+#![tactic(auto)]
+
+mod answer;
+mod field;
+mod misfit;
+mod next;
+mod path;
+mod path_fault;
+pub mod path_laws;
+mod pieces;
+mod place;
+pub mod place_laws;
+mod scan;
+mod spot;
+pub mod step;
+mod value;
+
+pub use answer::Answer;
+pub use path::Path;
+pub use path_fault::PathFault;
+pub use place::{Place, at_root, get};
+pub use step::Step;
+
+#[cfg(test)]
+mod fixtures;
+#[cfg(test)]
+mod get_tests;
+#[cfg(test)]
+mod path_tests;
+#[cfg(test)]
+mod tests;

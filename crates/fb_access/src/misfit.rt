@@ -1,0 +1,109 @@
+// The steps that the parts of a path are at a kind.
+
+ghost use Rattle.std.specs.Prelude.{◌≡◌};
+ghost use Rattle.fb_access.specs.Grammar.{Part};
+ghost use Rattle.fb_access.specs.Cutting.{IsPieceOf};
+ghost use Rattle.fb_access.specs.Fitting.{element_kind};
+ghost use Rattle.fb_access.specs.Kept.{IsThere};
+ghost use Rattle.fb_access.specs.Resolving.{fitting, field_step, element_step, member_step};
+
+use crate::pieces::Piece;
+use crate::step::Step;
+use fb_schema::{Kind, Schema};
+
+/// Why a part of a path is no step.
+#[derive(Clone, Copy, Debug, PartialEq, Eq)]
+pub enum Misfit {
+    /// The table has no live field of this name.
+    NoSuchField,
+    /// An element of what is no vector.
+    NotIndexable,
+    /// A member of what is no union.
+    NotAUnion,
+    /// The union has no member of this name.
+    NoSuchMember,
+    /// A field of what is no table.
+    NotATable,
+}
+
+/// A step, and the kind to which it leads.
+#[derive(Clone, Copy, Debug, PartialEq, Eq)]
+pub struct Fitted {
+    pub step: Step,
+    pub kind: Kind,
+}
+
+fn field_step(schema: &Schema<'_>, kind: Kind, name: &[u8]) -> Result<Fitted, Misfit>
+    requires { IsThere schema.now kind }
+    ensures { result ≡ field_step schema.now kind name.now }
+{
+    let Kind::Table(table) = kind else {
+        return Err(Misfit::NotATable);
+    };
+    let Some(place) = schema.field_named(table, name) else {
+        return Err(Misfit::NoSuchField);
+    };
+    let field = schema.field_at(table, place);
+    Ok(Fitted {
+        step: Step::Field(field.number),
+        kind: field.kind,
+    })
+}
+
+fn element_kind(kind: Kind) -> Option<Kind>
+    ensures { result ≡ element_kind kind }
+{
+    match kind {
+        Kind::Scalars(scalar) => Some(Kind::Scalar(scalar)),
+        Kind::Texts => Some(Kind::Text),
+        Kind::Structs(object) => Some(Kind::Struct(object)),
+        Kind::Tables(table) => Some(Kind::Table(table)),
+        Kind::Unions(union) => Some(Kind::Union(union)),
+        Kind::Scalar(_) | Kind::Text | Kind::Struct(_) | Kind::Table(_) | Kind::Union(_) => None,
+    }
+}
+
+fn element_step(kind: Kind, number: u32) -> Result<Fitted, Misfit>
+    ensures { result ≡ element_step kind number }
+{
+    match element_kind(kind) {
+        Some(kind) => Ok(Fitted {
+            step: Step::Element(number),
+            kind,
+        }),
+        None => Err(Misfit::NotIndexable),
+    }
+}
+
+fn member_step(schema: &Schema<'_>, kind: Kind, name: &[u8]) -> Result<Fitted, Misfit>
+    requires { IsThere schema.now kind }
+    ensures { result ≡ member_step schema.now kind name.now }
+{
+    let Kind::Union(union) = kind else {
+        return Err(Misfit::NotAUnion);
+    };
+    let Some(value) = schema.member_named(union, name) else {
+        return Err(Misfit::NoSuchMember);
+    };
+    schema.lawful();
+    Ok(Fitted {
+        step: Step::Member(value),
+        kind: schema.member_of(union, value).unwrap(),
+    })
+}
+
+/// The step that a part of a path is at a kind, with the kind to which it leads.
+///
+/// # Errors
+///
+/// Why it is none.
+pub fn fit(schema: &Schema<'_>, kind: Kind, piece: Piece<'_>) -> Result<Fitted, Misfit>
+    requires { IsThere schema.now kind }
+    ensures { (part : Part) → IsPieceOf part piece.entry → result ≡ fitting schema.now kind part }
+{
+    match piece {
+        Piece::Field(name) => field_step(schema, kind, name),
+        Piece::Element(number) => element_step(kind, number),
+        Piece::Member(name) => member_step(schema, kind, name),
+    }
+}

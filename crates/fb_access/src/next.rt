@@ -1,0 +1,147 @@
+// One step from a spot to the next.
+
+ghost use Rattle.std.specs.Prelude.{◌≡◌, ◌+◌, ◌*◌, ◌^◌, ◌<◌, ◌≤◌, length, IfSome, MatchOption, Some};
+ghost use Rattle.fb_bytes.specs.Word.{word};
+ghost use Rattle.fb_schema.specs.Served.{MemberHolds};
+ghost use Rattle.fb_verify.specs.Fields.{lead_of};
+ghost use Rattle.fb_access.specs.Spots.{spot_of_field, spot_of_element, spot_of_member, member_spot};
+ghost use Rattle.fb_access.specs.Denotes.{next_spot};
+ghost use Rattle.fb_access.specs.Held.{IsSpot, IsCounted, IsLed};
+
+use crate::field::{field_numbered, spot_of, target_of};
+use crate::spot::Spot;
+use crate::step::Step;
+use crate::value::{scalar_size, struct_size};
+use fb_bytes::Window;
+use fb_schema::{Kind, Schema};
+
+/// From a table to its live field with this number.
+#[tactic(auto, unfolding(crate::specs::Held::IsSpot))]
+fn spot_of_field(window: &Window<'_>, schema: &Schema<'_>, spot: Spot, number: u16) -> Option<Spot>
+    requires short { length window.now < 2 ^ 31 }
+    requires spot { IsSpot window.now schema.now spot }
+    ensures value { result ≡ spot_of_field window.now schema.now spot number }
+    ensures spot { IfSome result (λ q. IsSpot window.now schema.now q) }
+{
+    let Spot::AtTable(object, at) = spot else {
+        return None;
+    };
+    schema.lawful();
+    match field_numbered(schema, object, number) {
+        None => None,
+        Some(field) => Some(spot_of(window, at, field)),
+    }
+}
+
+/// Where element `j` stands of the vector at a position, whose elements have this many bytes; none where there are no more than `j`.
+fn place_of_element(window: &Window<'_>, at: u64, size: u64, j: u32) -> Option<u64>
+    requires short { length window.now < 2 ^ 31 }
+    requires counted { IsCounted window.now at size }
+    ensures place { MatchOption result (word window.now at 4 ≤ j) (λ p. (j < word window.now at 4) × (p ≡ at + 4 + size * j)) }
+    ensures within { IfSome result (λ p. p + size ≤ length window.now) }
+{
+    if j < window.u32_at(at) {
+        Some(at + 4 + size * u64::from(j))
+    } else {
+        None
+    }
+}
+
+/// From a vector to its element `j`.
+#[tactic(auto, unfolding(crate::specs::Spots::spot_of_element, crate::specs::Held::IsSpot))]
+fn spot_of_element(window: &Window<'_>, schema: &Schema<'_>, spot: Spot, j: u32) -> Option<Spot>
+    requires short { length window.now < 2 ^ 31 }
+    requires spot { IsSpot window.now schema.now spot }
+    ensures value { result ≡ spot_of_element window.now schema.now spot j }
+    ensures spot { IfSome result (λ q. IsSpot window.now schema.now q) }
+{
+    match spot {
+        Spot::AtScalars(scalar, at) => {
+            match place_of_element(window, at, scalar_size(scalar), j) {
+                None => Some(Spot::AtNoElement),
+                Some(place) => Some(Spot::AtInline(scalar, place)),
+            }
+        }
+        Spot::AtStructs(object, at) => {
+            match place_of_element(window, at, struct_size(schema, object), j) {
+                None => Some(Spot::AtNoElement),
+                Some(place) => Some(Spot::AtStruct(object, place)),
+            }
+        }
+        Spot::AtTexts(at) => match place_of_element(window, at, 4, j) {
+            None => Some(Spot::AtNoElement),
+            Some(place) => Some(Spot::AtText(target_of(window, place))),
+        },
+        Spot::AtTables(object, at) => match place_of_element(window, at, 4, j) {
+            None => Some(Spot::AtNoElement),
+            Some(place) => Some(Spot::AtTable(object, target_of(window, place))),
+        },
+        Spot::AtUnions(union, types, at) => match place_of_element(window, at, 4, j) {
+            None => Some(Spot::AtNoElement),
+            Some(place) => {
+                let type_byte = window.u8_at(types + u64::from(j));
+                Some(Spot::AtUnion(union, type_byte, place))
+            }
+        },
+        _ => None,
+    }
+}
+
+/// Where the offset word at a position of a union leads, whose type has this member.
+#[tactic(auto, unfolding(crate::specs::Spots::member_spot, crate::specs::Held::IsSpot))]
+fn spot_at_member(window: &Window<'_>, schema: &Schema<'_>, place: u64, member: Kind) -> Spot
+    requires short { length window.now < 2 ^ 31 }
+    requires member { MemberHolds schema.now (Some member) }
+    requires led { IsLed window.now schema.now place (lead_of schema.now (Some member)) }
+    ensures value { result ≡ member_spot window.now place member }
+    ensures spot { IsSpot window.now schema.now result }
+{
+    match member {
+        Kind::Table(object) => Spot::AtTable(object, target_of(window, place)),
+        Kind::Struct(object) => Spot::AtStruct(object, target_of(window, place)),
+        Kind::Text => Spot::AtText(target_of(window, place)),
+        _ => Spot::AtOtherMember,
+    }
+}
+
+/// From a union to its member with this value.
+#[tactic(auto, unfolding(crate::specs::Held::IsSpot))]
+fn spot_of_member(window: &Window<'_>, schema: &Schema<'_>, spot: Spot, value: u8) -> Option<Spot>
+    requires short { length window.now < 2 ^ 31 }
+    requires spot { IsSpot window.now schema.now spot }
+    ensures value { result ≡ spot_of_member window.now schema.now spot value }
+    ensures spot { IfSome result (λ q. IsSpot window.now schema.now q) }
+{
+    let Spot::AtUnion(union, type_byte, place) = spot else {
+        return None;
+    };
+    schema.lawful();
+    match schema.member_of(union, value) {
+        None => None,
+        Some(member) => {
+            if type_byte == value {
+                Some(spot_at_member(window, schema, place, member))
+            } else {
+                Some(Spot::AtOtherMember)
+            }
+        }
+    }
+}
+
+/// The spot to which a step leads from this one, none where it has no such step.
+#[tactic(auto, unfolding(crate::specs::Denotes::next_spot))]
+pub fn next_spot(window: &Window<'_>, schema: &Schema<'_>, spot: Spot, step: Step) -> Option<Spot>
+    requires short { length window.now < 2 ^ 31 }
+    requires spot { IsSpot window.now schema.now spot }
+    ensures value { result ≡ next_spot window.now schema.now spot step }
+    ensures spot { IfSome result (λ q. IsSpot window.now schema.now q) }
+{
+    match spot {
+        Spot::AtAbsent | Spot::AtNoElement | Spot::AtOtherMember => Some(spot),
+        _ => match step {
+            Step::Field(number) => spot_of_field(window, schema, spot, number),
+            Step::Element(j) => spot_of_element(window, schema, spot, j),
+            Step::Member(value) => spot_of_member(window, schema, spot, value),
+        },
+    }
+}

@@ -1,0 +1,116 @@
+// Paths: steps from a root table, written by names.
+
+ghost use Rattle.std.specs.Prelude.{◌≡◌, IfOk, IfErr, IsTrue};
+ghost use Rattle.fb_schema.specs.declared.kinds.Kind.{Kind};
+ghost use Rattle.fb_schema.specs.Rows.{is_table};
+ghost use Rattle.fb_access.specs.Grammar.{IsPath};
+ghost use Rattle.fb_access.specs.Fitting.{StepsFit};
+ghost use Rattle.fb_access.specs.Resolving.{Resolves, Refuses, fault_of};
+
+use crate::misfit::{Misfit, fit};
+use crate::path_fault::PathFault;
+use crate::pieces::cut_part;
+use crate::scan::check_text;
+use crate::step::Step;
+use fb_schema::{Kind, Schema};
+use std::alloc::{Allocator, Global};
+use std::marker::Model;
+
+/// The steps that a text names from a root table. Contracts see them as a list.
+#[derive(Drop)]
+pub struct Path<A: Allocator = Global> {
+    steps: Vec<Step, A>,
+}
+
+impl<A: Allocator> Model for Path<A> {
+    ghost use Rattle.std.specs.Prelude.{List};
+    ghost use Rattle.fb_access.specs.declared.step.Step.{Step};
+
+    ghost Value = { List Step };
+
+    ghost view = { λ p. p.steps.items };
+}
+
+impl<A: Allocator> Path<A> {
+    /// The path that a text names from the table `root`.
+    ///
+    /// The text is the name of a field, and then any number of `.name` (a field), `[n]` (an element) and `@Name` (the member of
+    /// a union). A name is a letter or `_` and then letters, digits and `_`, all ASCII. n is `0`, or digits of which the first
+    /// isn't `0`, and at most 4294967295. Only live fields can be named, and only members with values from 1 to 255.
+    ///
+    /// # Errors
+    ///
+    /// P1 where the text isn't of this grammar. Where it is, P2 to P6 for the first step that doesn't fit. P7 where memory was
+    /// refused, in place of any.
+    pub fn resolve(
+        alloc: A,
+        schema: &Schema<'_>,
+        root: u32,
+        text: &[u8],
+    ) -> Result<Path<A>, PathFault>
+        requires { IsTrue (is_table schema.now root) }
+        ensures steps { IfOk result (λ p. Resolves schema.now root text.now p) }
+        ensures fit { IfOk result (λ p. StepsFit schema.now (Kind.Table root) p) }
+        ensures refused { IfErr result (λ f. Refuses schema.now root text.now f) }
+    {
+        match check_text(text) {
+            Ok(()) => {
+                let steps = follow(alloc, schema, root, text)?;
+                Ok(Path { steps })
+            }
+            Err(at) => Err(PathFault::BadText { at }),
+        }
+    }
+
+    /// The steps, from the root on.
+    pub fn steps(&self) -> &[Step]
+        ensures { result.now ≡ self.now }
+    {
+        &self.steps
+    }
+}
+
+/// The fault of the step of this number.
+fn fault_at(misfit: Misfit, step: u64) -> PathFault
+    ensures { result ≡ fault_of misfit step }
+{
+    match misfit {
+        Misfit::NoSuchField => PathFault::NoSuchField { step },
+        Misfit::NotIndexable => PathFault::NotIndexable { step },
+        Misfit::NotAUnion => PathFault::NotAUnion { step },
+        Misfit::NoSuchMember => PathFault::NoSuchMember { step },
+        Misfit::NotATable => PathFault::NotATable { step },
+    }
+}
+
+/// The steps that the parts of a path are from the root.
+fn follow<A: Allocator>(
+    alloc: A,
+    schema: &Schema<'_>,
+    root: u32,
+    text: &[u8],
+) -> Result<Vec<Step, A>, PathFault>
+    requires root { IsTrue (is_table schema.now root) }
+    requires path { IsPath text.now }
+    ensures steps { IfOk result (λ p. Resolves schema.now root text.now p.items) }
+    ensures fit { IfOk result (λ p. StepsFit schema.now (Kind.Table root) p.items) }
+    ensures refused { IfErr result (λ f. Refuses schema.now root text.now f) }
+{
+    schema.lawful();
+    let mut steps = Vec::new(alloc);
+    let mut kind = Kind::Table(root);
+    let mut rest = text;
+    while let Some(part) = cut_part(rest) {
+        match fit(schema, kind, part.piece) {
+            Ok(fitted) => {
+                let Ok(()) = steps.push(fitted.step) else {
+                    return Err(PathFault::OutOfMemory);
+                };
+                kind = fitted.kind;
+            }
+            Err(misfit) => return Err(fault_at(misfit, steps.len() as u64)),
+        }
+        rest = part.rest;
+    }
+    Ok(steps)
+}

@@ -1,0 +1,123 @@
+// A place in a verified buffer.
+
+ghost use Rattle.std.specs.Prelude.{◌≡◌, ℕ, ◌*◌, ◌≤◌, length, IsTrue};
+ghost use Rattle.fb_schema.specs.declared.kinds.Kind.TheVariants.{Table as TableKind, Tables};
+ghost use Rattle.fb_verify.specs.WellFormed.{base};
+ghost use Rattle.fb_access.specs.Fitting.{StepsFit};
+ghost use Rattle.fb_access.specs.Denotes.{Leads, allows, root_spot, Denotes, value, shown, vector};
+ghost use Rattle.fb_access.specs.Here.{KindsGoOn, HereGoesOn, IsNarrow, IsHere};
+
+use crate::answer::Answer;
+use crate::field::target_of;
+use crate::next::next_spot;
+use crate::path::Path;
+use crate::spot::Spot;
+use crate::step::Step;
+use crate::value::value_at;
+use fb_verify::{Start, Verified};
+use std::alloc::Allocator;
+use std::marker::Model;
+
+/// A place in a verified buffer: what is there, and where it stands.
+///
+/// A contract sees it as what was verified and a spot. It lends the verified buffer; its answers lend the bytes alone.
+#[derive(Drop)]
+pub struct Place<'v, 'b, 's, 'n> {
+    verified: &'v Verified<'b, 's, 'n>,
+    spot: Spot,
+}
+
+impl<'v, 'b, 's, 'n> Model for Place<'v, 'b, 's, 'n> {
+    ghost use Rattle.fb_access.specs.Held.{Placed, IsPlaced};
+
+    ghost Value = { Placed };
+
+    ghost view = { λ p. record { sealed = p.verified.now; spot = p.spot } };
+
+    ghost invariant = { λ p. IsPlaced (record { sealed = p.verified.now; spot = p.spot }) };
+}
+
+/// Where the root offset stands in a buffer that begins so.
+fn base_of(start: Start) -> u64
+    ensures { result ≡ base start }
+{
+    match start {
+        Start::Bare => 0,
+        Start::Prefixed => 4,
+    }
+}
+
+/// The root table of a verified buffer.
+pub fn at_root<'v, 'b, 's, 'n>(verified: &'v Verified<'b, 's, 'n>) -> Place<'v, 'b, 's, 'n>
+    ensures { result ≡ record { sealed = verified.now; spot = root_spot (verified.now).bytes (verified.now).start (verified.now).root } }
+{
+    let at = target_of(verified.window(), base_of(verified.start()));
+    Place {
+        verified,
+        spot: Spot::AtTable(verified.root(), at),
+    }
+}
+
+impl<'v, 'b, 's, 'n> Place<'v, 'b, 's, 'n> {
+    /// Whether what is here has this step: a table its live fields, a vector every element's number, a union the members of its enum.
+    /// Where nothing is, every step is allowed.
+    pub fn allows(&self, step: Step) -> bool
+        ensures { result ≡ allows ((self.now).sealed).schema (self.now).spot step }
+    {
+        let verified = self.verified;
+        next_spot(verified.window(), verified.schema(), self.spot, step).is_some()
+    }
+
+    /// One step on. An absent field without a default, an element past the count and a member of another type lead to where nothing
+    /// is; from there every step leads to the same.
+    pub fn go(&self, step: Step) -> Self
+        requires { IsTrue (allows ((self.now).sealed).schema (self.now).spot step) }
+        ensures same { result.sealed ≡ (self.now).sealed }
+        ensures leads { Leads ((self.now).sealed).bytes ((self.now).sealed).schema (self.now).spot step result.spot }
+        // For who knows the schema: from a spot of a kind it leads to one of the next kind, and to a field that is required or has a
+        // default it leads for certain.
+        ensures kinds { KindsGoOn ((self.now).sealed).schema (self.now).spot step result.spot }
+        ensures here { HereGoesOn ((self.now).sealed).schema (self.now).spot step result.spot }
+    {
+        let verified = self.verified;
+        verified.schema().lawful();
+        match next_spot(verified.window(), verified.schema(), self.spot, step) {
+            Some(spot) => Place { verified, spot },
+            None => unreachable!(),
+        }
+    }
+
+    /// What is here.
+    pub fn answer(&self) -> Answer<'b>
+        ensures shown { shown result ≡ value ((self.now).sealed).bytes ((self.now).sealed).schema (self.now).spot }
+        // A number fits its scalar.
+        ensures narrow { IsNarrow (self.now).spot result }
+        // There are no more tables in a vector than their offset words have room.
+        ensures tables { (k n : ℕ) → IsHere (self.now).spot (Tables k) → shown result ≡ vector n → 4 * n ≤ length ((self.now).sealed).bytes }
+    {
+        let verified = self.verified;
+        value_at(verified.window(), verified.schema(), self.spot)
+    }
+}
+
+/// What stands at the end of these steps from the root table.
+fn get_steps<'b, 's, 'n>(verified: &Verified<'b, 's, 'n>, steps: &[Step]) -> Answer<'b>
+    requires { StepsFit (verified.now).schema (TableKind (verified.now).root) steps.now }
+    ensures { Denotes (verified.now).bytes (verified.now).schema (verified.now).start (verified.now).root steps.now (shown result) }
+{
+    let mut place = at_root(verified);
+    for step in steps {
+        place = place.go(*step);
+    }
+    place.answer()
+}
+
+/// What a path leads to in a verified buffer.
+///
+/// The path must fit the schema and the root of the verification, as [`Path::resolve`] gives it for both.
+pub fn get<'b, A: Allocator>(verified: &Verified<'b, '_, '_>, path: &Path<A>) -> Answer<'b>
+    requires { StepsFit (verified.now).schema (TableKind (verified.now).root) path.now }
+    ensures { Denotes (verified.now).bytes (verified.now).schema (verified.now).start (verified.now).root path.now (shown result) }
+{
+    get_steps(verified, path.steps())
+}

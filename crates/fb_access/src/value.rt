@@ -1,0 +1,133 @@
+// The value at a spot.
+
+ghost use Rattle.std.specs.Prelude.{◌≡◌, ◌+◌, ◌*◌, ◌^◌, ◌%◌, ◌<◌, ◌≤◌, length, take, drop};
+ghost use Rattle.fb_bytes.specs.Word.{word};
+ghost use Rattle.fb_schema.specs.Kinds.{scalar_size, struct_size};
+ghost use Rattle.fb_access.specs.Denotes.{number, inline_value, default_value, value, shown};
+ghost use Rattle.fb_access.specs.Held.{IsSpot};
+ghost use Rattle.fb_access.specs.Here.{FitsScalar, IsNarrow};
+
+use crate::answer::Answer;
+use crate::spot::Spot;
+use fb_bytes::Window;
+use fb_schema::{Scalar, Schema};
+
+/// The bytes of a scalar.
+pub fn scalar_size(scalar: Scalar) -> u64
+    ensures { result ≡ scalar_size scalar }
+{
+    match scalar {
+        Scalar::UType | Scalar::Bool | Scalar::Byte | Scalar::UByte => 1,
+        Scalar::Short | Scalar::UShort => 2,
+        Scalar::Int | Scalar::UInt | Scalar::Float => 4,
+        Scalar::Long | Scalar::ULong | Scalar::Double => 8,
+    }
+}
+
+/// The bytes of a struct.
+pub fn struct_size(schema: &Schema<'_>, object: u32) -> u64
+    requires { object < length schema.now.objects }
+    ensures { result ≡ struct_size schema.now object }
+{
+    u64::from(schema.object(object).bytesize.unsigned_abs())
+}
+
+/// The answer whose bytes are this number, the lowest first. A float has none.
+#[tactic(auto, unfolding(crate::specs::Denotes::number))]
+fn number_of<'b>(scalar: Scalar, bytes: u64) -> Answer<'b>
+    requires { bytes < 256 ^ scalar_size scalar }
+    ensures shown { shown result ≡ number scalar bytes }
+    ensures fits { FitsScalar scalar result }
+{
+    match scalar {
+        Scalar::Bool => Answer::Bool(bytes != 0),
+        Scalar::Byte => Answer::Int(i64::from((bytes as u8).cast_signed())),
+        Scalar::Short => Answer::Int(i64::from((bytes as u16).cast_signed())),
+        Scalar::Int => Answer::Int(i64::from((bytes as u32).cast_signed())),
+        Scalar::Long => Answer::Int(bytes.cast_signed()),
+        Scalar::UType | Scalar::UByte | Scalar::UShort | Scalar::UInt | Scalar::ULong => {
+            Answer::UInt(bytes)
+        }
+        Scalar::Float | Scalar::Double => Answer::Absent,
+    }
+}
+
+/// The number in the bytes of a scalar at a position.
+fn word_of(window: &Window<'_>, at: u64, scalar: Scalar) -> u64
+    requires { at + scalar_size scalar ≤ length window.now }
+    ensures value { result ≡ word window.now at (scalar_size scalar) }
+    ensures fits { result < 256 ^ scalar_size scalar }
+{
+    match scalar_size(scalar) {
+        1 => u64::from(window.u8_at(at)),
+        2 => u64::from(window.u16_at(at)),
+        4 => u64::from(window.u32_at(at)),
+        _ => window.u64_at(at),
+    }
+}
+
+/// A scalar at a position.
+#[tactic(auto, unfolding(crate::specs::Denotes::inline_value))]
+fn inline_at<'b>(window: &Window<'b>, at: u64, scalar: Scalar) -> Answer<'b>
+    requires { at + scalar_size scalar ≤ length window.now }
+    ensures shown { shown result ≡ inline_value window.now at scalar }
+    ensures fits { FitsScalar scalar result }
+{
+    match scalar {
+        Scalar::Float => Answer::Float(window.bytes(at, 4)),
+        Scalar::Double => Answer::Float(window.bytes(at, 8)),
+        _ => number_of(scalar, word_of(window, at, scalar)),
+    }
+}
+
+/// An absent scalar with this default: its low bytes, as many as the scalar has.
+#[tactic(auto, unfolding(crate::specs::Denotes::default_value))]
+fn default_at<'b>(default: i64, scalar: Scalar) -> Answer<'b>
+    ensures shown { shown result ≡ default_value scalar default }
+    ensures fits { FitsScalar scalar result }
+{
+    let bytes = default.cast_unsigned();
+    let low = match scalar_size(scalar) {
+        1 => bytes % 0x100,
+        2 => bytes % 0x1_0000,
+        4 => bytes % 0x1_0000_0000,
+        _ => bytes,
+    };
+    number_of(scalar, low)
+}
+
+/// The string at a position.
+fn text_at<'b>(window: &Window<'b>, at: u64) -> &'b [u8]
+    requires short { length window.now < 2 ^ 31 }
+    requires count { at + 4 ≤ length window.now }
+    requires within { at + 4 + word window.now at 4 ≤ length window.now }
+    ensures { result.now ≡ take (word window.now at 4) (drop (at + 4) window.now) }
+{
+    window.bytes(at + 4, u64::from(window.u32_at(at)))
+}
+
+/// The value at a spot.
+#[tactic(auto, unfolding(crate::specs::Denotes::value, crate::specs::Held::IsSpot))]
+pub fn value_at<'b>(window: &Window<'b>, schema: &Schema<'_>, spot: Spot) -> Answer<'b>
+    requires short { length window.now < 2 ^ 31 }
+    requires spot { IsSpot window.now schema.now spot }
+    ensures shown { shown result ≡ value window.now schema.now spot }
+    ensures narrow { IsNarrow spot result }
+{
+    match spot {
+        Spot::AtTable(_, _) => Answer::Table,
+        Spot::AtInline(scalar, at) => inline_at(window, at, scalar),
+        Spot::AtStruct(object, at) => Answer::Struct(window.bytes(at, struct_size(schema, object))),
+        Spot::AtText(at) => Answer::Text(text_at(window, at)),
+        Spot::AtScalars(_, at)
+        | Spot::AtStructs(_, at)
+        | Spot::AtTexts(at)
+        | Spot::AtTables(_, at)
+        | Spot::AtUnions(_, _, at) => Answer::Vector(window.u32_at(at)),
+        Spot::AtUnion(_, value, _) => Answer::Union(value),
+        Spot::AtDefault(scalar, default) => default_at(default, scalar),
+        Spot::AtAbsent => Answer::Absent,
+        Spot::AtNoElement => Answer::NoElement,
+        Spot::AtOtherMember => Answer::OtherMember,
+    }
+}
