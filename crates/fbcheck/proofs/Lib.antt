@@ -1,1 +1,10 @@
+mod BareLemmas
+mod DefaultLemmas
+mod FrontLemmas
+mod LineLemmas
+mod LinesLemmas
 mod Pieces
+mod ProgramLemmas
+mod RunLemmas
+mod StreamLemmas
+mod WordsLemmas

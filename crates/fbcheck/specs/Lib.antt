@@ -1,3 +1,11 @@
 pub mod Bare
+pub mod CommandLine
+pub mod Faults
+pub mod Job
 pub mod Line
+pub mod Lines
+pub mod Refusal
+pub mod Run
+pub mod Stream
 pub mod TableM
+pub mod Values

@@ -3,12 +3,17 @@
 ghost use Rattle.std.specs.Prelude.{IfOk, IfErr, OnOk, OnErr, ◌≡◌, ◌+◌, ◌-◌, ◌<◌, ◌≤◌, ◌^◌, ◌++◌, length, take, true, ℕ, List, Option};
 ghost use Rattle.std.specs.Io.KnownBytes.{Consumes, Keeps};
 ghost use Rattle.fb_bytes.specs.Ends.{failed};
-ghost use Rattle.fbcheck.specs.Bare.{FailsBare, IsCaused};
+ghost use Rattle.fbcheck.specs.Bare.{FailsBare};
+ghost use Rattle.fbcheck.specs.Faults.{IsCaused};
+ghost use Rattle.fbcheck.specs.Job.{Job};
 
-use crate::run::RunFault;
+use crate::fault::RunFault;
 use fb_bytes::Source;
 use std::alloc::{AllocError, Allocator};
 use std::io;
+
+/// The most reads of one run.
+pub const MOST_TURNS: u64 = 0x1_0000_0000;
 
 /// The length of the read buffer, in bytes.
 pub const PIECE: usize = 65_536;
@@ -23,7 +28,10 @@ pub fn read_buffer<A: Allocator>(alloc: A) -> Result<Vec<u8, A>, AllocError>
 }
 
 /// One read into the read buffer, and how many bytes came: none only at the end of the input.
-fn pull_piece<A: Allocator, S: Source>(source: &mut S, piece: &mut Vec<u8, A>) -> io::Result<usize>
+pub fn pull_piece<A: Allocator, S: Source>(
+    source: &mut S,
+    piece: &mut Vec<u8, A>,
+) -> io::Result<usize>
     requires room { 0 < length piece.old.items }
     requires calls { S.calls source.old < 2 ^ 100 }
     ensures room { length piece.new.items ≡ length piece.old.items }
@@ -62,10 +70,10 @@ pub fn read_whole<A: Allocator, B: Allocator, S: Source>(
     ensures ok { IfOk result (λ whole. Consumes (S.remaining source.old) (S.remaining source.new) whole.items) }
     ensures within { IfOk result (λ whole. length whole.items ≤ limit) }
     ensures end { OnOk result (S.ended source.new ≡ true) }
-    ensures fault { IfErr result (λ fault. (sink : Option (List ℕ))
-        → FailsBare limit (S.remaining source.old) (S.remaining source.new) sink sink fault) }
+    ensures fault { IfErr result (λ fault. (job : Job) (sink : Option (List ℕ))
+        → FailsBare job limit (S.remaining source.old) (S.remaining source.new) sink sink fault) }
     ensures cause { IfErr result (λ fault. (refusals : ℕ) → IsCaused (S.failures source.old) (S.failures source.new)
-        refusals refusals (S.calls source.old + turns - S.calls source.new) fault) }
+        refusals refusals (S.calls source.old + turns - S.calls source.new) (S.ended source.new) fault) }
     ensures turns { S.calls source.new ≤ S.calls source.old + turns }
 {
     let mut whole = Vec::new(alloc);

@@ -28,6 +28,8 @@ pub fn push_all<K: Sink>(sink: &mut K, text: &[u8]) -> usize
     ensures within { result ≤ length text.now }
     ensures bytes { Appends (K.contents sink.old) (K.contents sink.new) (take result text.now) }
     ensures failed { result < length text.now → K.failures sink.old < K.failures sink.new }
+    ensures failures { K.failures sink.old ≤ K.failures sink.new }
+    ensures calls { K.calls sink.new ≤ K.calls sink.old + length text.now }
 {
     let mut at = 0;
     while at < text.len() {
