@@ -1,0 +1,147 @@
+-- What frames keep, and what work is left to them.
+use Rattle.std.proofs.Common.{◌≡◌, ℕ, zero, suc, ◌+◌, ◌*◌, ◌^◌, ◌<◌, ◌≤◌, IsTrue, List, [], ◌∷◌, length, map, refl, sym, ◌∙◌, ap, subst, arith, Option, Some, None, Result, Ok, Err, IfErr}
+use Rattle.std.specs.Prelude.{slice_get}
+use Rattle.std.specs.Result.{IsErrAnd}
+use Rattle.std.specs.Borrow.{Bor}
+use Rattle.std.specs.Slice.{IsItemAt}
+use Rattle.std.proofs.lemmas.Option.{slice_get-get_or}
+use Rattle.fb_schema.specs.declared.kinds.Kind.{Kind}
+use Rattle.fb_schema.specs.declared.kinds.Kind.TheVariants.{Scalar, Text, Struct, Table, Union, Scalars, Texts, Structs, Tables, Unions}
+use Rattle.fb_schema.specs.Rows.{Rows, Object, is_table, is_some_table}
+use Rattle.fb_schema.specs.Live.{Live, live_fields}
+use Rattle.fb_schema.specs.Served.{IsServed}
+use Rattle.fb_verify.specs.declared.checks.Checks.{Checks}
+use Rattle.fb_verify.specs.declared.field.Table.{Table as TableOf}
+use Rattle.fb_verify.specs.declared.row.Leads.{Leads}
+use Rattle.fb_verify.specs.declared.row.Leads.TheVariants.{All, ByType}
+use Rattle.fb_verify.specs.declared.row.Row.{Row}
+use Rattle.fb_verify.specs.declared.scratch.Frame.{Frame}
+use Rattle.fb_verify.specs.Cost.{head_reads, slot_reads, reads_if_present, present_reads, reads_at, own_reads, lead_reads}
+use Rattle.fb_verify.specs.Places.{field_place}
+use Rattle.fb_verify.specs.Fields.{Lead, to_table, to_struct, to_string, to_nothing, type_place}
+use Rattle.fb_verify.specs.Told.{IsHead}
+use Rattle.fb_verify.specs.Rows.{first_word, word_at, past_first, IsRow, AreLeads, AreTypesNear}
+use Rattle.fb_verify.specs.Stack.{opened, IsFrame, frame_work}
+use Rattle.fb_verify.proofs.Words.{row_on}
+
+-- the exit of a `?`
+pub if_err_exit : {A E : Type 0} (r : Result A E) (x : E) (P : E → Type 0) → IsErrAnd r (λ e. e ≡ x) → P x → IfErr r P
+if_err_exit (Ok a) x P h p = tt
+if_err_exit (Err e) x P h p = subst P (sym h) p
+
+-- Reads are few.
+
+lead_few : (lead : Lead) → lead_reads lead ≤ 3
+lead_few (to_table k) = omega arith
+lead_few (to_struct size align) = omega arith
+lead_few to_string = omega arith
+lead_few to_nothing = omega arith
+
+word_few : (b : List ℕ) (S : Rows) (leads : Leads) (p : ℕ) → (word_at b S leads p).reads + lead_reads (word_at b S leads p).lead ≤ 4
+word_few b S (All referent) p = omega (arith, lead_few (word_at b S (All referent) p).lead)
+word_few b S (ByType e q) p = omega (arith, lead_few (word_at b S (ByType e q) p).lead)
+
+pub first_few : (b : List ℕ) (S : Rows) (r : Row) → (first_word b S r).reads + lead_reads (first_word b S r).lead ≤ 4
+first_few b S r = word_few b S r.leads r.place
+
+pub head_few : (c : Checks) → head_reads c ≤ 3
+head_few c = grind arith
+
+if_present_few : (n : ℕ) (place : Option ℕ) → reads_if_present n place ≤ n
+if_present_few n None = omega arith
+if_present_few n (Some q) = omega arith
+
+present_few : (b : List ℕ) (t o : ℕ) (kind : Kind) → present_reads b t o kind ≤ 5
+present_few b t o (Scalar s) = omega arith
+present_few b t o (Struct k) = omega arith
+present_few b t o Text = omega arith
+present_few b t o (Table k) = omega arith
+present_few b t o (Union e) = omega (arith, if_present_few 1 (type_place b t o))
+present_few b t o (Scalars s) = omega arith
+present_few b t o (Structs k) = omega arith
+present_few b t o Texts = omega arith
+present_few b t o (Tables k) = omega arith
+present_few b t o (Unions e) = omega (arith, if_present_few 2 (type_place b t o))
+
+at_few : (b : List ℕ) (t : ℕ) (f : Live) (place : Option ℕ) → reads_at b t f place ≤ 5
+at_few b t f None = omega arith
+at_few b t f (Some p) = present_few b t f.slot f.kind
+
+slot_few : (b : List ℕ) (t o : ℕ) → slot_reads b t o ≤ 1
+slot_few b t o = grind arith
+
+pub own_few : (b : List ℕ) (t : ℕ) (f : Live) → own_reads b t f ≤ 6
+unfolding own_reads
+own_few b t f = omega (arith, slot_few b t f.slot, at_few b t f (field_place b t f.slot))
+
+-- A table's object is there.
+
+there : (xs : List Object) (k : ℕ) → IsTrue (is_some_table (slice_get xs k)) → k < length xs
+there [] zero h = absurd cc
+there [] (suc k) h = absurd cc
+there (x ∷ xs) zero h = omega arith
+there (x ∷ xs) (suc k) h = omega (arith, there xs k h)
+
+pub table_there : (S : Rows) (k : ℕ) → IsTrue (is_table S k) → k < length S.objects
+table_there S k h = there S.objects k h
+
+-- The fields that a schema lends are the live fields.
+
+get_map : {A B : Type 0} (f : A → B) (xs : List A) (i : ℕ) (x : A) → slice_get xs i ≡ Some x → slice_get (map f xs) i ≡ Some (f x)
+get_map f [] zero x h = absurd cc
+get_map f [] (suc i) x h = absurd cc
+get_map f (y ∷ xs) zero x h = let e : y ≡ x = cc in ap (λ z. Some (f z)) e
+get_map f (y ∷ xs) (suc i) x h = get_map f xs i x h
+
+pub field_at : {A B : Type 0} (f : A → B) (xs : List A) (ys : List B) (i : ℕ) (x : A) → map f xs ≡ ys → slice_get xs i ≡ Some x → slice_get ys i ≡ Some (f x)
+field_at f xs ys i x e h = rw e at (get_map f xs i x h)
+
+get_within : {A : Type 0} (xs : List A) (i : ℕ) (x : A) → slice_get xs i ≡ Some x → i < length xs
+get_within [] zero x h = absurd cc
+get_within [] (suc i) x h = absurd cc
+get_within (y ∷ xs) zero x h = omega arith
+get_within (y ∷ xs) (suc i) x h = omega (arith, get_within xs i x h)
+
+pub field_within : {A : Type 0} (xs : List A) (i : ℕ) (x : A) → slice_get xs i ≡ Some x → i + 1 ≤ length xs
+field_within xs i x h = omega (arith, get_within xs i x h)
+
+length_map : {A B : Type 0} (f : A → B) (xs : List A) → length (map f xs) ≡ length xs
+length_map f [] = refl
+length_map f (x ∷ xs) = ap suc (length_map f xs)
+
+pub no_field_at : {A B : Type 0} (f : A → B) (xs : List A) (ys : List B) (i : ℕ) → map f xs ≡ ys → length xs ≤ i → length ys ≤ i
+no_field_at f xs ys i e h = omega (arith, h, length_map f xs, ap length e)
+
+-- what `get` lends of a slice
+pub item_some : {A : Type 0} (xs : List A) (i : ℕ) (r : Option (Bor A)) (x : Bor A) → IsItemAt xs i r → r ≡ Some x → slice_get xs i ≡ Some x.now
+item_some xs i r x h e =
+    let g = subst (λ o. IsItemAt xs i o) e h in
+    slice_get-get_or xs i x.now g.3.0 ∙ ap Some (sym (g.4 (omega arith) x.now))
+
+pub item_none : {A : Type 0} (xs : List A) (i : ℕ) (r : Option (Bor A)) → IsItemAt xs i r → r ≡ None → length xs ≤ i
+item_none xs i r h e = let g = subst (λ o. IsItemAt xs i o) e h in g.3
+
+-- Frames.
+
+module _ (c : Checks) (b : List ℕ) (S : Rows) where
+  types_near : (n : ℕ) (leads : Leads) → 0 < n → AreLeads b S n leads → AreTypesNear leads
+  types_near n (All referent) l h = tt
+  types_near n (ByType e q) l h = omega (arith, h.2)
+
+  pub row_types_near : (r : Row) → 0 < r.left → IsRow b S r → AreTypesNear r.leads
+  row_types_near r m h = types_near r.left r.leads m (h.leads m)
+
+  pub frame_on : (fr : Frame) (row : Row) → row ≡ past_first fr.row → 0 < (fr.row).left → IsFrame c b S fr → IsFrame c b S (record { table = fr.table; next = fr.next; number = fr.number; row = row })
+  frame_on fr row e l h = record { object = h.object; near = h.near; head = h.head; next = h.next; row = rw e (row_on b S fr.row l h.row) }
+
+  pub frame_passed : (fr : Frame) (number : ℕ) (row : Row) → fr.next + 1 ≤ length (live_fields S (fr.table).object) → IsRow b S row → IsFrame c b S fr → IsFrame c b S (record { table = fr.table; next = fr.next + 1; number = number; row = row })
+  frame_passed fr number row i r h = record { object = h.object; near = h.near; head = h.head; next = i; row = r }
+
+  pub frame_next : (fr : Frame) → fr.next + 1 ≤ length (live_fields S (fr.table).object) → IsFrame c b S fr → IsFrame c b S (record { table = fr.table; next = fr.next + 1; number = fr.number; row = fr.row })
+  frame_next fr i h = record { object = h.object; near = h.near; head = h.head; next = i; row = h.row }
+
+  pub frame_opened : (table : TableOf) → IsTrue (is_table S table.object) → table.at < 2 ^ 33 → IsHead c b table.at table.head → IsFrame c b S (opened table)
+  frame_opened table o n h = record { object = o; near = n; head = h; next = omega arith; row = record { place = omega arith; left = omega arith; leads = λ m. absurd (omega arith) } }
+
+  pub work_opened : (table : TableOf) → IsServed S → frame_work S (opened table) ≤ 1 + 2 ^ 33 * 32766
+  work_opened table h = omega (arith, h.few table.object)

@@ -1,0 +1,160 @@
+-- At most one fault is the first.
+use Rattle.std.proofs.Common.{◌≡◌, ℕ, zero, suc, ◌<◌, ◌⊎◌, inl, inr, List, [], ◌∷◌, take, refl, sym, ◌∙◌, ap, subst, arith, Some}
+use Rattle.std.specs.Prelude.{slice_get}
+use Rattle.std.proofs.lemmas.Bool.Decides.{nat_tests}
+use Rattle.std.proofs.lemmas.List.{take-take}
+use Rattle.fb_schema.specs.Rows.{Rows}
+use Rattle.fb_schema.specs.Live.{Live, live_fields}
+use Rattle.fb_verify.specs.declared.checks.Checks.{Checks}
+use Rattle.fb_verify.specs.declared.start.Start.{Start}
+use Rattle.fb_verify.specs.declared.start.Ident.{Ident}
+use Rattle.fb_verify.specs.declared.fault.Fault.{Fault}
+use Rattle.fb_verify.specs.Bounds.{Bounds}
+use Rattle.fb_verify.specs.Places.{target}
+use Rattle.fb_verify.specs.Facts.{IsTable}
+use Rattle.fb_verify.specs.Fields.{to_table, Entry, entries}
+use Rattle.fb_verify.specs.Tree.{Kids, kids_length, Elements, elements_length}
+use Rattle.fb_verify.specs.WellFormed.{base}
+use Rattle.fb_verify.specs.Order.{start_failure, own_failure, element_failure}
+use Rattle.fb_verify.specs.Way.{Way, way_to_start, way_to_root, way_to_field, way_to_element, way_to_table, StaysWithin}
+use Rattle.fb_verify.specs.Stops.{Place, in_start, in_head, in_field, in_element, fault_at, IsFalseAt, Trail, at_head, at_field, FieldTrail, at_own, at_element, ElementTrail, at_lead, through, IsLink, IsInField, IsTrail, IsFieldTrail, IsElementTrail, Stops}
+use Rattle.fb_verify.proofs.Chains.{start_none, head_none, own_none, through_passes}
+use Rattle.fb_verify.proofs.Unique.{one_kids, one_elements}
+use Rattle.fb_verify.proofs.Overruns.{no_fault, kids_at, elements_at, field_overruns, element_overruns}
+
+-- lists
+
+some_same : {A : Type 0} {x y : A} → Some x ≡ Some y → x ≡ y
+some_same h = cc
+
+compare : (m n : ℕ) → (m < n) ⊎ ((m ≡ n) ⊎ (n < m))
+compare zero zero = inr (inl refl)
+compare zero (suc n) = inl (omega arith)
+compare (suc m) zero = inr (inr (omega arith))
+compare (suc m) (suc n) = elim (compare m n) [ inl h ↦ inl (omega arith) | inr h ↦ elim h [ inl e ↦ inr (inl (ap suc e)) | inr g ↦ inr (inr (omega arith)) ] ]
+
+get_take : {A : Type 0} (xs : List A) (m n : ℕ) → m < n → slice_get (take n xs) m ≡ slice_get xs m
+get_take [] m zero h = refl
+get_take [] m (suc n) h = refl
+get_take (x ∷ xs) zero zero h = absurd (omega arith)
+get_take (x ∷ xs) zero (suc n) h = refl
+get_take (x ∷ xs) (suc m) zero h = absurd (omega arith)
+get_take (x ∷ xs) (suc m) (suc n) h = get_take xs m n (omega arith)
+
+to_same : {A : Type 0} {x y : A} (xs : List A) (m n : ℕ) → m ≡ n → slice_get xs m ≡ Some x → slice_get xs n ≡ Some y → x ≡ y
+to_same xs m n e h g = some_same (sym h ∙ ap (slice_get xs) e ∙ g)
+
+same_table : {k j : ℕ} → to_table k ≡ to_table j → k ≡ j
+same_table h = cc
+
+module _ (c : Checks) (b : List ℕ) (S : Rows) (L : Bounds) where
+  -- one place has one fault
+  same_fault : (p : Place) (w : Way) (f g : Fault) → IsFalseAt c b S L p w f → IsFalseAt c b S L p w g → f ≡ g
+  same_fault p w f g h i = some_same (sym h.first ∙ i.first)
+
+  -- the way of a trail stays within the limits from the beginning
+  mutual
+    unfolding IsTrail IsFieldTrail IsElementTrail
+
+    pub trail_within : (s : Trail) (k t : ℕ) (w : Way) (f : Fault) → IsTrail s c b S L k t w f → StaysWithin w L
+    trail_within at_head k t w f h = h.within
+    trail_within (at_field earlier s) k t w f h =
+        let r = field_within s t h.0 (way_to_field c b S k t earlier h.0 w) f h.2 in
+        record { tables = omega (arith, r.tables); depth = omega (arith, r.depth) }
+
+    pub field_within : (s : FieldTrail) (t : ℕ) (g : Live) (w : Way) (f : Fault) → IsFieldTrail s c b S L t g w f → StaysWithin w L
+    field_within at_own t g w f h = h.within
+    field_within (at_element before s) t g w f h =
+        let r = element_within s h.0 (way_to_element c b S t g before w) f h.2 in
+        record { tables = omega (arith, r.tables); depth = omega (arith, r.depth) }
+
+    pub element_within : (s : ElementTrail) (x : Entry) (w : Way) (f : Fault) → IsElementTrail s c b S L x w f → StaysWithin w L
+    element_within at_lead x w f h = h.within
+    element_within (through s) x w f h =
+        let r = trail_within s h.0 (target b x.place) (way_to_table x w) f h.3 in
+        record { tables = omega (arith, r.tables); depth = omega (arith, r.depth) }
+
+  -- a table that another trail opened isn't where a trail stops
+  opened_head : (k t : ℕ) (w : Way) (earlier : Kids) (g : Live) (f : Fault) → IsTable c b t → StaysWithin (way_to_field c b S k t earlier g w) L → IsFalseAt c b S L (in_head k t) w f → ⊥
+  unfolding fault_at
+  opened_head k t w earlier g f h r i =
+      let e = i.first in
+      let o = (head_none c b t).1 h in
+      let few : w.passed < L.tables = omega (arith, r.tables) in
+      let shallow : w.links < L.depth = omega (arith, r.depth) in
+      grind (arith, nat_tests)
+
+  -- nor is a field that another trail passed
+  passed_field : (k t : ℕ) (w : Way) (e1 e2 : Kids) (g1 g2 : Live) (s : FieldTrail) (f : Fault) → kids_length e1 < kids_length e2 → IsLink c b S k t e1 g1 → IsLink c b S k t e2 g2 → StaysWithin (way_to_field c b S k t e2 g2 w) L → IsFieldTrail s c b S L t g1 (way_to_field c b S k t e1 g1 w) f → ⊥
+  passed_field k t w e1 e2 g1 g2 s f lt h1 h2 r stops =
+      let all = live_fields S k in
+      let fs = take (kids_length e2) all in
+      let a = kids_at c b S e1 e2 t fs g1 h2.passed (rw (take-take (kids_length e1) (kids_length e2) all (omega arith)) h1.passed) (get_take all (kids_length e1) (kids_length e2) lt ∙ h1.next) in
+      elim (field_overruns c b S L s a.0 t g1 (way_to_field c b S k t e1 g1 w) f a.1 a.2 stops) [
+        | inl p ↦ omega (arith, p.1, a.4, r.depth)
+        | inr p ↦ omega (arith, p.1, a.3, r.tables)
+      ]
+
+  -- nor is an element that another trail passed
+  passed_element : (t : ℕ) (g : Live) (w : Way) (z1 z2 : Elements) (x1 x2 : Entry) (s : ElementTrail) (f : Fault) → elements_length z1 < elements_length z2 → IsInField c b S t g z1 x1 → IsInField c b S t g z2 x2 → StaysWithin (way_to_element c b S t g z2 w) L → IsElementTrail s c b S L x1 (way_to_element c b S t g z1 w) f → ⊥
+  passed_element t g w z1 z2 x1 x2 s f lt h1 h2 r stops =
+      let all = entries b S t g in
+      let xs = take (elements_length z2) all in
+      let a = elements_at c b S z1 z2 xs x1 h2.passed (rw (take-take (elements_length z1) (elements_length z2) all (omega arith)) h1.passed) (get_take all (elements_length z1) (elements_length z2) lt ∙ h1.next) in
+      elim (element_overruns c b S L s a.0 x1 (way_to_element c b S t g z1 w) f a.1 stops) [
+        | inl p ↦ omega (arith, p.1, a.3, r.depth)
+        | inr p ↦ omega (arith, p.1, a.2, r.tables)
+      ]
+
+  mutual
+    unfolding IsTrail IsFieldTrail IsElementTrail fault_at
+
+    pub one_fault : (s r : Trail) (k t : ℕ) (w : Way) (f g : Fault) → IsTrail s c b S L k t w f → IsTrail r c b S L k t w g → f ≡ g
+    one_fault at_head at_head k t w f g h i = same_fault (in_head k t) w f g h i
+    one_fault at_head (at_field e r) k t w f g h i =
+        absurd (opened_head k t w e i.0 f i.1.head (field_within r t i.0 (way_to_field c b S k t e i.0 w) g i.2) h)
+    one_fault (at_field e s) at_head k t w f g h i =
+        absurd (opened_head k t w e h.0 g h.1.head (field_within s t h.0 (way_to_field c b S k t e h.0 w) f h.2) i)
+    one_fault (at_field e1 s) (at_field e2 r) k t w f g h i =
+        elim (compare (kids_length e1) (kids_length e2)) [
+          | inl lt ↦ absurd (passed_field k t w e1 e2 h.0 i.0 s f lt h.1 i.1 (field_within r t i.0 (way_to_field c b S k t e2 i.0 w) g i.2) h.2)
+          | inr o ↦ elim o [
+            | inl same ↦
+                let e : e2 ≡ e1 = one_kids c b S e2 e1 t (take (kids_length e2) (live_fields S k)) i.1.passed (rw same at h.1.passed) in
+                let x : i.0 ≡ h.0 = to_same (live_fields S k) (kids_length e2) (kids_length e1) (sym same) i.1.next h.1.next in
+                one_field_fault s r t h.0 (way_to_field c b S k t e1 h.0 w) f g h.2 (subst (λ y. IsFieldTrail r c b S L t y (way_to_field c b S k t e1 y w) g) x (subst (λ y. IsFieldTrail r c b S L t i.0 (way_to_field c b S k t y i.0 w) g) e i.2))
+            | inr gt ↦ absurd (passed_field k t w e2 e1 i.0 h.0 r g gt i.1 h.1 (field_within s t h.0 (way_to_field c b S k t e1 h.0 w) f h.2) i.2)
+          ]
+        ]
+
+    one_field_fault : (s r : FieldTrail) (t : ℕ) (x : Live) (w : Way) (f g : Fault) → IsFieldTrail s c b S L t x w f → IsFieldTrail r c b S L t x w g → f ≡ g
+    one_field_fault at_own at_own t x w f g h i = same_fault (in_field t x) w f g h i
+    one_field_fault at_own (at_element z r) t x w f g h i = absurd (no_fault w (own_failure c b S t x) f ((own_none c b S t x).1 i.1.own) h.first)
+    one_field_fault (at_element z s) at_own t x w f g h i = absurd (no_fault w (own_failure c b S t x) g ((own_none c b S t x).1 h.1.own) i.first)
+    one_field_fault (at_element z1 s) (at_element z2 r) t x w f g h i =
+        elim (compare (elements_length z1) (elements_length z2)) [
+          | inl lt ↦ absurd (passed_element t x w z1 z2 h.0 i.0 s f lt h.1 i.1 (element_within r i.0 (way_to_element c b S t x z2 w) g i.2) h.2)
+          | inr o ↦ elim o [
+            | inl same ↦
+                let e : z2 ≡ z1 = one_elements c b S z2 z1 (take (elements_length z2) (entries b S t x)) i.1.passed (rw same at h.1.passed) in
+                let y : i.0 ≡ h.0 = to_same (entries b S t x) (elements_length z2) (elements_length z1) (sym same) i.1.next h.1.next in
+                one_element_fault s r h.0 (way_to_element c b S t x z1 w) f g h.2 (subst (λ v. IsElementTrail r c b S L v (way_to_element c b S t x z1 w) g) y (subst (λ v. IsElementTrail r c b S L i.0 (way_to_element c b S t x v w) g) e i.2))
+            | inr gt ↦ absurd (passed_element t x w z2 z1 i.0 h.0 r g gt i.1 h.1 (element_within s h.0 (way_to_element c b S t x z1 w) f h.2) i.2)
+          ]
+        ]
+
+    one_element_fault : (s r : ElementTrail) (x : Entry) (w : Way) (f g : Fault) → IsElementTrail s c b S L x w f → IsElementTrail r c b S L x w g → f ≡ g
+    one_element_fault at_lead at_lead x w f g h i = same_fault (in_element x) w f g h i
+    one_element_fault at_lead (through r) x w f g h i = absurd (no_fault w (element_failure c b x) f (through_passes c b x i.0 i.1 i.2) h.first)
+    one_element_fault (through s) at_lead x w f g h i = absurd (no_fault w (element_failure c b x) g (through_passes c b x h.0 h.1 h.2) i.first)
+    one_element_fault (through s) (through r) x w f g h i =
+        let e : i.0 ≡ h.0 = same_table (sym i.1 ∙ h.1) in
+        one_fault s r h.0 (target b x.place) (way_to_table x w) f g h.3 (subst (λ k. IsTrail r c b S L k (target b x.place) (way_to_table x w) g) e i.3)
+
+  -- of a whole buffer
+  pub stops_once : (root : ℕ) (start : Start) (ident : Ident) (f g : Fault) → Stops c b S root start ident L f → Stops c b S root start ident L g → f ≡ g
+  unfolding fault_at
+  stops_once root start ident f g (inl h) (inl i) = same_fault (in_start start ident) (way_to_start root) f g h i
+  stops_once root start ident f g (inl h) (inr i) = absurd (no_fault (way_to_start root) (start_failure c b start ident) f ((start_none c b start ident).1 i.0) h.first)
+  stops_once root start ident f g (inr h) (inl i) = absurd (no_fault (way_to_start root) (start_failure c b start ident) g ((start_none c b start ident).1 h.0) i.first)
+  stops_once root start ident f g (inr h) (inr i) = one_fault h.1.0 i.1.0 root (target b (base start)) (way_to_root root start ident) f g h.1.1 i.1.1

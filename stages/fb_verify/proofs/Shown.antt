@@ -1,0 +1,122 @@
+-- The examples, by computing the chains of tests.
+use Rattle.std.proofs.Common.{◌≡◌, ℕ, List, refl, arith, None}
+use Rattle.fb_bytes.specs.Word.{word}
+use Rattle.fb_schema.specs.Rows.{Rows}
+use Rattle.fb_schema.specs.Live.{Live, live_fields}
+use Rattle.fb_schema.specs.Kinds.{shape_of, kind_of, base_types}
+use Rattle.fb_schema.specs.Members.{member_of}
+use Rattle.fb_verify.specs.declared.checks.Checks.{Checks}
+use Rattle.fb_verify.specs.declared.start.Start.{Start}
+use Rattle.fb_verify.specs.declared.start.Ident.{Ident}
+use Rattle.fb_verify.specs.Places.{is_aligned, has_vtable, vtable, field_place, ends_in_table}
+use Rattle.fb_verify.specs.Facts.{IsTable, IsOffset, IsString, IsInline}
+use Rattle.fb_verify.specs.Fields.{IsField, entries, row, union_row}
+use Rattle.fb_verify.specs.Tree.{size, depth, kids_length, elements_length}
+use Rattle.fb_verify.specs.Unfolds.{Unfolds}
+use Rattle.fb_verify.specs.Cost.{own_reads, tree_cost}
+use Rattle.fb_verify.specs.WellFormed.{IsStart}
+use Rattle.fb_verify.specs.Order.{own_failure, element_failure, start_failure, prefix_failure, ident_failure, head_failure, offset_failure, string_failure, vector_failure, inline_failure, table_failure}
+use Rattle.fb_verify.specs.Stops.{fault_at, IsTrail}
+use Rattle.fb_verify.specs.Samples.{published_checks, nodes, unions, every_kind, shared}
+use Rattle.fb_verify.specs.Examples.{MonsterUnfolds, OneMemberUnfolds, TwoMembersUnfold, number, EveryKindUnfolds, last, middle, OpenNameStops, NoNameStops, ThreeValuesStop, CrookedStructStops, SeventhTableStops, ThirdLevelStops, OddVtableStops, ShortTableStops}
+use Rattle.fb_verify.proofs.Chains.{start_none, head_none, own_none, offset_none, string_none, inline_none}
+
+-- all that is computed
+computing : ℕ
+unfolding word live_fields kind_of shape_of base_types member_of is_aligned has_vtable vtable field_place ends_in_table entries row union_row size depth Unfolds own_reads tree_cost own_failure element_failure start_failure prefix_failure ident_failure head_failure offset_failure string_failure vector_failure inline_failure table_failure IsTrail fault_at kids_length elements_length
+computing = 0
+
+-- a chain that finds nothing tells the facts
+
+start : {c : Checks} {b : List ℕ} {s : Start} {i : Ident} → start_failure c b s i ≡ None → IsStart c b s i
+start {c} {b} {s} {i} h = (start_none c b s i).0 h
+
+head : {c : Checks} {b : List ℕ} {t : ℕ} → head_failure c b t ≡ None → IsTable c b t
+head {c} {b} {t} h = (head_none c b t).0 h
+
+own : (c : Checks) (b : List ℕ) (S : Rows) (t : ℕ) (f : Live) → own_failure c b S t f ≡ None → IsField c b S t f
+own c b S t f h = (own_none c b S t f).0 h
+
+offset : {c : Checks} {b : List ℕ} {p : ℕ} → offset_failure c b p ≡ None → IsOffset c b p
+offset {c} {b} {p} h = (offset_none c b p).0 h
+
+string : {c : Checks} {b : List ℕ} {s : ℕ} → string_failure c b s ≡ None → IsString c b s
+string {c} {b} {s} h = (string_none c b s).0 h
+
+inline : {c : Checks} {b : List ℕ} {p n a : ℕ} → inline_failure c b p n a ≡ None → IsInline c b p n a
+inline {c} {b} {p} {n} {a} h = (inline_none c b p n a).0 h
+
+-- trees
+
+pub monster_unfolds : MonsterUnfolds
+unfolding computing
+monster_unfolds =
+    (record { starts = start refl; unfolds = (refl, refl, head refl, (own _ _ _ _ _ refl, tt, (own _ _ _ _ _ refl, ((offset refl, string refl), tt), tt))) }, refl, refl, refl)
+
+pub one_member_unfolds : OneMemberUnfolds
+unfolding computing
+one_member_unfolds =
+    (record { starts = start refl; unfolds = (refl, refl, head refl, (own _ _ _ _ _ refl, tt, (own _ _ _ _ _ refl, ((offset refl, (refl, refl, head refl, (own _ _ _ _ _ refl, tt, tt))), tt), tt))) }, refl, refl, refl)
+
+pub two_members_unfold : TwoMembersUnfold
+unfolding computing
+two_members_unfold =
+    (record { starts = start refl; unfolds = (refl, refl, head refl, (own _ _ _ _ _ refl, tt, (own _ _ _ _ _ refl, ((offset refl, string refl), (tt, tt)), tt))) }, refl, refl, refl)
+
+last_unfolds : Unfolds last published_checks shared nodes 0 40
+unfolding computing
+last_unfolds = (refl, refl, head refl, (own _ _ _ _ _ refl, tt, (own _ _ _ _ _ refl, tt, tt)))
+
+middle_unfolds : Unfolds middle published_checks shared nodes 0 28
+unfolding computing
+middle_unfolds = (refl, refl, head refl, (own _ _ _ _ _ refl, ((offset refl, last_unfolds), tt), (own _ _ _ _ _ refl, ((offset refl, last_unfolds), tt), tt)))
+
+number_unfolds : Unfolds number published_checks every_kind unions 0 168
+unfolding computing
+number_unfolds = (refl, refl, head refl, (own _ _ _ _ _ refl, tt, tt))
+
+pub every_kind_unfolds : EveryKindUnfolds
+unfolding computing
+every_kind_unfolds = (record { starts = start refl; unfolds = (refl, refl, head refl, (own _ _ _ _ _ refl, tt, (own _ _ _ _ _ refl, ((offset refl, string refl), tt), (own _ _ _ _ _ refl, tt, (own _ _ _ _ _ refl, ((offset refl, number_unfolds), tt), (own _ _ _ _ _ refl, tt, (own _ _ _ _ _ refl, ((offset refl, string refl), tt), (own _ _ _ _ _ refl, tt, (own _ _ _ _ _ refl, tt, (own _ _ _ _ _ refl, ((offset refl, string refl), ((offset refl, string refl), tt)), (own _ _ _ _ _ refl, ((offset refl, number_unfolds), ((offset refl, number_unfolds), tt)), (own _ _ _ _ _ refl, tt, (own _ _ _ _ _ refl, ((offset refl, inline refl), ((offset refl, number_unfolds), (tt, tt))), tt))))))))))))) }, refl, refl, refl)
+
+-- faults
+
+pub open_name_stops : OpenNameStops
+unfolding computing
+open_name_stops =
+    (start refl, (_, record { head = head refl; passed = (own _ _ _ _ _ refl, tt, tt); next = refl }, (_, record { own = own _ _ _ _ _ refl; passed = tt; next = refl }, record { within = record { tables = omega arith; depth = omega arith }; first = refl })))
+
+pub no_name_stops : NoNameStops
+unfolding computing
+no_name_stops =
+    (start refl, (_, record { head = head refl; passed = (own _ _ _ _ _ refl, tt, tt); next = refl }, (_, record { own = own _ _ _ _ _ refl; passed = tt; next = refl }, record { within = record { tables = omega arith; depth = omega arith }; first = refl })))
+
+pub three_values_stop : ThreeValuesStop
+unfolding computing
+three_values_stop =
+    (start refl, (_, record { head = head refl; passed = (own _ _ _ _ _ refl, tt, tt); next = refl }, record { within = record { tables = omega arith; depth = omega arith }; first = refl }))
+
+pub crooked_struct_stops : CrookedStructStops
+unfolding computing
+crooked_struct_stops =
+    (start refl, (_, record { head = head refl; passed = (own _ _ _ _ _ refl, tt, tt); next = refl }, (_, record { own = own _ _ _ _ _ refl; passed = tt; next = refl }, record { within = record { tables = omega arith; depth = omega arith }; first = refl })))
+
+pub seventh_table_stops : SeventhTableStops
+unfolding computing
+seventh_table_stops =
+    (start refl, (_, record { head = head refl; passed = (own _ _ _ _ _ refl, ((offset refl, middle_unfolds), tt), tt); next = refl }, (_, record { own = own _ _ _ _ _ refl; passed = tt; next = refl }, (_, refl, offset refl, (_, record { head = head refl; passed = (own _ _ _ _ _ refl, ((offset refl, last_unfolds), tt), tt); next = refl }, (_, record { own = own _ _ _ _ _ refl; passed = tt; next = refl }, (_, refl, offset refl, record { within = record { tables = omega arith; depth = omega arith }; first = refl })))))))
+
+pub third_level_stops : ThirdLevelStops
+unfolding computing
+third_level_stops =
+    (start refl, (_, record { head = head refl; passed = tt; next = refl }, (_, record { own = own _ _ _ _ _ refl; passed = tt; next = refl }, (_, refl, offset refl, (_, record { head = head refl; passed = tt; next = refl }, (_, record { own = own _ _ _ _ _ refl; passed = tt; next = refl }, (_, refl, offset refl, record { within = record { tables = omega arith; depth = omega arith }; first = refl })))))))
+
+pub odd_vtable_stops : OddVtableStops
+unfolding computing
+odd_vtable_stops =
+    (start refl, (_, record { head = head refl; passed = (own _ _ _ _ _ refl, tt, tt); next = refl }, (_, record { own = own _ _ _ _ _ refl; passed = tt; next = refl }, (_, refl, offset refl, record { within = record { tables = omega arith; depth = omega arith }; first = refl }))))
+
+pub short_table_stops : ShortTableStops
+unfolding computing
+short_table_stops =
+    (start refl, (_, record { head = head refl; passed = tt; next = refl }, record { within = record { tables = omega arith; depth = omega arith }; first = refl }))

@@ -1,0 +1,222 @@
+-- The turns of a walk, on the whole stack.
+use Rattle.std.proofs.Common.{◌≡◌, ℕ, ◌+◌, max, ◌<◌, ◌≤◌, ◌⊎◌, inl, inr, List, [], ◌∷◌, ◌++◌, length, refl, sym, ◌∙◌, ap, subst, arith, Option, Some, None}
+use Rattle.std.specs.Prelude.{slice_get}
+use Rattle.fb_schema.specs.Rows.{Rows}
+use Rattle.fb_schema.specs.Live.{Live, live_fields}
+use Rattle.fb_schema.specs.Served.{IsServed}
+use Rattle.fb_verify.specs.declared.checks.Checks.{Checks}
+use Rattle.fb_verify.specs.declared.fault.Fault.{Fault}
+use Rattle.fb_verify.specs.declared.field.Table.{Table}
+use Rattle.fb_verify.specs.declared.row.Row.{Row}
+use Rattle.fb_verify.specs.declared.scratch.Frame.{Frame}
+use Rattle.fb_verify.specs.declared.site.Site.{Site}
+use Rattle.fb_verify.specs.Bounds.{Bounds}
+use Rattle.fb_verify.specs.Places.{target}
+use Rattle.fb_verify.specs.Facts.{IsOffset}
+use Rattle.fb_verify.specs.Fields.{Lead, to_table, to_struct, to_string, to_nothing, entries}
+use Rattle.fb_verify.specs.Tree.{leaf, element_size, element_depth}
+use Rattle.fb_verify.specs.Unfolds.{ElementUnfolds}
+use Rattle.fb_verify.specs.Cost.{head_reads, own_reads, lead_reads, element_cost}
+use Rattle.fb_verify.specs.Laws.{IsLead}
+use Rattle.fb_verify.specs.Order.{Failure, ◌▷◌, head_failure, own_failure, element_failure}
+use Rattle.fb_verify.specs.Way.{Way, way_to_table}
+use Rattle.fb_verify.specs.Stops.{in_head, in_field, in_element, fault_of, budget_failure, fault_at, StopsFrom}
+use Rattle.fb_verify.specs.Told.{told, way_at}
+use Rattle.fb_verify.specs.Rows.{words_of, first_word, past_first, IsLeafLead, IsTyped}
+use Rattle.fb_verify.specs.Walked.{ended, TableWalked, IsInside, IsInField}
+use Rattle.fb_verify.specs.Stack.{opened as opened_frame, reached, Resting, Middle, Goes, Context, Origin, Standing}
+use Rattle.fb_verify.proofs.Chains.{head_none, own_none, element_none}
+use Rattle.fb_verify.proofs.Steps.{same_way, field_deep, opened, entered, passed_on, field_done, closed, waits, resumed, stops_at_head, stops_at_field, stops_at_element, stops_below}
+use Rattle.fb_verify.proofs.Words.{row_front, row_none, first_place}
+use Rattle.fb_verify.proofs.Typed.{typed_before}
+use Rattle.fb_verify.proofs.Contexts.{context_push, context_pop, context_stop, context_links}
+
+-- a fault that is told at a site is the fault at a way to this site
+pub told_is : (w : Way) (site : Site) (e : Option Failure) → site.object ≡ w.object → site.field ≡ w.field → told site w.paid e ≡ fault_of w e
+told_is w site None o n = refl
+told_is w site (Some e) o n = cc
+
+module _ (c : Checks) (b : List ℕ) (S : Rows) where
+  -- an offset word that leads to no table unfolds to a leaf
+  leaf_unfolds : (p : ℕ) (lead : Lead) → IsLeafLead lead → IsLead c b p lead → ElementUnfolds leaf c b S p lead
+  unfolding ElementUnfolds
+  leaf_unfolds p (to_table k) l h = absurd l
+  leaf_unfolds p (to_struct size align) l h = h
+  leaf_unfolds p to_string l h = h
+  leaf_unfolds p to_nothing l h = tt
+
+  table_lead : (p : ℕ) (lead : Lead) (k : ℕ) → lead ≡ to_table k → IsLead c b p lead → IsOffset c b p
+  table_lead p lead k e h = subst (λ x. IsLead c b p x) e h
+
+  -- nothing is left of the field, or something is
+  at_rest : (fr : Frame) (w : Way) (n d r : ℕ) → (fr.row).left ≡ 0 → Resting c b S fr w n d r ⊎ Middle c b S fr w n d r → Resting c b S fr w n d r
+  at_rest fr w n d r e (inl h) = h
+  at_rest fr w n d r e (inr h) =
+      let v = reached w (fr.table).object (Some fr.number) n d r in
+      let m = rw (row_none b S fr.row e) at h in
+      record { none = e; inside = field_done c b S (fr.table).object (fr.table).at w fr.next fr.number v m }
+
+  in_middle : (fr : Frame) (w : Way) (n d r : ℕ) → 0 < (fr.row).left → Resting c b S fr w n d r ⊎ Middle c b S fr w n d r
+      → IsInField c b S (fr.table).object (fr.table).at w fr.next fr.number (first_word b S fr.row ∷ words_of b S (past_first fr.row)) (reached w (fr.table).object (Some fr.number) n d r)
+  in_middle fr w n d r l (inl h) = absurd (omega (arith, h.none))
+  in_middle fr w n d r l (inr h) = rw (row_front b S fr.row l) at h
+
+  -- the way to the table that a frame waits for
+  goes_way : (fr : Frame) (w : Way) (k t : ℕ) (u : Way) (n d r : ℕ) → Goes c b S fr w k t u → record u { passed = n; deepest = d; paid = r } ≡ reached w (fr.table).object (Some fr.number) n d r
+  goes_way fr w k t u n d r h =
+      let f = h.in_field in
+      let i = f.inside in
+      let v = rw (f.after, i.after) at h.after in
+      let number = ap Some f.number_is in
+      rw v (same_way _ _ refl refl refl refl refl (sym number))
+
+  module _ (L : Bounds) (s : Origin) where
+    -- a table that was opened
+    fresh : (table : Table) (u : Way) (m n d r : ℕ) → u.links ≡ m → u.passed ≡ n → u.deepest ≡ d → u.paid ≡ r → head_failure c b table.at ≡ None
+        → Resting c b S (opened_frame table) u (n + 1) (max d (m + 1)) (r + head_reads c)
+    fresh table u m n d r ul un ud ur h =
+        let i = opened c b S table.object table.at u ((head_none c b table.at).0 h) in
+        record { none = refl; inside = subst (λ x. IsInside c b S table.object table.at u 0 x) (same_way _ _ refl (omega (arith, un)) (omega (arith, ul, ud)) (omega (arith, ur)) refl refl) i }
+
+    -- the first table is opened
+    pub begin : (table : Table) (d : ℕ) → (s.way).links ≡ 0 → (s.way).deepest ≡ d → table.object ≡ s.object → table.at ≡ s.position → head_failure c b table.at ≡ None
+        → Standing c b S s [] (opened_frame table) ((s.way).passed + 1) (max d 1) ((s.way).paid + head_reads c)
+    begin table d z e o p h = record { v = s.way; root = z; under = (sym o, sym p, refl); at = inl (fresh table s.way 0 (s.way).passed d (s.way).paid z refl e refl h) }
+
+    -- it stops before the first table, or at its head
+    pub stop_at_root : (t : ℕ) (site : Site) (n d r : ℕ) (f : Fault) → s.way ≡ way_at 0 n d r site → t ≡ s.position → n ≤ L.tables → d ≤ L.depth
+        → (told site r (budget_failure L (way_at 0 n d r site) t) ▷ told (record { object = s.object; field = None }) r (head_failure c b t)) ≡ Some f → StopsFrom c b S L s.object s.position s.way f
+    unfolding fault_at
+    stop_at_root t site n d r f e p a x h =
+        let u = way_at 0 n d r site in
+        let i = told_is u site (budget_failure L u t) refl refl in
+        let j = told_is (record u { object = s.object; field = None }) (record { object = s.object; field = None }) (head_failure c b t) refl refl in
+        let g : fault_at c b S L (in_head s.object t) u ≡ Some f = rw (i, j) at h in
+        rw (p, sym e) at (stops_at_head c b S s.object t u L f (record { within = record { tables = a; depth = x }; first = g }))
+
+    module _ (below : List Frame) (top : Frame) (n d r : ℕ) (h : Standing c b S s below top n d r) where
+      abbrev here : Site
+      here = record { object = (top.table).object; field = Some top.number }
+
+      -- the way to a field of the top
+      abbrev v' : Way
+      v' = reached h.v (top.table).object (Some top.number) n d r
+
+      links_is : (h.v).links ≡ length below
+      links_is = omega (arith, context_links c b S below s.object s.position (top.table).object (top.table).at s.way h.v h.under, h.root)
+
+      middle : 0 < (top.row).left → IsInField c b S (top.table).object (top.table).at h.v top.next top.number (first_word b S top.row ∷ words_of b S (past_first top.row)) v'
+      middle l = in_middle top h.v n d r l h.at
+
+      rests : (top.row).left ≡ 0 → Resting c b S top h.v n d r
+      rests e = at_rest top h.v n d r e h.at
+
+      -- where the top stops the walk does
+      stop : (f : Fault) → StopsFrom c b S L (top.table).object (top.table).at h.v f → StopsFrom c b S L s.object s.position s.way f
+      stop f g = context_stop c b S L f below s.object s.position (top.table).object (top.table).at s.way h.v h.under g
+
+      module _ (few : n ≤ L.tables) (shallow : d ≤ L.depth) where
+        pub stop_at_element : (f : Fault) → 0 < (top.row).left → told here r (element_failure c b (first_word b S top.row)) ≡ Some f → StopsFrom c b S L s.object s.position s.way f
+        unfolding fault_at
+        stop_at_element f l e =
+            let x = first_word b S top.row in
+            let g : fault_at c b S L (in_element x) v' ≡ Some f = sym (told_is v' here (element_failure c b x) refl refl) ∙ e in
+            stop f (stops_at_element c b S (top.table).object (top.table).at h.v L f top.next top.number x (words_of b S (past_first top.row)) v' (middle l) (record { within = record { tables = few; depth = shallow }; first = g }))
+
+        pub stop_at_field : (f : Fault) (field : Live) → (top.row).left ≡ 0 → slice_get (live_fields S (top.table).object) top.next ≡ Some field
+            → told (record { object = (top.table).object; field = Some field.number }) r (own_failure c b S (top.table).at field) ≡ Some f → StopsFrom c b S L s.object s.position s.way f
+        unfolding fault_at
+        stop_at_field f field l i e =
+            let u = reached h.v (top.table).object (Some field.number) n d r in
+            let site : Site = record { object = (top.table).object; field = Some field.number } in
+            let g : fault_at c b S L (in_field (top.table).at field) u ≡ Some f = sym (told_is u site (own_failure c b S (top.table).at field) refl refl) ∙ e in
+            stop f (stops_at_field c b S (top.table).object (top.table).at h.v L f top.next (reached h.v (top.table).object None n d r) field (rests l).inside i (record { within = record { tables = few; depth = shallow }; first = g }))
+
+        -- the next offset word leads to a table, which can't be opened or has no head
+        pub stop_at_table : (m : ℕ) (f : Fault) (k t : ℕ) → m ≡ length below + 1 → 0 < (top.row).left → element_failure c b (first_word b S top.row) ≡ None → (first_word b S top.row).lead ≡ to_table k → t ≡ target b (top.row).place
+            → (q : ℕ) → q ≡ r + (first_word b S top.row).reads + lead_reads (first_word b S top.row).lead
+            → (told here q (budget_failure L (way_at m n d q here) t) ▷ told (record { object = k; field = None }) q (head_failure c b t)) ≡ Some f → StopsFrom c b S L s.object s.position s.way f
+        unfolding fault_at
+        stop_at_table m f k t mi l o e p q z g =
+            let x = first_word b S top.row in
+            let offset = table_lead x.place x.lead k e ((element_none c b x).0 o) in
+            let wait = waits c b S (top.table).object (top.table).at h.v top.next top.number x (words_of b S (past_first top.row)) v' k t (middle l) e offset (rw (first_place b S top.row) p) in
+            let one : lead_reads x.lead ≡ 1 = rw e refl in
+            let u = way_to_table x v' in
+            let u_is : u ≡ way_at m n d q here = same_way _ _ (omega (arith, mi, links_is)) refl refl (omega (arith, z, one)) refl refl in
+            let w = way_at m n d q here in
+            let i = told_is w here (budget_failure L w t) refl refl in
+            let j = told_is (record w { object = k; field = None }) (record { object = k; field = None }) (head_failure c b t) refl refl in
+            let first : fault_at c b S L (in_head k t) w ≡ Some f = rw (i, j) at g in
+            let at_head = stops_at_head c b S k t w L f (record { within = record { tables = few; depth = shallow }; first = first }) in
+            stop f (stops_below c b S (top.table).object (top.table).at h.v L f top.next top.number (words_of b S (past_first top.row)) k t u wait (rw (sym u_is) at at_head))
+
+      -- an offset word that leads to no table is passed
+      pub pass_leaf : (row : Row) (q : ℕ) → row ≡ past_first top.row → 0 < (top.row).left → element_failure c b (first_word b S top.row) ≡ None → IsLeafLead (first_word b S top.row).lead
+          → q ≡ r + (first_word b S top.row).reads + lead_reads (first_word b S top.row).lead
+          → Standing c b S s below (record { table = top.table; next = top.next; number = top.number; row = row }) n d q
+      unfolding element_size element_depth element_cost
+      pass_leaf row q re l o k z =
+          let x = first_word b S top.row in
+          let u = reached h.v (top.table).object (Some top.number) n d q in
+          let unfolds = leaf_unfolds x.place x.lead k ((element_none c b x).0 o) in
+          let deep = field_deep c b S (top.table).object (top.table).at h.v top.next top.number _ v' (middle l) in
+          let on = passed_on c b S (top.table).object (top.table).at h.v top.next top.number x (words_of b S (past_first top.row)) v' u leaf (middle l) unfolds (same_way _ _ refl (omega arith) (omega (arith, deep)) (omega (arith, z)) refl refl) in
+          record { v = h.v; root = h.root; under = h.under; at = inr (rw re on) }
+
+      -- a field is passed
+      pub pass_more : (field : Live) (row : Row) (number q : ℕ) → (top.row).left ≡ 0 → slice_get (live_fields S (top.table).object) top.next ≡ Some field → number ≡ field.number
+          → own_failure c b S (top.table).at field ≡ None → entries b S (top.table).at field ≡ words_of b S row → q ≡ r + own_reads b (top.table).at field
+          → Standing c b S s below (record { table = top.table; next = top.next + 1; number = number; row = row }) n d q
+      pass_more field row number q l i ne o e z =
+          let t = (top.table).at in
+          let u = reached h.v (top.table).object None n d r in
+          let enter = entered c b S (top.table).object t h.v top.next u field (rests l).inside i ((own_none c b S t field).0 o) in
+          record { v = h.v; root = h.root; under = h.under; at = inr (rw (ne, z, sym e) enter) }
+
+      -- a field that leads nowhere is passed
+      pub pass_over : (field : Live) (row : Row) (q : ℕ) → (top.row).left ≡ 0 → slice_get (live_fields S (top.table).object) top.next ≡ Some field → row.left ≡ 0
+          → own_failure c b S (top.table).at field ≡ None → entries b S (top.table).at field ≡ words_of b S row → q ≡ r + own_reads b (top.table).at field
+          → Standing c b S s below (record { table = top.table; next = top.next + 1; number = top.number; row = top.row }) n d q
+      pass_over field row q l i none o e z =
+          let y : Frame = record { table = top.table; next = top.next + 1; number = field.number; row = row } in
+          let on = pass_more field row field.number q l i refl o e z in
+          record { v = on.v; root = on.root; under = on.under; at = inl (record { none = l; inside = (at_rest y on.v n d q none on.at).inside }) }
+
+      -- a table is opened
+      pub open_more : (m : ℕ) (row : Row) (table : Table) (k q : ℕ) → m ≡ length below + 1 → row ≡ past_first top.row → 0 < (top.row).left → element_failure c b (first_word b S top.row) ≡ None
+          → (first_word b S top.row).lead ≡ to_table k → table.object ≡ k → table.at ≡ target b (top.row).place → q ≡ r + (first_word b S top.row).reads + lead_reads (first_word b S top.row).lead → head_failure c b table.at ≡ None
+          → Standing c b S s (below ++ record { table = top.table; next = top.next; number = top.number; row = row } ∷ []) (opened_frame table) (n + 1) (max d (m + 1)) (q + head_reads c)
+      open_more m row table k q mi re l o e ko p z g =
+          let x = first_word b S top.row in
+          let offset = table_lead x.place x.lead k e ((element_none c b x).0 o) in
+          let u = way_to_table x v' in
+          let wait = waits c b S (top.table).object (top.table).at h.v top.next top.number x (words_of b S (past_first top.row)) v' k table.at (middle l) e offset (rw (first_place b S top.row) p) in
+          let one : lead_reads x.lead ≡ 1 = rw e refl in
+          let y : Frame = record { table = top.table; next = top.next; number = top.number; row = row } in
+          let goes : Goes c b S y h.v k table.at u = rw re wait in
+          let push = context_push c b S below y s.object s.position s.way h.v k table.at u h.under goes in
+          record { v = u; root = h.root; under = rw ko push; at = inl (fresh table u m n d q (omega (arith, mi, links_is)) refl refl (omega (arith, z, one)) g) }
+
+      -- the table of the top has no more fields
+      close : (top.row).left ≡ 0 → length (live_fields S (top.table).object) ≤ top.next → TableWalked c b S (top.table).object (top.table).at h.v (ended h.v n d r)
+      close l i = closed c b S (top.table).object (top.table).at h.v top.next (reached h.v (top.table).object None n d r) (ended h.v n d r) (rests l).inside i refl
+
+      pub close_last : below ≡ [] → (top.row).left ≡ 0 → length (live_fields S (top.table).object) ≤ top.next → TableWalked c b S s.object s.position s.way (ended s.way n d r)
+      close_last e l i =
+          let x = subst (λ ys. Context c b S ys s.object s.position s.way (top.table).object (top.table).at h.v) e h.under in
+          rw (x.0, x.1, x.2) (close l i)
+
+      pub close_more : (rest : List Frame) (under : Frame) → below ≡ rest ++ under ∷ [] → (top.row).left ≡ 0 → length (live_fields S (top.table).object) ≤ top.next → Standing c b S s rest under n d r
+      close_more rest under e l i =
+          let x = subst (λ ys. Context c b S ys s.object s.position s.way (top.table).object (top.table).at h.v) e h.under in
+          let p = context_pop c b S rest under s.object s.position (top.table).object (top.table).at s.way h.v x in
+          let on = resumed c b S (under.table).object (under.table).at p.0 under.next under.number (words_of b S under.row) (top.table).object (top.table).at h.v (ended h.v n d r) p.2 (close l i) in
+          record { v = p.0; root = h.root; under = p.1; at = inr (rw (goes_way under p.0 (top.table).object (top.table).at h.v n d r p.2) at on) }
+
+      -- the types of the next field were checked
+      pub next_typed : (field : Live) → IsServed S → (top.row).left ≡ 0 → slice_get (live_fields S (top.table).object) top.next ≡ Some field → IsTyped b (top.table).at field.slot field.kind
+      next_typed field serves l i =
+          let k = (top.table).object in
+          let inside = (rests l).inside in
+          typed_before c b S (top.table).at inside.earlier (live_fields S k) top.next field.slot inside.passed field.kind (serves.typed k top.next field i)

@@ -1,0 +1,182 @@
+-- The steps of a walk in one table.
+use Rattle.std.proofs.Common.{◌≡◌, ℕ, suc, ◌+◌, ◌≤◌, List, [], ◌∷◌, length, take, refl, sym, ◌∙◌, subst, arith, Option, Some, None}
+use Rattle.std.specs.Prelude.{slice_get}
+use Rattle.fb_schema.specs.Rows.{Rows}
+use Rattle.fb_schema.specs.Live.{Live, live_fields}
+use Rattle.fb_verify.specs.declared.checks.Checks.{Checks}
+use Rattle.fb_verify.specs.declared.fault.Fault.{Fault}
+use Rattle.fb_verify.specs.Bounds.{Bounds}
+use Rattle.fb_verify.specs.Places.{target}
+use Rattle.fb_verify.specs.Facts.{IsTable, IsOffset}
+use Rattle.fb_verify.specs.Fields.{IsField, to_table, Entry, entries}
+use Rattle.fb_verify.specs.Tree.{node, no_kids, no_elements, Element, table, size, kids_size, elements_size, element_size, depth, kids_depth, elements_depth, element_depth, kids_length, elements_length}
+use Rattle.fb_verify.specs.Unfolds.{Unfolds, FieldsUnfold, ElementsUnfold, ElementUnfolds}
+use Rattle.fb_verify.specs.Cost.{own_reads, lead_reads, tree_cost, kids_cost, elements_cost, element_cost}
+use Rattle.fb_verify.specs.Way.{Way, paying, opening, passing, way_to_table}
+use Rattle.fb_verify.specs.Stops.{in_head, in_field, in_element, IsFalseAt, at_head, at_field, at_own, at_element, at_lead, through, IsTrail, ElementTrail, IsElementTrail, StopsFrom}
+use Rattle.fb_verify.specs.Walked.{at_number, TableWalked, IsInside, IsInField, Waits}
+use Rattle.fb_verify.proofs.Pushes.{elements_push, kids_push, elements_size-push, elements_depth-push, elements_length-push, kids_size-push, kids_depth-push, kids_length-push, front_of, rest_of, all_of, take_all, ElementsUnfold-push, elements_cost-push, FieldsUnfold-push, kids_cost-push}
+
+abbrev the_way : (links passed deepest paid object : ℕ) → Option ℕ → Way
+the_way links passed deepest paid object field = record { links = links; passed = passed; deepest = deepest; paid = paid; object = object; field = field }
+
+-- two ways are one where their parts are
+same_parts : (links passed deepest paid object links' passed' deepest' paid' object' : ℕ) (field field' : Option ℕ) → links ≡ links' → passed ≡ passed' → deepest ≡ deepest' → paid ≡ paid' → object ≡ object' → field ≡ field'
+    → the_way links passed deepest paid object field ≡ the_way links' passed' deepest' paid' object' field'
+same_parts links passed deepest paid object links' passed' deepest' paid' object' field field' a b c d e f = cc
+
+pub same_way : (v w : Way) → v.links ≡ w.links → v.passed ≡ w.passed → v.deepest ≡ w.deepest → v.paid ≡ w.paid → v.object ≡ w.object → v.field ≡ w.field → v ≡ w
+same_way v w a b c d e f = same_parts v.links v.passed v.deepest v.paid v.object w.links w.passed w.deepest w.paid w.object v.field w.field a b c d e f
+
+module _ (c : Checks) (b : List ℕ) (S : Rows) (k t : ℕ) (w : Way) where
+  -- the depth reached counts the open tables
+  pub inside_deep : (i : ℕ) (v : Way) → IsInside c b S k t w i v → v.links ≤ v.deepest
+  inside_deep i v h = rw h.after (omega arith)
+
+  pub field_deep : (next number : ℕ) (left : List Entry) (v : Way) → IsInField c b S k t w next number left v → v.links ≤ v.deepest
+  field_deep next number left v h = rw h.after (omega arith)
+
+  -- a table is opened
+  pub opened : IsTable c b t → IsInside c b S k t w 0 (opening c k w)
+  unfolding FieldsUnfold kids_length kids_size kids_depth kids_cost
+  opened h = record {
+    earlier = no_kids;
+    head = h;
+    count = refl;
+    passed = tt;
+    after = same_way _ _ refl (omega arith) (omega arith) (omega arith) refl refl;
+  }
+
+  -- a field holds by itself
+  pub entered : (i : ℕ) (v : Way) (field : Live) → IsInside c b S k t w i v → slice_get (live_fields S k) i ≡ Some field → IsField c b S t field
+      → IsInField c b S k t w (i + 1) field.number (entries b S t field) (paying (own_reads b t field) (at_number (Some field.number) v))
+  unfolding ElementsUnfold elements_length elements_size elements_depth elements_cost
+  entered i v field h g o =
+      let d = inside_deep i v h in
+      record {
+        i = i;
+        outer = v;
+        inside = h;
+        next_is = refl;
+        field = field;
+        found = g;
+        number_is = refl;
+        own = o;
+        before = no_elements;
+        passed = tt;
+        left_is = refl;
+        after = same_way _ _ refl (omega arith) (omega (arith, d)) (omega arith) refl refl;
+      }
+
+  -- an offset word is passed with what it leads to
+  pub passed_on : (next number : ℕ) (x : Entry) (xs : List Entry) (v u : Way) (y : Element) → IsInField c b S k t w next number (x ∷ xs) v → ElementUnfolds y c b S x.place x.lead
+      → u ≡ passing (element_size y) (element_depth y) (x.reads + lead_reads x.lead + element_cost y c b S) v → IsInField c b S k t w next number xs u
+  passed_on next number x xs v u y h g e =
+      let es = entries b S t h.field in
+      let f = front_of es (elements_length h.before) x xs h.left_is in
+      let l = elements_length-push h.before y in
+      let s = elements_size-push h.before y in
+      let d = elements_depth-push h.before y in
+      let r = elements_cost-push c b S h.before es y x f in
+      let o = at_number (Some (h.field).number) h.outer in
+      record {
+        i = h.i;
+        outer = h.outer;
+        inside = h.inside;
+        next_is = h.next_is;
+        field = h.field;
+        found = h.found;
+        number_is = h.number_is;
+        own = h.own;
+        before = elements_push h.before y;
+        passed = rw l (ElementsUnfold-push c b S h.before es y x h.passed f g);
+        left_is = rw l (rest_of es (elements_length h.before) x xs h.left_is);
+        after = e ∙ rw h.after (same_way _ _ refl (omega (arith, s)) (omega (arith, d)) (omega (arith, r)) refl refl);
+      }
+
+  -- nothing is left of the field
+  pub field_done : (next number : ℕ) (v : Way) → IsInField c b S k t w next number [] v → IsInside c b S k t w next (at_number None v)
+  field_done next number v h =
+      let i = h.inside in
+      let fs = live_fields S k in
+      let es = entries b S t h.field in
+      let l = kids_length-push i.earlier h.before in
+      let s = kids_size-push i.earlier h.before in
+      let d = kids_depth-push i.earlier h.before in
+      let f : slice_get fs (kids_length i.earlier) ≡ Some h.field = rw i.count h.found in
+      let r = kids_cost-push c b S t i.earlier fs h.before h.field f in
+      let n : next ≡ suc (kids_length i.earlier) = omega (arith, h.next_is, i.count) in
+      let p : FieldsUnfold i.earlier c b S t (take (kids_length i.earlier) fs) = rw i.count i.passed in
+      let u : ElementsUnfold h.before c b S es = rw (all_of es (elements_length h.before) h.left_is) at h.passed in
+      record {
+        earlier = kids_push i.earlier h.before;
+        head = i.head;
+        count = l ∙ sym n;
+        passed = rw n (FieldsUnfold-push c b S t i.earlier fs h.before h.field p f h.own u);
+        after = rw (h.after, i.after) (same_way _ _ refl (omega (arith, s)) (omega (arith, d)) (omega (arith, r)) refl refl);
+      }
+
+  -- all fields are passed
+  pub closed : (i : ℕ) (v u : Way) → IsInside c b S k t w i v → length (live_fields S k) ≤ i → u ≡ record v { links = w.links; object = w.object; field = w.field } → TableWalked c b S k t w u
+  unfolding Unfolds size depth tree_cost
+  closed i v u h l e = record {
+    found = node k t h.earlier;
+    unfolds = (refl, refl, h.head, rw (take_all (live_fields S k) i l) at h.passed);
+    after = e ∙ rw h.after (same_way _ _ refl (omega arith) (omega arith) (omega arith) refl refl);
+  }
+
+  -- an offset word leads to a table
+  pub waits : (next number : ℕ) (x : Entry) (xs : List Entry) (v : Way) (k' t' : ℕ) → IsInField c b S k t w next number (x ∷ xs) v → x.lead ≡ to_table k' → IsOffset c b x.place → t' ≡ target b x.place
+      → Waits c b S k t w next number xs k' t' (way_to_table x v)
+  waits next number x xs v k' t' h l o p = record { x = x; v = v; in_field = h; leads = l; offset = o; place = p; after = refl }
+
+  -- the table was walked
+  pub resumed : (next number : ℕ) (xs : List Entry) (k' t' : ℕ) (u v : Way) → Waits c b S k t w next number xs k' t' u → TableWalked c b S k' t' u v → IsInField c b S k t w next number xs v
+  unfolding ElementUnfolds element_size element_depth element_cost
+  resumed next number xs k' t' u v h g =
+      let y = table g.found in
+      let r : lead_reads (h.x).lead ≡ 1 = rw h.leads refl in
+      let unfolds : ElementUnfolds y c b S (h.x).place (to_table k') = (h.offset, rw h.place at g.unfolds) in
+      passed_on next number h.x xs h.v v y h.in_field (subst (λ lead. ElementUnfolds y c b S (h.x).place lead) (sym h.leads) unfolds) (g.after ∙ rw h.after (same_way _ _ refl refl refl (omega (arith, r)) refl refl))
+
+  -- Where it stops.
+  module _ (L : Bounds) (f : Fault) where
+    -- at the head
+    pub stops_at_head : IsFalseAt c b S L (in_head k t) w f → StopsFrom c b S L k t w f
+    unfolding IsTrail
+    stops_at_head h = (at_head, h)
+
+    -- at a field's own tests
+    pub stops_at_field : (i : ℕ) (v : Way) (field : Live) → IsInside c b S k t w i v → slice_get (live_fields S k) i ≡ Some field → IsFalseAt c b S L (in_field t field) (at_number (Some field.number) v) f → StopsFrom c b S L k t w f
+    unfolding IsTrail
+    stops_at_field i v field h g p =
+        (at_field h.earlier at_own, (field, record { head = h.head; passed = rw h.count h.passed; next = rw h.count g }, rw h.after at p))
+
+    -- at an offset word or further on
+    stops_in_element : (next number : ℕ) (x : Entry) (xs : List Entry) (v : Way) (s : ElementTrail) → IsInField c b S k t w next number (x ∷ xs) v → IsElementTrail s c b S L x v f → StopsFrom c b S L k t w f
+    unfolding IsTrail
+    stops_in_element next number x xs v s h p =
+        let i = h.inside in
+        let p' = rw h.after at p in (
+          at_field i.earlier (at_element h.before s),
+          (
+            h.field,
+            record { head = i.head; passed = rw i.count i.passed; next = rw i.count h.found },
+            (
+              x,
+              record { own = h.own; passed = h.passed; next = front_of (entries b S t h.field) (elements_length h.before) x xs h.left_is },
+              rw i.after at p',
+            ),
+          ),
+        )
+
+    -- at an offset word
+    pub stops_at_element : (next number : ℕ) (x : Entry) (xs : List Entry) (v : Way) → IsInField c b S k t w next number (x ∷ xs) v → IsFalseAt c b S L (in_element x) v f → StopsFrom c b S L k t w f
+    unfolding IsElementTrail
+    stops_at_element next number x xs v h p = stops_in_element next number x xs v at_lead h p
+
+    -- in the table to which it leads
+    pub stops_below : (next number : ℕ) (xs : List Entry) (k' t' : ℕ) (u : Way) → Waits c b S k t w next number xs k' t' u → StopsFrom c b S L k' t' u f → StopsFrom c b S L k t w f
+    unfolding IsElementTrail
+    stops_below next number xs k' t' u h s =
+        stops_in_element next number h.x xs h.v (through s.0) h.in_field (k', h.leads, h.offset, rw (h.place, h.after) at s.1)

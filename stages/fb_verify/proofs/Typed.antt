@@ -1,0 +1,72 @@
+-- The type fields of unions were checked before the unions.
+use Rattle.std.proofs.Common.{◌≡◌, ℕ, zero, suc, ◌-◌, ◌<◌, List, [], ◌∷◌, take, refl, ◌∙◌, subst, arith, Some}
+use Rattle.std.specs.Prelude.{slice_get}
+use Rattle.fb_schema.specs.declared.kinds.Kind.{Kind}
+use Rattle.fb_schema.specs.declared.kinds.Kind.TheVariants.{Scalar, Text, Struct, Table, Union, Scalars, Texts, Structs, Tables, Unions}
+use Rattle.fb_schema.specs.declared.kinds.Scalar.TheVariants.{UType}
+use Rattle.fb_schema.specs.Rows.{Rows}
+use Rattle.fb_schema.specs.Live.{Live}
+use Rattle.fb_schema.specs.Served.{HasTypeField, IsTyped as IsTypedIn}
+use Rattle.fb_verify.specs.declared.checks.Checks.{Checks}
+use Rattle.fb_verify.specs.Places.{field_place}
+use Rattle.fb_verify.specs.Fields.{IsPresent, IsPresentOrAbsent, IsField, type_place}
+use Rattle.fb_verify.specs.Tree.{Kids, no_kids, kid}
+use Rattle.fb_verify.specs.Unfolds.{FieldsUnfold}
+use Rattle.fb_verify.specs.Rows.{TypeFits, TypesFit, IsTyped}
+
+get_take : {A : Type 0} (xs : List A) (m n : ℕ) → m < n → slice_get (take n xs) m ≡ slice_get xs m
+get_take [] m zero h = refl
+get_take [] m (suc n) h = refl
+get_take (x ∷ xs) zero zero h = absurd (omega arith)
+get_take (x ∷ xs) zero (suc n) h = refl
+get_take (x ∷ xs) (suc m) zero h = absurd (omega arith)
+get_take (x ∷ xs) (suc m) (suc n) h = get_take xs m n (omega arith)
+
+module _ (c : Checks) (b : List ℕ) (S : Rows) (t : ℕ) where
+  -- a field that is passed holds
+  field_met : (kids : Kids) (fs : List Live) (j : ℕ) (h : Live) → FieldsUnfold kids c b S t fs → slice_get fs j ≡ Some h → IsField c b S t h
+  unfolding FieldsUnfold
+  field_met no_kids [] j h u e = absurd cc
+  field_met no_kids (f ∷ fs) j h u e = absurd u
+  field_met (kid ys kids) [] j h u e = absurd u
+  field_met (kid ys kids) (f ∷ fs) zero h u e = let i : f ≡ h = cc in subst (λ x. IsField c b S t x) i u.0
+  field_met (kid ys kids) (f ∷ fs) (suc j) h u e = field_met kids fs j h u.2 e
+
+  -- a field that is present holds where it is
+  present : (f : Live) (p : ℕ) (kind : Kind) → IsField c b S t f → field_place b t f.slot ≡ Some p → f.kind ≡ kind → IsPresent c b S t f p kind
+  unfolding IsField
+  present f p kind h e k = subst (λ x. IsPresent c b S t f p x) k (subst (λ x. IsPresentOrAbsent c b S t f x) e h)
+
+  module _ (kids : Kids) (fs : List Live) (i o : ℕ) (u : FieldsUnfold kids c b S t (take i fs)) where
+    -- the type field that legal rows give is passed, and stands where the union's slot says
+    types_at : (kind : Kind) (h : HasTypeField fs i o kind) (q : ℕ) → type_place b t o ≡ Some q → IsPresent c b S t h.field q kind
+    types_at kind h q e =
+        let met = field_met kids (take i fs) h.place h.field u (get_take fs h.place i h.lower ∙ h.found) in
+        let s : o - 2 ≡ (h.field).slot = omega (arith, h.below) in
+        present h.field q kind met (rw s at e) h.kind_is
+
+    type_fits : HasTypeField fs i o (Scalar UType) → TypeFits b t o
+    type_fits h = record {
+      slot = omega (arith, h.below);
+      within = λ q e. omega (arith, h.size_is, (types_at (Scalar UType) h q e).value.within);
+    }
+
+    types_fit : HasTypeField fs i o (Scalars UType) → TypesFit b t o
+    types_fit h = record {
+      slot = omega (arith, h.below);
+      offset = λ q e. (types_at (Scalars UType) h q e).offset.within;
+      count = λ q e. (types_at (Scalars UType) h q e).vector.count;
+      types = λ q e. let v = (types_at (Scalars UType) h q e).vector.within in let one = h.size_is in omega (arith, rw one at v);
+    }
+
+    pub typed_before : (kind : Kind) → IsTypedIn fs i o kind → IsTyped b t o kind
+    typed_before (Scalar s) h = tt
+    typed_before Text h = tt
+    typed_before (Struct k) h = tt
+    typed_before (Table k) h = tt
+    typed_before (Union e) h = type_fits h
+    typed_before (Scalars s) h = tt
+    typed_before Texts h = tt
+    typed_before (Structs k) h = tt
+    typed_before (Tables k) h = tt
+    typed_before (Unions e) h = types_fit h

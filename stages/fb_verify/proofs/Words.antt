@@ -1,0 +1,44 @@
+-- What is left of a row.
+use Rattle.std.proofs.Common.{◌≡◌, ℕ, zero, suc, ◌+◌, ◌-◌, ◌<◌, List, [], ◌∷◌, refl, arith}
+use Rattle.fb_schema.specs.Rows.{Rows}
+use Rattle.fb_verify.specs.declared.row.Leads.{Leads}
+use Rattle.fb_verify.specs.declared.row.Leads.TheVariants.{All, ByType}
+use Rattle.fb_verify.specs.declared.row.Row.{Row}
+use Rattle.fb_verify.specs.Fields.{row, union_row}
+use Rattle.fb_verify.specs.Rows.{words, words_of, word_at, first_word, leads_after, past_first, AreLeads, IsRow}
+
+module _ (b : List ℕ) (S : Rows) where
+  words-front : (leads : Leads) (p n : ℕ) → 0 < n → words b S leads p n ≡ word_at b S leads p ∷ words b S (leads_after leads) (p + 4) (n - 1)
+  unfolding row union_row
+  words-front (All referent) p zero h = absurd (omega arith)
+  words-front (All referent) p (suc n) h = let e : suc n - 1 ≡ n = omega arith in rw e refl
+  words-front (ByType e q) p zero h = absurd (omega arith)
+  words-front (ByType e q) p (suc n) h = let i : suc n - 1 ≡ n = omega arith in rw i refl
+
+  words-none : (leads : Leads) (p n : ℕ) → n ≡ 0 → words b S leads p n ≡ []
+  unfolding row union_row
+  words-none (All referent) p zero h = refl
+  words-none (All referent) p (suc n) h = absurd (omega arith)
+  words-none (ByType e q) p zero h = refl
+  words-none (ByType e q) p (suc n) h = absurd (omega arith)
+
+  -- the first, and the others
+  pub row_front : (r : Row) → 0 < r.left → words_of b S r ≡ first_word b S r ∷ words_of b S (past_first r)
+  row_front r h = words-front r.leads r.place r.left h
+
+  pub row_none : (r : Row) → r.left ≡ 0 → words_of b S r ≡ []
+  row_none r h = words-none r.leads r.place r.left h
+
+  place-of : (leads : Leads) (p : ℕ) → (word_at b S leads p).place ≡ p
+  place-of (All referent) p = refl
+  place-of (ByType e q) p = refl
+
+  pub first_place : (r : Row) → (first_word b S r).place ≡ r.place
+  first_place r = place-of r.leads r.place
+
+  leads_on : (leads : Leads) (n : ℕ) → AreLeads b S n leads → 0 < n → AreLeads b S (n - 1) (leads_after leads)
+  leads_on (All referent) n h l = h
+  leads_on (ByType e q) n h l = (h.0, omega (arith, h.1), omega (arith, h.2))
+
+  pub row_on : (r : Row) → 0 < r.left → IsRow b S r → IsRow b S (past_first r)
+  row_on r l h = record { place = omega (arith, h.place); left = omega (arith, h.left); leads = λ m. leads_on r.leads r.left (h.leads l) l }

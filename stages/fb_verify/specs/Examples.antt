@@ -1,0 +1,116 @@
+-- Examples: trees with their numbers, and faults with the trails that lead to them.
+use Rattle.std.specs.Prelude.{◌≡◌, ℕ, true, List, Some, None}
+use Rattle.fb_schema.specs.Rows.{Rows}
+use Rattle.fb_verify.specs.declared.checks.Checks.{Checks}
+use Rattle.fb_verify.specs.declared.start.Start.TheVariants.{Bare}
+use Rattle.fb_verify.specs.declared.start.Ident.TheVariants.{Any}
+use Rattle.fb_verify.specs.declared.fault.Fault.{Fault}
+use Rattle.fb_verify.specs.declared.fault.Reason.{Reason}
+use Rattle.fb_verify.specs.declared.fault.Reason.TheVariants.{Misaligned, ZeroOffset, TooDeep, TooManyTables, BadVtable, NoTerminator, LengthsDiffer, PastTable}
+use Rattle.fb_verify.specs.Bounds.{Bounds}
+use Rattle.fb_verify.specs.Places.{target}
+use Rattle.fb_verify.specs.Tree.{Tree, node, Kids, no_kids, kid, Elements, no_elements, element, leaf, table, size, depth}
+use Rattle.fb_verify.specs.WellFormed.{IsStart, IsWellFormed, cost}
+use Rattle.fb_verify.specs.Way.{way_to_root}
+use Rattle.fb_verify.specs.Stops.{Trail, at_head, at_field, at_own, at_element, at_lead, through, IsTrail}
+use Rattle.fb_verify.specs.Samples.{published_checks, published_limits, monsters, nodes, unions, monster, open_name, no_name, short_table, one_member, odd_vtable, crooked_struct, two_members, three_values, every_kind, shared}
+
+-- under the published checks the buffer unfolds into this tree, with so many tables, so deep, for so many reads
+abbrev pub Counts : List ℕ → Rows → ℕ → Tree → ℕ → ℕ → ℕ → Type 0
+Counts b S root y tables deep reads =
+    IsWellFormed published_checks b S root Bare Any y × (size y ≡ tables) × (depth y ≡ deep) × (cost y published_checks b S Bare Any ≡ reads)
+
+-- the buffer begins as it should, and this trail leads from its root to this fault
+abbrev pub StopsBy : Checks → List ℕ → Rows → ℕ → Bounds → Trail → Fault → Type 0
+StopsBy c b S root L s f = IsStart c b Bare Any × IsTrail s c b S L root (target b 0) (way_to_root root Bare Any) f
+
+-- a fault in a field
+abbrev pub in_field_of : ℕ → ℕ → ℕ → Reason → ℕ → Fault
+in_field_of object number at reason reads = record { at = at; object = object; field = Some number; reason = reason; reads = reads }
+
+-- one element that is a table
+abbrev pub one_table : Tree → Elements
+one_table y = element (table y) no_elements
+
+-- one passed field that leads nowhere
+abbrev pub one_field : Kids
+one_field = kid no_elements no_kids
+
+-- a monster's hit points lead nowhere, and its name to a string
+abbrev pub MonsterUnfolds : Type 0
+MonsterUnfolds = Counts monster monsters 0 (node 0 12 (kid no_elements (kid (element leaf no_elements) no_kids))) 1 1 8
+
+-- a union leads to a table
+abbrev pub OneMemberUnfolds : Type 0
+OneMemberUnfolds = Counts one_member unions 2 (node 2 12 (kid no_elements (kid (one_table (node 0 32 one_field)) no_kids))) 2 2 11
+
+-- of two unions in a vector one leads to a string and one to nothing
+abbrev pub TwoMembersUnfold : Type 0
+TwoMembersUnfold = Counts two_members unions 3 (node 3 12 (kid no_elements (kid (element leaf (element leaf no_elements)) no_kids))) 1 1 17
+
+-- a table A with its number
+abbrev pub number : Tree
+number = node 0 168 one_field
+
+-- the fields of every kind, in their order
+abbrev pub every_kids : Kids
+every_kids =
+    kid no_elements
+    (kid (element leaf no_elements)
+    (kid no_elements
+    (kid (one_table number)
+    (kid no_elements
+    (kid (element leaf no_elements)
+    (kid no_elements
+    (kid no_elements
+    (kid (element leaf (element leaf no_elements))
+    (kid (element (table number) (one_table number))
+    (kid no_elements
+    (kid (element leaf (element (table number) (element leaf no_elements))) no_kids)))))))))))
+
+-- a field of every kind; the table at 168 is reached four times, and is four nodes
+abbrev pub EveryKindUnfolds : Type 0
+EveryKindUnfolds = Counts every_kind unions 4 (node 4 32 every_kids) 5 2 64
+
+-- past the hit points, the name ends without a byte 0
+abbrev pub OpenNameStops : Type 0
+OpenNameStops = StopsBy published_checks open_name monsters 0 published_limits (at_field one_field (at_element no_elements at_lead)) (in_field_of 0 1 31 NoTerminator 8)
+
+-- past the hit points, the name's offset is 0
+abbrev pub NoNameStops : Type 0
+NoNameStops = StopsBy published_checks no_name monsters 0 published_limits (at_field one_field (at_element no_elements at_lead)) (in_field_of 0 1 16 ZeroOffset 6)
+
+-- past the types, of which there are two, there are three values
+abbrev pub ThreeValuesStop : Type 0
+ThreeValuesStop = StopsBy published_checks three_values unions 3 published_limits (at_field one_field at_own) (in_field_of 3 1 32 LengthsDiffer 12)
+
+-- past the type, the struct stands where no long may stand
+abbrev pub CrookedStructStops : Type 0
+CrookedStructStops = StopsBy published_checks crooked_struct unions 2 published_limits (at_field one_field (at_element no_elements at_lead)) (in_field_of 2 1 28 Misaligned 8)
+
+-- the tables of `shared`: its root has this middle one twice, and that has the last one twice
+
+abbrev pub last : Tree
+last = node 0 40 (kid no_elements (kid no_elements no_kids))
+
+abbrev pub middle : Tree
+middle = node 0 28 (kid (one_table last) (kid (one_table last) no_kids))
+
+-- with 6 tables allowed: past the root's first subtable and the first of its second's, the seventh
+abbrev pub SeventhTableStops : Type 0
+SeventhTableStops =
+    StopsBy published_checks shared nodes 0 (record { depth = 64; tables = 6 }) (at_field (kid (one_table middle) no_kids) (at_element no_elements (through (at_field (kid (one_table last) no_kids) (at_element no_elements (through at_head)))))) (in_field_of 0 1 40 TooManyTables 25)
+
+-- with depth 2 and 2 tables allowed: the first table of the first, where both limits are reached
+abbrev pub ThirdLevelStops : Type 0
+ThirdLevelStops =
+    StopsBy published_checks shared nodes 0 (record { depth = 2; tables = 2 }) (at_field no_kids (at_element no_elements (through (at_field no_kids (at_element no_elements (through at_head)))))) (in_field_of 0 0 40 TooDeep 9)
+
+-- past the type, through the value, the head of the table A, whose vtable has an odd size
+abbrev pub OddVtableStops : Type 0
+OddVtableStops =
+    StopsBy published_checks odd_vtable unions 2 published_limits (at_field one_field (at_element no_elements (through at_head))) (record { at = 24; object = 0; field = None; reason = BadVtable; reads = 10 })
+
+-- where the inline size is checked: the hit points end past it
+abbrev pub ShortTableStops : Type 0
+ShortTableStops = StopsBy (record { alignment = true; inline_size = true }) short_table monsters 0 published_limits (at_field no_kids at_own) (in_field_of 0 0 20 PastTable 5)

@@ -1,0 +1,93 @@
+-- The laws of the definitions.
+use Rattle.std.specs.Prelude.{◌≡◌, ◌↔◌, ◌⊎◌, ℕ, ◌+◌, ◌<◌, ◌≤◌, List, length, slice_index, None}
+use Rattle.fb_bytes.specs.Word.{word}
+use Rattle.fb_schema.specs.Rows.{Rows}
+use Rattle.fb_schema.specs.Live.{Live}
+use Rattle.fb_verify.specs.declared.checks.Checks.{Checks}
+use Rattle.fb_verify.specs.declared.start.Start.{Start}
+use Rattle.fb_verify.specs.declared.start.Ident.{Ident}
+use Rattle.fb_verify.specs.declared.fault.Reason.TheVariants.{TooDeep, TooManyTables}
+use Rattle.fb_verify.specs.declared.fault.Fault.{Fault}
+use Rattle.fb_verify.specs.Bounds.{Bounds}
+use Rattle.fb_verify.specs.Places.{target}
+use Rattle.fb_verify.specs.Facts.{IsTable, IsOffset, IsString, IsVector, IsInline}
+use Rattle.fb_verify.specs.Fields.{IsField, Lead, to_table, to_struct, to_string, to_nothing, Entry}
+use Rattle.fb_verify.specs.Tree.{Tree, size, depth}
+use Rattle.fb_verify.specs.Unfolds.{Unfolds}
+use Rattle.fb_verify.specs.WellFormed.{IsStart, IsWellFormed, IsWithin, cost}
+use Rattle.fb_verify.specs.Way.{Way}
+use Rattle.fb_verify.specs.Stops.{Trail, IsTrail, Stops}
+use Rattle.fb_verify.specs.MostReads.{most_reads}
+use Rattle.fb_verify.specs.Order.{start_failure, head_failure, offset_failure, string_failure, vector_failure, inline_failure, own_failure, element_failure}
+
+-- a chain of tests finds nothing exactly where the facts hold
+
+abbrev pub StartLaw : Type 0
+StartLaw = (c : Checks) (b : List ℕ) (start : Start) (ident : Ident) → (start_failure c b start ident ≡ None) ↔ IsStart c b start ident
+
+abbrev pub HeadLaw : Type 0
+HeadLaw = (c : Checks) (b : List ℕ) (t : ℕ) → (head_failure c b t ≡ None) ↔ IsTable c b t
+
+abbrev pub OffsetLaw : Type 0
+OffsetLaw = (c : Checks) (b : List ℕ) (p : ℕ) → (offset_failure c b p ≡ None) ↔ IsOffset c b p
+
+abbrev pub StringLaw : Type 0
+StringLaw = (c : Checks) (b : List ℕ) (s : ℕ) → (string_failure c b s ≡ None) ↔ IsString c b s
+
+abbrev pub VectorLaw : Type 0
+VectorLaw = (c : Checks) (b : List ℕ) (v size align : ℕ) → (vector_failure c b v size align ≡ None) ↔ IsVector c b v size align
+
+abbrev pub InlineLaw : Type 0
+InlineLaw = (c : Checks) (b : List ℕ) (p size align : ℕ) → (inline_failure c b p size align ≡ None) ↔ IsInline c b p size align
+
+-- an element by itself, but for the table that it may lead to
+abbrev pub IsLead : Checks → List ℕ → ℕ → Lead → Type 0
+IsLead c b p (to_table k) = IsOffset c b p
+IsLead c b p (to_struct size align) = IsOffset c b p × IsInline c b (target b p) size align
+IsLead c b p to_string = IsOffset c b p × IsString c b (target b p)
+IsLead c b p to_nothing = Unit {0}
+
+abbrev pub ElementLaw : Type 0
+ElementLaw = (c : Checks) (b : List ℕ) (x : Entry) → (element_failure c b x ≡ None) ↔ IsLead c b x.place x.lead
+
+abbrev pub FieldLaw : Type 0
+FieldLaw = (c : Checks) (b : List ℕ) (S : Rows) (t : ℕ) (f : Live) → (own_failure c b S t f ≡ None) ↔ IsField c b S t f
+
+-- two numbers of four bytes are one exactly where the bytes are the same, as for the identifier
+abbrev pub IdentifierLaw : Type 0
+IdentifierLaw =
+    (b name : List ℕ) (p : ℕ) → ((i : ℕ) → slice_index b i < 256) → ((i : ℕ) → slice_index name i < 256) → (word b p 4 ≡ word name 0 4) ↔ ((i : ℕ) → i < 4 → slice_index b (p + i) ≡ slice_index name i)
+
+-- a buffer has at most one tree for an object and a position
+abbrev pub HasOneTree : Type 0
+HasOneTree = (c : Checks) (b : List ℕ) (S : Rows) (k t : ℕ) (y z : Tree) → Unfolds y c b S k t → Unfolds z c b S k t → y ≡ z
+
+-- the fault is a limit, and a tree of this depth and size at the end of this way is past it
+abbrev pub Overruns : Bounds → Way → ℕ → ℕ → Fault → Type 0
+Overruns L w deep many f =
+    ((f.reason ≡ TooDeep) × (L.depth < w.links + deep)) ⊎ ((f.reason ≡ TooManyTables) × (L.tables < w.passed + many))
+
+-- where the way w leads to a table with a tree, a trail from there stops only at a limit, and the tree is past it
+abbrev pub StopsOnlyAtLimits : Type 0
+StopsOnlyAtLimits =
+    (c : Checks) (b : List ℕ) (S : Rows) (L : Bounds) (k t : ℕ) (y : Tree) (w : Way) (s : Trail) (f : Fault) → Unfolds y c b S k t → IsTrail s c b S L k t w f → Overruns L w (depth y) (size y) f
+
+-- at most one fault is the first
+abbrev pub StopsOnce : Type 0
+StopsOnce =
+    (c : Checks) (b : List ℕ) (S : Rows) (root : ℕ) (start : Start) (ident : Ident) (L : Bounds) (f g : Fault) → Stops c b S root start ident L f → Stops c b S root start ident L g → f ≡ g
+
+-- none is, where a tree is well formed and within the limits
+abbrev pub StopsNowhereWithin : Type 0
+StopsNowhereWithin =
+    (c : Checks) (b : List ℕ) (S : Rows) (root : ℕ) (start : Start) (ident : Ident) (L : Bounds) (y : Tree) (f : Fault) → IsWellFormed c b S root start ident y → IsWithin y L → Stops c b S root start ident L f → ⊥
+
+-- a well formed tree within the limits costs at most that many reads
+abbrev pub CostIsBounded : Type 0
+CostIsBounded =
+    (c : Checks) (b : List ℕ) (S : Rows) (root : ℕ) (start : Start) (ident : Ident) (L : Bounds) (y : Tree) → IsWellFormed c b S root start ident y → IsWithin y L → cost y c b S start ident ≤ most_reads S L (length b)
+
+-- so does a fault
+abbrev pub ReadsAreBounded : Type 0
+ReadsAreBounded =
+    (c : Checks) (b : List ℕ) (S : Rows) (root : ℕ) (start : Start) (ident : Ident) (L : Bounds) (f : Fault) → Stops c b S root start ident L f → f.reads ≤ most_reads S L (length b)

@@ -1,0 +1,95 @@
+-- The offset words that are left of a field, as a walk keeps them.
+use Rattle.std.specs.Prelude.{◌≡◌, ℕ, ◌+◌, ◌-◌, ◌*◌, ◌<◌, ◌≤◌, ◌^◌, List, length, Some, IsTrue}
+use Rattle.fb_bytes.specs.Word.{word}
+use Rattle.fb_schema.specs.declared.kinds.Kind.{Kind}
+use Rattle.fb_schema.specs.declared.kinds.Kind.TheVariants.{Union, Unions}
+use Rattle.fb_schema.specs.Rows.{Rows, is_table, is_union}
+use Rattle.fb_schema.specs.Members.{member_of}
+use Rattle.fb_verify.specs.declared.row.Referent.{Referent}
+use Rattle.fb_verify.specs.declared.row.Referent.TheVariants.{Text as AText, Table as ATable, Struct as AStruct, Nothing}
+use Rattle.fb_verify.specs.declared.row.Leads.{Leads}
+use Rattle.fb_verify.specs.declared.row.Leads.TheVariants.{All, ByType}
+use Rattle.fb_verify.specs.declared.row.Row.{Row}
+use Rattle.fb_verify.specs.Places.{target}
+use Rattle.fb_verify.specs.Fields.{type_place, Lead, to_table, to_struct, to_string, to_nothing, lead_of, Entry, entry, row, union_row}
+
+-- where an offset word leads that refers to this
+abbrev pub lead_to : Referent → Lead
+lead_to AText = to_string
+lead_to (ATable k) = to_table k
+lead_to (AStruct size align) = to_struct size align
+lead_to Nothing = to_nothing
+
+-- n offset words from p on
+abbrev pub words : List ℕ → Rows → Leads → ℕ → ℕ → List Entry
+words b S (All referent) p n = row (lead_to referent) p n
+words b S (ByType e q) p n = union_row b S e q p n
+
+-- the offset words that a row is
+abbrev pub words_of : List ℕ → Rows → Row → List Entry
+words_of b S r = words b S r.leads r.place r.left
+
+-- an offset word at p
+abbrev pub word_at : List ℕ → Rows → Leads → ℕ → Entry
+word_at b S (All referent) p = entry (lead_to referent) p 0
+word_at b S (ByType e q) p = entry (lead_of S (member_of S e (word b q 1))) p 1
+
+-- the first of a row
+abbrev pub first_word : List ℕ → Rows → Row → Entry
+first_word b S r = word_at b S r.leads r.place
+
+-- the others
+abbrev pub leads_after : Leads → Leads
+leads_after (All referent) = All referent
+leads_after (ByType e q) = ByType e (q + 1)
+
+abbrev pub past_first : Row → Row
+past_first r = record { leads = leads_after r.leads; place = r.place + 4; left = r.left - 1 }
+
+abbrev pub AreTypesNear : Leads → Type 0
+AreTypesNear (All referent) = Unit {0}
+AreTypesNear (ByType e q) = q < 2 ^ 36
+
+-- what is referred to can be asked of the schema
+abbrev pub IsReferent : Rows → Referent → Type 0
+IsReferent S AText = Unit {0}
+IsReferent S (ATable k) = IsTrue (is_table S k)
+IsReferent S (AStruct size align) = 0 < align
+IsReferent S Nothing = Unit {0}
+
+-- a struct has an alignment
+abbrev pub IsSized : Referent → Type 0
+IsSized (AStruct size align) = 0 < align
+IsSized _ = Unit {0}
+
+-- an offset word that leads to no table
+abbrev pub IsLeafLead : Lead → Type 0
+IsLeafLead (to_table k) = ⊥
+IsLeafLead _ = Unit {0}
+
+-- the types of n offset words lie in the buffer
+abbrev pub AreLeads : List ℕ → Rows → ℕ → Leads → Type 0
+AreLeads b S n (All referent) = IsReferent S referent
+AreLeads b S n (ByType e q) = IsTrue (is_union S e) × (q + n ≤ length b) × (q + n < 2 ^ 36)
+
+-- a row that a walk can go on with
+pub record IsRow (b : List ℕ) (S : Rows) (r : Row) : Type 0 where
+  pub place : r.place + 4 * r.left < 2 ^ 35
+  pub left : r.left < 2 ^ 29
+  pub leads : 0 < r.left → AreLeads b S r.left r.leads
+
+-- the type fields of a union and of a vector of unions were checked before: the types lie in the buffer
+pub record TypeFits (b : List ℕ) (t o : ℕ) : Type 0 where
+  pub slot : 2 ≤ o
+  pub within : (q : ℕ) → type_place b t o ≡ Some q → q + 1 ≤ length b
+
+pub record TypesFit (b : List ℕ) (t o : ℕ) : Type 0 where
+  pub slot : 2 ≤ o
+  pub offset : (q : ℕ) → type_place b t o ≡ Some q → q + 4 ≤ length b
+  pub count : (q : ℕ) → type_place b t o ≡ Some q → target b q + 4 ≤ length b
+  pub types : (q : ℕ) → type_place b t o ≡ Some q → target b q + 4 + word b (target b q) 4 ≤ length b
+
+abbrev pub IsTyped : List ℕ → ℕ → ℕ → Kind → Type 0
+IsTyped b t o (Union e) = TypeFits b t o
+IsTyped b t o (Unions e) = TypesFit b t o
+IsTyped b t o _ = Unit {0}

@@ -1,0 +1,28 @@
+-- A buffer that was verified, as contracts see it.
+use Rattle.std.specs.Prelude.{◌≡◌, ℕ, ◌<◌, ◌^◌, List, length, IsTrue}
+use Rattle.fb_schema.specs.Rows.{Rows, is_table}
+use Rattle.fb_verify.specs.declared.checks.Checks.{Checks}
+use Rattle.fb_verify.specs.declared.start.Start.{Start}
+use Rattle.fb_verify.specs.declared.start.Ident.TheVariants.{Any}
+use Rattle.fb_verify.specs.declared.fault.Report.{Report}
+use Rattle.fb_verify.specs.Tree.{Tree, size, depth}
+use Rattle.fb_verify.specs.WellFormed.{IsWellFormed}
+
+-- the bytes, the rows of the schema, and what was asked and answered
+pub record Sealed : Type 0 where
+  pub bytes : List ℕ
+  pub schema : Rows
+  pub root : ℕ
+  pub start : Start
+  pub checks : Checks
+  pub report : Report
+
+-- the bytes, of which there are fewer than 2^31, unfold by the schema from the root, which is a table, whatever their identifier, into a tree of
+-- so many tables and this depth
+pub record IsUnfolded (v : Sealed) : Type 0 where
+  pub short : length v.bytes < 2 ^ 31
+  pub root_is_table : IsTrue (is_table v.schema v.root)
+  pub found : Tree
+  pub well_formed : IsWellFormed v.checks v.bytes v.schema v.root v.start Any found
+  pub tables : (v.report).tables ≡ size found
+  pub depth : (v.report).depth ≡ depth found

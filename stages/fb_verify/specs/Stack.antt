@@ -1,0 +1,111 @@
+-- The frames of a walk: what they say of the walk so far, and the work that is left to it.
+use Rattle.std.specs.Prelude.{◌≡◌, ℕ, ◌+◌, ◌-◌, ◌*◌, ◌^◌, ◌<◌, ◌≤◌, ◌⊎◌, IsTrue, List, [], ◌∷◌, length, Option, Some, None}
+use Rattle.std.specs.List.{All, sum_by}
+use Rattle.fb_schema.specs.Rows.{Rows, is_table}
+use Rattle.fb_schema.specs.Live.{live_fields}
+use Rattle.fb_schema.specs.Served.{IsServed}
+use Rattle.fb_bytes.specs.Word.{Metered}
+use Rattle.fb_verify.specs.declared.checks.Checks.{Checks}
+use Rattle.fb_verify.specs.declared.fault.Fault.{Fault}
+use Rattle.fb_verify.specs.declared.row.Referent.TheVariants.{Nothing}
+use Rattle.fb_verify.specs.declared.row.Leads.TheVariants.{All as AllTo}
+use Rattle.fb_verify.specs.declared.scratch.Frame.{Frame}
+use Rattle.fb_verify.specs.declared.field.Table.{Table}
+use Rattle.fb_verify.specs.declared.stack.Walk.{Walk}
+use Rattle.fb_verify.specs.Bounds.{Bounds}
+use Rattle.fb_verify.specs.Way.{Way}
+use Rattle.fb_verify.specs.Told.{IsHead}
+use Rattle.fb_verify.specs.Rows.{words_of, IsRow}
+use Rattle.fb_verify.specs.Stops.{StopsFrom}
+use Rattle.fb_verify.specs.Walked.{ended, TableWalked, IsInside, IsInField, Waits}
+
+-- what no walk has written
+abbrev pub blank : Frame
+blank = record { table = record { object = 0; at = 0; head = record { vtable = 0; size = 0; inline = 0 } }; next = 0; number = 0; row = record { leads = AllTo Nothing; place = 0; left = 0 } }
+
+-- a frame that the walk can go on with
+pub record IsFrame (c : Checks) (b : List ℕ) (S : Rows) (fr : Frame) : Type 0 where
+  pub object : IsTrue (is_table S (fr.table).object)
+  pub near : (fr.table).at < 2 ^ 33
+  pub head : IsHead c b (fr.table).at (fr.table).head
+  pub next : fr.next ≤ length (live_fields S (fr.table).object)
+  pub row : IsRow b S fr.row
+
+-- the turns and reads that are left for a frame at most, but for those of tables to be opened
+abbrev pub frame_work : Rows → Frame → ℕ
+frame_work S fr = 1 + 2 ^ 33 * (length (live_fields S (fr.table).object) - fr.next) + 8 * (fr.row).left
+
+-- and for the whole stack, the frames that wait below and the top, after so many tables
+unfoldable pub work : Rows → Bounds → List Frame → Frame → ℕ → ℕ
+work S L below top tables = sum_by (frame_work S) below + frame_work S top + 2 ^ 49 * (L.tables - tables)
+
+abbrev pub AreFrames : Checks → List ℕ → Rows → List Frame → Type 0
+AreFrames c b S frames = All (IsFrame c b S) frames
+
+-- into a table of the object k at the end of the way w, where the walk came to n tables, the depth d and r reads
+abbrev pub reached : Way → ℕ → Option ℕ → ℕ → ℕ → ℕ → Way
+reached w k field n d r = record { links = w.links + 1; passed = n; deepest = d; paid = r; object = k; field = field }
+
+-- no field of the frame's table is under check
+pub record Resting (c : Checks) (b : List ℕ) (S : Rows) (fr : Frame) (w : Way) (n d r : ℕ) : Type 0 where
+  pub none : (fr.row).left ≡ 0
+  pub inside : IsInside c b S (fr.table).object (fr.table).at w fr.next (reached w (fr.table).object None n d r)
+
+-- a field is under check, and the row is left of it
+abbrev pub Middle : Checks → List ℕ → Rows → Frame → Way → ℕ → ℕ → ℕ → Type 0
+Middle c b S fr w n d r = IsInField c b S (fr.table).object (fr.table).at w fr.next fr.number (words_of b S fr.row) (reached w (fr.table).object (Some fr.number) n d r)
+
+-- a field waits for the table at t of the object k, to which the way u leads, and the row is left of it after that
+abbrev pub Goes : Checks → List ℕ → Rows → Frame → Way → ℕ → ℕ → Way → Type 0
+Goes c b S fr w k t u = Waits c b S (fr.table).object (fr.table).at w fr.next fr.number (words_of b S fr.row) k t u
+
+-- these frames lead from the table at t of the object k to the one at t' of the object k'
+abbrev pub Context : Checks → List ℕ → Rows → List Frame → ℕ → ℕ → Way → ℕ → ℕ → Way → Type 0
+Context c b S [] k t w k' t' v = (k ≡ k') × (t ≡ t') × (w ≡ v)
+Context c b S (fr ∷ rest) k t w k' t' v =
+    ((fr.table).object ≡ k) × ((fr.table).at ≡ t) × (k₁ : ℕ) × (t₁ : ℕ) × (u : Way) × Goes c b S fr w k₁ t₁ u × Context c b S rest k₁ t₁ u k' t' v
+
+-- where a walk began: at the table at this position of this object, at the end of this way
+pub record Origin : Type 0 where
+  pub object : ℕ
+  pub position : ℕ
+  pub way : Way
+
+-- what is below the top of a walk: where it began, and the frames that wait
+pub record Waiting : Type 0 where
+  pub start : Origin
+  pub frames : List Frame
+
+-- the frames below lead from there to the top, where the walk came to n tables, the depth d and r reads
+pub record Standing (c : Checks) (b : List ℕ) (S : Rows) (s : Origin) (below : List Frame) (top : Frame) (n d r : ℕ) : Type 0 where
+  pub v : Way
+  pub root : (s.way).links ≡ 0
+  pub under : Context c b S below s.object s.position s.way (top.table).object (top.table).at v
+  pub at : Resting c b S top v n d r ⊎ Middle c b S top v n d r
+
+-- a walk that is under way, with these frames below the top, within these limits
+pub record IsUnderWay (c : Checks) (b : List ℕ) (S : Rows) (L : Bounds) (s : Origin) (below : List Frame) (top : Frame) (n d r : ℕ) : Type 0 where
+  pub served : IsServed S
+  pub tables : n ≤ L.tables
+  pub deepest : d ≤ L.depth
+  pub links : length below < L.depth
+  pub low : length below < 4096
+  pub frames : AreFrames c b S below
+  pub frame : IsFrame c b S top
+  pub standing : Standing c b S s below top n d r
+
+-- the same of what a walk carries and of the buffer that it reads
+abbrev pub IsWalking : Walk → Metered → Origin → List Frame → Frame → Type 0
+IsWalking w m s below top = IsUnderWay w.checks m.bytes w.schema.now w.limits s below top w.tables w.deepest m.count
+
+-- the walk is over: the table where it began was walked
+abbrev pub IsOver : Walk → Metered → Origin → Type 0
+IsOver w m s = TableWalked w.checks m.bytes w.schema.now s.object s.position s.way (ended s.way w.tables w.deepest m.count)
+
+-- it stops at this fault
+abbrev pub IsStopped : Walk → Metered → Origin → Fault → Type 0
+IsStopped w m s f = StopsFrom w.checks m.bytes w.schema.now w.limits s.object s.position s.way f
+
+-- the frame of a table that was opened
+abbrev pub opened : Table → Frame
+opened table = record { table = table; next = blank.next; number = blank.number; row = blank.row }

@@ -1,0 +1,40 @@
+-- What the parts of a walk hand on: refusals, stops and faults, and the head of a table.
+use Rattle.std.specs.Prelude.{◌≡◌, ℕ, ◌+◌, ◌≤◌, ◌<◌, ◌^◌, IsTrue, List, length, Option, Some, None}
+use Rattle.fb_verify.specs.declared.checks.Checks.{Checks}
+use Rattle.fb_verify.specs.declared.fault.Fault.{Fault}
+use Rattle.fb_verify.specs.declared.site.Site.{Site}
+use Rattle.fb_verify.specs.declared.site.Refusal.{Refusal}
+use Rattle.fb_verify.specs.declared.site.Stop.{Stop}
+use Rattle.fb_verify.specs.declared.head.Head.{Head}
+use Rattle.fb_verify.specs.Places.{vtable, vtable_size, inline_size}
+use Rattle.fb_verify.specs.Order.{Failure}
+use Rattle.fb_verify.specs.Way.{Way}
+
+-- the fault that a failure is, at this site and after so many reads
+abbrev pub told : Site → ℕ → Option Failure → Option Fault
+told site paid None = None
+told site paid (Some e) = Some (record { at = e.at; object = site.object; field = site.field; reason = e.reason; reads = paid + e.reads })
+
+-- the failure that a refusal is, after so many reads
+abbrev pub refused : Refusal → ℕ → Failure
+refused e reads = record { reason = e.reason; at = e.at; reads = reads }
+
+-- the fault that a stop is, after so many reads
+abbrev pub stopped : Stop → ℕ → Fault
+stopped s reads = record { at = (s.refusal).at; object = (s.site).object; field = (s.site).field; reason = (s.refusal).reason; reads = reads }
+
+-- at this site, with so many tables open, so many passed, so many open at once, and so many reads paid
+abbrev pub way_at : ℕ → ℕ → ℕ → ℕ → Site → Way
+way_at links passed deepest paid site = record { links = links; passed = passed; deepest = deepest; paid = paid; object = site.object; field = site.field }
+
+-- the vtable that was read for the table at t
+pub record IsVtable (b : List ℕ) (t : ℕ) (h : Head) : Type 0 where
+  pub place : h.vtable ≡ vtable b t
+  pub size : h.size ≡ vtable_size b t
+  pub within : h.vtable + h.size ≤ length b
+  pub near : h.vtable < 2 ^ 32
+
+-- the head that was read of the table at t
+pub record IsHead (c : Checks) (b : List ℕ) (t : ℕ) (h : Head) : Type 0 where
+  pub vtable : IsVtable b t h
+  pub inline : IsTrue c.inline_size → h.inline ≡ inline_size b t

@@ -1,0 +1,25 @@
+//! Examples of the definitions: each is a clause of a function that does nothing.
+
+ghost use Rattle.fb_verify.specs.Examples.{MonsterUnfolds, OneMemberUnfolds, TwoMembersUnfold, EveryKindUnfolds, OpenNameStops, NoNameStops, ThreeValuesStop, CrookedStructStops, SeventhTableStops, ThirdLevelStops, OddVtableStops, ShortTableStops};
+
+/// Buffers with their trees, and the tables, depth and reads of these.
+#[tactic(auto, using(crate::proofs::Shown::monster_unfolds, crate::proofs::Shown::one_member_unfolds, crate::proofs::Shown::two_members_unfold, crate::proofs::Shown::every_kind_unfolds))]
+pub fn trees()
+    ensures a_number_and_a_text { MonsterUnfolds }
+    ensures a_union_of_a_table { OneMemberUnfolds }
+    ensures unions_of_a_text_and_of_nothing { TwoMembersUnfold }
+    ensures a_field_of_every_kind { EveryKindUnfolds }
+{}
+
+/// Buffers with their faults, and the trails that lead to these.
+#[tactic(auto, using(crate::proofs::Shown::open_name_stops, crate::proofs::Shown::no_name_stops, crate::proofs::Shown::three_values_stop, crate::proofs::Shown::crooked_struct_stops, crate::proofs::Shown::seventh_table_stops, crate::proofs::Shown::third_level_stops, crate::proofs::Shown::odd_vtable_stops, crate::proofs::Shown::short_table_stops))]
+pub fn faults()
+    ensures no_terminator { OpenNameStops }
+    ensures a_zero_offset { NoNameStops }
+    ensures lengths_differ { ThreeValuesStop }
+    ensures a_struct_out_of_alignment { CrookedStructStops }
+    ensures one_table_too_many { SeventhTableStops }
+    ensures one_level_too_deep_before_one_table_too_many { ThirdLevelStops }
+    ensures an_odd_vtable_size { OddVtableStops }
+    ensures a_field_past_its_table { ShortTableStops }
+{}

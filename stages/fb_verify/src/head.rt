@@ -1,0 +1,143 @@
+// The head of a table, and the places of its fields.
+
+ghost use Rattle.std.specs.Prelude.{◌≡◌, ◌+◌, ◌^◌, ◌<◌, ◌≤◌, length, pos, IfOk, IfErr, IfSome, MatchOption, Some, None, IsTrue, true, false};
+ghost use Rattle.fb_verify.specs.Places.{has_vtable, has_slot, vtable, field_place, ends_in_table};
+ghost use Rattle.fb_verify.specs.Cost.{head_reads, slot_reads};
+ghost use Rattle.fb_verify.specs.Order.{after, head_failure, table_failure};
+ghost use Rattle.fb_verify.specs.Told.{told, refused, stopped, IsVtable, IsHead};
+
+use crate::checks::Checks;
+use crate::fault::Reason;
+use crate::site::{Refusal, Site, Stop, is_aligned, refuse};
+use fb_bytes::Meter;
+
+/// Where a table's vtable stands, its size in bytes, and the size of what stands inline in the table.
+///
+/// `inline` is 0 where the inline size isn't checked.
+#[derive(Clone, Copy, Debug, PartialEq, Eq)]
+pub struct Head {
+    pub vtable: u64,
+    pub size: u16,
+    pub inline: u16,
+}
+
+/// Reads where the vtable of the table at a position stands, none where that is negative.
+#[tactic(auto, unfolding(crate::specs::Places::has_vtable, crate::specs::Places::vtable))]
+fn read_vtable_place(meter: &mut Meter<'_>, at: u64) -> Option<u64>
+    requires fits { at + 4 ≤ length meter.old.bytes }
+    requires near { at < 2 ^ 31 }
+    requires few { meter.old.count < 2 ^ 99 }
+    ensures place { MatchOption result (has_vtable meter.old.bytes at ≡ false) (λ v. (has_vtable meter.old.bytes at ≡ true) × (v ≡ vtable meter.old.bytes at)) }
+    ensures near { IfSome result (λ v. v < 2 ^ 32) }
+    ensures counted { meter.new ≡ record meter.old { count = meter.old.count + 1 } }
+{
+    let place = at as i64 - i64::from(meter.i32_at(at));
+    if place < 0 { None } else { Some(place as u64) }
+}
+
+/// Checks the head of the table at a position, and answers it.
+#[tactic(auto, unfolding(crate::specs::Order::head_failure))]
+fn check_head(meter: &mut Meter<'_>, checks: Checks, at: u64) -> Result<Head, Refusal>
+    requires few { meter.old.count < 2 ^ 98 }
+    ensures ok { IfOk result (λ _. head_failure checks meter.old.bytes at ≡ None) }
+    ensures head { IfOk result (λ h. IsHead checks meter.old.bytes at h) }
+    ensures counted { IfOk result (λ _. meter.new ≡ record meter.old { count = meter.old.count + head_reads checks }) }
+    ensures err { IfErr result (λ e. after meter.old.count (head_failure checks meter.old.bytes at) ≡ Some (refused e meter.new.count)) }
+    ensures bytes { meter.new.bytes ≡ meter.old.bytes }
+{
+    if !meter.fits(at, 4) {
+        return Err(refuse(at, Reason::OutOfBuffer));
+    }
+    if !is_aligned(checks, at, 4) {
+        return Err(refuse(at, Reason::Misaligned));
+    }
+    let Some(vtable) = read_vtable_place(meter, at) else {
+        return Err(refuse(at, Reason::OutOfBuffer));
+    };
+    if !meter.fits(vtable, 2) {
+        return Err(refuse(at, Reason::OutOfBuffer));
+    }
+    if !is_aligned(checks, vtable, 2) {
+        return Err(refuse(vtable, Reason::Misaligned));
+    }
+    let size = meter.u16_at(vtable);
+    if size % 2 != 0 || size < 4 {
+        return Err(refuse(vtable, Reason::BadVtable));
+    }
+    if !meter.fits(vtable, u64::from(size)) {
+        return Err(refuse(vtable, Reason::OutOfBuffer));
+    }
+    let inline = if checks.inline_size {
+        meter.u16_at(vtable + 2)
+    } else {
+        0
+    };
+    Ok(Head {
+        vtable,
+        size,
+        inline,
+    })
+}
+
+/// Reads the head of the table at a position, of this object. What fails does so in this table, before its first field.
+#[tactic(auto, using(crate::proofs::Refusals::told_after))]
+pub fn read_head(meter: &mut Meter<'_>, checks: Checks, object: u32, at: u64) -> Result<Head, Stop>
+    requires few { meter.old.count < 2 ^ 98 }
+    ensures ok { IfOk result (λ _. head_failure checks meter.old.bytes at ≡ None) }
+    ensures head { IfOk result (λ h. IsHead checks meter.old.bytes at h) }
+    ensures counted { IfOk result (λ _. meter.new ≡ record meter.old { count = meter.old.count + head_reads checks }) }
+    ensures err { IfErr result (λ s. told (record { object = object; field = None }) meter.old.count (head_failure checks meter.old.bytes at) ≡ Some (stopped s meter.new.count)) }
+    ensures bytes { meter.new.bytes ≡ meter.old.bytes }
+{
+    let site = Site {
+        object,
+        field: None,
+    };
+    match check_head(meter, checks, at) {
+        Ok(head) => Ok(head),
+        Err(refusal) => Err(Stop { site, refusal }),
+    }
+}
+
+/// Reads where the field with this slot stands in the table at a position, none where it is absent.
+#[tactic(auto, unfolding(crate::specs::Places::field_place))]
+pub fn read_slot(meter: &mut Meter<'_>, at: u64, head: Head, slot: u16) -> Option<u64>
+    requires few { meter.old.count < 2 ^ 99 }
+    requires near { at < 2 ^ 33 }
+    requires head { IsVtable meter.old.bytes at head }
+    ensures value { result ≡ field_place meter.old.bytes at slot }
+    ensures within { IfSome result (λ _. IsTrue (has_slot meter.old.bytes at slot)) }
+    ensures near { IfSome result (λ p. p < 2 ^ 34) }
+    ensures counted { meter.new ≡ record meter.old { count = meter.old.count + slot_reads meter.old.bytes at slot } }
+{
+    if u32::from(head.size) < u32::from(slot) + 2 {
+        return None;
+    }
+    let place = meter.u16_at(head.vtable + u64::from(slot));
+    if place == 0 {
+        return None;
+    }
+    Some(at + u64::from(place))
+}
+
+/// Checks that what stands inline for a field ends within the inline size of its table, where that is checked.
+#[tactic(auto, unfolding(crate::specs::Order::table_failure, crate::specs::Places::ends_in_table))]
+pub fn check_end(
+    meter: &Meter<'_>,
+    checks: Checks,
+    at: u64,
+    head: Head,
+    place: u64,
+    size: u32,
+) -> Result<(), Refusal>
+    requires near { at < 2 ^ 33 }
+    requires near_place { place < 2 ^ 34 }
+    requires head { IsHead checks meter.now.bytes at head }
+    ensures ok { IfOk result (λ _. table_failure checks meter.now.bytes at place size ≡ None) }
+    ensures err { IfErr result (λ e. after meter.now.count (table_failure checks meter.now.bytes at place size) ≡ Some (refused e meter.now.count)) }
+{
+    if checks.inline_size && place + u64::from(size) > at + u64::from(head.inline) {
+        return Err(refuse(place, Reason::PastTable));
+    }
+    Ok(())
+}

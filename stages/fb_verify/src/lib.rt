@@ -1,0 +1,33 @@
+//! Checks a buffer against a schema: the question, its answers, the walk that finds them, and the laws of what they mean.
+#![tactic(auto)]
+
+mod begin;
+pub mod checks;
+mod element;
+pub mod examples;
+pub mod fault;
+mod field;
+mod head;
+pub mod laws;
+pub mod limits;
+mod most;
+mod row;
+mod scratch;
+mod site;
+mod stack;
+pub mod start;
+mod values;
+mod verdict;
+mod verified;
+
+pub use checks::Checks;
+pub use fault::{Fault, Reason, Report};
+pub use limits::{LimitOutOfRange, Limits};
+pub use most::most_reads;
+pub use scratch::{Scratch, ScratchFault};
+pub use start::{Ident, Start};
+pub use verdict::walk;
+pub use verified::{Verified, verify};
+
+#[cfg(test)]
+mod tests;

@@ -1,0 +1,86 @@
+// Why a test refuses a buffer, and where a walk stops.
+
+ghost use Rattle.std.specs.Prelude.{◌≡◌, ◌<◌, ◌%◌, ◌==◌};
+ghost use Rattle.fb_verify.specs.Places.{is_aligned};
+ghost use Rattle.fb_verify.specs.Told.{stopped};
+
+use crate::checks::Checks;
+use crate::fault::{Fault, Reason};
+use fb_bytes::Meter;
+
+/// The object of the innermost opened table, and its field under check.
+#[derive(Clone, Copy, Debug, PartialEq, Eq)]
+pub struct Site {
+    pub object: u32,
+    pub field: Option<u16>,
+}
+
+/// Why a test failed, and at which position. It is small, since each test may answer one.
+#[derive(Clone, Copy, Debug, PartialEq, Eq)]
+pub struct Refusal {
+    pub at: u64,
+    pub reason: Reason,
+}
+
+/// The refusal at this position.
+pub fn refuse(at: u64, reason: Reason) -> Refusal
+    ensures { result ≡ record { at = at; reason = reason } }
+{
+    Refusal { at, reason }
+}
+
+/// Where a walk stops, and why.
+#[derive(Clone, Copy, Debug, PartialEq, Eq)]
+pub struct Stop {
+    pub site: Site,
+    pub refusal: Refusal,
+}
+
+impl Stop {
+    /// The fault that this is, after the reads that were made.
+    pub fn fault(self, meter: &Meter<'_>) -> Fault
+        ensures { result ≡ stopped self meter.now.count }
+    {
+        Fault {
+            at: self.refusal.at,
+            object: self.site.object,
+            field: self.site.field,
+            reason: self.refusal.reason,
+            reads: meter.reads(),
+        }
+    }
+}
+
+/// Whether a position is a multiple of an alignment other than 2, 4 and 8. It stands apart, so that these need no table of jumps.
+#[inline(never)]
+fn is_multiple_of_other(at: u64, align: u32) -> bool
+    requires { 0 < align }
+    ensures { result ≡ (at % align == 0) }
+{
+    match align {
+        1 => true,
+        _ => at % u64::from(align) == 0,
+    }
+}
+
+/// Whether a position is a multiple of its alignment. The usual alignments need no division and no call at run time.
+fn is_multiple(at: u64, align: u32) -> bool
+    requires { 0 < align }
+    ensures { result ≡ (at % align == 0) }
+{
+    match align {
+        2 => at % 2 == 0,
+        4 => at % 4 == 0,
+        8 => at % 8 == 0,
+        _ => is_multiple_of_other(at, align),
+    }
+}
+
+/// Whether a position is a multiple of its alignment, where that is checked.
+#[tactic(auto, unfolding(crate::specs::Places::is_aligned))]
+pub fn is_aligned(checks: Checks, at: u64, align: u32) -> bool
+    requires { 0 < align }
+    ensures { result ≡ is_aligned checks at align }
+{
+    !checks.alignment || is_multiple(at, align)
+}

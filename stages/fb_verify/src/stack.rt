@@ -1,0 +1,215 @@
+// The walk: a loop over the frames of the open tables.
+
+ghost use Rattle.std.specs.Prelude.{◌≡◌, ◌+◌, ◌-◌, ◌*◌, ◌^◌, ◌<◌, ◌≤◌, max, length, take, slice_index_or, [], ◌∷◌, ◌++◌, IfOk, IfErr, IfSome, MatchOption, IsTrue, Some, None, true, false};
+ghost use Rattle.fb_schema.specs.Rows.{is_table};
+ghost use Rattle.fb_schema.specs.Live.{live_fields};
+ghost use Rattle.fb_schema.specs.Served.{IsServed};
+ghost use Rattle.fb_verify.specs.Cost.{head_reads};
+ghost use Rattle.fb_verify.specs.Order.{◌▷◌, head_failure};
+ghost use Rattle.fb_verify.specs.Stops.{budget_failure, StopsFrom};
+ghost use Rattle.fb_verify.specs.Told.{told, stopped, way_at, IsHead};
+ghost use Rattle.fb_verify.specs.Walked.{TableWalked, ended};
+ghost use Rattle.fb_verify.specs.Stack.{blank, Origin, Waiting, frame_work, work, opened, IsWalking, IsOver, IsStopped};
+
+use crate::checks::Checks;
+use crate::element::{Child, pass_element};
+use crate::fault::Reason;
+use crate::field::{Table, pass_field};
+use crate::head::read_head;
+use crate::limits::Limits;
+use crate::scratch::Frame;
+use crate::site::{Site, Stop, refuse};
+use fb_bytes::Meter;
+use fb_schema::Schema;
+
+/// What a walk carries: what it is asked, the tables that it opened, and the greatest number of them that were open at once.
+#[derive(Drop)]
+pub struct Walk<'s, 'n> {
+    pub schema: &'s Schema<'n>,
+    pub limits: Limits,
+    pub checks: Checks,
+    pub tables: u32,
+    pub deepest: u32,
+}
+
+impl<'s, 'n> Walk<'s, 'n> {
+    /// Opens a table, if the limits allow it, and reads its head. So many tables are open before.
+    #[inline(always)]
+    fn open_table(
+        &mut self,
+        meter: &mut Meter<'_>,
+        links: u32,
+        site: Site,
+        child: Child,
+    ) -> Result<Table, Stop>
+        requires few { meter.old.count < 2 ^ 97 }
+        ensures shallow { IfOk result (λ _. links < (self.old.limits).depth) }
+        ensures low { IfOk result (λ _. links < 4096) }
+        ensures few_tables { IfOk result (λ _. (self.old.limits).tables < 2 ^ 32) }
+        ensures fewer { IfOk result (λ _. self.old.tables < (self.old.limits).tables) }
+        ensures ok { IfOk result (λ _. head_failure self.old.checks meter.old.bytes child.at ≡ None) }
+        ensures head { IfOk result (λ t. IsHead self.old.checks meter.old.bytes child.at t.head) }
+        ensures table { IfOk result (λ t. t ≡ record { object = child.object; at = child.at; head = t.head }) }
+        ensures opened { IfOk result (λ _. self.new ≡ record self.old { tables = self.old.tables + 1; deepest = max self.old.deepest (links + 1) }) }
+        ensures counted { IfOk result (λ _. meter.new ≡ record meter.old { count = meter.old.count + head_reads self.old.checks }) }
+        ensures err { IfErr result (λ s. (told site meter.old.count (budget_failure self.old.limits (way_at links self.old.tables self.old.deepest meter.old.count site) child.at) ▷ told (record { object = child.object; field = None }) meter.old.count (head_failure self.old.checks meter.old.bytes child.at)) ≡ Some (stopped s meter.new.count)) }
+        ensures bytes { meter.new.bytes ≡ meter.old.bytes }
+    {
+        if links >= self.limits.depth() {
+            let refusal = refuse(child.at, Reason::TooDeep);
+            return Err(Stop { site, refusal });
+        }
+        if self.tables >= self.limits.tables() {
+            let refusal = refuse(child.at, Reason::TooManyTables);
+            return Err(Stop { site, refusal });
+        }
+        self.tables += 1;
+        self.deepest = self.deepest.max(links + 1);
+        let head = read_head(meter, self.checks, child.object, child.at)?;
+        Ok(Table {
+            object: child.object,
+            at: child.at,
+            head,
+        })
+    }
+
+    /// Passes fields of the top table until one leads on, and answers whether one does.
+    fn pass_fields(&self, meter: &mut Meter<'_>, top: &mut Frame) -> Result<bool, Stop>
+        ghost under: { Waiting }
+        requires walking { IsWalking self.now meter.old under.start under.frames top.old }
+        requires rests { (top.old.row).left ≡ 0 }
+        requires few { meter.old.count < 2 ^ 95 }
+        ensures walking { IfOk result (λ _. IsWalking self.now meter.new under.start under.frames top.new) }
+        ensures leads { IfOk result (λ more. more ≡ true → 0 < (top.new.row).left) }
+        ensures rests { IfOk result (λ more. more ≡ false → (top.new.row).left ≡ 0) }
+        ensures all { IfOk result (λ more. more ≡ false → length (live_fields self.now.schema.now (top.new.table).object) ≤ top.new.next) }
+        ensures falls { IfOk result (λ _. meter.new.count + frame_work self.now.schema.now top.new ≤ meter.old.count + frame_work self.now.schema.now top.old) }
+        ensures grows { IfOk result (λ _. meter.old.count ≤ meter.new.count) }
+        ensures bytes { meter.new.bytes ≡ meter.old.bytes }
+        ensures err { IfErr result (λ s. IsStopped self.now meter.old under.start (stopped s meter.new.count)) }
+    {
+        let fields = self.schema.fields_of(top.table.object);
+        while let Some(field) = fields.get(top.next as usize) {
+            let row = pass_field(meter, self.schema, self.checks, top.table, field)?;
+            top.next += 1;
+            if row.left > 0 {
+                top.number = field.number;
+                top.row = row;
+                return Ok(true);
+            }
+        }
+        Ok(false)
+    }
+
+    /// Passes offset words that are left of the top table's field until one leads to a table, which is opened. So many
+    /// frames wait below the top.
+    fn pass_elements(
+        &mut self,
+        meter: &mut Meter<'_>,
+        waiting: u32,
+        top: &mut Frame,
+    ) -> Result<Option<Table>, Stop>
+        ghost under: { Waiting }
+        requires waiting { waiting ≡ length under.frames }
+        requires walking { IsWalking self.old meter.old under.start under.frames top.old }
+        requires leads { 0 < (top.old.row).left }
+        requires few { meter.old.count < 2 ^ 95 + 2 ^ 94 }
+        ensures same { IfOk result (λ _. self.new ≡ record self.old { tables = self.new.tables; deepest = self.new.deepest }) }
+        ensures walking { IfOk result (λ o. MatchOption o
+            (IsWalking self.new meter.new under.start under.frames top.new)
+            (λ table. IsWalking self.new meter.new under.start (under.frames ++ top.new ∷ []) (opened table))) }
+        ensures falls { IfOk result (λ o. MatchOption o
+            (meter.new.count + work self.old.schema.now self.old.limits under.frames top.new self.new.tables < meter.old.count + work self.old.schema.now self.old.limits under.frames top.old self.old.tables)
+            (λ table. meter.new.count + work self.old.schema.now self.old.limits (under.frames ++ top.new ∷ []) (opened table) self.new.tables < meter.old.count + work self.old.schema.now self.old.limits under.frames top.old self.old.tables)) }
+        ensures grows { IfOk result (λ _. meter.old.count ≤ meter.new.count) }
+        ensures bytes { meter.new.bytes ≡ meter.old.bytes }
+        ensures err { IfErr result (λ s. IsStopped self.old meter.old under.start (stopped s meter.new.count)) }
+    {
+        while top.row.left > 0 {
+            let site = Site {
+                object: top.table.object,
+                field: Some(top.number),
+            };
+            let child = pass_element(meter, self.schema, self.checks, site, top.row)?;
+            top.row.advance();
+            if let Some(child) = child {
+                let table = self.open_table(meter, waiting + 1, site, child)?;
+                return Ok(Some(table));
+            }
+        }
+        Ok(None)
+    }
+
+    /// One step of the walk: goes on in the top table to a table below it, which becomes the top, or to its end, where the
+    /// table above it becomes the top. So many frames wait below the top, and the answer says how many do after; none where
+    /// the first table is closed.
+    fn turn(
+        &mut self,
+        meter: &mut Meter<'_>,
+        frames: &mut [Frame],
+        waiting: u32,
+    ) -> Result<Option<u32>, Stop>
+        ghost under: { Waiting }
+        requires under { under.frames ≡ take waiting frames.old }
+        requires walking { IsWalking self.old meter.old under.start under.frames (slice_index_or frames.old waiting blank) }
+        requires room { (self.old.limits).depth ≤ length frames.old }
+        requires few { meter.old.count < 2 ^ 95 }
+        ensures same { IfOk result (λ _. self.new ≡ record self.old { tables = self.new.tables; deepest = self.new.deepest }) }
+        ensures walking { IfOk result (λ o. MatchOption o
+            (IsOver self.new meter.new under.start)
+            (λ after. IsWalking self.new meter.new under.start (take after frames.new) (slice_index_or frames.new after blank))) }
+        ensures within { IfOk result (λ _. self.new.tables ≤ (self.old.limits).tables) }
+        ensures shallow { IfOk result (λ _. self.new.deepest ≤ (self.old.limits).depth) }
+        ensures falls { IfOk result (λ o. IfSome o (λ after. meter.new.count + work self.old.schema.now self.old.limits (take after frames.new) (slice_index_or frames.new after blank) self.new.tables < meter.old.count + work self.old.schema.now self.old.limits under.frames (slice_index_or frames.old waiting blank) self.old.tables)) }
+        ensures grows { IfOk result (λ _. meter.old.count ≤ meter.new.count) }
+        ensures bytes { meter.new.bytes ≡ meter.old.bytes }
+        ensures err { IfErr result (λ s. IsStopped self.old meter.old under.start (stopped s meter.new.count)) }
+    {
+        let _schema = self.schema;
+        let at = waiting as usize;
+        let top = &mut frames[at];
+        if top.row.left == 0 && !self.pass_fields(meter, top)? {
+            if waiting == 0 {
+                return Ok(None);
+            }
+            return Ok(Some(waiting - 1));
+        }
+        let Some(table) = self.pass_elements(meter, waiting, top)? else {
+            return Ok(Some(waiting));
+        };
+        frames[at + 1] = Frame::opened(table);
+        Ok(Some(waiting + 1))
+    }
+
+    /// Walks a table and all below it, over these frames.
+    pub fn run(
+        &mut self,
+        meter: &mut Meter<'_>,
+        frames: &mut [Frame],
+        site: Site,
+        root: Child,
+    ) -> Result<(), Stop>
+        ghost start: { Origin }
+        requires here { start ≡ record { object = root.object; position = root.at; way = way_at 0 self.old.tables self.old.deepest meter.old.count site } }
+        requires served { IsServed self.old.schema.now }
+        requires table { IsTrue (is_table self.old.schema.now root.object) }
+        requires near { root.at < 2 ^ 33 }
+        requires room { (self.old.limits).depth ≤ length frames.old }
+        requires within { self.old.tables ≤ (self.old.limits).tables }
+        requires shallow { self.old.deepest ≤ (self.old.limits).depth }
+        requires few { meter.old.count < 2 ^ 90 }
+        ensures ok { IfOk result (λ _. TableWalked self.old.checks meter.old.bytes self.old.schema.now start.object start.position start.way (ended start.way self.new.tables self.new.deepest meter.new.count)) }
+        ensures within { IfOk result (λ _. self.new.tables ≤ (self.old.limits).tables) }
+        ensures shallow { IfOk result (λ _. self.new.deepest ≤ (self.old.limits).depth) }
+        ensures err { IfErr result (λ s. StopsFrom self.old.checks meter.old.bytes self.old.schema.now self.old.limits start.object start.position start.way (stopped s meter.new.count)) }
+        ensures bytes { meter.new.bytes ≡ meter.old.bytes }
+    {
+        let table = self.open_table(meter, 0, site, root)?;
+        frames[0] = Frame::opened(table);
+        let mut waiting = 0;
+        while let Some(after) = self.turn(meter, frames, waiting)? {
+            waiting = after;
+        }
+        Ok(())
+    }
+}

@@ -1,0 +1,133 @@
+// A buffer that was verified, with its schema.
+
+ghost use Rattle.std.specs.Prelude.{◌≡◌, ◌+◌, ◌*◌, ◌^◌, ◌<◌, ◌≤◌, length, IfOk, IfErr, IsTrue};
+ghost use Rattle.fb_schema.specs.Rows.{is_table};
+ghost use Rattle.fb_verify.specs.MostReads.{most_reads};
+ghost use Rattle.fb_verify.specs.Stops.{Stops};
+ghost use Rattle.fb_verify.specs.Verdict.{Reports, HasNone};
+ghost use Rattle.fb_verify.specs.Sealed.{IsUnfolded};
+
+use crate::checks::Checks;
+use crate::fault::{Fault, Report};
+use crate::limits::Limits;
+use crate::scratch::Scratch;
+use crate::start::{Ident, Start};
+use crate::verdict::walk;
+use fb_bytes::{Meter, Window};
+use fb_schema::Schema;
+use std::alloc::Allocator;
+use std::marker::Model;
+
+/// A buffer that unfolds by the schema from the root. It borrows the bytes and the schema.
+#[derive(Drop)]
+pub struct Verified<'b, 's, 'n> {
+    window: Window<'b>,
+    schema: &'s Schema<'n>,
+    root: u32,
+    start: Start,
+    checks: Checks,
+    report: Report,
+}
+
+impl<'b, 's, 'n> Model for Verified<'b, 's, 'n> {
+    ghost use Rattle.fb_verify.specs.Sealed.{Sealed, IsUnfolded};
+
+    ghost Value = { Sealed };
+
+    ghost view = { λ v. record { bytes = v.window; schema = v.schema.now; root = v.root; start = v.start; checks = v.checks; report = v.report } };
+
+    ghost invariant = { λ v. IsUnfolded (record { bytes = v.window; schema = v.schema.now; root = v.root; start = v.start; checks = v.checks; report = v.report }) };
+}
+
+impl<'b, 's, 'n> Verified<'b, 's, 'n> {
+    /// What was counted.
+    pub fn report(&self) -> Report
+        ensures value { result ≡ (self.now).report }
+        ensures unfolds { IsUnfolded self.now }
+    {
+        self.report
+    }
+
+    /// The bytes, which may now be read freely.
+    pub fn window(&self) -> &Window<'b>
+        ensures value { result.now ≡ (self.now).bytes }
+        ensures unfolds { IsUnfolded self.now }
+    {
+        &self.window
+    }
+
+    /// The schema by which they were verified.
+    pub fn schema(&self) -> &'s Schema<'n>
+        ensures value { result.now ≡ (self.now).schema }
+        ensures unfolds { IsUnfolded self.now }
+    {
+        self.schema
+    }
+
+    /// The number of the root table's object.
+    pub fn root(&self) -> u32
+        ensures value { result ≡ (self.now).root }
+        ensures unfolds { IsUnfolded self.now }
+    {
+        self.root
+    }
+
+    /// How the buffer begins.
+    pub fn start(&self) -> Start
+        ensures value { result ≡ (self.now).start }
+        ensures unfolds { IsUnfolded self.now }
+    {
+        self.start
+    }
+
+    /// The checks that were made.
+    pub fn checks(&self) -> Checks
+        ensures value { result ≡ (self.now).checks }
+        ensures unfolds { IsUnfolded self.now }
+    {
+        self.checks
+    }
+}
+
+/// Checks a buffer as [`walk`] does, and then seals it.
+///
+/// # Errors
+///
+/// The fault that `walk` answers.
+pub fn verify<'b, 's, 'n, A: Allocator>(
+    meter: Meter<'b>,
+    schema: &'s Schema<'n>,
+    root: u32,
+    start: Start,
+    ident: Ident,
+    limits: Limits,
+    checks: Checks,
+    scratch: &mut Scratch<A>,
+) -> Result<Verified<'b, 's, 'n>, Fault>
+    requires fresh { meter.count ≡ 0 }
+    requires table { IsTrue (is_table schema.now root) }
+    requires room { limits.depth ≤ scratch.old }
+    // A yes: a tree is well formed and within the limits, and the report counts it.
+    ensures yes { IfOk result (λ v. Reports checks meter.entry.bytes schema.now root start ident limits v.report) }
+    ensures kept { IfOk result (λ v. v ≡ record { bytes = meter.entry.bytes; schema = schema.now; root = root; start = start; checks = checks; report = v.report }) }
+    // A no: no tree is, and the fault is the first condition that fails.
+    ensures none { IfErr result (λ _. HasNone checks meter.entry.bytes schema.now root start ident limits) }
+    ensures no { IfErr result (λ f. Stops checks meter.entry.bytes schema.now root start ident limits f) }
+    // The price.
+    ensures price_of_yes { IfOk result (λ v. (v.report).reads ≤ most_reads schema.now limits (length meter.entry.bytes)) }
+    ensures price_of_no { IfErr result (λ f. f.reads ≤ most_reads schema.now limits (length meter.entry.bytes)) }
+    ensures scratch { scratch.new ≡ scratch.old }
+{
+    let mut meter = meter;
+    let report = walk(
+        &mut meter, schema, root, start, ident, limits, checks, scratch,
+    )?;
+    Ok(Verified {
+        window: meter.seal(),
+        schema,
+        root,
+        start,
+        checks,
+        report,
+    })
+}

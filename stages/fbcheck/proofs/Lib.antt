@@ -1,0 +1,14 @@
+mod AnswerLemmas
+mod AskedLemmas
+mod BareLemmas
+mod CheckLemmas
+mod DefaultLemmas
+mod FitLemmas
+mod FrontLemmas
+mod LineLemmas
+mod LinesLemmas
+mod Pieces
+mod ProgramLemmas
+mod RunLemmas
+mod StreamLemmas
+mod WordsLemmas

@@ -1,0 +1,105 @@
+-- The number options of the program's command hold a number after each parse.
+use Rattle.std.proofs.Common.{zero, suc, not, ◌&&◌, ◌≡◌, ◌∙◌, ap, ℕ, Bool, true, false, List, [], ◌∷◌, ◌<◌, ◌≤◌, length, map, Option, Some, None, codes, refl, sym, subst, inl, inr, arith}
+use Rattle.std.proofs.lemmas.List.{length-map}
+use Rattle.std.proofs.lemmas.Slice.Eq.{bytes_eq-Decides}
+use Rattle.std.specs.List.{All, slice_index_or, list_all}
+use Rattle.std.specs.Prelude.{pos}
+use Rattle.std.specs.Str.{bytes_eq}
+use Rattle.clap.specs.Built.{IsParsedFrom}
+use Rattle.clap.specs.Facts.{args_of, least_values, unwrap_or_range}
+use Rattle.clap.specs.Simple.{App, IsSimple, app_of, is_ready, is_ready_leaf}
+use Rattle.clap.specs.Texts.{items_of}
+use Rattle.clap.specs.Walk.{Rule, Text, rule_of}
+use Rattle.clap.specs.Words.{found_of, one_text, without_minus}
+use Rattle.clap.specs.declared.builder.arg.Arg.{Arg}
+use Rattle.clap.specs.declared.builder.command.Command.{Command}
+use Rattle.clap.specs.declared.builder.range.ValueRange.{ValueRange}
+use Rattle.clap.specs.declared.builder.value_parser.ValueParser.TheVariants as parser
+use Rattle.clap.specs.declared.parser.matches.ArgMatches.{ArgMatches}
+use Rattle.clap.proofs.OnLiterals.{clap_on_literals}
+use Rattle.clap.proofs.SimpleLemmas.{ready_simple, simple_groups}
+use Rattle.clap.proofs.WalkLemmas.{both}
+use Rattle.fbcheck.specs.CommandLine.{program, number_rule}
+use Rattle.fbcheck.specs.Values.{HoldsNumber}
+use Rattle.fbcheck.proofs.DefaultLemmas.{IsDefaulted, default_reads}
+
+rule_at : (xs : List Arg) (k : ℕ) (d : Arg) → rule_of (slice_index_or xs k d) ≡ slice_index_or (map rule_of xs) k (rule_of d)
+rule_at [] k d = refl
+rule_at (x ∷ xs) zero d = refl
+rule_at (x ∷ xs) (suc k) d = rule_at xs k d
+
+-- whether no rule has this id, and whether none has it but the one at k
+abbrev is_free_id : Text → List Rule → Bool
+is_free_id id [] = true
+is_free_id id (r ∷ rs) = not (bytes_eq r.id id) && is_free_id id rs
+
+abbrev is_id_of : Text → ℕ → List Rule → Bool
+is_id_of id k [] = true
+is_id_of id zero (r ∷ rs) = is_free_id id rs
+is_id_of id (suc k) (r ∷ rs) = not (bytes_eq r.id id) && is_id_of id k rs
+
+not_both : (b : Bool) → not b ≡ true → b ≡ true → ⊥
+not_both true denied holds = cc
+not_both false denied holds = cc
+
+free_at : (id : Text) (rs : List Rule) (j : ℕ) (e : Rule) → is_free_id id rs ≡ true → j < length rs → bytes_eq (slice_index_or rs j e).id id ≡ true → ⊥
+free_at id [] j e free lt same = omega arith
+free_at id (r ∷ rs) zero e free lt same = not_both (bytes_eq r.id id) (both _ _ free).0 same
+free_at id (r ∷ rs) (suc j) e free lt same = free_at id rs j e (both _ _ free).1 (omega arith) same
+
+alone_at : (id : Text) (k : ℕ) (rs : List Rule) (j : ℕ) (e : Rule) → is_id_of id k rs ≡ true → j < length rs → bytes_eq (slice_index_or rs j e).id id ≡ true → j ≡ k
+alone_at id k [] j e one lt same = absurd (omega arith)
+alone_at id zero (r ∷ rs) zero e one lt same = refl
+alone_at id zero (r ∷ rs) (suc j) e one lt same = absurd (free_at id rs j e one (omega arith) same)
+alone_at id (suc k) (r ∷ rs) zero e one lt same = absurd (not_both (bytes_eq r.id id) (both _ _ one).0 same)
+alone_at id (suc k) (r ∷ rs) (suc j) e one lt same = ap suc (alone_at id k rs j e (both _ _ one).1 (omega arith) same)
+
+ready : is_ready program.top ≡ true
+unfolding clap_on_literals
+ready = refl
+
+some_arg : (xs : List Arg) → 0 < length xs → Arg
+some_arg [] lt = absurd (omega arith)
+some_arg (x ∷ xs) lt = x
+
+least_one : (a : Arg) → a.num_vals ≡ None → 1 ≤ least_values a
+least_one a none = subst (λ (o : Option ValueRange). 1 ≤ (unwrap_or_range o).start_inclusive) (sym none) (omega arith)
+
+-- the option at place k of the program, of which the rule is that of a number
+pub holds_number : (c : Command) (m : ArgMatches) → app_of c ≡ program → IsParsedFrom c m → (k least most : ℕ) (name default : Text) → k < 10
+    → ((d : Rule) → slice_index_or program.top.rules k d ≡ number_rule name least most default) → is_id_of name k program.top.rules ≡ true
+    → (name ≡ [] → ⊥) → (name ≡ codes "help" → ⊥) → (name ≡ codes "version" → ⊥)
+    → HoldsNumber (one_text (found_of m) name) least most
+holds_number c m is p k least most name default lt at alone named help version =
+    let rules : map rule_of (args_of c) ≡ program.top.rules = ap (λ (a : App). a.top.rules) is in
+    let long : length (args_of c) ≡ 10 = sym (length-map (args_of c) rule_of) ∙ ap length rules in
+    let low : k < length (args_of c) = omega arith in
+    let d = some_arg (args_of c) (omega arith) in
+    let a = slice_index_or (args_of c) k d in
+    let rule : rule_of a ≡ number_rule name least most default =
+    rule_at (args_of c) k d ∙ ap (λ l. slice_index_or l k (rule_of d)) rules ∙ at (rule_of d) in
+    let id : a.id.now ≡ name = ap (λ (r : Rule). r.id) rule in
+    let simple : IsSimple c = ready_simple c (ap (λ (x : App). is_ready x.top) is ∙ ready) (ap (λ (x : App). list_all is_ready_leaf x.subs) is) in
+    let one = simple.args k d low in
+    let local : All (λ x. x.groups.items ≡ []) (args_of c) = simple_groups c (ap (λ (x : App). list_all (λ (r : Rule). r.is_simple) x.top.rules) is) in
+    let some : length (items_of a.default_vals) ≡ 1 = sym (length-map (items_of a.default_vals) _) ∙ ap (λ (r : Rule). length r.defaults) rule in
+    let defaulted : IsDefaulted c k d (parser.Signed (pos least) (pos most)) = record {
+      low = low;
+      default = (one.default_ifs, omega arith);
+      set = ap (λ (r : Rule). r.action) rule;
+      whole = one.delimiter;
+      least = least_one a (ap (λ (r : Rule). r.range) rule);
+      parser = ap (λ (r : Rule). r.parser) rule;
+      alone = λ j e under same. alone_at name k program.top.rules j (rule_of e) alone (omega (arith, ap length rules, length-map (args_of c) rule_of))
+          (rw (← ap (λ (r : Rule). r.id) (rule_at (args_of c) j e ∙ ap (λ l. slice_index_or l j (rule_of e)) rules), ← id) same);
+      named = λ e. named (sym id ∙ e);
+      own = λ auto. elim auto [ inl h ↦ help (sym id ∙ h) | inr h ↦ version (sym id ∙ h) ];
+    } in
+    let read = default_reads c m p k d (parser.Signed (pos least) (pos most)) defaulted ((p.from.same_groups local).1 ∙ simple.groups) simple.globals in
+    (read.0, subst (λ (t : Text). one_text (found_of m) t ≡ Some (without_minus read.0)) id read.1, read.2)
+
+pub differs : (a b : Text) → bytes_eq a b ≡ false → a ≡ b → ⊥
+differs a b unequal e =
+    let same : bytes_eq a b ≡ true = (bytes_eq-Decides a b).1 e in
+    let bad : false ≡ true = sym unequal ∙ same in
+    cc

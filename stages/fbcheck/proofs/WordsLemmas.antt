@@ -1,0 +1,57 @@
+-- What a parse of the program's words gives.
+use Rattle.std.proofs.Common.{◌≡◌, ◌↔◌, Bool, true, false, not, IsTrue, List, [], ◌∷◌, codes, Some, refl, sym, ap, subst, ◌∙◌}
+use Rattle.clap.specs.Walk.{Text, first_of, one_of}
+use Rattle.clap.specs.Simple.{App, HasMatchesOf, is_simple, matches_of}
+use Rattle.clap.specs.Matches.{first_value, found_of, one_text}
+use Rattle.clap.specs.Kinds.{HasKind}
+use Rattle.clap.specs.declared.error.Error.{Error}
+use Rattle.clap.specs.Faults.{fault_of, is_simple_and_free}
+use Rattle.clap.specs.declared.parser.matches.ArgMatches.{ArgMatches}
+use Rattle.clap.proofs.OnLiterals.{clap_on_literals}
+use Rattle.clap.proofs.WalkLemmas.{first_value-rows, one_text-rows}
+use Rattle.fbcheck.specs.CommandLine.{program}
+
+simple : is_simple program ≡ true
+unfolding clap_on_literals
+simple = refl
+
+simple_and_free : is_simple_and_free program ≡ true
+unfolding clap_on_literals
+simple_and_free = refl
+
+-- words that are read have no fault
+pub no_fault : (app : App) (words : List Text) → app ≡ program → (is_simple_and_free app ≡ true → fault_of app words ≡ []) → fault_of program words ≡ []
+no_fault app words is read = ap (λ (a : App). fault_of a words) (sym is) ∙ read (ap is_simple_and_free is ∙ simple_and_free)
+
+-- words that are refused have a fault of that kind
+pub refused_by : (app : App) (words : List Text) (error : Error) → app ≡ program → (is_simple_and_free app ≡ true → HasKind (fault_of app words) error) → HasKind (fault_of program words) error
+refused_by app words error is refused = subst (λ (a : App). HasKind (fault_of a words) error) is (refused (ap is_simple_and_free is ∙ simple_and_free))
+
+-- an option's text in the matches is that of the words
+pub text_of_words : (app : App) (words : List Text) (m : ArgMatches) (id : Text) → app ≡ program → HasMatchesOf app words m
+    → first_value (found_of m) id ≡ first_of id (matches_of program words)
+text_of_words app words m id is has =
+    first_value-rows (found_of m) id ∙ ap (first_of id) ((has (ap is_simple is ∙ simple)).0 ∙ ap (λ (a : App). matches_of a words) is)
+
+pub read_of_words : (app : App) (words : List Text) (m : ArgMatches) (id : Text) → app ≡ program → HasMatchesOf app words m
+    → one_text (found_of m) id ≡ one_of id (matches_of program words)
+read_of_words app words m id is has =
+    one_text-rows (found_of m) id ∙ ap (one_of id) ((has (ap is_simple is ∙ simple)).0 ∙ ap (λ (a : App). matches_of a words) is)
+
+-- a flag that is turned round
+pub turned : (b : Bool) (P : Type 0) → IsTrue b ↔ P → (not b ≡ false) ↔ P
+turned true P told = (λ off. told.0 refl, λ given. refl)
+turned false P told = (λ off. absurd cc, λ given. let on : false ≡ true = told.1 given in cc)
+
+-- the clauses' words, at a command line that is written out
+default_depth : one_of (codes "max-depth") (matches_of program (codes "fbcheck" ∷ [])) ≡ Some (codes "64")
+unfolding clap_on_literals
+default_depth = refl
+
+given_depth : one_of (codes "max-depth") (matches_of program (codes "fbcheck" ∷ codes "--max-depth" ∷ codes "7" ∷ codes "--bare" ∷ [])) ≡ Some (codes "7")
+unfolding clap_on_literals
+given_depth = refl
+
+given_flag : (first_of (codes "bare") (matches_of program (codes "fbcheck" ∷ codes "--bare" ∷ [])) ≡ Some (codes "true")) × (first_of (codes "bare") (matches_of program (codes "fbcheck" ∷ [])) ≡ Some (codes "false"))
+unfolding clap_on_literals
+given_flag = (refl, refl)

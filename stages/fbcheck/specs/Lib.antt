@@ -1,0 +1,13 @@
+pub mod AnswerText
+pub mod Asked
+pub mod Bare
+pub mod Checking
+pub mod CommandLine
+pub mod Faults
+pub mod Job
+pub mod Line
+pub mod Lines
+pub mod Refusal
+pub mod Run
+pub mod Stream
+pub mod Values

@@ -1,0 +1,28 @@
+-- The values that words give.
+use Rattle.std.specs.Prelude.{◌≡◌, ◌≤◌, ℕ, List, Option, Some, None, codes, pos}
+use Rattle.std.specs.Str.Parse.{IsNumeral, digits_value, without_leading_plus}
+use Rattle.clap.specs.Walk.{Text, first_of, one_of}
+use Rattle.clap.specs.Simple.{matches_of}
+use Rattle.clap.specs.Words.{IsSignedIn, without_minus}
+use Rattle.fbcheck.specs.CommandLine.{program}
+
+-- the text that the words give to this option
+abbrev pub text_of : Text → List Text → Option Text
+text_of name words = first_of name (matches_of program words)
+
+-- n is the number that this text spells in decimal digits
+abbrev pub IsWrittenIn : Option Text → ℕ → Type 0
+IsWrittenIn None n = ⊥
+IsWrittenIn (Some t) n = IsNumeral 10 (without_leading_plus t) × (n ≡ digits_value 10 (without_leading_plus t))
+
+-- n is the number that the words give to this option, or else its default, and it is in the range
+abbrev pub IsNumberOf : Text → ℕ → ℕ → List Text → ℕ → Type 0
+IsNumberOf name least most words n = IsWrittenIn (one_of name (matches_of program words)) n × (least ≤ n) × (n ≤ most)
+
+-- the words give this flag
+abbrev pub IsGiven : Text → List Text → Type 0
+IsGiven name words = text_of name words ≡ Some (codes "true")
+
+-- the matches hold a text that passed the option's parser
+abbrev pub HoldsNumber : Option Text → ℕ → ℕ → Type 0
+HoldsNumber found least most = (t : Text) × (found ≡ Some (without_minus t)) × IsSignedIn (pos least) (pos most) t

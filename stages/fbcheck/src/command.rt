@@ -1,0 +1,123 @@
+ghost use Rattle.std.specs.Prelude.{IfOk, ◌≡◌, false};
+ghost use Rattle.clap.specs.Words.{app_of, rule_of};
+ghost use Rattle.fbcheck.specs.CommandLine.{program, texts, numbers, text_rule, depth_rule, tables_rule, bytes_rule, flag_rule};
+
+use clap::{Arg, ArgAction, Command, value_parser};
+use std::alloc::{AllocError, Global};
+
+fn text_arg<'a>(alloc: Global, name: &'a str, value: &'a str, help: &'a str) -> Arg<'a>
+    ensures rule { rule_of result ≡ text_rule name.entry.now }
+    ensures local { result.global ≡ false }
+{
+    Arg::new(alloc, name)
+        .long(name)
+        .value_name(value)
+        .help(help)
+}
+
+fn depth_arg<'a>(alloc: Global) -> Arg<'a>
+    ensures rule { rule_of result ≡ depth_rule }
+    ensures local { result.global ≡ false }
+{
+    Arg::new(alloc, "max-depth")
+        .long("max-depth")
+        .value_name("N")
+        .help("Deepest nesting of tables, 0 to 4096")
+        .value_parser(value_parser!(u32).range(0..=4096))
+        .default_value("64")
+        .action(ArgAction::Set)
+}
+
+fn tables_arg<'a>(alloc: Global) -> Arg<'a>
+    ensures rule { rule_of result ≡ tables_rule }
+    ensures local { result.global ≡ false }
+{
+    Arg::new(alloc, "max-tables")
+        .long("max-tables")
+        .value_name("N")
+        .help("Most tables in one buffer, 0 to 4294967295")
+        .value_parser(value_parser!(u32))
+        .default_value("1000000")
+        .action(ArgAction::Set)
+}
+
+fn bytes_arg<'a>(alloc: Global) -> Arg<'a>
+    ensures rule { rule_of result ≡ bytes_rule }
+    ensures local { result.global ≡ false }
+{
+    Arg::new(alloc, "max-bytes")
+        .long("max-bytes")
+        .value_name("N")
+        .help("Most bytes of a message, prefix included, 8 to 2147483647")
+        .value_parser(value_parser!(u32).range(8..=2_147_483_647))
+        .default_value("67108864")
+        .action(ArgAction::Set)
+}
+
+fn flag_arg<'a>(alloc: Global, name: &'a str, help: &'a str) -> Arg<'a>
+    ensures rule { rule_of result ≡ flag_rule name.entry.now }
+    ensures local { result.global ≡ false }
+{
+    Arg::new(alloc, name)
+        .long(name)
+        .help(help)
+        .action(ArgAction::SetTrue)
+}
+
+fn with_texts<'a>(alloc: Global) -> Result<Command<'a>, AllocError>
+    ensures app { IfOk result (λ c. app_of c ≡ texts) }
+{
+    Command::new(alloc, "fbcheck")
+        .about("Checks a stream of size-prefixed FlatBuffers by a binary schema")
+        .arg(text_arg(
+            alloc,
+            "schema",
+            "FILE",
+            "The binary schema (.bfbs); without one, schema files are checked",
+        ))?
+        .arg(text_arg(
+            alloc,
+            "root",
+            "NAME",
+            "The root table; without one, that of the schema",
+        ))?
+        .arg(text_arg(
+            alloc,
+            "ident",
+            "XXXX",
+            "The file identifier that each buffer must have",
+        ))?
+        .arg(text_arg(
+            alloc,
+            "path",
+            "P",
+            "Prints the value at this path of each good buffer",
+        ))
+}
+
+fn with_numbers<'a>(alloc: Global) -> Result<Command<'a>, AllocError>
+    ensures app { IfOk result (λ c. app_of c ≡ numbers) }
+{
+    with_texts(alloc)?
+        .arg(depth_arg(alloc))?
+        .arg(tables_arg(alloc))?
+        .arg(bytes_arg(alloc))
+}
+
+/// The command `fbcheck` with its options.
+pub(crate) fn command<'a>(alloc: Global) -> Result<Command<'a>, AllocError>
+    ensures app { IfOk result (λ c. app_of c ≡ program) }
+{
+    with_numbers(alloc)?
+        .arg(flag_arg(
+            alloc,
+            "bare",
+            "Standard input is one bare buffer, and no stream",
+        ))?
+        .arg(flag_arg(alloc, "no-alignment", "Check no alignment"))?
+        .arg(flag_arg(
+            alloc,
+            "inline-size",
+            "Hold fields against their table's inline size",
+        ))
+}

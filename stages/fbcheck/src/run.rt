@@ -1,0 +1,99 @@
+//! A run over an input, by a schema.
+
+ghost use Rattle.std.specs.Prelude.{IfOk, IfErr, OnOk, IsTrue, ◌≡◌, ◌+◌, ◌-◌, ◌<◌, ◌≤◌, ◌^◌, true};
+ghost use Rattle.fb_schema.specs.Rows.{is_table};
+ghost use Rattle.fbcheck.specs.Faults.{IsCaused};
+ghost use Rattle.fbcheck.specs.Job.{PathFits, job_of};
+ghost use Rattle.fbcheck.specs.Run.{Fails, Passes};
+
+use crate::bare::run_bare;
+use crate::checker::Checker;
+use crate::fault::RunFault;
+use crate::options::Options;
+use crate::output::Tally;
+use crate::reading::MOST_TURNS;
+use crate::stream::run_stream;
+use fb_bytes::{Sink, Source};
+use fb_schema::Schema;
+use std::alloc::Allocator;
+
+/// Checks the buffers of an input by a schema, and writes a line for each, with at most `turns` reads. Where the options have a path, the
+/// line of a yes ends with the value there.
+///
+/// The input is a stream of size-prefixed buffers (FlatBuffers Internals), or with `bare` of the options one bare buffer. The lines
+/// of all messages that are whole are written before the next read, and before any answer.
+///
+/// # Errors
+///
+/// - `ReadFault` where the reader failed, `TooManyTurns` where `turns` reads were made and a further one is needed, and
+///   `Stream` where a prefix declares too much or the stream ends in mid-message: the lines of all whole messages that
+///   were read are written, of a bare input nothing.
+/// - `WriteFault` where the writer failed or took nothing: it took `written` bytes, a front of the lines.
+/// - `OutOfMemory` where memory was refused: the lines of the first messages are written, of a bare input nothing.
+/// - `BareTooLong` where more than `max_bytes` bytes of a bare input were read: nothing is written.
+#[tactic(auto, using(crate::proofs::FitLemmas::path_passes))]
+pub fn run_within<A: Allocator, S: Source, K: Sink>(
+    alloc: A,
+    reader: &mut S,
+    writer: &mut K,
+    schema: &Schema<'_>,
+    options: &Options,
+    turns: u64,
+) -> Result<Tally, RunFault>
+    requires table { IsTrue (is_table schema.now options.now.root) }
+    requires path { PathFits schema.now options.now.root options.now.path }
+    requires least { 8 ≤ options.now.max_bytes }
+    requires most { options.now.max_bytes < 2 ^ 31 }
+    requires turns { turns ≤ MOST_TURNS }
+    requires reads { S.calls reader.old < 2 ^ 64 }
+    requires writes { K.calls writer.old < 2 ^ 64 }
+
+    ensures ok { IfOk result (λ tally. Passes options.now.bare (job_of schema.now options.now) options.now.max_bytes
+        (S.remaining reader.old) (S.remaining reader.new) (K.contents writer.old) (K.contents writer.new)
+        tally.yes tally.no) }
+    ensures end { OnOk result (S.ended reader.new ≡ true) }
+
+    ensures fault { IfErr result (λ fault. Fails options.now.bare (job_of schema.now options.now) options.now.max_bytes
+        (S.remaining reader.old) (S.remaining reader.new) (K.contents writer.old) (K.contents writer.new) fault) }
+    ensures cause { IfErr result (λ fault. IsCaused (S.failures reader.old) (S.failures reader.new)
+        (K.failures writer.old) (K.failures writer.new)
+        (S.calls reader.old + turns - S.calls reader.new) (S.ended reader.new) fault) }
+    ensures turns { S.calls reader.new ≤ S.calls reader.old + turns }
+{
+    let checker = Checker { schema, options };
+    if options.bare {
+        run_bare(alloc, reader, writer, &checker, turns)
+    } else {
+        run_stream(alloc, reader, writer, &checker, turns)
+    }
+}
+
+/// The same, with at most 2^32 reads.
+pub fn run<A: Allocator, S: Source, K: Sink>(
+    alloc: A,
+    reader: &mut S,
+    writer: &mut K,
+    schema: &Schema<'_>,
+    options: &Options,
+) -> Result<Tally, RunFault>
+    requires table { IsTrue (is_table schema.now options.now.root) }
+    requires path { PathFits schema.now options.now.root options.now.path }
+    requires least { 8 ≤ options.now.max_bytes }
+    requires most { options.now.max_bytes < 2 ^ 31 }
+    requires reads { S.calls reader.old < 2 ^ 64 }
+    requires writes { K.calls writer.old < 2 ^ 64 }
+
+    ensures ok { IfOk result (λ tally. Passes options.now.bare (job_of schema.now options.now) options.now.max_bytes
+        (S.remaining reader.old) (S.remaining reader.new) (K.contents writer.old) (K.contents writer.new)
+        tally.yes tally.no) }
+    ensures end { OnOk result (S.ended reader.new ≡ true) }
+
+    ensures fault { IfErr result (λ fault. Fails options.now.bare (job_of schema.now options.now) options.now.max_bytes
+        (S.remaining reader.old) (S.remaining reader.new) (K.contents writer.old) (K.contents writer.new) fault) }
+    ensures cause { IfErr result (λ fault. IsCaused (S.failures reader.old) (S.failures reader.new)
+        (K.failures writer.old) (K.failures writer.new)
+        (S.calls reader.old + MOST_TURNS - S.calls reader.new) (S.ended reader.new) fault) }
+    ensures turns { S.calls reader.new ≤ S.calls reader.old + MOST_TURNS }
+{
+    run_within(alloc, reader, writer, schema, options, MOST_TURNS)
+}
