@@ -1,9 +1,0 @@
-pub mod Legal
-pub mod FixedRows
-pub mod Sure
-pub mod Composed
-pub mod Narrow
-pub mod FixedFields
-pub mod Outcomes
-pub mod OneFile
-pub mod OneLoad
