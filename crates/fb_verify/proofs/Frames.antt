@@ -11,7 +11,6 @@ use Rattle.fb_schema.specs.Rows.{Rows, Object, is_table, is_some_table}
 use Rattle.fb_schema.specs.Live.{Live, live_fields}
 use Rattle.fb_schema.specs.Served.{IsServed}
 use Rattle.fb_verify.specs.declared.checks.Checks.{Checks}
-use Rattle.fb_verify.specs.declared.fault.Fault.{Fault}
 use Rattle.fb_verify.specs.declared.field.Table.{Table as TableOf}
 use Rattle.fb_verify.specs.declared.row.Leads.{Leads}
 use Rattle.fb_verify.specs.declared.row.Leads.TheVariants.{All, ByType}
@@ -22,11 +21,11 @@ use Rattle.fb_verify.specs.Places.{field_place}
 use Rattle.fb_verify.specs.Fields.{Lead, to_table, to_struct, to_string, to_nothing, type_place}
 use Rattle.fb_verify.specs.Told.{IsHead}
 use Rattle.fb_verify.specs.Rows.{first_word, word_at, past_first, IsRow, AreLeads, AreTypesNear}
-use Rattle.fb_verify.specs.Stack.{opened, IsFrame, frame_work}
+use Rattle.fb_verify.specs.Stack.{blank, opened, IsFrame, frame_work}
 use Rattle.fb_verify.proofs.Words.{row_on}
 
 -- the exit of a `?`
-pub if_err_exit : {A : Type 0} (r : Result A Fault) (x : Fault) (P : Fault → Type 0) → IsErrAnd r (λ e. e ≡ x) → P x → IfErr r P
+pub if_err_exit : {A E : Type 0} (r : Result A E) (x : E) (P : E → Type 0) → IsErrAnd r (λ e. e ≡ x) → P x → IfErr r P
 if_err_exit (Ok a) x P h p = tt
 if_err_exit (Err e) x P h p = subst P (sym h) p
 
@@ -141,8 +140,12 @@ module _ (c : Checks) (b : List ℕ) (S : Rows) where
   pub frame_next : (fr : Frame) → fr.next + 1 ≤ length (live_fields S (fr.table).object) → IsFrame c b S fr → IsFrame c b S (record { table = fr.table; next = fr.next + 1; number = fr.number; row = fr.row })
   frame_next fr i h = record { object = h.object; near = h.near; head = h.head; next = i; row = h.row }
 
+  -- the row of a field that leads nowhere
+  pub no_row : IsRow b S blank.row
+  no_row = record { place = omega arith; left = omega arith; leads = λ m. absurd (omega arith) }
+
   pub frame_opened : (table : TableOf) → IsTrue (is_table S table.object) → table.at < 2 ^ 33 → IsHead c b table.at table.head → IsFrame c b S (opened table)
-  frame_opened table o n h = record { object = o; near = n; head = h; next = omega arith; row = record { place = omega arith; left = omega arith; leads = λ m. absurd (omega arith) } }
+  frame_opened table o n h = record { object = o; near = n; head = h; next = omega arith; row = no_row }
 
   pub work_opened : (table : TableOf) → IsServed S → frame_work S (opened table) ≤ 1 + 2 ^ 33 * 32766
   work_opened table h = omega (arith, h.few table.object)

@@ -3,6 +3,7 @@ pub mod Chains
 pub mod Unique
 pub mod Overruns
 pub mod OneFault
+pub mod Refusals
 pub mod Nones
 pub mod Price
 pub mod ChainReads

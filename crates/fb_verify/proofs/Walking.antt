@@ -2,7 +2,7 @@
 use Rattle.std.proofs.Common.{◌≡◌, ℕ, ◌+◌, ◌-◌, ◌^◌, ◌<◌, ◌≤◌, max, List, [], ◌∷◌, ◌++◌, length, sym, ap, arith, IsTrue, Some, None}
 use Rattle.std.specs.Prelude.{slice_get}
 use Rattle.std.proofs.lemmas.List.Sums.{sum_by_push}
-use Rattle.std.proofs.lemmas.List.Elements.{All-push}
+use Rattle.std.proofs.lemmas.List.Elements.{All-push, All-pop}
 use Rattle.std.proofs.lemmas.List.{length-append}
 use Rattle.fb_schema.specs.Rows.{Rows, is_table}
 use Rattle.fb_schema.specs.Live.{Live, live_fields}
@@ -19,7 +19,7 @@ use Rattle.fb_verify.specs.Told.{IsHead}
 use Rattle.fb_verify.specs.Rows.{words_of, first_word, past_first, IsLeafLead, IsRow}
 use Rattle.fb_verify.specs.Stack.{IsFrame, frame_work, work, opened, Origin, IsUnderWay}
 use Rattle.fb_verify.proofs.Frames.{first_few, head_few, own_few, field_within, frame_on, frame_passed, frame_next, frame_opened, work_opened}
-use Rattle.fb_verify.proofs.Standings.{pass_leaf, pass_more, pass_over, open_more}
+use Rattle.fb_verify.proofs.Standings.{pass_leaf, pass_more, pass_over, open_more, close_more}
 
 module _ (c : Checks) (b : List ℕ) (S : Rows) (L : Bounds) (s : Origin) (below : List Frame) (top : Frame) (n d r : ℕ) (h : IsUnderWay c b S L s below top n d r) where
   -- the top, past its first offset word
@@ -37,6 +37,21 @@ module _ (c : Checks) (b : List ℕ) (S : Rows) (L : Bounds) (s : Origin) (below
   -- what is left to the top is bounded
   pub top_few : frame_work S top < 2 ^ 49
   top_few = omega (arith, (h.served).few (top.table).object, ((h.frame).row).left)
+
+  -- the table of the top is walked to its end, and the one above it goes on
+  pub table_closed : (rest : List Frame) (above : Frame) → below ≡ rest ++ above ∷ [] → (top.row).left ≡ 0 → length (live_fields S (top.table).object) ≤ top.next → IsUnderWay c b S L s rest above n d r
+  table_closed rest above e rests all =
+      let frames = All-pop (IsFrame c b S) below rest (Some above) e h.frames in
+      record {
+        served = h.served;
+        tables = h.tables;
+        deepest = h.deepest;
+        links = omega (arith, h.links, ap length e, length-append rest (above ∷ []));
+        low = omega (arith, h.low, ap length e, length-append rest (above ∷ []));
+        frames = frames.0;
+        frame = frames.1;
+        standing = close_more c b S L s below top n d r h.standing rest above e rests all;
+      }
 
   module _ (row : Row) (q : ℕ) (re : row ≡ past_first top.row) (l : 0 < (top.row).left) (o : element_failure c b (first_word b S top.row) ≡ None) (z : q ≡ r + (first_word b S top.row).reads + lead_reads (first_word b S top.row).lead) where
     left_is : row.left ≡ (top.row).left - 1
@@ -76,6 +91,16 @@ module _ (c : Checks) (b : List ℕ) (S : Rows) (L : Bounds) (s : Origin) (below
       pub open_work : q + head_reads c + work S L (below ++ top_on row ∷ []) (opened table) (n + 1) < r + work S L below top n
       unfolding work
       open_work = omega (arith, l, left_is, z, first_few b S top.row, head_few c, fewer, sum_by_push (frame_work S) below (top_on row), work_opened c b S table h.served)
+
+      -- it goes on to a field that leads on
+      pub lead_work : (last : Frame) (u : ℕ) → u + frame_work S last ≤ q + head_reads c + frame_work S (opened table) → u + work S L (below ++ top_on row ∷ []) last (n + 1) < r + work S L below top n
+      unfolding work
+      lead_work last u f = omega (arith, f, open_work)
+
+      -- or is walked to its end
+      pub close_work : (u : ℕ) → u ≤ q + head_reads c + frame_work S (opened table) → u + work S L below (top_on row) (n + 1) < r + work S L below top n
+      unfolding work
+      close_work u f = omega (arith, f, open_work, sum_by_push (frame_work S) below (top_on row))
 
   module _ (field : Live) (row : Row) (number q : ℕ) (l : (top.row).left ≡ 0) (i : slice_get (live_fields S (top.table).object) top.next ≡ Some field) (z : q ≡ r + own_reads b (top.table).at field) (good : IsRow b S row) where
     -- a field is passed

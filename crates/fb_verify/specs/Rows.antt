@@ -2,7 +2,7 @@
 use Rattle.std.specs.Prelude.{◌≡◌, ℕ, ◌+◌, ◌-◌, ◌*◌, ◌<◌, ◌≤◌, ◌^◌, List, length, Some, IsTrue}
 use Rattle.fb_bytes.specs.Word.{word}
 use Rattle.fb_schema.specs.declared.kinds.Kind.{Kind}
-use Rattle.fb_schema.specs.declared.kinds.Kind.TheVariants.{Union, Unions}
+use Rattle.fb_schema.specs.declared.kinds.Kind.TheVariants.{Scalar, Text, Struct, Table, Union, Unions}
 use Rattle.fb_schema.specs.Rows.{Rows, is_table, is_union}
 use Rattle.fb_schema.specs.Members.{member_of}
 use Rattle.fb_verify.specs.declared.row.Referent.{Referent}
@@ -93,3 +93,11 @@ abbrev pub IsTyped : List ℕ → ℕ → ℕ → Kind → Type 0
 IsTyped b t o (Union e) = TypeFits b t o
 IsTyped b t o (Unions e) = TypesFit b t o
 IsTyped b t o _ = Unit {0}
+
+-- what doesn't stand whole in its table's slot or one offset word
+abbrev pub IsVectorOrUnion : Kind → Type 0
+IsVectorOrUnion (Scalar s) = ⊥
+IsVectorOrUnion (Struct k) = ⊥
+IsVectorOrUnion Text = ⊥
+IsVectorOrUnion (Table k) = ⊥
+IsVectorOrUnion _ = Unit {0}

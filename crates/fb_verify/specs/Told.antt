@@ -1,8 +1,10 @@
--- What the parts of a walk hand on: faults, and the head of a table.
+-- What the parts of a walk hand on: refusals, stops and faults, and the head of a table.
 use Rattle.std.specs.Prelude.{◌≡◌, ℕ, ◌+◌, ◌≤◌, ◌<◌, ◌^◌, IsTrue, List, length, Option, Some, None}
 use Rattle.fb_verify.specs.declared.checks.Checks.{Checks}
 use Rattle.fb_verify.specs.declared.fault.Fault.{Fault}
 use Rattle.fb_verify.specs.declared.site.Site.{Site}
+use Rattle.fb_verify.specs.declared.site.Refusal.{Refusal}
+use Rattle.fb_verify.specs.declared.site.Stop.{Stop}
 use Rattle.fb_verify.specs.declared.head.Head.{Head}
 use Rattle.fb_verify.specs.Places.{vtable, vtable_size, inline_size}
 use Rattle.fb_verify.specs.Order.{Failure}
@@ -12,6 +14,14 @@ use Rattle.fb_verify.specs.Way.{Way}
 abbrev pub told : Site → ℕ → Option Failure → Option Fault
 told site paid None = None
 told site paid (Some e) = Some (record { at = e.at; object = site.object; field = site.field; reason = e.reason; reads = paid + e.reads })
+
+-- the failure that a refusal is, after so many reads
+abbrev pub refused : Refusal → ℕ → Failure
+refused e reads = record { reason = e.reason; at = e.at; reads = reads }
+
+-- the fault that a stop is, after so many reads
+abbrev pub stopped : Stop → ℕ → Fault
+stopped s reads = record { at = (s.refusal).at; object = (s.site).object; field = (s.site).field; reason = (s.refusal).reason; reads = reads }
 
 -- at this site, with so many tables open, so many passed, so many open at once, and so many reads paid
 abbrev pub way_at : ℕ → ℕ → ℕ → ℕ → Site → Way

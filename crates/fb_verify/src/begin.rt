@@ -4,33 +4,33 @@ ghost use Rattle.std.specs.Prelude.{◌≡◌, ◌+◌, ◌^◌, ◌<◌, ◌≤
 ghost use Rattle.fb_bytes.specs.Word.{word};
 ghost use Rattle.fb_verify.specs.Places.{target};
 ghost use Rattle.fb_verify.specs.WellFormed.{base, prefix_reads, ident_reads, start_reads};
-ghost use Rattle.fb_verify.specs.Order.{prefix_failure, ident_failure, start_failure};
-ghost use Rattle.fb_verify.specs.Told.{told};
+ghost use Rattle.fb_verify.specs.Order.{after, prefix_failure, ident_failure, start_failure};
+ghost use Rattle.fb_verify.specs.Told.{told, refused, stopped};
 
 use crate::checks::Checks;
-use crate::fault::{Fault, Reason};
-use crate::site::{Site, fault};
+use crate::fault::Reason;
+use crate::site::{Refusal, Site, Stop, refuse};
 use crate::start::{Ident, Start};
 use crate::values::read_offset;
 use fb_bytes::Meter;
 
 /// Reads the prefix, if there should be one.
 #[tactic(auto, unfolding(crate::specs::Order::prefix_failure))]
-fn read_prefix(meter: &mut Meter<'_>, site: Site, start: Start) -> Result<(), Fault>
+fn read_prefix(meter: &mut Meter<'_>, start: Start) -> Result<(), Refusal>
     requires few { meter.old.count < 2 ^ 99 }
     ensures ok { IfOk result (λ _. prefix_failure meter.old.bytes start ≡ None) }
     ensures counted { IfOk result (λ _. meter.new ≡ record meter.old { count = meter.old.count + prefix_reads start }) }
-    ensures err { IfErr result (λ f. told site meter.old.count (prefix_failure meter.old.bytes start) ≡ Some f) }
-    ensures stopped { IfErr result (λ f. meter.new ≡ record meter.old { count = f.reads }) }
+    ensures err { IfErr result (λ e. after meter.old.count (prefix_failure meter.old.bytes start) ≡ Some (refused e meter.new.count)) }
+    ensures bytes { meter.new.bytes ≡ meter.old.bytes }
 {
     match start {
         Start::Bare => Ok(()),
         Start::Prefixed => {
             if !meter.fits(0, 4) {
-                return Err(fault(meter, site, 0, Reason::OutOfBuffer));
+                return Err(refuse(0, Reason::OutOfBuffer));
             }
             if u64::from(meter.u32_at(0)) + 4 != meter.len() {
-                return Err(fault(meter, site, 0, Reason::WrongPrefix));
+                return Err(refuse(0, Reason::WrongPrefix));
             }
             Ok(())
         }
@@ -48,49 +48,71 @@ fn number_of(name: [u8; 4]) -> u32
 
 /// Reads the identifier at a position, if one is wanted.
 #[tactic(auto, unfolding(crate::specs::Order::ident_failure))]
-fn read_ident(meter: &mut Meter<'_>, site: Site, at: u64, ident: Ident) -> Result<(), Fault>
+fn read_ident(meter: &mut Meter<'_>, at: u64, ident: Ident) -> Result<(), Refusal>
     requires few { meter.old.count < 2 ^ 99 }
     ensures ok { IfOk result (λ _. ident_failure meter.old.bytes at ident ≡ None) }
     ensures counted { IfOk result (λ _. meter.new ≡ record meter.old { count = meter.old.count + ident_reads ident }) }
-    ensures err { IfErr result (λ f. told site meter.old.count (ident_failure meter.old.bytes at ident) ≡ Some f) }
-    ensures stopped { IfErr result (λ f. meter.new ≡ record meter.old { count = f.reads }) }
+    ensures err { IfErr result (λ e. after meter.old.count (ident_failure meter.old.bytes at ident) ≡ Some (refused e meter.new.count)) }
+    ensures bytes { meter.new.bytes ≡ meter.old.bytes }
 {
     match ident {
         Ident::Any => Ok(()),
         Ident::Want(name) => {
             if !meter.fits(at, 4) {
-                return Err(fault(meter, site, at, Reason::OutOfBuffer));
+                return Err(refuse(at, Reason::OutOfBuffer));
             }
             if meter.u32_at(at) != number_of(name) {
-                return Err(fault(meter, site, at, Reason::WrongIdentifier));
+                return Err(refuse(at, Reason::WrongIdentifier));
             }
             Ok(())
         }
     }
 }
 
-/// Reads all that stands before the root table, and answers where that stands.
+/// Checks all that stands before the root table, and answers where that stands.
 #[tactic(auto, unfolding(crate::specs::Order::start_failure))]
+fn check_start(
+    meter: &mut Meter<'_>,
+    checks: Checks,
+    start: Start,
+    ident: Ident,
+) -> Result<u64, Refusal>
+    requires few { meter.old.count < 2 ^ 98 }
+    ensures ok { IfOk result (λ _. start_failure checks meter.old.bytes start ident ≡ None) }
+    ensures value { IfOk result (λ t. t ≡ target meter.old.bytes (base start)) }
+    ensures near { IfOk result (λ t. t < 2 ^ 33) }
+    ensures counted { IfOk result (λ _. meter.new ≡ record meter.old { count = meter.old.count + start_reads start ident }) }
+    ensures err { IfErr result (λ e. after meter.old.count (start_failure checks meter.old.bytes start ident) ≡ Some (refused e meter.new.count)) }
+    ensures bytes { meter.new.bytes ≡ meter.old.bytes }
+{
+    let base = match start {
+        Start::Bare => 0,
+        Start::Prefixed => 4,
+    };
+    read_prefix(meter, start)?;
+    read_ident(meter, base + 4, ident)?;
+    read_offset(meter, checks, base)
+}
+
+/// Reads all that stands before the root table, and answers where that stands. What fails does so at this site.
+#[tactic(auto, using(crate::proofs::Refusals::told_after))]
 pub fn read_start(
     meter: &mut Meter<'_>,
     checks: Checks,
     site: Site,
     start: Start,
     ident: Ident,
-) -> Result<u64, Fault>
+) -> Result<u64, Stop>
     requires few { meter.old.count < 2 ^ 98 }
     ensures ok { IfOk result (λ _. start_failure checks meter.old.bytes start ident ≡ None) }
     ensures value { IfOk result (λ t. t ≡ target meter.old.bytes (base start)) }
     ensures near { IfOk result (λ t. t < 2 ^ 33) }
     ensures counted { IfOk result (λ _. meter.new ≡ record meter.old { count = meter.old.count + start_reads start ident }) }
-    ensures err { IfErr result (λ f. told site meter.old.count (start_failure checks meter.old.bytes start ident) ≡ Some f) }
-    ensures stopped { IfErr result (λ f. meter.new ≡ record meter.old { count = f.reads }) }
+    ensures err { IfErr result (λ s. told site meter.old.count (start_failure checks meter.old.bytes start ident) ≡ Some (stopped s meter.new.count)) }
+    ensures bytes { meter.new.bytes ≡ meter.old.bytes }
 {
-    let base = match start {
-        Start::Bare => 0,
-        Start::Prefixed => 4,
-    };
-    read_prefix(meter, site, start)?;
-    read_ident(meter, site, base + 4, ident)?;
-    read_offset(meter, checks, site, base)
+    match check_start(meter, checks, start, ident) {
+        Ok(at) => Ok(at),
+        Err(refusal) => Err(Stop { site, refusal }),
+    }
 }

@@ -6,16 +6,15 @@ ghost use Rattle.fb_verify.specs.declared.row.Referent.TheVariants.{Table as ATa
 ghost use Rattle.fb_verify.specs.Places.{target};
 ghost use Rattle.fb_verify.specs.Cost.{lead_reads};
 ghost use Rattle.fb_verify.specs.Fields.{to_table};
-ghost use Rattle.fb_verify.specs.Order.{lead_failure, element_failure};
-ghost use Rattle.fb_verify.specs.Told.{told};
+ghost use Rattle.fb_verify.specs.Order.{after, lead_failure, element_failure};
+ghost use Rattle.fb_verify.specs.Told.{told, refused, stopped};
 ghost use Rattle.fb_verify.specs.Rows.{lead_to, first_word, IsSized, IsRow, IsLeafLead};
 ghost use Rattle.fb_schema.specs.Served.{IsServed};
 
 use crate::checks::Checks;
-use crate::fault::Fault;
 use crate::field::referent_of;
 use crate::row::{Leads, Referent, Row};
-use crate::site::Site;
+use crate::site::{Refusal, Site, Stop};
 use crate::values::{check_inline, read_offset, read_string};
 use fb_bytes::Meter;
 use fb_schema::Schema;
@@ -31,10 +30,9 @@ pub struct Child {
 fn pass_referent(
     meter: &mut Meter<'_>,
     checks: Checks,
-    site: Site,
     place: u64,
     referent: Referent,
-) -> Result<Option<Child>, Fault>
+) -> Result<Option<Child>, Refusal>
     requires few { meter.old.count < 2 ^ 97 }
     requires align { IsSized referent }
     ensures ok { IfOk result (λ _. lead_failure checks meter.old.bytes place (lead_to referent) ≡ None) }
@@ -42,23 +40,23 @@ fn pass_referent(
     ensures object { IfOk result (λ o. IfSome o (λ child. referent ≡ ATable child.object)) }
     ensures near { IfOk result (λ o. IfSome o (λ child. child.at < 2 ^ 33)) }
     ensures counted { IfOk result (λ _. meter.new ≡ record meter.old { count = meter.old.count + lead_reads (lead_to referent) }) }
-    ensures err { IfErr result (λ f. told site meter.old.count (lead_failure checks meter.old.bytes place (lead_to referent)) ≡ Some f) }
-    ensures stopped { IfErr result (λ f. meter.new ≡ record meter.old { count = f.reads }) }
+    ensures err { IfErr result (λ e. after meter.old.count (lead_failure checks meter.old.bytes place (lead_to referent)) ≡ Some (refused e meter.new.count)) }
+    ensures bytes { meter.new.bytes ≡ meter.old.bytes }
 {
     match referent {
         Referent::Nothing => Ok(None),
         Referent::Text => {
-            let at = read_offset(meter, checks, site, place)?;
-            read_string(meter, checks, site, at)?;
+            let at = read_offset(meter, checks, place)?;
+            read_string(meter, checks, at)?;
             Ok(None)
         }
         Referent::Struct(size, align) => {
-            let at = read_offset(meter, checks, site, place)?;
-            check_inline(meter, checks, site, at, size, align)?;
+            let at = read_offset(meter, checks, place)?;
+            check_inline(meter, checks, at, size, align)?;
             Ok(None)
         }
         Referent::Table(object) => {
-            let at = read_offset(meter, checks, site, place)?;
+            let at = read_offset(meter, checks, place)?;
             Ok(Some(Child { object, at }))
         }
     }
@@ -66,13 +64,12 @@ fn pass_referent(
 
 /// Checks the first offset word of a row, and answers the table to which it leads, if it does.
 #[tactic(auto, unfolding(crate::specs::Order::element_failure))]
-pub fn pass_element(
+fn check_element(
     meter: &mut Meter<'_>,
     schema: &Schema<'_>,
     checks: Checks,
-    site: Site,
     row: Row,
-) -> Result<Option<Child>, Fault>
+) -> Result<Option<Child>, Refusal>
     requires served { IsServed schema.now }
     requires more { 0 < row.left }
     requires row { IsRow meter.old.bytes schema.now row }
@@ -82,8 +79,8 @@ pub fn pass_element(
     ensures table { IfOk result (λ o. IfSome o (λ child. IsTrue (is_table schema.now child.object))) }
     ensures near { IfOk result (λ o. IfSome o (λ child. child.at < 2 ^ 33)) }
     ensures counted { IfOk result (λ _. meter.new ≡ record meter.old { count = meter.old.count + (first_word meter.old.bytes schema.now row).reads + lead_reads (first_word meter.old.bytes schema.now row).lead }) }
-    ensures err { IfErr result (λ f. told site meter.old.count (element_failure checks meter.old.bytes (first_word meter.old.bytes schema.now row)) ≡ Some f) }
-    ensures stopped { IfErr result (λ f. meter.new ≡ record meter.old { count = f.reads }) }
+    ensures err { IfErr result (λ e. after meter.old.count (element_failure checks meter.old.bytes (first_word meter.old.bytes schema.now row)) ≡ Some (refused e meter.new.count)) }
+    ensures bytes { meter.new.bytes ≡ meter.old.bytes }
 {
     let referent = match row.leads {
         Leads::All(referent) => referent,
@@ -92,5 +89,32 @@ pub fn pass_element(
             referent_of(schema, schema.member_of(union, value))
         }
     };
-    pass_referent(meter, checks, site, row.place, referent)
+    pass_referent(meter, checks, row.place, referent)
+}
+
+/// Checks the first offset word of a row, and answers the table to which it leads, if it does. What fails does so at this site.
+#[tactic(auto, using(crate::proofs::Refusals::told_after))]
+pub fn pass_element(
+    meter: &mut Meter<'_>,
+    schema: &Schema<'_>,
+    checks: Checks,
+    site: Site,
+    row: Row,
+) -> Result<Option<Child>, Stop>
+    requires served { IsServed schema.now }
+    requires more { 0 < row.left }
+    requires row { IsRow meter.old.bytes schema.now row }
+    requires few { meter.old.count < 2 ^ 96 }
+    ensures ok { IfOk result (λ _. element_failure checks meter.old.bytes (first_word meter.old.bytes schema.now row) ≡ None) }
+    ensures child { IfOk result (λ o. MatchOption o (IsLeafLead (first_word meter.old.bytes schema.now row).lead) (λ child. ((first_word meter.old.bytes schema.now row).lead ≡ to_table child.object) × (child.at ≡ target meter.old.bytes row.place))) }
+    ensures table { IfOk result (λ o. IfSome o (λ child. IsTrue (is_table schema.now child.object))) }
+    ensures near { IfOk result (λ o. IfSome o (λ child. child.at < 2 ^ 33)) }
+    ensures counted { IfOk result (λ _. meter.new ≡ record meter.old { count = meter.old.count + (first_word meter.old.bytes schema.now row).reads + lead_reads (first_word meter.old.bytes schema.now row).lead }) }
+    ensures err { IfErr result (λ s. told site meter.old.count (element_failure checks meter.old.bytes (first_word meter.old.bytes schema.now row)) ≡ Some (stopped s meter.new.count)) }
+    ensures bytes { meter.new.bytes ≡ meter.old.bytes }
+{
+    match check_element(meter, schema, checks, row) {
+        Ok(child) => Ok(child),
+        Err(refusal) => Err(Stop { site, refusal }),
+    }
 }

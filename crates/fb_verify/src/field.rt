@@ -1,41 +1,41 @@
 // The tests of a field of a table, by its kind, before what it leads to.
 
-ghost use Rattle.std.specs.Prelude.{◌≡◌, ◌+◌, ◌-◌, ◌*◌, ◌^◌, ◌<◌, ◌≤◌, length, IfOk, IfErr, IsTrue, Some, None};
+ghost use Rattle.std.specs.Prelude.{◌≡◌, ◌+◌, ◌-◌, ◌*◌, ◌^◌, ◌<◌, ◌≤◌, length, [], IfOk, IfErr, IsTrue, Some, None, true, false};
 ghost use Rattle.fb_bytes.specs.Word.{word};
 ghost use Rattle.fb_schema.specs.Rows.{is_union};
 ghost use Rattle.fb_schema.specs.Members.{member_of};
 ghost use Rattle.fb_schema.specs.Live.{live_of_view};
 ghost use Rattle.fb_verify.specs.Places.{target, has_slot, field_place};
-ghost use Rattle.fb_verify.specs.Fields.{type_place, union_type, type_count, types_begin, entries, union_entry, lead_of};
-ghost use Rattle.fb_verify.specs.Cost.{own_reads, slot_reads, reads_if_present};
-ghost use Rattle.fb_verify.specs.Order.{after, vector_field_failure, unions_field_failure, union_field_failure, own_failure};
+ghost use Rattle.fb_verify.specs.Fields.{type_place, union_type, type_count, types_begin, entries_of, entries, union_entry, lead_of};
+ghost use Rattle.fb_verify.specs.Cost.{own_reads, present_reads, slot_reads, reads_if_present};
+ghost use Rattle.fb_verify.specs.Order.{after, vector_field_failure, unions_field_failure, union_field_failure, present_failure, own_failure};
 ghost use Rattle.fb_verify.specs.declared.row.Leads.TheVariants.{All, ByType};
-ghost use Rattle.fb_verify.specs.Told.{told, IsHead, IsVtable};
+ghost use Rattle.fb_verify.specs.Told.{told, refused, stopped, IsHead, IsVtable};
 ghost use Rattle.fb_schema.specs.Served.{IsServed, KindHolds, MemberHolds};
-ghost use Rattle.fb_verify.specs.Rows.{words_of, lead_to, IsReferent, IsRow, TypeFits, TypesFit, IsTyped};
+ghost use Rattle.fb_verify.specs.Rows.{words_of, lead_to, IsReferent, IsRow, TypeFits, TypesFit, IsTyped, IsVectorOrUnion};
 
 use crate::checks::Checks;
-use crate::fault::{Fault, Reason};
+use crate::fault::Reason;
 use crate::head::{Head, check_end, read_slot};
 use crate::row::{Leads, NO_ROW, Referent, Row};
-use crate::site::{Site, fault};
+use crate::site::{Refusal, Site, Stop, refuse};
 use crate::values::{check_inline, read_offset, read_vector};
 use fb_bytes::Meter;
 use fb_schema::{FieldView, Kind, Schema};
 
-/// An open table: its object's number, its position and its head.
+/// An open table: its head, its object's number and its position, in the order that [`Stop`] asks for.
 #[derive(Clone, Copy, Debug, PartialEq, Eq)]
 pub struct Table {
+    pub head: Head,
     pub object: u32,
     pub at: u64,
-    pub head: Head,
 }
 
-/// A present field: its site, its table, and the position that its slot tells.
+/// A present field: the position and the head of its table, and the position that its slot tells.
 #[derive(Clone, Copy, Debug, PartialEq, Eq)]
 struct Spot {
-    site: Site,
-    table: Table,
+    at: u64,
+    head: Head,
     place: u64,
 }
 
@@ -54,45 +54,64 @@ fn read_vector_field(
     spot: Spot,
     size: u32,
     align: u32,
-) -> Result<Vector, Fault>
+) -> Result<Vector, Refusal>
     requires few { meter.old.count < 2 ^ 98 }
     requires align { 0 < align }
-    requires near { spot.table.at < 2 ^ 33 }
+    requires near { spot.at < 2 ^ 33 }
     requires near_place { spot.place < 2 ^ 34 }
-    requires head { IsHead checks meter.old.bytes spot.table.at spot.table.head }
-    ensures ok { IfOk result (λ _. vector_field_failure checks meter.old.bytes spot.table.at spot.place size align ≡ None) }
+    requires head { IsHead checks meter.old.bytes spot.at spot.head }
+    ensures ok { IfOk result (λ _. vector_field_failure checks meter.old.bytes spot.at spot.place size align ≡ None) }
     ensures at { IfOk result (λ v. v.at ≡ target meter.old.bytes spot.place) }
     ensures count { IfOk result (λ v. v.count ≡ word meter.old.bytes (target meter.old.bytes spot.place) 4) }
     ensures within { IfOk result (λ v. v.at + 4 + v.count * size < 2 ^ 31) }
     ensures counted { IfOk result (λ _. meter.new ≡ record meter.old { count = meter.old.count + 2 }) }
-    ensures err { IfErr result (λ f. told spot.site meter.old.count (vector_field_failure checks meter.old.bytes spot.table.at spot.place size align) ≡ Some f) }
-    ensures stopped { IfErr result (λ f. meter.new ≡ record meter.old { count = f.reads }) }
+    ensures err { IfErr result (λ e. after meter.old.count (vector_field_failure checks meter.old.bytes spot.at spot.place size align) ≡ Some (refused e meter.new.count)) }
+    ensures bytes { meter.new.bytes ≡ meter.old.bytes }
 {
-    check_end(
-        meter,
-        checks,
-        spot.site,
-        spot.table.at,
-        spot.table.head,
-        spot.place,
-        4,
-    )?;
-    let at = read_offset(meter, checks, spot.site, spot.place)?;
-    let count = read_vector(meter, checks, spot.site, at, size, align)?;
+    check_end(meter, checks, spot.at, spot.head, spot.place, 4)?;
+    let at = read_offset(meter, checks, spot.place)?;
+    let count = read_vector(meter, checks, at, size, align)?;
     Ok(Vector { at, count })
 }
 
-/// Reads the type of a union again, whose field has this slot: 0 where its type field is absent.
-fn read_type(meter: &mut Meter<'_>, table: Table, slot: u16) -> u8
+/// Checks a present vector of scalars or structs of this size and alignment. What the reader answers has its room in here, where no
+/// other kind of field pays for it.
+#[inline(always)]
+fn check_vector_field(
+    meter: &mut Meter<'_>,
+    checks: Checks,
+    spot: Spot,
+    size: u32,
+    align: u32,
+) -> Result<(), Refusal>
     requires few { meter.old.count < 2 ^ 98 }
-    requires near { table.at < 2 ^ 33 }
-    requires head { IsVtable meter.old.bytes table.at table.head }
-    requires present { IsTrue (has_slot meter.old.bytes table.at slot) }
-    requires typed { TypeFits meter.old.bytes table.at slot }
-    ensures value { result ≡ union_type meter.old.bytes (type_place meter.old.bytes table.at slot) }
-    ensures counted { meter.new ≡ record meter.old { count = meter.old.count + (1 + reads_if_present 1 (type_place meter.old.bytes table.at slot)) } }
+    requires align { 0 < align }
+    requires near { spot.at < 2 ^ 33 }
+    requires near_place { spot.place < 2 ^ 34 }
+    requires head { IsHead checks meter.old.bytes spot.at spot.head }
+    ensures ok { IfOk result (λ _. vector_field_failure checks meter.old.bytes spot.at spot.place size align ≡ None) }
+    ensures counted { IfOk result (λ _. meter.new ≡ record meter.old { count = meter.old.count + 2 }) }
+    ensures err { IfErr result (λ e. after meter.old.count (vector_field_failure checks meter.old.bytes spot.at spot.place size align) ≡ Some (refused e meter.new.count)) }
+    ensures bytes { meter.new.bytes ≡ meter.old.bytes }
 {
-    match read_slot(meter, table.at, table.head, slot - 2) {
+    match read_vector_field(meter, checks, spot, size, align) {
+        Ok(_) => Ok(()),
+        Err(refusal) => Err(refusal),
+    }
+}
+
+/// Reads the type of a union again, whose field has this slot: 0 where its type field is absent.
+#[inline(never)]
+fn read_type(meter: &mut Meter<'_>, spot: Spot, slot: u16) -> u8
+    requires few { meter.old.count < 2 ^ 98 }
+    requires near { spot.at < 2 ^ 33 }
+    requires head { IsVtable meter.old.bytes spot.at spot.head }
+    requires present { IsTrue (has_slot meter.old.bytes spot.at slot) }
+    requires typed { TypeFits meter.old.bytes spot.at slot }
+    ensures value { result ≡ union_type meter.old.bytes (type_place meter.old.bytes spot.at slot) }
+    ensures counted { meter.new ≡ record meter.old { count = meter.old.count + (1 + reads_if_present 1 (type_place meter.old.bytes spot.at slot)) } }
+{
+    match read_slot(meter, spot.at, spot.head, slot - 2) {
         None => 0,
         Some(place) => meter.u8_at(place),
     }
@@ -100,19 +119,20 @@ fn read_type(meter: &mut Meter<'_>, table: Table, slot: u16) -> u8
 
 /// Reads again where the types of a vector of unions begin, whose field has this slot, and how many they are: none where
 /// their field is absent.
-fn read_types(meter: &mut Meter<'_>, table: Table, slot: u16) -> Vector
+#[inline(never)]
+fn read_types(meter: &mut Meter<'_>, spot: Spot, slot: u16) -> Vector
     requires few { meter.old.count < 2 ^ 98 }
-    requires near { table.at < 2 ^ 33 }
-    requires head { IsVtable meter.old.bytes table.at table.head }
-    requires present { IsTrue (has_slot meter.old.bytes table.at slot) }
-    requires typed { TypesFit meter.old.bytes table.at slot }
-    ensures at { result.at ≡ types_begin meter.old.bytes (type_place meter.old.bytes table.at slot) }
-    ensures count { result.count ≡ type_count meter.old.bytes (type_place meter.old.bytes table.at slot) }
+    requires near { spot.at < 2 ^ 33 }
+    requires head { IsVtable meter.old.bytes spot.at spot.head }
+    requires present { IsTrue (has_slot meter.old.bytes spot.at slot) }
+    requires typed { TypesFit meter.old.bytes spot.at slot }
+    ensures at { result.at ≡ types_begin meter.old.bytes (type_place meter.old.bytes spot.at slot) }
+    ensures count { result.count ≡ type_count meter.old.bytes (type_place meter.old.bytes spot.at slot) }
     ensures within { result.at + result.count ≤ length meter.old.bytes }
     ensures near { result.at + result.count < 2 ^ 36 }
-    ensures counted { meter.new ≡ record meter.old { count = meter.old.count + (1 + reads_if_present 2 (type_place meter.old.bytes table.at slot)) } }
+    ensures counted { meter.new ≡ record meter.old { count = meter.old.count + (1 + reads_if_present 2 (type_place meter.old.bytes spot.at slot)) } }
 {
-    match read_slot(meter, table.at, table.head, slot - 2) {
+    match read_slot(meter, spot.at, spot.head, slot - 2) {
         None => Vector { at: 0, count: 0 },
         Some(place) => {
             let at = place + u64::from(meter.u32_at(place));
@@ -143,7 +163,7 @@ pub fn referent_of(schema: &Schema<'_>, member: Option<Kind>) -> Referent
 }
 
 /// Checks a present union field with this slot, and answers its offset word where its type has a member.
-#[inline(never)]
+#[inline(always)]
 #[tactic(auto, unfolding(crate::specs::Fields::row))]
 fn pass_union(
     meter: &mut Meter<'_>,
@@ -152,66 +172,58 @@ fn pass_union(
     spot: Spot,
     slot: u16,
     union: u32,
-) -> Result<Row, Fault>
+) -> Result<Row, Refusal>
     requires served { IsServed schema.now }
     requires union { IsTrue (is_union schema.now union) }
-    requires present { IsTrue (has_slot meter.old.bytes spot.table.at slot) }
-    requires typed { TypeFits meter.old.bytes spot.table.at slot }
+    requires present { IsTrue (has_slot meter.old.bytes spot.at slot) }
+    requires typed { TypeFits meter.old.bytes spot.at slot }
     requires few { meter.old.count < 2 ^ 98 }
-    requires near { spot.table.at < 2 ^ 33 }
+    requires near { spot.at < 2 ^ 33 }
     requires near_place { spot.place < 2 ^ 34 }
-    requires head { IsHead checks meter.old.bytes spot.table.at spot.table.head }
-    ensures ok { IfOk result (λ _. union_field_failure checks meter.old.bytes spot.table.at spot.place (member_of schema.now union (union_type meter.old.bytes (type_place meter.old.bytes spot.table.at slot))) ≡ None) }
-    ensures entries { IfOk result (λ r. union_entry schema.now spot.place (member_of schema.now union (union_type meter.old.bytes (type_place meter.old.bytes spot.table.at slot))) ≡ words_of meter.old.bytes schema.now r) }
+    requires head { IsHead checks meter.old.bytes spot.at spot.head }
+    ensures ok { IfOk result (λ _. union_field_failure checks meter.old.bytes spot.at spot.place (member_of schema.now union (union_type meter.old.bytes (type_place meter.old.bytes spot.at slot))) ≡ None) }
+    ensures entries { IfOk result (λ r. union_entry schema.now spot.place (member_of schema.now union (union_type meter.old.bytes (type_place meter.old.bytes spot.at slot))) ≡ words_of meter.old.bytes schema.now r) }
     ensures row { IfOk result (λ r. IsRow meter.old.bytes schema.now r) }
-    ensures counted { IfOk result (λ _. meter.new ≡ record meter.old { count = meter.old.count + (1 + reads_if_present 1 (type_place meter.old.bytes spot.table.at slot)) }) }
-    ensures err { IfErr result (λ f. told spot.site meter.old.count (after (1 + reads_if_present 1 (type_place meter.old.bytes spot.table.at slot)) (union_field_failure checks meter.old.bytes spot.table.at spot.place (member_of schema.now union (union_type meter.old.bytes (type_place meter.old.bytes spot.table.at slot))))) ≡ Some f) }
-    ensures stopped { IfErr result (λ f. meter.new ≡ record meter.old { count = f.reads }) }
+    ensures counted { IfOk result (λ _. meter.new ≡ record meter.old { count = meter.old.count + (1 + reads_if_present 1 (type_place meter.old.bytes spot.at slot)) }) }
+    ensures err { IfErr result (λ e. after meter.old.count (after (1 + reads_if_present 1 (type_place meter.old.bytes spot.at slot)) (union_field_failure checks meter.old.bytes spot.at spot.place (member_of schema.now union (union_type meter.old.bytes (type_place meter.old.bytes spot.at slot))))) ≡ Some (refused e meter.new.count)) }
+    ensures bytes { meter.new.bytes ≡ meter.old.bytes }
 {
-    let value = read_type(meter, spot.table, slot);
+    let value = read_type(meter, spot, slot);
     let Some(member) = schema.member_of(union, value) else {
         return Ok(NO_ROW);
     };
-    check_end(
-        meter,
-        checks,
-        spot.site,
-        spot.table.at,
-        spot.table.head,
-        spot.place,
-        4,
-    )?;
+    check_end(meter, checks, spot.at, spot.head, spot.place, 4)?;
     Ok(Row::one(referent_of(schema, Some(member)), spot.place))
 }
 
 /// Checks a present vector of unions with this slot, and answers its offset words.
-#[inline(never)]
+#[inline(always)]
 fn pass_unions(
     meter: &mut Meter<'_>,
     checks: Checks,
     spot: Spot,
     slot: u16,
     union: u32,
-) -> Result<Row, Fault>
-    requires present { IsTrue (has_slot meter.old.bytes spot.table.at slot) }
-    requires typed { TypesFit meter.old.bytes spot.table.at slot }
+) -> Result<Row, Refusal>
+    requires present { IsTrue (has_slot meter.old.bytes spot.at slot) }
+    requires typed { TypesFit meter.old.bytes spot.at slot }
     requires few { meter.old.count < 2 ^ 97 }
-    requires near { spot.table.at < 2 ^ 33 }
+    requires near { spot.at < 2 ^ 33 }
     requires near_place { spot.place < 2 ^ 34 }
-    requires head { IsHead checks meter.old.bytes spot.table.at spot.table.head }
-    ensures ok { IfOk result (λ _. unions_field_failure checks meter.old.bytes spot.table.at spot.place (type_place meter.old.bytes spot.table.at slot) ≡ None) }
-    ensures row { IfOk result (λ r. r ≡ record { leads = ByType union (types_begin meter.old.bytes (type_place meter.old.bytes spot.table.at slot)); place = target meter.old.bytes spot.place + 4; left = word meter.old.bytes (target meter.old.bytes spot.place) 4 }) }
-    ensures types { IfOk result (λ r. types_begin meter.old.bytes (type_place meter.old.bytes spot.table.at slot) + r.left ≤ length meter.old.bytes) }
-    ensures types_near { IfOk result (λ r. types_begin meter.old.bytes (type_place meter.old.bytes spot.table.at slot) + r.left < 2 ^ 36) }
+    requires head { IsHead checks meter.old.bytes spot.at spot.head }
+    ensures ok { IfOk result (λ _. unions_field_failure checks meter.old.bytes spot.at spot.place (type_place meter.old.bytes spot.at slot) ≡ None) }
+    ensures row { IfOk result (λ r. r ≡ record { leads = ByType union (types_begin meter.old.bytes (type_place meter.old.bytes spot.at slot)); place = target meter.old.bytes spot.place + 4; left = word meter.old.bytes (target meter.old.bytes spot.place) 4 }) }
+    ensures types { IfOk result (λ r. types_begin meter.old.bytes (type_place meter.old.bytes spot.at slot) + r.left ≤ length meter.old.bytes) }
+    ensures types_near { IfOk result (λ r. types_begin meter.old.bytes (type_place meter.old.bytes spot.at slot) + r.left < 2 ^ 36) }
     ensures within { IfOk result (λ r. r.place + 4 * r.left < 2 ^ 31) }
-    ensures counted { IfOk result (λ _. meter.new ≡ record meter.old { count = meter.old.count + (1 + reads_if_present 2 (type_place meter.old.bytes spot.table.at slot) + 2) }) }
-    ensures err { IfErr result (λ f. told spot.site meter.old.count (after (1 + reads_if_present 2 (type_place meter.old.bytes spot.table.at slot)) (unions_field_failure checks meter.old.bytes spot.table.at spot.place (type_place meter.old.bytes spot.table.at slot))) ≡ Some f) }
-    ensures stopped { IfErr result (λ f. meter.new ≡ record meter.old { count = f.reads }) }
+    ensures counted { IfOk result (λ _. meter.new ≡ record meter.old { count = meter.old.count + (1 + reads_if_present 2 (type_place meter.old.bytes spot.at slot) + 2) }) }
+    ensures err { IfErr result (λ e. after meter.old.count (after (1 + reads_if_present 2 (type_place meter.old.bytes spot.at slot)) (unions_field_failure checks meter.old.bytes spot.at spot.place (type_place meter.old.bytes spot.at slot))) ≡ Some (refused e meter.new.count)) }
+    ensures bytes { meter.new.bytes ≡ meter.old.bytes }
 {
-    let types = read_types(meter, spot.table, slot);
+    let types = read_types(meter, spot, slot);
     let values = read_vector_field(meter, checks, spot, 4, 4)?;
     if values.count != types.count {
-        return Err(fault(meter, spot.site, values.at, Reason::LengthsDiffer));
+        return Err(refuse(values.at, Reason::LengthsDiffer));
     }
     Ok(Row {
         leads: Leads::ByType(union, types.at),
@@ -221,23 +233,23 @@ fn pass_unions(
 }
 
 /// Checks a present vector of offset words that all refer to the same, and answers these.
-#[inline(never)]
+#[inline(always)]
 fn pass_vector(
     meter: &mut Meter<'_>,
     checks: Checks,
     spot: Spot,
     referent: Referent,
-) -> Result<Row, Fault>
+) -> Result<Row, Refusal>
     requires few { meter.old.count < 2 ^ 97 }
-    requires near { spot.table.at < 2 ^ 33 }
+    requires near { spot.at < 2 ^ 33 }
     requires near_place { spot.place < 2 ^ 34 }
-    requires head { IsHead checks meter.old.bytes spot.table.at spot.table.head }
-    ensures ok { IfOk result (λ _. vector_field_failure checks meter.old.bytes spot.table.at spot.place 4 4 ≡ None) }
+    requires head { IsHead checks meter.old.bytes spot.at spot.head }
+    ensures ok { IfOk result (λ _. vector_field_failure checks meter.old.bytes spot.at spot.place 4 4 ≡ None) }
     ensures row { IfOk result (λ r. r ≡ record { leads = All referent; place = target meter.old.bytes spot.place + 4; left = word meter.old.bytes (target meter.old.bytes spot.place) 4 }) }
     ensures within { IfOk result (λ r. r.place + 4 * r.left < 2 ^ 31) }
     ensures counted { IfOk result (λ _. meter.new ≡ record meter.old { count = meter.old.count + 2 }) }
-    ensures err { IfErr result (λ f. told spot.site meter.old.count (vector_field_failure checks meter.old.bytes spot.table.at spot.place 4 4) ≡ Some f) }
-    ensures stopped { IfErr result (λ f. meter.new ≡ record meter.old { count = f.reads }) }
+    ensures err { IfErr result (λ e. after meter.old.count (vector_field_failure checks meter.old.bytes spot.at spot.place 4 4) ≡ Some (refused e meter.new.count)) }
+    ensures bytes { meter.new.bytes ≡ meter.old.bytes }
 {
     let vector = read_vector_field(meter, checks, spot, 4, 4)?;
     Ok(Row {
@@ -247,15 +259,57 @@ fn pass_vector(
     })
 }
 
-/// Checks a field of a table by itself, and answers the offset words by which it leads on.
-#[tactic(auto, unfolding(crate::specs::Order::own_failure, crate::specs::Cost::own_reads, crate::specs::Fields::entries, crate::specs::Fields::row))]
-pub fn pass_field(
+/// Checks a present field by itself that is a vector or a union, and answers the offset words by which it leads on. It stands
+/// apart, so that fields of other kinds pay nothing for its room.
+#[inline(never)]
+#[tactic(auto, unfolding(crate::specs::Fields::row))]
+fn check_vector_or_union(
+    meter: &mut Meter<'_>,
+    schema: &Schema<'_>,
+    checks: Checks,
+    spot: Spot,
+    field: &FieldView<'_>,
+) -> Result<Row, Refusal>
+    requires served { IsServed schema.now }
+    requires kind { KindHolds schema.now (live_of_view field.now) (field.now).kind }
+    requires far { IsVectorOrUnion (field.now).kind }
+    requires typed { IsTyped meter.old.bytes spot.at (field.now).slot (field.now).kind }
+    requires present { IsTrue (has_slot meter.old.bytes spot.at (field.now).slot) }
+    requires few { meter.old.count < 2 ^ 97 }
+    requires near { spot.at < 2 ^ 33 }
+    requires near_place { spot.place < 2 ^ 34 }
+    requires head { IsHead checks meter.old.bytes spot.at spot.head }
+    ensures ok { IfOk result (λ _. present_failure checks meter.old.bytes schema.now spot.at (live_of_view field.now) spot.place (field.now).kind ≡ None) }
+    ensures entries { IfOk result (λ r. entries_of meter.old.bytes schema.now spot.at (live_of_view field.now) spot.place (field.now).kind ≡ words_of meter.old.bytes schema.now r) }
+    ensures row { IfOk result (λ r. IsRow meter.old.bytes schema.now r) }
+    ensures counted { IfOk result (λ _. meter.new ≡ record meter.old { count = meter.old.count + present_reads meter.old.bytes spot.at (field.now).slot (field.now).kind }) }
+    ensures err { IfErr result (λ e. after meter.old.count (present_failure checks meter.old.bytes schema.now spot.at (live_of_view field.now) spot.place (field.now).kind) ≡ Some (refused e meter.new.count)) }
+    ensures bytes { meter.new.bytes ≡ meter.old.bytes }
+{
+    match field.kind {
+        Kind::Union(union) => { pass_union(meter, schema, checks, spot, field.slot, union) }
+        Kind::Scalars(_) | Kind::Structs(_) => {
+            check_vector_field(meter, checks, spot, field.size, field.align)?;
+            Ok(NO_ROW)
+        }
+        Kind::Texts => { pass_vector(meter, checks, spot, Referent::Text) }
+        Kind::Tables(object) => { pass_vector(meter, checks, spot, Referent::Table(object)) }
+        Kind::Unions(union) => { pass_unions(meter, checks, spot, field.slot, union) }
+        _ => Ok(NO_ROW),
+    }
+}
+
+/// Checks a field of a table by itself, and answers whether it leads on, and then by which offset words.
+#[inline(always)]
+#[tactic(auto, using(crate::proofs::Words::row_none), unfolding(crate::specs::Order::own_failure, crate::specs::Cost::own_reads, crate::specs::Fields::entries, crate::specs::Fields::row, crate::specs::Fields::union_row))]
+fn check_field(
     meter: &mut Meter<'_>,
     schema: &Schema<'_>,
     checks: Checks,
     table: Table,
     field: &FieldView<'_>,
-) -> Result<Row, Fault>
+    row: &mut Row,
+) -> Result<bool, Refusal>
     requires served { IsServed schema.now }
     requires kind { KindHolds schema.now (live_of_view field.now) (field.now).kind }
     requires typed { IsTyped meter.old.bytes table.at (field.now).slot (field.now).kind }
@@ -263,56 +317,77 @@ pub fn pass_field(
     requires near { table.at < 2 ^ 33 }
     requires head { IsHead checks meter.old.bytes table.at table.head }
     ensures ok { IfOk result (λ _. own_failure checks meter.old.bytes schema.now table.at (live_of_view field.now) ≡ None) }
-    ensures entries { IfOk result (λ r. entries meter.old.bytes schema.now table.at (live_of_view field.now) ≡ words_of meter.old.bytes schema.now r) }
-    ensures row { IfOk result (λ r. IsRow meter.old.bytes schema.now r) }
+    ensures none { IfOk result (λ more. more ≡ false → (entries meter.old.bytes schema.now table.at (live_of_view field.now) ≡ []) × (row.new ≡ row.old)) }
+    ensures entries { IfOk result (λ more. more ≡ true → entries meter.old.bytes schema.now table.at (live_of_view field.now) ≡ words_of meter.old.bytes schema.now row.new) }
+    ensures row { IfOk result (λ more. more ≡ true → IsRow meter.old.bytes schema.now row.new × (0 < (row.new).left)) }
     ensures counted { IfOk result (λ _. meter.new ≡ record meter.old { count = meter.old.count + own_reads meter.old.bytes table.at (live_of_view field.now) }) }
-    ensures err { IfErr result (λ f. told (record { object = table.object; field = Some (field.now).number }) meter.old.count (own_failure checks meter.old.bytes schema.now table.at (live_of_view field.now)) ≡ Some f) }
-    ensures stopped { IfErr result (λ f. meter.new ≡ record meter.old { count = f.reads }) }
+    ensures err { IfErr result (λ e. after meter.old.count (own_failure checks meter.old.bytes schema.now table.at (live_of_view field.now)) ≡ Some (refused e meter.new.count)) }
+    ensures bytes { meter.new.bytes ≡ meter.old.bytes }
+{
+    let Some(place) = read_slot(meter, table.at, table.head, field.slot) else {
+        if field.required {
+            return Err(refuse(table.at, Reason::MissingRequired));
+        }
+        return Ok(false);
+    };
+    match field.kind {
+        Kind::Scalar(_) | Kind::Struct(_) => {
+            check_end(meter, checks, table.at, table.head, place, field.size)?;
+            check_inline(meter, checks, place, field.size, field.align)?;
+            Ok(false)
+        }
+        Kind::Text => {
+            check_end(meter, checks, table.at, table.head, place, 4)?;
+            *row = Row::one(Referent::Text, place);
+            Ok(true)
+        }
+        Kind::Table(object) => {
+            check_end(meter, checks, table.at, table.head, place, 4)?;
+            *row = Row::one(Referent::Table(object), place);
+            Ok(true)
+        }
+        _ => {
+            let spot = Spot {
+                at: table.at,
+                head: table.head,
+                place,
+            };
+            Ok(check_vector_or_union(meter, schema, checks, spot, field)?.put_into(row))
+        }
+    }
+}
+
+/// Checks a field of a table by itself, and answers whether it leads on, and then by which offset words. What fails does so at this field.
+#[inline(always)]
+#[tactic(auto, using(crate::proofs::Refusals::told_after))]
+pub fn pass_field(
+    meter: &mut Meter<'_>,
+    schema: &Schema<'_>,
+    checks: Checks,
+    table: Table,
+    field: &FieldView<'_>,
+    row: &mut Row,
+) -> Result<bool, Stop>
+    requires served { IsServed schema.now }
+    requires kind { KindHolds schema.now (live_of_view field.now) (field.now).kind }
+    requires typed { IsTyped meter.old.bytes table.at (field.now).slot (field.now).kind }
+    requires few { meter.old.count < 2 ^ 96 + 2 ^ 95 }
+    requires near { table.at < 2 ^ 33 }
+    requires head { IsHead checks meter.old.bytes table.at table.head }
+    ensures ok { IfOk result (λ _. own_failure checks meter.old.bytes schema.now table.at (live_of_view field.now) ≡ None) }
+    ensures none { IfOk result (λ more. more ≡ false → (entries meter.old.bytes schema.now table.at (live_of_view field.now) ≡ []) × (row.new ≡ row.old)) }
+    ensures entries { IfOk result (λ more. more ≡ true → entries meter.old.bytes schema.now table.at (live_of_view field.now) ≡ words_of meter.old.bytes schema.now row.new) }
+    ensures row { IfOk result (λ more. more ≡ true → IsRow meter.old.bytes schema.now row.new × (0 < (row.new).left)) }
+    ensures counted { IfOk result (λ _. meter.new ≡ record meter.old { count = meter.old.count + own_reads meter.old.bytes table.at (live_of_view field.now) }) }
+    ensures err { IfErr result (λ s. told (record { object = table.object; field = Some (field.now).number }) meter.old.count (own_failure checks meter.old.bytes schema.now table.at (live_of_view field.now)) ≡ Some (stopped s meter.new.count)) }
+    ensures bytes { meter.new.bytes ≡ meter.old.bytes }
 {
     let site = Site {
         object: table.object,
         field: Some(field.number),
     };
-    let Some(place) = read_slot(meter, table.at, table.head, field.slot) else {
-        if field.required {
-            return Err(fault(meter, site, table.at, Reason::MissingRequired));
-        }
-        return Ok(NO_ROW);
-    };
-    match field.kind {
-        Kind::Scalar(_) | Kind::Struct(_) => {
-            check_end(meter, checks, site, table.at, table.head, place, field.size)?;
-            check_inline(meter, checks, site, place, field.size, field.align)?;
-            Ok(NO_ROW)
-        }
-        Kind::Text => {
-            check_end(meter, checks, site, table.at, table.head, place, 4)?;
-            Ok(Row::one(Referent::Text, place))
-        }
-        Kind::Table(object) => {
-            check_end(meter, checks, site, table.at, table.head, place, 4)?;
-            Ok(Row::one(Referent::Table(object), place))
-        }
-        Kind::Union(union) => {
-            let spot = Spot { site, table, place };
-            pass_union(meter, schema, checks, spot, field.slot, union)
-        }
-        Kind::Scalars(_) | Kind::Structs(_) => {
-            let spot = Spot { site, table, place };
-            read_vector_field(meter, checks, spot, field.size, field.align)?;
-            Ok(NO_ROW)
-        }
-        Kind::Texts => {
-            let spot = Spot { site, table, place };
-            pass_vector(meter, checks, spot, Referent::Text)
-        }
-        Kind::Tables(object) => {
-            let spot = Spot { site, table, place };
-            pass_vector(meter, checks, spot, Referent::Table(object))
-        }
-        Kind::Unions(union) => {
-            let spot = Spot { site, table, place };
-            pass_unions(meter, checks, spot, field.slot, union)
-        }
+    match check_field(meter, schema, checks, table, field, row) {
+        Ok(more) => Ok(more),
+        Err(refusal) => Err(Stop { site, refusal }),
     }
 }

@@ -3,12 +3,12 @@
 ghost use Rattle.std.specs.Prelude.{◌≡◌, ◌+◌, ◌^◌, ◌<◌, ◌≤◌, length, pos, IfOk, IfErr, IfSome, MatchOption, Some, None, IsTrue, true, false};
 ghost use Rattle.fb_verify.specs.Places.{has_vtable, has_slot, vtable, field_place, ends_in_table};
 ghost use Rattle.fb_verify.specs.Cost.{head_reads, slot_reads};
-ghost use Rattle.fb_verify.specs.Order.{head_failure, table_failure};
-ghost use Rattle.fb_verify.specs.Told.{told, IsVtable, IsHead};
+ghost use Rattle.fb_verify.specs.Order.{after, head_failure, table_failure};
+ghost use Rattle.fb_verify.specs.Told.{told, refused, stopped, IsVtable, IsHead};
 
 use crate::checks::Checks;
-use crate::fault::{Fault, Reason};
-use crate::site::{Site, fault, is_aligned};
+use crate::fault::Reason;
+use crate::site::{Refusal, Site, Stop, is_aligned, refuse};
 use fb_bytes::Meter;
 
 /// Where a table's vtable stands, its size in bytes, and the size of what stands inline in the table.
@@ -35,41 +35,38 @@ fn read_vtable_place(meter: &mut Meter<'_>, at: u64) -> Option<u64>
     if place < 0 { None } else { Some(place as u64) }
 }
 
-/// Reads the head of the table at a position.
+/// Checks the head of the table at a position, and answers it.
+#[inline(always)]
 #[tactic(auto, unfolding(crate::specs::Order::head_failure))]
-pub fn read_head(meter: &mut Meter<'_>, checks: Checks, object: u32, at: u64) -> Result<Head, Fault>
+fn check_head(meter: &mut Meter<'_>, checks: Checks, at: u64) -> Result<Head, Refusal>
     requires few { meter.old.count < 2 ^ 98 }
     ensures ok { IfOk result (λ _. head_failure checks meter.old.bytes at ≡ None) }
     ensures head { IfOk result (λ h. IsHead checks meter.old.bytes at h) }
     ensures counted { IfOk result (λ _. meter.new ≡ record meter.old { count = meter.old.count + head_reads checks }) }
-    ensures err { IfErr result (λ f. told (record { object = object; field = None }) meter.old.count (head_failure checks meter.old.bytes at) ≡ Some f) }
-    ensures stopped { IfErr result (λ f. meter.new ≡ record meter.old { count = f.reads }) }
+    ensures err { IfErr result (λ e. after meter.old.count (head_failure checks meter.old.bytes at) ≡ Some (refused e meter.new.count)) }
+    ensures bytes { meter.new.bytes ≡ meter.old.bytes }
 {
-    let site = Site {
-        object,
-        field: None,
-    };
     if !meter.fits(at, 4) {
-        return Err(fault(meter, site, at, Reason::OutOfBuffer));
+        return Err(refuse(at, Reason::OutOfBuffer));
     }
     if !is_aligned(checks, at, 4) {
-        return Err(fault(meter, site, at, Reason::Misaligned));
+        return Err(refuse(at, Reason::Misaligned));
     }
     let Some(vtable) = read_vtable_place(meter, at) else {
-        return Err(fault(meter, site, at, Reason::OutOfBuffer));
+        return Err(refuse(at, Reason::OutOfBuffer));
     };
     if !meter.fits(vtable, 2) {
-        return Err(fault(meter, site, at, Reason::OutOfBuffer));
+        return Err(refuse(at, Reason::OutOfBuffer));
     }
     if !is_aligned(checks, vtable, 2) {
-        return Err(fault(meter, site, vtable, Reason::Misaligned));
+        return Err(refuse(vtable, Reason::Misaligned));
     }
     let size = meter.u16_at(vtable);
     if size % 2 != 0 || size < 4 {
-        return Err(fault(meter, site, vtable, Reason::BadVtable));
+        return Err(refuse(vtable, Reason::BadVtable));
     }
     if !meter.fits(vtable, u64::from(size)) {
-        return Err(fault(meter, site, vtable, Reason::OutOfBuffer));
+        return Err(refuse(vtable, Reason::OutOfBuffer));
     }
     let inline = if checks.inline_size {
         meter.u16_at(vtable + 2)
@@ -81,6 +78,27 @@ pub fn read_head(meter: &mut Meter<'_>, checks: Checks, object: u32, at: u64) ->
         size,
         inline,
     })
+}
+
+/// Reads the head of the table at a position, of this object. What fails does so in this table, before its first field.
+#[inline(always)]
+#[tactic(auto, using(crate::proofs::Refusals::told_after))]
+pub fn read_head(meter: &mut Meter<'_>, checks: Checks, object: u32, at: u64) -> Result<Head, Stop>
+    requires few { meter.old.count < 2 ^ 98 }
+    ensures ok { IfOk result (λ _. head_failure checks meter.old.bytes at ≡ None) }
+    ensures head { IfOk result (λ h. IsHead checks meter.old.bytes at h) }
+    ensures counted { IfOk result (λ _. meter.new ≡ record meter.old { count = meter.old.count + head_reads checks }) }
+    ensures err { IfErr result (λ s. told (record { object = object; field = None }) meter.old.count (head_failure checks meter.old.bytes at) ≡ Some (stopped s meter.new.count)) }
+    ensures bytes { meter.new.bytes ≡ meter.old.bytes }
+{
+    let site = Site {
+        object,
+        field: None,
+    };
+    match check_head(meter, checks, at) {
+        Ok(head) => Ok(head),
+        Err(refusal) => Err(Stop { site, refusal }),
+    }
 }
 
 /// Reads where the field with this slot stands in the table at a position, none where it is absent.
@@ -109,21 +127,19 @@ pub fn read_slot(meter: &mut Meter<'_>, at: u64, head: Head, slot: u16) -> Optio
 pub fn check_end(
     meter: &Meter<'_>,
     checks: Checks,
-    site: Site,
     at: u64,
     head: Head,
     place: u64,
     size: u32,
-) -> Result<(), Fault>
+) -> Result<(), Refusal>
     requires near { at < 2 ^ 33 }
     requires near_place { place < 2 ^ 34 }
     requires head { IsHead checks meter.now.bytes at head }
     ensures ok { IfOk result (λ _. table_failure checks meter.now.bytes at place size ≡ None) }
-    ensures err { IfErr result (λ f. told site meter.now.count (table_failure checks meter.now.bytes at place size) ≡ Some f) }
-    ensures stopped { IfErr result (λ f. f.reads ≡ meter.now.count) }
+    ensures err { IfErr result (λ e. after meter.now.count (table_failure checks meter.now.bytes at place size) ≡ Some (refused e meter.now.count)) }
 {
     if checks.inline_size && place + u64::from(size) > at + u64::from(head.inline) {
-        return Err(fault(meter, site, place, Reason::PastTable));
+        return Err(refuse(place, Reason::PastTable));
     }
     Ok(())
 }

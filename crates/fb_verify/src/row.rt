@@ -1,6 +1,6 @@
 // The offset words by which a field leads on.
 
-ghost use Rattle.std.specs.Prelude.{◌≡◌, ◌+◌, ◌*◌, ◌-◌, ◌<◌, ◌^◌};
+ghost use Rattle.std.specs.Prelude.{◌≡◌, ◌+◌, ◌*◌, ◌-◌, ◌<◌, ◌^◌, true, false};
 ghost use Rattle.fb_verify.specs.Rows.{past_first, AreTypesNear};
 ghost use Rattle.fb_verify.specs.declared.row.Leads.TheVariants.{All};
 
@@ -53,21 +53,29 @@ impl Row {
         }
     }
 
-    /// The row past its first offset word.
-    pub fn past_first(self) -> Self
-        requires more { 0 < self.left }
-        requires near { self.place < 2 ^ 36 }
-        requires types { AreTypesNear self.leads }
-        ensures { result ≡ past_first self }
+    /// Writes this row over another, if an offset word is left of it, and answers whether one is.
+    pub fn put_into(self, row: &mut Row) -> bool
+        ensures none { result ≡ false → (self.left ≡ 0) × (row.new ≡ row.old) }
+        ensures some { result ≡ true → (0 < self.left) × (row.new ≡ self) }
     {
-        let leads = match self.leads {
-            Leads::All(referent) => Leads::All(referent),
-            Leads::ByType(union, types) => Leads::ByType(union, types + 1),
-        };
-        Row {
-            leads,
-            place: self.place + 4,
-            left: self.left - 1,
+        if self.left == 0 {
+            return false;
         }
+        *row = self;
+        true
+    }
+
+    /// Goes past the first offset word, which is left out from then on.
+    pub fn advance(&mut self)
+        requires more { 0 < self.old.left }
+        requires near { self.old.place < 2 ^ 36 }
+        requires types { AreTypesNear self.old.leads }
+        ensures { self.new ≡ past_first self.old }
+    {
+        if let Leads::ByType(union, types) = self.leads {
+            self.leads = Leads::ByType(union, types + 1);
+        }
+        self.place += 4;
+        self.left -= 1;
     }
 }

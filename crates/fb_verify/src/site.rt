@@ -1,8 +1,8 @@
-// Where a walk is, for the fault that it may answer.
+// Why a test refuses a buffer, and where a walk stops.
 
-ghost use Rattle.std.specs.Prelude.{◌≡◌};
-ghost use Rattle.std.specs.Prelude.{◌<◌, ◌%◌, ◌==◌};
+ghost use Rattle.std.specs.Prelude.{◌≡◌, ◌<◌, ◌%◌, ◌==◌};
 ghost use Rattle.fb_verify.specs.Places.{is_aligned};
+ghost use Rattle.fb_verify.specs.Told.{stopped};
 
 use crate::checks::Checks;
 use crate::fault::{Fault, Reason};
@@ -15,30 +15,67 @@ pub struct Site {
     pub field: Option<u16>,
 }
 
-/// The fault at this position, after the reads that were made.
-pub fn fault(meter: &Meter<'_>, site: Site, at: u64, reason: Reason) -> Fault
-    ensures { result ≡ record { at = at; object = site.object; field = site.field; reason = reason; reads = meter.now.count } }
+/// Why a test failed, and at which position. It is small, since each test may answer one.
+#[derive(Clone, Copy, Debug, PartialEq, Eq)]
+pub struct Refusal {
+    pub at: u64,
+    pub reason: Reason,
+}
+
+/// The refusal at this position. It stands apart, so that a walk keeps its registers for what it passes.
+#[cold]
+#[inline(never)]
+pub fn refuse(at: u64, reason: Reason) -> Refusal
+    ensures { result ≡ record { at = at; reason = reason } }
 {
-    Fault {
-        at,
-        object: site.object,
-        field: site.field,
-        reason,
-        reads: meter.reads(),
+    Refusal { at, reason }
+}
+
+/// Where a walk stops, and why. The refusal stands first, so that in an answer that is this or an open table, numbers of eight bytes
+/// share a place with numbers of eight bytes, and none is written in pieces.
+#[derive(Clone, Copy, Debug, PartialEq, Eq)]
+pub struct Stop {
+    pub refusal: Refusal,
+    pub site: Site,
+}
+
+impl Stop {
+    /// The fault that this is, after the reads that were made.
+    pub fn fault(self, meter: &Meter<'_>) -> Fault
+        ensures { result ≡ stopped self meter.now.count }
+    {
+        Fault {
+            at: self.refusal.at,
+            object: self.site.object,
+            field: self.site.field,
+            reason: self.refusal.reason,
+            reads: meter.reads(),
+        }
     }
 }
 
-/// Whether a position is a multiple of its alignment. The usual alignments need no division at run time.
-fn is_multiple(at: u64, align: u32) -> bool
+/// Whether a position is a multiple of an alignment other than 2, 4 and 8. It stands apart, so that these need no table of jumps.
+#[inline(never)]
+fn is_multiple_of_other(at: u64, align: u32) -> bool
     requires { 0 < align }
     ensures { result ≡ (at % align == 0) }
 {
     match align {
         1 => true,
+        _ => at % u64::from(align) == 0,
+    }
+}
+
+/// Whether a position is a multiple of its alignment. The usual alignments need no division and no call at run time.
+fn is_multiple(at: u64, align: u32) -> bool
+    requires { 0 < align }
+    ensures { result ≡ (at % align == 0) }
+{
+    match align {
         2 => at % 2 == 0,
         4 => at % 4 == 0,
         8 => at % 8 == 0,
-        _ => at % u64::from(align) == 0,
+        _ => is_multiple_of_other(at, align),
     }
 }
 

@@ -1,24 +1,24 @@
 // The walk: a loop over the frames of the open tables.
 
-ghost use Rattle.std.specs.Prelude.{◌≡◌, ◌+◌, ◌-◌, ◌*◌, ◌^◌, ◌<◌, ◌≤◌, max, length, take, slice_index_or, [], ◌∷◌, ◌++◌, IfOk, IfErr, IfSome, MatchOption, IsTrue, Some, None, true, false};
+ghost use Rattle.std.specs.Prelude.{◌≡◌, ◌+◌, ◌-◌, ◌*◌, ◌^◌, ◌<◌, ◌≤◌, max, length, List, take, slice_index_or, [], ◌∷◌, ◌++◌, IfOk, IfErr, IfSome, MatchOption, IsTrue, Some, None, true, false};
 ghost use Rattle.fb_schema.specs.Rows.{is_table};
 ghost use Rattle.fb_schema.specs.Live.{live_fields};
 ghost use Rattle.fb_schema.specs.Served.{IsServed};
 ghost use Rattle.fb_verify.specs.Cost.{head_reads};
 ghost use Rattle.fb_verify.specs.Order.{◌▷◌, head_failure};
 ghost use Rattle.fb_verify.specs.Stops.{budget_failure, StopsFrom};
-ghost use Rattle.fb_verify.specs.Told.{told, way_at, IsHead};
+ghost use Rattle.fb_verify.specs.Told.{told, stopped, way_at, IsHead};
 ghost use Rattle.fb_verify.specs.Walked.{TableWalked, ended};
 ghost use Rattle.fb_verify.specs.Stack.{blank, Origin, Waiting, frame_work, work, opened, IsWalking, IsOver, IsStopped};
 
 use crate::checks::Checks;
 use crate::element::{Child, pass_element};
-use crate::fault::{Fault, Reason};
+use crate::fault::Reason;
 use crate::field::{Table, pass_field};
 use crate::head::read_head;
 use crate::limits::Limits;
 use crate::scratch::Frame;
-use crate::site::{Site, fault};
+use crate::site::{Site, Stop, refuse};
 use fb_bytes::Meter;
 use fb_schema::Schema;
 
@@ -41,7 +41,7 @@ impl<'s, 'n> Walk<'s, 'n> {
         links: u32,
         site: Site,
         child: Child,
-    ) -> Result<Table, Fault>
+    ) -> Result<Table, Stop>
         requires few { meter.old.count < 2 ^ 97 }
         ensures shallow { IfOk result (λ _. links < (self.old.limits).depth) }
         ensures low { IfOk result (λ _. links < 4096) }
@@ -52,14 +52,16 @@ impl<'s, 'n> Walk<'s, 'n> {
         ensures table { IfOk result (λ t. t ≡ record { object = child.object; at = child.at; head = t.head }) }
         ensures opened { IfOk result (λ _. self.new ≡ record self.old { tables = self.old.tables + 1; deepest = max self.old.deepest (links + 1) }) }
         ensures counted { IfOk result (λ _. meter.new ≡ record meter.old { count = meter.old.count + head_reads self.old.checks }) }
-        ensures err { IfErr result (λ f. (told site meter.old.count (budget_failure self.old.limits (way_at links self.old.tables self.old.deepest meter.old.count site) child.at) ▷ told (record { object = child.object; field = None }) meter.old.count (head_failure self.old.checks meter.old.bytes child.at)) ≡ Some f) }
-        ensures stopped { IfErr result (λ f. meter.new ≡ record meter.old { count = f.reads }) }
+        ensures err { IfErr result (λ s. (told site meter.old.count (budget_failure self.old.limits (way_at links self.old.tables self.old.deepest meter.old.count site) child.at) ▷ told (record { object = child.object; field = None }) meter.old.count (head_failure self.old.checks meter.old.bytes child.at)) ≡ Some (stopped s meter.new.count)) }
+        ensures bytes { meter.new.bytes ≡ meter.old.bytes }
     {
         if links >= self.limits.depth() {
-            return Err(fault(meter, site, child.at, Reason::TooDeep));
+            let refusal = refuse(child.at, Reason::TooDeep);
+            return Err(Stop { site, refusal });
         }
         if self.tables >= self.limits.tables() {
-            return Err(fault(meter, site, child.at, Reason::TooManyTables));
+            let refusal = refuse(child.at, Reason::TooManyTables);
+            return Err(Stop { site, refusal });
         }
         self.tables += 1;
         self.deepest = self.deepest.max(links + 1);
@@ -72,11 +74,12 @@ impl<'s, 'n> Walk<'s, 'n> {
     }
 
     /// Passes fields of the top table until one leads on, and answers whether one does.
-    fn pass_fields(&self, meter: &mut Meter<'_>, top: &mut Frame) -> Result<bool, Fault>
+    #[inline(always)]
+    fn pass_fields(&self, meter: &mut Meter<'_>, top: &mut Frame) -> Result<bool, Stop>
         ghost under: { Waiting }
         requires walking { IsWalking self.now meter.old under.start under.frames top.old }
         requires rests { (top.old.row).left ≡ 0 }
-        requires few { meter.old.count < 2 ^ 95 }
+        requires few { meter.old.count < 2 ^ 96 }
         ensures walking { IfOk result (λ _. IsWalking self.now meter.new under.start under.frames top.new) }
         ensures leads { IfOk result (λ more. more ≡ true → 0 < (top.new.row).left) }
         ensures rests { IfOk result (λ more. more ≡ false → (top.new.row).left ≡ 0) }
@@ -84,46 +87,80 @@ impl<'s, 'n> Walk<'s, 'n> {
         ensures falls { IfOk result (λ _. meter.new.count + frame_work self.now.schema.now top.new ≤ meter.old.count + frame_work self.now.schema.now top.old) }
         ensures grows { IfOk result (λ _. meter.old.count ≤ meter.new.count) }
         ensures bytes { meter.new.bytes ≡ meter.old.bytes }
-        ensures err { IfErr result (λ f. IsStopped self.now meter.old under.start f) }
-        ensures stopped { IfErr result (λ f. meter.new.count ≡ f.reads) }
+        ensures err { IfErr result (λ s. IsStopped self.now meter.old under.start (stopped s meter.new.count)) }
     {
         let fields = self.schema.fields_of(top.table.object);
         while let Some(field) = fields.get(top.next as usize) {
-            let row = pass_field(meter, self.schema, self.checks, top.table, field)?;
             top.next += 1;
-            if row.left > 0 {
+            if pass_field(
+                meter,
+                self.schema,
+                self.checks,
+                top.table,
+                field,
+                &mut top.row,
+            )? {
                 top.number = field.number;
-                top.row = row;
                 return Ok(true);
             }
         }
         Ok(false)
     }
 
-    /// Passes offset words that are left of the top table's field until one leads to a table, which is opened. So many
-    /// frames wait below the top.
+    /// Passes fields of a table that was opened below this frame: the table's frame where a field leads on, and none where the
+    /// table is passed to its end, so that the walk goes on in the frame above.
+    #[inline(always)]
+    fn pass_below(
+        &self,
+        meter: &mut Meter<'_>,
+        above: &Frame,
+        table: Table,
+    ) -> Result<Option<Frame>, Stop>
+        ghost under: { Waiting }
+        requires walking { IsWalking self.now meter.old under.start under.frames (opened table) }
+        requires few { meter.old.count < 2 ^ 96 }
+        ensures leads { IfOk result (λ o. IfSome o (λ frame. IsWalking self.now meter.new under.start under.frames frame)) }
+        ensures ends { IfOk result (λ o. o ≡ None → (rest : List Frame) → under.frames ≡ rest ++ above.now ∷ [] → IsWalking self.now meter.new under.start rest above.now) }
+        ensures falls { IfOk result (λ o. MatchOption o
+            (meter.new.count ≤ meter.old.count + frame_work self.now.schema.now (opened table))
+            (λ frame. meter.new.count + frame_work self.now.schema.now frame ≤ meter.old.count + frame_work self.now.schema.now (opened table))) }
+        ensures grows { IfOk result (λ _. meter.old.count ≤ meter.new.count) }
+        ensures bytes { meter.new.bytes ≡ meter.old.bytes }
+        ensures err { IfErr result (λ s. IsStopped self.now meter.old under.start (stopped s meter.new.count)) }
+    {
+        // Only the contract speaks of the frame above.
+        let _above = above;
+        let mut below = Frame::opened(table);
+        if !self.pass_fields(meter, &mut below)? {
+            return Ok(None);
+        }
+        Ok(Some(below))
+    }
+
+    /// Passes offset words that are left of the top table's field, each with all that it leads to, until one leads to a table
+    /// with a field that leads on in its turn: that table's frame. So many frames wait below the top.
+    #[inline(always)]
     fn pass_elements(
         &mut self,
         meter: &mut Meter<'_>,
         waiting: u32,
         top: &mut Frame,
-    ) -> Result<Option<Table>, Fault>
+    ) -> Result<Option<Frame>, Stop>
         ghost under: { Waiting }
         requires waiting { waiting ≡ length under.frames }
         requires walking { IsWalking self.old meter.old under.start under.frames top.old }
         requires leads { 0 < (top.old.row).left }
-        requires few { meter.old.count < 2 ^ 95 + 2 ^ 94 }
+        requires few { meter.old.count + work self.old.schema.now self.old.limits under.frames top.old self.old.tables ≤ 2 ^ 95 }
         ensures same { IfOk result (λ _. self.new ≡ record self.old { tables = self.new.tables; deepest = self.new.deepest }) }
         ensures walking { IfOk result (λ o. MatchOption o
             (IsWalking self.new meter.new under.start under.frames top.new)
-            (λ table. IsWalking self.new meter.new under.start (under.frames ++ top.new ∷ []) (opened table))) }
+            (λ frame. IsWalking self.new meter.new under.start (under.frames ++ top.new ∷ []) frame)) }
         ensures falls { IfOk result (λ o. MatchOption o
             (meter.new.count + work self.old.schema.now self.old.limits under.frames top.new self.new.tables < meter.old.count + work self.old.schema.now self.old.limits under.frames top.old self.old.tables)
-            (λ table. meter.new.count + work self.old.schema.now self.old.limits (under.frames ++ top.new ∷ []) (opened table) self.new.tables < meter.old.count + work self.old.schema.now self.old.limits under.frames top.old self.old.tables)) }
+            (λ frame. meter.new.count + work self.old.schema.now self.old.limits (under.frames ++ top.new ∷ []) frame self.new.tables < meter.old.count + work self.old.schema.now self.old.limits under.frames top.old self.old.tables)) }
         ensures grows { IfOk result (λ _. meter.old.count ≤ meter.new.count) }
         ensures bytes { meter.new.bytes ≡ meter.old.bytes }
-        ensures err { IfErr result (λ f. IsStopped self.old meter.old under.start f) }
-        ensures stopped { IfErr result (λ f. meter.new.count ≡ f.reads) }
+        ensures err { IfErr result (λ s. IsStopped self.old meter.old under.start (stopped s meter.new.count)) }
     {
         while top.row.left > 0 {
             let site = Site {
@@ -131,10 +168,12 @@ impl<'s, 'n> Walk<'s, 'n> {
                 field: Some(top.number),
             };
             let child = pass_element(meter, self.schema, self.checks, site, top.row)?;
-            top.row = top.row.past_first();
+            top.row.advance();
             if let Some(child) = child {
                 let table = self.open_table(meter, waiting + 1, site, child)?;
-                return Ok(Some(table));
+                if let Some(below) = self.pass_below(meter, top, table)? {
+                    return Ok(Some(below));
+                }
             }
         }
         Ok(None)
@@ -148,12 +187,12 @@ impl<'s, 'n> Walk<'s, 'n> {
         meter: &mut Meter<'_>,
         frames: &mut [Frame],
         waiting: u32,
-    ) -> Result<Option<u32>, Fault>
+    ) -> Result<Option<u32>, Stop>
         ghost under: { Waiting }
         requires under { under.frames ≡ take waiting frames.old }
         requires walking { IsWalking self.old meter.old under.start under.frames (slice_index_or frames.old waiting blank) }
         requires room { (self.old.limits).depth ≤ length frames.old }
-        requires few { meter.old.count < 2 ^ 95 }
+        requires few { meter.old.count + work self.old.schema.now self.old.limits under.frames (slice_index_or frames.old waiting blank) self.old.tables ≤ 2 ^ 95 }
         ensures same { IfOk result (λ _. self.new ≡ record self.old { tables = self.new.tables; deepest = self.new.deepest }) }
         ensures walking { IfOk result (λ o. MatchOption o
             (IsOver self.new meter.new under.start)
@@ -163,8 +202,7 @@ impl<'s, 'n> Walk<'s, 'n> {
         ensures falls { IfOk result (λ o. IfSome o (λ after. meter.new.count + work self.old.schema.now self.old.limits (take after frames.new) (slice_index_or frames.new after blank) self.new.tables < meter.old.count + work self.old.schema.now self.old.limits under.frames (slice_index_or frames.old waiting blank) self.old.tables)) }
         ensures grows { IfOk result (λ _. meter.old.count ≤ meter.new.count) }
         ensures bytes { meter.new.bytes ≡ meter.old.bytes }
-        ensures err { IfErr result (λ f. IsStopped self.old meter.old under.start f) }
-        ensures stopped { IfErr result (λ f. meter.new.count ≡ f.reads) }
+        ensures err { IfErr result (λ s. IsStopped self.old meter.old under.start (stopped s meter.new.count)) }
     {
         let _schema = self.schema;
         let at = waiting as usize;
@@ -175,10 +213,10 @@ impl<'s, 'n> Walk<'s, 'n> {
             }
             return Ok(Some(waiting - 1));
         }
-        let Some(table) = self.pass_elements(meter, waiting, top)? else {
+        let Some(below) = self.pass_elements(meter, waiting, top)? else {
             return Ok(Some(waiting));
         };
-        frames[at + 1] = Frame::opened(table);
+        frames[at + 1] = below;
         Ok(Some(waiting + 1))
     }
 
@@ -189,7 +227,7 @@ impl<'s, 'n> Walk<'s, 'n> {
         frames: &mut [Frame],
         site: Site,
         root: Child,
-    ) -> Result<(), Fault>
+    ) -> Result<(), Stop>
         ghost start: { Origin }
         requires here { start ≡ record { object = root.object; position = root.at; way = way_at 0 self.old.tables self.old.deepest meter.old.count site } }
         requires served { IsServed self.old.schema.now }
@@ -202,8 +240,7 @@ impl<'s, 'n> Walk<'s, 'n> {
         ensures ok { IfOk result (λ _. TableWalked self.old.checks meter.old.bytes self.old.schema.now start.object start.position start.way (ended start.way self.new.tables self.new.deepest meter.new.count)) }
         ensures within { IfOk result (λ _. self.new.tables ≤ (self.old.limits).tables) }
         ensures shallow { IfOk result (λ _. self.new.deepest ≤ (self.old.limits).depth) }
-        ensures err { IfErr result (λ f. StopsFrom self.old.checks meter.old.bytes self.old.schema.now self.old.limits start.object start.position start.way f) }
-        ensures stopped { IfErr result (λ f. meter.new.count ≡ f.reads) }
+        ensures err { IfErr result (λ s. StopsFrom self.old.checks meter.old.bytes self.old.schema.now self.old.limits start.object start.position start.way (stopped s meter.new.count)) }
         ensures bytes { meter.new.bytes ≡ meter.old.bytes }
     {
         let table = self.open_table(meter, 0, site, root)?;

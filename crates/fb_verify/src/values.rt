@@ -3,60 +3,60 @@
 ghost use Rattle.std.specs.Prelude.{◌≡◌, ◌+◌, ◌*◌, ◌^◌, ◌<◌, ◌≤◌, length, IfOk, IfErr, Some, None};
 ghost use Rattle.fb_bytes.specs.Word.{word};
 ghost use Rattle.fb_verify.specs.Places.{target};
-ghost use Rattle.fb_verify.specs.Order.{offset_failure, string_failure, vector_failure, inline_failure};
-ghost use Rattle.fb_verify.specs.Told.{told};
+ghost use Rattle.fb_verify.specs.Order.{after, offset_failure, string_failure, vector_failure, inline_failure};
+ghost use Rattle.fb_verify.specs.Told.{refused};
 
 use crate::checks::Checks;
-use crate::fault::{Fault, Reason};
-use crate::site::{Site, fault, is_aligned};
+use crate::fault::Reason;
+use crate::site::{Refusal, is_aligned, refuse};
 use fb_bytes::Meter;
 
 /// Reads the offset word at a position, and answers where it leads.
 #[tactic(auto, unfolding(crate::specs::Order::offset_failure))]
-pub fn read_offset(meter: &mut Meter<'_>, checks: Checks, site: Site, at: u64) -> Result<u64, Fault>
+pub fn read_offset(meter: &mut Meter<'_>, checks: Checks, at: u64) -> Result<u64, Refusal>
     requires few { meter.old.count < 2 ^ 99 }
     ensures ok { IfOk result (λ _. offset_failure checks meter.old.bytes at ≡ None) }
     ensures value { IfOk result (λ p. p ≡ target meter.old.bytes at) }
     ensures near { IfOk result (λ p. p < 2 ^ 33) }
     ensures counted { IfOk result (λ _. meter.new ≡ record meter.old { count = meter.old.count + 1 }) }
-    ensures err { IfErr result (λ f. told site meter.old.count (offset_failure checks meter.old.bytes at) ≡ Some f) }
-    ensures stopped { IfErr result (λ f. meter.new ≡ record meter.old { count = f.reads }) }
+    ensures err { IfErr result (λ e. after meter.old.count (offset_failure checks meter.old.bytes at) ≡ Some (refused e meter.new.count)) }
+    ensures bytes { meter.new.bytes ≡ meter.old.bytes }
 {
     if !meter.fits(at, 4) {
-        return Err(fault(meter, site, at, Reason::OutOfBuffer));
+        return Err(refuse(at, Reason::OutOfBuffer));
     }
     if !is_aligned(checks, at, 4) {
-        return Err(fault(meter, site, at, Reason::Misaligned));
+        return Err(refuse(at, Reason::Misaligned));
     }
     let offset = u64::from(meter.u32_at(at));
     if offset == 0 {
-        return Err(fault(meter, site, at, Reason::ZeroOffset));
+        return Err(refuse(at, Reason::ZeroOffset));
     }
     Ok(at + offset)
 }
 
 /// Checks the string at a position: its count, so many bytes, and a byte 0.
 #[tactic(auto, unfolding(crate::specs::Order::string_failure))]
-pub fn read_string(meter: &mut Meter<'_>, checks: Checks, site: Site, at: u64) -> Result<(), Fault>
+pub fn read_string(meter: &mut Meter<'_>, checks: Checks, at: u64) -> Result<(), Refusal>
     requires few { meter.old.count < 2 ^ 99 }
     ensures ok { IfOk result (λ _. string_failure checks meter.old.bytes at ≡ None) }
     ensures counted { IfOk result (λ _. meter.new ≡ record meter.old { count = meter.old.count + 2 }) }
-    ensures err { IfErr result (λ f. told site meter.old.count (string_failure checks meter.old.bytes at) ≡ Some f) }
-    ensures stopped { IfErr result (λ f. meter.new ≡ record meter.old { count = f.reads }) }
+    ensures err { IfErr result (λ e. after meter.old.count (string_failure checks meter.old.bytes at) ≡ Some (refused e meter.new.count)) }
+    ensures bytes { meter.new.bytes ≡ meter.old.bytes }
 {
     if !meter.fits(at, 4) {
-        return Err(fault(meter, site, at, Reason::OutOfBuffer));
+        return Err(refuse(at, Reason::OutOfBuffer));
     }
     if !is_aligned(checks, at, 4) {
-        return Err(fault(meter, site, at, Reason::Misaligned));
+        return Err(refuse(at, Reason::Misaligned));
     }
     let count = u64::from(meter.u32_at(at));
     if !meter.fits(at + 4, count + 1) {
-        return Err(fault(meter, site, at + 4, Reason::OutOfBuffer));
+        return Err(refuse(at + 4, Reason::OutOfBuffer));
     }
     let end = at + 4 + count;
     if meter.u8_at(end) != 0 {
-        return Err(fault(meter, site, end, Reason::NoTerminator));
+        return Err(refuse(end, Reason::NoTerminator));
     }
     Ok(())
 }
@@ -66,32 +66,31 @@ pub fn read_string(meter: &mut Meter<'_>, checks: Checks, site: Site, at: u64) -
 pub fn read_vector(
     meter: &mut Meter<'_>,
     checks: Checks,
-    site: Site,
     at: u64,
     size: u32,
     align: u32,
-) -> Result<u32, Fault>
+) -> Result<u32, Refusal>
     requires few { meter.old.count < 2 ^ 99 }
     requires align { 0 < align }
     ensures ok { IfOk result (λ _. vector_failure checks meter.old.bytes at size align ≡ None) }
     ensures value { IfOk result (λ n. n ≡ word meter.old.bytes at 4) }
     ensures within { IfOk result (λ n. at + 4 + n * size < 2 ^ 31) }
     ensures counted { IfOk result (λ _. meter.new ≡ record meter.old { count = meter.old.count + 1 }) }
-    ensures err { IfErr result (λ f. told site meter.old.count (vector_failure checks meter.old.bytes at size align) ≡ Some f) }
-    ensures stopped { IfErr result (λ f. meter.new ≡ record meter.old { count = f.reads }) }
+    ensures err { IfErr result (λ e. after meter.old.count (vector_failure checks meter.old.bytes at size align) ≡ Some (refused e meter.new.count)) }
+    ensures bytes { meter.new.bytes ≡ meter.old.bytes }
 {
     if !meter.fits(at, 4) {
-        return Err(fault(meter, site, at, Reason::OutOfBuffer));
+        return Err(refuse(at, Reason::OutOfBuffer));
     }
     if !is_aligned(checks, at, 4) {
-        return Err(fault(meter, site, at, Reason::Misaligned));
+        return Err(refuse(at, Reason::Misaligned));
     }
     let count = meter.u32_at(at);
     if !meter.fits(at + 4, u64::from(count) * u64::from(size)) {
-        return Err(fault(meter, site, at + 4, Reason::OutOfBuffer));
+        return Err(refuse(at + 4, Reason::OutOfBuffer));
     }
     if count != 0 && !is_aligned(checks, at + 4, align) {
-        return Err(fault(meter, site, at + 4, Reason::Misaligned));
+        return Err(refuse(at + 4, Reason::Misaligned));
     }
     Ok(count)
 }
@@ -101,21 +100,19 @@ pub fn read_vector(
 pub fn check_inline(
     meter: &Meter<'_>,
     checks: Checks,
-    site: Site,
     at: u64,
     size: u32,
     align: u32,
-) -> Result<(), Fault>
+) -> Result<(), Refusal>
     requires align { 0 < align }
     ensures ok { IfOk result (λ _. inline_failure checks meter.now.bytes at size align ≡ None) }
-    ensures err { IfErr result (λ f. told site meter.now.count (inline_failure checks meter.now.bytes at size align) ≡ Some f) }
-    ensures stopped { IfErr result (λ f. f.reads ≡ meter.now.count) }
+    ensures err { IfErr result (λ e. after meter.now.count (inline_failure checks meter.now.bytes at size align) ≡ Some (refused e meter.now.count)) }
 {
     if !meter.fits(at, u64::from(size)) {
-        return Err(fault(meter, site, at, Reason::OutOfBuffer));
+        return Err(refuse(at, Reason::OutOfBuffer));
     }
     if !is_aligned(checks, at, align) {
-        return Err(fault(meter, site, at, Reason::Misaligned));
+        return Err(refuse(at, Reason::Misaligned));
     }
     Ok(())
 }

@@ -1,6 +1,8 @@
 use Rattle.std.proofs.Common.{refl, sym, ◌∙◌, ap, arith}
 use Rattle.fb_schema.specs.Live.{live_of_view}
-use Rattle.fb_verify.proofs.Frames.{if_err_exit, item_some, field_at}
+use Rattle.fb_verify.specs.Stack.{blank}
+use Rattle.fb_verify.proofs.Words.{row_none}
+use Rattle.fb_verify.proofs.Frames.{if_err_exit, item_some, field_at, no_row}
 use Rattle.fb_verify.proofs.Standings.{stop_at_field, next_typed}
 use Rattle.fb_verify.proofs.Walking.{field_passed, field_work, field_skipped, skip_work}
 use Rattle.fb_verify.proofs.stack.Walk.pass_fields.Goals as goal
@@ -19,8 +21,8 @@ pass_field-requires-clause-typed g c =
     let here = rw e at (field_at live_of_view c.fields_of-fields.result.now _ _ _ c.fields_of-fields.ensures.value (item_some _ _ _ _ c.get.ensures.lookup c.in-Some.is)) in
     next_typed c.args.self.now.checks c.loop-field.meter.bytes c.args.self.now.schema.now c.args.self.now.limits (g.under).start (g.under).frames c.loop-field.top c.args.self.now.tables c.args.self.now.deepest c.loop-field.meter.count h.standing _ h.served i.rests here
 
-pub returns-in_err-row-clause-err : goal.returns-in_err-row-clause-err
-returns-in_err-row-clause-err g c =
+pub returns-in_err-pass_field-clause-err : goal.returns-in_err-pass_field-clause-err
+returns-in_err-pass_field-clause-err g c =
     let i = c.loop-field.invariant in
     let h = i.walking in
     let e = sym i.table in
@@ -28,42 +30,48 @@ returns-in_err-row-clause-err g c =
     if_err_exit _ _ _ c.from_residual.ensures.1
     (rw i.bytes at
     (stop_at_field c.args.self.now.checks c.loop-field.meter.bytes c.args.self.now.schema.now c.args.self.now.limits (g.under).start (g.under).frames c.loop-field.top c.args.self.now.tables c.args.self.now.deepest c.loop-field.meter.count h.standing
-    h.tables h.deepest _ _ i.rests here c.in_err-row.ensures.err))
+    h.tables h.deepest _ _ i.rests here c.in_err-pass_field.ensures.err))
 
-pub returns-then-row-gt0-clause-walking : goal.returns-then-row-gt0-clause-walking
-returns-then-row-gt0-clause-walking g c =
+pub returns-then-branch-clause-walking : goal.returns-then-branch-clause-walking
+returns-then-branch-clause-walking g c =
     let i = c.loop-field.invariant in
     let e = sym i.table in
     let here = rw e at (field_at live_of_view c.fields_of-fields.result.now _ _ _ c.fields_of-fields.ensures.value (item_some _ _ _ _ c.get.ensures.lookup c.in-Some.is)) in
-    rw c.in_ok-row.ensures.counted
+    let row = c.in_ok-pass_field.ensures.row c.if-branch.true in
+    let entries = c.in_ok-pass_field.ensures.entries c.if-branch.true in
+    rw c.in_ok-pass_field.ensures.counted
     (field_passed c.args.self.now.checks c.loop-field.meter.bytes c.args.self.now.schema.now c.args.self.now.limits (g.under).start (g.under).frames c.loop-field.top c.args.self.now.tables c.args.self.now.deepest c.loop-field.meter.count i.walking
-    _ c.in_ok-row.row _ _ i.rests here refl c.in_ok-row.ensures.row refl c.in_ok-row.ensures.ok c.in_ok-row.ensures.entries)
+    _ c.pass_field.new.row _ _ i.rests here refl row.0 refl c.in_ok-pass_field.ensures.ok entries)
 
-pub returns-then-row-gt0-clause-falls : goal.returns-then-row-gt0-clause-falls
-returns-then-row-gt0-clause-falls g c =
+pub returns-then-branch-clause-falls : goal.returns-then-branch-clause-falls
+returns-then-branch-clause-falls g c =
     let i = c.loop-field.invariant in
     let e = sym i.table in
     let here = rw e at (field_at live_of_view c.fields_of-fields.result.now _ _ _ c.fields_of-fields.ensures.value (item_some _ _ _ _ c.get.ensures.lookup c.in-Some.is)) in
+    let row = c.in_ok-pass_field.ensures.row c.if-branch.true in
     let less = field_work c.args.self.now.checks c.loop-field.meter.bytes c.args.self.now.schema.now c.args.self.now.limits (g.under).start (g.under).frames c.loop-field.top c.args.self.now.tables c.args.self.now.deepest c.loop-field.meter.count i.walking
-    _ c.in_ok-row.row c.in-Some.field.now.number _ i.rests here refl c.in_ok-row.ensures.row in
-    omega (arith, less, i.budget, ap (λ m. m.count) c.in_ok-row.ensures.counted)
+    _ c.pass_field.new.row c.in-Some.field.now.number _ i.rests here refl row.0 in
+    omega (arith, less, i.budget, ap (λ m. m.count) c.in_ok-pass_field.ensures.counted)
 
 pub loop-field-preserved : goal.loop-field-preserved
 loop-field-preserved g c =
     let i = c.loop-field.invariant in
     let e = sym i.table in
     let here = rw e at (field_at live_of_view c.fields_of-fields.result.now _ _ _ c.fields_of-fields.ensures.value (item_some _ _ _ _ c.get.ensures.lookup c.in-Some.is)) in
-    let less = skip_work c.args.self.now.checks c.loop-field.meter.bytes c.args.self.now.schema.now c.args.self.now.limits (g.under).start (g.under).frames c.loop-field.top c.args.self.now.tables c.args.self.now.deepest c.loop-field.meter.count i.walking
-    _ c.in_ok-row.row c.in-Some.field.now.number _ i.rests here refl c.in_ok-row.ensures.row in
-    let count = ap (λ m. m.count) c.in_ok-row.ensures.counted in
+    let none = c.in_ok-pass_field.ensures.none c.if-branch.false in
+    let b = c.loop-field.meter.bytes in
+    let S = c.args.self.now.schema.now in
+    let less = skip_work c.args.self.now.checks b S c.args.self.now.limits (g.under).start (g.under).frames c.loop-field.top c.args.self.now.tables c.args.self.now.deepest c.loop-field.meter.count i.walking
+    _ blank.row c.in-Some.field.now.number _ i.rests here refl (no_row c.args.self.now.checks b S) in
+    let count = ap (λ m. m.count) c.in_ok-pass_field.ensures.counted in
     record {
-      bytes = ap (λ m. m.bytes) c.in_ok-row.ensures.counted ∙ i.bytes;
+      bytes = ap (λ m. m.bytes) c.in_ok-pass_field.ensures.counted ∙ i.bytes;
       table = i.table;
-      rests = i.rests;
+      rests = rw none.1 i.rests;
       walking =
-          rw c.in_ok-row.ensures.counted
-          (field_skipped c.args.self.now.checks c.loop-field.meter.bytes c.args.self.now.schema.now c.args.self.now.limits (g.under).start (g.under).frames c.loop-field.top c.args.self.now.tables c.args.self.now.deepest c.loop-field.meter.count i.walking
-          _ c.in_ok-row.row c.in-Some.field.now.number _ i.rests here refl c.in_ok-row.ensures.row (omega (arith, c.if-row-gt0.false)) c.in_ok-row.ensures.ok c.in_ok-row.ensures.entries);
-      budget = omega (arith, less, i.budget, count);
+          rw (c.in_ok-pass_field.ensures.counted, none.1)
+          (field_skipped c.args.self.now.checks b S c.args.self.now.limits (g.under).start (g.under).frames c.loop-field.top c.args.self.now.tables c.args.self.now.deepest c.loop-field.meter.count i.walking
+          _ blank.row c.in-Some.field.now.number _ i.rests here refl (no_row c.args.self.now.checks b S) refl c.in_ok-pass_field.ensures.ok (none.0 ∙ sym (row_none b S blank.row refl)));
+      budget = rw none.1 (omega (arith, less, i.budget, count));
       grows = omega (arith, i.grows, count);
     }

@@ -1,8 +1,9 @@
 use Rattle.std.proofs.Common.{◌≡◌, ap, arith}
 use Rattle.fb_verify.specs.WellFormed.{start_reads}
+use Rattle.fb_verify.specs.Told.{stopped}
 use Rattle.fb_verify.proofs.Frames.{if_err_exit}
 use Rattle.fb_verify.proofs.Verdicts.{stops_at_start, stops_below_start, reports, has_none, price_of_no, price_of_yes}
-use Rattle.fb_verify.proofs.verdict.walk.Goals as goal
+use Rattle.fb_verify.proofs.verdict.judge.Goals as goal
 
 pub returns-in_err-at-clause-no : goal.returns-in_err-at-clause-no
 returns-in_err-at-clause-no g c =
@@ -17,12 +18,10 @@ returns-in_err-at-clause-none g c =
 
 pub returns-in_err-at-clause-price : goal.returns-in_err-at-clause-price
 returns-in_err-at-clause-price g c =
-    let count = ap (λ m. m.count) c.in_err-at.ensures.stopped in
     omega (
       arith,
-      count,
-      price_of_no c.args.checks c.args.meter.now.bytes c.args.schema.now c.args.root c.args.start c.args.ident c.args.limits c.in_err-at.field-0.0
-          (stops_at_start c.args.checks c.args.meter.now.bytes c.args.schema.now c.args.root c.args.start c.args.ident c.args.limits c.in_err-at.field-0.0 (rw c.requires.fresh at c.in_err-at.ensures.err)),
+      price_of_no c.args.checks c.args.meter.now.bytes c.args.schema.now c.args.root c.args.start c.args.ident c.args.limits (stopped c.in_err-at.field-0.0 c.read_start.new.meter.count)
+          (stops_at_start c.args.checks c.args.meter.now.bytes c.args.schema.now c.args.root c.args.start c.args.ident c.args.limits (stopped c.in_err-at.field-0.0 c.read_start.new.meter.count) (rw c.requires.fresh at c.in_err-at.ensures.err)),
     )
 
 pub returns-in_err-run-clause-no : goal.returns-in_err-run-clause-no
@@ -44,12 +43,10 @@ pub returns-in_err-run-clause-price : goal.returns-in_err-run-clause-price
 returns-in_err-run-clause-price g c =
     let bytes = ap (λ m. m.bytes) c.in_ok-at.ensures.counted in
     let reads : c.read_start.new.meter.count ≡ start_reads c.args.start c.args.ident = omega (arith, c.requires.fresh, ap (λ m. m.count) c.in_ok-at.ensures.counted) in
-    let count = c.in_err-run.ensures.stopped in
     omega (
       arith,
-      count,
-      price_of_no c.args.checks c.args.meter.now.bytes c.args.schema.now c.args.root c.args.start c.args.ident c.args.limits c.in_err-run.field-0.0
-          (stops_below_start c.args.checks c.args.meter.now.bytes c.args.schema.now c.args.root c.args.start c.args.ident c.args.limits c.in_ok-at.at c.read_start.new.meter.count c.in_err-run.field-0.0 c.in_ok-at.ensures.ok c.in_ok-at.ensures.value reads (rw bytes at c.in_err-run.ensures.err)),
+      price_of_no c.args.checks c.args.meter.now.bytes c.args.schema.now c.args.root c.args.start c.args.ident c.args.limits (stopped c.in_err-run.field-0.0 c.run.new.meter.count)
+          (stops_below_start c.args.checks c.args.meter.now.bytes c.args.schema.now c.args.root c.args.start c.args.ident c.args.limits c.in_ok-at.at c.read_start.new.meter.count (stopped c.in_err-run.field-0.0 c.run.new.meter.count) c.in_ok-at.ensures.ok c.in_ok-at.ensures.value reads (rw bytes at c.in_err-run.ensures.err)),
     )
 
 pub returns-clause-yes : goal.returns-clause-yes
