@@ -1,0 +1,115 @@
+-- What is seen from a place is seen from the place before it, one step further on.
+use Rattle.std.proofs.Common.{◌≡◌, ℕ, zero, suc, ◌*◌, ◌≤◌, All, List, [], ◌∷◌, ◌++◌, map, length, refl, sym, Some, inl, inr}
+use Rattle.std.specs.Prelude.{slice_get}
+use Rattle.std.proofs.lemmas.List.{length-map}
+use Rattle.std.proofs.lemmas.List.Elements.{All-push}
+use Rattle.fb_access.specs.declared.step.Step.{Step}
+use Rattle.fb_access.specs.declared.step.Step.TheVariants.{Field as ToField, Element}
+use Rattle.fb_access.specs.Held.{Placed}
+use Rattle.fb_access.specs.Denotes.{Shown, vector, Leads, value}
+use Rattle.fb_bfbs.specs.Says.{Says, after, AreRows}
+use Rattle.fb_bfbs.specs.Seen.{seen}
+use Rattle.fb_bfbs.specs.Describes.{IsTypeRow, IsFieldRow, IsObjectRow, IsTypeOrNone, IsMemberRow, IsEnumRow}
+
+-- whatever the first says, the second says
+abbrev pub Within : Says → Says → Type 0
+Within D E = (steps : List Step) (x : Shown) → D steps x → E steps x
+
+-- what such rows say is kept by what says more
+abbrev pub Carries : {R : Type 0} → (Says → R → Type 0) → Type 1
+Carries {R} Is = (D E : Says) (r : R) → Within D E → Is D r → Is E r
+
+within_after : (D E : Says) (s : Step) → Within D E → Within (after D s) (after E s)
+within_after D E s h = λ steps x. h (s ∷ steps) x
+
+-- the value here
+pub seen_here : (p : Placed) (x : Shown) → x ≡ value (p.sealed).bytes (p.sealed).schema p.spot → seen p [] x
+seen_here p x e = (p.spot, refl, e)
+
+-- what is seen one step on
+pub seen_after : (p r : Placed) (s : Step) → r.sealed ≡ p.sealed → Leads (p.sealed).bytes (p.sealed).schema p.spot s r.spot → Within (seen r) (after (seen p) s)
+seen_after p r s same leads = λ steps x h. (h.0, (r.spot, leads, rw same at h.1), rw same at h.2)
+
+-- the value one step on
+pub seen_in : (p r : Placed) (s : Step) (x : Shown) → r.sealed ≡ p.sealed → Leads (p.sealed).bytes (p.sealed).schema p.spot s r.spot → x ≡ value (r.sealed).bytes (r.sealed).schema r.spot → seen p (s ∷ []) x
+seen_in p r s x same leads e = seen_after p r s same leads [] x (seen_here r x e)
+
+-- what a row says of a table is said of the table before it, one step further on
+pub type_within : Carries IsTypeRow
+type_within D E r h a = record { base = h _ _ a.base; element = h _ _ a.element; index = h _ _ a.index; fixed_length = h _ _ a.fixed_length }
+
+pub type_or_none_within : Carries IsTypeOrNone
+type_or_none_within D E r h (inl (here, a)) = inl (h _ _ here, type_within D E r h a)
+type_or_none_within D E r h (inr (absent, e)) = inr (h _ _ absent, e)
+
+pub field_within : Carries IsFieldRow
+field_within D E r h a = record {
+  name = h _ _ a.name;
+  ty = type_within (after D (ToField 1)) (after E (ToField 1)) r.ty (within_after D E (ToField 1) h) a.ty;
+  slot = h _ _ a.slot;
+  default = h _ _ a.default;
+  deprecated = h _ _ a.deprecated;
+  required = h _ _ a.required;
+  optional = h _ _ a.optional;
+  offset64 = h _ _ a.offset64;
+}
+
+pub rows_within : {R : Type 0} (Is : Says → R → Type 0) → Carries Is → (D E : Says) (rows : List R) → Within D E → AreRows Is D rows → AreRows Is E rows
+rows_within Is f D E rows h a = record {
+  count = h [] _ a.count;
+  each = λ j r e. f (after D (Element j)) (after E (Element j)) r (within_after D E (Element j) h) (a.each j r e);
+}
+
+pub object_within : Carries IsObjectRow
+object_within D E r h a = record {
+  name = h _ _ a.name;
+  fields = rows_within IsFieldRow field_within (after D (ToField 1)) (after E (ToField 1)) r.fields (within_after D E (ToField 1) h) a.fields;
+  is_struct = h _ _ a.is_struct;
+  minalign = h _ _ a.minalign;
+  bytesize = h _ _ a.bytesize;
+}
+
+pub member_within : Carries IsMemberRow
+member_within D E r h a = record {
+  name = h _ _ a.name;
+  value = h _ _ a.value;
+  ty = type_or_none_within (after D (ToField 3)) (after E (ToField 3)) r.ty (within_after D E (ToField 3) h) a.ty;
+}
+
+pub enum_within : Carries IsEnumRow
+enum_within D E r h a = record {
+  name = h _ _ a.name;
+  members = rows_within IsMemberRow member_within (after D (ToField 1)) (after E (ToField 1)) r.members (within_after D E (ToField 1) h) a.members;
+  is_union = h _ _ a.is_union;
+}
+
+-- the rows so far
+pub record AreRowsSoFar {R : Type 0} (Is : Says → R → Type 0) (D : Says) (rows : List R) : Type 0 where
+  pub each : (j : ℕ) (r : R) → slice_get rows j ≡ Some r → Is (after D (Element j)) r
+
+each_push : {X R : Type 0} (P : ℕ → R → Type 0) (f : X → R) (xs : List X) (y : X) → ((j : ℕ) (r : R) → slice_get (map f xs) j ≡ Some r → P j r) → P (length xs) (f y) → (j : ℕ) (r : R) → slice_get (map f (xs ++ y ∷ [])) j ≡ Some r → P j r
+each_push P f [] y h i zero r e = let x : f y ≡ r = cc in rw (← x) i
+each_push P f [] y h i (suc j) r e = absurd cc
+each_push P f (x ∷ xs) y h i zero r e = h zero r e
+each_push P f (x ∷ xs) y h i (suc j) r e = each_push (λ k. P (suc k)) f xs y (λ k. h (suc k)) i j r e
+
+pub no_rows : {X R : Type 0} (Is : Says → R → Type 0) (D : Says) (f : X → R) → AreRowsSoFar Is D (map f [])
+no_rows Is D f = record { each = λ j r e. absurd cc }
+
+-- one row more, of the element behind those before
+pub one_row_more : {X R : Type 0} (Is : Says → R → Type 0) → Carries Is → (f : X → R) (p r : Placed) (xs : List X) (y : X) (now : List X) (n : ℕ) → now ≡ xs ++ y ∷ [] → length xs ≡ n
+    → r.sealed ≡ p.sealed → Leads (p.sealed).bytes (p.sealed).schema p.spot (Element n) r.spot → AreRowsSoFar Is (seen p) (map f xs) → Is (seen r) (f y) → AreRowsSoFar Is (seen p) (map f now)
+one_row_more Is carries f p r xs y now n pushed count same leads rows row =
+    rw pushed (record { each = each_push (λ j r. Is (after (seen p) (Element j)) r) f xs y rows.each (rw count (carries (seen r) (after (seen p) (Element n)) (f y) (seen_after p r (Element n) same leads) row)) })
+
+-- the rows are all there
+pub all_rows : {X R : Type 0} (Is : Says → R → Type 0) (D : Says) (f : X → R) (xs : List X) (n : ℕ) → D [] (vector n) → length xs ≡ n → AreRowsSoFar Is D (map f xs) → AreRows Is D (map f xs)
+all_rows Is D f xs n count length_is rows = record { count = rw (length-map xs f, length_is) count; each = rows.each }
+
+-- the count of a vector that is here
+pub seen_count : (p : Placed) (n : ℕ) → value (p.sealed).bytes (p.sealed).schema p.spot ≡ vector n → seen p [] (vector n)
+seen_count p n e = seen_here p (vector n) (sym e)
+
+-- one item more that is no longer than the others may be
+pub one_more_few : {X : Type 0} (size : X → ℕ) (xs : List X) (y : X) (now : List X) {n : ℕ} → now ≡ xs ++ y ∷ [] → All (λ x. 4 * size x ≤ n) xs → 4 * size y ≤ n → All (λ x. 4 * size x ≤ n) now
+one_more_few size xs y now {n} pushed few one = rw pushed (All-push (λ x. 4 * size x ≤ n) xs y few one)

@@ -1,0 +1,46 @@
+-- The rows of the fixed table are few and legal.
+use Rattle.std.proofs.Common.{◌≡◌, ◌<◌, ◌^◌, zero, suc, true, nat_lt, inl, inr, List, [], ◌∷◌, map, length, vec_len, All, refl, sym, ◌∙◌, ap, subst, arith}
+use Rattle.std.proofs.lemmas.List.{length-map}
+use Rattle.std.proofs.lemmas.Bool.{ltb-true}
+use Rattle.std.specs.List.{list_all}
+use Rattle.fb_schema.specs.declared.rows.ObjectRow.{ObjectRow}
+use Rattle.fb_schema.specs.declared.rows.EnumRow.{EnumRow}
+use Rattle.fb_schema.specs.declared.fault.Code.TheVariants.{OutOfMemory}
+use Rattle.fb_schema.specs.declared.fault.SchemaFault.{SchemaFault}
+use Rattle.fb_schema.specs.Rows.{Rows, AreFew, field_of, object_of, enum_of, rows_of}
+use Rattle.fb_schema.specs.Kinds.{base_types, shape_of}
+use Rattle.fb_schema.specs.Demands.{IsLegal, Refuses, names_no_object, names_table, names_no_union, inline_bytes}
+use Rattle.fb_schema.proofs.DemandLaws.{no_first_if_legal}
+use Rattle.fb_bfbs.specs.Fixed.{fixed}
+use Rattle.fb_bfbs.proofs.Legal.{both, tables_legal}
+
+-- the fixed table is a schema
+pub fixed_legal : IsLegal fixed
+unfolding fixed base_types shape_of names_no_object names_table names_no_union inline_bytes
+fixed_legal = tables_legal fixed refl refl
+
+-- an object in memory has as many fields as its row
+fields_few : (objects : List ObjectRow) → list_all (λ o. nat_lt (length o.fields) (2 ^ 31)) (map object_of objects) ≡ true → All (λ o. vec_len o.fields < 2 ^ 31) objects
+fields_few [] e k d lt = absurd (omega arith)
+fields_few (o ∷ objects) e zero d lt = let few : length (map field_of o.fields.items) < 2 ^ 31 = ltb-true _ _ (both _ _ e).0 in rw (o.fields.ok.0) (rw length-map at few)
+fields_few (o ∷ objects) e (suc k) d lt = fields_few objects (both _ _ e).1 k d (omega arith)
+
+-- the objects of the fixed table are few, and so are their fields
+pub fixed_few : (objects : List ObjectRow) (enums : List EnumRow) → map object_of objects ≡ fixed.objects → enums ≡ [] → AreFew objects enums
+unfolding fixed
+fixed_few objects enums same none = record {
+  objects = (let e : length objects ≡ 10 = sym (length-map objects object_of) ∙ ap length same in omega arith);
+  enums = (let e : length enums ≡ 0 = ap length none in omega arith);
+  fields = fields_few objects (ap (list_all (λ o. nat_lt (length o.fields) (2 ^ 31))) same);
+  members = rw none (λ k d lt. absurd (omega arith));
+}
+
+-- rows in memory with these objects are the fixed table
+pub are_fixed : (objects : List ObjectRow) (enums : List EnumRow) → map object_of objects ≡ fixed.objects → enums ≡ [] → rows_of objects enums ≡ fixed
+unfolding fixed
+are_fixed objects enums same none = λ i. record { objects = same i; enums = map enum_of (none i) }
+
+-- the fixed table is refused for want of memory alone
+pub refused_for_memory : (rows : Rows) (fault : SchemaFault) → rows ≡ fixed → Refuses rows fault → fault.code ≡ OutOfMemory
+refused_for_memory rows fault same (inl first) = absurd (no_first_if_legal rows (subst IsLegal (sym same) fixed_legal) fault first)
+refused_for_memory rows fault same (inr memory) = memory.code

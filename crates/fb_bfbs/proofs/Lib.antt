@@ -1,0 +1,9 @@
+pub mod Legal
+pub mod FixedRows
+pub mod Sure
+pub mod Composed
+pub mod Narrow
+pub mod FixedFields
+pub mod Outcomes
+pub mod OneFile
+pub mod OneLoad

@@ -1,0 +1,48 @@
+use Rattle.std.proofs.Common.{[], ◌∷◌, rules}
+use Rattle.fb_access.specs.Denotes.{signed}
+use Rattle.fb_bfbs.specs.Seen.{seen}
+use Rattle.fb_bfbs.proofs.Narrow.{long_back}
+use Rattle.fb_access.specs.declared.step.Step.TheVariants.{Field as ToField}
+use Rattle.fb_bfbs.proofs.Sure.{field_allowed, at_field}
+use Rattle.fb_bfbs.proofs.FixedFields.{field_fields}
+use Rattle.fb_bfbs.proofs.Composed.{seen_after, type_within}
+use Rattle.fb_bfbs.proofs.copied.field_row.Goals as goal
+
+pub go-ty-requires : goal.go-ty-requires
+go-ty-requires c = field_allowed _ _ _ (field_fields _ c.requires).ty
+
+pub text_in-requires : goal.text_in-requires
+text_in-requires c = (field_fields _ c.requires).name
+
+pub type_row-requires : goal.type_row-requires
+type_row-requires c = at_field _ _ _ _ (field_fields _ c.requires).ty c.go-ty.ensures.same c.go-ty.ensures.here
+
+pub ushort_in-requires : goal.ushort_in-requires
+ushort_in-requires c = (field_fields _ c.requires).slot
+
+pub long_in-requires : goal.long_in-requires
+long_in-requires c = (field_fields _ c.requires).default
+
+pub bool_in-requires : goal.bool_in-requires
+bool_in-requires c = (field_fields _ c.requires).deprecated
+
+pub bool_in-requires-2 : goal.bool_in-requires-2
+bool_in-requires-2 c = (field_fields _ c.requires).required
+
+pub bool_in-requires-3 : goal.bool_in-requires-3
+bool_in-requires-3 c = (field_fields _ c.requires).optional
+
+pub bool_in-requires-4 : goal.bool_in-requires-4
+bool_in-requires-4 c = (field_fields _ c.requires).offset64
+
+pub returns : goal.returns
+returns c = record {
+  name = c.text_in.ensures;
+  ty = type_within _ _ _ (seen_after _ _ (ToField 1) c.go-ty.ensures.same c.go-ty.ensures.leads) c.type_row.ensures;
+  slot = c.ushort_in.ensures;
+  default = long_back (λ z. seen c.args.place.now (ToField 4 ∷ []) (signed z)) c.long_in.result (search rules) c.long_in.ensures;
+  deprecated = c.bool_in.ensures;
+  required = c.bool_in-2.ensures;
+  optional = c.bool_in-3.ensures;
+  offset64 = c.bool_in-4.ensures;
+}

@@ -1,0 +1,40 @@
+-- The laws of what a schema file describes, and of what is answered of it.
+use Rattle.std.specs.Prelude.{◌≡◌, ℕ, List, Option, option_map, Result, Ok, Err}
+use Rattle.std.specs.Borrow.{Bor}
+use Rattle.fb_schema.specs.Rows.{Rows}
+use Rattle.fb_verify.specs.Bounds.{Bounds}
+use Rattle.fb_bfbs.specs.declared.loading.Loaded.{Loaded}
+use Rattle.fb_bfbs.specs.declared.load_fault.LoadFault.{LoadFault}
+use Rattle.fb_bfbs.specs.declared.load_fault.LoadFault.TheVariants.{OutOfMemory}
+use Rattle.fb_bfbs.specs.Describes.{Describes}
+use Rattle.fb_bfbs.specs.Loads.{told, IsLoaded, IsLoadFault}
+
+-- a schema file describes at most one list of rows
+abbrev pub DescribesOnce : Type 0
+DescribesOnce = (b : List ℕ) (rows others : Rows) → Describes (told b) rows → Describes (told b) others → rows ≡ others
+
+-- the bytes of an identifier, without where they lie in memory
+abbrev pub ident_bytes : Option (Bor (List ℕ)) → Option (List ℕ)
+ident_bytes = option_map (λ s. s.now)
+
+-- the same rows, root and identifier
+pub record IsSameLoad (x y : Loaded) : Type 0 where
+  pub schema : x.schema ≡ y.schema
+  pub root : x.root ≡ y.root
+  pub ident : ident_bytes x.ident ≡ ident_bytes y.ident
+
+-- the same answer: two loads of the same, or the same fault
+abbrev pub IsSameAnswer : Result Loaded LoadFault → Result Loaded LoadFault → Type 0
+IsSameAnswer (Ok x) (Ok y) = IsSameLoad x y
+IsSameAnswer (Err f) (Err g) = f ≡ g
+IsSameAnswer _ _ = ⊥
+
+-- an answer applies to the bytes: what is loaded of them, or why nothing is, want of memory apart
+abbrev pub Applies : List ℕ → Bounds → Result Loaded LoadFault → Type 0
+Applies b L (Ok loaded) = IsLoaded b L loaded
+Applies b L (Err OutOfMemory) = ⊥
+Applies b L (Err fault) = IsLoadFault b L fault
+
+-- at most one answer applies
+abbrev pub HasOneAnswer : Type 0
+HasOneAnswer = (b : List ℕ) (L : Bounds) (x y : Result Loaded LoadFault) → Applies b L x → Applies b L y → IsSameAnswer x y

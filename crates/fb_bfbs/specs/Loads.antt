@@ -1,0 +1,82 @@
+-- What is answered of a schema file.
+use Rattle.std.specs.Prelude.{ℕ, ◌<◌, ◌≤◌, ◌^◌, true, false, List, [], ◌∷◌, length}
+use Rattle.fb_schema.specs.Rows.{Rows}
+use Rattle.fb_schema.specs.declared.fault.Code.{Code}
+use Rattle.fb_schema.specs.declared.fault.Code.TheVariants.{OutOfMemory as NoMemory}
+use Rattle.fb_schema.specs.declared.fault.SchemaFault.{SchemaFault}
+use Rattle.fb_schema.specs.Demands.{IsLegal, IsFirstIllegal}
+use Rattle.fb_verify.specs.declared.checks.Checks.{Checks}
+use Rattle.fb_verify.specs.declared.start.Start.TheVariants.{Bare}
+use Rattle.fb_verify.specs.declared.start.Ident.{Ident}
+use Rattle.fb_verify.specs.declared.start.Ident.TheVariants.{Want}
+use Rattle.fb_verify.specs.Bounds.{Bounds}
+use Rattle.fb_verify.specs.Tree.{Tree}
+use Rattle.fb_verify.specs.WellFormed.{IsWellFormed, IsWithin}
+use Rattle.fb_verify.specs.Stops.{Stops}
+use Rattle.fb_access.specs.declared.step.Step.TheVariants.{Field as ToField}
+use Rattle.fb_access.specs.Denotes.{Denotes}
+use Rattle.fb_bfbs.specs.declared.loading.Loaded.{Loaded}
+use Rattle.fb_bfbs.specs.declared.load_fault.LoadFault.{LoadFault}
+use Rattle.fb_bfbs.specs.declared.load_fault.LoadFault.TheVariants.{NotWellFormed, BadSchema, RootNotListed, OutOfMemory, TooLong}
+use Rattle.fb_bfbs.specs.Fixed.{fixed}
+use Rattle.fb_bfbs.specs.Says.{Says, text_or_nothing}
+use Rattle.fb_bfbs.specs.Describes.{Describes, IsRoot, HasStrayRoot}
+
+-- the number of the table Schema in the fixed table
+abbrev pub schema_number : ℕ
+schema_number = 9
+
+-- the identifier BFBS
+abbrev pub schema_ident : Ident
+schema_ident = Want (66 ∷ 70 ∷ 66 ∷ 83 ∷ [])
+
+-- the checks of the published verifier
+abbrev pub published : Checks
+published = record { alignment = true; inline_size = false }
+
+-- the bytes are a schema file: short enough for a buffer, and well formed within the limits by the fixed table
+pub record IsSchemaFile (b : List ℕ) (L : Bounds) : Type 0 where
+  pub short : length b < 2 ^ 31
+  pub found : Tree
+  pub well_formed : IsWellFormed published b fixed schema_number Bare schema_ident found
+  pub within : IsWithin found L
+
+-- what a schema file says
+abbrev pub told : List ℕ → Says
+told b = Denotes b fixed Bare schema_number
+
+-- what is loaded of a schema file
+pub record IsLoaded (b : List ℕ) (L : Bounds) (loaded : Loaded) : Type 0 where
+  pub file : IsSchemaFile b L
+  pub rows : Describes (told b) loaded.schema
+  pub legal : IsLegal loaded.schema
+  pub root : IsRoot (told b) loaded.schema loaded.root
+  pub ident : told b (ToField 2 ∷ []) (text_or_nothing loaded.ident)
+
+-- the rows of a schema file are no schema, first by this fault
+pub record IsBadSchema (b : List ℕ) (L : Bounds) (fault : SchemaFault) : Type 0 where
+  pub file : IsSchemaFile b L
+  pub rows : Rows
+  pub described : Describes (told b) rows
+  pub first : IsFirstIllegal rows fault
+
+-- the rows of a schema file are a schema, but without the file's root
+pub record LacksRoot (b : List ℕ) (L : Bounds) : Type 0 where
+  pub file : IsSchemaFile b L
+  pub rows : Rows
+  pub described : Describes (told b) rows
+  pub legal : IsLegal rows
+  pub stray : HasStrayRoot (told b) rows
+
+-- why nothing is loaded; memory may be refused wherever the bytes aren't too many
+abbrev pub IsLoadFault : List ℕ → Bounds → LoadFault → Type 0
+IsLoadFault b L TooLong = 2 ^ 31 ≤ length b
+IsLoadFault b L (NotWellFormed fault) = (length b < 2 ^ 31) × Stops published b fixed schema_number Bare schema_ident L fault
+IsLoadFault b L (BadSchema fault) = IsBadSchema b L fault
+IsLoadFault b L RootNotListed = LacksRoot b L
+IsLoadFault b L OutOfMemory = length b < 2 ^ 31
+
+-- the fault that a schema fault is: memory was refused, or the rows are no schema
+abbrev pub build_fault : Code → SchemaFault → LoadFault
+build_fault NoMemory fault = OutOfMemory
+build_fault _ fault = BadSchema fault

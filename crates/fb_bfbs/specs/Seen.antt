@@ -1,0 +1,47 @@
+-- What is seen from a place in a schema file.
+use Rattle.std.specs.Prelude.{◌≡◌, ℕ, Some}
+use Rattle.fb_schema.specs.declared.kinds.Kind.{Kind}
+use Rattle.fb_schema.specs.declared.kinds.Kind.TheVariants.{Table, Tables}
+use Rattle.fb_access.specs.declared.step.Step.{Step}
+use Rattle.fb_access.specs.declared.step.Step.TheVariants.{Field as ToField}
+use Rattle.fb_access.specs.Fitting.{next_kind}
+use Rattle.fb_access.specs.Denotes.{Leads}
+use Rattle.fb_access.specs.Held.{Placed}
+use Rattle.fb_access.specs.Here.{IsHere, sure_kind, Shows}
+use Rattle.fb_bfbs.specs.Fixed.{fixed}
+use Rattle.fb_bfbs.specs.Says.{Says}
+
+-- which steps lead from here to which value
+abbrev pub seen : Placed → Says
+seen p = Shows (p.sealed).bytes (p.sealed).schema p.spot
+
+-- by the fixed table, a value of this kind is here
+pub record IsAt (p : Placed) (kind : Kind) : Type 0 where
+  pub by_fixed : (p.sealed).schema ≡ fixed
+  pub here : IsHere p.spot kind
+
+-- a table is here whose field of this number is of this kind, and always there
+pub record HasField (p : Placed) (number : ℕ) (kind : Kind) : Type 0 where
+  pub object : ℕ
+  pub at : IsAt p (Table object)
+  pub sure : sure_kind fixed (Table object) (ToField number) ≡ Some kind
+
+-- a table is here whose field of this number is of this kind, and may be absent
+pub record MayHaveField (p : Placed) (number : ℕ) (kind : Kind) : Type 0 where
+  pub object : ℕ
+  pub at : IsAt p (Table object)
+  pub field : next_kind fixed (Table object) (ToField number) ≡ Some kind
+
+-- the table of such a field
+abbrev pub MayHaveTable : Placed → ℕ → Type 0
+MayHaveTable p number = (object : ℕ) × MayHaveField p number (Table object)
+
+-- a vector of tables is here
+abbrev pub IsVector : Placed → Type 0
+IsVector p = (object : ℕ) × IsAt p (Tables object)
+
+-- one step on, a value of this kind is here
+pub record IsOneOn (p : Placed) (s : Step) (r : Placed) (kind : Kind) : Type 0 where
+  pub at : IsAt r kind
+  pub same : r.sealed ≡ p.sealed
+  pub leads : Leads (p.sealed).bytes (p.sealed).schema p.spot s r.spot

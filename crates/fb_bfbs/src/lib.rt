@@ -1,0 +1,28 @@
+//! Schema files: the fixed table by which they are verified, and the rows that they describe.
+#![tactic(auto)]
+
+mod copied;
+mod file;
+mod fixed;
+mod lists;
+mod load_fault;
+pub mod load_laws;
+mod loading;
+mod rows;
+mod tables;
+mod values;
+
+pub use fixed::reflection;
+pub use load_fault::LoadFault;
+pub use loading::{Loaded, load};
+
+#[cfg(test)]
+mod fixtures;
+#[cfg(test)]
+mod loading_tests;
+#[cfg(test)]
+mod lookup_tests;
+#[cfg(test)]
+mod sweep_tests;
+#[cfg(test)]
+mod tests;

@@ -1,0 +1,91 @@
+// Why no schema is loaded.
+
+use fb_schema::{Code, SchemaFault};
+use fb_verify::{Fault, Reason};
+use std::error::Error;
+use std::fmt;
+
+/// Why a schema file gives no schema. They are asked in the order L5, L1, L2, L3; L4 may come in place of any but L5.
+#[derive(Clone, Copy, Debug, PartialEq, Eq)]
+pub enum LoadFault {
+    /// L1: the bytes aren't a bare buffer with the identifier `BFBS` that is well formed by the fixed table, within the limits.
+    NotWellFormed(Fault),
+    /// L2: the rows that the file describes are no schema. The code is never C9.
+    BadSchema(SchemaFault),
+    /// L3: the file has a root table, and no listed table has its name.
+    RootNotListed,
+    /// L4: a growth was refused.
+    OutOfMemory,
+    /// L5: there are 2^31 bytes or more.
+    TooLong,
+}
+
+/// A reason's code and name.
+fn reason_text(reason: Reason) -> &'static str {
+    match reason {
+        Reason::WrongPrefix => "V1 WrongPrefix",
+        Reason::OutOfBuffer => "V2 OutOfBuffer",
+        Reason::Misaligned => "V3 Misaligned",
+        Reason::ZeroOffset => "V4 ZeroOffset",
+        Reason::WrongIdentifier => "V5 WrongIdentifier",
+        Reason::TooDeep => "V6 TooDeep",
+        Reason::TooManyTables => "V7 TooManyTables",
+        Reason::BadVtable => "V8 BadVtable",
+        Reason::MissingRequired => "V9 MissingRequired",
+        Reason::NoTerminator => "V10 NoTerminator",
+        Reason::LengthsDiffer => "V11 LengthsDiffer",
+        Reason::PastTable => "V12 PastTable",
+    }
+}
+
+/// The code and name of what is wrong with rows.
+fn code_text(code: Code) -> &'static str {
+    match code {
+        Code::NoSuchObject => "C1 NoSuchObject",
+        Code::NoSuchEnum => "C2 NoSuchEnum",
+        Code::Unsupported => "C3 Unsupported",
+        Code::BadSlot => "C4 BadSlot",
+        Code::NoTypeField => "C5 NoTypeField",
+        Code::BadStruct => "C6 BadStruct",
+        Code::BadMember => "C7 BadMember",
+        Code::NameTwice => "C8 NameTwice",
+        Code::OutOfMemory => "C9 OutOfMemory",
+    }
+}
+
+impl fmt::Display for LoadFault {
+    fn fmt<W: fmt::Write>(&self, f: &mut fmt::Formatter<W>) -> fmt::Result {
+        match self {
+            LoadFault::NotWellFormed(fault) => {
+                let reason = reason_text(fault.reason);
+                write!(
+                    f,
+                    "L1 {reason} at={} object={} field=",
+                    fault.at, fault.object
+                )?;
+                match fault.field {
+                    Some(field) => write!(f, "{field}")?,
+                    None => write!(f, "-")?,
+                }
+                write!(f, " reads={}", fault.reads)
+            }
+            LoadFault::BadSchema(fault) => {
+                write!(
+                    f,
+                    "L2 {} owner={} part=",
+                    code_text(fault.code),
+                    fault.owner
+                )?;
+                match fault.part {
+                    Some(part) => write!(f, "{part}"),
+                    None => write!(f, "-"),
+                }
+            }
+            LoadFault::RootNotListed => write!(f, "L3 RootNotListed"),
+            LoadFault::OutOfMemory => write!(f, "L4 OutOfMemory"),
+            LoadFault::TooLong => write!(f, "L5 TooLong"),
+        }
+    }
+}
+
+impl Error for LoadFault {}

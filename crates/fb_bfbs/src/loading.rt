@@ -1,0 +1,131 @@
+// A schema out of its file.
+
+ghost use Rattle.std.specs.Prelude.{◌≡◌, ◌<◌, ◌≤◌, IfOk, OnOk, IfErr};
+ghost use Rattle.fb_schema.specs.Rows.{AreFew};
+ghost use Rattle.fb_bfbs.specs.Describes.{table_named};
+ghost use Rattle.fb_bfbs.specs.FileRows.{IsTold};
+ghost use Rattle.fb_bfbs.specs.Loads.{IsSchemaFile, IsLoaded, IsLoadFault, build_fault, told};
+
+use crate::file::{FileRows, file_rows};
+use crate::fixed::reflection;
+use crate::load_fault::LoadFault;
+use fb_bytes::Meter;
+use fb_schema::{Code, Schema, SchemaFault};
+use fb_verify::{Checks, Ident, Limits, Scratch, ScratchFault, Start, verify};
+use std::alloc::{AllocError, Global};
+
+/// The number of the table Schema in the fixed table.
+const SCHEMA: u32 = 9;
+
+/// The schema that a schema file (`.bfbs`) describes.
+#[derive(Drop)]
+pub struct Loaded<'b> {
+    /// Its rows. Their names are the file's bytes, not copies.
+    pub schema: Schema<'b>,
+    /// The number of the root table's object, none where the file has no root table.
+    pub root: Option<u32>,
+    /// The identifier of its buffers, none where the file has none. It may have any length.
+    pub ident: Option<&'b [u8]>,
+}
+
+/// Room for as many open tables as the limits allow.
+fn scratch_of(alloc: Global, limits: Limits) -> Result<Scratch, AllocError>
+    ensures { IfOk result (λ s. limits.depth ≤ s) }
+{
+    match Scratch::new(alloc, limits.depth()) {
+        Ok(scratch) => Ok(scratch),
+        Err(ScratchFault::OutOfMemory) => Err(AllocError),
+        Err(ScratchFault::LimitOutOfRange) => unreachable!(),
+    }
+}
+
+/// Verifies the bytes by the fixed table, and reads the rows.
+fn read<'b>(alloc: Global, bytes: &'b [u8], limits: Limits) -> Result<FileRows<'b>, LoadFault>
+    ensures file { OnOk result (IsSchemaFile bytes.now limits) }
+    ensures told { IfOk result (λ f. IsTold (told bytes.now) f) }
+    ensures few { IfOk result (λ f. AreFew f.objects.items f.enums.items) }
+    ensures no { IfErr result (λ fault. IsLoadFault bytes.now limits fault) }
+{
+    let Ok(meter) = Meter::new(bytes) else {
+        return Err(LoadFault::TooLong);
+    };
+    let Ok(fixed) = reflection(alloc) else {
+        return Err(LoadFault::OutOfMemory);
+    };
+    let Ok(mut scratch) = scratch_of(alloc, limits) else {
+        return Err(LoadFault::OutOfMemory);
+    };
+    let ident = Ident::Want(*b"BFBS");
+    let checks = Checks::published();
+    let verdict = verify(
+        meter,
+        &fixed,
+        SCHEMA,
+        Start::Bare,
+        ident,
+        limits,
+        checks,
+        &mut scratch,
+    );
+    let verified = match verdict {
+        Ok(verified) => verified,
+        Err(fault) => return Err(LoadFault::NotWellFormed(fault)),
+    };
+    match file_rows(alloc, &verified) {
+        Ok(rows) => Ok(rows),
+        Err(_) => Err(LoadFault::OutOfMemory),
+    }
+}
+
+/// Why rows are no schema, for want of memory or else.
+fn bad_schema(fault: SchemaFault) -> LoadFault
+    ensures { result ≡ build_fault fault.code fault }
+{
+    match fault.code {
+        Code::OutOfMemory => LoadFault::OutOfMemory,
+        _ => LoadFault::BadSchema(fault),
+    }
+}
+
+/// The table of this name.
+#[tactic(auto, unfolding(crate::specs::Describes::table_named))]
+fn table_named(schema: &Schema, name: &[u8]) -> Option<u32>
+    ensures { result ≡ table_named schema.now name.now }
+{
+    match schema.object_named(name) {
+        Some(n) if schema.is_table(n) => Some(n),
+        _ => None,
+    }
+}
+
+/// Loads a schema file: verifies it by the fixed table ([`reflection`]) as a bare buffer with the identifier `BFBS`, within these
+/// limits and with the checks of the published verifier, takes its rows by the paths of reflection.fbs, and builds them.
+///
+/// The names in the schema, and the identifier, are lent by the bytes.
+///
+/// # Errors
+///
+/// L5 where there are 2^31 bytes or more; then L1 where the verifier says no; then L2 where the rows that the file describes are no
+/// schema; then L3 where the file has a root table and no listed table has its name. L4 may come in place of any but L5.
+pub fn load<'b>(alloc: Global, bytes: &'b [u8], limits: Limits) -> Result<Loaded<'b>, LoadFault>
+    ensures yes { IfOk result (λ loaded. IsLoaded bytes.now limits loaded) }
+    ensures no { IfErr result (λ fault. IsLoadFault bytes.now limits fault) }
+{
+    let rows = read(alloc, bytes, limits)?;
+    let schema = match Schema::build(alloc, rows.objects, rows.enums) {
+        Ok(schema) => schema,
+        Err(fault) => return Err(bad_schema(fault)),
+    };
+    let root = match rows.root {
+        None => None,
+        Some(name) => match table_named(&schema, name) {
+            Some(n) => Some(n),
+            None => return Err(LoadFault::RootNotListed),
+        },
+    };
+    Ok(Loaded {
+        schema,
+        root,
+        ident: rows.ident,
+    })
+}
