@@ -1,8 +1,13 @@
+mod AnswerLemmas
+mod AskedLemmas
 mod BareLemmas
+mod CheckLemmas
 mod DefaultLemmas
+mod FitLemmas
 mod FrontLemmas
 mod LineLemmas
 mod LinesLemmas
+mod OneAsk
 mod Pieces
 mod ProgramLemmas
 mod RunLemmas

@@ -1,13 +1,11 @@
 -- Lines after lines.
-use Rattle.std.proofs.Common.{◌≡◌, ℕ, ◌+◌, List, [], ◌∷◌, ◌++◌, Result, Ok, Err, length, refl, sym, ap, subst, ◌∙◌, arith, append-nil, append_assoc}
-use Rattle.fbcheck.specs.Job.{Job}
+use Rattle.std.proofs.Common.{◌≡◌, ℕ, ◌+◌, List, [], ◌∷◌, ◌++◌, Ok, Err, length, refl, sym, ap, subst, ◌∙◌, arith, append-nil, append_assoc}
+use Rattle.fbcheck.specs.Job.{Job, Verdict}
 use Rattle.fbcheck.specs.Line.{IsLine, yes_count, no_count}
 use Rattle.fbcheck.specs.Lines.{IsLines}
-use Rattle.fb_verify.specs.declared.fault.Fault.{Fault}
-use Rattle.fb_verify.specs.declared.fault.Report.{Report}
 
-one_each : (verdict : Result Report Fault) → yes_count verdict + no_count verdict ≡ 1
-one_each (Ok report) = refl
+one_each : (verdict : Verdict) → yes_count verdict + no_count verdict ≡ 1
+one_each (Ok found) = refl
 one_each (Err fault) = refl
 
 -- each message has one verdict
@@ -40,7 +38,7 @@ lines_then job k (x ∷ xs) ys a c g b g' b' g'' b'' gs bs (v, line, rest, g1, b
 )
 
 -- one line more
-pub lines_more : (job : Job) (messages : List (List ℕ)) (message text line : List ℕ) (good bad good' bad' : ℕ) (verdict : Result Report Fault)
+pub lines_more : (job : Job) (messages : List (List ℕ)) (message text line : List ℕ) (good bad good' bad' : ℕ) (verdict : Verdict)
     → good' ≡ good + yes_count verdict → bad' ≡ bad + no_count verdict
     → IsLines job 1 messages text good bad → IsLine job (1 + (good + bad)) message verdict line → IsLines job 1 (messages ++ message ∷ []) (text ++ line) good' bad'
 lines_more job ms m text line good bad good' bad' v gs bs lines is =

@@ -66,13 +66,13 @@ least_one : (a : Arg) → a.num_vals ≡ None → 1 ≤ least_values a
 least_one a none = subst (λ (o : Option ValueRange). 1 ≤ (unwrap_or_range o).start_inclusive) (sym none) (omega arith)
 
 -- the option at place k of the program, of which the rule is that of a number
-pub holds_number : (c : Command) (m : ArgMatches) → app_of c ≡ program → IsParsedFrom c m → (k least most : ℕ) (name default : Text) → k < 6
+pub holds_number : (c : Command) (m : ArgMatches) → app_of c ≡ program → IsParsedFrom c m → (k least most : ℕ) (name default : Text) → k < 10
     → ((d : Rule) → slice_index_or program.top.rules k d ≡ number_rule name least most default) → is_id_of name k program.top.rules ≡ true
     → (name ≡ [] → ⊥) → (name ≡ codes "help" → ⊥) → (name ≡ codes "version" → ⊥)
     → HoldsNumber (one_text (found_of m) name) least most
 holds_number c m is p k least most name default lt at alone named help version =
     let rules : map rule_of (args_of c) ≡ program.top.rules = ap (λ (a : App). a.top.rules) is in
-    let long : length (args_of c) ≡ 6 = sym (length-map (args_of c) rule_of) ∙ ap length rules in
+    let long : length (args_of c) ≡ 10 = sym (length-map (args_of c) rule_of) ∙ ap length rules in
     let low : k < length (args_of c) = omega arith in
     let d = some_arg (args_of c) (omega arith) in
     let a = slice_index_or (args_of c) k d in

@@ -168,6 +168,9 @@ some_of job limit bytes text run.ReadFault kind rests = absurd kind
 some_of job limit bytes text run.TooManyTurns kind rests = absurd kind
 some_of job limit bytes text (run.WriteFault written) kind rests = absurd kind
 some_of job limit bytes text (run.BareTooLong most) kind rests = absurd kind
+some_of job limit bytes text (run.Load fault) kind rests = absurd kind
+some_of job limit bytes text (run.Path fault) kind rests = absurd kind
+some_of job limit bytes text run.NoRoot kind rests = absurd kind
 
 -- so does one in which the run came to rest
 pub gathers_halts : (job : Job) (limit good bad : ℕ) (held piece text text' : List ℕ) (fault : RunFault) → IsFeedFault fault → Halts job limit text good bad held piece text' fault

@@ -1,8 +1,10 @@
 -- What a parse of the program's words gives.
-use Rattle.std.proofs.Common.{◌≡◌, ◌↔◌, Bool, true, false, not, IsTrue, List, [], ◌∷◌, codes, Some, refl, sym, ap, ◌∙◌}
+use Rattle.std.proofs.Common.{◌≡◌, ◌↔◌, Bool, true, false, not, IsTrue, List, [], ◌∷◌, codes, Some, refl, sym, ap, subst, ◌∙◌}
 use Rattle.clap.specs.Walk.{Text, first_of, one_of}
 use Rattle.clap.specs.Simple.{App, HasMatchesOf, is_simple, matches_of}
 use Rattle.clap.specs.Matches.{first_value, found_of, one_text}
+use Rattle.clap.specs.Kinds.{HasKind}
+use Rattle.clap.specs.declared.error.Error.{Error}
 use Rattle.clap.specs.Faults.{fault_of, is_simple_and_free}
 use Rattle.clap.specs.declared.parser.matches.ArgMatches.{ArgMatches}
 use Rattle.clap.proofs.OnLiterals.{clap_on_literals}
@@ -20,6 +22,10 @@ simple_and_free = refl
 -- words that are read have no fault
 pub no_fault : (app : App) (words : List Text) → app ≡ program → (is_simple_and_free app ≡ true → fault_of app words ≡ []) → fault_of program words ≡ []
 no_fault app words is read = ap (λ (a : App). fault_of a words) (sym is) ∙ read (ap is_simple_and_free is ∙ simple_and_free)
+
+-- words that are refused have a fault of that kind
+pub refused_by : (app : App) (words : List Text) (error : Error) → app ≡ program → (is_simple_and_free app ≡ true → HasKind (fault_of app words) error) → HasKind (fault_of program words) error
+refused_by app words error is refused = subst (λ (a : App). HasKind (fault_of a words) error) is (refused (ap is_simple_and_free is ∙ simple_and_free))
 
 -- an option's text in the matches is that of the words
 pub text_of_words : (app : App) (words : List Text) (m : ArgMatches) (id : Text) → app ≡ program → HasMatchesOf app words m

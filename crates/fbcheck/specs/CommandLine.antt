@@ -5,6 +5,10 @@ use Rattle.clap.specs.Simple.{App, new_app, new_rule, with_rule}
 use Rattle.clap.specs.declared.builder.action.ArgAction.TheVariants.{Set, SetTrue}
 use Rattle.clap.specs.declared.builder.value_parser.ValueParser.TheVariants as parser
 
+-- an option that takes a text
+abbrev pub text_rule : Text → Rule
+text_rule name = record (new_rule name) { long = Some name; value_names = 1 }
+
 -- an option that takes a number in a range, with a default
 abbrev pub number_rule : Text → ℕ → ℕ → Text → Rule
 number_rule name least most default = record (new_rule name) {
@@ -28,8 +32,11 @@ bytes_rule = number_rule (codes "max-bytes") 8 2147483647 (codes "67108864")
 abbrev pub flag_rule : Text → Rule
 flag_rule name = record (new_rule name) { long = Some name; action = Some SetTrue }
 
+abbrev pub texts : App
+texts = with_rule (with_rule (with_rule (with_rule (new_app (codes "fbcheck")) (text_rule (codes "schema"))) (text_rule (codes "root"))) (text_rule (codes "ident"))) (text_rule (codes "path"))
+
 abbrev pub numbers : App
-numbers = with_rule (with_rule (with_rule (new_app (codes "fbcheck")) depth_rule) tables_rule) bytes_rule
+numbers = with_rule (with_rule (with_rule texts depth_rule) tables_rule) bytes_rule
 
 abbrev pub program : App
 program = with_rule (with_rule (with_rule numbers (flag_rule (codes "bare"))) (flag_rule (codes "no-alignment"))) (flag_rule (codes "inline-size"))

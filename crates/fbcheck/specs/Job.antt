@@ -1,5 +1,5 @@
 -- What the buffers of a run are checked by, and what a verdict on one of them says.
-use Rattle.std.specs.Prelude.{ℕ, Bool, true, false, List, Result, Ok, Err}
+use Rattle.std.specs.Prelude.{ℕ, Bool, true, false, List, [], ◌∷◌, Option, Some, None, is_some, Result, Ok, Err, option_map, option_and_then}
 use Rattle.fb_schema.specs.Rows.{Rows}
 use Rattle.fb_verify.specs.Bounds.{Bounds}
 use Rattle.fb_verify.specs.Stops.{Stops}
@@ -10,9 +10,15 @@ use Rattle.fb_verify.specs.declared.fault.Report.{Report}
 use Rattle.fb_verify.specs.declared.start.Ident.{Ident}
 use Rattle.fb_verify.specs.declared.start.Start.{Start}
 use Rattle.fb_verify.specs.declared.start.Start.TheVariants.{Bare, Prefixed}
+use Rattle.fb_schema.specs.declared.kinds.Kind.{Kind}
+use Rattle.fb_schema.specs.declared.kinds.Kind.TheVariants.{Table}
+use Rattle.fb_access.specs.declared.step.Step.{Step}
+use Rattle.fb_access.specs.Denotes.{Denotes, Shown, shown}
+use Rattle.fb_access.specs.Fitting.{StepsFit, next_kind}
+use Rattle.fbcheck.specs.declared.checker.Found.{Found}
 use Rattle.fbcheck.specs.declared.options.Options.{Options}
 
--- a schema with its root, how a buffer starts, the identifier, the limits and the checks
+-- a schema with its root, how a buffer starts, the identifier, the limits and the checks, and the steps to the value that is asked for
 pub record Job : Type 0 where
   pub rows : Rows
   pub root : ℕ
@@ -20,11 +26,33 @@ pub record Job : Type 0 where
   pub ident : Ident
   pub limits : Bounds
   pub checks : Checks
+  pub steps : Option (List Step)
 
--- what a verdict on these bytes says: a yes counts a tree that is well formed and within the limits, a no is the one fault that stops
-abbrev pub IsVerdict : Job → List ℕ → Result Report Fault → Type 0
-IsVerdict job bytes (Ok report) = Reports job.checks bytes job.rows job.root job.start job.ident job.limits report
+-- a yes: what was counted, and the value that was asked for
+pub record Yes : Type 0 where
+  pub report : Report
+  pub answer : Option Shown
+
+-- a yes or a no
+abbrev pub Verdict : Type 0
+Verdict = Result Yes Fault
+
+-- where steps are asked for, the value is the one to which they lead in these bytes; where none are, there is none
+abbrev pub IsAnswer : List ℕ → Rows → Start → ℕ → Option (List Step) → Option Shown → Type 0
+IsAnswer bytes rows start root None None = Unit {0}
+IsAnswer bytes rows start root (Some steps) (Some value) = Denotes bytes rows start root steps value
+IsAnswer bytes rows start root _ _ = ⊥
+
+-- what a verdict on these bytes says: a yes counts a tree that is well formed and within the limits, and has the value that is asked for; a
+-- no is the one fault that stops
+abbrev pub IsVerdict : Job → List ℕ → Verdict → Type 0
+IsVerdict job bytes (Ok found) = Reports job.checks bytes job.rows job.root job.start job.ident job.limits found.report × IsAnswer bytes job.rows job.start job.root job.steps found.answer
 IsVerdict job bytes (Err fault) = Stops job.checks bytes job.rows job.root job.start job.ident job.limits fault
+
+-- a verdict without where the bytes of its value lie in memory
+abbrev pub verdict_of : Result Found Fault → Verdict
+verdict_of (Ok found) = Ok (record { report = found.report; answer = option_map shown found.answer })
+verdict_of (Err fault) = Err fault
 
 -- whether a buffer begins bare or with its size
 abbrev pub start_of : Bool → Start
@@ -40,4 +68,20 @@ job_of rows options = record {
   ident = options.ident;
   limits = options.limits;
   checks = record { alignment = options.alignment; inline_size = options.inline_size };
+  steps = options.path;
 }
+
+-- the steps, where there are any, fit from this table on
+abbrev pub PathFits : Rows → ℕ → Option (List Step) → Type 0
+PathFits rows root None = Unit {0}
+PathFits rows root (Some steps) = StepsFit rows (Table root) steps
+
+-- the kind at the end of some steps, if they fit
+unfoldable pub end_kind : Rows → Kind → List Step → Option Kind
+end_kind rows kind [] = Some kind
+end_kind rows kind (step ∷ steps) = option_and_then (λ next. end_kind rows next steps) (next_kind rows kind step)
+
+-- whether the steps, where there are any, fit from this table on
+unfoldable pub path_fits : Rows → ℕ → Option (List Step) → Bool
+path_fits rows root None = true
+path_fits rows root (Some steps) = is_some (end_kind rows (Table root) steps)

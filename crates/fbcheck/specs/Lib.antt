@@ -1,4 +1,8 @@
+pub mod AnswerText
+pub mod Asked
 pub mod Bare
+pub mod CheckLaws
+pub mod Checking
 pub mod CommandLine
 pub mod Faults
 pub mod Job
@@ -7,5 +11,4 @@ pub mod Lines
 pub mod Refusal
 pub mod Run
 pub mod Stream
-pub mod TableM
 pub mod Values

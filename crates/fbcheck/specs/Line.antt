@@ -1,6 +1,8 @@
 -- The lines that tell verdicts.
-use Rattle.std.specs.Prelude.{◌≡◌, ℕ, List, ◌++◌, Option, Some, None, Result, Ok, Err, codes, decimal}
-use Rattle.fbcheck.specs.Job.{Job, IsVerdict}
+use Rattle.std.specs.Prelude.{◌≡◌, ℕ, List, ◌++◌, Option, Some, None, Ok, Err, codes, decimal}
+use Rattle.fb_access.specs.Denotes.{Shown}
+use Rattle.fbcheck.specs.AnswerText.{answer_text}
+use Rattle.fbcheck.specs.Job.{Job, Verdict, IsVerdict}
 use Rattle.fb_verify.specs.declared.fault.Fault.{Fault}
 use Rattle.fb_verify.specs.declared.fault.Reason.{Reason}
 use Rattle.fb_verify.specs.declared.fault.Reason.TheVariants.{WrongPrefix, OutOfBuffer, Misaligned, ZeroOffset, WrongIdentifier, TooDeep, TooManyTables, BadVtable, MissingRequired, NoTerminator, LengthsDiffer, PastTable}
@@ -26,11 +28,21 @@ abbrev pub field_text : Option ℕ → List ℕ
 field_text None = codes "-"
 field_text (Some number) = decimal number
 
+-- the end of a line: with the value that was asked for, where there is one
+abbrev pub ending : Option Shown → List ℕ
+ending None = codes "\n"
+ending (Some value) = codes " " ++ answer_text value ++ codes "\n"
+
+-- the same without the value and what is behind it
+abbrev pub short_ending : Option Shown → List ℕ
+short_ending None = codes "\n"
+short_ending (Some value) = codes " "
+
 -- what the line of a yes has behind the message's number
-abbrev pub yes_end : Report → List ℕ
-yes_end report =
+abbrev pub yes_end : Report → List ℕ → List ℕ
+yes_end report end =
     codes " ok tables=" ++ decimal report.tables ++ codes " depth=" ++ decimal report.depth
-    ++ codes " reads=" ++ decimal report.reads ++ codes "\n"
+    ++ codes " reads=" ++ decimal report.reads ++ end
 
 -- where in the schema a fault is, and the reads by then
 abbrev pub place_end : Fault → List ℕ
@@ -43,20 +55,25 @@ abbrev pub no_end : Fault → List ℕ
 no_end fault = codes " bad " ++ reason_text fault.reason ++ codes " at=" ++ decimal fault.at ++ place_end fault
 
 -- the line of the verdict on message number k
-abbrev pub verdict_line : ℕ → Result Report Fault → List ℕ
-verdict_line k (Ok report) = decimal k ++ yes_end report
+abbrev pub verdict_line : ℕ → Verdict → List ℕ
+verdict_line k (Ok found) = decimal k ++ yes_end found.report (ending found.answer)
 verdict_line k (Err fault) = decimal k ++ no_end fault
 
+-- all of that line but a value: a space stands where the value follows
+abbrev pub short_line : ℕ → Verdict → List ℕ
+short_line k (Ok found) = decimal k ++ yes_end found.report (short_ending found.answer)
+short_line k (Err fault) = decimal k ++ no_end fault
+
 -- how many yes, and how many no
-abbrev pub yes_count : Result Report Fault → ℕ
-yes_count (Ok report) = 1
+abbrev pub yes_count : Verdict → ℕ
+yes_count (Ok found) = 1
 yes_count (Err fault) = 0
 
-abbrev pub no_count : Result Report Fault → ℕ
-no_count (Ok report) = 0
+abbrev pub no_count : Verdict → ℕ
+no_count (Ok found) = 0
 no_count (Err fault) = 1
 
 -- the line of the message with number k, by this verdict
-pub record IsLine (job : Job) (k : ℕ) (bytes : List ℕ) (verdict : Result Report Fault) (line : List ℕ) : Type 0 where
+pub record IsLine (job : Job) (k : ℕ) (bytes : List ℕ) (verdict : Verdict) (line : List ℕ) : Type 0 where
   pub verdict_is : IsVerdict job bytes verdict
   pub text : line ≡ verdict_line k verdict

@@ -1,16 +1,14 @@
 -- The lines of many messages, and what gathers and writes them.
-use Rattle.std.specs.Prelude.{◌≡◌, ℕ, ◌+◌, ◌≤◌, List, [], ◌∷◌, ◌++◌, Option, Result, length, take}
+use Rattle.std.specs.Prelude.{◌≡◌, ℕ, ◌+◌, ◌≤◌, List, [], ◌∷◌, ◌++◌, Option, length, take}
 use Rattle.std.specs.Io.KnownBytes.{Appends}
-use Rattle.fbcheck.specs.Job.{Job}
+use Rattle.fbcheck.specs.Job.{Job, Verdict}
 use Rattle.fbcheck.specs.Line.{IsLine, yes_count, no_count}
-use Rattle.fb_verify.specs.declared.fault.Fault.{Fault}
-use Rattle.fb_verify.specs.declared.fault.Report.{Report}
 
 -- the text is a line for each message, numbered from k, and so many have each verdict
 abbrev pub IsLines : Job → ℕ → List (List ℕ) → List ℕ → ℕ → ℕ → Type 0
 IsLines job k [] text good bad = (text ≡ []) × (good ≡ 0) × (bad ≡ 0)
 IsLines job k (message ∷ messages) text good bad =
-    (verdict : Result Report Fault) × (line : List ℕ) × (rest : List ℕ) × (good' : ℕ) × (bad' : ℕ)
+    (verdict : Verdict) × (line : List ℕ) × (rest : List ℕ) × (good' : ℕ) × (bad' : ℕ)
     × IsLine job k message verdict line × (text ≡ line ++ rest) × IsLines job (k + 1) messages rest good' bad'
     × (good ≡ yes_count verdict + good') × (bad ≡ no_count verdict + bad')
 
@@ -20,7 +18,7 @@ AreLines job messages text = (good : ℕ) × (bad : ℕ) × IsLines job 1 messag
 
 -- behind this text came the line of a message with number k, and its verdict was counted
 pub record AddsLine (job : Job) (k : ℕ) (message text : List ℕ) (good bad : ℕ) (text' : List ℕ) (good' bad' : ℕ) : Type 0 where
-  pub verdict : Result Report Fault
+  pub verdict : Verdict
   pub line : List ℕ
   pub is_line : IsLine job k message verdict line
   pub text_is : text' ≡ text ++ line

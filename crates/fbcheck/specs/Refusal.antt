@@ -1,5 +1,5 @@
 -- What the words are where they give no settings, and the exit status then.
-use Rattle.std.specs.Prelude.{◌≢◌, ℕ, List}
+use Rattle.std.specs.Prelude.{◌≡◌, ◌≢◌, ℕ, List, [], Some, length, codes}
 use Rattle.clap.specs.Walk.{Text}
 use Rattle.clap.specs.Values.{kind_of}
 use Rattle.clap.specs.Kinds.{HasKind}
@@ -7,12 +7,14 @@ use Rattle.clap.specs.Faults.{fault_of}
 use Rattle.clap.specs.declared.error.kind.ErrorKind.{ErrorKind}
 use Rattle.clap.specs.declared.error.kind.ErrorKind.TheVariants as kind
 use Rattle.fbcheck.specs.CommandLine.{program}
+use Rattle.fbcheck.specs.Values.{text_of}
 use Rattle.fbcheck.specs.declared.choices.SettingsFault.{SettingsFault}
-use Rattle.fbcheck.specs.declared.choices.SettingsFault.TheVariants.{Usage, OutOfMemory}
+use Rattle.fbcheck.specs.declared.choices.SettingsFault.TheVariants.{Usage, BadIdent, OutOfMemory}
 
--- `clap` refuses the words by an error of that kind, or there was no memory
+-- `clap` refuses the words by an error of that kind, or reads them and the identifier isn't four bytes long, or there was no memory
 abbrev pub Refuses : List Text → SettingsFault → Type 0
 Refuses words (Usage error) = (kind_of error ≢ kind.OutOfMemory) × HasKind (fault_of program words) error
+Refuses words BadIdent = (fault_of program words ≡ []) × ((t : Text) × (text_of (codes "ident") words ≡ Some t) × (length t ≢ 4))
 Refuses words OutOfMemory = Unit {0}
 
 -- texts that are asked for are no mistake
@@ -24,4 +26,5 @@ usage_status _ = 2
 -- the exit status: 0 for help, 2 for wrong words, 3 for want of memory
 abbrev pub refusal_status : SettingsFault → ℕ
 refusal_status (Usage error) = usage_status (kind_of error)
+refusal_status BadIdent = 2
 refusal_status OutOfMemory = 3

@@ -7,7 +7,7 @@ use Rattle.fb_bytes.specs.declared.stream_fault.StreamFault.TheVariants as strea
 use Rattle.fbcheck.specs.Job.{Job}
 use Rattle.fbcheck.specs.Lines.{IsLines, AreLines}
 use Rattle.fbcheck.specs.declared.fault.RunFault.{RunFault}
-use Rattle.fbcheck.specs.declared.fault.RunFault.TheVariants.{ReadFault, WriteFault, Stream, TooManyTurns, OutOfMemory, BareTooLong}
+use Rattle.fbcheck.specs.declared.fault.RunFault.TheVariants.{ReadFault, WriteFault, Stream, TooManyTurns, OutOfMemory, BareTooLong, Load, Path, NoRoot}
 
 -- these bytes are messages with this text for their lines, and the rest is held
 abbrev pub Tells : Job → ℕ → List ℕ → List ℕ → ℕ → ℕ → List ℕ → Type 0
@@ -29,6 +29,9 @@ WhyStream job limit bytes messages rest text (Stream fault) = ⊥
 WhyStream job limit bytes messages rest text OutOfMemory = TellsSome job limit bytes text
 WhyStream job limit bytes messages rest text (WriteFault written) = (written ≡ length text) × ((more : List ℕ) × TellsSome job limit bytes (text ++ more))
 WhyStream job limit bytes messages rest text (BareTooLong most) = ⊥
+WhyStream job limit bytes messages rest text (Load fault) = ⊥
+WhyStream job limit bytes messages rest text (Path fault) = ⊥
+WhyStream job limit bytes messages rest text NoRoot = ⊥
 
 -- a run over these bytes came to rest so
 abbrev pub Rests : Job → ℕ → List ℕ → List ℕ → RunFault → Type 0

@@ -6,6 +6,10 @@ use Rattle.clap.specs.Simple.{matches_of}
 use Rattle.clap.specs.Words.{IsSignedIn, without_minus}
 use Rattle.fbcheck.specs.CommandLine.{program}
 
+-- the text that the words give to this option
+abbrev pub text_of : Text → List Text → Option Text
+text_of name words = first_of name (matches_of program words)
+
 -- n is the number that this text spells in decimal digits
 abbrev pub IsWrittenIn : Option Text → ℕ → Type 0
 IsWrittenIn None n = ⊥
@@ -17,7 +21,7 @@ IsNumberOf name least most words n = IsWrittenIn (one_of name (matches_of progra
 
 -- the words give this flag
 abbrev pub IsGiven : Text → List Text → Type 0
-IsGiven name words = first_of name (matches_of program words) ≡ Some (codes "true")
+IsGiven name words = text_of name words ≡ Some (codes "true")
 
 -- the matches hold a text that passed the option's parser
 abbrev pub HoldsNumber : Option Text → ℕ → ℕ → Type 0

@@ -9,6 +9,14 @@ use thiserror::Error as DeriveError;
 /// What the words of the command line ask for.
 #[derive(Debug, Drop)]
 pub struct Settings {
+    /// The schema file (`--schema`). None: buffers are checked as schema files, by the table of reflection.fbs.
+    pub schema: Option<String>,
+    /// The name of the root table (`--root`). None: that of the schema file, or `reflection.Schema` without one.
+    pub root: Option<String>,
+    /// The file identifier that each buffer must have (`--ident`). None: any.
+    pub ident: Option<[u8; 4]>,
+    /// The path whose value each yes line ends with (`--path`).
+    pub path: Option<String>,
     /// How many tables may stand one inside another, 0 to 4,096 (`--max-depth`, 64).
     pub depth: u32,
     /// How many tables may be visited in one buffer (`--max-tables`, 1,000,000).
@@ -30,6 +38,9 @@ pub enum SettingsFault {
     /// G1: `clap` refuses the words, or they ask for its help.
     #[error(transparent)]
     Usage(Error),
+    /// G2: the words are read, and the text of `--ident` isn't four bytes long.
+    #[error("ident must be four bytes")]
+    BadIdent,
     /// G3: no memory was to be had.
     #[error("out of memory")]
     OutOfMemory,
@@ -44,6 +55,7 @@ impl SettingsFault {
         match self {
             SettingsFault::Usage(error) if error.use_stderr() => 2,
             SettingsFault::Usage(_) => 0,
+            SettingsFault::BadIdent => 2,
             SettingsFault::OutOfMemory => 3,
         }
     }

@@ -1,9 +1,19 @@
 ghost use Rattle.std.specs.Prelude.{IfOk, ◌≡◌, false};
 ghost use Rattle.clap.specs.Words.{app_of, rule_of};
-ghost use Rattle.fbcheck.specs.CommandLine.{program, numbers, depth_rule, tables_rule, bytes_rule, flag_rule};
+ghost use Rattle.fbcheck.specs.CommandLine.{program, texts, numbers, text_rule, depth_rule, tables_rule, bytes_rule, flag_rule};
 
 use clap::{Arg, ArgAction, Command, value_parser};
 use std::alloc::{AllocError, Global};
+
+fn text_arg<'a>(alloc: Global, name: &'a str, value: &'a str, help: &'a str) -> Arg<'a>
+    ensures rule { rule_of result ≡ text_rule name.entry.now }
+    ensures local { result.global ≡ false }
+{
+    Arg::new(alloc, name)
+        .long(name)
+        .value_name(value)
+        .help(help)
+}
 
 fn depth_arg<'a>(alloc: Global) -> Arg<'a>
     ensures rule { rule_of result ≡ depth_rule }
@@ -54,11 +64,41 @@ fn flag_arg<'a>(alloc: Global, name: &'a str, help: &'a str) -> Arg<'a>
         .action(ArgAction::SetTrue)
 }
 
+fn with_texts<'a>(alloc: Global) -> Result<Command<'a>, AllocError>
+    ensures app { IfOk result (λ c. app_of c ≡ texts) }
+{
+    Command::new(alloc, "fbcheck")
+        .about("Checks a stream of size-prefixed FlatBuffers by a binary schema")
+        .arg(text_arg(
+            alloc,
+            "schema",
+            "FILE",
+            "The binary schema (.bfbs); without one, schema files are checked",
+        ))?
+        .arg(text_arg(
+            alloc,
+            "root",
+            "NAME",
+            "The root table; without one, that of the schema",
+        ))?
+        .arg(text_arg(
+            alloc,
+            "ident",
+            "XXXX",
+            "The file identifier that each buffer must have",
+        ))?
+        .arg(text_arg(
+            alloc,
+            "path",
+            "P",
+            "Prints the value at this path of each good buffer",
+        ))
+}
+
 fn with_numbers<'a>(alloc: Global) -> Result<Command<'a>, AllocError>
     ensures app { IfOk result (λ c. app_of c ≡ numbers) }
 {
-    Command::new(alloc, "fbcheck")
-        .about("Checks a stream of size-prefixed FlatBuffers")
+    with_texts(alloc)?
         .arg(depth_arg(alloc))?
         .arg(tables_arg(alloc))?
         .arg(bytes_arg(alloc))

@@ -4,6 +4,8 @@ ghost use Rattle.std.specs.Prelude.{◌≡◌};
 ghost use Rattle.fbcheck.specs.Faults.{status_of};
 
 use crate::output::Tally;
+use fb_access::PathFault;
+use fb_bfbs::LoadFault;
 use fb_bytes::StreamFault;
 use thiserror::Error;
 
@@ -22,21 +24,32 @@ pub enum RunFault {
     /// N4: after 2^32 reads the input had not ended.
     #[error("too many reads")]
     TooManyTurns,
+    /// N5: the schema file gives no schema. It is never L4, which is told as N7.
+    #[error("schema: {0}")]
+    Load(LoadFault),
+    /// N6: the path isn't one from the root table. It is never P7, which is told as N7.
+    #[error("path: {0}")]
+    Path(PathFault),
     /// N7: memory was refused.
     #[error("out of memory")]
     OutOfMemory,
     /// N8: a bare input has more than `limit` bytes.
     #[error("input longer than {limit} bytes")]
     BareTooLong { limit: u32 },
+    /// N9: the schema has no table of the root's name, or no root was given and the schema file has none.
+    #[error("no root table")]
+    NoRoot,
 }
 
-/// The program's exit status: 0 where every buffer had a yes, 1 where one had a no, 3 after a fault.
+/// The program's exit status: 0 where every buffer had a yes, 1 where one had a no, 2 where there was nothing to check them by, 3 after
+/// any other fault.
 pub fn status(answer: &Result<Tally, RunFault>) -> u8
     ensures { result ≡ status_of answer.now }
 {
     match answer {
         Ok(Tally { no: 0, .. }) => 0,
         Ok(_) => 1,
+        Err(RunFault::Load(_) | RunFault::Path(_) | RunFault::NoRoot) => 2,
         Err(_) => 3,
     }
 }

@@ -1,16 +1,20 @@
 //! The line of a verdict.
 
-ghost use Rattle.std.specs.Prelude.{◌≡◌, ◌+◌, ◌≤◌, ◌++◌, [], length, decimal};
-ghost use Rattle.fbcheck.specs.Line.{field_text, no_end, place_end, reason_text, verdict_line, yes_end};
+ghost use Rattle.std.specs.Prelude.{◌≡◌, ◌+◌, ◌≤◌, ◌++◌, [], length, decimal, option_map};
+ghost use Rattle.fb_access.specs.Denotes.{shown};
+ghost use Rattle.fbcheck.specs.Job.{verdict_of};
+ghost use Rattle.fbcheck.specs.Line.{field_text, no_end, place_end, reason_text, short_ending, short_line, yes_end};
 
+use crate::checker::Found;
+use fb_access::Answer;
 use fb_verify::{Fault, Reason, Report};
 use itoa::{Buffer, write_digits};
 use std::marker::Model;
 
-/// More bytes than the longest line has.
+/// More bytes than the longest line has, but for a value.
 const ROOM: usize = 192;
 
-/// The line of one verdict, written from its end to its front. It takes no memory.
+/// The line of one verdict but for a value, written from its end to its front. It takes no memory.
 #[derive(Drop)]
 pub struct Line {
     room: [u8; ROOM],
@@ -45,13 +49,14 @@ impl Line {
         &self.room[self.start..]
     }
 
-    /// Makes it the line of message number `number`, whatever it was before. It ends with a newline.
-    pub fn set(&mut self, number: u64, verdict: &Result<Report, Fault>)
-        ensures { self.new ≡ verdict_line number verdict.now }
+    /// Makes it the line of message number `number`, whatever it was before. It ends with a newline, and before a value with a
+    /// space.
+    pub fn set(&mut self, number: u64, verdict: &Result<Found<'_>, Fault>)
+        ensures { self.new ≡ short_line number (verdict_of verdict.now) }
     {
         self.clear();
         match verdict {
-            Ok(report) => self.put_yes(report),
+            Ok(found) => self.put_yes(&found.report, short_end(&found.answer)),
             Err(fault) => self.put_no(fault),
         }
         self.put_number(number);
@@ -64,12 +69,13 @@ impl Line {
     }
 
     /// What a yes has behind its number.
-    fn put_yes(&mut self, report: &Report)
+    fn put_yes(&mut self, report: &Report, end: &str)
         requires empty { self.old ≡ [] }
-        ensures text { self.new ≡ yes_end report.now }
+        requires end { length end.now ≤ 1 }
+        ensures text { self.new ≡ yes_end report.now end.now }
         ensures short { length self.new ≤ 150 }
     {
-        self.put_text("\n");
+        self.put_text(end);
         self.put_wide(report.reads);
         self.put_text(" reads=");
         self.put_number(u64::from(report.depth));
@@ -150,6 +156,17 @@ impl Line {
             Some(number) => self.put_number(u64::from(number)),
             None => self.put_text("-"),
         }
+    }
+}
+
+/// What ends a line but for a value.
+fn short_end(answer: &Option<Answer<'_>>) -> &'static str
+    ensures end { result.now ≡ short_ending (option_map shown answer.now) }
+    ensures short { length result.now ≤ 1 }
+{
+    match answer {
+        Some(_) => " ",
+        None => "\n",
     }
 }
 

@@ -1,69 +1,134 @@
-//! `fbcheck` checks FlatBuffers: it reads a stream of size-prefixed buffers, or one bare buffer, from standard input
-//! and writes a line for each to standard output.
+//! `fbcheck` checks FlatBuffers by a binary schema: it reads a stream of size-prefixed buffers, or one bare buffer, from standard input
+//! and writes a line for each to standard output. Without a schema file it checks schema files themselves.
 //!
-//! The words of the command line are read first; help goes to standard output. Faults go to standard error. The exit
-//! status is 0 where every buffer had a yes, 1 where one had a no, 2 for wrong words, and 3 for a fault of the run.
+//! The words of the command line are read first, then the schema file, then the input; help goes to standard output. Faults go to
+//! standard error, and the first ends the program. The exit status is 0 where every buffer had a yes, 1 where one had a no, 2 where the
+//! words, the schema file, the root or the path are wrong, and 3 for every other fault.
 #![tactic(auto)]
 
+mod asked;
 mod bare;
 mod check;
+mod check_laws;
+#[cfg(test)]
+mod check_tests;
 mod checker;
 mod choices;
 mod command;
 mod fault;
 mod front;
 mod line;
+#[cfg(test)]
+mod memory_tests;
 mod options;
 mod output;
 mod reading;
 mod run;
+#[cfg(test)]
+mod schema_files;
+mod stop;
 mod stream;
 #[cfg(test)]
 mod tests;
+mod value_text;
+#[cfg(test)]
+mod value_text_tests;
 mod words;
 #[cfg(test)]
 mod words_tests;
 mod writing;
 
-use check::check_m;
+use check::check;
 use choices::SettingsFault;
 use fault::status;
 use fb_bytes::Counted;
+use std::fs::File;
 use std::io;
+use std::io::{ErrorKind, Read};
 use std::process::ExitCode;
+use stop::Stop;
 use words::settings;
 
-/// The status for wrong words.
-const WRONG_WORDS: u8 = 2;
+/// The most bytes that are read of a schema file; a file that has as many is too long for a buffer.
+const SCHEMA_BYTES: u64 = 0x8000_0000;
 
-/// The status for a fault of the run.
-const FAULT: u8 = 3;
-
-fn main(rt: HostRuntime) -> io::Result<ExitCode> {
-    let alloc = rt.alloc();
-    let Ok(words) = std::env::args(&rt) else {
-        let _ = eprintln!(rt; "fbcheck: a word is not UTF-8");
-        return Ok(ExitCode::from(WRONG_WORDS));
+/// The words of the command line, the program's name first.
+fn read_words(rt: &HostRuntime) -> Result<Vec<String>, Stop> {
+    let words = match std::env::args(rt) {
+        Ok(words) => words,
+        Err(error) => {
+            return Err(match error.kind() {
+                ErrorKind::OutOfMemory => Stop::OutOfMemory,
+                _ => Stop::NotText,
+            });
+        }
     };
-    let Ok(words) = words.collect::<Vec<String>>(alloc) else {
-        let _ = eprintln!(rt; "fbcheck: out of memory");
-        return Ok(ExitCode::from(FAULT));
+    match words.collect::<Vec<String>>(rt.alloc()) {
+        Ok(words) => Ok(words),
+        Err(_) => Err(Stop::OutOfMemory),
+    }
+}
+
+/// The bytes of a schema file, at most [`SCHEMA_BYTES`] of them.
+fn read_file(rt: &HostRuntime, name: &str) -> io::Result<Vec<u8>> {
+    let mut file = File::open(rt, name)?;
+    let mut bytes = Vec::new(rt.alloc());
+    file.by_ref().take(SCHEMA_BYTES).read_to_end(&mut bytes)?;
+    Ok(bytes)
+}
+
+/// The bytes of the schema file, where one is named.
+fn read_schema(rt: &HostRuntime, name: &Option<String>) -> Result<Option<Vec<u8>>, Stop> {
+    let Some(name) = name else {
+        return Ok(None);
+    };
+    match read_file(rt, name.as_str()) {
+        Ok(bytes) => Ok(Some(bytes)),
+        Err(error) => match error.kind() {
+            ErrorKind::OutOfMemory => Err(Stop::OutOfMemory),
+            _ => Err(Stop::Unreadable),
+        },
+    }
+}
+
+/// Reads the words, then the schema file, then the input; answers the exit status.
+fn start(rt: &HostRuntime) -> Result<u8, Stop> {
+    let alloc = rt.alloc();
+    let words = match read_words(rt) {
+        Ok(words) => words,
+        Err(stop) => return Err(stop),
     };
     let settings = match settings(alloc, words.as_slice()) {
         Ok(settings) => settings,
-        Err(fault) => {
-            let _ = match &fault {
-                SettingsFault::Usage(error) => error.print(&rt),
-                SettingsFault::OutOfMemory => eprintln!(rt; "fbcheck: {fault}"),
-            };
-            return Ok(ExitCode::from(fault.status()));
-        }
+        Err(fault) => return Err(Stop::Settings(fault)),
+    };
+    let file = match read_schema(rt, &settings.schema) {
+        Ok(file) => file,
+        Err(stop) => return Err(stop),
+    };
+    let bytes = match &file {
+        Some(bytes) => Some(bytes.as_slice()),
+        None => None,
     };
     let mut reader = Counted::new(rt.stdin());
     let mut writer = Counted::new(rt.stdout());
-    let answer = check_m(alloc, &settings, &mut reader, &mut writer);
+    let answer = check(alloc, bytes, &settings, &mut reader, &mut writer);
     if let Err(fault) = &answer {
         let _ = eprintln!(rt; "fbcheck: {fault}");
     }
-    Ok(ExitCode::from(status(&answer)))
+    Ok(status(&answer))
+}
+
+fn main(rt: HostRuntime) -> io::Result<ExitCode> {
+    let status = match start(&rt) {
+        Ok(status) => status,
+        Err(stop) => {
+            let _ = match &stop {
+                Stop::Settings(SettingsFault::Usage(error)) => error.print(&rt),
+                _ => eprintln!(rt; "fbcheck: {stop}"),
+            };
+            stop.status()
+        }
+    };
+    Ok(ExitCode::from(status))
 }

@@ -1,14 +1,17 @@
 //! What a run is asked.
 
+use fb_access::Path;
 use fb_verify::{Ident, Limits};
 
 /// How the buffers of a run are checked.
-#[derive(Clone, Copy, Debug, PartialEq, Eq)]
+#[derive(Drop)]
 pub struct Options {
     /// The number of the root table's object.
     pub root: u32,
     /// The file identifier that is wanted, if one is.
     pub ident: Ident,
+    /// The path from the root table to the value that each yes line ends with, if one is wanted.
+    pub path: Option<Path>,
     pub limits: Limits,
     /// The longest message, prefix included, or the longest bare input: 8 to 2,147,483,647 bytes.
     pub max_bytes: u32,

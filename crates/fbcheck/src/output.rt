@@ -1,15 +1,20 @@
 //! The lines of a run: gathered, counted, and written together.
 
-ghost use Rattle.std.specs.Prelude.{IfErr, OnOk, OnErr, ◌≡◌, ◌+◌, ◌<◌, ◌≤◌, ◌^◌, [], length};
+ghost use Rattle.std.specs.Prelude.{IfErr, OnOk, OnErr, ◌≡◌, ◌+◌, ◌<◌, ◌≤◌, ◌^◌, ◌++◌, [], length, codes};
 ghost use Rattle.std.specs.Io.KnownBytes.{Appends};
-ghost use Rattle.fbcheck.specs.Job.{job_of};
+ghost use Rattle.fb_access.specs.Denotes.{shown};
+ghost use Rattle.fbcheck.specs.AnswerText.{answer_text};
+ghost use Rattle.fbcheck.specs.Job.{job_of, verdict_of};
+ghost use Rattle.fbcheck.specs.Line.{verdict_line};
 ghost use Rattle.fbcheck.specs.Lines.{AddsLine, WritesFront};
 
-use crate::checker::Checker;
+use crate::checker::{Checker, Found};
 use crate::line::Line;
+use crate::value_text::put_answer;
 use crate::writing::push_all;
+use fb_access::Answer;
 use fb_bytes::Sink;
-use fb_verify::Scratch;
+use fb_verify::{Fault, Scratch};
 use std::alloc::{AllocError, Allocator};
 
 /// How many buffers had a yes, and how many a no.
@@ -26,8 +31,10 @@ pub struct Output<A: Allocator> {
     pub no: u64,
     /// Whole lines that wait.
     pub text: Vec<u8, A>,
-    /// The line that is being made.
+    /// The line that is being made, but for a value.
     line: Line,
+    /// The end of that line: a value and a newline.
+    value: Vec<u8, A>,
     pub written: u128,
 }
 
@@ -44,6 +51,7 @@ impl<'a, A: Allocator> Output<&'a A> {
             no: 0,
             text: Vec::new(alloc),
             line: Line::new(),
+            value: Vec::new(alloc),
             written: 0,
         }
     }
@@ -68,13 +76,50 @@ impl<A: Allocator> Output<A> {
         ensures scratch { scratch.new ≡ scratch.old }
     {
         let verdict = checker.verdict(scratch, message);
-        self.line.set(1 + (self.yes + self.no), &verdict);
-        self.text.extend_from_slice(self.line.bytes())?;
+        self.tell(1 + (self.yes + self.no), &verdict)?;
         match verdict {
             Ok(_) => self.yes += 1,
             Err(_) => self.no += 1,
         }
         Ok(())
+    }
+
+    /// Adds the line of this verdict on message number `number`.
+    fn tell(&mut self, number: u64, verdict: &Result<Found<'_>, Fault>) -> Result<(), AllocError>
+        ensures ok { OnOk result (self.new.text.items ≡ self.old.text.items ++ verdict_line number (verdict_of verdict.now)) }
+        ensures err_text { OnErr result (self.new.text.items ≡ self.old.text.items) }
+        ensures yes { self.new.yes ≡ self.old.yes }
+        ensures no { self.new.no ≡ self.old.no }
+        ensures written { self.new.written ≡ self.old.written }
+    {
+        self.line.set(number, verdict);
+        match verdict {
+            Ok(found) => match &found.answer {
+                Some(value) => self.add_value(value),
+                None => self.text.extend_from_slice(self.line.bytes()),
+            },
+            Err(_) => self.text.extend_from_slice(self.line.bytes()),
+        }
+    }
+
+    /// Adds the line that was made, with a value at its end.
+    fn add_value(&mut self, answer: &Answer<'_>) -> Result<(), AllocError>
+        ensures ok { OnOk result (self.new.text.items ≡ self.old.text.items ++ (self.old.line ++ (answer_text (shown answer.now) ++ codes "\n"))) }
+        ensures err_text { OnErr result (self.new.text.items ≡ self.old.text.items) }
+        ensures yes { self.new.yes ≡ self.old.yes }
+        ensures no { self.new.no ≡ self.old.no }
+        ensures written { self.new.written ≡ self.old.written }
+    {
+        self.value.clear();
+        put_answer(&mut self.value, answer)?;
+        self.value.extend_from_slice(b"\n")?;
+        let before = self.text.len();
+        self.text.extend_from_slice(self.line.bytes())?;
+        let whole = self.text.extend_from_slice(self.value.as_slice());
+        if whole.is_err() {
+            self.text.truncate(before);
+        }
+        whole
     }
 
     /// Writes the lines that wait. On `Err` the writer has failed, and `written` says how many bytes it took in all.

@@ -3,7 +3,7 @@
 ghost use Rattle.std.specs.Prelude.{IfOk, IfErr, OnOk, IsTrue, ◌≡◌, ◌+◌, ◌-◌, ◌<◌, ◌≤◌, ◌^◌, true};
 ghost use Rattle.fb_schema.specs.Rows.{is_table};
 ghost use Rattle.fbcheck.specs.Faults.{IsCaused};
-ghost use Rattle.fbcheck.specs.Job.{job_of};
+ghost use Rattle.fbcheck.specs.Job.{PathFits, job_of};
 ghost use Rattle.fbcheck.specs.Run.{Fails, Passes};
 
 use crate::bare::run_bare;
@@ -17,7 +17,8 @@ use fb_bytes::{Sink, Source};
 use fb_schema::Schema;
 use std::alloc::Allocator;
 
-/// Checks the buffers of an input by a schema, and writes a line for each, with at most `turns` reads.
+/// Checks the buffers of an input by a schema, and writes a line for each, with at most `turns` reads. Where the options have a path, the
+/// line of a yes ends with the value there.
 ///
 /// The input is a stream of size-prefixed buffers (FlatBuffers Internals), or with `bare` of the options one bare buffer. The lines
 /// of all messages that are whole are written before the next read, and before any answer.
@@ -30,6 +31,7 @@ use std::alloc::Allocator;
 /// - `WriteFault` where the writer failed or took nothing: it took `written` bytes, a front of the lines.
 /// - `OutOfMemory` where memory was refused: the lines of the first messages are written, of a bare input nothing.
 /// - `BareTooLong` where more than `max_bytes` bytes of a bare input were read: nothing is written.
+#[tactic(auto, using(crate::proofs::FitLemmas::path_passes))]
 pub fn run_within<A: Allocator, S: Source, K: Sink>(
     alloc: A,
     reader: &mut S,
@@ -39,6 +41,7 @@ pub fn run_within<A: Allocator, S: Source, K: Sink>(
     turns: u64,
 ) -> Result<Tally, RunFault>
     requires table { IsTrue (is_table schema.now options.now.root) }
+    requires path { PathFits schema.now options.now.root options.now.path }
     requires least { 8 ≤ options.now.max_bytes }
     requires most { options.now.max_bytes < 2 ^ 31 }
     requires turns { turns ≤ MOST_TURNS }
@@ -74,6 +77,7 @@ pub fn run<A: Allocator, S: Source, K: Sink>(
     options: &Options,
 ) -> Result<Tally, RunFault>
     requires table { IsTrue (is_table schema.now options.now.root) }
+    requires path { PathFits schema.now options.now.root options.now.path }
     requires least { 8 ≤ options.now.max_bytes }
     requires most { options.now.max_bytes < 2 ^ 31 }
     requires reads { S.calls reader.old < 2 ^ 64 }

@@ -131,7 +131,7 @@ fn pass_some<A: Allocator>(
     feed_some(checker, scratch, framer, piece, at, output)
 }
 
-/// Passes a whole piece, and adds the lines of the messages that end in it.
+/// Feeds a whole piece, and adds the lines of the messages that end in it.
 fn use_up<A: Allocator>(
     checker: &Checker<'_, '_>,
     scratch: &mut Scratch<A>,

@@ -1,14 +1,15 @@
 //! Whole runs over buffers that are known by hand, and over readers and writers that fail.
 
-ghost use Rattle.std.specs.Prelude.{◌≡◌};
+ghost use Rattle.std.specs.Prelude.{◌≡◌, None};
 
-use crate::check::check_m;
+use crate::check::check;
 use crate::choices::Settings;
 use crate::fault::{RunFault, status};
 use crate::options::Options;
 use crate::output::Tally;
 use crate::reading::MOST_TURNS;
 use crate::run::run_within;
+use crate::schema_files::schema_m;
 use fb_bytes::{Counted, Source, StreamFault};
 use fb_schema::{FieldRow, ObjectRow, Schema, TypeRow};
 use fb_verify::{Ident, Limits};
@@ -27,7 +28,7 @@ static ORC: [u8; 32] = [
 static BLANK: [u8; 12] = [8, 0, 0, 0, 4, 0, 4, 0, 4, 0, 0, 0];
 
 /// By N, size-prefixed: `v` is 7.
-static SEVEN: [u8; 32] = [
+pub static SEVEN: [u8; 32] = [
     28, 0, 0, 0, 16, 0, 0, 0, 6, 0, 12, 0, 4, 0, 0, 0, 0, 0, 0, 0, 12, 0, 0, 0, 7, 0, 0, 0, 0, 0,
     0, 0,
 ];
@@ -38,14 +39,21 @@ static FIRST_LINE: &str = "1 ok tables=1 depth=1 reads=5\n";
 /// The lines of `SEVEN` twice.
 static TWO_LINES: &str = "1 ok tables=1 depth=1 reads=5\n2 ok tables=1 depth=1 reads=5\n";
 
-static PUBLISHED: Settings = Settings {
-    depth: 64,
-    tables: 1_000_000,
-    max_bytes: 67_108_864,
-    bare: true,
-    alignment: true,
-    inline_size: false,
-};
+/// The settings of `--bare` and no other words.
+fn published() -> Settings {
+    Settings {
+        schema: None,
+        root: None,
+        ident: None,
+        path: None,
+        depth: 64,
+        tables: 1_000_000,
+        max_bytes: 67_108_864,
+        bare: true,
+        alignment: true,
+        inline_size: false,
+    }
+}
 
 /// A buffer with one byte changed.
 fn with_byte(bytes: [u8; 32], at: usize, byte: u8) -> [u8; 32] {
@@ -94,18 +102,20 @@ fn one_field(alloc: Global, base: i8, required: bool) -> Result<Schema<'static>,
 }
 
 /// `table N { v: long; }`.
-fn schema_n(alloc: Global) -> Result<Schema<'static>, Fail> {
+pub fn schema_n(alloc: Global) -> Result<Schema<'static>, Fail> {
     one_field(alloc, 9, false)
 }
 
 /// A stream of messages of at most so many bytes, under the published limits.
-fn stream_options(max_bytes: u32) -> Options
+pub fn stream_options(max_bytes: u32) -> Options
     ensures root { result.root ≡ 0 }
     ensures max_bytes { result.max_bytes ≡ max_bytes }
+    ensures path { result.path ≡ None }
 {
     Options {
         root: 0,
         ident: Ident::Any,
+        path: None,
         limits: Limits::published(),
         max_bytes,
         bare: false,
@@ -116,11 +126,11 @@ fn stream_options(max_bytes: u32) -> Options
 
 /// A reader of pieces of a given size, which fails at a given call, counted from 1.
 #[derive(Drop)]
-struct Slow<'a> {
-    rest: &'a [u8],
-    most: usize,
-    calls: u64,
-    fails_at: u64,
+pub struct Slow<'a> {
+    pub rest: &'a [u8],
+    pub most: usize,
+    pub calls: u64,
+    pub fails_at: u64,
 }
 
 impl Read for Slow<'_> {
@@ -153,17 +163,17 @@ impl Read for Zeros {
 
 /// What a writer does once it has no room.
 #[derive(Clone, Copy, Debug, Drop)]
-enum Full {
+pub enum Full {
     TakesNothing,
     Fails,
 }
 
 /// A writer of one byte at a call, with room for so many.
 #[derive(Drop)]
-struct Narrow {
-    taken: Vec<u8>,
-    room: usize,
-    full: Full,
+pub struct Narrow {
+    pub taken: Vec<u8>,
+    pub room: usize,
+    pub full: Full,
 }
 
 impl Write for Narrow {
@@ -194,56 +204,50 @@ fn a_bare_buffer_gets_its_line(rt: HostRuntime) -> Result<(), Fail> {
     let zero_offset = with_byte(ORC, 16, 0);
     let short_table = with_byte(ORC, 6, 9);
     let nothing: [u8; 0] = [];
+    let file = schema_m(rt.alloc())?;
+    let plain = published();
     let no_tables = Settings {
         tables: 0,
-        ..PUBLISHED
+        ..published()
     };
     let no_depth = Settings {
         depth: 0,
-        ..PUBLISHED
+        ..published()
     };
     let nothing_allowed = Settings {
         depth: 0,
         tables: 0,
-        ..PUBLISHED
+        ..published()
     };
     let inline_size = Settings {
         inline_size: true,
-        ..PUBLISHED
+        ..published()
     };
     let rows = [
+        (&plain, ORC.as_slice(), "1 ok tables=1 depth=1 reads=8\n"),
+        (&plain, BLANK.as_slice(), "1 ok tables=1 depth=1 reads=3\n"),
         (
-            &PUBLISHED,
-            ORC.as_slice(),
-            "1 ok tables=1 depth=1 reads=8\n",
-        ),
-        (
-            &PUBLISHED,
-            BLANK.as_slice(),
-            "1 ok tables=1 depth=1 reads=3\n",
-        ),
-        (
-            &PUBLISHED,
+            &plain,
             nothing.as_slice(),
             "1 bad V2 OutOfBuffer at=0 object=0 field=- reads=0\n",
         ),
         (
-            &PUBLISHED,
+            &plain,
             unterminated.as_slice(),
             "1 bad V10 NoTerminator at=31 object=0 field=1 reads=8\n",
         ),
         (
-            &PUBLISHED,
+            &plain,
             &ORC[..31],
             "1 bad V2 OutOfBuffer at=28 object=0 field=1 reads=7\n",
         ),
         (
-            &PUBLISHED,
+            &plain,
             endless.as_slice(),
             "1 bad V2 OutOfBuffer at=28 object=0 field=1 reads=7\n",
         ),
         (
-            &PUBLISHED,
+            &plain,
             zero_offset.as_slice(),
             "1 bad V4 ZeroOffset at=16 object=0 field=1 reads=6\n",
         ),
@@ -273,7 +277,7 @@ fn a_bare_buffer_gets_its_line(rt: HostRuntime) -> Result<(), Fail> {
             "1 bad V12 PastTable at=20 object=0 field=0 reads=5\n",
         ),
         (
-            &PUBLISHED,
+            &plain,
             short_table.as_slice(),
             "1 ok tables=1 depth=1 reads=8\n",
         ),
@@ -282,7 +286,13 @@ fn a_bare_buffer_gets_its_line(rt: HostRuntime) -> Result<(), Fail> {
         let mut reader = Counted::new(bytes);
         let mut writer = Counted::new(Vec::new(rt.alloc()));
         assert!(rt; settings.depth <= 4096 && settings.max_bytes == 67_108_864);
-        let answer = check_m(rt.alloc(), settings, &mut reader, &mut writer);
+        let answer = check(
+            rt.alloc(),
+            Some(file.as_slice()),
+            settings,
+            &mut reader,
+            &mut writer,
+        );
         let no = u64::from(!line.starts_with("1 ok"));
         assert_eq!(rt; answer, Ok(Tally { yes: 1 - no, no }), "{line}");
         assert_eq!(rt; writer.get_ref().as_slice(), line.as_bytes(), "{line}");
@@ -524,21 +534,19 @@ fn a_narrow_writer_is_told_by_what_it_took(rt: HostRuntime) -> Result<(), Fail> 
 fn a_run_ends_after_its_turns(rt: HostRuntime) -> Result<(), Fail> {
     let schema = schema_n(rt.alloc())?;
     assert!(rt; schema.is_table(0));
-    let stream = stream_options(64);
-    let bare = Options {
-        bare: true,
-        ..stream_options(8)
-    };
     let two =
         "1 bad V2 OutOfBuffer at=4 object=0 field=- reads=1\n2 bad V2 OutOfBuffer at=4 object=0 field=- reads=1\n";
-    for (options, turns, want, lines, reads) in [
-        (&stream, 9, RunFault::TooManyTurns, two, 9),
-        (&stream, 0, RunFault::TooManyTurns, "", 0),
-        (&bare, 100, RunFault::BareTooLong { limit: 8 }, "", 9),
-        (&bare, 3, RunFault::TooManyTurns, "", 3),
+    for (bare, max_bytes, turns, want, lines, reads) in [
+        (false, 64, 9, RunFault::TooManyTurns, two, 9),
+        (false, 64, 0, RunFault::TooManyTurns, "", 0),
+        (true, 8, 100, RunFault::BareTooLong { limit: 8 }, "", 9),
+        (true, 8, 3, RunFault::TooManyTurns, "", 3),
     ] {
-        assert!(rt; options.root == 0 && options.max_bytes >= 8 && options.max_bytes <= 64);
-        assert!(rt; turns <= MOST_TURNS);
+        assert!(rt; max_bytes >= 8 && max_bytes <= 64 && turns <= MOST_TURNS);
+        let options = Options {
+            bare,
+            ..stream_options(max_bytes)
+        };
         let mut reader = Counted::new(Zeros);
         let mut writer = Counted::new(Vec::new(rt.alloc()));
         let answer = run_within(
@@ -546,7 +554,7 @@ fn a_run_ends_after_its_turns(rt: HostRuntime) -> Result<(), Fail> {
             &mut reader,
             &mut writer,
             &schema,
-            options,
+            &options,
             turns,
         );
         assert_eq!(rt; answer, Err(want), "{turns} turns");

@@ -1,22 +1,31 @@
-ghost use Rattle.std.specs.Prelude.{IfOk, IfErr, OnOk, IsTrue, ◌≡◌, ◌≤◌, ◌↔◌, List, map, string_bytes, [], Some, codes, false};
+ghost use Rattle.std.specs.Prelude.{IfOk, IfErr, IfSome, OnOk, OnErr, ℕ, ◌≢◌, length, option_map, IsTrue, ◌≡◌, ◌≤◌, ◌↔◌, List, map, string_bytes, [], Some, codes, false};
 ghost use Rattle.clap.specs.Faults.{fault_of};
 ghost use Rattle.clap.specs.Words.{first_value, found_of, one_text};
 ghost use Rattle.fbcheck.specs.CommandLine.{program};
-ghost use Rattle.fbcheck.specs.Values.{IsNumberOf, IsGiven, HoldsNumber, IsWrittenIn};
+ghost use Rattle.fbcheck.specs.Values.{IsNumberOf, IsGiven, HoldsNumber, IsWrittenIn, text_of};
 ghost use Rattle.fbcheck.specs.Refusal.{Refuses};
 
 use crate::choices::{Settings, SettingsFault};
 use crate::command::command;
 use clap::ArgMatches;
 use clap::error::ErrorKind;
-use std::alloc::Global;
+use std::alloc::{AllocError, Global};
 
 /// What the words ask for, the program's name first.
 ///
-/// G1 where `clap` refuses them, help included, and G3 for want of memory.
+/// # Errors
+///
+/// G1 where `clap` refuses them, help included, G2 where it reads them and the identifier isn't four bytes long, and G3 for want
+/// of memory.
 pub fn settings(alloc: Global, words: &[String]) -> Result<Settings, SettingsFault>
     ensures read { OnOk result (fault_of program (map string_bytes words.now) ≡ []) }
     ensures refused { IfErr result (Refuses (map string_bytes words.now)) }
+
+    ensures schema { IfOk result (λ s. option_map string_bytes s.schema ≡ text_of (codes "schema") (map string_bytes words.now)) }
+    ensures root { IfOk result (λ s. option_map string_bytes s.root ≡ text_of (codes "root") (map string_bytes words.now)) }
+    ensures ident { IfOk result (λ s. s.ident ≡ text_of (codes "ident") (map string_bytes words.now)) }
+    ensures four { IfOk result (λ s. IfSome s.ident (λ bytes. length bytes ≡ 4)) }
+    ensures path { IfOk result (λ s. option_map string_bytes s.path ≡ text_of (codes "path") (map string_bytes words.now)) }
 
     ensures depth { IfOk result (λ s. IsNumberOf (codes "max-depth") 0 4096 (map string_bytes words.now) s.depth) }
     ensures tables { IfOk result (λ s. IsNumberOf (codes "max-tables") 0 4294967295 (map string_bytes words.now) s.tables) }
@@ -38,6 +47,18 @@ pub fn settings(alloc: Global, words: &[String]) -> Result<Settings, SettingsFau
             });
         }
     };
+    let Ok(ident) = identifier(&matches) else {
+        return Err(SettingsFault::BadIdent);
+    };
+    let Ok(schema) = copied(alloc, &matches, "schema") else {
+        return Err(SettingsFault::OutOfMemory);
+    };
+    let Ok(root) = copied(alloc, &matches, "root") else {
+        return Err(SettingsFault::OutOfMemory);
+    };
+    let Ok(path) = copied(alloc, &matches, "path") else {
+        return Err(SettingsFault::OutOfMemory);
+    };
     let depth = number(&matches, "max-depth", 0, 4096);
     let tables = number(&matches, "max-tables", 0, u32::MAX);
     let max_bytes = number(&matches, "max-bytes", 8, 2_147_483_647);
@@ -45,6 +66,10 @@ pub fn settings(alloc: Global, words: &[String]) -> Result<Settings, SettingsFau
     let alignment = !flag(&matches, "no-alignment");
     let inline_size = flag(&matches, "inline-size");
     Ok(Settings {
+        schema,
+        root,
+        ident,
+        path,
         depth,
         tables,
         max_bytes,
@@ -52,6 +77,35 @@ pub fn settings(alloc: Global, words: &[String]) -> Result<Settings, SettingsFau
         alignment,
         inline_size,
     })
+}
+
+/// The text of `--ident` isn't four bytes long.
+#[derive(Clone, Copy)]
+struct NotFour;
+
+/// The identifier that the matches hold.
+fn identifier(matches: &ArgMatches<'_>) -> Result<Option<[u8; 4]>, NotFour>
+    ensures ok { IfOk result (λ i. i ≡ first_value (found_of matches.now) (codes "ident")) }
+    ensures four { IfOk result (λ i. IfSome i (λ bytes. length bytes ≡ 4)) }
+    ensures err { OnErr result ((t : List ℕ) × (first_value (found_of matches.now) (codes "ident") ≡ Some t) × (length t ≢ 4)) }
+{
+    match matches.get_str("ident") {
+        Some(text) => match <[u8; 4]>::try_from(text.as_bytes()) {
+            Ok(bytes) => Ok(Some(bytes)),
+            Err(_) => Err(NotFour),
+        },
+        None => Ok(None),
+    }
+}
+
+/// A copy of the text that the matches hold for an option.
+fn copied(alloc: Global, matches: &ArgMatches<'_>, id: &str) -> Result<Option<String>, AllocError>
+    ensures { IfOk result (λ s. option_map string_bytes s ≡ first_value (found_of matches.now) id.now) }
+{
+    match matches.get_str(id) {
+        Some(text) => Ok(Some(String::from_str(alloc, text)?)),
+        None => Ok(None),
+    }
 }
 
 /// The number that the matches hold for an option.

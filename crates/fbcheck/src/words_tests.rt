@@ -4,7 +4,7 @@ use std::alloc::{AllocError, Global};
 use std::test::Fail;
 
 /// The settings of the program's name and these words.
-fn given(alloc: Global, words: &[&str]) -> Result<Settings, SettingsFault> {
+pub fn given(alloc: Global, words: &[&str]) -> Result<Settings, SettingsFault> {
     match with_name(alloc, words) {
         Ok(all) => settings(alloc, all.as_slice()),
         Err(_) => Err(SettingsFault::OutOfMemory),
@@ -82,7 +82,8 @@ fn wrong_words_are_refused(rt: HostRuntime) -> Result<(), Fail> {
         ["--max-depth"].as_slice(),
         ["--max-depth", "seven"].as_slice(),
         ["--bare", "--bare"].as_slice(),
-        ["--path", "name"].as_slice(),
+        ["--schema"].as_slice(),
+        ["--path", "name", "--path", "hp"].as_slice(),
         ["stray"].as_slice(),
     ] {
         let answer = given(rt.alloc(), words);
@@ -100,5 +101,43 @@ fn help_is_no_mistake(rt: HostRuntime) -> Result<(), Fail> {
         assert_eq!(rt; fault.status(), 0);
     }
     assert_eq!(rt; SettingsFault::OutOfMemory.status(), 3);
+    Ok(())
+}
+
+#[test]
+fn texts_are_read(rt: HostRuntime) -> Result<(), Fail> {
+    let plain = given(rt.alloc(), [].as_slice()).ok().ok_or("plain")?;
+    assert!(rt; plain.schema.is_none() && plain.root.is_none());
+    assert!(rt; plain.ident.is_none() && plain.path.is_none());
+    let words = [
+        "--schema",
+        "monster.bfbs",
+        "--root=M",
+        "--ident",
+        "MONS",
+        "--path",
+        "name",
+    ];
+    let full = given(rt.alloc(), words.as_slice()).ok().ok_or("full")?;
+    assert_eq!(rt; full.schema.as_deref(), Some("monster.bfbs"));
+    assert_eq!(rt; full.root.as_deref(), Some("M"));
+    assert_eq!(rt; full.ident, Some(*b"MONS"));
+    assert_eq!(rt; full.path.as_deref(), Some("name"));
+    Ok(())
+}
+
+#[test]
+fn an_identifier_is_four_bytes_long(rt: HostRuntime) -> Result<(), Fail> {
+    for ident in ["ABC", "ABCDE", ""] {
+        let fault = given(rt.alloc(), ["--ident", ident].as_slice())
+            .err()
+            .ok_or("read")?;
+        assert!(rt; matches!(&fault, SettingsFault::BadIdent), "{ident}");
+        assert_eq!(rt; fault.status(), 2);
+        assert_eq!(rt;
+            format!(in rt.alloc(); "{fault}")?.as_str(),
+            "ident must be four bytes"
+        );
+    }
     Ok(())
 }

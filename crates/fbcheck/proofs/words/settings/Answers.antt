@@ -1,8 +1,9 @@
-use Rattle.std.proofs.Common.{codes, subst, Option, refl, arith, [], IsTrue, ◌↔◌, ◌≡◌, Some}
+use Rattle.std.proofs.Common.{rules, sym, ◌∙◌, codes, subst, Option, refl, arith, [], IsTrue, ◌↔◌, ◌≡◌, Some}
 use Rattle.clap.specs.Walk.{Text}
 use Rattle.fbcheck.specs.Values.{IsWrittenIn}
+use Rattle.fbcheck.proofs.words.settings.Goals.{in-OutOfMemory+in-Some-1, in-OutOfMemory+in-None-1, in_default-kind}
 use Rattle.fbcheck.proofs.ProgramLemmas.{differs, holds_number}
-use Rattle.fbcheck.proofs.WordsLemmas.{no_fault, text_of_words, read_of_words, turned}
+use Rattle.fbcheck.proofs.WordsLemmas.{no_fault, refused_by, text_of_words, read_of_words, turned}
 use Rattle.fbcheck.proofs.words.settings.Goals as goal
 
 pub returns-clause-read : goal.returns-clause-read
@@ -11,19 +12,19 @@ returns-clause-read c = no_fault _ _ c.in-Ok.ensures.app c.in-Ok-try_get_matches
 pub number-depth-requires : goal.number-depth-requires
 number-depth-requires c =
     let name = codes "max-depth" in
-    holds_number _ _ c.in-Ok.ensures.app c.in-Ok-try_get_matches_from.ensures.parsed 0 0 4096 name (codes "64") (omega arith) (λ d. refl) refl
+    holds_number _ _ c.in-Ok.ensures.app c.in-Ok-try_get_matches_from.ensures.parsed 4 0 4096 name (codes "64") (omega arith) (λ d. refl) refl
     (differs name [] refl) (differs name (codes "help") refl) (differs name (codes "version") refl)
 
 pub number-tables-requires : goal.number-tables-requires
 number-tables-requires c =
     let name = codes "max-tables" in
-    holds_number _ _ c.in-Ok.ensures.app c.in-Ok-try_get_matches_from.ensures.parsed 1 0 4294967295 name (codes "1000000") (omega arith) (λ d. refl) refl
+    holds_number _ _ c.in-Ok.ensures.app c.in-Ok-try_get_matches_from.ensures.parsed 5 0 4294967295 name (codes "1000000") (omega arith) (λ d. refl) refl
     (differs name [] refl) (differs name (codes "help") refl) (differs name (codes "version") refl)
 
 pub number-max_bytes-requires : goal.number-max_bytes-requires
 number-max_bytes-requires c =
     let name = codes "max-bytes" in
-    holds_number _ _ c.in-Ok.ensures.app c.in-Ok-try_get_matches_from.ensures.parsed 2 8 2147483647 name (codes "67108864") (omega arith) (λ d. refl) refl
+    holds_number _ _ c.in-Ok.ensures.app c.in-Ok-try_get_matches_from.ensures.parsed 6 8 2147483647 name (codes "67108864") (omega arith) (λ d. refl) refl
     (differs name [] refl) (differs name (codes "help") refl) (differs name (codes "version") refl)
 
 pub returns-clause-depth : goal.returns-clause-depth
@@ -52,3 +53,35 @@ returns-clause-alignment c = turned c.flag-alignment.result _ (subst (λ (o : Op
 pub returns-clause-inline_size : goal.returns-clause-inline_size
 returns-clause-inline_size c = subst (λ (o : Option Text). IsTrue c.flag-inline_size.result ↔ (o ≡ Some (codes "true")))
     (text_of_words _ _ _ (codes "inline-size") c.in-Ok.ensures.app c.in-Ok-try_get_matches_from.ensures.matches) c.flag-inline_size.ensures
+
+pub returns-clause-schema : goal.returns-clause-schema
+returns-clause-schema c = c.in-Ok-copied.ensures ∙ text_of_words _ _ _ (codes "schema") c.in-Ok.ensures.app c.in-Ok-try_get_matches_from.ensures.matches
+
+pub returns-clause-root : goal.returns-clause-root
+returns-clause-root c = c.in-Ok-copied-2.ensures ∙ text_of_words _ _ _ (codes "root") c.in-Ok.ensures.app c.in-Ok-try_get_matches_from.ensures.matches
+
+pub returns-clause-path : goal.returns-clause-path
+returns-clause-path c = c.in-Ok-copied-3.ensures ∙ text_of_words _ _ _ (codes "path") c.in-Ok.ensures.app c.in-Ok-try_get_matches_from.ensures.matches
+
+pub returns-in-Err-clause-refused : goal.returns-in-Err-clause-refused
+returns-in-Err-clause-refused c = elim c.match-kind.branch [
+  | in-OutOfMemory+in-Some-1 w ↦ rw w.result-is tt
+  | in-OutOfMemory+in-None-1 w ↦ rw w.result-is tt
+  | in_default-kind w ↦
+      let fault = refused_by _ _ c.in-Err.error c.in-Ok.ensures.app c.in-Err.ensures.kinds in
+      rw w.result-is (search rules, fault)
+]
+
+pub returns-in_default-identifier-clause-refused : goal.returns-in_default-identifier-clause-refused
+returns-in_default-identifier-clause-refused c =
+    let wrong = c.in_default-identifier.ensures.err in (
+      no_fault _ _ c.in-Ok.ensures.app c.in-Ok-try_get_matches_from.ensures.kinds,
+      (
+        wrong.0,
+        sym (text_of_words _ _ _ (codes "ident") c.in-Ok.ensures.app c.in-Ok-try_get_matches_from.ensures.matches) ∙ wrong.1,
+        wrong.2,
+      ),
+    )
+
+pub returns-clause-ident : goal.returns-clause-ident
+returns-clause-ident c = c.in-Ok-identifier.ensures.ok ∙ text_of_words _ _ _ (codes "ident") c.in-Ok.ensures.app c.in-Ok-try_get_matches_from.ensures.matches

@@ -1,0 +1,98 @@
+-- What the settings ask of a run by a schema that has a root table of its own, or none.
+use Rattle.std.specs.Prelude.{◌≡◌, ℕ, ◌⊎◌, List, Option, Some, None, option_map, string_bytes}
+use Rattle.std.specs.Io.KnownBytes.{Keeps}
+use Rattle.fb_schema.specs.Rows.{Rows}
+use Rattle.fb_bfbs.specs.Describes.{table_named}
+use Rattle.fb_access.specs.declared.step.Step.{Step}
+use Rattle.fb_access.specs.declared.path_fault.PathFault.{PathFault}
+use Rattle.fb_access.specs.Resolving.{Resolves, IsFault}
+use Rattle.fb_verify.specs.declared.start.Ident.{Ident}
+use Rattle.fb_verify.specs.declared.start.Ident.TheVariants.{Any, Want}
+use Rattle.fbcheck.specs.Job.{Job, job_of}
+use Rattle.fbcheck.specs.Run.{Fails, Passes}
+use Rattle.fbcheck.specs.declared.choices.Settings.{Settings}
+use Rattle.fbcheck.specs.declared.options.Options.{Options}
+use Rattle.fbcheck.specs.declared.fault.RunFault.{RunFault}
+use Rattle.fbcheck.specs.declared.fault.RunFault.TheVariants.{Load, Path, NoRoot, OutOfMemory}
+
+-- the root table: the listed one of the name that is asked for, or else the schema's own
+abbrev pub root_of : Rows → Option (List ℕ) → Option ℕ → Option ℕ
+root_of rows None own = own
+root_of rows (Some name) own = table_named rows name
+
+-- the root table that the settings ask for
+abbrev pub asked_root : Rows → Option ℕ → Settings → Option ℕ
+asked_root rows own settings = root_of rows (option_map string_bytes settings.root) own
+
+-- the steps from the root that a text names, where there is one
+abbrev pub IsPath : Rows → ℕ → Option (List ℕ) → Option (List Step) → Type 0
+IsPath rows root None None = Unit {0}
+IsPath rows root (Some text) (Some steps) = Resolves rows root text steps
+IsPath rows root _ _ = ⊥
+
+-- the text has this fault as a path from the root
+abbrev pub IsPathFault : Rows → ℕ → Option (List ℕ) → PathFault → Type 0
+IsPathFault rows root None fault = ⊥
+IsPathFault rows root (Some text) fault = IsFault rows root text fault
+
+-- the identifier that is asked for
+abbrev pub ident_of : Option (List ℕ) → Ident
+ident_of None = Any
+ident_of (Some bytes) = Want bytes
+
+-- what the settings ask of each buffer, from this root and with these steps to the value
+abbrev pub options_of : Settings → ℕ → Option (List Step) → Options
+options_of settings root steps = record {
+  root = root;
+  ident = ident_of settings.ident;
+  path = steps;
+  limits = record { depth = settings.depth; tables = settings.tables };
+  max_bytes = settings.max_bytes;
+  bare = settings.bare;
+  alignment = settings.alignment;
+  inline_size = settings.inline_size;
+}
+
+-- the buffers are checked from the root and with the path that the settings ask for
+pub record IsAsked (rows : Rows) (own : Option ℕ) (settings : Settings) (job : Job) : Type 0 where
+  pub root : ℕ
+  pub root_is : asked_root rows own settings ≡ Some root
+  pub steps : Option (List Step)
+  pub steps_are : IsPath rows root (option_map string_bytes settings.path) steps
+  pub job_is : job ≡ job_of rows (options_of settings root steps)
+
+-- what was read and written where such a run came to its end, with so many yes and no
+abbrev pub PassesAsked : Rows → Option ℕ → Settings → Option (List ℕ) → Option (List ℕ) → Option (List ℕ) → Option (List ℕ) → ℕ → ℕ → Type 0
+PassesAsked rows own settings source source' sink sink' good bad =
+    (job : Job) × IsAsked rows own settings job × Passes settings.bare job settings.max_bytes source source' sink sink' good bad
+
+-- the path that the settings ask for has this fault from the root
+abbrev pub HasPathFault : Rows → Option ℕ → Settings → PathFault → Type 0
+HasPathFault rows own settings fault =
+    (root : ℕ) × (asked_root rows own settings ≡ Some root) × IsPathFault rows root (option_map string_bytes settings.path) fault
+
+-- a run that was under way came to rest with this fault
+abbrev pub RunFails : Rows → Option ℕ → Settings → Option (List ℕ) → Option (List ℕ) → Option (List ℕ) → Option (List ℕ) → RunFault → Type 0
+RunFails rows own settings source source' sink sink' fault =
+    (job : Job) × IsAsked rows own settings job × Fails settings.bare job settings.max_bytes source source' sink sink' fault
+
+-- why such a run came to rest: there is no root, the path isn't one from there, memory was refused before it began, or it was under way
+abbrev pub FailsAsked : Rows → Option ℕ → Settings → Option (List ℕ) → Option (List ℕ) → Option (List ℕ) → Option (List ℕ) → RunFault → Type 0
+FailsAsked rows own settings source source' sink sink' NoRoot = asked_root rows own settings ≡ None
+FailsAsked rows own settings source source' sink sink' (Load fault) = ⊥
+FailsAsked rows own settings source source' sink sink' (Path fault) = HasPathFault rows own settings fault
+FailsAsked rows own settings source source' sink sink' OutOfMemory = (Keeps source source' × Keeps sink sink') ⊎ RunFails rows own settings source source' sink sink' OutOfMemory
+FailsAsked rows own settings source source' sink sink' fault = RunFails rows own settings source source' sink sink' fault
+
+-- there was nothing to check the buffers by
+abbrev pub IsRefusal : RunFault → Type 0
+IsRefusal (Load fault) = Unit {0}
+IsRefusal NoRoot = Unit {0}
+IsRefusal (Path fault) = Unit {0}
+IsRefusal _ = ⊥
+
+-- why a text gives no path
+abbrev pub PathFails : Rows → ℕ → Option (List ℕ) → RunFault → Type 0
+PathFails rows root text (Path fault) = IsPathFault rows root text fault
+PathFails rows root text OutOfMemory = Unit {0}
+PathFails rows root text _ = ⊥

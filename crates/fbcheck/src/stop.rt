@@ -1,0 +1,33 @@
+//! Why the program comes to rest before a run.
+
+use crate::choices::SettingsFault;
+use thiserror::Error;
+
+/// Why the program comes to rest before a run.
+#[derive(Debug, Drop, Error)]
+pub enum Stop {
+    /// A word of the command line isn't a text.
+    #[error("a word is not UTF-8")]
+    NotText,
+    /// G1, G2 or G3: the words give no settings.
+    #[error(transparent)]
+    Settings(SettingsFault),
+    /// The schema file can't be read.
+    #[error("cannot read schema")]
+    Unreadable,
+    /// Memory was refused.
+    #[error("out of memory")]
+    OutOfMemory,
+}
+
+impl Stop {
+    /// The program's exit status: 2 for wrong words and for a schema file that can't be read, 0 where the words ask for help, 3 for
+    /// want of memory.
+    pub fn status(&self) -> u8 {
+        match self {
+            Stop::NotText | Stop::Unreadable => 2,
+            Stop::Settings(fault) => fault.status(),
+            Stop::OutOfMemory => 3,
+        }
+    }
+}

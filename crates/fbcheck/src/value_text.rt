@@ -1,0 +1,108 @@
+//! The text of a value at the end of a path.
+
+ghost use Rattle.std.specs.Prelude.{OnOk, ◌≡◌, ◌++◌, length};
+ghost use Rattle.std.specs.List.{flat_map};
+ghost use Rattle.hex.specs.Hex.{encode_lower};
+ghost use Rattle.fb_access.specs.Denotes.{shown};
+ghost use Rattle.fbcheck.specs.AnswerText.{answer_text, byte_text, quoted};
+
+use fb_access::Answer;
+use itoa::{Buffer, Integer};
+use std::alloc::{AllocError, Allocator};
+
+/// Adds the text of a value.
+pub fn put_answer<A: Allocator>(
+    text: &mut Vec<u8, A>,
+    answer: &Answer<'_>,
+) -> Result<(), AllocError>
+    ensures { OnOk result (text.new.items ≡ text.old.items ++ answer_text (shown answer.now)) }
+{
+    match answer {
+        Answer::Absent => text.extend_from_slice(b"absent"),
+        Answer::NoElement => text.extend_from_slice(b"no-element"),
+        Answer::OtherMember => text.extend_from_slice(b"other-member"),
+        Answer::Bool(true) => text.extend_from_slice(b"true"),
+        Answer::Bool(false) => text.extend_from_slice(b"false"),
+        Answer::Int(number) => put_number(text, b"", *number),
+        Answer::UInt(number) => put_number(text, b"", *number),
+        Answer::Float(bytes) => put_hex(text, b"float:", bytes),
+        Answer::Text(bytes) => put_quoted(text, bytes),
+        Answer::Struct(bytes) => put_hex(text, b"struct:", bytes),
+        Answer::Vector(count) => put_number(text, b"vector:", *count),
+        Answer::Table => text.extend_from_slice(b"table"),
+        Answer::Union(number) => put_number(text, b"union:", *number),
+    }
+}
+
+/// Adds a label and a number.
+fn put_number<A: Allocator, I: Integer>(
+    text: &mut Vec<u8, A>,
+    label: &[u8],
+    number: I,
+) -> Result<(), AllocError>
+    ensures { OnOk result (text.new.items ≡ text.old.items ++ (label.now ++ I.text number)) }
+{
+    let mut buffer = Buffer::new();
+    text.extend_from_slice(label)?;
+    text.extend_from_slice(buffer.format(number).as_bytes())
+}
+
+/// Adds a label and bytes as hexadecimal digits.
+fn put_hex<A: Allocator>(
+    text: &mut Vec<u8, A>,
+    label: &[u8],
+    bytes: &[u8],
+) -> Result<(), AllocError>
+    ensures { OnOk result (text.new.items ≡ text.old.items ++ (label.now ++ encode_lower bytes.now)) }
+{
+    text.extend_from_slice(label)?;
+    let start = text.len();
+    let Some(room) = bytes.len().checked_mul(2) else {
+        return Err(AllocError);
+    };
+    let Some(end) = start.checked_add(room) else {
+        return Err(AllocError);
+    };
+    text.resize(end, 0)?;
+    let Ok(()) = hex::encode_to_slice(bytes, &mut text.as_mut_slice()[start..]) else {
+        unreachable!()
+    };
+    Ok(())
+}
+
+/// Adds a text between quotes.
+fn put_quoted<A: Allocator>(text: &mut Vec<u8, A>, bytes: &[u8]) -> Result<(), AllocError>
+    ensures { OnOk result (text.new.items ≡ text.old.items ++ quoted bytes.now) }
+{
+    text.extend_from_slice(b"\"")?;
+    put_bytes(text, bytes)?;
+    text.extend_from_slice(b"\"")
+}
+
+/// Adds the bytes of a text, escaped where they aren't printable.
+fn put_bytes<A: Allocator>(text: &mut Vec<u8, A>, bytes: &[u8]) -> Result<(), AllocError>
+    ensures { OnOk result (text.new.items ≡ text.old.items ++ flat_map byte_text bytes.now) }
+{
+    for byte in bytes {
+        put_byte(text, *byte)?;
+    }
+    Ok(())
+}
+
+/// Adds one byte of a text.
+fn put_byte<A: Allocator>(text: &mut Vec<u8, A>, byte: u8) -> Result<(), AllocError>
+    ensures { OnOk result (text.new.items ≡ text.old.items ++ byte_text byte) }
+{
+    if byte == b'"' || byte == b'\\' {
+        text.extend_from_slice(&[b'\\', byte])
+    } else if byte < b' ' || b'~' < byte {
+        let mut digits = [0u8; 2];
+        let Ok(()) = hex::encode_to_slice([byte].as_slice(), &mut digits) else {
+            unreachable!()
+        };
+        text.extend_from_slice(b"\\x")?;
+        text.extend_from_slice(&digits)
+    } else {
+        text.extend_from_slice(&[byte])
+    }
+}
