@@ -1,0 +1,85 @@
+//! The calls that take memory, one after another, and the answer of each.
+//!
+//! Each answer is written before the next call is made, so it is known which call met a request that was refused.
+
+use crate::hand::{NODE, hand_rows};
+use fb_access::Path;
+use fb_bfbs::{load, reflection};
+use fb_schema::{Code, Schema, SchemaFault};
+use fb_verify::{Limits, Scratch, ScratchFault};
+use std::alloc::Global;
+use std::io;
+
+/// A path of one growth of its steps, and one of more.
+const PATHS: [&str; 2] = ["any@Leaf.size", "next.next.next.next.next.next.name"];
+
+/// What is told of a call.
+fn told<T: Drop, E: Drop>(answer: Result<T, E>) -> &'static str {
+    match answer {
+        Ok(_) => "ok",
+        Err(_) => "out of memory",
+    }
+}
+
+fn call_reflection(rt: HostRuntime) -> io::Result<()> {
+    println!(rt; "reflection: {}", told(reflection(rt.alloc())))
+}
+
+fn call_load(rt: HostRuntime, bytes: &[u8]) -> io::Result<()> {
+    match load(rt.alloc(), bytes, Limits::published()) {
+        Ok(_) => println!(rt; "load: ok"),
+        Err(fault) => println!(rt; "load: {fault}"),
+    }
+}
+
+fn call_scratch(rt: HostRuntime) -> io::Result<()> {
+    match Scratch::new(rt.alloc(), 4096) {
+        Ok(_) => println!(rt; "scratch: ok"),
+        Err(ScratchFault::OutOfMemory) => println!(rt; "scratch: out of memory"),
+        Err(ScratchFault::LimitOutOfRange) => println!(rt; "scratch: limit out of range"),
+    }
+}
+
+fn call_resolve(rt: HostRuntime, schema: &Schema<'_>, text: &str) -> io::Result<()> {
+    if !schema.is_table(NODE) {
+        return println!(rt; "no table");
+    }
+    match Path::resolve(rt.alloc(), schema, NODE, text.as_bytes()) {
+        Ok(path) => println!(rt; "resolve {text}: ok, {} steps", path.steps().len()),
+        Err(fault) => println!(rt; "resolve {text}: {fault}"),
+    }
+}
+
+fn tell_refusal(rt: HostRuntime, fault: SchemaFault) -> io::Result<()> {
+    match fault.code {
+        Code::OutOfMemory => println!(rt; "build: C9 OutOfMemory"),
+        code => println!(rt; "build: {code:?}"),
+    }
+}
+
+fn call_build(rt: HostRuntime, alloc: Global) -> io::Result<()> {
+    let Ok(rows) = hand_rows(alloc) else {
+        return println!(rt; "rows: out of memory");
+    };
+    println!(rt; "rows: ok")?;
+    match Schema::build(alloc, rows.objects, rows.enums) {
+        Ok(schema) => {
+            println!(rt; "build: ok")?;
+            for text in PATHS {
+                call_resolve(rt, &schema, text)?;
+            }
+            Ok(())
+        }
+        Err(fault) => tell_refusal(rt, fault),
+    }
+}
+
+/// Makes each call, and writes its answer: `reflection`, `load` of these bytes, `Scratch::new`, and over a schema made
+/// by hand `Schema::build` and `Path::resolve`.
+pub fn make_calls(rt: HostRuntime, bytes: &[u8]) -> io::Result<()> {
+    println!(rt; "input: {} bytes", bytes.len())?;
+    call_reflection(rt)?;
+    call_load(rt, bytes)?;
+    call_scratch(rt)?;
+    call_build(rt, rt.alloc())
+}

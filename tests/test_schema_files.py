@@ -1,0 +1,164 @@
+#!/usr/bin/env python3
+"""Loads the schema files of tests/schema_files, and compares what the look-ups then answer with flatc's own listing of
+each file.
+
+The listing is JSON that flatc wrote from the file; what the look-ups should answer is worked out of it here.
+"""
+
+import json
+import subprocess
+import sys
+
+# (no cache of the module is left in the tree)
+sys.dont_write_bytecode = True
+
+from probes import TOP, Tally, program
+
+FOLDER = TOP / "tests" / "schema_files"
+
+# What a base type holds one of, by its number, and its bytes.
+SCALARS = {
+    1: ("UType", 1),
+    2: ("Bool", 1),
+    3: ("Byte", 1),
+    4: ("UByte", 1),
+    5: ("Short", 2),
+    6: ("UShort", 2),
+    7: ("Int", 4),
+    8: ("UInt", 4),
+    9: ("Long", 8),
+    10: ("ULong", 8),
+    11: ("Float", 4),
+    12: ("Double", 8),
+}
+TEXT, VECTOR, OBJECT, UNION = 13, 14, 15, 16
+
+
+class Listing:
+    """The lines for one file."""
+
+    def __init__(self, schema):
+        self.objects = schema["objects"]
+        self.enums = schema["enums"]
+        self.schema = schema
+
+    def kind(self, type_):
+        """The kind of a field or a member, with its size and alignment."""
+        base, index = type_.get("base_type", 0), type_.get("index", -1)
+        many = base == VECTOR
+        held = type_.get("element", 0) if many else base
+        plural = "s" if many else ""
+        if held in SCALARS:
+            name, size = SCALARS[held]
+            return f"Scalar{plural}({name})", size, size
+        if held == TEXT:
+            return f"Text{plural}", 4, 4
+        if held == UNION:
+            return f"Union{plural}({index})", 4, 4
+        assert held == OBJECT, type_
+        target = self.objects[index]
+        if target.get("is_struct"):
+            return f"Struct{plural}({index})", target["bytesize"], target["minalign"]
+        return f"Table{plural}({index})", 4, 4
+
+    def members(self, number):
+        """The lines of a union's members, by their values."""
+        values = {value.get("value", 0): value for value in self.enums[number]["values"]}
+        return [
+            f"member {number} value={place} kind={self.kind(values[place]['union_type'])[0]}"
+            for place in sorted(values)
+            if place != 0
+        ]
+
+    def field(self, field, live):
+        """The lines of a live field, `live` being those of its table."""
+        kind, size, align = self.kind(field["type"])
+        companion = "-"
+        if kind.startswith("Union"):
+            below = [other["offset"] for other in live].index(field["offset"] - 2)
+            assert live[below]["name"] == field["name"] + "_type", field
+            companion = str(below)
+        line = (
+            f"field {field.get('id', 0)} slot={field['offset']} name={field['name']} kind={kind}"
+            f" default={field.get('default_integer', 0)} required={written(field, 'required')}"
+            f" optional={written(field, 'optional')} size={size} align={align} companion={companion}"
+        )
+        return [line, *(self.members(field["type"]["index"]) if companion != "-" else [])]
+
+    def object(self, number):
+        """The lines of an object."""
+        it = self.objects[number]
+        yield (
+            f"object {number} name={it['name']} struct={written(it, 'is_struct')}"
+            f" minalign={it.get('minalign', 0)} bytesize={it.get('bytesize', 0)}"
+        )
+        if not it.get("is_struct"):
+            live = [field for field in it["fields"] if not field.get("deprecated")]
+            live.sort(key=lambda field: field["offset"])
+            for field in live:
+                yield from self.field(field, live)
+
+    def lines(self):
+        names = [it["name"] for it in self.objects]
+        root = self.schema.get("root_table")
+        yield f"root={names.index(root['name']) if root else '-'}"
+        ident = self.schema.get("file_ident")
+        yield "no ident" if ident is None else f"ident={ident}"
+        for number in range(len(self.objects)):
+            yield from self.object(number)
+
+
+def written(table, name):
+    return "true" if table.get(name) else "false"
+
+
+def faults(probe, file):
+    """How what the probe tells of a schema file differs from what flatc tells."""
+    schema = json.loads(file.with_suffix(".json").read_text())
+    wanted = list(Listing(schema).lines())
+    with open(file, "rb") as given:
+        run = subprocess.run([probe, "list"], stdin=given, capture_output=True, timeout=60)
+    told = run.stdout.decode().splitlines()
+    if run.returncode != 0 or run.stderr:
+        return [f"status {run.returncode}, {run.stderr.decode()!r}"]
+    differing = [
+        f"line {number}: {got!r}, and flatc has {want!r}"
+        for number, (got, want) in enumerate(zip(told, wanted), 1)
+        if got != want
+    ]
+    if len(told) != len(wanted):
+        differing.append(f"{len(told)} lines, and flatc has {len(wanted)}")
+    return differing[:5]
+
+
+# What the files must hold between them, so that no case is lost unseen: a text that some line of some file has.
+WANTED = [
+    *(f"kind=Scalar({name})" for name, _ in SCALARS.values()),
+    *(f"kind=Scalars({name})" for name, _ in SCALARS.values()),
+    "kind=Text ", "kind=Texts", "kind=Struct(", "kind=Structs(", "kind=Table(", "kind=Tables(", "kind=Union(",
+    "kind=Unions(", "required=true", "optional=true", "root=-", "ident=TALK", "ident=DEPO", "struct=true",
+    "minalign=16", "value=2 kind=Table(", "value=100 kind=Struct(", "value=255 kind=Text",
+    "default=-128", "default=127", "default=255", "default=-32768", "default=32767", "default=65535",
+    "default=-2147483648", "default=2147483647", "default=4294967295",
+    "default=-9223372036854775808", "default=9223372036854775807", "default=40",
+]
+
+
+def main():
+    tally = Tally()
+    probe = program("probe")
+    lines = []
+    largest = [0, 0]
+    for file in sorted(FOLDER.glob("*.bfbs")):
+        tally.case(file.name, faults(probe, file))
+        schema = json.loads(file.with_suffix(".json").read_text())
+        lines += Listing(schema).lines()
+        largest = [max(largest[0], len(schema["objects"])), max(largest[1], len(schema["enums"]))]
+    missing = [text for text in WANTED if not any(text in line for line in lines)]
+    tally.case("the files hold every kind", [f"no line has {text!r}" for text in missing])
+    tally.case("a file has 50 objects and 50 enums", [] if min(largest) >= 50 else [str(largest)])
+    return tally.end()
+
+
+if __name__ == "__main__":
+    sys.exit(main())
