@@ -6,9 +6,11 @@ import subprocess
 TOP = pathlib.Path(__file__).resolve().parent.parent
 
 
-def newest_source():
-    """When a crate was last written to."""
-    files = [TOP / "crates.txt", *TOP.glob("crates/*/src/**/*.rt")]
+def newest_source(name):
+    """When a crate, or one that it stands on, was last written to."""
+    lines = (TOP / "crates.txt").read_text().splitlines()
+    below = next(line for line in lines if line.startswith(f"{name}:")).partition(":")[2].split()
+    files = [file for crate in [name, *below] for file in TOP.glob(f"crates/{crate}/src/**/*.rt")]
     return max(file.stat().st_mtime for file in files)
 
 
@@ -19,7 +21,7 @@ def program(name):
     """
     crate = TOP / "crates" / name
     made = crate / "out" / name
-    if not made.is_file() or made.stat().st_mtime < newest_source():
+    if not made.is_file() or made.stat().st_mtime < newest_source(name):
         print(f"proving and building {name}", flush=True)
         words = (crate / "args").read_text().split() if (crate / "args").is_file() else []
         with open(crate / "stdin", "rb") as given:
