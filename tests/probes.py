@@ -14,6 +14,10 @@ def newest_source(name):
     return max(file.stat().st_mtime for file in files)
 
 
+def is_fresh(made, name):
+    return made.is_file() and made.stat().st_mtime >= newest_source(name)
+
+
 def program(name):
     """The program of a crate, as `rt ci` and `rt run` leave it.
 
@@ -21,11 +25,13 @@ def program(name):
     """
     crate = TOP / "crates" / name
     made = crate / "out" / name
-    if not made.is_file() or made.stat().st_mtime < newest_source(name):
+    if not is_fresh(made, name):
         print(f"proving and building {name}", flush=True)
         words = (crate / "args").read_text().split() if (crate / "args").is_file() else []
         with open(crate / "stdin", "rb") as given:
-            subprocess.run(["rt", "run", "--", *words], cwd=crate, stdin=given, capture_output=True, check=True)
+            ran = subprocess.run(["rt", "run", "--", *words], cwd=crate, stdin=given, capture_output=True)
+        if not is_fresh(made, name):
+            raise SystemExit(ran.stderr.decode() + f"{name} isn't built")
     return made
 
 

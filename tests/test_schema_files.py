@@ -131,6 +131,31 @@ def faults(probe, file):
     return differing[:5]
 
 
+# A schema file of one table with a number and a text, of which every byte is known by hand: the probe's own example.
+PLAIN = TOP / "crates" / "probe" / "stdin"
+
+# Bytes that are changed in it, and why it then isn't loaded.
+FAULTS = [
+    ("nothing to read", {}, 0, "fault L1 V2 OutOfBuffer at=4 object=9 field=- reads=0"),
+    ("another identifier", {4: 0x43}, 208, "fault L1 V5 WrongIdentifier at=4 object=9 field=- reads=1"),
+    ("cut off in the table Schema", {}, 26, "fault L1 V2 OutOfBuffer at=24 object=9 field=- reads=2"),
+    ("a number that is a 64-bit vector", {156: 18}, 208, "fault L2 C3 Unsupported owner=0 part=0"),
+    ("a text that is an array", {204: 17}, 208, "fault L2 C3 Unsupported owner=0 part=1"),
+    ("an odd slot", {124: 5}, 208, "fault L2 C4 BadSlot owner=0 part=0"),
+    ("two fields in one slot", {124: 6}, 208, "fault L2 C4 BadSlot owner=0 part=1"),
+]
+
+
+def fault_faults(probe, changes, end, wanted):
+    """How what the probe tells of a changed file differs from its fault."""
+    given = bytearray(PLAIN.read_bytes()[:end])
+    for at, byte in changes.items():
+        given[at] = byte
+    run = subprocess.run([probe, "list"], input=given, capture_output=True, timeout=60)
+    told = run.stdout.decode()
+    return [] if (run.returncode, told) == (0, wanted + "\n") else [f"status {run.returncode}, {told!r}"]
+
+
 # What the files must hold between them, so that no case is lost unseen: a text that some line of some file has.
 WANTED = [
     *(f"kind=Scalar({name})" for name, _ in SCALARS.values()),
@@ -154,6 +179,8 @@ def main():
         schema = json.loads(file.with_suffix(".json").read_text())
         lines += Listing(schema).lines()
         largest = [max(largest[0], len(schema["objects"])), max(largest[1], len(schema["enums"]))]
+    for name, changes, end, wanted in FAULTS:
+        tally.case(name, fault_faults(probe, changes, end, wanted))
     missing = [text for text in WANTED if not any(text in line for line in lines)]
     tally.case("the files hold every kind", [f"no line has {text!r}" for text in missing])
     tally.case("a file has 50 objects and 50 enums", [] if min(largest) >= 50 else [str(largest)])
