@@ -146,7 +146,7 @@ FAULTS = [
 ]
 
 
-def fault_faults(probe, changes, end, wanted):
+def changed_file_faults(probe, changes, end, wanted):
     """How what the probe tells of a changed file differs from its fault."""
     given = bytearray(PLAIN.read_bytes()[:end])
     for at, byte in changes.items():
@@ -180,7 +180,7 @@ def main():
         lines += Listing(schema).lines()
         largest = [max(largest[0], len(schema["objects"])), max(largest[1], len(schema["enums"]))]
     for name, changes, end, wanted in FAULTS:
-        tally.case(name, fault_faults(probe, changes, end, wanted))
+        tally.case(name, changed_file_faults(probe, changes, end, wanted))
     missing = [text for text in WANTED if not any(text in line for line in lines)]
     tally.case("the files hold every kind", [f"no line has {text!r}" for text in missing])
     tally.case("a file has 50 objects and 50 enums", [] if min(largest) >= 50 else [str(largest)])
