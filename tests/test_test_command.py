@@ -1,0 +1,97 @@
+"""The script ./test: its counts, its status, and what it says where something it needs is missing.
+
+It runs in a folder of its own, beside a command rt and tests that only print what a case says.
+"""
+
+import shutil
+import subprocess
+
+import outside
+
+TOOLS = ["bash", "env", "dirname", "mktemp", "rm", "tee", "tail"]
+
+
+def folder_of(name, commands):
+    """A folder with the script, its tools, and scripts in the place of the other commands."""
+    top = outside.FOLDER / name
+    (top / "bin").mkdir(parents=True)
+    (top / "tests").mkdir()
+    for tool in TOOLS:
+        (top / "bin" / tool).symlink_to(shutil.which(tool))
+    for command, text in {"python3": 'exec bash "$1"', "cc": "exit 0", **commands}.items():
+        if text is not None:
+            write(top / "bin" / command, text)
+    shutil.copy(outside.TOP / "test", top / "test")
+    return top
+
+
+def write(path, text):
+    path.write_text(f"#!/usr/bin/env bash\n{text}\n")
+    path.chmod(0o755)
+
+
+def called(top, *words):
+    ran = subprocess.run([top / "test", *words], capture_output=True, env={"PATH": str(top / "bin")}, timeout=60,
+                         text=True)
+    return ran.returncode, ran.stdout.splitlines(), ran.stderr
+
+
+def tells(passed, failed, status=None):
+    """A script that ends with such a count."""
+    status = int(failed != 0) if status is None else status
+    return f"echo some text\necho {passed} passed, {failed} failed\nexit {status}"
+
+
+def counts_are_added(cases):
+    for name, ci, tests, want, status in [
+        ("all pass", tells(7, 0), [tells(3, 0), tells(4, 0)], "14 passed, 0 failed", 0),
+        ("a test fails", tells(7, 0), [tells(3, 1), tells(4, 0)], "14 passed, 1 failed", 1),
+        ("the last test fails", tells(7, 0), [tells(3, 0), tells(4, 2)], "14 passed, 2 failed", 1),
+        ("rt ci fails", tells(6, 1), [tells(3, 0)], "9 passed, 1 failed", 1),
+        ("both fail", tells(6, 1), [tells(3, 2)], "9 passed, 3 failed", 1),
+        ("no test from outside", tells(7, 0), [], "7 passed, 1 failed", 1),
+        ("rt ci stops without a count", "echo broken; exit 2", [tells(3, 0)], "3 passed, 1 failed", 1),
+        ("rt ci says nothing", "exit 0", [tells(3, 0)], "3 passed, 1 failed", 1),
+        ("a test stops without a count", tells(7, 0), ["echo halfway; exit 1"], "7 passed, 1 failed", 1),
+        ("a test's status and count differ", tells(7, 0), [tells(3, 0, status=1)], "7 passed, 1 failed", 1),
+        ("a count of failures with status 0", tells(7, 0), [tells(3, 1, status=0)], "7 passed, 1 failed", 1),
+        ("a count that isn't the last line", tells(7, 0), ["echo 3 passed, 0 failed; echo more"], "7 passed, 1 failed",
+         1),
+    ]:
+        top = folder_of(f"counts {name}", {"rt": f'[ "$*" = ci ] || exit 9\n{ci}'})
+        for number, text in enumerate(tests):
+            write(top / "tests" / f"test_{number}.py", text)
+        got, out, _ = called(top)
+        cases.same(name, (got, out[-1]), (status, want))
+        cases.holds(f"{name}: the output of rt ci is shown", "== rt ci" in out, out)
+
+
+def what_is_missing_is_named(cases):
+    for missing, text in [("rt", "rt, the command of the Rattle toolchain"), ("python3", "python3, which runs"),
+                          ("cc", "cc, a C compiler")]:
+        top = folder_of(f"without {missing}", {"rt": tells(1, 0), missing: None})
+        status, out, err = called(top)
+        cases.same(f"without {missing}", (status, out), (2, []))
+        cases.holds(f"{missing} is named, and where it was looked for", text in err and str(top / "bin") in err, err)
+
+
+def from_outside_alone(cases):
+    top = folder_of("outside", {"rt": "echo rt was called; exit 1"})
+    write(top / "tests" / "test_0.py", tells(5, 0))
+    write(top / "fbcheck", '[ "$*" = --help ]')
+    status, out, _ = called(top, "--outside")
+    cases.same("no rt ci", (status, out),
+               (0, ["== python3 tests/test_0.py", "some text", "5 passed, 0 failed", "5 passed, 0 failed"]))
+    write(top / "fbcheck", "exit 2")
+    status, out, _ = called(top, "--outside")
+    cases.same("a program that can't be built", (status, out), (2, []))
+
+
+def other_words_are_refused(cases):
+    top = folder_of("words", {"rt": tells(1, 0)})
+    for words in [["--nothing"], ["--outside", "more"], ["ci"]]:
+        cases.same(f"{words}", called(top, *words), (2, [], "usage: ./test [--outside]\n"))
+
+
+if __name__ == "__main__":
+    outside.main(counts_are_added, what_is_missing_is_named, from_outside_alone, other_words_are_refused)
