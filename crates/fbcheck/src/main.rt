@@ -1,9 +1,10 @@
-//! `fbcheck` checks FlatBuffers by a binary schema: it reads a stream of size-prefixed buffers, or one bare buffer, from standard input
-//! and writes a line for each to standard output. Without a schema file it checks schema files themselves.
+//! `fbcheck` checks FlatBuffers by a binary schema: it reads a stream of size-prefixed buffers, or one bare buffer,
+//! from standard input and writes a line for each to standard output. Without a schema file it checks schema files.
 //!
-//! The words of the command line are read first, then the schema file, then the input; help goes to standard output. Faults go to
-//! standard error, and the first ends the program. The exit status is 0 where every buffer had a yes, 1 where one had a no, 2 where the
-//! words, the schema file, the root or the path are wrong, and 3 for every other fault.
+//! The words of the command line are read first, then the schema file, then the input; help goes to standard output.
+//! Faults go to standard error, and the first ends the program. The exit status is 0 where every buffer had a yes or
+//! help was given, 1 where a buffer had a no, 2 where the words, the schema file, the root or the path are wrong, and
+//! 3 for every other fault.
 #![tactic(auto)]
 
 mod asked;
@@ -40,6 +41,7 @@ mod writing;
 
 use check::check;
 use choices::SettingsFault;
+use clap::Error;
 use fault::status;
 use fb_bytes::Counted;
 use std::fs::File;
@@ -48,6 +50,7 @@ use std::io::{ErrorKind, Read};
 use std::process::ExitCode;
 use stop::Stop;
 use words::settings;
+use writing::push_all;
 
 /// The most bytes that are read of a schema file; a file that has as many is too long for a buffer.
 const SCHEMA_BYTES: u64 = 0x8000_0000;
@@ -91,6 +94,30 @@ fn read_schema(rt: &HostRuntime, name: &Option<String>) -> Result<Option<Vec<u8>
     }
 }
 
+/// Writes the help to standard output.
+fn write_help(rt: &HostRuntime, help: &Error) -> Result<(), Stop> {
+    let Ok(text) = format!(in rt.alloc(); "{help}") else {
+        return Err(Stop::OutOfMemory);
+    };
+    let mut writer = Counted::new(rt.stdout());
+    let written = push_all(&mut writer, text.as_bytes());
+    if written < text.len() {
+        return Err(Stop::HelpCutOff { written });
+    }
+    Ok(())
+}
+
+/// What is done where the words give no settings: help is written where they ask for it, and else the program stops.
+fn without_settings(rt: &HostRuntime, fault: SettingsFault) -> Result<u8, Stop> {
+    match &fault {
+        SettingsFault::Usage(error) if !error.use_stderr() => {
+            write_help(rt, error)?;
+            Ok(fault.status())
+        }
+        _ => Err(Stop::Settings(fault)),
+    }
+}
+
 /// Reads the words, then the schema file, then the input; answers the exit status.
 fn start(rt: &HostRuntime) -> Result<u8, Stop> {
     let alloc = rt.alloc();
@@ -100,7 +127,7 @@ fn start(rt: &HostRuntime) -> Result<u8, Stop> {
     };
     let settings = match settings(alloc, words.as_slice()) {
         Ok(settings) => settings,
-        Err(fault) => return Err(Stop::Settings(fault)),
+        Err(fault) => return without_settings(rt, fault),
     };
     let file = match read_schema(rt, &settings.schema) {
         Ok(file) => file,

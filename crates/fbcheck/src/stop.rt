@@ -9,9 +9,12 @@ pub enum Stop {
     /// A word of the command line isn't a text.
     #[error("a word is not UTF-8")]
     NotText,
-    /// G1, G2 or G3: the words give no settings.
+    /// The words give no settings, and don't ask for help.
     #[error(transparent)]
     Settings(SettingsFault),
+    /// Help was asked for, and standard output took only its first `written` bytes.
+    #[error("write failed after {written} bytes")]
+    HelpCutOff { written: usize },
     /// The schema file can't be read.
     #[error("cannot read schema")]
     Unreadable,
@@ -21,13 +24,13 @@ pub enum Stop {
 }
 
 impl Stop {
-    /// The program's exit status: 2 for wrong words and for a schema file that can't be read, 0 where the words ask for help, 3 for
-    /// want of memory.
+    /// The program's exit status: 2 for wrong words and for a schema file that can't be read, 3 for want of memory and
+    /// for help that can't be written.
     pub fn status(&self) -> u8 {
         match self {
             Stop::NotText | Stop::Unreadable => 2,
             Stop::Settings(fault) => fault.status(),
-            Stop::OutOfMemory => 3,
+            Stop::HelpCutOff { .. } | Stop::OutOfMemory => 3,
         }
     }
 }
