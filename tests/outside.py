@@ -6,6 +6,7 @@ from what the program says.
 """
 
 import atexit
+import dataclasses
 import fcntl
 import os
 import pathlib
@@ -195,11 +196,20 @@ def prefixed(data):
     return struct.pack("<I", len(data)) + data
 
 
+@dataclasses.dataclass
+class Plain:
+    """Bytes that stand as they are, behind a count where they are the elements of a vector."""
+
+    data: bytes
+    alignment: int
+    count: int | None = None
+
+
 class Buffer:
     """A FlatBuffer in the making: what a table or a vector refers to stands behind it.
 
-    A value is a text, a list of values, a dict from field numbers to values (a table), or a pair of a letter of
-    struct.pack and a number.
+    A value is a text, a list of values, a dict from field numbers to values (a table), plain bytes, or what stands
+    inline: a pair of a format of struct.pack and a number or bytes. None leaves the word of an element 0.
     """
 
     def __init__(self):
@@ -215,6 +225,8 @@ class Buffer:
             return self.put_table(value)
         if isinstance(value, list):
             return self.put_vector(value)
+        if isinstance(value, Plain):
+            return self.put_plain(value)
         text = value.encode() if isinstance(value, str) else value
         self.align(4)
         at = len(self.data)
@@ -230,7 +242,15 @@ class Buffer:
         at = len(self.data)
         self.data += struct.pack("<I", len(values)) + bytes(4 * len(values))
         for number, value in enumerate(values):
-            self.refer(at + 4 + 4 * number, value)
+            if value is not None:
+                self.refer(at + 4 + 4 * number, value)
+        return at
+
+    def put_plain(self, plain):
+        head = b"" if plain.count is None else struct.pack("<I", plain.count)
+        self.align(max(plain.alignment, len(head)), len(head))
+        at = len(self.data)
+        self.data += head + plain.data
         return at
 
     def put_table(self, fields):
@@ -254,9 +274,11 @@ class Buffer:
         return at
 
 
-def buffer(root, ident=b""):
-    """A bare buffer with this root table."""
+def buffer(root, ident=b"", prefix=False):
+    """A bare buffer with this root table, or one behind its length."""
     made = Buffer()
-    made.data += bytes(4) + ident
-    made.refer(0, root)
+    made.data += bytes(8 if prefix else 4) + ident
+    made.refer(4 if prefix else 0, root)
+    if prefix:
+        struct.pack_into("<I", made.data, 0, len(made.data) - 4)
     return bytes(made.data)

@@ -118,3 +118,43 @@ def files():
     """The paths of the schema files, by name."""
     named = {"M": M, "N": N, "X": X, "NODE": NODE, "CHAIN": CHAIN, "Z": Z, "G": G, "K": K}
     return {name: file_of(f"{name}.bfbs", data) for name, data in named.items()}
+
+# The tables of reflection.fbs as far as they are asked of schema files, each with its fields in order of their
+# numbers. A `!` stands behind the type of a required field, and brackets stand round a deprecated one.
+REFLECTION = {
+    "Type": "base_type Byte, element Byte, index Int, fixed_length UShort",
+    "KeyValue": "key Text, value Text",
+    "EnumVal": "name Text!, value Long, [object Object], union_type Type, documentation Texts, attributes KeyValues",
+    "Enum": "name Text!, values EnumVals!, is_union Bool, underlying_type Type, attributes KeyValues, "
+    "documentation Texts, declaration_file Text",
+    "Field": "name Text!, type Type!, id UShort, offset UShort, default_integer Long, default_real Double, "
+    "deprecated Bool, required Bool, key Bool, attributes KeyValues, documentation Texts, optional Bool, "
+    "[padding UShort], offset64 Bool",
+    "Object": "name Text!, fields Fields!, is_struct Bool, minalign Int, bytesize Int, attributes KeyValues, "
+    "documentation Texts, declaration_file Text",
+    "RPCCall": "name Text, request Object, response Object, attributes KeyValues, documentation Texts",
+    "Service": "name Text, calls RPCCalls, attributes KeyValues, documentation Texts, declaration_file Text",
+    "SchemaFile": "filename Text, included_filenames Texts",
+    "Schema": "objects Objects!, enums Enums!, file_ident Text, file_ext Text, root_table Object, services Services, "
+    "advanced_features ULong, fbs_files SchemaFiles",
+}
+
+
+def reflection():
+    """The rows of these tables."""
+    types = {
+        "Byte": BYTE, "Bool": BOOL, "UShort": U_SHORT, "Int": INT, "Long": LONG, "ULong": U_LONG, "Double": DOUBLE,
+        "Text": TEXT, "Texts": vector(TEXT),
+    }
+    for number, name in enumerate(REFLECTION):
+        types[name] = an_object(number)
+        types[f"{name}s"] = vector(an_object(number))
+    rows = []
+    for name, text in REFLECTION.items():
+        fields = [part.split() for part in text.split(", ")]
+        rows.append(table(f"reflection.{name}", *[
+            field(words[0].strip("["), types[words[1].strip("]!")], 4 + 2 * number,
+                  required=words[1].endswith("!"), deprecated=words[0].startswith("["))
+            for number, words in enumerate(fields)
+        ]))
+    return rows

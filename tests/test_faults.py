@@ -87,10 +87,11 @@ def run_by_pipe(data):
 
 def schema_files_that_are_no_plain_files(cases):
     cases.same("a pipe with a schema", run_by_pipe(schemas.M), good("1 ok tables=1 depth=1 reads=8"))
-    cases.same("a pipe with nothing", run_by_pipe(b""), refused("schema: L1 V2 OutOfBuffer at=4 object=9 field=- reads=0"))
-    large = schema([table("M", field("hp", SHORT, 4, 100), field("name", TEXT, 6))] + [
-        table(f"Other{number}", *[field(f"field{slot}", TEXT, 4 + 2 * slot) for slot in range(20)]) for number in range(200)
-    ], root="M")
+    cases.same("a pipe with nothing", run_by_pipe(b""),
+               refused("schema: L1 V2 OutOfBuffer at=4 object=9 field=- reads=0"))
+    fields = [field(f"field{number}", TEXT, 4 + 2 * number) for number in range(20)]
+    others = [table(f"Other{number}", *fields) for number in range(200)]
+    large = schema([table("M", field("hp", SHORT, 4, 100), field("name", TEXT, 6)), *others], root="M")
     cases.same(f"a pipe with {len(large)} bytes", run_by_pipe(large), good("1 ok tables=1 depth=1 reads=8"))
     cases.same("/dev/null", run("--schema", "/dev/null"),
                refused("schema: L1 V2 OutOfBuffer at=4 object=9 field=- reads=0"))

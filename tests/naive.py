@@ -1,0 +1,221 @@
+"""A verifier that only follows the rules, one after another: what the program's lines are held against.
+
+Its schemas are the rows that schemas.py makes schema files of.
+"""
+
+import struct
+
+SIZES = [0, 1, 1, 1, 1, 2, 2, 4, 4, 8, 8, 4, 8]
+TEXT, VECTOR, OBJECT, UNION = 13, 14, 15, 16
+NAMES = {
+    "V1": "WrongPrefix", "V2": "OutOfBuffer", "V3": "Misaligned", "V4": "ZeroOffset", "V5": "WrongIdentifier",
+    "V6": "TooDeep", "V7": "TooManyTables", "V8": "BadVtable", "V9": "MissingRequired", "V10": "NoTerminator",
+    "V11": "LengthsDiffer", "V12": "PastTable",
+}
+
+
+class Fault(Exception):
+    """The first condition that fails, by its code and place."""
+
+
+def number_at(row, field):
+    """What a row has as the number of a field, 0 where it has none."""
+    return row[field][1] if field in row else 0
+
+
+class Field:
+    """A field by its row: the base type and what it's of, and the element of a vector."""
+
+    def __init__(self, row):
+        kind = row[1]
+        self.name, self.slot, self.required = row[0], number_at(row, 3), number_at(row, 7)
+        self.base, self.element, self.index = number_at(kind, 0), number_at(kind, 1), number_at(kind, 2)
+
+
+def live_fields(row):
+    """A table's fields that aren't deprecated, in rising slot."""
+    rows = [field for field in row[1] if not number_at(field, 6)]
+    return sorted(map(Field, rows), key=lambda field: field.slot)
+
+
+class Schema:
+    """The rows, by number."""
+
+    def __init__(self, objects, enums=()):
+        self.tables = [None if number_at(row, 2) else live_fields(row) for row in objects]
+        self.structs = [(number_at(row, 4), number_at(row, 3)) if number_at(row, 2) else None for row in objects]
+        self.unions = [
+            {number_at(member, 1): Field({0: "", 1: member[3]}) for member in row[1] if number_at(member, 1)}
+            for row in enums
+        ]
+
+    def size(self, base, index):
+        """The size and the alignment of what stands inline."""
+        if base == OBJECT and self.structs[index]:
+            return self.structs[index]
+        size = SIZES[base] if base < len(SIZES) else 4
+        return size, size
+
+
+class Walk:
+    """One check of one buffer: what was read so far, and which tables are open."""
+
+    def __init__(self, schema, root, data, depth=64, tables=1_000_000, alignment=True, inline_size=False):
+        self.schema, self.root, self.data = schema, root, data
+        self.depth_limit, self.table_limit = depth, tables
+        self.alignment, self.inline_size = alignment, inline_size
+        self.reads = self.tables = self.open = self.deepest = 0
+        self.where = root, None
+
+    def fits(self, at, size, place):
+        if at < 0 or at + size > len(self.data):
+            raise Fault("V2", place)
+
+    def aligned(self, at, size):
+        if self.alignment and at % size:
+            raise Fault("V3", at)
+
+    def read(self, letter, at):
+        self.reads += 1
+        return struct.unpack_from(f"<{letter}", self.data, at)[0]
+
+    def verdict(self, ident=None, prefix=True):
+        """What stands behind the number in the line of this buffer."""
+        try:
+            self.start(ident, 4 if prefix else 0)
+        except Fault as fault:
+            code, at = fault.args
+            owner, field = self.where
+            field = "-" if field is None else field
+            return f"bad {code} {NAMES[code]} at={at} object={owner} field={field} reads={self.reads}"
+        return f"ok tables={self.tables} depth={self.deepest} reads={self.reads}"
+
+    def start(self, ident, base):
+        if base:
+            self.fits(0, 4, 0)
+            if self.read("I", 0) != len(self.data) - 4:
+                raise Fault("V1", 0)
+        if ident:
+            self.fits(base + 4, 4, base + 4)
+            if self.read("4s", base + 4) != ident:
+                raise Fault("V5", base + 4)
+        self.fits(base, 4, base)
+        offset = self.read("I", base)
+        if not offset:
+            raise Fault("V4", base)
+        self.table(base + offset, self.root)
+
+    def table(self, at, number):
+        if self.open >= self.depth_limit:
+            raise Fault("V6", at)
+        if self.tables >= self.table_limit:
+            raise Fault("V7", at)
+        self.tables += 1
+        self.open += 1
+        self.deepest = max(self.deepest, self.open)
+        before, self.where = self.where, (number, None)
+        vtable, size = self.head(at)
+        inline = self.read("H", vtable + 2) if self.inline_size else None
+        for field in self.schema.tables[number]:
+            self.where = number, (field.slot - 4) // 2
+            self.field(at, vtable, size, inline, field)
+        self.where = before
+        self.open -= 1
+
+    def head(self, at):
+        self.fits(at, 4, at)
+        self.aligned(at, 4)
+        vtable = at - self.read("i", at)
+        self.fits(vtable, 2, at)
+        self.aligned(vtable, 2)
+        size = self.read("H", vtable)
+        if size % 2 or size < 4:
+            raise Fault("V8", vtable)
+        self.fits(vtable, size, vtable)
+        return vtable, size
+
+    def field(self, at, vtable, size, inline, field):
+        word = self.read("H", vtable + field.slot) if field.slot + 2 <= size else 0
+        if not word:
+            if field.required:
+                raise Fault("V9", at)
+            return
+        is_unions = field.base == VECTOR and field.element == UNION
+        types = self.types_of(at, vtable, field, is_unions) if is_unions or field.base == UNION else None
+        if field.base == UNION:
+            member = self.schema.unions[field.index].get(types)
+            if not member:
+                return
+        place = at + word
+        length, alignment = self.schema.size(field.base, field.index)
+        if inline is not None and word + length > inline:
+            raise Fault("V12", place)
+        if field.base < TEXT or field.base == OBJECT and self.schema.structs[field.index]:
+            self.fits(place, length, place)
+            self.aligned(place, alignment)
+            return
+        target = self.offset(place)
+        if field.base == VECTOR:
+            self.vector(target, field, types)
+        else:
+            self.value(target, member if field.base == UNION else field)
+
+    def types_of(self, at, vtable, field, is_unions):
+        """The type of a union, or the place and the count of a vector of unions' types, which were checked before."""
+        word = self.read("H", vtable + field.slot - 2)
+        if not is_unions:
+            return self.read("B", at + word) if word else 0
+        if not word:
+            return None, 0
+        types = at + word + self.read("I", at + word)
+        return types, self.read("I", types)
+
+    def offset(self, at):
+        self.fits(at, 4, at)
+        self.aligned(at, 4)
+        offset = self.read("I", at)
+        if not offset:
+            raise Fault("V4", at)
+        return at + offset
+
+    def value(self, target, kind):
+        """A table, a string, or a union's struct."""
+        if kind.base == TEXT:
+            self.text(target)
+        elif self.schema.structs[kind.index]:
+            size, alignment = self.schema.structs[kind.index]
+            self.fits(target, size, target)
+            self.aligned(target, alignment)
+        else:
+            self.table(target, kind.index)
+
+    def text(self, at):
+        self.fits(at, 4, at)
+        self.aligned(at, 4)
+        count = self.read("I", at)
+        self.fits(at + 4, count + 1, at + 4)
+        if self.read("B", at + 4 + count):
+            raise Fault("V10", at + 4 + count)
+
+    def vector(self, at, field, types):
+        self.fits(at, 4, at)
+        self.aligned(at, 4)
+        count = self.read("I", at)
+        size, alignment = self.schema.size(field.element, field.index)
+        self.fits(at + 4, count * size, at + 4)
+        if count:
+            self.aligned(at + 4, alignment)
+        if field.element == UNION:
+            self.unions(at, count, field, *types)
+        elif field.element == TEXT or field.element == OBJECT and not self.schema.structs[field.index]:
+            kind = Field({0: "", 1: {0: ("b", field.element), 2: ("i", field.index)}})
+            for number in range(count):
+                self.value(self.offset(at + 4 + 4 * number), kind)
+
+    def unions(self, at, count, field, types, type_count):
+        if count != type_count:
+            raise Fault("V11", at)
+        for number in range(count):
+            member = self.schema.unions[field.index].get(self.read("B", types + 4 + number))
+            if member:
+                self.value(self.offset(at + 4 + 4 * number), member)
