@@ -1,0 +1,42 @@
+//! Reads one string out of buffers that come from strangers.
+#![tactic(auto)]
+
+use fb_access::{Answer, Path, get};
+use fb_bfbs::load;
+use fb_bytes::Meter;
+use fb_verify::{Checks, Ident, Limits, Scratch, Start, verify};
+use std::alloc::Global;
+
+#[cfg(test)]
+mod tests;
+
+/// The string at `to.name` of a good buffer; none where it is absent, or anything is wrong.
+pub fn name_in<'b>(alloc: Global, schema_file: &[u8], buffer: &'b [u8]) -> Option<&'b [u8]> {
+    // Once for all buffers: the schema with its root table, the path, and room for the walk.
+    let limits = Limits::published();
+    let loaded = load(alloc, schema_file, limits).ok()?;
+    let root = loaded.root?;
+    if !loaded.schema.is_table(root) {
+        return None;
+    }
+    let path = Path::resolve(alloc, &loaded.schema, root, b"to.name").ok()?;
+    let mut scratch = Scratch::new(alloc, limits.depth()).ok()?;
+
+    // For each buffer: the verdict, and then values. Nothing here takes memory or copies.
+    let meter = Meter::new(buffer).ok()?;
+    let verified = verify(
+        meter,
+        &loaded.schema,
+        root,
+        Start::Bare,
+        Ident::Any,
+        limits,
+        Checks::published(),
+        &mut scratch,
+    )
+    .ok()?;
+    match get(&verified, &path) {
+        Answer::Text(text) => Some(text),
+        _ => None,
+    }
+}

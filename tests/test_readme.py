@@ -1,0 +1,62 @@
+"""The README's examples are what stands in the repository and what the program says."""
+
+import pathlib
+import re
+import subprocess
+import sys
+
+TOP = pathlib.Path(__file__).resolve().parent.parent
+README = (TOP / "README.md").read_text()
+PROGRAM = TOP / "crates" / "fbcheck" / "out" / "fbcheck"
+
+
+def block(language, beginning=""):
+    """The first block of this language that begins so."""
+    for found in re.findall(rf"```{language}\n(.*?)```", README, re.S):
+        if found.startswith(beginning):
+            return found
+    return None
+
+
+def first_example():
+    """The first command tells the lines that are printed below it, and ends with status 1."""
+    command, *lines = block("sh", "./fbcheck").splitlines()
+    words = re.fullmatch(r"\./fbcheck (.*) < (\S+)", command)
+    with open(TOP / words[2], "rb") as stream:
+        run = subprocess.run([PROGRAM, *words[1].split()], cwd=TOP, stdin=stream, capture_output=True, timeout=20)
+    wanted = "".join(line.removeprefix("# ") + "\n" for line in lines)
+    return (run.returncode, run.stdout.decode(), run.stderr) == (1, wanted, b"")
+
+
+def library_example():
+    """The example of the library is the crate `name_reader`, which the gate proves and tests."""
+    source = (TOP / "crates" / "name_reader" / "src" / "lib.rt").read_text()
+    return block("rust") == source.replace("#[cfg(test)]\nmod tests;\n\n", "").replace("\n\n\n", "\n\n")
+
+
+def crates_line():
+    """The line of the library's example stands in crates.txt."""
+    return block("text", "name_reader").strip() in (TOP / "crates.txt").read_text().splitlines()
+
+
+def links():
+    """Each file that the README or a page of docs/ links to is there."""
+    pages = [TOP / "README.md", *(TOP / "docs").glob("*.md")]
+    return all((page.parent / target.split("#")[0]).exists()
+               for page in pages
+               for target in re.findall(r"\]\(((?!http)[^)#]+)", page.read_text()))
+
+
+def main():
+    failed = 0
+    checks = [first_example, library_example, crates_line, links]
+    for check in checks:
+        if not check():
+            failed += 1
+            print(f"failed: {check.__doc__}")
+    print(f"{len(checks) - failed} passed, {failed} failed")
+    return 1 if failed else 0
+
+
+if __name__ == "__main__":
+    sys.exit(main())
