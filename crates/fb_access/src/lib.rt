@@ -27,6 +27,10 @@ mod fixtures;
 #[cfg(test)]
 mod get_tests;
 #[cfg(test)]
+mod grammar_tests;
+#[cfg(test)]
 mod path_tests;
 #[cfg(test)]
 mod tests;
+#[cfg(test)]
+mod value_tests;
