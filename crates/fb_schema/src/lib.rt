@@ -26,7 +26,11 @@ pub use schema::Schema;
 pub use views::{FieldView, ObjectView};
 
 #[cfg(test)]
+mod demands_tests;
+#[cfg(test)]
 mod lookup_tests;
+#[cfg(test)]
+mod member_demands_tests;
 #[cfg(test)]
 mod plain;
 #[cfg(test)]
