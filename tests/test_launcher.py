@@ -10,8 +10,14 @@ import time
 
 import outside
 
-TOOLS = ["env", "bash", "dirname", "sed", "find", "sort", "touch", "cat", "mkdir", "cp"]
-CRATES = "# a comment\nlow:\nmiddle: low byteorder\nfbcheck: middle clap\nother: low\n"
+TOOLS = ["env", "bash", "dirname", "find", "touch", "cat", "mkdir", "cp"]
+CRATES = """# NAME: a comment
+fbcheck_more: other
+low:
+fbcheck status=0: middle clap
+middle: low byteorder
+other: low
+"""
 
 # Stands for rt: writes down that it was called, and what of standard input it was given, and makes a program.
 RT = """#!/bin/bash
@@ -44,7 +50,7 @@ class Copy:
         shutil.copy(outside.TOP / "fbcheck", self.top / "fbcheck")
         self.write("crates.txt", CRATES)
         self.write("program", PROGRAM, executable=True)
-        for crate in ("low", "middle", "fbcheck", "other"):
+        for crate in ("low", "middle", "fbcheck", "fbcheck_more", "other"):
             for file in ("src/lib.rt", "specs/Lib.antt", "proofs/deep/Answers.antt"):
                 self.write(f"crates/{crate}/{file}", "text\n")
         self.write("crates/fbcheck/stdin", "the stored input\n")
@@ -135,7 +141,8 @@ def a_changed_file_builds_anew(cases):
     copy.built()
     (copy.top / "crates/low/src/new.rt").unlink()
     cases.same("a file that was taken away", (copy.call(*WORDS).status, copy.calls()), (3, ONE_CALL))
-    for name in ["crates/other/src/lib.rt", "README.md", "crates/fbcheck/stdin", "crates/fbcheck/out/other"]:
+    for name in ["crates/other/src/lib.rt", "crates/fbcheck_more/src/lib.rt", "README.md", "crates/fbcheck/stdin",
+                 "crates/fbcheck/out/other"]:
         copy.built().write(name, "changed\n")
         cases.same(f"{name} is none of it", (copy.call(*WORDS), copy.calls()), (RAN, ""))
 
