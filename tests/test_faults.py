@@ -3,9 +3,8 @@
 import os
 import re
 import resource
-import socket
-import struct
 import threading
+import tty
 
 import buffers
 import outside
@@ -225,25 +224,22 @@ def faults_of_the_input(cases):
 
 
 def an_input_that_breaks_off(cases):
-    """A connection that its other end resets: reading it fails once all before it was read."""
+    """A terminal's far end, of which a read fails once the near end is closed and all before it was read."""
     for name, words, given, heard in [
         ("in a stream, after a message", BY_N, SEVEN, lines(SEVENS[0])),
         ("in a stream, in mid-message", BY_N, SEVEN + SEVEN[:9], lines(SEVENS[0])),
         ("in a bare input", BY_M, ORC, b""),
     ]:
-        listener = socket.create_server(("127.0.0.1", 0))
-        sender = socket.create_connection(listener.getsockname())
-        receiver, _ = listener.accept()
-        program = outside.subprocess.Popen([outside.PROGRAM, *words], stdin=receiver, stdout=-1, stderr=-1)
-        sender.sendall(given)
-        while outside.waiting(receiver):
+        far, near = os.openpty()
+        tty.setraw(near)
+        program = outside.subprocess.Popen([outside.PROGRAM, *words], stdin=far, stdout=-1, stderr=-1)
+        os.write(near, given)
+        while outside.waiting(far) and program.poll() is None:
             pass
-        sender.setsockopt(socket.SOL_SOCKET, socket.SO_LINGER, struct.pack("ii", 1, 0))
-        sender.close()
+        os.close(near)
         out, err = program.communicate(timeout=outside.SECONDS)
         cases.same(name, Ran(program.returncode, out, err), Ran(3, heard, b"fbcheck: read failed\n"))
-        receiver.close()
-        listener.close()
+        os.close(far)
 
 
 def memory_that_is_not_there(cases):
