@@ -274,9 +274,17 @@ def help_is_given(cases):
     cases.same("help is the same each time", run("-h"), Ran(0, run("--help").out, b""))
 
 
+def the_c_library_is_all_it_loads(cases):
+    """What the loader says that it would load for the program."""
+    told = run(env={"LD_TRACE_LOADED_OBJECTS": "1"}).out.decode().splitlines()
+    names = {line.split()[0].rpartition("/")[2].partition(".")[0] for line in told}
+    cases.same("no other library", names - {"linux-vdso", "ld-linux-x86-64"}, {"libc"})
+
+
 if __name__ == "__main__":
     outside.main(
         the_schema_decides, the_root_is_the_named_table, the_identifier_is_wanted, the_depth_is_limited,
         the_tables_are_limited, the_bytes_are_limited, bare_input_is_one_buffer, the_checks_are_switched,
         all_options_together, each_option_left_out_of_all, each_option_changed_among_all, wrong_words, help_is_given,
+        the_c_library_is_all_it_loads,
     )
