@@ -1,11 +1,14 @@
-"""A verifier that only follows the rules, one after another: what the program's lines are held against.
+"""A verifier and a reader that only follow the rules, one after another: what the program's lines are held against.
 
 Its schemas are the rows that schemas.py makes schema files of.
 """
 
+import re
 import struct
 
 SIZES = [0, 1, 1, 1, 1, 2, 2, 4, 4, 8, 8, 4, 8]
+LETTERS = " BBbBhHiIqQfd"
+BOOL, FLOAT = 2, 11
 TEXT, VECTOR, OBJECT, UNION = 13, 14, 15, 16
 NAMES = {
     "V1": "WrongPrefix", "V2": "OutOfBuffer", "V3": "Misaligned", "V4": "ZeroOffset", "V5": "WrongIdentifier",
@@ -30,6 +33,12 @@ class Field:
         kind = row[1]
         self.name, self.slot, self.required = row[0], number_at(row, 3), number_at(row, 7)
         self.base, self.element, self.index = number_at(kind, 0), number_at(kind, 1), number_at(kind, 2)
+        self.default, self.optional = number_at(row, 4), number_at(row, 11)
+
+
+def kind_of(base, index):
+    """A field that has only a type."""
+    return Field({0: "", 1: {0: ("b", base), 2: ("i", index)}})
 
 
 def live_fields(row):
@@ -45,9 +54,13 @@ class Schema:
         self.tables = [None if number_at(row, 2) else live_fields(row) for row in objects]
         self.structs = [(number_at(row, 4), number_at(row, 3)) if number_at(row, 2) else None for row in objects]
         self.unions = [
-            {number_at(member, 1): Field({0: "", 1: member[3]}) for member in row[1] if number_at(member, 1)}
+            {number_at(member, 1): Field({0: member[0], 1: member[3]}) for member in row[1] if number_at(member, 1)}
             for row in enums
         ]
+
+    def is_inline(self, kind):
+        """Whether values of this type stand where they belong, and not behind an offset."""
+        return kind.base < TEXT or kind.base == OBJECT and self.structs[kind.index] is not None
 
     def size(self, base, index):
         """The size and the alignment of what stands inline."""
@@ -150,7 +163,7 @@ class Walk:
         length, alignment = self.schema.size(field.base, field.index)
         if inline is not None and word + length > inline:
             raise Fault("V12", place)
-        if field.base < TEXT or field.base == OBJECT and self.schema.structs[field.index]:
+        if self.schema.is_inline(field):
             self.fits(place, length, place)
             self.aligned(place, alignment)
             return
@@ -208,7 +221,7 @@ class Walk:
         if field.element == UNION:
             self.unions(at, count, field, *types)
         elif field.element == TEXT or field.element == OBJECT and not self.schema.structs[field.index]:
-            kind = Field({0: "", 1: {0: ("b", field.element), 2: ("i", field.index)}})
+            kind = kind_of(field.element, field.index)
             for number in range(count):
                 self.value(self.offset(at + 4 + 4 * number), kind)
 
@@ -219,3 +232,101 @@ class Walk:
             member = self.schema.unions[field.index].get(self.read("B", types + 4 + number))
             if member:
                 self.value(self.offset(at + 4 + 4 * number), member)
+
+
+class End(Exception):
+    """Nothing more is there, on a path: why, or the default that stands for it."""
+
+
+class Reader:
+    """Reads values of a buffer that is good.
+
+    A place is a type, a position, and of a union its type, of a vector of unions the position of their types.
+    """
+
+    def __init__(self, schema, root, data, prefix=True):
+        self.schema, self.root, self.data, self.base = schema, root, data, 4 if prefix else 0
+
+    def read(self, letter, at):
+        return struct.unpack_from(f"<{letter}", self.data, at)[0]
+
+    def behind(self, at):
+        return at + self.read("I", at)
+
+    def value(self, path):
+        """The text of the value at a path."""
+        place = kind_of(OBJECT, self.root), self.behind(self.base), None
+        try:
+            for name, number, member in re.findall(r"(?:^|\.)(\w+)|\[(\d+)\]|@(\w+)", path):
+                if name:
+                    place = self.field(place, name)
+                else:
+                    place = self.element(place, int(number)) if number else self.member(place, member)
+        except End as end:
+            return end.args[0]
+        return self.shown(*place)
+
+    def slot(self, at, slot):
+        """The place of what has this slot in the table there, None where it's absent."""
+        vtable = at - self.read("i", at)
+        word = self.read("H", vtable + slot) if slot + 2 <= self.read("H", vtable) else 0
+        return at + word if word else None
+
+    def field(self, place, name):
+        kind, at, _ = place
+        field = next(field for field in self.schema.tables[kind.index] if field.name == name)
+        here = self.slot(at, field.slot)
+        if here is None:
+            raise End("absent" if field.optional or field.base >= FLOAT else self.default(field))
+        types = self.slot(at, field.slot - 2)
+        if field.base == UNION:
+            return field, here, self.read("B", types) if types else 0
+        if field.base == VECTOR and field.element == UNION:
+            return field, self.behind(here), self.behind(types) if types else None
+        return field, here if self.schema.is_inline(field) else self.behind(here), None
+
+    def default(self, field):
+        low = struct.pack("<q", field.default)[: SIZES[field.base]]
+        return number_text(field.base, low)
+
+    def element(self, place, number):
+        kind, at, types = place
+        if number >= self.read("I", at):
+            raise End("no-element")
+        element = kind_of(kind.element, kind.index)
+        here = at + 4 + number * self.schema.size(element.base, element.index)[0]
+        if element.base == UNION:
+            return element, here, self.read("B", types + 4 + number)
+        return element, here if self.schema.is_inline(element) else self.behind(here), None
+
+    def member(self, place, name):
+        kind, at, value = place
+        members = self.schema.unions[kind.index]
+        if value not in members or members[value].name != name:
+            raise End("other-member")
+        return members[value], self.behind(at), None
+
+    def shown(self, kind, at, value):
+        if kind.base < TEXT:
+            return number_text(kind.base, self.data[at : at + SIZES[kind.base]])
+        if kind.base == TEXT:
+            return quoted(self.data[at + 4 : at + 4 + self.read("I", at)])
+        if kind.base == VECTOR:
+            return f"vector:{self.read('I', at)}"
+        if kind.base == UNION:
+            return f"union:{value}"
+        sizes = self.schema.structs[kind.index]
+        return f"struct:{self.data[at : at + sizes[0]].hex()}" if sizes else "table"
+
+
+def number_text(base, data):
+    if base >= FLOAT:
+        return f"float:{data.hex()}"
+    number = struct.unpack(f"<{LETTERS[base]}", data)[0]
+    return str(number != 0).lower() if base == BOOL else str(number)
+
+
+def quoted(data):
+    marks = {0x22: '\\"', 0x5C: "\\\\"}
+    text = "".join(marks.get(byte, chr(byte) if 0x20 <= byte <= 0x7E else f"\\x{byte:02x}") for byte in data)
+    return f'"{text}"'

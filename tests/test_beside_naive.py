@@ -8,7 +8,7 @@ import struct
 
 import outside
 import schemas
-from naive import Schema, Walk
+from naive import Reader, Schema, Walk
 from outside import Plain, buffer, file_of, lines, prefixed, run
 from schemas import (
     BOOL, BYTE, DOUBLE, INT, LONG, SHORT, TEXT, U_BYTE, U_TYPE, a_struct, a_union, an_object, field, schema, table,
@@ -18,13 +18,14 @@ from schemas import (
 # One table with a field of every kind.
 OBJECTS = [
     table(
-        "All", field("yes", BOOL, 4), field("least", BYTE, 6), field("short", SHORT, 8), field("long", LONG, 10),
+        "All", field("yes", BOOL, 4, 1), field("least", BYTE, 6, -5), field("short", SHORT, 8, 65536 + 7),
+        field("long", LONG, 10, optional=True),
         field("real", DOUBLE, 12), field("place", an_object(2), 14), field("name", TEXT, 16, required=True),
         field("below", an_object(1), 18), field("bytes", vector(U_BYTE), 20), field("longs", vector(LONG), 22),
         field("places", vector(an_object(2)), 24), field("texts", vector(TEXT), 26),
         field("tables", vector(an_object(1)), 28), field("one_type", U_TYPE, 30), field("one", a_union(0), 32),
         field("many_type", vector(U_TYPE), 34), field("many", vector(a_union(0)), 36),
-        field("old", TEXT, 38, deprecated=True), field("last", INT, 40),
+        field("old", TEXT, 38, deprecated=True), field("last", INT, 40, 70_000),
     ),
     table("Below", field("v", INT, 4), field("next", an_object(1), 6)),
     a_struct("Place", 12, 4, field("x", INT, 0), field("y", INT, 4), field("z", INT, 8)),
@@ -105,6 +106,30 @@ def buffers_of_every_kind(cases):
                [f"V{number}" for number in range(2, 13)])
 
 
+PATHS = [
+    "yes", "least", "short", "long", "real", "place", "name", "last", "bytes", "bytes[2]", "longs[1]", "places[1]",
+    "texts", "texts[2]", "below", "below.v", "below.next", "below.next.v", "below.next.next.v", "tables[0].next.v",
+    "tables[1].v", "one_type", "one", "one@Wide", "one@Below.v", "one@Text", "many", "many_type[5]",
+    "many[0]@Below.next.v", "many[1]@Place", "many[2]@Text", "many[4]", "many[5]@Wide", "many[6]@Wide",
+]
+
+
+def values_by_paths(cases):
+    """Of the bent buffers that are still good, the value at each path."""
+    path_of_all = file_of("all.bfbs", schema(OBJECTS, [UNION], root="All"))
+    by = ("--schema", path_of_all, "--no-alignment", "--max-tables", "500")
+    data = buffer(WHOLE, b"KIND", prefix=True)[4:]
+    walk = lambda given: Walk(ALL, 0, prefixed(given), tables=500, alignment=False)
+    given = [bent for bent in variants(data, [1, 4, 252]) if walk(bent).verdict().startswith("ok")]
+    cases.holds("most buffers are good", len(given) > 400, len(given))
+    for path in PATHS:
+        ran = run(*by, "--path", path, given=b"".join(map(prefixed, given)))
+        got = [line.split(" ", 5)[-1] for line in ran.out.decode().splitlines()]
+        wants = [Reader(ALL, 0, prefixed(bent)).value(path) for bent in given]
+        differing = [(bent.hex(), value, want) for bent, value, want in zip(given, got, wants) if value != want]
+        cases.same(f"{path} of each", (len(got), differing[:2]), (len(given), []))
+
+
 def bare_buffers(cases):
     by = ("--schema", file_of("all.bfbs", schema(OBJECTS, [UNION], root="All")), "--bare")
     data = buffer(LITTLE, b"KIND")
@@ -145,4 +170,4 @@ def schema_files_without_a_schema(cases):
 
 
 if __name__ == "__main__":
-    outside.main(buffers_of_every_kind, bare_buffers, schema_files_without_a_schema)
+    outside.main(buffers_of_every_kind, values_by_paths, bare_buffers, schema_files_without_a_schema)
