@@ -1,8 +1,11 @@
 use fb_bytes::{Framer, StreamFault, Taken};
 use linked_list_allocator::LocalHeap;
+use scarce::{Plan, Refusing};
+use std::alloc::{Allocator, Global};
+use std::process::Abort;
 use std::test::Fail;
 
-/// A message of 32 bytes, and its limit.
+/// A message of 32 bytes.
 fn message() -> [u8; 32] {
     let mut bytes = [7; 32];
     bytes[..4].copy_from_slice(&[28, 0, 0, 0]);
@@ -66,5 +69,138 @@ fn refused_memory_fails_the_framer(rt: HostRuntime) -> Result<(), Fail> {
     assert_eq!(rt; framer.finish(), Err(StreamFault::Failed));
     framer.next();
     assert_eq!(rt; framer.held(), 4);
+    Ok(())
+}
+
+/// Two messages of 32 bytes.
+fn equal() -> [u8; 64] {
+    let mut stream = [0; 64];
+    stream[..32].copy_from_slice(&message());
+    stream[32..].copy_from_slice(&message());
+    stream
+}
+
+/// A message of 32 bytes, and one of 64.
+fn longer() -> [u8; 96] {
+    let mut stream = [7; 96];
+    stream[..32].copy_from_slice(&message());
+    stream[32..36].copy_from_slice(&[60, 0, 0, 0]);
+    stream
+}
+
+/// What a framer answered of a stream.
+#[derive(Clone, Copy, Debug, PartialEq, Eq)]
+struct Fed {
+    messages: u32,
+    fault: Option<StreamFault>,
+}
+
+/// Feeds a stream, at most so many bytes at a time, up to the first fault, and gives up each message once it is whole.
+fn feed_all<A: Allocator>(framer: &mut Framer<A>, stream: &[u8], most: usize) -> Fed {
+    let mut messages = 0u32;
+    let mut rest = stream;
+    for _ in 0..stream.len() {
+        match framer.feed(&rest[..most.min(rest.len())]) {
+            Ok(taken) => rest = &rest[taken.used..],
+            Err(fault) => {
+                let fault = Some(fault);
+                return Fed { messages, fault };
+            }
+        }
+        if framer.message().is_some() {
+            messages = messages.saturating_add(1);
+        }
+        framer.next();
+    }
+    Fed {
+        messages,
+        fault: None,
+    }
+}
+
+/// What a framer of limit 64 answers of a stream under a plan, and how many requests that took. A framer that failed
+/// stays so, and asks for nothing more.
+fn fed_under(
+    rt: &impl Abort,
+    alloc: Global,
+    plan: Plan,
+    stream: &[u8],
+    most: usize,
+) -> Result<(Fed, u64), Fail> {
+    let heap = Refusing::new(alloc, plan);
+    let mut framer = Framer::new(&heap, 64)?;
+    let fed = feed_all(&mut framer, stream, most);
+    let asked = heap.asked();
+    if fed.fault.is_some() {
+        assert_eq!(rt; framer.held(), 4, "a prefix");
+        assert!(rt; framer.message().is_none());
+        assert_eq!(rt; framer.feed(stream), Err(StreamFault::Failed));
+        framer.next();
+        assert_eq!(rt; framer.finish(), Err(StreamFault::Failed));
+        assert_eq!(rt; framer.held(), 4);
+    } else {
+        assert_eq!(rt; framer.finish(), Ok(()));
+    }
+    assert_eq!(rt; heap.asked(), asked);
+    Ok((fed, asked))
+}
+
+/// Asserts what is answered of a stream of two messages where each of its requests is refused: as many messages are
+/// whole as requests were granted.
+fn refused_in_turn(
+    rt: &impl Abort,
+    alloc: Global,
+    stream: &[u8],
+    most: usize,
+    requests: u32,
+) -> Result<(), Fail> {
+    let granted = Fed {
+        messages: 2,
+        fault: None,
+    };
+    for messages in 0..requests {
+        let turn = u64::from(messages);
+        let refused = Fed {
+            messages,
+            fault: Some(StreamFault::OutOfMemory),
+        };
+        for plan in Plan::refusing(turn) {
+            let answer = fed_under(rt, alloc, plan, stream, most)?;
+            assert_eq!(rt; answer, (refused, turn + 1), "{plan:?}, by {most}");
+        }
+    }
+    let asked = u64::from(requests);
+    for plan in [Plan::GrantAll, Plan::RefuseFrom(asked)] {
+        let answer = fed_under(rt, alloc, plan, stream, most)?;
+        assert_eq!(rt; answer, (granted, asked), "{plan:?}, by {most}");
+    }
+    Ok(())
+}
+
+#[test]
+fn each_request_of_a_framer_is_refused_in_turn(rt: HostRuntime) -> Result<(), Fail> {
+    let (equal, longer) = (equal(), longer());
+    for most in [1, 3, 4, 5, 31, 32, 33, 64, 96] {
+        refused_in_turn(&rt, rt.alloc(), equal.as_slice(), most, 1)?;
+        refused_in_turn(&rt, rt.alloc(), longer.as_slice(), most, 2)?;
+    }
+    Ok(())
+}
+
+#[test]
+fn a_prefix_past_the_limit_makes_no_request(rt: HostRuntime) -> Result<(), Fail> {
+    let mut behind = [255; 36];
+    behind[..32].copy_from_slice(&message());
+    for most in [1, 2, 3, 4, 31, 32, 35, 36] {
+        for (stream, messages, declared, asked) in [
+            ([255; 4].as_slice(), 0, u32::MAX, 0),
+            ([61, 0, 0, 0, 1].as_slice(), 0, 61, 0),
+            (behind.as_slice(), 1, u32::MAX, 1),
+        ] {
+            let fault = Some(StreamFault::Oversize { declared });
+            let answer = fed_under(&rt, rt.alloc(), Plan::RefuseFrom(asked), stream, most)?;
+            assert_eq!(rt; answer, (Fed { messages, fault }, asked), "by {most}");
+        }
+    }
     Ok(())
 }

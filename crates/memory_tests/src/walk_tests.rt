@@ -1,45 +1,17 @@
 //! A walk takes no memory: it serves where there is none left.
 
+use crate::schemas::nodes;
 use fb_bytes::Meter;
-use fb_schema::{FieldRow, ObjectRow, Schema, TypeRow};
+use fb_schema::Schema;
 use fb_verify::{Checks, Fault, Ident, Limits, Reason, Report, Scratch, ScratchFault, Start, walk};
 use linked_list_allocator::LocalHeap;
+use scarce::{Plan, Refusing};
 use std::alloc::{AllocError, Allocator, Global};
 use std::process::Abort;
 use std::test::Fail;
 
 /// The size of a heap that holds many of the greatest scratches.
 const AMPLE: usize = 0x100_0000;
-
-/// `table Node { next: Node; }`
-fn nodes<'n>(alloc: Global) -> Result<Schema<'n>, Fail> {
-    let next = FieldRow {
-        name: b"next",
-        ty: TypeRow {
-            base: 15,
-            element: 0,
-            index: 0,
-            fixed_length: 0,
-        },
-        slot: 4,
-        default: 0,
-        deprecated: false,
-        required: false,
-        optional: false,
-        offset64: false,
-    };
-    let mut fields = Vec::new(alloc);
-    fields.push(next)?;
-    let mut objects = Vec::new(alloc);
-    objects.push(ObjectRow {
-        name: b"Node",
-        fields,
-        is_struct: false,
-        minalign: 1,
-        bytesize: 0,
-    })?;
-    Ok(Schema::build(alloc, objects, Vec::new(alloc))?)
-}
 
 fn push(bytes: &mut Vec<u8>, word: u32) -> Result<(), AllocError> {
     bytes.extend_from_slice(&word.to_le_bytes())
@@ -107,9 +79,9 @@ fn room_of_scratch(alloc: Global, depth: u32) -> Result<usize, Fail> {
     Ok(room)
 }
 
-/// Asserts what is answered of lists within several limits, by one scratch of this heap, and that no walk takes of the heap.
+/// Asserts what is answered of lists within several limits, by one scratch of this heap, and that no walk takes of it.
 fn lists_are_answered(rt: &impl Abort, alloc: Global, heap: &LocalHeap) -> Result<(), Fail> {
-    let schema = nodes(alloc)?;
+    let schema = nodes(rt, alloc)?;
     let (deep, flat) = (list(alloc, 4095)?, list(alloc, 63)?);
     let mut scratch = Scratch::new(heap, 4096)?;
     let used = heap.used();
@@ -157,4 +129,35 @@ fn refused_memory_makes_no_scratch(rt: HostRuntime) -> Result<(), Fail> {
         assert_eq!(rt; heap.used(), 0);
     }
     Ok(())
+}
+
+/// The depth of a scratch that is made under a plan, and how many requests that took.
+fn made(alloc: Global, depth: u32, plan: Plan) -> (Result<u32, ScratchFault>, u64) {
+    let heap = Refusing::new(alloc, plan);
+    let scratch = Scratch::new(&heap, depth);
+    (scratch.map(|scratch| scratch.depth()), heap.asked())
+}
+
+#[test]
+fn each_request_of_a_scratch_is_refused_in_turn(rt: HostRuntime) {
+    for depth in [0, 1, 64, 4096] {
+        let (granted, asked) = made(rt.alloc(), depth, Plan::GrantAll);
+        assert_eq!(rt; granted, Ok(depth));
+        for turn in 0..asked {
+            for plan in Plan::refusing(turn) {
+                let refused = (Err(ScratchFault::OutOfMemory), turn + 1);
+                assert_eq!(rt; made(rt.alloc(), depth, plan), refused, "{plan:?}");
+            }
+        }
+        let unhurt = made(rt.alloc(), depth, Plan::RefuseFrom(asked));
+        assert_eq!(rt; unhurt, (Ok(depth), asked));
+    }
+}
+
+#[test]
+fn a_scratch_too_deep_asks_for_nothing(rt: HostRuntime) {
+    for plan in [Plan::GrantAll, Plan::RefuseFrom(0)] {
+        let refused = (Err(ScratchFault::LimitOutOfRange), 0);
+        assert_eq!(rt; made(rt.alloc(), 4097, plan), refused, "{plan:?}");
+    }
 }

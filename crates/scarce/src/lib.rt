@@ -1,6 +1,7 @@
 //! An allocator for tests: it counts the requests for memory, refuses those that a plan names, and hands the others on.
 //!
-//! A little heap refuses what doesn't fit; this refuses a request whatever its size, so that a test can refuse each in turn.
+//! A little heap refuses what doesn't fit; this refuses a request whatever its size, so that a test can refuse each
+//! in turn.
 #![tactic(auto)]
 
 mod plans;

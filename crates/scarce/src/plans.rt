@@ -15,6 +15,11 @@ pub enum Plan {
 }
 
 impl Plan {
+    /// The plans that refuse this request: it alone, and it with all later ones.
+    pub fn refusing(turn: u64) -> [Plan; 2] {
+        [Plan::RefuseOne(turn), Plan::RefuseFrom(turn)]
+    }
+
     /// Whether the request with this number is granted.
     pub fn grants(self, turn: u64) -> bool
         ensures { result ≡ granted self turn }
