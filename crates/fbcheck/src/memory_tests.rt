@@ -1,4 +1,5 @@
-//! What a run answers where memory is scarce, by a little heap that refuses what doesn't fit.
+//! What a run answers where memory is scarce: over little heaps that refuse what doesn't fit, and with each request
+//! refused in turn.
 
 use crate::fault::RunFault;
 use crate::options::Options;
@@ -8,15 +9,32 @@ use crate::run::run_within;
 use crate::tests::{SEVEN, Slow, schema_n, stream_options};
 use fb_access::Path;
 use fb_bytes::{Counted, Source, StreamFault};
+use fb_schema::{FieldRow, ObjectRow, Schema, TypeRow};
 use linked_list_allocator::LocalHeap;
-use std::alloc::Global;
+use scarce::{Plan, Refusing};
+use std::alloc::{Allocator, Global};
+use std::process::Abort;
 use std::test::Fail;
+
+/// The base type of a float in reflection.fbs.
+const FLOAT: i8 = 11;
 
 /// More bytes than a run over two short messages takes beside its read buffer.
 const AMPLE: usize = 8192;
 
 /// The lines of `SEVEN` and a longer message, with the value at `v`.
 const TWO_LINES: &str = "1 ok tables=1 depth=1 reads=5 7\n2 ok tables=1 depth=1 reads=5 7\n";
+
+/// The same lines without a value.
+const PLAIN_LINES: &str = "1 ok tables=1 depth=1 reads=5\n2 ok tables=1 depth=1 reads=5\n";
+
+/// By `table G { f: float; }`: `f` is 1.5.
+const ONE_AND_A_HALF: [u8; 20] = [
+    12, 0, 0, 0, 6, 0, 8, 0, 4, 0, 0, 0, 8, 0, 0, 0, 0, 0, 0xc0, 0x3f,
+];
+
+/// Its line, with the value at `f`.
+const FLOAT_LINE: &str = "1 ok tables=1 depth=1 reads=4 float:0000c03f\n";
 
 /// `SEVEN`, and then the same with 32 bytes more behind it.
 fn longer() -> [u8; 96] {
@@ -27,6 +45,62 @@ fn longer() -> [u8; 96] {
     stream
 }
 
+/// `SEVEN` twice.
+fn equal() -> [u8; 64] {
+    let mut stream = [0; 64];
+    stream[..32].copy_from_slice(&SEVEN);
+    stream[32..].copy_from_slice(&SEVEN);
+    stream
+}
+
+/// `table G { f: float; }`
+fn schema_g(alloc: Global) -> Result<Schema<'static>, Fail> {
+    let mut fields = Vec::new(alloc);
+    fields.push(FieldRow {
+        name: b"f",
+        ty: TypeRow {
+            base: FLOAT,
+            element: 0,
+            index: -1,
+            fixed_length: 0,
+        },
+        slot: 4,
+        default: 0,
+        deprecated: false,
+        required: false,
+        optional: false,
+        offset64: false,
+    })?;
+    let mut objects = Vec::new(alloc);
+    objects.push(ObjectRow {
+        name: b"G",
+        fields,
+        is_struct: false,
+        minalign: 4,
+        bytesize: 0,
+    })?;
+    Ok(Schema::build(alloc, objects, Vec::new(alloc))?)
+}
+
+/// What is run over: bytes, of which one read gives at most so many, and the path that is asked for.
+#[derive(Clone, Copy)]
+struct Input<'a> {
+    bytes: &'a [u8],
+    most: usize,
+    bare: bool,
+    path: Option<&'a [u8]>,
+}
+
+/// A stream of which the value at `v` is asked for.
+fn stream_with_path(bytes: &[u8], most: usize) -> Input<'_> {
+    Input {
+        bytes,
+        most,
+        bare: false,
+        path: Some(b"v"),
+    }
+}
+
 /// One run: its answer, what was written, and how many reads were made.
 #[derive(Drop)]
 struct Run {
@@ -35,38 +109,46 @@ struct Run {
     reads: u128,
 }
 
-/// A run by N with the path `v` over a stream in pieces of a given size, by a heap of so many bytes.
-fn run_in(alloc: Global, room: usize, stream: &[u8], most: usize) -> Result<Run, Fail> {
-    let schema = schema_n(alloc)?;
+/// A run by the first table of a schema, which takes its memory of this heap.
+fn run_by<A: Allocator>(
+    alloc: Global,
+    heap: A,
+    schema: &Schema<'static>,
+    input: Input<'_>,
+) -> Result<Run, Fail> {
     if !schema.is_table(0) {
         return Err(Fail::from("table"));
     }
+    let path = match input.path {
+        Some(text) => Some(Path::resolve(alloc, schema, 0, text)?),
+        None => None,
+    };
     let options = Options {
-        path: Some(Path::resolve(alloc, &schema, 0, b"v")?),
+        path,
+        bare: input.bare,
         ..stream_options(64)
     };
-    let heap = LocalHeap::new(alloc, room)?;
     let mut reader = Counted::new(Slow {
-        rest: stream,
-        most,
+        rest: input.bytes,
+        most: input.most,
         calls: 0,
         fails_at: 0,
     });
     let mut writer = Counted::new(Vec::new(alloc));
-    let answer = run_within(
-        &heap,
-        &mut reader,
-        &mut writer,
-        &schema,
-        &options,
-        MOST_TURNS,
-    );
+    let answer = run_within(heap, &mut reader, &mut writer, schema, &options, MOST_TURNS);
     let reads = reader.calls();
     Ok(Run {
         answer,
         written: writer.into_inner(),
         reads,
     })
+}
+
+/// A run by N with the path `v` over a stream in pieces of a given size, by a heap of so many bytes.
+fn run_in(alloc: Global, room: usize, stream: &[u8], most: usize) -> Result<Run, Fail> {
+    let schema = schema_n(alloc)?;
+    let heap = LocalHeap::new(alloc, room)?;
+    run_by(alloc, &heap, &schema, stream_with_path(stream, most))
 }
 
 #[test]
@@ -117,4 +199,122 @@ fn a_refused_prefix_takes_no_memory(rt: HostRuntime) -> Result<(), Fail> {
         }
     }
     Err(Fail::from("no room"))
+}
+
+/// A run under a plan, and how many requests for memory it made.
+fn run_under(
+    alloc: Global,
+    plan: Plan,
+    schema: &Schema<'static>,
+    input: Input<'_>,
+) -> Result<(Run, u64), Fail> {
+    let heap = Refusing::new(alloc, plan);
+    let run = run_by(alloc, &heap, schema, input)?;
+    Ok((run, heap.asked()))
+}
+
+/// How many requests a run makes that is refused none.
+fn requests(alloc: Global, schema: &Schema<'static>, input: Input<'_>) -> Result<u64, Fail> {
+    let (run, asked) = run_under(alloc, Plan::GrantAll, schema, input)?;
+    run.answer.ok().ok_or("a fault")?;
+    Ok(asked)
+}
+
+/// How many lines of `text` were written, each of them whole and from the first on.
+fn lines_written(text: &str, written: &[u8]) -> Result<usize, Fail> {
+    let front = text.as_bytes().get(..written.len());
+    if front != Some(written) || !(written.is_empty() || written.ends_with(b"\n")) {
+        return Err(Fail::from("no lines of the text"));
+    }
+    Ok(written.iter().filter(|byte| **byte == b'\n').count())
+}
+
+/// Asserts what a run answers where each of its requests is refused: want of memory, without a further request, and
+/// without a read where the read buffer or the scratch was refused. Answers the most lines that such a run wrote.
+fn refused_in_turn(
+    rt: &impl Abort,
+    alloc: Global,
+    schema: &Schema<'static>,
+    input: Input<'_>,
+    text: &str,
+) -> Result<usize, Fail> {
+    let mut most = 0;
+    let asked = requests(alloc, schema, input)?;
+    for turn in 0..asked {
+        for plan in Plan::refusing(turn) {
+            let (run, made) = run_under(alloc, plan, schema, input)?;
+            assert_eq!(rt; run.answer, Err(RunFault::OutOfMemory), "{plan:?}");
+            assert_eq!(rt; made, turn + 1, "{plan:?}");
+            assert_eq!(rt; run.reads == 0, turn < 2, "{plan:?}");
+            most = most.max(lines_written(text, run.written.as_slice())?);
+        }
+    }
+    let (run, made) = run_under(alloc, Plan::RefuseFrom(asked), schema, input)?;
+    assert!(rt; run.answer.is_ok());
+    assert_eq!(rt; made, asked);
+    assert_eq!(rt; run.written.as_slice(), text.as_bytes());
+    Ok(most)
+}
+
+#[test]
+fn each_request_of_a_run_over_a_stream_is_refused_in_turn(rt: HostRuntime) -> Result<(), Fail> {
+    let schema = schema_n(rt.alloc())?;
+    let (equal, longer) = (equal(), longer());
+    for most in [1, 7, 32, 64, 96] {
+        let plain = Input {
+            path: None,
+            ..stream_with_path(equal.as_slice(), most)
+        };
+        let asked = stream_with_path(equal.as_slice(), most);
+        let grown = stream_with_path(longer.as_slice(), most);
+        refused_in_turn(&rt, rt.alloc(), &schema, plain, PLAIN_LINES)?;
+        refused_in_turn(&rt, rt.alloc(), &schema, asked, TWO_LINES)?;
+        let lines = refused_in_turn(&rt, rt.alloc(), &schema, grown, TWO_LINES)?;
+        assert_eq!(rt; lines, 1, "the first message is told, by {most}");
+    }
+    Ok(())
+}
+
+#[test]
+fn each_request_of_a_run_over_a_bare_buffer_is_refused_in_turn(
+    rt: HostRuntime,
+) -> Result<(), Fail> {
+    let schema = schema_g(rt.alloc())?;
+    for most in [1, 7, 20] {
+        let input = Input {
+            bytes: ONE_AND_A_HALF.as_slice(),
+            most,
+            bare: true,
+            path: Some(b"f"),
+        };
+        let lines = refused_in_turn(&rt, rt.alloc(), &schema, input, FLOAT_LINE)?;
+        assert_eq!(rt; lines, 0, "by {most}");
+    }
+    Ok(())
+}
+
+#[test]
+fn a_refused_prefix_makes_no_request(rt: HostRuntime) -> Result<(), Fail> {
+    let schema = schema_n(rt.alloc())?;
+    let mut stream = [255; 36];
+    stream[..32].copy_from_slice(&SEVEN);
+    for most in [1, 31, 32, 33, 36] {
+        let alone = stream_with_path(SEVEN.as_slice(), most);
+        let behind = stream_with_path(stream.as_slice(), most);
+        let asked = requests(rt.alloc(), &schema, alone)?;
+        let (run, made) = run_under(rt.alloc(), Plan::RefuseFrom(asked), &schema, behind)?;
+        let declared = u32::MAX;
+        assert_eq!(rt;
+            run.answer,
+            Err(RunFault::Stream(StreamFault::Oversize { declared })),
+            "by {most}"
+        );
+        assert_eq!(rt; made, asked, "by {most}");
+        assert_eq!(rt;
+            lines_written(TWO_LINES, run.written.as_slice())?,
+            1,
+            "by {most}"
+        );
+    }
+    Ok(())
 }
