@@ -4,5 +4,5 @@ use Rattle.fb_schema.specs.declared.lists.Lists.{Lists}
 use Rattle.fb_schema.specs.Flat.{part}
 
 -- the lists, one by one
-abbrev pub lists_of : {T : Type 0} → Lists T → List (List T)
+abbrev pub lists_of : {T A : Type 0} → Lists T A → List (List T)
 lists_of s = map (part s.rows.items) s.ranges.items

@@ -19,7 +19,7 @@ abbrev pub view_name : FieldView → Bor (List ℕ)
 view_name f = f.name
 
 -- the live fields of these objects among the rows, each list with the order of its names, and the longest
-pub record IsLiveIndex (rows : Rows) (objects : List Object) (index : LiveIndex) : Type 0 where
+pub record IsLiveIndex {A : Type 0} (rows : Rows) (objects : List Object) (index : LiveIndex A) : Type 0 where
   pub live : map (map live_of_view) (lists_of index.fields) ≡ map (λ o. live_in rows (Some o)) objects
   pub names : AreMatched (λ fields order. IsOrderOf name_cmp (map view_name fields) order) (lists_of index.fields) (lists_of index.names)
   pub widest : index.widest ≡ widest_of objects
@@ -30,7 +30,7 @@ abbrev pub member_kind : Rows → Member → Kind
 member_kind rows m = unwrap_or (kind_of rows m.ty) Text
 
 -- the kinds of these enums' members, and the orders of their values and names
-pub record IsMemberIndex (rows : Rows) (enums : List EnumRow) (index : MemberIndex) : Type 0 where
+pub record IsMemberIndex {A : Type 0} (rows : Rows) (enums : List EnumRow) (index : MemberIndex A) : Type 0 where
   pub kinds : AreMatched (λ row kinds. kinds ≡ map (λ m. member_kind rows (member_of_row m)) row.members.items) enums (lists_of index.kinds)
   pub values : AreMatched (λ row order. IsOrderOf int_cmp (map member_value row.members.items) order) enums (lists_of index.values)
   pub names : AreMatched (λ row order. IsOrderOf member_cmp (map member_key row.members.items) order) enums (lists_of index.names)

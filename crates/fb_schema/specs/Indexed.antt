@@ -11,7 +11,7 @@ use Rattle.fb_schema.specs.Order.{IsOrderOf, name_cmp, object_name}
 use Rattle.fb_schema.specs.Rows.{rows_of, AreFew}
 
 -- the rows are legal, and this is their index
-pub record IsIndexed (objects : List ObjectRow) (enums : List EnumRow) (order : List (Bor (List ℕ) × ℕ)) (live : LiveIndex) (members : MemberIndex) : Type 0 where
+pub record IsIndexed {A : Type 0} (objects : List ObjectRow) (enums : List EnumRow) (order : List (Bor (List ℕ) × ℕ)) (live : LiveIndex A) (members : MemberIndex A) : Type 0 where
   pub few : AreFew objects enums
   pub legal : IsLegal (rows_of objects enums)
   pub names : IsOrderOf name_cmp (map object_name objects) order

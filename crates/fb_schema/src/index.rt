@@ -3,19 +3,20 @@
 use crate::kinds::Kind;
 use crate::lists::Lists;
 use crate::views::FieldView;
+use std::alloc::Allocator;
 
 /// The live fields of each object in rising slot, the order of their names, and the length of the longest list.
 #[derive(Drop)]
-pub struct LiveIndex<'n> {
-    pub fields: Lists<FieldView<'n>>,
-    pub names: Lists<(&'n [u8], u32)>,
+pub struct LiveIndex<'n, A: Allocator> {
+    pub fields: Lists<FieldView<'n>, A>,
+    pub names: Lists<(&'n [u8], u32), A>,
     pub widest: u32,
 }
 
 /// The kinds of each enum's members, and the orders of their values and names.
 #[derive(Drop)]
-pub struct MemberIndex<'n> {
-    pub kinds: Lists<Kind>,
-    pub values: Lists<(i64, u32)>,
-    pub names: Lists<((bool, &'n [u8]), u32)>,
+pub struct MemberIndex<'n, A: Allocator> {
+    pub kinds: Lists<Kind, A>,
+    pub values: Lists<(i64, u32), A>,
+    pub names: Lists<((bool, &'n [u8]), u32), A>,
 }

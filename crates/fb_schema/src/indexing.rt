@@ -15,13 +15,13 @@ use crate::order::put_in_order;
 use crate::rows::MemberRow;
 use crate::types::RowLists;
 use crate::views::FieldView;
-use std::alloc::{AllocError, Global};
+use std::alloc::{AllocError, Allocator};
 
 /// The names of live fields in order.
-fn view_names<'n>(
-    alloc: Global,
+fn view_names<'n, A: Allocator>(
+    alloc: A,
     fields: &[FieldView<'n>],
-) -> Result<Vec<(&'n [u8], u32)>, AllocError>
+) -> Result<Vec<(&'n [u8], u32), A>, AllocError>
     requires { length fields.now < 2 ^ 31 }
     ensures { IfOk result (λ order. IsOrderOf name_cmp (map view_name fields.now) order.items) }
 {
@@ -34,11 +34,11 @@ fn view_names<'n>(
 }
 
 /// The kinds of members.
-fn member_kinds(
-    alloc: Global,
+fn member_kinds<A: Allocator>(
+    alloc: A,
     rows: &RowLists,
     members: &[MemberRow],
-) -> Result<Vec<Kind>, AllocError>
+) -> Result<Vec<Kind, A>, AllocError>
     ensures { IfOk result (λ kinds. kinds.items ≡ map (λ m. member_kind (borrowed_rows rows.now) (member_of_row m)) members.now) }
 {
     let mut kinds = Vec::new(alloc);
@@ -49,7 +49,10 @@ fn member_kinds(
 }
 
 /// The live fields of each object.
-pub fn live_index<'n>(alloc: Global, rows: &RowLists<'_, 'n>) -> Result<LiveIndex<'n>, AllocError>
+pub fn live_index<'n, A: Allocator + Copy>(
+    alloc: A,
+    rows: &RowLists<'_, 'n>,
+) -> Result<LiveIndex<'n, A>, AllocError>
     requires legal { IsLegal (borrowed_rows rows.now) }
     requires few_fields { All (λ o. vec_len o.fields < 2 ^ 31) rows.now.objects.now }
     ensures { IfOk result (IsLiveIndex (borrowed_rows rows.now) (borrowed_rows rows.now).objects) }
@@ -70,10 +73,10 @@ pub fn live_index<'n>(alloc: Global, rows: &RowLists<'_, 'n>) -> Result<LiveInde
 }
 
 /// The members of each enum.
-pub fn member_index<'n>(
-    alloc: Global,
+pub fn member_index<'n, A: Allocator + Copy>(
+    alloc: A,
     rows: &RowLists<'_, 'n>,
-) -> Result<MemberIndex<'n>, AllocError>
+) -> Result<MemberIndex<'n, A>, AllocError>
     requires { All (λ e. vec_len e.members < 2 ^ 31) rows.now.enums.now }
     ensures { IfOk result (IsMemberIndex (borrowed_rows rows.now) rows.now.enums.now) }
 {

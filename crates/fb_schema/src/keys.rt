@@ -6,13 +6,13 @@ ghost use Rattle.fb_schema.specs.Order.{IsOrderOf, name_cmp, member_cmp, object_
 
 use crate::order::put_in_order;
 use crate::rows::{FieldRow, MemberRow, ObjectRow};
-use std::alloc::{AllocError, Global};
+use std::alloc::{AllocError, Allocator};
 
 /// The names of objects.
-pub fn object_names<'n>(
-    alloc: Global,
+pub fn object_names<'n, A: Allocator>(
+    alloc: A,
     objects: &[ObjectRow<'n>],
-) -> Result<Vec<(&'n [u8], u32)>, AllocError>
+) -> Result<Vec<(&'n [u8], u32), A>, AllocError>
     requires { length objects.now < 2 ^ 31 }
     ensures { IfOk result (λ order. IsOrderOf name_cmp (map object_name objects.now) order.items) }
 {
@@ -25,10 +25,10 @@ pub fn object_names<'n>(
 }
 
 /// The names of fields.
-pub fn field_names<'n>(
-    alloc: Global,
+pub fn field_names<'n, A: Allocator>(
+    alloc: A,
     fields: &[FieldRow<'n>],
-) -> Result<Vec<(&'n [u8], u32)>, AllocError>
+) -> Result<Vec<(&'n [u8], u32), A>, AllocError>
     requires { length fields.now < 2 ^ 31 }
     ensures { IfOk result (λ order. IsOrderOf name_cmp (map field_name fields.now) order.items) }
 {
@@ -41,7 +41,10 @@ pub fn field_names<'n>(
 }
 
 /// The slots of fields.
-pub fn field_slots(alloc: Global, fields: &[FieldRow]) -> Result<Vec<(u16, u32)>, AllocError>
+pub fn field_slots<A: Allocator>(
+    alloc: A,
+    fields: &[FieldRow],
+) -> Result<Vec<(u16, u32), A>, AllocError>
     requires { length fields.now < 2 ^ 31 }
     ensures { IfOk result (λ order. IsOrderOf nat_cmp (map field_slot fields.now) order.items) }
 {
@@ -54,7 +57,10 @@ pub fn field_slots(alloc: Global, fields: &[FieldRow]) -> Result<Vec<(u16, u32)>
 }
 
 /// The values of members.
-pub fn member_values(alloc: Global, members: &[MemberRow]) -> Result<Vec<(i64, u32)>, AllocError>
+pub fn member_values<A: Allocator>(
+    alloc: A,
+    members: &[MemberRow],
+) -> Result<Vec<(i64, u32), A>, AllocError>
     requires { length members.now < 2 ^ 31 }
     ensures { IfOk result (λ order. IsOrderOf int_cmp (map member_value members.now) order.items) }
 {
@@ -74,10 +80,10 @@ pub fn is_none(member: &MemberRow) -> bool
 }
 
 /// The names of members, apart from those of the union without a value.
-pub fn member_names<'n>(
-    alloc: Global,
+pub fn member_names<'n, A: Allocator>(
+    alloc: A,
     members: &[MemberRow<'n>],
-) -> Result<Vec<((bool, &'n [u8]), u32)>, AllocError>
+) -> Result<Vec<((bool, &'n [u8]), u32), A>, AllocError>
     requires { length members.now < 2 ^ 31 }
     ensures { IfOk result (λ order. IsOrderOf member_cmp (map member_key members.now) order.items) }
 {

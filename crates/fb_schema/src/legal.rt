@@ -11,11 +11,11 @@ use crate::order::first_again;
 use crate::rows::{EnumRow, ObjectRow};
 use crate::types::RowLists;
 use crate::walk::{is_at, members_fault, struct_fields_fault, table_fields_fault};
-use std::alloc::{AllocError, Global};
+use std::alloc::{AllocError, Allocator};
 
 /// The first demand that a field of an object breaks, with the field's place.
-fn fields_fault(
-    alloc: Global,
+fn fields_fault<A: Allocator + Copy>(
+    alloc: A,
     rows: &RowLists,
     object: &ObjectRow,
 ) -> Result<Option<(Code, u32)>, AllocError>
@@ -31,8 +31,8 @@ fn fields_fault(
 }
 
 /// The first demand that a member of an enum breaks, with the member's place. An enum that is no union is asked nothing.
-fn union_fault(
-    alloc: Global,
+fn union_fault<A: Allocator + Copy>(
+    alloc: A,
     rows: &RowLists,
     row: &EnumRow,
 ) -> Result<Option<(Code, u32)>, AllocError>
@@ -47,7 +47,11 @@ fn union_fault(
 }
 
 /// Refuses objects by the first demand that one of them breaks. `again` is the first object whose name stood before.
-fn objects_legal(alloc: Global, rows: &RowLists, again: Option<u32>) -> Result<(), SchemaFault>
+fn objects_legal<A: Allocator + Copy>(
+    alloc: A,
+    rows: &RowLists,
+    again: Option<u32>,
+) -> Result<(), SchemaFault>
     requires few { length rows.now.objects.now < 2 ^ 31 }
     requires few_fields { All (λ o. vec_len o.fields < 2 ^ 31) rows.now.objects.now }
     requires again { IsFirstAgain name_cmp (map object_name rows.now.objects.now) again }
@@ -78,7 +82,7 @@ fn objects_legal(alloc: Global, rows: &RowLists, again: Option<u32>) -> Result<(
 }
 
 /// Refuses unions by the first demand that one of their members breaks.
-fn unions_legal(alloc: Global, rows: &RowLists) -> Result<(), SchemaFault>
+fn unions_legal<A: Allocator + Copy>(alloc: A, rows: &RowLists) -> Result<(), SchemaFault>
     requires few { length rows.now.enums.now < 2 ^ 31 }
     requires few_members { All (λ e. vec_len e.members < 2 ^ 31) rows.now.enums.now }
     requires objects { AreClear (borrowed_rows rows.now) 0 }
@@ -102,7 +106,11 @@ fn unions_legal(alloc: Global, rows: &RowLists) -> Result<(), SchemaFault>
 }
 
 /// Refuses rows by the first demand that they break. The order is that of the objects' names.
-pub fn legal(alloc: Global, rows: &RowLists, order: &[(&[u8], u32)]) -> Result<(), SchemaFault>
+pub fn legal<A: Allocator + Copy>(
+    alloc: A,
+    rows: &RowLists,
+    order: &[(&[u8], u32)],
+) -> Result<(), SchemaFault>
     requires few { AreFew rows.now.objects.now rows.now.enums.now }
     requires order { IsOrderOf name_cmp (map object_name rows.now.objects.now) order.now }
     ensures legal { OnOk result (IsLegal (borrowed_rows rows.now)) }

@@ -3,21 +3,21 @@
 ghost use Rattle.std.specs.Prelude.{length};
 ghost use Rattle.fb_schema.specs.Flat.{AreWithin};
 
-use std::alloc::{AllocError, Global};
+use std::alloc::{AllocError, Allocator};
 
 /// Lists, one after another in one vector, with a range for each.
 #[derive(Drop)]
-pub struct Lists<T: Drop> {
-    ranges: Vec<(usize, usize)>,
-    rows: Vec<T>,
+pub struct Lists<T: Drop, A: Allocator> {
+    ranges: Vec<(usize, usize), A>,
+    rows: Vec<T, A>,
     ghost within: { AreWithin rows.items ranges.items },
 }
 
-impl<T: Copy> Lists<T> {
+impl<T: Copy, A: Allocator + Copy> Lists<T, A> {
     ghost use Rattle.std.specs.Prelude.{◌≡◌, ◌<◌, [], ◌∷◌, ◌++◌, OnOk, slice_get, Some};
     ghost use Rattle.fb_schema.specs.FlatLists.{lists_of};
 
-    pub fn new(alloc: Global) -> Lists<T>
+    pub fn new(alloc: A) -> Lists<T, A>
         ensures { lists_of result ≡ [] }
     {
         Lists {

@@ -8,10 +8,13 @@ use crate::kinds::Kind;
 use crate::rows::{FieldRow, ObjectRow};
 use crate::types::RowLists;
 use crate::views::FieldView;
-use std::alloc::{AllocError, Global};
+use std::alloc::{AllocError, Allocator};
 
 /// The rows of live fields in rising slot.
-fn live_rows<'n>(alloc: Global, fields: &[FieldRow<'n>]) -> Result<Vec<FieldRow<'n>>, AllocError>
+fn live_rows<'n, A: Allocator>(
+    alloc: A,
+    fields: &[FieldRow<'n>],
+) -> Result<Vec<FieldRow<'n>, A>, AllocError>
     requires { AreApart (map field_of fields.now) }
     ensures value { IfOk result (λ live. map field_of live.items ≡ by_slot (filter is_live (map field_of fields.now))) }
     ensures rising { IfOk result (λ live. AreRising live.items) }
@@ -83,11 +86,11 @@ fn view_of<'n>(rows: &RowLists, live: &[FieldRow<'n>], field: &FieldRow<'n>) -> 
 }
 
 /// The views of the live fields of a table.
-fn views<'n>(
-    alloc: Global,
+fn views<'n, A: Allocator>(
+    alloc: A,
     rows: &RowLists,
     live: &[FieldRow<'n>],
-) -> Result<Vec<FieldView<'n>>, AllocError>
+) -> Result<Vec<FieldView<'n>, A>, AllocError>
     requires few { length live.now < 2 ^ 31 }
     requires rising { AreRising live.now }
     requires spaced { AreSpaced (map field_of live.now) }
@@ -102,11 +105,11 @@ fn views<'n>(
 }
 
 /// The live fields of an object, none where it is a struct.
-pub fn table_views<'n>(
-    alloc: Global,
+pub fn table_views<'n, A: Allocator + Copy>(
+    alloc: A,
     rows: &RowLists,
     object: &ObjectRow<'n>,
-) -> Result<Vec<FieldView<'n>>, AllocError>
+) -> Result<Vec<FieldView<'n>, A>, AllocError>
     requires few { vec_len object.now.fields < 2 ^ 31 }
     requires apart { object.now.is_struct ≡ false → AreApart (map field_of object.now.fields.items) }
     requires spaced { object.now.is_struct ≡ false → AreSpaced (by_slot (filter is_live (map field_of object.now.fields.items))) }

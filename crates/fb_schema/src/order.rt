@@ -3,8 +3,10 @@
 ghost use Rattle.std.specs.Prelude.{◌≡◌, List, MatchOption, min};
 ghost use Rattle.fb_schema.specs.Order.{IsOrderOf, IsFirstAgain, IsPlaceOf, numbered};
 
+use std::alloc::Allocator;
+
 /// Puts keys with their places into order.
-pub fn put_in_order<K: Ord>(order: &mut Vec<(K, u32)>)
+pub fn put_in_order<K: Ord, A: Allocator>(order: &mut Vec<(K, u32), A>)
     ensures { (keys : List K) → order.old.items ≡ numbered 0 keys → IsOrderOf K.cmp keys order.new.items }
 {
     order.sort_unstable();

@@ -20,20 +20,22 @@ use crate::order::place_of;
 use crate::rows::{EnumRow, ObjectRow};
 use crate::types::RowLists;
 use crate::views::{FieldView, ObjectView};
-use std::alloc::Global;
+use std::alloc::{Allocator, Global};
 use std::marker::Model;
 
 /// Rows that are legal, with an index by which look-ups answer. Contracts see the rows that were handed in.
+///
+/// The rows stay in the memory that they came in; the index is in that of the allocator which `build` was given.
 #[derive(Drop)]
-pub struct Schema<'n> {
+pub struct Schema<'n, A: Allocator = Global> {
     objects: Vec<ObjectRow<'n>>,
     enums: Vec<EnumRow<'n>>,
-    order: Vec<(&'n [u8], u32)>,
-    live: LiveIndex<'n>,
-    members: MemberIndex<'n>,
+    order: Vec<(&'n [u8], u32), A>,
+    live: LiveIndex<'n, A>,
+    members: MemberIndex<'n, A>,
 }
 
-impl<'n> Model for Schema<'n> {
+impl<'n, A: Allocator> Model for Schema<'n, A> {
     ghost use Rattle.fb_schema.specs.Rows.{Rows, rows_of};
     ghost use Rattle.fb_schema.specs.Indexed.{IsIndexed};
 
@@ -44,14 +46,14 @@ impl<'n> Model for Schema<'n> {
     ghost invariant = { λ s. IsIndexed s.objects.items s.enums.items s.order.items s.live s.members };
 }
 
-impl<'n> Schema<'n> {
+impl<'n, A: Allocator + Copy> Schema<'n, A> {
     /// Takes rows that are legal, and refuses others by the first demand that they break (C1 to C8). C9 is answered only where a
     /// growth was refused. What was handed in is dropped on a refusal.
     pub fn build(
-        alloc: Global,
+        alloc: A,
         objects: Vec<ObjectRow<'n>>,
         enums: Vec<EnumRow<'n>>,
-    ) -> Result<Schema<'n>, SchemaFault>
+    ) -> Result<Schema<'n, A>, SchemaFault>
         requires { AreFew objects.items enums.items }
         ensures legal { OnOk result (IsLegal (rows_of objects.entry.items enums.entry.items)) }
         ensures rows { IfOk result (λ s. s ≡ rows_of objects.entry.items enums.entry.items) }

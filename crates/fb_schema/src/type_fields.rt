@@ -12,14 +12,14 @@ ghost use Rattle.fb_schema.specs.declared.kinds.TypeField.{TypeField};
 use crate::kinds::TypeField;
 use crate::rows::FieldRow;
 use crate::types::{is_type_field, shape_of};
-use std::alloc::{AllocError, Global};
+use std::alloc::{AllocError, Allocator};
 
 /// The slots of the live type fields, in order.
-pub fn type_slots(
-    alloc: Global,
+pub fn type_slots<A: Allocator>(
+    alloc: A,
     wanted: TypeField,
     fields: &[FieldRow],
-) -> Result<Vec<u16>, AllocError>
+) -> Result<Vec<u16, A>, AllocError>
     ensures { IfOk result (λ slots. AreTypeSlots wanted (map field_of fields.now) slots.items) }
 {
     let mut slots = Vec::new(alloc);

@@ -14,7 +14,7 @@ use crate::order::first_again;
 use crate::rows::{FieldRow, MemberRow, ObjectRow};
 use crate::type_fields::{stands_below, type_slots};
 use crate::types::RowLists;
-use std::alloc::{AllocError, Global};
+use std::alloc::{AllocError, Allocator};
 
 pub fn is_at(again: Option<u32>, place: usize) -> bool
     ensures { result ≡ is_at again place }
@@ -26,8 +26,8 @@ pub fn is_at(again: Option<u32>, place: usize) -> bool
 }
 
 /// The first demand that a field of a struct breaks, with the field's place.
-pub fn struct_fields_fault(
-    alloc: Global,
+pub fn struct_fields_fault<A: Allocator + Copy>(
+    alloc: A,
     rows: &RowLists,
     object: &ObjectRow,
     fields: &[FieldRow],
@@ -47,8 +47,8 @@ pub fn struct_fields_fault(
 }
 
 /// The first demand that a field of a table breaks, with the field's place.
-pub fn table_fields_fault(
-    alloc: Global,
+pub fn table_fields_fault<A: Allocator + Copy>(
+    alloc: A,
     rows: &RowLists,
     fields: &[FieldRow],
 ) -> Result<Option<(Code, u32)>, AllocError>
@@ -87,8 +87,8 @@ fn is_named(member: &MemberRow, again: Option<u32>, place: usize) -> bool
 }
 
 /// The first demand that a member of a union breaks, with the member's place.
-pub fn members_fault(
-    alloc: Global,
+pub fn members_fault<A: Allocator + Copy>(
+    alloc: A,
     rows: &RowLists,
     members: &[MemberRow],
 ) -> Result<Option<(Code, u32)>, AllocError>

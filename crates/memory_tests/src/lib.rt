@@ -3,6 +3,8 @@
 #![tactic(auto)]
 
 #[cfg(test)]
+mod build_tests;
+#[cfg(test)]
 mod few;
 #[cfg(test)]
 mod framer_tests;

@@ -10,25 +10,25 @@ use Rattle.fb_schema.proofs.TypedLemmas.{rows_spaced}
 use Rattle.fb_schema.proofs.indexing.live_index.Goals as goal
 
 pub table_views-requires-clause-apart : goal.table_views-requires-clause-apart
-table_views-requires-clause-apart c = λ table.
+table_views-requires-clause-apart g c = λ table.
     legal_slots (borrowed_rows c.args.rows.now) c.loop-object.object-index (object_of c.object-item.result) c.requires.legal
     (kept_read object_of c.args.rows.now.objects.now c.loop-object.object-index c.object-item.result c.loop-object-test.true c.object-item.is) table
 
 pub table_views-requires-clause-spaced : goal.table_views-requires-clause-spaced
-table_views-requires-clause-spaced c = λ table.
+table_views-requires-clause-spaced g c = λ table.
     let o = object_of c.object-item.result in
     subst (λ b. AreSpaced (if b then [] else by_slot (filter is_live o.fields))) table
     (rows_spaced (borrowed_rows c.args.rows.now) c.requires.legal c.loop-object.object-index o
     (kept_read object_of c.args.rows.now.objects.now c.loop-object.object-index c.object-item.result c.loop-object-test.true c.object-item.is))
 
 pub view_names-requires : goal.view_names-requires
-view_names-requires c = let few = c.in_ok-fields.ensures.few in rw c.deref.ensures.value (omega (arith, few))
+view_names-requires g c = let few = c.in_ok-fields.ensures.few in rw c.deref.ensures.value (omega (arith, few))
 
 pub overflow_cast-len : goal.overflow_cast-len
-overflow_cast-len c = omega (arith, c.in_ok-fields.ensures.few, c.len.ensures, c.in_ok-fields.fields.ok.0)
+overflow_cast-len g c = omega (arith, c.in_ok-fields.ensures.few, c.len.ensures, c.in_ok-fields.fields.ok.0)
 
 pub loop-object-preserved : goal.loop-object-preserved
-loop-object-preserved c =
+loop-object-preserved g c =
     let objects = c.args.rows.now.objects.now in
     let rows = borrowed_rows c.args.rows.now in
     let i = c.loop-object.object-index in

@@ -4,4 +4,4 @@ use Rattle.fb_schema.specs.Index.{IsLiveIndex}
 use Rattle.fb_schema.proofs.indexing.live_index.Given as goal
 
 abbrev pub invariant-loop-object : goal.invariant-loop-object
-invariant-loop-object l = IsLiveIndex (borrowed_rows l.rows) (take l.object-index (borrowed_rows l.rows).objects) l.index
+invariant-loop-object g l = IsLiveIndex (borrowed_rows l.rows) (take l.object-index (borrowed_rows l.rows).objects) l.index

@@ -8,7 +8,7 @@ use Rattle.fb_schema.proofs.IndexLemmas.{matched_step}
 use Rattle.fb_schema.proofs.indexing.member_index.Goals as goal
 
 pub loop-row-preserved : goal.loop-row-preserved
-loop-row-preserved c =
+loop-row-preserved g c =
     let rows = borrowed_rows c.args.rows.now in
     let enums = c.args.rows.now.enums.now in
     let i = c.loop-row.row-index in

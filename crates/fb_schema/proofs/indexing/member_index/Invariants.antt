@@ -4,4 +4,4 @@ use Rattle.fb_schema.specs.Index.{IsMemberIndex}
 use Rattle.fb_schema.proofs.indexing.member_index.Given as goal
 
 abbrev pub invariant-loop-row : goal.invariant-loop-row
-invariant-loop-row l = IsMemberIndex (borrowed_rows l.rows) (take l.row-index l.rows.enums.now) l.index
+invariant-loop-row g l = IsMemberIndex (borrowed_rows l.rows) (take l.row-index l.rows.enums.now) l.index

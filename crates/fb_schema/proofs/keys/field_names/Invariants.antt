@@ -3,4 +3,4 @@ use Rattle.fb_schema.specs.Order.{numbered, field_name}
 use Rattle.fb_schema.proofs.keys.field_names.Given as goal
 
 abbrev pub invariant-loop-p : goal.invariant-loop-p
-invariant-loop-p l = l.order.items ≡ numbered 0 (map field_name (take l.p l.fields))
+invariant-loop-p g l = l.order.items ≡ numbered 0 (map field_name (take l.p l.fields))

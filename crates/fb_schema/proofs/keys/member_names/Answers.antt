@@ -5,7 +5,7 @@ use Rattle.fb_schema.proofs.KeyLemmas.{numbered_more}
 use Rattle.fb_schema.proofs.keys.member_names.Goals as goal
 
 pub loop-p-preserved : goal.loop-p-preserved
-loop-p-preserved c =
+loop-p-preserved g c =
     let members = c.args.members.now in
     let p = c.loop-p.p in
     let old = c.loop-p.order.items in

@@ -3,4 +3,4 @@ use Rattle.fb_schema.specs.Order.{numbered, member_value}
 use Rattle.fb_schema.proofs.keys.member_values.Given as goal
 
 abbrev pub invariant-loop-p : goal.invariant-loop-p
-invariant-loop-p l = l.order.items ≡ numbered 0 (map member_value (take l.p l.members))
+invariant-loop-p g l = l.order.items ≡ numbered 0 (map member_value (take l.p l.members))

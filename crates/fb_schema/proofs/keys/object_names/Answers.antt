@@ -4,7 +4,7 @@ use Rattle.fb_schema.proofs.KeyLemmas.{numbered_more}
 use Rattle.fb_schema.proofs.keys.object_names.Goals as goal
 
 pub loop-n-preserved : goal.loop-n-preserved
-loop-n-preserved c =
+loop-n-preserved g c =
     let row = c.index-objects-n.result in
     let old = c.loop-n.order.items in
     c.in_ok-push.ensures.items

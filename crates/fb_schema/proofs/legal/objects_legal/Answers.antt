@@ -6,25 +6,25 @@ use Rattle.fb_schema.proofs.OwnerLemmas.{refused_object, refused_field, clear_ob
 use Rattle.fb_schema.proofs.legal.objects_legal.Goals as goal
 use Rattle.fb_schema.proofs.legal.objects_legal.Goals.{After-object_fault}
 
-at_row : (c : After-object_fault) → slice_get c.args.rows.now.objects.now c.loop-n.n ≡ Some c.object-item.result
-at_row c = slice_get-get_or c.args.rows.now.objects.now c.loop-n.n c.object-item.result c.loop-n-test.true ∙ ap Some (sym c.object-item.is)
+at_row : (g : _) (c : After-object_fault g) → slice_get c.args.rows.now.objects.now c.loop-n.n ≡ Some c.object-item.result
+at_row g c = slice_get-get_or c.args.rows.now.objects.now c.loop-n.n c.object-item.result c.loop-n-test.true ∙ ap Some (sym c.object-item.is)
 
 pub returns-in-Some-clause-refused : goal.returns-in-Some-clause-refused
-returns-in-Some-clause-refused c =
-    let d = (goal.at.returns-in-Some-clause-refused c).After-object_fault in
-    inl (refused_object (borrowed_rows c.args.rows.now) c.args.rows.now.objects.now refl c.loop-n.n c.object-item.result (at_row d) c.args.again c.requires.again c.loop-n.invariant c.is_at.result c.in-Some.code c.is_at.ensures (sym c.in-Some.is ∙ c.object_fault.ensures))
+returns-in-Some-clause-refused g c =
+    let d = (goal.at.returns-in-Some-clause-refused g c).After-object_fault in
+    inl (refused_object (borrowed_rows c.args.rows.now) c.args.rows.now.objects.now refl c.loop-n.n c.object-item.result (at_row g d) c.args.again c.requires.again c.loop-n.invariant c.is_at.result c.in-Some.code c.is_at.ensures (sym c.in-Some.is ∙ c.object_fault.ensures))
 
 pub returns-in-Ok-Some-clause-refused : goal.returns-in-Ok-Some-clause-refused
-returns-in-Ok-Some-clause-refused c =
-    let d = (goal.at.returns-in-Ok-Some-clause-refused c).After-object_fault in
-    inl (refused_field (borrowed_rows c.args.rows.now) c.args.rows.now.objects.now refl c.loop-n.n c.object-item.result (at_row d) c.args.again c.requires.again c.loop-n.invariant c.is_at.result c.is_at.ensures (sym c.in_default.is ∙ c.object_fault.ensures) c.in-Ok-Some.code c.in-Ok-Some.p
+returns-in-Ok-Some-clause-refused g c =
+    let d = (goal.at.returns-in-Ok-Some-clause-refused g c).After-object_fault in
+    inl (refused_field (borrowed_rows c.args.rows.now) c.args.rows.now.objects.now refl c.loop-n.n c.object-item.result (at_row g d) c.args.again c.requires.again c.loop-n.invariant c.is_at.result c.is_at.ensures (sym c.in_default.is ∙ c.object_fault.ensures) c.in-Ok-Some.code c.in-Ok-Some.p
     (rw c.in-Ok-Some.field-0-is at c.in-Ok-Some.ensures))
 
 pub loop-n-preserved : goal.loop-n-preserved
-loop-n-preserved c =
-    let d = (goal.at.loop-n-preserved c).After-object_fault in
-    clear_object (borrowed_rows c.args.rows.now) c.args.rows.now.objects.now refl c.loop-n.n c.object-item.result (at_row d) c.args.again c.requires.again c.loop-n.invariant c.is_at.result c.is_at.ensures (sym c.in_default.is ∙ c.object_fault.ensures)
+loop-n-preserved g c =
+    let d = (goal.at.loop-n-preserved g c).After-object_fault in
+    clear_object (borrowed_rows c.args.rows.now) c.args.rows.now.objects.now refl c.loop-n.n c.object-item.result (at_row g d) c.args.again c.requires.again c.loop-n.invariant c.is_at.result c.is_at.ensures (sym c.in_default.is ∙ c.object_fault.ensures)
     (rw c.in-Ok-None.field-0-is at c.in-Ok-None.ensures)
 
 pub returns-clause-clear : goal.returns-clause-clear
-returns-clause-clear c = all_objects (borrowed_rows c.args.rows.now) c.loop-n.n (rw length-map c.loop-n-test.false) c.loop-n.invariant
+returns-clause-clear g c = all_objects (borrowed_rows c.args.rows.now) c.loop-n.n (rw length-map c.loop-n-test.false) c.loop-n.invariant

@@ -6,7 +6,7 @@ use Rattle.fb_schema.specs.Rows.{field_of, borrowed_rows}
 use Rattle.fb_schema.proofs.live.views.Goals as goal
 
 pub returns-clause-few : goal.returns-clause-few
-returns-clause-few c =
+returns-clause-few g c =
     let live = c.args.live.now in
     let few = c.loop-field.invariant.1 in
     let same = same_length live_of_view (live_of (borrowed_rows c.args.rows.now) (map field_of live)) c.loop-field.views.items _ c.loop-field.invariant.0 ∙ length-map _ _ in
@@ -14,7 +14,7 @@ returns-clause-few c =
     omega (arith, same, few, short)
 
 pub loop-field-preserved : goal.loop-field-preserved
-loop-field-preserved c =
+loop-field-preserved g c =
     let live = c.args.live.now in
     let i = c.loop-field.field-index in
     let lt = c.loop-field-test.true in

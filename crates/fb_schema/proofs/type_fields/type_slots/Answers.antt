@@ -6,7 +6,7 @@ use Rattle.fb_schema.specs.Demands.{stands_below}
 use Rattle.fb_schema.proofs.type_fields.type_slots.Goals as goal
 
 pub returns : goal.returns
-returns c =
+returns g c =
     let fields = c.args.fields.now in
     let whole : c.loop-field.field-index ≡ length fields = omega arith in
     let all : take c.loop-field.field-index fields ≡ fields = ap (λ n. take n fields) whole ∙ take-length fields in

@@ -5,4 +5,4 @@ use Rattle.fb_schema.specs.Demands.{stands_below}
 use Rattle.fb_schema.proofs.type_fields.type_slots.Given as goal
 
 abbrev pub invariant-loop-field : goal.invariant-loop-field
-invariant-loop-field l = (slot : ℕ) → list_any (λ s. s + 2 == slot) l.slots.items ≡ stands_below l.wanted (map field_of (take l.field-index l.fields)) slot
+invariant-loop-field g l = (slot : ℕ) → list_any (λ s. s + 2 == slot) l.slots.items ≡ stands_below l.wanted (map field_of (take l.field-index l.fields)) slot

@@ -9,8 +9,8 @@ use Rattle.fb_schema.proofs.MemberLemmas.{member_code, past_members}
 use Rattle.fb_schema.proofs.walk.members_fault.Goals as goal
 use Rattle.fb_schema.proofs.walk.members_fault.Goals.{After-member_fault}
 
-found : (c : After-member_fault) → c.member_fault.result ≡ first_code (members_asked (borrowed_rows c.args.rows.now) (map member_of_row c.args.members.now) c.loop-p.p)
-found c =
+found : (g : _) (c : After-member_fault g) → c.member_fault.result ≡ first_code (members_asked (borrowed_rows c.args.rows.now) (map member_of_row c.args.members.now) c.loop-p.p)
+found g c =
     let members = c.args.members.now in
     let p = c.loop-p.p in
     let values : IsFirstAgain int_cmp (map member_value members) c.first_again-value_again.result = c.first_again-value_again.ensures (map member_value members) (rw c.deref.ensures.value c.in_ok-values.ensures) in
@@ -20,10 +20,10 @@ found c =
     c.is_at-taken.ensures c.is_named-named.ensures
 
 pub returns-in-Some : goal.returns-in-Some
-returns-in-Some c = (sym (found (goal.at.returns-in-Some c).After-member_fault) ∙ c.in-Some.is, c.loop-p.invariant)
+returns-in-Some g c = (sym (found g (goal.at.returns-in-Some g c).After-member_fault) ∙ c.in-Some.is, c.loop-p.invariant)
 
 pub loop-p-preserved : goal.loop-p-preserved
-loop-p-preserved c = below_more _ _ c.loop-p.invariant (sym (found (goal.at.loop-p-preserved c).After-member_fault) ∙ c.in_default.is)
+loop-p-preserved g c = below_more _ _ c.loop-p.invariant (sym (found g (goal.at.loop-p-preserved g c).After-member_fault) ∙ c.in_default.is)
 
 pub returns : goal.returns
-returns c = past_members (borrowed_rows c.args.rows.now) c.args.members.now c.loop-p.p c.loop-p-test.false c.loop-p.invariant
+returns g c = past_members (borrowed_rows c.args.rows.now) c.args.members.now c.loop-p.p c.loop-p-test.false c.loop-p.invariant

@@ -4,4 +4,4 @@ use Rattle.fb_schema.specs.Demands.{first_code, members_asked}
 use Rattle.fb_schema.proofs.walk.members_fault.Given as goal
 
 abbrev pub invariant-loop-p : goal.invariant-loop-p
-invariant-loop-p l = (q : ℕ) → q < l.p → first_code (members_asked (borrowed_rows l.rows) (map member_of_row l.members) q) ≡ None
+invariant-loop-p g l = (q : ℕ) → q < l.p → first_code (members_asked (borrowed_rows l.rows) (map member_of_row l.members) q) ≡ None

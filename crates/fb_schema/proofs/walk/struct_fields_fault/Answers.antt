@@ -8,8 +8,8 @@ use Rattle.fb_schema.proofs.WalkLemmas.{struct_code, past_struct}
 use Rattle.fb_schema.proofs.walk.struct_fields_fault.Goals as goal
 use Rattle.fb_schema.proofs.walk.struct_fields_fault.Goals.{After-struct_field_fault}
 
-found : (c : After-struct_field_fault) → c.struct_field_fault.result ≡ first_code (struct_asked (borrowed_rows c.args.rows.now) c.args.object.now.bytesize (map field_of c.args.fields.now) c.loop-p.p)
-found c =
+found : (g : _) (c : After-struct_field_fault g) → c.struct_field_fault.result ≡ first_code (struct_asked (borrowed_rows c.args.rows.now) c.args.object.now.bytesize (map field_of c.args.fields.now) c.loop-p.p)
+found g c =
     let fields = c.args.fields.now in
     let p = c.loop-p.p in
     let first : IsFirstAgain name_cmp (map field_name fields) c.first_again-again.result = c.first_again-again.ensures (map field_name fields) (rw c.deref.ensures.value c.in_ok-order.ensures) in
@@ -17,10 +17,10 @@ found c =
     ∙ struct_code (borrowed_rows c.args.rows.now) c.args.object.now.bytesize fields p (get_or fields p blank_field) c.first_again-again.result c.is_at-named.result (slice_get-get_or fields p blank_field c.loop-p-test.true) first c.loop-p.invariant c.is_at-named.ensures
 
 pub returns-in-Some : goal.returns-in-Some
-returns-in-Some c = (sym (found (goal.at.returns-in-Some c).After-struct_field_fault) ∙ c.in-Some.is, c.loop-p.invariant)
+returns-in-Some g c = (sym (found g (goal.at.returns-in-Some g c).After-struct_field_fault) ∙ c.in-Some.is, c.loop-p.invariant)
 
 pub loop-p-preserved : goal.loop-p-preserved
-loop-p-preserved c = below_more _ _ c.loop-p.invariant (sym (found (goal.at.loop-p-preserved c).After-struct_field_fault) ∙ c.in_default.is)
+loop-p-preserved g c = below_more _ _ c.loop-p.invariant (sym (found g (goal.at.loop-p-preserved g c).After-struct_field_fault) ∙ c.in_default.is)
 
 pub returns : goal.returns
-returns c = past_struct (borrowed_rows c.args.rows.now) c.args.object.now.bytesize c.args.fields.now c.loop-p.p c.loop-p-test.false c.loop-p.invariant
+returns g c = past_struct (borrowed_rows c.args.rows.now) c.args.object.now.bytesize c.args.fields.now c.loop-p.p c.loop-p-test.false c.loop-p.invariant

@@ -4,4 +4,4 @@ use Rattle.fb_schema.specs.Demands.{first_code, struct_asked}
 use Rattle.fb_schema.proofs.walk.struct_fields_fault.Given as goal
 
 abbrev pub invariant-loop-p : goal.invariant-loop-p
-invariant-loop-p l = (q : ℕ) → q < l.p → first_code (struct_asked (borrowed_rows l.rows) l.object.bytesize (map field_of l.fields) q) ≡ None
+invariant-loop-p g l = (q : ℕ) → q < l.p → first_code (struct_asked (borrowed_rows l.rows) l.object.bytesize (map field_of l.fields) q) ≡ None

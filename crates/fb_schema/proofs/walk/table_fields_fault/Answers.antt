@@ -10,8 +10,8 @@ use Rattle.fb_schema.proofs.WalkLemmas.{table_code, past_table}
 use Rattle.fb_schema.proofs.walk.table_fields_fault.Goals as goal
 use Rattle.fb_schema.proofs.walk.table_fields_fault.Goals.{After-table_field_fault}
 
-found : (c : After-table_field_fault) → c.table_field_fault.result ≡ first_code (table_asked (borrowed_rows c.args.rows.now) (map field_of c.args.fields.now) c.loop-p.p)
-found c =
+found : (g : _) (c : After-table_field_fault g) → c.table_field_fault.result ≡ first_code (table_asked (borrowed_rows c.args.rows.now) (map field_of c.args.fields.now) c.loop-p.p)
+found g c =
     let fields = c.args.fields.now in
     let p = c.loop-p.p in
     let row = get_or fields p blank_field in
@@ -24,10 +24,10 @@ found c =
     c.is_at-named.ensures c.is_at-taken.ensures (c.stands_below-byte.ensures ForUnion (map field_of fields) bytes) (c.stands_below-vector.ensures ForUnions (map field_of fields) vectors)
 
 pub returns-in-Some : goal.returns-in-Some
-returns-in-Some c = (sym (found (goal.at.returns-in-Some c).After-table_field_fault) ∙ c.in-Some.is, c.loop-p.invariant)
+returns-in-Some g c = (sym (found g (goal.at.returns-in-Some g c).After-table_field_fault) ∙ c.in-Some.is, c.loop-p.invariant)
 
 pub loop-p-preserved : goal.loop-p-preserved
-loop-p-preserved c = below_more _ _ c.loop-p.invariant (sym (found (goal.at.loop-p-preserved c).After-table_field_fault) ∙ c.in_default.is)
+loop-p-preserved g c = below_more _ _ c.loop-p.invariant (sym (found g (goal.at.loop-p-preserved g c).After-table_field_fault) ∙ c.in_default.is)
 
 pub returns : goal.returns
-returns c = past_table (borrowed_rows c.args.rows.now) c.args.fields.now c.loop-p.p c.loop-p-test.false c.loop-p.invariant
+returns g c = past_table (borrowed_rows c.args.rows.now) c.args.fields.now c.loop-p.p c.loop-p-test.false c.loop-p.invariant

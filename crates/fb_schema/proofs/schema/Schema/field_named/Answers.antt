@@ -15,7 +15,7 @@ use Rattle.fb_schema.proofs.schema.Schema.field_named.Goals as goal
 
 pub returns : goal.returns
 unfolding live_fields
-returns c =
+returns g c =
     let s = c.self.inside in
     let rows = rows_of s.objects.items s.enums.items in
     let n = c.args.n in

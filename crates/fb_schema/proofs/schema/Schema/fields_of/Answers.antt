@@ -8,32 +8,32 @@ use Rattle.fb_schema.proofs.WalkLemmas.{mapped_at}
 use Rattle.fb_schema.proofs.schema.Schema.fields_of.Goals as goal
 use Rattle.fb_schema.proofs.schema.Schema.fields_of.Goals.{After-get}
 
-value : (c : After-get) → map live_of_view c.get.result.now ≡ live_fields c.args.self.now c.args.n
+value : (g : _) (c : After-get g) → map live_of_view c.get.result.now ≡ live_fields c.args.self.now c.args.n
 unfolding live_fields
-value c =
+value g c =
     let s = c.self.inside in
     let rows = rows_of s.objects.items s.enums.items in
     live_read rows rows.objects (map (map live_of_view) (lists_of s.live.fields)) c.args.n (map live_of_view c.get.result.now) c.self.invariant.fields.live
     (mapped_at (map live_of_view) (lists_of s.live.fields) c.args.n c.get.result.now c.get.ensures)
     ∙ ap (λ r. live_fields r c.args.n) c.self.view_is
 
-counted : (c : After-get) → length c.get.result.now ≤ widest c.args.self.now
-counted c = let a = length-map c.get.result.now live_of_view in let b = ap length (value c) in let w = within_widest c.args.self.now c.args.n in omega arith
+counted : (g : _) (c : After-get g) → length c.get.result.now ≤ widest c.args.self.now
+counted g c = let a = length-map c.get.result.now live_of_view in let b = ap length (value g c) in let w = within_widest c.args.self.now c.args.n in omega arith
 
 pub returns-clause-value : goal.returns-clause-value
-returns-clause-value c = value (goal.at.returns-clause-value c).After-get
+returns-clause-value g c = value g (goal.at.returns-clause-value g c).After-get
 
 pub returns-clause-within : goal.returns-clause-within
-returns-clause-within c = counted (goal.at.returns-clause-within c).After-get
+returns-clause-within g c = counted g (goal.at.returns-clause-within g c).After-get
 
-widest_read : (c : After-get) → c.self.inside.live.widest ≡ widest c.args.self.now
+widest_read : (g : _) (c : After-get g) → c.self.inside.live.widest ≡ widest c.args.self.now
 unfolding widest
-widest_read c = c.self.invariant.fields.widest ∙ ap widest c.self.view_is
+widest_read g c = c.self.invariant.fields.widest ∙ ap widest c.self.view_is
 
 pub returns-clause-few : goal.returns-clause-few
-returns-clause-few c =
-    let d = (goal.at.returns-clause-few c).After-get in
+returns-clause-few g c =
+    let d = (goal.at.returns-clause-few g c).After-get in
     let few = c.self.invariant.fields.few in
-    let a = counted d in
-    let b = widest_read d in
+    let a = counted g d in
+    let b = widest_read g d in
     omega arith

@@ -7,11 +7,11 @@ use Rattle.fb_schema.proofs.TypedLemmas.{served_by}
 use Rattle.fb_schema.proofs.schema.Schema.lawful.Goals as goal
 
 pub returns-clause-legal : goal.returns-clause-legal
-returns-clause-legal c = subst IsLegal c.self.view_is c.self.invariant.legal
+returns-clause-legal g c = subst IsLegal c.self.view_is c.self.invariant.legal
 
 pub returns-clause-served : goal.returns-clause-served
 unfolding widest
-returns-clause-served c =
+returns-clause-served g c =
     let s = c.self.inside in
     let few = c.self.invariant.fields.few in
     let most = c.self.invariant.fields.widest in

@@ -20,72 +20,72 @@ use Rattle.fb_schema.proofs.schema.Schema.member_of.Goals as goal
 use Rattle.fb_schema.proofs.schema.Schema.member_of.Goals.{After-place_of}
 
 pub returns-then-value-eq0 : goal.returns-then-value-eq0
-returns-then-value-eq0 c = sym (ap (member_of c.args.self.now c.args.e) c.if-value-eq0.true ∙ member_of_zero c.args.self.now c.args.e)
+returns-then-value-eq0 g c = sym (ap (member_of c.args.self.now c.args.e) c.if-value-eq0.true ∙ member_of_zero c.args.self.now c.args.e)
 
 -- the union's row
-union_row : (c : After-place_of) → (row : EnumRow) × (slice_get c.self.inside.enums.items c.args.e ≡ Some row) × (row.is_union ≡ true)
-union_row c = union_at c.self.inside.enums.items c.args.e (subst (λ (r : Rows). IsTrue (is_union r c.args.e)) (sym c.self.view_is) c.requires)
+union_row : (g : _) (c : After-place_of g) → (row : EnumRow) × (slice_get c.self.inside.enums.items c.args.e ≡ Some row) × (row.is_union ≡ true)
+union_row g c = union_at c.self.inside.enums.items c.args.e (subst (λ (r : Rows). IsTrue (is_union r c.args.e)) (sym c.self.view_is) c.requires)
 
-rows : (c : After-place_of) → Rows
-rows c = rows_of c.self.inside.objects.items c.self.inside.enums.items
+rows : (g : _) (c : After-place_of g) → Rows
+rows g c = rows_of c.self.inside.objects.items c.self.inside.enums.items
 
 -- where the value stands among the union's members
-placed : (c : After-place_of) → IsPlaceOf int_cmp (map member_value (union_row c).0.members.items) (pos c.args.value) c.place_of.result
-placed c =
-    let row = (union_row c).0 in
+placed : (g : _) (c : After-place_of g) → IsPlaceOf int_cmp (map member_value (union_row g c).0.members.items) (pos c.args.value) c.place_of.result
+placed g c =
+    let row = (union_row g c).0 in
     let fits : FitsSigned w64 c.from.result = search rules in
-    let order : IsOrderOf int_cmp (map member_value row.members.items) c.get-values.result.now = c.self.invariant.kinds.values.at c.args.e row c.get-values.result.now (union_row c).1 c.get-values.ensures in
+    let order : IsOrderOf int_cmp (map member_value row.members.items) c.get-values.result.now = c.self.invariant.kinds.values.at c.args.e row c.get-values.result.now (union_row g c).1 c.get-values.ensures in
     subst (λ v. IsPlaceOf int_cmp (map member_value row.members.items) v c.place_of.result) (to_z-of_z w64 c.from.result fits ∙ c.from.ensures) (c.place_of.ensures (map member_value row.members.items) order)
 
-clear : (c : After-place_of) (q : ℕ) → first_code (members_asked (rows c) (map member_of_row (union_row c).0.members.items) q) ≡ None
+clear : (g : _) (c : After-place_of g) (q : ℕ) → first_code (members_asked (rows g c) (map member_of_row (union_row g c).0.members.items) q) ≡ None
 unfolding rows
-clear c = members_clear (rows c) c.self.inside.enums.items refl c.self.invariant.legal c.args.e (union_row c).0 (union_row c).1 (union_row c).2
+clear g c = members_clear (rows g c) c.self.inside.enums.items refl c.self.invariant.legal c.args.e (union_row g c).0 (union_row g c).1 (union_row g c).2
 
-read : (c : After-place_of) → member_of (rows c) c.args.e c.args.value ≡ option_and_then (λ m. kind_of (rows c) m.ty) (find (λ m. int_eq m.value (pos c.args.value)) (filter (λ m. is_member_value m.value) (map member_of_row (union_row c).0.members.items)))
+read : (g : _) (c : After-place_of g) → member_of (rows g c) c.args.e c.args.value ≡ option_and_then (λ m. kind_of (rows g c) m.ty) (find (λ m. int_eq m.value (pos c.args.value)) (filter (λ m. is_member_value m.value) (map member_of_row (union_row g c).0.members.items)))
 unfolding rows
-read c = member_of_row_is (rows c) c.self.inside.enums.items refl c.args.e (union_row c).0 (union_row c).1 (union_row c).2 c.args.value
+read g c = member_of_row_is (rows g c) c.self.inside.enums.items refl c.args.e (union_row g c).0 (union_row g c).1 (union_row g c).2 c.args.value
 
-seen : (c : After-place_of) → member_of (rows c) c.args.e c.args.value ≡ member_of c.args.self.now c.args.e c.args.value
+seen : (g : _) (c : After-place_of g) → member_of (rows g c) c.args.e c.args.value ≡ member_of c.args.self.now c.args.e c.args.value
 unfolding rows
-seen c = ap (λ r. member_of r c.args.e c.args.value) c.self.view_is
+seen g c = ap (λ r. member_of r c.args.e c.args.value) c.self.view_is
 
 pub returns-in-None : goal.returns-in-None
-returns-in-None c =
-    let d = (goal.at.returns-in-None c).After-place_of in
-    let h = subst (IsPlaceOf int_cmp (map member_value (union_row d).0.members.items) (pos c.args.value)) c.in-None.is (placed d) in
-    sym (ap (option_and_then (λ (m : Member). kind_of (rows d) m.ty)) (value_missing (rows d) (union_row d).0.members.items (clear d) c.args.value (λ k x lt. h k x (rw length-map lt))))
-    ∙ sym (read d) ∙ seen d
+returns-in-None g c =
+    let d = (goal.at.returns-in-None g c).After-place_of in
+    let h = subst (IsPlaceOf int_cmp (map member_value (union_row g d).0.members.items) (pos c.args.value)) c.in-None.is (placed g d) in
+    sym (ap (option_and_then (λ (m : Member). kind_of (rows g d) m.ty)) (value_missing (rows g d) (union_row g d).0.members.items (clear g d) c.args.value (λ k x lt. h k x (rw length-map lt))))
+    ∙ sym (read g d) ∙ seen g d
 
-found : (c : After-place_of) (place : ℕ) → c.place_of.result ≡ Some place → (place < length (union_row c).0.members.items) × (member_of c.args.self.now c.args.e c.args.value ≡ Some (member_kind (rows c) (member_of_row (get_or (union_row c).0.members.items place blank_member))))
-found c place is =
-    let members = (union_row c).0.members.items in
-    let h : IsPlaceOf int_cmp (map member_value members) (pos c.args.value) (Some place) = subst (IsPlaceOf int_cmp (map member_value members) (pos c.args.value)) is (placed c) in
+found : (g : _) (c : After-place_of g) (place : ℕ) → c.place_of.result ≡ Some place → (place < length (union_row g c).0.members.items) × (member_of c.args.self.now c.args.e c.args.value ≡ Some (member_kind (rows g c) (member_of_row (get_or (union_row g c).0.members.items place blank_member))))
+found g c place is =
+    let members = (union_row g c).0.members.items in
+    let h : IsPlaceOf int_cmp (map member_value members) (pos c.args.value) (Some place) = subst (IsPlaceOf int_cmp (map member_value members) (pos c.args.value)) is (placed g c) in
     let lt : place < length members = rw length-map at h.0 in
     let real : 0 < c.args.value = omega arith in
     let small : c.args.value < 256 = omega arith in (
       lt,
-      sym (seen c) ∙ read c
-          ∙ ap (option_and_then (λ (m : Member). kind_of (rows c) m.ty)) (value_found (rows c) members (clear c) c.args.value place blank_member real small lt h.1)
-          ∙ kind_found (rows c) members (clear c) c.args.value place blank_member real lt (value_at (rows c) members (clear c) c.args.value place blank_member lt h.1),
+      sym (seen g c) ∙ read g c
+          ∙ ap (option_and_then (λ (m : Member). kind_of (rows g c) m.ty)) (value_found (rows g c) members (clear g c) c.args.value place blank_member real small lt h.1)
+          ∙ kind_found (rows g c) members (clear g c) c.args.value place blank_member real lt (value_at (rows g c) members (clear g c) c.args.value place blank_member lt h.1),
     )
 
-kinds : (c : After-place_of) (got : List Kind) → slice_get (lists_of c.self.inside.members.kinds) c.args.e ≡ Some got → got ≡ map (λ m. member_kind (rows c) (member_of_row m)) (union_row c).0.members.items
+kinds : (g : _) (c : After-place_of g) (got : List Kind) → slice_get (lists_of c.self.inside.members.kinds) c.args.e ≡ Some got → got ≡ map (λ m. member_kind (rows g c) (member_of_row m)) (union_row g c).0.members.items
 unfolding rows
-kinds c got at = c.self.invariant.kinds.kinds.at c.args.e (union_row c).0 got (union_row c).1 at
+kinds g c got at = c.self.invariant.kinds.kinds.at c.args.e (union_row g c).0 got (union_row g c).1 at
 
 pub bounds-get-place : goal.bounds-get-place
-bounds-get-place c =
-    let d = (goal.at.bounds-get-place c).After-place_of in
-    let f = found d c.in-Some.place c.in-Some.is in
-    let k = ap length (kinds d c.get.result.now c.get.ensures) in
-    let n = length-map (union_row d).0.members.items (λ m. member_kind (rows d) (member_of_row m)) in
+bounds-get-place g c =
+    let d = (goal.at.bounds-get-place g c).After-place_of in
+    let f = found g d c.in-Some.place c.in-Some.is in
+    let k = ap length (kinds g d c.get.result.now c.get.ensures) in
+    let n = length-map (union_row g d).0.members.items (λ m. member_kind (rows g d) (member_of_row m)) in
     let lt = f.0 in
     omega arith
 
 pub returns-in-Some : goal.returns-in-Some
-returns-in-Some c =
-    let d = (goal.at.returns-in-Some c).After-place_of in
+returns-in-Some g c =
+    let d = (goal.at.returns-in-Some g c).After-place_of in
     let place = c.in-Some.place in
-    let f = found d place c.in-Some.is in
-    ap Some (ap (λ ks. get_or ks place (Scalar UType)) (kinds d c.get.result.now c.get.ensures) ∙ get_or-map (λ m. member_kind (rows d) (member_of_row m)) (union_row d).0.members.items place blank_member (Scalar UType) f.0)
+    let f = found g d place c.in-Some.is in
+    ap Some (ap (λ ks. get_or ks place (Scalar UType)) (kinds g d c.get.result.now c.get.ensures) ∙ get_or-map (λ m. member_kind (rows g d) (member_of_row m)) (union_row g d).0.members.items place blank_member (Scalar UType) f.0)
     ∙ sym f.1

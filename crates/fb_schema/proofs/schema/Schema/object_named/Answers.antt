@@ -9,7 +9,7 @@ use Rattle.fb_schema.proofs.WalkLemmas.{names_agree, names_total}
 use Rattle.fb_schema.proofs.schema.Schema.object_named.Goals as goal
 
 pub returns : goal.returns
-returns c =
+returns g c =
     let s = c.self.inside in
     let rows = rows_of s.objects.items s.enums.items in
     let name = c.args.name in

@@ -4,4 +4,4 @@ use Rattle.fb_schema.proofs.schema.Schema.widest.Goals as goal
 
 pub returns : goal.returns
 unfolding widest
-returns c = c.self.invariant.fields.widest ∙ ap widest c.self.view_is
+returns g c = c.self.invariant.fields.widest ∙ ap widest c.self.view_is
