@@ -287,11 +287,12 @@ def a_reader_that_closes_early(cases):
         talk.run.stdout.close()
         talk.run.stdin.write(SEVEN)
         talk.run.stdin.close()
-        cases.same("the second can't be written", (talk.run.stderr.read(), talk.run.wait()),
+        cases.same("the second can't be written", (talk.run.stderr.read(), talk.run.wait(outside.SECONDS)),
                    (b"fbcheck: write failed after 30 bytes\n", 3))
     with Talk("--help") as talk:
         talk.run.stdout.close()
-        talk.run.wait()
+        talk.run.stdin.close()
+        talk.run.wait(outside.SECONDS)
         cases.holds("help that is read or not ends with 0 or 3, and by no signal", talk.run.returncode in (0, 3),
                     talk.run.returncode)
     ran = outside.subprocess.run(

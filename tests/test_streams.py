@@ -118,7 +118,7 @@ def a_slow_reader(cases):
         while piece := os.read(talk.run.stdout.fileno(), 4099):
             heard += piece
         writer.join()
-        cases.same("each line once", (heard, talk.run.wait()),
+        cases.same("each line once", (heard, talk.run.wait(outside.SECONDS)),
                    (lines(*[seven(number) for number in range(1, count + 1)]), 0))
 
 
