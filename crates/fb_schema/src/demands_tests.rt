@@ -93,8 +93,8 @@ fn refused(
     Ok(built(rt, alloc, objects, enums).err())
 }
 
-/// What a case shows, and the fields of a table or struct.
-type Case<'c> = (&'static str, &'c [FieldRow<'static>]);
+/// What a case shows, and the two fields of a table or struct.
+type Case = (&'static str, [FieldRow<'static>; 2]);
 
 /// A fault of the object that each case is about: its code and the field's place.
 fn at_field(code: Code, place: u32) -> Option<SchemaFault> {
@@ -110,10 +110,10 @@ fn tables_refused(
     rt: &impl Abort,
     alloc: Global,
     want: Option<SchemaFault>,
-    cases: &[Case<'_>],
+    cases: &[Case],
 ) -> Result<(), Fail> {
     for (shows, fields) in cases {
-        let subject = table(alloc, b"Subject", *fields)?;
+        let subject = table(alloc, b"Subject", fields.as_slice())?;
         assert_eq!(rt; refused(rt, alloc, subject)?, want, "{shows}");
     }
     Ok(())
@@ -124,10 +124,10 @@ fn structs_refused(
     rt: &impl Abort,
     alloc: Global,
     want: Option<SchemaFault>,
-    cases: &[Case<'_>],
+    cases: &[Case],
 ) -> Result<(), Fail> {
     for (shows, fields) in cases {
-        let subject = structure(alloc, b"Subject", 8, 4, *fields)?;
+        let subject = structure(alloc, b"Subject", 8, 4, fields.as_slice())?;
         assert_eq!(rt; refused(rt, alloc, subject)?, want, "{shows}");
     }
     Ok(())
@@ -216,6 +216,7 @@ fn a_type_of_a_table_names_what_is_there(rt: HostRuntime) -> Result<(), Fail> {
 #[test]
 fn a_field_of_a_table_breaks_the_demand_that_is_asked_first(rt: HostRuntime) -> Result<(), Fail> {
     let alloc = rt.alloc();
+    let last = field(b"last", 40, one(INT, 0));
     let a = field(b"a", 4, one(INT, 0));
     let b = |slot: u16, ty: TypeRow| field(b"b", slot, ty);
     let named = at_field(Code::NameTwice, 1);
@@ -228,8 +229,8 @@ fn a_field_of_a_table_breaks_the_demand_that_is_asked_first(rt: HostRuntime) -> 
         alloc,
         named,
         &[
-            ("and the slot", &[a, a]),
-            ("at an odd slot", &[a, field(b"a", 7, object)]),
+            ("and the slot", [a, a]),
+            ("at an odd slot", [a, field(b"a", 7, object)]),
         ],
     )?;
     // An odd slot of a field that has more wrong with it; then a slot twice.
@@ -238,15 +239,15 @@ fn a_field_of_a_table_breaks_the_demand_that_is_asked_first(rt: HostRuntime) -> 
         alloc,
         slot_first,
         &[
-            ("of a 64-bit offset", &[far(b(5, one(INT, 0)))]),
-            ("of no object", &[b(5, object)]),
+            ("of a 64-bit offset", [far(b(5, one(INT, 0))), last]),
+            ("of no object", [b(5, object), last]),
         ],
     )?;
     tables_refused(
         &rt,
         alloc,
         slot_second,
-        &[("of no object", &[a, b(4, object)])],
+        &[("of no object", [a, b(4, object)])],
     )?;
     // A 64-bit offset that leads to nothing, or stands in an earlier field than a name twice.
     tables_refused(
@@ -254,9 +255,9 @@ fn a_field_of_a_table_breaks_the_demand_that_is_asked_first(rt: HostRuntime) -> 
         alloc,
         unsupported,
         &[
-            ("to no object", &[far(b(4, object))]),
-            ("to no enum", &[far(b(6, choice))]),
-            ("before a name twice", &[far(a), a]),
+            ("to no object", [far(b(4, object)), last]),
+            ("to no enum", [far(b(6, choice)), last]),
+            ("before a name twice", [far(a), a]),
         ],
     )?;
     // An earlier field that names no enum, or has no types, beside a later fault.
@@ -264,7 +265,7 @@ fn a_field_of_a_table_breaks_the_demand_that_is_asked_first(rt: HostRuntime) -> 
         &rt,
         alloc,
         at_field(Code::NoSuchEnum, 0),
-        &[("before no object", &[b(4, choice), field(b"c", 6, object)])],
+        &[("before no object", [b(4, choice), field(b"c", 6, object)])],
     )?;
     tables_refused(
         &rt,
@@ -272,7 +273,7 @@ fn a_field_of_a_table_breaks_the_demand_that_is_asked_first(rt: HostRuntime) -> 
         at_field(Code::NoTypeField, 0),
         &[(
             "before a name twice",
-            &[b(8, one(UNION, CHOICE)), b(6, object)],
+            [b(8, one(UNION, CHOICE)), b(6, object)],
         )],
     )
 }
@@ -280,6 +281,7 @@ fn a_field_of_a_table_breaks_the_demand_that_is_asked_first(rt: HostRuntime) -> 
 #[test]
 fn a_deprecated_field_is_asked_its_name_and_slot_alone(rt: HostRuntime) -> Result<(), Fail> {
     let alloc = rt.alloc();
+    let last = field(b"last", 40, one(INT, 0));
     let a = field(b"a", 4, one(INT, 0));
     let b = |slot: u16, ty: TypeRow| gone(field(b"b", slot, ty));
     let odd = at_field(Code::BadSlot, 0);
@@ -289,21 +291,26 @@ fn a_deprecated_field_is_asked_its_name_and_slot_alone(rt: HostRuntime) -> Resul
         alloc,
         None,
         &[
-            ("a 64-bit offset", &[far(gone(a))]),
-            ("a 64-bit vector", &[b(4, one(VECTOR_OF_64, 0))]),
-            ("no object", &[b(4, one(OBJECT, NO_OBJECT))]),
-            ("no enum", &[b(4, one(UNION, NO_ENUM))]),
-            ("no types", &[b(4, one(UNION, CHOICE))]),
+            ("a 64-bit offset", [far(gone(a)), last]),
+            ("a 64-bit vector", [b(4, one(VECTOR_OF_64, 0)), last]),
+            ("no object", [b(4, one(OBJECT, NO_OBJECT)), last]),
+            ("no enum", [b(4, one(UNION, NO_ENUM)), last]),
+            ("no types", [b(4, one(UNION, CHOICE)), last]),
         ],
     )?;
-    tables_refused(&rt, alloc, odd, &[("an odd slot", &[b(9, one(INT, 0))])])?;
+    tables_refused(
+        &rt,
+        alloc,
+        odd,
+        &[("an odd slot", [b(9, one(INT, 0)), last])],
+    )?;
     tables_refused(
         &rt,
         alloc,
         at_field(Code::BadSlot, 1),
         &[
-            ("of a live one", &[a, b(4, one(INT, 0))]),
-            ("of a deprecated one", &[gone(a), b(4, one(INT, 0))]),
+            ("of a live one", [a, b(4, one(INT, 0))]),
+            ("of a deprecated one", [gone(a), b(4, one(INT, 0))]),
         ],
     )?;
     tables_refused(
@@ -311,10 +318,10 @@ fn a_deprecated_field_is_asked_its_name_and_slot_alone(rt: HostRuntime) -> Resul
         alloc,
         at_field(Code::NameTwice, 1),
         &[
-            ("of a live one", &[a, gone(field(b"a", 6, one(INT, 0)))]),
+            ("of a live one", [a, gone(field(b"a", 6, one(INT, 0)))]),
             (
                 "of a deprecated one",
-                &[gone(a), field(b"a", 6, one(INT, 0))],
+                [gone(a), field(b"a", 6, one(INT, 0))],
             ),
         ],
     )
@@ -351,9 +358,9 @@ fn a_union_has_a_live_type_field_in_the_slot_below(rt: HostRuntime) -> Result<()
         rt.alloc(),
         None,
         &[
-            ("below", &[ty(4), value]),
-            ("below, of each value", &[types(4), values]),
-            ("below, but listed later", &[value, ty(4)]),
+            ("below", [ty(4), value]),
+            ("below, of each value", [types(4), values]),
+            ("below, but listed later", [value, ty(4)]),
         ],
     )?;
     tables_refused(
@@ -361,19 +368,16 @@ fn a_union_has_a_live_type_field_in_the_slot_below(rt: HostRuntime) -> Result<()
         rt.alloc(),
         at_field(Code::NoTypeField, 1),
         &[
-            ("two below", &[ty(4), field(b"u", 8, one(UNION, CHOICE))]),
-            ("above", &[ty(8), value]),
-            ("above, of each value", &[types(8), values]),
-            ("deprecated", &[gone(ty(4)), value]),
-            ("deprecated, of each value", &[gone(types(4)), values]),
-            ("a byte", &[field(b"t", 4, one(UBYTE, 0)), value]),
-            ("bytes", &[field(b"t", 4, vector(UBYTE, 0)), values]),
-            ("types for one value", &[types(4), value]),
-            ("one type for values", &[ty(4), values]),
-            (
-                "no slot below",
-                &[ty(6), field(b"u", 4, one(UNION, CHOICE))],
-            ),
+            ("two below", [ty(4), field(b"u", 8, one(UNION, CHOICE))]),
+            ("above", [ty(8), value]),
+            ("above, of each value", [types(8), values]),
+            ("deprecated", [gone(ty(4)), value]),
+            ("deprecated, of each value", [gone(types(4)), values]),
+            ("a byte", [field(b"t", 4, one(UBYTE, 0)), value]),
+            ("bytes", [field(b"t", 4, vector(UBYTE, 0)), values]),
+            ("types for one value", [types(4), value]),
+            ("one type for values", [ty(4), values]),
+            ("no slot below", [ty(6), field(b"u", 4, one(UNION, CHOICE))]),
         ],
     )
 }
@@ -458,6 +462,7 @@ fn a_field_of_a_struct_ends_within_it(rt: HostRuntime) -> Result<(), Fail> {
 #[test]
 fn a_field_of_a_struct_is_asked_its_name_and_its_place_alone(rt: HostRuntime) -> Result<(), Fail> {
     let alloc = rt.alloc();
+    let last = field(b"last", 4, one(INT, 0));
     let a = field(b"a", 0, one(INT, 0));
     let text = field(b"a", 4, one(TEXT, 0));
     // What may be said of a field of a struct; then what is refused.
@@ -466,24 +471,24 @@ fn a_field_of_a_struct_is_asked_its_name_and_its_place_alone(rt: HostRuntime) ->
         alloc,
         None,
         &[
-            ("the same bytes", &[a, field(b"b", 0, one(INT, 0))]),
-            ("a 64-bit offset", &[far(a)]),
-            ("deprecated", &[gone(a)]),
+            ("the same bytes", [a, field(b"b", 0, one(INT, 0))]),
+            ("a 64-bit offset", [far(a), last]),
+            ("deprecated", [gone(a), last]),
         ],
     )?;
     structs_refused(
         &rt,
         alloc,
         at_field(Code::NameTwice, 1),
-        &[("a text", &[a, text])],
+        &[("a text", [a, text])],
     )?;
     structs_refused(
         &rt,
         alloc,
         at_field(Code::BadStruct, 0),
         &[
-            ("a deprecated text", &[gone(text)]),
-            ("past the end", &[gone(field(b"b", 5, one(INT, 0)))]),
+            ("a deprecated text", [gone(text), last]),
+            ("past the end", [gone(field(b"b", 5, one(INT, 0))), last]),
         ],
     )
 }

@@ -9,8 +9,8 @@ use std::alloc::{AllocError, Global};
 use std::process::Abort;
 use std::test::Fail;
 
-/// What a case shows, and members.
-type Case<'c> = (&'static str, &'c [MemberRow<'static>]);
+/// What a case shows, and the two members of a union.
+type Case = (&'static str, [MemberRow<'static>; 2]);
 
 /// What these members are refused by, in an enum of number 1. A table stands at 0 and a struct at 1.
 fn refused(
@@ -37,7 +37,7 @@ fn members_refused(
     rt: &impl Abort,
     alloc: Global,
     want: Option<(Code, u32)>,
-    cases: &[Case<'_>],
+    cases: &[Case],
 ) -> Result<(), Fail> {
     let told = want.map(|(code, place)| SchemaFault {
         code,
@@ -45,8 +45,9 @@ fn members_refused(
         part: Some(place),
     });
     for (shows, members) in cases {
-        assert_eq!(rt; refused(rt, alloc, *members, true)?, told, "{shows}");
-        assert_eq!(rt; refused(rt, alloc, *members, false)?, None, "{shows}");
+        let members = members.as_slice();
+        assert_eq!(rt; refused(rt, alloc, members, true)?, told, "{shows}");
+        assert_eq!(rt; refused(rt, alloc, members, false)?, None, "{shows}");
     }
     Ok(())
 }
@@ -54,6 +55,7 @@ fn members_refused(
 #[test]
 fn a_value_is_a_byte_and_stands_once(rt: HostRuntime) -> Result<(), Fail> {
     let alloc = rt.alloc();
+    let last = member(b"last", 9, one(TEXT, 0));
     let m = |value: i64| member(b"m", value, one(TEXT, 0));
     let n = |value: i64| member(b"n", value, one(TEXT, 0));
     // Values that may be; others; values that stand twice.
@@ -61,45 +63,43 @@ fn a_value_is_a_byte_and_stands_once(rt: HostRuntime) -> Result<(), Fail> {
         &rt,
         alloc,
         None,
-        &[
-            ("0 and 1", &[m(0), n(1)]),
-            ("255 and 254", &[m(255), n(254)]),
-        ],
+        &[("0 and 1", [m(0), n(1)]), ("255 and 254", [m(255), n(254)])],
     )?;
     members_refused(
         &rt,
         alloc,
         Some((Code::BadMember, 0)),
         &[
-            ("-1", &[m(-1)]),
-            ("the least", &[m(-9_223_372_036_854_775_808)]),
-            ("256", &[m(256)]),
-            ("257, whose low byte is 1", &[m(257)]),
+            ("-1", [m(-1), last]),
+            ("the least", [m(-9_223_372_036_854_775_808), last]),
+            ("256", [m(256), last]),
+            ("257, whose low byte is 1", [m(257), last]),
         ],
     )?;
     members_refused(
         &rt,
         alloc,
         Some((Code::BadMember, 1)),
-        &[("0", &[m(0), n(0)]), ("255", &[m(255), n(255)])],
+        &[("0", [m(0), n(0)]), ("255", [m(255), n(255)])],
     )
 }
 
 #[test]
 fn a_member_is_an_object_that_is_there_or_a_text(rt: HostRuntime) -> Result<(), Fail> {
     let alloc = rt.alloc();
-    let m = |ty: TypeRow| [member(b"m", 1, ty)];
-    let none = [member(b"m", 0, one(OBJECT, 9))];
+    let last = member(b"last", 9, one(TEXT, 0));
+    let m = |ty: TypeRow| [member(b"m", 1, ty), last];
+    let none = [member(b"m", 0, one(OBJECT, 9)), last];
     // Members that may be; objects that are not there; other types.
     members_refused(
         &rt,
         alloc,
         None,
         &[
-            ("a table", &m(one(OBJECT, 0))),
-            ("a struct", &m(one(OBJECT, 1))),
-            ("a text with an index", &m(one(TEXT, 9))),
-            ("anything at value 0", &none),
+            ("a table", m(one(OBJECT, 0))),
+            ("a struct", m(one(OBJECT, 1))),
+            ("a text with an index", m(one(TEXT, 9))),
+            ("anything at value 0", none),
         ],
     )?;
     members_refused(
@@ -107,8 +107,8 @@ fn a_member_is_an_object_that_is_there_or_a_text(rt: HostRuntime) -> Result<(), 
         alloc,
         Some((Code::NoSuchObject, 0)),
         &[
-            ("past the last", &m(one(OBJECT, 2))),
-            ("before the first", &m(one(OBJECT, -1))),
+            ("past the last", m(one(OBJECT, 2))),
+            ("before the first", m(one(OBJECT, -1))),
         ],
     )?;
     members_refused(
@@ -116,11 +116,11 @@ fn a_member_is_an_object_that_is_there_or_a_text(rt: HostRuntime) -> Result<(), 
         alloc,
         Some((Code::BadMember, 0)),
         &[
-            ("no type", &m(one(0, -1))),
-            ("a number", &m(one(INT, 0))),
-            ("a union", &m(one(UNION, 0))),
-            ("a vector of no object", &m(vector(OBJECT, 9))),
-            ("a vector of texts", &m(vector(TEXT, 0))),
+            ("no type", m(one(0, -1))),
+            ("a number", m(one(INT, 0))),
+            ("a union", m(one(UNION, 0))),
+            ("a vector of no object", m(vector(OBJECT, 9))),
+            ("a vector of texts", m(vector(TEXT, 0))),
         ],
     )
 }
@@ -136,8 +136,8 @@ fn a_name_is_asked_after_the_value_and_before_the_type(rt: HostRuntime) -> Resul
         alloc,
         Some((Code::NameTwice, 1)),
         &[
-            ("a number", &[first, m(2, one(INT, 0))]),
-            ("no object", &[first, m(2, one(OBJECT, 2))]),
+            ("a number", [first, m(2, one(INT, 0))]),
+            ("no object", [first, m(2, one(OBJECT, 2))]),
         ],
     )?;
     members_refused(
@@ -145,15 +145,15 @@ fn a_name_is_asked_after_the_value_and_before_the_type(rt: HostRuntime) -> Resul
         alloc,
         None,
         &[
-            ("of value 0", &[first, m(0, one(0, 0))]),
-            ("of value 0 before", &[m(0, one(0, 0)), first]),
+            ("of value 0", [first, m(0, one(0, 0))]),
+            ("of value 0 before", [m(0, one(0, 0)), first]),
         ],
     )?;
     members_refused(
         &rt,
         alloc,
         Some((Code::BadMember, 1)),
-        &[("the value too", &[first, first])],
+        &[("the value too", [first, first])],
     )
 }
 

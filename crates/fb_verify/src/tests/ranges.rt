@@ -292,11 +292,9 @@ fn the_inline_size_is_asked_first(rt: HostRuntime) -> Result<(), Fail> {
             ("whole structs", asked(&whole, BOXES), yes(1, 1, 7)),
             ("a struct", asked(&holder, HOLDER), beyond(24, HOLDER)),
             ("a whole struct", asked(&in_24, HOLDER), yes(1, 1, 5)),
-            (
-                "past the buffer, askew",
-                asked(&far, NOTE),
-                beyond(23, NOTE),
-            ),
+            ("past the buffer", asked(&far, NOTE), beyond(23, NOTE)),
+            ("a struct there", asked(&far, HOLDER), beyond(23, HOLDER)),
+            ("a vector there", asked(&far, SUMS), beyond(23, SUMS)),
         ],
     )
 }
