@@ -9,7 +9,7 @@ import struct
 import outside
 import schemas
 from naive import Reader, Schema, Walk
-from outside import Plain, buffer, file_of, lines, prefixed, run
+from outside import Plain, buffer, file_of, prefixed, run
 from schemas import (
     BOOL, BYTE, DOUBLE, INT, LONG, SHORT, TEXT, U_BYTE, U_TYPE, a_struct, a_union, an_object, field, schema, table,
     union, vector,

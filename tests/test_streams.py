@@ -4,11 +4,10 @@ import os
 import re
 import threading
 
-import buffers
 import outside
 import schemas
 from buffers import ORC, SEVEN, named
-from outside import Ran, Talk, bad, failed, file_of, good, lines, prefixed, run, spelled
+from outside import Ran, Talk, bad, failed, file_of, good, lines, prefixed, run, run_in_shell, spelled
 
 FILES = schemas.files()
 BY_M = ("--schema", FILES["M"])
@@ -100,10 +99,9 @@ def many_messages(cases):
     mixed = [wrong(number) if number % 3 == 0 else text for number, text in enumerate(want, 1)]
     given = b"".join(WRONG if number % 3 == 0 else SEVEN for number in range(1, count + 1))
     cases.same("100,000, each third a no", run(*BY_N, given=given), bad(*mixed))
-    with file_of("stream", given).open("rb") as stream, open(outside.FOLDER / "lines", "wb") as told:
-        status = outside.subprocess.run([outside.PROGRAM, *BY_N], stdin=stream, stdout=told,
-                                        timeout=outside.SECONDS).returncode
-    cases.same("the same from a file to a file", (status, (outside.FOLDER / "lines").read_bytes()), (1, lines(*mixed)))
+    stream, told = file_of("stream", given), file_of("lines", b"")
+    status = run_in_shell(f"<{stream} >{told}", *BY_N).status
+    cases.same("the same from a file to a file", (status, told.read_bytes()), (1, lines(*mixed)))
     paths = [f"{text} 7" for text in want]
     cases.same("100,000 with a path", run(*BY_N, "--path", "v", given=SEVEN * count), good(*paths))
 

@@ -3,7 +3,6 @@
 import json
 import struct
 
-import buffers
 import outside
 import schemas
 from buffers import ASKEW, HALVES, MEMBER, MEMBERS, ORC, PLACED, PLAIN, SEVEN, TWINS, UNEQUAL, lower_type
