@@ -1,0 +1,180 @@
+//! Buffers cut off everywhere, and with each byte changed to each other value: engine and naive checker agree in
+//! every number, under every choice of the checks, and where they say yes, in the value at the end of every path of
+//! up to three steps.
+
+use crate::answers;
+use crate::engine::{ALL_CHECKS, Engine};
+use crate::fixtures::{Fixture, SHORT_ONES, Swept};
+use crate::naive::Question;
+use crate::paths::{Way, ways};
+use fb_verify::Checks;
+use std::alloc::{AllocError, Global};
+use std::ops::Range;
+use std::process::Abort;
+use std::test::Fail;
+
+/// How many damaged buffers were asked, and to how many of them both said yes.
+#[derive(Clone, Copy, Default, Debug, PartialEq, Eq)]
+struct Count {
+    asked: u32,
+    yes: u32,
+}
+
+/// A sweep over the damaged forms of one buffer.
+#[derive(Drop)]
+struct Sweep<'q, 'r, 's, 'n> {
+    alloc: Global,
+    engine: Engine<'s, 'n>,
+    question: Question<'q, 'r>,
+    ways: &'q [Way],
+    count: Count,
+}
+
+/// Asks both of one buffer.
+fn ask(rt: &impl Abort, sweep: &mut Sweep<'_, '_, '_, '_>, bytes: &[u8]) -> Result<(), AllocError> {
+    let answer = sweep
+        .engine
+        .agrees(rt, sweep.alloc, &sweep.question, bytes)?;
+    sweep.count.asked = sweep.count.asked.saturating_add(1);
+    if let Ok(verified) = answer {
+        sweep.count.yes = sweep.count.yes.saturating_add(1);
+        answers::agree(rt, &sweep.question, &verified, bytes, sweep.ways);
+    }
+    Ok(())
+}
+
+/// Asks both of a buffer with the byte at this place changed to each value, and puts the byte back.
+fn each_change_at(
+    rt: &impl Abort,
+    sweep: &mut Sweep<'_, '_, '_, '_>,
+    bytes: &mut [u8],
+    at: usize,
+) -> Result<(), AllocError> {
+    let Some(byte) = bytes.get(at).copied() else {
+        return Ok(());
+    };
+    for change in [0u8, 1, 4, 8, 128] {
+        if let Some(place) = bytes.get_mut(at) {
+            *place = byte ^ change;
+        }
+        ask(rt, sweep, bytes)?;
+    }
+    if let Some(place) = bytes.get_mut(at) {
+        *place = byte;
+    }
+    Ok(())
+}
+
+/// Asks both of a buffer and of all its proper prefixes.
+fn each_prefix(
+    rt: &impl Abort,
+    sweep: &mut Sweep<'_, '_, '_, '_>,
+    bytes: &[u8],
+) -> Result<(), AllocError> {
+    for end in 0..=bytes.len() {
+        ask(rt, sweep, bytes.get(..end).unwrap_or(bytes))?;
+    }
+    Ok(())
+}
+
+/// The sweep over one fixture under these checks: every prefix, and every change of the bytes from one place on and
+/// before another.
+fn run_sweep(
+    rt: &impl Abort,
+    alloc: Global,
+    fixture: &Fixture<'_>,
+    ways: &[Way],
+    checks: Checks,
+    places: Range<usize>,
+) -> Result<Count, Fail> {
+    let mut sweep = Sweep {
+        alloc,
+        engine: Engine::new(alloc, &fixture.schema)?,
+        question: fixture.question(checks),
+        ways,
+        count: Count::default(),
+    };
+    let mut bytes = fixture.bytes.as_slice().to_vec(alloc)?;
+    each_prefix(rt, &mut sweep, &bytes)?;
+    for at in places {
+        each_change_at(rt, &mut sweep, &mut bytes, at)?;
+    }
+    Ok(sweep.count)
+}
+
+/// The sweep over one buffer under every choice of the checks.
+fn sweep_short(rt: &impl Abort, alloc: Global, swept: Swept) -> Result<(), Fail> {
+    let fixture = swept.fixture(rt, alloc)?;
+    let ways = ways(rt, alloc, &fixture)?;
+    let places = fixture.bytes.len();
+    for checks in ALL_CHECKS {
+        let count = run_sweep(rt, alloc, &fixture, &ways, checks, 0..places)?;
+        assert!(rt;
+            count.yes > 0 && count.yes < count.asked,
+            "{swept:?} {count:?}"
+        );
+    }
+    Ok(())
+}
+
+#[test]
+fn short_buffers_that_are_damaged_are_answered_alike(rt: HostRuntime) -> Result<(), Fail> {
+    for swept in SHORT_ONES {
+        sweep_short(&rt, rt.alloc(), swept)?;
+    }
+    Ok(())
+}
+
+/// The sweep over a schema file under these checks, with changes of these bytes.
+fn sweep_schema_file(
+    rt: &impl Abort,
+    alloc: Global,
+    checks: Checks,
+    places: Range<usize>,
+) -> Result<(), Fail> {
+    let fixture = Swept::SchemaFile.fixture(rt, alloc)?;
+    let ways = ways(rt, alloc, &fixture)?;
+    let count = run_sweep(rt, alloc, &fixture, &ways, checks, places)?;
+    assert!(rt; count.yes > 0 && count.yes < count.asked, "{count:?}");
+    Ok(())
+}
+
+#[test]
+fn a_schema_file_damaged_in_front_is_answered_alike(rt: HostRuntime) -> Result<(), Fail> {
+    sweep_schema_file(&rt, rt.alloc(), ALL_CHECKS[0], 0..104)
+}
+
+#[test]
+fn a_schema_file_damaged_in_the_back_is_answered_alike(rt: HostRuntime) -> Result<(), Fail> {
+    sweep_schema_file(&rt, rt.alloc(), ALL_CHECKS[0], 104..208)
+}
+
+#[test]
+fn the_front_with_the_inline_size(rt: HostRuntime) -> Result<(), Fail> {
+    sweep_schema_file(&rt, rt.alloc(), ALL_CHECKS[1], 0..104)
+}
+
+#[test]
+fn the_back_with_the_inline_size(rt: HostRuntime) -> Result<(), Fail> {
+    sweep_schema_file(&rt, rt.alloc(), ALL_CHECKS[1], 104..208)
+}
+
+#[test]
+fn the_front_without_alignment(rt: HostRuntime) -> Result<(), Fail> {
+    sweep_schema_file(&rt, rt.alloc(), ALL_CHECKS[2], 0..104)
+}
+
+#[test]
+fn the_back_without_alignment(rt: HostRuntime) -> Result<(), Fail> {
+    sweep_schema_file(&rt, rt.alloc(), ALL_CHECKS[2], 104..208)
+}
+
+#[test]
+fn the_front_with_the_inline_size_and_without_alignment(rt: HostRuntime) -> Result<(), Fail> {
+    sweep_schema_file(&rt, rt.alloc(), ALL_CHECKS[3], 0..104)
+}
+
+#[test]
+fn the_back_with_the_inline_size_and_without_alignment(rt: HostRuntime) -> Result<(), Fail> {
+    sweep_schema_file(&rt, rt.alloc(), ALL_CHECKS[3], 104..208)
+}

@@ -1,0 +1,175 @@
+//! The engine, asked as the naive checker is, and its answers in that one's words.
+
+use crate::naive::{Question, Verdict, verdict};
+use fb_bytes::Meter;
+use fb_schema::Schema;
+use fb_verify::{
+    Checks, Fault, Ident, Limits, Reason, Report, Scratch, Start, Verified, most_reads, verify,
+};
+use std::alloc::{AllocError, Global};
+use std::fmt;
+use std::process::Abort;
+use std::test::Fail;
+
+/// Every choice of the checks.
+pub const ALL_CHECKS: [Checks; 4] = [
+    Checks {
+        alignment: true,
+        inline_size: false,
+    },
+    Checks {
+        alignment: true,
+        inline_size: true,
+    },
+    Checks {
+        alignment: false,
+        inline_size: false,
+    },
+    Checks {
+        alignment: false,
+        inline_size: true,
+    },
+];
+
+/// The number in a reason's code.
+fn number(reason: Reason) -> u8 {
+    match reason {
+        Reason::WrongPrefix => 1,
+        Reason::OutOfBuffer => 2,
+        Reason::Misaligned => 3,
+        Reason::ZeroOffset => 4,
+        Reason::WrongIdentifier => 5,
+        Reason::TooDeep => 6,
+        Reason::TooManyTables => 7,
+        Reason::BadVtable => 8,
+        Reason::MissingRequired => 9,
+        Reason::NoTerminator => 10,
+        Reason::LengthsDiffer => 11,
+        Reason::PastTable => 12,
+    }
+}
+
+/// A fault in the naive checker's words.
+pub fn told(fault: Fault) -> Verdict {
+    Verdict::No {
+        reason: number(fault.reason),
+        at: fault.at,
+        object: fault.object,
+        field: fault.field,
+        reads: fault.reads,
+    }
+}
+
+/// What was counted, in the naive checker's words.
+fn counted(report: Report) -> Verdict {
+    Verdict::Yes {
+        tables: u64::from(report.tables),
+        depth: u64::from(report.depth),
+        reads: report.reads,
+    }
+}
+
+/// The reads of a verdict.
+fn reads_of(verdict: Verdict) -> u128 {
+    match verdict {
+        Verdict::Yes { reads, .. } | Verdict::No { reads, .. } => reads,
+        Verdict::TooLarge => 0,
+    }
+}
+
+/// The engine with what it needs for one buffer after another.
+#[derive(Drop)]
+pub struct Engine<'s, 'n> {
+    pub schema: &'s Schema<'n>,
+    pub scratch: Scratch,
+}
+
+impl<'s, 'n> Engine<'s, 'n> {
+    /// An engine for depth limits up to the published one.
+    pub fn new(alloc: Global, schema: &'s Schema<'n>) -> Result<Self, Fail> {
+        let scratch = Scratch::new(alloc, 64)?;
+        Ok(Engine { schema, scratch })
+    }
+
+    /// What `verify` answers.
+    pub fn verified<'b>(
+        &mut self,
+        rt: &impl Abort,
+        question: &Question<'_, '_>,
+        bytes: &'b [u8],
+    ) -> Result<Verified<'b, 's, 'n>, Fault> {
+        let meter = Meter::new(bytes).ok().expect(rt, "a short buffer");
+        let limits = limits_of(rt, question);
+        assert!(rt; self.schema.is_table(question.root));
+        assert!(rt; limits.depth() <= self.scratch.depth());
+        let start = if question.prefixed {
+            Start::Prefixed
+        } else {
+            Start::Bare
+        };
+        let ident = match question.ident {
+            Some(name) => Ident::Want(name),
+            None => Ident::Any,
+        };
+        let checks = Checks {
+            alignment: question.alignment,
+            inline_size: question.inline_size,
+        };
+        verify(
+            meter,
+            self.schema,
+            question.root,
+            start,
+            ident,
+            limits,
+            checks,
+            &mut self.scratch,
+        )
+    }
+
+    /// Asserts that the engine and the naive checker agree in every number, and that the reads are no more than was
+    /// said in advance; where the tree is too large for the naive checker, that alone. Answers what the engine does.
+    pub fn agrees<'b>(
+        &mut self,
+        rt: &impl Abort,
+        alloc: Global,
+        question: &Question<'_, '_>,
+        bytes: &'b [u8],
+    ) -> Result<Result<Verified<'b, 's, 'n>, Fault>, AllocError> {
+        let answer = self.verified(rt, question, bytes);
+        let of_engine = match &answer {
+            Ok(verified) => counted(verified.report()),
+            Err(fault) => told(*fault),
+        };
+        let naive = verdict(alloc, question, bytes)?;
+        if naive != Verdict::TooLarge {
+            assert_eq!(rt; of_engine, naive, "{} {bytes:?}", Asked(question));
+        }
+        let most = most_reads(self.schema, limits_of(rt, question), bytes.len() as u64);
+        assert!(rt;
+            reads_of(of_engine) <= most,
+            "{} {bytes:?}",
+            Asked(question)
+        );
+        Ok(answer)
+    }
+}
+
+fn limits_of(rt: &impl Abort, question: &Question<'_, '_>) -> Limits {
+    let limits = Limits::new(question.depth, question.tables);
+    limits.ok().expect(rt, "a depth in range")
+}
+
+/// The settings of a question, for the message of a test that fails.
+struct Asked<'q, 'r, 'n>(&'q Question<'r, 'n>);
+
+impl fmt::Display for Asked<'_, '_, '_> {
+    fn fmt<W: fmt::Write>(&self, f: &mut fmt::Formatter<W>) -> fmt::Result {
+        let q = self.0;
+        write!(
+            f,
+            "root={} prefixed={} ident={:?} depth={} tables={} alignment={} inline_size={}",
+            q.root, q.prefixed, q.ident, q.depth, q.tables, q.alignment, q.inline_size
+        )
+    }
+}

@@ -1,0 +1,15 @@
+//! The built-in table of reflection.fbs beside the same tables typed anew: every field with its number, type and
+//! flags, also those that no buffer of the sweeps has.
+
+use crate::lookups;
+use crate::reflection_rows::reflection_rows;
+use fb_bfbs::reflection;
+use std::test::Fail;
+
+#[test]
+fn the_built_in_table_is_the_one_typed_anew(rt: HostRuntime) -> Result<(), Fail> {
+    let schema = reflection(rt.alloc())?;
+    let rows = reflection_rows(rt.alloc())?;
+    lookups::agree(&rt, &schema, &rows);
+    Ok(())
+}

@@ -1,0 +1,233 @@
+//! What the look-ups of a schema answer, beside plain walks over its rows.
+
+use crate::rows::{OBJECT, Rows, TEXT, VECTOR};
+use fb_schema::{EnumRow, FieldRow, FieldView, Kind, ObjectRow, Scalar, Schema, TypeRow};
+use std::process::Abort;
+
+/// The scalar types with their sizes, from base type 1 on.
+const SCALARS: [(Scalar, u32); 12] = [
+    (Scalar::UType, 1),
+    (Scalar::Bool, 1),
+    (Scalar::Byte, 1),
+    (Scalar::UByte, 1),
+    (Scalar::Short, 2),
+    (Scalar::UShort, 2),
+    (Scalar::Int, 4),
+    (Scalar::UInt, 4),
+    (Scalar::Long, 8),
+    (Scalar::ULong, 8),
+    (Scalar::Float, 4),
+    (Scalar::Double, 8),
+];
+
+/// What one value of this base type is, with its size and alignment; none where it is no value of a table.
+fn single(rows: &Rows<'_>, base: i8, index: i32) -> Option<(Kind, u32, u32)> {
+    let place = usize::try_from(base).ok()?;
+    if let Some((scalar, size)) = SCALARS.get(place.checked_sub(1)?) {
+        return Some((Kind::Scalar(*scalar), *size, *size));
+    }
+    if base == TEXT {
+        return Some((Kind::Text, 4, 4));
+    }
+    let number = u32::try_from(index).ok()?;
+    if base != OBJECT {
+        return Some((Kind::Union(number), 4, 4));
+    }
+    let object = rows.objects.as_slice().get(number as usize)?;
+    if object.is_struct {
+        let size = u32::try_from(object.bytesize).ok()?;
+        let align = u32::try_from(object.minalign).ok()?;
+        Some((Kind::Struct(number), size, align))
+    } else {
+        Some((Kind::Table(number), 4, 4))
+    }
+}
+
+/// The kind of a type, and the size and alignment of its value or of one element.
+pub fn kind(rows: &Rows<'_>, ty: TypeRow) -> Option<(Kind, u32, u32)> {
+    if ty.base != VECTOR {
+        return single(rows, ty.base, ty.index);
+    }
+    let (kind, size, align) = single(rows, ty.element, ty.index)?;
+    let many = match kind {
+        Kind::Scalar(scalar) => Kind::Scalars(scalar),
+        Kind::Text => Kind::Texts,
+        Kind::Struct(number) => Kind::Structs(number),
+        Kind::Table(number) => Kind::Tables(number),
+        Kind::Union(number) => Kind::Unions(number),
+        _ => return None,
+    };
+    Some((many, size, align))
+}
+
+/// How many live fields have a slot below this one.
+fn live_below(fields: &[FieldRow<'_>], slot: u16) -> usize {
+    let below = |field: &&FieldRow<'_>| !field.deprecated && field.slot < slot;
+    fields.iter().filter(below).count()
+}
+
+/// The place of the type field of a union and of a vector of unions.
+fn companion(fields: &[FieldRow<'_>], kind: Kind, slot: u16) -> Option<u32> {
+    match kind {
+        Kind::Union(_) | Kind::Unions(_) => {
+            u32::try_from(live_below(fields, slot.checked_sub(2)?)).ok()
+        }
+        _ => None,
+    }
+}
+
+/// Whether what the engine tells of a live field is what its row says.
+fn is_view_of(
+    rows: &Rows<'_>,
+    fields: &[FieldRow<'_>],
+    row: &FieldRow<'_>,
+    view: &FieldView<'_>,
+) -> bool {
+    let Some((kind, size, align)) = kind(rows, row.ty) else {
+        return false;
+    };
+    let placed = view.slot == row.slot && 2 * u32::from(view.number) + 4 == u32::from(row.slot);
+    let flags = view.required == row.required && view.optional == row.optional;
+    let shape = view.kind == kind && view.size == size && view.align == align;
+    let beside = view.companion == companion(fields, kind, row.slot);
+    placed && flags && shape && beside && view.name == row.name && view.default == row.default
+}
+
+/// Asserts what is told of one live field of a table.
+fn field_agrees(
+    rt: &impl Abort,
+    schema: &Schema<'_>,
+    rows: &Rows<'_>,
+    number: u32,
+    fields: &[FieldRow<'_>],
+    row: &FieldRow<'_>,
+) {
+    assert!(rt; schema.is_table(number));
+    let place = live_below(fields, row.slot);
+    let Some(view) = schema.fields_of(number).get(place) else {
+        panic!(rt; "no field at {place} of {number}");
+    };
+    assert!(rt; is_view_of(rows, fields, row, view), "{view:?} of {row:?}");
+    let i = u32::try_from(place).ok().expect(rt, "few fields");
+    assert_eq!(rt; schema.field_named(number, row.name), Some(i));
+    assert!(rt; i < schema.field_count(number));
+    assert_eq!(rt; schema.field_at(number, i).slot, row.slot);
+}
+
+/// Asserts what is told of the live fields of a table.
+fn fields_agree(
+    rt: &impl Abort,
+    schema: &Schema<'_>,
+    rows: &Rows<'_>,
+    number: u32,
+    fields: &[FieldRow<'_>],
+) {
+    assert!(rt; schema.is_table(number));
+    let live = live_count(fields);
+    assert_eq!(rt; schema.fields_of(number).len(), live);
+    assert_eq!(rt; schema.field_count(number) as usize, live);
+    assert_eq!(rt; schema.field_named(number, b"nothing"), None);
+    for field in fields.iter() {
+        if field.deprecated {
+            assert_eq!(rt; schema.field_named(number, field.name), None);
+        } else {
+            field_agrees(rt, schema, rows, number, fields, field);
+        }
+    }
+}
+
+fn object_agrees(
+    rt: &impl Abort,
+    schema: &Schema<'_>,
+    rows: &Rows<'_>,
+    number: u32,
+    object: &ObjectRow<'_>,
+) {
+    assert!(rt; number < schema.object_count());
+    let view = schema.object(number);
+    assert!(rt; view.name == object.name && view.is_struct == object.is_struct);
+    assert!(rt; view.minalign == object.minalign && view.bytesize == object.bytesize);
+    assert_eq!(rt; schema.is_table(number), !object.is_struct);
+    assert_eq!(rt; schema.object_named(object.name), Some(number));
+    if !object.is_struct {
+        fields_agree(rt, schema, rows, number, &object.fields);
+    }
+}
+
+/// The kind of the member of a union with this value.
+fn member_kind(rows: &Rows<'_>, row: &EnumRow<'_>, value: u8) -> Option<Kind> {
+    if value == 0 {
+        return None;
+    }
+    let value = i64::from(value);
+    let member = row.members.iter().find(|member| member.value == value)?;
+    let (kind, _, _) = kind(rows, member.ty)?;
+    Some(kind)
+}
+
+/// Asserts what is told of the member of a union with each value.
+fn members_agree(
+    rt: &impl Abort,
+    schema: &Schema<'_>,
+    rows: &Rows<'_>,
+    number: u32,
+    row: &EnumRow<'_>,
+) {
+    assert!(rt; schema.is_union(number));
+    for value in 0..=255u8 {
+        let told = schema.member_of(number, value);
+        assert_eq!(rt; told, member_kind(rows, row, value), "{value}");
+    }
+}
+
+/// Asserts what is told of the names of a union's members.
+fn names_agree(rt: &impl Abort, schema: &Schema<'_>, number: u32, row: &EnumRow<'_>) {
+    assert!(rt; schema.is_union(number));
+    assert_eq!(rt; schema.member_named(number, b"nothing"), None);
+    for member in row.members.iter() {
+        let named = row
+            .members
+            .iter()
+            .find(|m| m.value != 0 && m.name == member.name);
+        let value = named.and_then(|m| u8::try_from(m.value).ok());
+        assert_eq!(rt; schema.member_named(number, member.name), value);
+    }
+}
+
+fn enums_agree(rt: &impl Abort, schema: &Schema<'_>, rows: &Rows<'_>) {
+    for (number, row) in (0u32..).zip(rows.enums.iter()) {
+        assert_eq!(rt; schema.is_union(number), row.is_union);
+        if row.is_union {
+            members_agree(rt, schema, rows, number, row);
+            names_agree(rt, schema, number, row);
+        }
+    }
+}
+
+/// How many fields are live.
+fn live_count(fields: &[FieldRow<'_>]) -> usize {
+    fields.iter().filter(|field| !field.deprecated).count()
+}
+
+/// The greatest number of live fields of a table.
+fn widest(rows: &Rows<'_>) -> usize {
+    let mut widest = 0;
+    for object in rows.objects.iter() {
+        if !object.is_struct {
+            widest = live_count(&object.fields).max(widest);
+        }
+    }
+    widest
+}
+
+/// Asserts that every look-up answers by the rows.
+pub fn agree(rt: &impl Abort, schema: &Schema<'_>, rows: &Rows<'_>) {
+    assert_eq!(rt; schema.object_count() as usize, rows.objects.len());
+    assert_eq!(rt; schema.widest() as usize, widest(rows));
+    assert_eq!(rt; schema.object_named(b"nothing"), None);
+    assert!(rt; !schema.is_table(schema.object_count()));
+    for (number, object) in (0u32..).zip(rows.objects.iter()) {
+        object_agrees(rt, schema, rows, number, object);
+    }
+    enums_agree(rt, schema, rows);
+}

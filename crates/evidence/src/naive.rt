@@ -1,0 +1,668 @@
+//! A naive checker of FlatBuffers: the rules of the format told once more, for tests alone.
+//!
+//! It shares nothing with the verifier that it is compared with. It looks through the rows anew at every field, goes
+//! down by plain recursion, and builds the whole tree of visited tables before anything is counted on it.
+
+use crate::naive_kinds::{
+    Kind, Live, Shape, element_at, field_count, kind_of, member_kind, next_live, number,
+    scalar_size, signed,
+};
+use crate::naive_tree::{Found, Members, Node};
+use fb_schema::{EnumRow, ObjectRow, TypeRow};
+use std::alloc::{AllocError, Global};
+
+/// What is asked of a buffer: the rows of the schema, and the settings of the verification.
+#[derive(Clone, Copy)]
+pub struct Question<'r, 'n> {
+    pub objects: &'r [ObjectRow<'n>],
+    pub enums: &'r [EnumRow<'n>],
+    pub root: u32,
+    pub prefixed: bool,
+    pub ident: Option<[u8; 4]>,
+    pub depth: u32,
+    pub tables: u32,
+    pub alignment: bool,
+    pub inline_size: bool,
+}
+
+pub use answer::Verdict;
+
+// A module of its own, since `verdict` and `Verdict` may not stand in one.
+mod answer {
+    /// What the naive checker answers of a buffer.
+    #[derive(Clone, Copy, Debug, PartialEq, Eq)]
+    pub enum Verdict {
+        /// Well formed within the limits, with the size, depth and cost that were counted on the finished tree.
+        Yes {
+            tables: u64,
+            depth: u64,
+            reads: u128,
+        },
+        /// The first fault: reason is the number in its code, 2 for V2.
+        ///
+        /// Reason 0 is no fault of the buffer: the rows aren't legal, or the counts of the finished tree differ from
+        /// those along the way. No verifier answers it, so it can't go unseen in a comparison.
+        No {
+            reason: u8,
+            at: u64,
+            object: u32,
+            field: Option<u16>,
+            reads: u128,
+        },
+        /// The tree has more than a million tables (more than the naive checker builds).
+        TooLarge,
+    }
+}
+
+/// The most tables that are built.
+const MOST_TABLES: u64 = 1_000_000;
+
+/// The size of an offset word and of a count, and what they are aligned to.
+const WORD: u64 = 4;
+
+/// The reason of what can't happen under legal rows.
+const IMPOSSIBLE: u8 = 0;
+
+// The reasons of faults, by the numbers in their codes.
+const WRONG_PREFIX: u8 = 1;
+
+const OUT_OF_BUFFER: u8 = 2;
+
+const MISALIGNED: u8 = 3;
+
+const ZERO_OFFSET: u8 = 4;
+
+const WRONG_IDENTIFIER: u8 = 5;
+
+const TOO_DEEP: u8 = 6;
+
+const TOO_MANY_TABLES: u8 = 7;
+
+const BAD_VTABLE: u8 = 8;
+
+const MISSING_REQUIRED: u8 = 9;
+
+const NO_TERMINATOR: u8 = 10;
+
+const LENGTHS_DIFFER: u8 = 11;
+
+const PAST_TABLE: u8 = 12;
+
+/// Whom a fault names: the innermost opened table's object and the number of its field under check.
+#[derive(Clone, Copy)]
+struct Here {
+    object: u32,
+    field: Option<u16>,
+}
+
+/// Why the walk ended early.
+#[derive(Clone, Copy)]
+enum Stop {
+    Fault { reason: u8, at: u64, here: Here },
+    TooLarge,
+    NoMemory,
+}
+
+impl From<AllocError> for Stop {
+    fn from(_error: AllocError) -> Stop {
+        Stop::NoMemory
+    }
+}
+
+fn fault(reason: u8, at: u64, here: Here) -> Stop {
+    Stop::Fault { reason, at, here }
+}
+
+/// One test in its place: where it fails, it is the first fault.
+fn ensure(holds: bool, reason: u8, at: u64, here: Here) -> Result<(), Stop> {
+    if holds {
+        Ok(())
+    } else {
+        Err(fault(reason, at, here))
+    }
+}
+
+/// An opened table whose head was tested: its position, its vtable with its size, and the inline size.
+#[derive(Clone, Copy)]
+struct Head {
+    object: u32,
+    at: u64,
+    vtable: u64,
+    vtable_size: u64,
+    inline_size: u64,
+}
+
+/// A slot of a vtable: how far from its table's start the field stands, or what an absent field is found to be.
+#[derive(Clone, Copy)]
+enum Slot {
+    Holds(u64),
+    Missing(Found),
+}
+
+/// A present field under check.
+#[derive(Clone, Copy)]
+struct Place {
+    head: Head,
+    slot: u16,
+    word: u64,
+    at: u64,
+    here: Here,
+}
+
+/// A walk through a buffer, with the reads made and the tables opened so far.
+#[derive(Drop)]
+struct Walk<'r, 'n, 'b> {
+    alloc: Global,
+    question: Question<'r, 'n>,
+    bytes: &'b [u8],
+    reads: u64,
+    opened: u64,
+}
+
+impl<'r, 'n, 'b> Walk<'r, 'n, 'b> {
+    /// V2: the `size` bytes at `at` are in the buffer.
+    fn fits(&self, at: u64, size: u64) -> bool {
+        at.checked_add(size)
+            .is_some_and(|end| end <= self.bytes.len() as u64)
+    }
+
+    fn range(&self, at: u64, size: u64, here: Here) -> Result<(), Stop> {
+        ensure(self.fits(at, size), OUT_OF_BUFFER, at, here)
+    }
+
+    /// V3: the position is a multiple of the alignment, which isn't asked where alignment is off.
+    fn aligned(&self, at: u64, align: u64, here: Here) -> Result<(), Stop> {
+        let multiple = at.checked_rem(align) == Some(0);
+        ensure(multiple || !self.question.alignment, MISALIGNED, at, here)
+    }
+
+    /// A counted read. Its range was tested before.
+    fn read(&mut self, at: u64, size: u64, here: Here) -> Result<u64, Stop> {
+        self.reads = self.reads.saturating_add(1);
+        number(self.bytes, at, size).ok_or(fault(IMPOSSIBLE, at, here))
+    }
+
+    /// The prefix, the wanted identifier and the root offset, then the tree of the root table.
+    fn buffer(&mut self) -> Result<Node, Stop> {
+        let here = Here {
+            object: self.question.root,
+            field: None,
+        };
+        let base: u64 = if self.question.prefixed { WORD } else { 0 };
+        if self.question.prefixed {
+            self.range(0, WORD, here)?;
+            let prefix = self.read(0, WORD, here)?;
+            let length = self.bytes.len() as u64;
+            ensure(
+                prefix.checked_add(WORD) == Some(length),
+                WRONG_PREFIX,
+                0,
+                here,
+            )?;
+        }
+        if let Some(ident) = self.question.ident {
+            let wanted = u32::from_le_bytes(ident);
+            self.range(base + WORD, WORD, here)?;
+            let found = self.read(base + WORD, WORD, here)?;
+            ensure(
+                found == u64::from(wanted),
+                WRONG_IDENTIFIER,
+                base + WORD,
+                here,
+            )?;
+        }
+        self.range(base, WORD, here)?;
+        let offset = self.read(base, WORD, here)?;
+        ensure(offset != 0, ZERO_OFFSET, base, here)?;
+        self.table(
+            self.question.root,
+            base.saturating_add(offset),
+            self.question.depth,
+            here,
+        )
+    }
+
+    /// A table: depth before count, both before its first read; then its head, and then its live fields.
+    ///
+    /// `left` is how many tables may still be opened inside one another, `outer` whom the limits' faults name.
+    #[cycle(walk)]
+    fn table(&mut self, object: u32, at: u64, left: u32, outer: Here) -> Result<Node, Stop> {
+        if left == 0 {
+            return Err(fault(TOO_DEEP, at, outer));
+        }
+        let may_open = self.opened < u64::from(self.question.tables);
+        ensure(may_open, TOO_MANY_TABLES, at, outer)?;
+        if self.opened >= MOST_TABLES {
+            return Err(Stop::TooLarge);
+        }
+        self.opened = self.opened.saturating_add(1);
+        let head = self.head(object, at)?;
+        self.fields(head, left - 1)
+    }
+
+    /// The head of an opened table: the offset to its vtable, the vtable's size and, where asked, the inline size.
+    fn head(&mut self, object: u32, at: u64) -> Result<Head, Stop> {
+        let here = Here {
+            object,
+            field: None,
+        };
+        self.range(at, WORD, here)?;
+        self.aligned(at, WORD, here)?;
+        let back = signed(self.read(at, WORD, here)?, WORD);
+        let place = u64::try_from(i128::from(at) - i128::from(back)).ok();
+        let Some(vtable) = place.filter(|vtable| self.fits(*vtable, 2)) else {
+            return Err(fault(OUT_OF_BUFFER, at, here));
+        };
+        self.aligned(vtable, 2, here)?;
+        let vtable_size = self.read(vtable, 2, here)?;
+        let has_size = vtable_size % 2 == 0 && vtable_size >= 4;
+        ensure(has_size, BAD_VTABLE, vtable, here)?;
+        self.range(vtable, vtable_size, here)?;
+        let inline_size = if self.question.inline_size {
+            self.read(vtable.saturating_add(2), 2, here)?
+        } else {
+            0
+        };
+        Ok(Head {
+            object,
+            at,
+            vtable,
+            vtable_size,
+            inline_size,
+        })
+    }
+
+    /// The live fields of a table in rising slot, each finished with all below it before the next.
+    #[cycle(walk)]
+    fn fields(&mut self, head: Head, left: u32) -> Result<Node, Stop> {
+        let count = field_count(&self.question, head.object);
+        let mut found = Vec::with_capacity(self.alloc, count)?;
+        let mut kids = Vec::new(self.alloc);
+        let mut last = 0;
+        for _ in 0..count {
+            let Some(row) = next_live(&self.question, head.object, last) else {
+                break;
+            };
+            last = row.slot;
+            let one = self.field(head, row, left, &mut kids)?;
+            found.push(one).map_err(AllocError::from)?;
+        }
+        Ok(Node { found, kids })
+    }
+
+    /// Reads a slot, where it lies in the vtable.
+    fn slot(&mut self, head: Head, slot: u16, here: Here) -> Result<Slot, Stop> {
+        if u64::from(slot) + 2 > head.vtable_size {
+            return Ok(Slot::Missing(Found::PastVtable));
+        }
+        let word = self.read(head.vtable.saturating_add(u64::from(slot)), 2, here)?;
+        Ok(if word == 0 {
+            Slot::Missing(Found::Absent)
+        } else {
+            Slot::Holds(word)
+        })
+    }
+
+    /// A live field: a required one is present (V9), and a present one stands as its slot says.
+    #[cycle(walk)]
+    fn field(
+        &mut self,
+        head: Head,
+        row: Live,
+        left: u32,
+        kids: &mut Vec<Node>,
+    ) -> Result<Found, Stop> {
+        let here = Here {
+            object: head.object,
+            field: Some(row.slot.saturating_sub(4) / 2),
+        };
+        let word = match self.slot(head, row.slot, here)? {
+            Slot::Holds(word) => word,
+            Slot::Missing(found) => {
+                ensure(!row.required, MISSING_REQUIRED, head.at, here)?;
+                return Ok(found);
+            }
+        };
+        let place = Place {
+            head,
+            slot: row.slot,
+            word,
+            at: head.at.saturating_add(word),
+            here,
+        };
+        self.present(place, row.ty, left, kids)
+    }
+
+    /// A present field, by its kind.
+    #[cycle(walk)]
+    fn present(
+        &mut self,
+        place: Place,
+        ty: TypeRow,
+        left: u32,
+        kids: &mut Vec<Node>,
+    ) -> Result<Found, Stop> {
+        match kind_of(&self.question, ty) {
+            Some(Kind::Scalar(base)) => self.scalar(place, base),
+            Some(Kind::Struct(shape)) => self.structure(place, shape),
+            Some(Kind::Table(object)) => self.table_field(place, object, left, kids),
+            Some(Kind::Text) => self.text(place),
+            Some(Kind::Scalars(base)) => self.scalars(place, base),
+            Some(Kind::Structs(shape)) => self.structs(place, shape),
+            Some(Kind::Texts) => self.texts(place),
+            Some(Kind::Tables(object)) => self.tables(place, object, left, kids),
+            Some(Kind::Union(union)) => self.union_field(place, union, left, kids),
+            Some(Kind::Unions(union)) => self.unions(place, union, left, kids),
+            None => Err(fault(IMPOSSIBLE, place.at, place.here)),
+        }
+    }
+
+    /// What stands in the table itself: inside the inline size where that is asked (V12), in the buffer, aligned.
+    fn inline(&self, place: Place, shape: Shape) -> Result<(), Stop> {
+        let end = place.word.saturating_add(shape.size);
+        let inside = end <= place.head.inline_size || !self.question.inline_size;
+        ensure(inside, PAST_TABLE, place.at, place.here)?;
+        self.range(place.at, shape.size, place.here)?;
+        self.aligned(place.at, shape.align, place.here)
+    }
+
+    /// A scalar: its bytes are in the buffer at a multiple of its size. The value isn't read.
+    fn scalar(&self, place: Place, base: i8) -> Result<Found, Stop> {
+        let size = scalar_size(base).unwrap_or(0);
+        self.inline(place, Shape { size, align: size })?;
+        Ok(Found::Inline)
+    }
+
+    /// A struct: its bytes are in the buffer at a multiple of its alignment. Its inside isn't examined.
+    fn structure(&self, place: Place, shape: Shape) -> Result<Found, Stop> {
+        self.inline(place, shape)?;
+        Ok(Found::Inline)
+    }
+
+    /// The offset word of a field: inline like a scalar, and not 0 (V4). Gives where it leads.
+    fn field_word(&mut self, place: Place) -> Result<u64, Stop> {
+        self.inline(
+            place,
+            Shape {
+                size: WORD,
+                align: WORD,
+            },
+        )?;
+        self.target(place.at, place.here)
+    }
+
+    /// The offset word of an element: in the buffer, aligned, and not 0 (V4). Gives where it leads.
+    fn element_word(&mut self, at: u64, here: Here) -> Result<u64, Stop> {
+        self.range(at, WORD, here)?;
+        self.aligned(at, WORD, here)?;
+        self.target(at, here)
+    }
+
+    /// Where the offset word at `at` leads, counted from its own position.
+    fn target(&mut self, at: u64, here: Here) -> Result<u64, Stop> {
+        let offset = self.read(at, WORD, here)?;
+        ensure(offset != 0, ZERO_OFFSET, at, here)?;
+        Ok(at.saturating_add(offset))
+    }
+
+    /// A table: an offset word, then the table where it leads.
+    #[cycle(walk)]
+    fn table_field(
+        &mut self,
+        place: Place,
+        object: u32,
+        left: u32,
+        kids: &mut Vec<Node>,
+    ) -> Result<Found, Stop> {
+        let target = self.field_word(place)?;
+        let kid = self.table(object, target, left, place.here)?;
+        kids.push(kid).map_err(AllocError::from)?;
+        Ok(Found::Table)
+    }
+
+    /// A text: an offset word, then the string where it leads.
+    fn text(&mut self, place: Place) -> Result<Found, Stop> {
+        let target = self.field_word(place)?;
+        self.string(target, place.here)?;
+        Ok(Found::Text)
+    }
+
+    /// A string: an aligned count, so many bytes, and a zero byte after them (V10).
+    fn string(&mut self, at: u64, here: Here) -> Result<(), Stop> {
+        self.range(at, WORD, here)?;
+        self.aligned(at, WORD, here)?;
+        let count = self.read(at, WORD, here)?;
+        let start = at.saturating_add(WORD);
+        self.range(start, count.saturating_add(1), here)?;
+        let end = start.saturating_add(count);
+        let terminator = self.read(end, 1, here)?;
+        ensure(terminator == 0, NO_TERMINATOR, end, here)
+    }
+
+    /// A vector: an aligned count, so many elements in the buffer, aligned where there are any. Gives the count.
+    fn vector(&mut self, at: u64, shape: Shape, here: Here) -> Result<u32, Stop> {
+        self.range(at, WORD, here)?;
+        self.aligned(at, WORD, here)?;
+        let count = self.read(at, WORD, here)?;
+        let start = at.saturating_add(WORD);
+        self.range(start, count.saturating_mul(shape.size), here)?;
+        if count != 0 {
+            self.aligned(start, shape.align, here)?;
+        }
+        Ok(u32::try_from(count).unwrap_or(u32::MAX))
+    }
+
+    /// A vector of offset words behind a field: where its first element stands, and the count.
+    fn words(&mut self, place: Place) -> Result<(u64, u32), Stop> {
+        let target = self.field_word(place)?;
+        let count = self.vector(
+            target,
+            Shape {
+                size: WORD,
+                align: WORD,
+            },
+            place.here,
+        )?;
+        Ok((target.saturating_add(WORD), count))
+    }
+
+    /// A vector of scalars: an offset word and the vector; the elements aren't read.
+    fn scalars(&mut self, place: Place, base: i8) -> Result<Found, Stop> {
+        let target = self.field_word(place)?;
+        let size = scalar_size(base).unwrap_or(0);
+        self.vector(target, Shape { size, align: size }, place.here)?;
+        Ok(Found::Plain)
+    }
+
+    /// A vector of structs: an offset word and the vector; the elements aren't examined.
+    fn structs(&mut self, place: Place, shape: Shape) -> Result<Found, Stop> {
+        let target = self.field_word(place)?;
+        self.vector(target, shape, place.here)?;
+        Ok(Found::Plain)
+    }
+
+    /// A vector of texts: after the vector each element in turn, an offset word and its string.
+    fn texts(&mut self, place: Place) -> Result<Found, Stop> {
+        let (start, count) = self.words(place)?;
+        for index in 0..count {
+            let target = self.element_word(element_at(start, WORD, index), place.here)?;
+            self.string(target, place.here)?;
+        }
+        Ok(Found::Texts(count))
+    }
+
+    /// A vector of tables: after the vector each element in turn, an offset word and its table.
+    #[cycle(walk)]
+    fn tables(
+        &mut self,
+        place: Place,
+        object: u32,
+        left: u32,
+        kids: &mut Vec<Node>,
+    ) -> Result<Found, Stop> {
+        let (start, count) = self.words(place)?;
+        for index in 0..count {
+            let target = self.element_word(element_at(start, WORD, index), place.here)?;
+            let kid = self.table(object, target, left, place.here)?;
+            kids.push(kid).map_err(AllocError::from)?;
+        }
+        Ok(Found::Tables(count))
+    }
+
+    /// Where the type field of a union stands: its slot is the one before, and is read again.
+    fn type_field(&mut self, place: Place) -> Result<Option<u64>, Stop> {
+        match self.slot(place.head, place.slot.saturating_sub(2), place.here)? {
+            Slot::Holds(word) => Ok(Some(place.head.at.saturating_add(word))),
+            Slot::Missing(_) => Ok(None),
+        }
+    }
+
+    /// A union: the type is read, 0 where it is absent. Where that is a member, an offset word and the value follow.
+    #[cycle(walk)]
+    fn union_field(
+        &mut self,
+        place: Place,
+        union: u32,
+        left: u32,
+        kids: &mut Vec<Node>,
+    ) -> Result<Found, Stop> {
+        let type_at = self.type_field(place)?;
+        let typed = type_at.is_some();
+        let value = match type_at {
+            Some(at) => self.read(at, 1, place.here)?,
+            None => 0,
+        };
+        let Some(kind) = member_kind(&self.question, union, value) else {
+            let members = Members::NONE;
+            return Ok(Found::Union { typed, members });
+        };
+        let target = self.field_word(place)?;
+        self.member(target, kind, left, place.here, kids)?;
+        let members = Members::NONE.and(kind);
+        Ok(Found::Union { typed, members })
+    }
+
+    /// The type vector of a vector of unions, read again: where its first element stands, and its count.
+    fn type_vector(&mut self, type_at: Option<u64>, here: Here) -> Result<(u64, u32), Stop> {
+        let Some(at) = type_at else {
+            return Ok((0, 0));
+        };
+        let target = at.saturating_add(self.read(at, WORD, here)?);
+        let count = self.read(target, WORD, here)?;
+        Ok((
+            target.saturating_add(WORD),
+            u32::try_from(count).unwrap_or(u32::MAX),
+        ))
+    }
+
+    /// A vector of unions: as many types as values (V11); then each element in turn, as a union by its type.
+    #[cycle(walk)]
+    fn unions(
+        &mut self,
+        place: Place,
+        union: u32,
+        left: u32,
+        kids: &mut Vec<Node>,
+    ) -> Result<Found, Stop> {
+        let type_at = self.type_field(place)?;
+        let (types, type_count) = self.type_vector(type_at, place.here)?;
+        let (start, count) = self.words(place)?;
+        ensure(
+            count == type_count,
+            LENGTHS_DIFFER,
+            start.saturating_sub(WORD),
+            place.here,
+        )?;
+        let mut members = Members::NONE;
+        for index in 0..count {
+            let value = self.read(element_at(types, 1, index), 1, place.here)?;
+            let Some(kind) = member_kind(&self.question, union, value) else {
+                continue;
+            };
+            let target = self.element_word(element_at(start, WORD, index), place.here)?;
+            self.member(target, kind, left, place.here, kids)?;
+            members = members.and(kind);
+        }
+        let typed = type_at.is_some();
+        Ok(Found::Unions {
+            typed,
+            count,
+            members,
+        })
+    }
+
+    /// The value of a union: a table, a string, or a struct that stands where the offset leads.
+    #[cycle(walk)]
+    fn member(
+        &mut self,
+        at: u64,
+        kind: Kind,
+        left: u32,
+        here: Here,
+        kids: &mut Vec<Node>,
+    ) -> Result<(), Stop> {
+        match kind {
+            Kind::Table(object) => {
+                let kid = self.table(object, at, left, here)?;
+                kids.push(kid).map_err(AllocError::from)?;
+                Ok(())
+            }
+            Kind::Text => self.string(at, here),
+            Kind::Struct(shape) => {
+                self.range(at, shape.size, here)?;
+                self.aligned(at, shape.align, here)
+            }
+            _ => Err(fault(IMPOSSIBLE, at, here)),
+        }
+    }
+
+    /// Counts the finished tree, and compares it with what was counted along the way.
+    fn counted(&self, tree: &Node) -> Verdict {
+        let question = &self.question;
+        let start = 1 + u64::from(question.prefixed) + u64::from(question.ident.is_some());
+        let head = 2 + u64::from(question.inline_size);
+        let reads = tree.cost(head).saturating_add(start);
+        let tables = tree.size();
+        if reads != self.reads || tables != self.opened {
+            return Verdict::No {
+                reason: IMPOSSIBLE,
+                at: reads,
+                object: question.root,
+                field: None,
+                reads: u128::from(self.reads),
+            };
+        }
+        Verdict::Yes {
+            tables,
+            depth: tree.depth(),
+            reads: u128::from(reads),
+        }
+    }
+}
+
+/// The verdict on a buffer: the counts of its finished tree, or its first fault.
+pub fn verdict(
+    alloc: Global,
+    question: &Question<'_, '_>,
+    bytes: &[u8],
+) -> Result<Verdict, AllocError> {
+    let mut walk = Walk {
+        alloc,
+        question: *question,
+        bytes,
+        reads: 0,
+        opened: 0,
+    };
+    match walk.buffer() {
+        Ok(tree) => Ok(walk.counted(&tree)),
+        Err(Stop::Fault { reason, at, here }) => Ok(Verdict::No {
+            reason,
+            at,
+            object: here.object,
+            field: here.field,
+            reads: u128::from(walk.reads),
+        }),
+        Err(Stop::TooLarge) => Ok(Verdict::TooLarge),
+        Err(Stop::NoMemory) => Err(AllocError),
+    }
+}
