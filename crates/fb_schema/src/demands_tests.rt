@@ -30,20 +30,20 @@ const COLOR: i32 = 1;
 
 const NO_ENUM: i32 = 2;
 
-/// The scalar base types with their sizes.
-const SCALARS: [(i8, i32); 12] = [
-    (1, 1),
-    (2, 1),
-    (3, 1),
-    (4, 1),
-    (5, 2),
-    (6, 2),
-    (7, 4),
-    (8, 4),
-    (9, 8),
-    (10, 8),
-    (11, 4),
-    (12, 8),
+/// The scalar base types, each with its size and that of three.
+const SCALARS: [(i8, i32, i32); 12] = [
+    (1, 1, 3),
+    (2, 1, 3),
+    (3, 1, 3),
+    (4, 1, 3),
+    (5, 2, 6),
+    (6, 2, 6),
+    (7, 4, 12),
+    (8, 4, 12),
+    (9, 8, 24),
+    (10, 8, 24),
+    (11, 4, 12),
+    (12, 8, 24),
 ];
 
 /// Numbers that are no type of one value: none, vector, array, 64-bit vector, and what is no base type at all.
@@ -158,7 +158,7 @@ fn in_struct(
 #[test]
 fn a_scalar_has_its_size_in_structs_and_may_stand_in_tables(rt: HostRuntime) -> Result<(), Fail> {
     let past = at_field(Code::BadStruct, 0);
-    for (base, size) in SCALARS {
+    for (base, size, of_three) in SCALARS {
         let (alone, three) = (one(base, 0), array(base, 0, 3));
         let of = |ty: TypeRow| in_table(&rt, rt.alloc(), ty);
         let fits = |bytes: i32, from: u16, ty: TypeRow| in_struct(&rt, rt.alloc(), bytes, from, ty);
@@ -166,8 +166,8 @@ fn a_scalar_has_its_size_in_structs_and_may_stand_in_tables(rt: HostRuntime) -> 
         assert_eq!(rt; of(vector(base, 0))?, None, "{base}");
         assert_eq!(rt; fits(size, 0, alone)?, None, "{base}");
         assert_eq!(rt; fits(size, 1, alone)?, past, "{base}");
-        assert_eq!(rt; fits(3 * size, 0, three)?, None, "{base}");
-        assert_eq!(rt; fits(3 * size, 1, three)?, past, "{base}");
+        assert_eq!(rt; fits(of_three, 0, three)?, None, "{base}");
+        assert_eq!(rt; fits(of_three, 1, three)?, past, "{base}");
     }
     Ok(())
 }
