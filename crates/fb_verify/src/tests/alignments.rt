@@ -83,20 +83,20 @@ fn scalars_of_a_vector_lie_in_the_buffer_to_their_last_byte(rt: HostRuntime) -> 
 fn a_scalar_stands_at_a_multiple_of_its_size(rt: HostRuntime) -> Result<(), Fail> {
     let alloc = rt.alloc();
     let mut scratch = Scratch::new(alloc, 64)?;
-    for (base, half) in [
-        (5, 1),
-        (6, 1),
-        (7, 2),
-        (8, 2),
-        (9, 4),
-        (10, 4),
-        (11, 2),
-        (12, 4),
+    for (base, word) in [
+        (5, 5),
+        (6, 5),
+        (7, 6),
+        (8, 6),
+        (9, 8),
+        (10, 8),
+        (11, 6),
+        (12, 8),
     ] {
         let schema = one_table(&rt, alloc, &[field(b"v", 4, one(base))])?;
-        let at = 16 + u64::from(half);
-        let inside = buffer(alloc, [4 + half, 0], &[], 32)?;
-        let outside = buffer(alloc, [4 + half, 0], &[], 17 + usize::from(half))?;
+        let at = 12 + u64::from(word);
+        let inside = buffer(alloc, [word, 0], &[], 32)?;
+        let outside = buffer(alloc, [word, 0], &[], 13 + usize::from(word))?;
         let answer = ask(&inside, 0).answer(&rt, &schema, &mut scratch);
         assert_eq!(rt; answer, no_at(Reason::Misaligned, at, 0, 0, 4), "{base}");
         let answer = ask(&outside, 0).answer(&rt, &schema, &mut scratch);
