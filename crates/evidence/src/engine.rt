@@ -7,7 +7,6 @@ use fb_verify::{
     Checks, Fault, Ident, Limits, Reason, Report, Scratch, Start, Verified, most_reads, verify,
 };
 use std::alloc::{AllocError, Global};
-use std::fmt;
 use std::process::Abort;
 use std::test::Fail;
 
@@ -143,14 +142,10 @@ impl<'s, 'n> Engine<'s, 'n> {
         };
         let naive = verdict(alloc, question, bytes)?;
         if naive != Verdict::TooLarge {
-            assert_eq!(rt; of_engine, naive, "{} {bytes:?}", Asked(question));
+            assert_same(rt, question, bytes, of_engine, naive);
         }
         let most = most_reads(self.schema, limits_of(rt, question), bytes.len() as u64);
-        assert!(rt;
-            reads_of(of_engine) <= most,
-            "{} {bytes:?}",
-            Asked(question)
-        );
+        assert!(rt; reads_of(of_engine) <= most, "{most} {bytes:?}");
         Ok(answer)
     }
 }
@@ -160,16 +155,20 @@ fn limits_of(rt: &impl Abort, question: &Question<'_, '_>) -> Limits {
     limits.ok().expect(rt, "a depth in range")
 }
 
-/// The settings of a question, for the message of a test that fails.
-struct Asked<'q, 'r, 'n>(&'q Question<'r, 'n>);
-
-impl fmt::Display for Asked<'_, '_, '_> {
-    fn fmt<W: fmt::Write>(&self, f: &mut fmt::Formatter<W>) -> fmt::Result {
-        let q = self.0;
-        write!(
-            f,
-            "root={} prefixed={} ident={:?} depth={} tables={} alignment={} inline_size={}",
-            q.root, q.prefixed, q.ident, q.depth, q.tables, q.alignment, q.inline_size
-        )
-    }
+/// Asserts that both say the same; the message of a test that fails tells the question.
+fn assert_same(
+    rt: &impl Abort,
+    question: &Question<'_, '_>,
+    bytes: &[u8],
+    of_engine: Verdict,
+    naive: Verdict,
+) {
+    let (root, prefixed) = (question.root, question.prefixed);
+    let (depth, tables) = (question.depth, question.tables);
+    let (alignment, inline_size) = (question.alignment, question.inline_size);
+    assert_eq!(rt;
+        of_engine,
+        naive,
+        "{root} {prefixed} {depth} {tables} {alignment} {inline_size} {bytes:?}"
+    );
 }
