@@ -53,7 +53,7 @@ fn each_change_at(
     let Some(byte) = bytes.get(at).copied() else {
         return Ok(());
     };
-    for change in [0u8, 1, 4, 8, 128] {
+    for change in 1..=255u8 {
         if let Some(place) = bytes.get_mut(at) {
             *place = byte ^ change;
         }
