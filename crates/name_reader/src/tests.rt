@@ -23,7 +23,10 @@ const SCHEMA: &[u8] = b"\
 ";
 
 /// What flatc 2.0.8 writes for `{ to: { name: "Ada" } }` by this schema.
-const DELIVERY: [u8; 44] = [12, 0, 0, 0, 0, 0, 6, 0, 10, 0, 4, 0, 6, 0, 0, 0, 12, 0, 0, 0, 0, 0, 6, 0, 8, 0, 4, 0, 6, 0, 0, 0, 4, 0, 0, 0, 3, 0, 0, 0, 65, 100, 97, 0];
+const DELIVERY: [u8; 44] = [
+    12, 0, 0, 0, 0, 0, 6, 0, 10, 0, 4, 0, 6, 0, 0, 0, 12, 0, 0, 0, 0, 0, 6, 0, 8, 0, 4, 0, 6, 0, 0,
+    0, 4, 0, 0, 0, 3, 0, 0, 0, 65, 100, 97, 0,
+];
 
 #[test]
 fn the_name_of_a_good_buffer_is_read(rt: HostRuntime) -> Result<(), Fail> {
@@ -35,7 +38,10 @@ fn the_name_of_a_good_buffer_is_read(rt: HostRuntime) -> Result<(), Fail> {
 #[test]
 fn no_name_is_read_of_a_buffer_that_is_cut_off_or_has_no_good_schema(rt: HostRuntime) {
     for end in 0..DELIVERY.len() {
-        assert!(rt; name_in(rt.alloc(), SCHEMA, &DELIVERY[..end]).is_none(), "at {end}");
+        assert!(rt;
+            name_in(rt.alloc(), SCHEMA, &DELIVERY[..end]).is_none(),
+            "at {end}"
+        );
     }
     assert!(rt; name_in(rt.alloc(), &SCHEMA[1..], DELIVERY.as_slice()).is_none());
 }
