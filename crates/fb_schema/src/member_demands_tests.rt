@@ -183,14 +183,14 @@ fn fault(code: Code, owner: u32, part: Option<u32>) -> Option<SchemaFault> {
 #[test]
 fn rows_are_asked_in_their_order(rt: HostRuntime) -> Result<(), Fail> {
     let alloc = rt.alloc();
-    let number = [field(b"f", 4, one(INT, 0))];
-    let text = [field(b"f", 4, one(TEXT, 0))];
-    let odd = [field(b"f", 5, one(TEXT, 0))];
+    let number = field(b"f", 4, one(INT, 0));
+    let text = field(b"f", 4, one(TEXT, 0));
+    let odd = field(b"f", 5, one(TEXT, 0));
     let wide = [member(b"m", 256, one(TEXT, 0))];
     let in_union = fault(Code::BadMember, 0, Some(0));
     let in_struct = fault(Code::BadStruct, 2, Some(0));
     let of_struct = fault(Code::BadStruct, 2, None);
-    for (shows, names, fields, bytes, want) in [
+    for (shows, names, row, bytes, want) in [
         ("a union at last", [b"A", b"B", b"C"], number, 8, in_union),
         ("a struct's field", [b"A", b"B", b"C"], text, 8, in_struct),
         ("its size before", [b"A", b"B", b"C"], text, 0, of_struct),
@@ -216,7 +216,7 @@ fn rows_are_asked_in_their_order(rt: HostRuntime) -> Result<(), Fail> {
             fault(Code::BadSlot, 0, Some(0)),
         ),
     ] {
-        let told = rows_refused(&rt, alloc, names, &fields, bytes, &wide)?;
+        let told = rows_refused(&rt, alloc, names, &[row], bytes, &wide)?;
         assert_eq!(rt; told, want, "{shows}");
     }
     Ok(())
