@@ -137,6 +137,7 @@ def schemas_that_are_not_legal(cases):
         ("a field past its struct", [a_struct("S", 4, 4, field("x", INT, 1))], [], "C6 BadStruct owner=0 part=0"),
         ("a member of 256", [], [union("U", ("A", 256, TEXT))], "C7 BadMember owner=0 part=0"),
         ("two members of 0", [], [union("U", ("A", 0, TEXT), ("B", 0, TEXT))], "C7 BadMember owner=0 part=1"),
+        ("a member without a type", [], [{**union("U"), 1: [{0: "A", 1: ("q", 1)}]}], "C7 BadMember owner=0 part=0"),
         ("two fields of a name", one(field("v", INT, 4), field("v", INT, 6)), [], "C8 NameTwice owner=0 part=1"),
         ("two objects of a name", [plain, plain], [], "C8 NameTwice owner=1 part=-"),
     ]:
