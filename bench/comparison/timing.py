@@ -1,0 +1,74 @@
+"""What the programs cost: processor time side by side, and instructions by callgrind."""
+
+import dataclasses
+import os
+import re
+import shutil
+import statistics
+import subprocess
+import typing
+
+from building import Failed, commands, messages
+
+
+@dataclasses.dataclass(frozen=True)
+class Cost:
+    """What a program takes for a corpus: seconds of the best and of the median run, and instructions a unit."""
+
+    best: float
+    median: float
+    instructions: typing.Optional[float]
+
+
+def processor_time(command, stream):
+    """The seconds of processor time, in the program and for it in the kernel, that a run on a stream takes."""
+    with open(stream, "rb") as given:
+        running = subprocess.Popen(command, stdin=given, stdout=subprocess.DEVNULL)
+        _, status, used = os.wait4(running.pid, 0)
+    running.returncode = status
+    if status != 0:
+        raise Failed(f"{command[0]} ended with status {status} on {stream}")
+    return used.ru_utime + used.ru_stime
+
+
+def times(corpus, program, runs):
+    """The times of each program, which run in turn; each turn begins with the next one."""
+    stream = messages(corpus, corpus.timed)
+    called = list(commands(corpus, program).items())
+    taken = {name: [] for name, _ in called}
+    for turn in range(runs):
+        first = turn % len(called)
+        for name, command in called[first:] + called[:first]:
+            taken[name].append(processor_time(command, stream))
+    return taken
+
+
+def count_instructions(command, stream):
+    """The instructions of a run on a stream."""
+    words = ["valgrind", "--tool=callgrind", "--callgrind-out-file=/dev/null", *command]
+    with open(stream, "rb") as given:
+        ran = subprocess.run(words, stdin=given, stdout=subprocess.DEVNULL, stderr=subprocess.PIPE, text=True)
+    found = re.search(r"Collected : (\d+)", ran.stderr)
+    if ran.returncode != 0 or found is None:
+        raise Failed(f"callgrind says nothing of {command[0]}: {ran.stderr}")
+    return int(found[1])
+
+
+def instructions(corpus, program):
+    """The instructions a unit of each program, without its start; none where valgrind isn't there."""
+    called = commands(corpus, program)
+    if shutil.which("valgrind") is None:
+        return dict.fromkeys(called)
+    stream = messages(corpus, corpus.counted)
+    units = corpus.units(corpus.counted)
+    return {
+        name: (count_instructions(command, stream) - count_instructions(command, os.devnull)) / units
+        for name, command in called.items()
+    }
+
+
+def measure(corpus, program, runs):
+    """The cost of each program on a corpus, by its name."""
+    taken = times(corpus, program, runs)
+    counted = instructions(corpus, program)
+    return {name: Cost(min(taken[name]), statistics.median(taken[name]), counted[name]) for name in taken}

@@ -1,0 +1,97 @@
+"""The comparison with C++ (bench/compare): that verdicts agree, and that it tells where they don't.
+
+It is skipped where flatc, g++ or the headers of flatbuffers aren't there. Nothing is timed here.
+"""
+
+import hashlib
+import os
+import pathlib
+import subprocess
+import sys
+import xml.etree.ElementTree
+
+import outside
+
+COMPARE = outside.TOP / "bench" / "compare"
+sys.path.insert(0, str(outside.TOP / "bench" / "comparison"))
+
+import building
+import chart
+import timing
+
+
+def compared(program, **environment):
+    """The quick comparison by this program."""
+    environment = {**os.environ, "FBCHECK_PROGRAM": str(program), **environment}
+    return subprocess.run([sys.executable, COMPARE, "--quick"], env=environment, capture_output=True, text=True)
+
+
+def changed(name, edit):
+    """The program, with each of its lines changed by sed."""
+    text = f"""#!/bin/sh\n'{outside.PROGRAM}' "$@" | sed '{edit}'\n"""
+    made = outside.file_of(name, text.encode())
+    made.chmod(0o755)
+    return made
+
+
+def verdicts_agree(cases):
+    ran = compared(outside.PROGRAM)
+    told = ran.stdout.splitlines()
+    cases.same("status and standard error", (ran.returncode, ran.stderr), (0, ""))
+    for corpus in building.CORPORA:
+        text = f"{corpus.name}, {corpus.shape}: all three say yes to each of {corpus.counted.messages}"
+        cases.holds(corpus.name, text in told, told)
+    cases.holds("damaged messages are counted", any(" of 7200 damaged messages" in line for line in told), told)
+
+
+def differences_are_told(cases):
+    for name, edit, text in [
+        ("a good message is refused", "s/^3 ok.*/3 bad V1/", "monsters: fbcheck says of good message 3: 3 bad V1"),
+        ("a line is missing", "$d", "monsters: fbcheck has 1999 lines for 2000 good messages"),
+        ("a line has another's number", "s/^7 /8 /", "monsters: fbcheck says of good message 7: 8 ok"),
+        ("each damaged message is good", "s/ bad .*/ ok/", "a difference on damaged messages is of no known kind"),
+        ("each bad vtable is taken", "s/ bad V8 .*/ ok/", "a difference on damaged messages is of no known kind"),
+    ]:
+        ran = compared(changed(name, edit))
+        cases.same(name, ran.returncode, 1)
+        cases.holds(f"{name}: it is told", text in ran.stderr, ran.stderr)
+
+
+def what_is_missing_is_named(cases):
+    ran = compared(outside.PROGRAM, PATH="/nowhere")
+    cases.same("status", (ran.returncode, ran.stdout), (2, ""))
+    for text in ["flatc (Debian's package flatbuffers-compiler)", "g++"]:
+        cases.holds(text, text in ran.stderr, ran.stderr)
+
+
+def corpora_are_the_same_each_time(cases):
+    for corpus in building.CORPORA:
+        words = [building.MADE / "make_messages", corpus.name, "20", "5"]
+        first, second = (hashlib.sha256(subprocess.check_output(words)).hexdigest() for _ in range(2))
+        cases.same(corpus.name, first, second)
+
+
+def a_chart_is_drawn(cases):
+    costs = {"fbcheck": timing.Cost(1.0, 1.0, None), "reflection": timing.Cost(2.0, 2.5, None),
+             "generated": timing.Cost(0.5, 0.5, None)}
+    drawn = chart.chart([(corpus, costs) for corpus in building.CORPORA])
+    root = xml.etree.ElementTree.fromstring(drawn)
+    widths = [float(bar.get("width")) for bar in root.iter("{http://www.w3.org/2000/svg}rect")]
+    bars = [chart.ROOM / 2, chart.ROOM, chart.ROOM / 4]
+    cases.same("the legend's marks, and three bars a corpus", widths[3:], bars * len(building.CORPORA))
+    texts = [text.text for text in root.iter("{http://www.w3.org/2000/svg}text")]
+    cases.holds("times a unit", "2.00  (2 µs a message)" in texts and "0.50  (125 ns a string)" in texts, texts)
+
+
+def main():
+    lacking = building.missing()
+    if lacking:
+        print(f"skipped: not there: {', '.join(lacking)}")
+        print("0 passed, 0 failed")
+        return
+    outside.main(verdicts_agree, differences_are_told, what_is_missing_is_named, corpora_are_the_same_each_time,
+                 a_chart_is_drawn)
+
+
+if __name__ == "__main__":
+    main()
