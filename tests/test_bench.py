@@ -1,11 +1,12 @@
 """The comparison with C++ (bench/compare): that verdicts agree, and that it tells where they don't.
 
-It is skipped where flatc, g++ or the headers of flatbuffers aren't there. Nothing is timed here.
+It is skipped where flatc, g++ or the headers of flatbuffers aren't there. No time is asked here.
 """
 
+import dataclasses
 import hashlib
 import os
-import pathlib
+import shutil
 import subprocess
 import sys
 import xml.etree.ElementTree
@@ -71,6 +72,17 @@ def corpora_are_the_same_each_time(cases):
         cases.same(corpus.name, first, second)
 
 
+def costs_are_measured(cases):
+    few = building.Size(50, 5)
+    corpus = dataclasses.replace(building.CORPORA[0], timed=few, counted=few)
+    costs = timing.measure(corpus, outside.PROGRAM, 3)
+    cases.same("of all three", sorted(costs), ["fbcheck", "generated", "reflection"])
+    for name, cost in costs.items():
+        cases.holds(f"{name}: best and median", 0 < cost.best <= cost.median, cost)
+        counted = cost.instructions is None if shutil.which("valgrind") is None else 1000 < cost.instructions < 1e6
+        cases.holds(f"{name}: instructions a message", counted, cost)
+
+
 def a_chart_is_drawn(cases):
     costs = {"fbcheck": timing.Cost(1.0, 1.0, None), "reflection": timing.Cost(2.0, 2.5, None),
              "generated": timing.Cost(0.5, 0.5, None)}
@@ -90,7 +102,7 @@ def main():
         print("0 passed, 0 failed")
         return
     outside.main(verdicts_agree, differences_are_told, what_is_missing_is_named, corpora_are_the_same_each_time,
-                 a_chart_is_drawn)
+                 costs_are_measured, a_chart_is_drawn)
 
 
 if __name__ == "__main__":
