@@ -8,7 +8,7 @@ use Rattle.fb_access.specs.declared.step.Step.TheVariants.{Field as ToField, Ele
 use Rattle.fb_access.specs.Held.{Placed}
 use Rattle.fb_access.specs.Denotes.{Shown, vector, Leads, value}
 use Rattle.fb_bfbs.specs.Says.{Says, after, AreRows}
-use Rattle.fb_bfbs.specs.Seen.{seen}
+use Rattle.fb_bfbs.specs.Seen.{seen, IsRowAt}
 use Rattle.fb_bfbs.specs.Describes.{IsTypeRow, IsFieldRow, IsObjectRow, IsTypeOrNone, IsMemberRow, IsEnumRow}
 
 -- whatever the first says, the second says
@@ -83,28 +83,39 @@ enum_within D E r h a = record {
   is_union = h _ _ a.is_union;
 }
 
+-- what is seen of a row from its table is said of it from wherever a step leads there
+pub row_before : {R : Type 0} (Is : Says → R → Type 0) → Carries Is → (number : ℕ) (q : Placed) (row : R) → Is (seen q) row → IsRowAt Is number q row
+row_before Is carries number q row here = λ p s on. carries (seen q) (after (seen p) s) row (seen_after p q s on.same on.leads) here
+
 -- the rows so far
 pub record AreRowsSoFar {R : Type 0} (Is : Says → R → Type 0) (D : Says) (rows : List R) : Type 0 where
   pub each : (j : ℕ) (r : R) → slice_get rows j ≡ Some r → Is (after D (Element j)) r
 
-each_push : {X R : Type 0} (P : ℕ → R → Type 0) (f : X → R) (xs : List X) (y : X) → ((j : ℕ) (r : R) → slice_get (map f xs) j ≡ Some r → P j r) → P (length xs) (f y) → (j : ℕ) (r : R) → slice_get (map f (xs ++ y ∷ [])) j ≡ Some r → P j r
-each_push P f [] y h i zero r e = let x : f y ≡ r = cc in rw (← x) i
-each_push P f [] y h i (suc j) r e = absurd cc
-each_push P f (x ∷ xs) y h i zero r e = h zero r e
-each_push P f (x ∷ xs) y h i (suc j) r e = each_push (λ k. P (suc k)) f xs y (λ k. h (suc k)) i j r e
+each_push : {R : Type 0} (P : ℕ → R → Type 0) (rows : List R) (row : R) → ((j : ℕ) (r : R) → slice_get rows j ≡ Some r → P j r) → P (length rows) row → (j : ℕ) (r : R) → slice_get (rows ++ row ∷ []) j ≡ Some r → P j r
+each_push P [] y h i zero r e = let x : y ≡ r = cc in rw (← x) i
+each_push P [] y h i (suc j) r e = absurd cc
+each_push P (x ∷ xs) y h i zero r e = h zero r e
+each_push P (x ∷ xs) y h i (suc j) r e = each_push (λ k. P (suc k)) xs y (λ k. h (suc k)) i j r e
 
-pub no_rows : {X R : Type 0} (Is : Says → R → Type 0) (D : Says) (f : X → R) → AreRowsSoFar Is D (map f [])
-no_rows Is D f = record { each = λ j r e. absurd cc }
+pub no_rows : {R : Type 0} (Is : Says → R → Type 0) (D : Says) → AreRowsSoFar Is D []
+no_rows Is D = record { each = λ j r e. absurd cc }
 
 -- one row more, of the element behind those before
-pub one_row_more : {X R : Type 0} (Is : Says → R → Type 0) → Carries Is → (f : X → R) (p r : Placed) (xs : List X) (y : X) (now : List X) (n : ℕ) → now ≡ xs ++ y ∷ [] → length xs ≡ n
-    → r.sealed ≡ p.sealed → Leads (p.sealed).bytes (p.sealed).schema p.spot (Element n) r.spot → AreRowsSoFar Is (seen p) (map f xs) → Is (seen r) (f y) → AreRowsSoFar Is (seen p) (map f now)
-one_row_more Is carries f p r xs y now n pushed count same leads rows row =
-    rw pushed (record { each = each_push (λ j r. Is (after (seen p) (Element j)) r) f xs y rows.each (rw count (carries (seen r) (after (seen p) (Element n)) (f y) (seen_after p r (Element n) same leads) row)) })
+pub one_row_more : {R : Type 0} (Is : Says → R → Type 0) (D : Says) (rows : List R) (row : R) (now : List R) (n : ℕ) → now ≡ rows ++ row ∷ [] → length rows ≡ n → AreRowsSoFar Is D rows → Is (after D (Element n)) row → AreRowsSoFar Is D now
+one_row_more Is D rows row now n pushed count so_far said = rw pushed (record { each = each_push (λ j r. Is (after D (Element j)) r) rows row so_far.each (rw count said) })
 
 -- the rows are all there
-pub all_rows : {X R : Type 0} (Is : Says → R → Type 0) (D : Says) (f : X → R) (xs : List X) (n : ℕ) → D [] (vector n) → length xs ≡ n → AreRowsSoFar Is D (map f xs) → AreRows Is D (map f xs)
-all_rows Is D f xs n count length_is rows = record { count = rw (length-map xs f, length_is) count; each = rows.each }
+pub all_rows : {R : Type 0} (Is : Says → R → Type 0) (D : Says) (rows : List R) (n : ℕ) → D [] (vector n) → length rows ≡ n → AreRowsSoFar Is D rows → AreRows Is D rows
+all_rows Is D rows n count length_is so_far = record { count = rw length_is count; each = so_far.each }
+
+each_mapped : {X R : Type 0} (P : ℕ → R → Type 0) (f : X → R) (xs : List X) → ((j : ℕ) (x : X) → slice_get xs j ≡ Some x → P j (f x)) → (j : ℕ) (r : R) → slice_get (map f xs) j ≡ Some r → P j r
+each_mapped P f [] h j r e = absurd cc
+each_mapped P f (x ∷ xs) h zero r e = let same : f x ≡ r = cc in rw (← same) (h zero x refl)
+each_mapped P f (x ∷ xs) h (suc j) r e = each_mapped (λ k. P (suc k)) f xs (λ k. h (suc k)) j r e
+
+-- what is said of rows by what each is, is said of what they are
+pub mapped_rows : {X R : Type 0} (Is : Says → R → Type 0) (D : Says) (f : X → R) (xs : List X) → AreRows (λ E x. Is E (f x)) D xs → AreRows Is D (map f xs)
+mapped_rows Is D f xs rows = record { count = rw (length-map xs f) (rows.count); each = each_mapped (λ j r. Is (after D (Element j)) r) f xs rows.each }
 
 -- the count of a vector that is here
 pub seen_count : (p : Placed) (n : ℕ) → value (p.sealed).bytes (p.sealed).schema p.spot ≡ vector n → seen p [] (vector n)

@@ -9,7 +9,7 @@ use Rattle.fb_access.specs.Denotes.{Leads}
 use Rattle.fb_access.specs.Held.{Placed}
 use Rattle.fb_access.specs.Here.{IsHere, sure_kind, Shows}
 use Rattle.fb_bfbs.specs.Fixed.{fixed}
-use Rattle.fb_bfbs.specs.Says.{Says}
+use Rattle.fb_bfbs.specs.Says.{Says, after}
 
 -- which steps lead from here to which value
 abbrev pub seen : Placed → Says
@@ -45,3 +45,7 @@ pub record IsOneOn (p : Placed) (s : Step) (r : Placed) (kind : Kind) : Type 0 w
   pub at : IsAt r kind
   pub same : r.sealed ≡ p.sealed
   pub leads : Leads (p.sealed).bytes (p.sealed).schema p.spot s r.spot
+
+-- a table that is read as this row is here: from wherever a step leads here, the file says such a row behind that step
+abbrev pub IsRowAt : {R : Type 0} → (Says → R → Type 0) → ℕ → Placed → R → Type 0
+IsRowAt Is number q row = (p : Placed) (s : Step) → IsOneOn p s q (Table number) → Is (after (seen p) s) row

@@ -1,14 +1,17 @@
 // The tables of a schema file that are copied whole: each a row.
 
-ghost use Rattle.fb_schema.specs.Rows.{field_of, member_of_row};
+ghost use Rattle.std.specs.Prelude.{vec_len};
+ghost use Rattle.fb_schema.specs.Rows.{field_of, object_of, member_of_row, enum_of};
 ghost use Rattle.fb_access.specs.declared.step.Step.TheVariants.{Field as ToField};
 ghost use Rattle.fb_bfbs.specs.Says.{after};
 ghost use Rattle.fb_bfbs.specs.Seen.{seen, IsAt};
-ghost use Rattle.fb_bfbs.specs.Describes.{IsTypeRow, IsTypeOrNone, IsFieldRow, IsMemberRow};
+ghost use Rattle.fb_bfbs.specs.Describes.{IsTypeRow, IsTypeOrNone, IsFieldRow, IsObjectRow, IsMemberRow, IsEnumRow};
 
+use crate::lists::{FromTable, rows_at};
 use crate::values::{bool_in, byte_in, int_in, long_in, table_or_none, text_in, ushort_in};
 use fb_access::{Place, Step};
-use fb_schema::{FieldRow, Kind, MemberRow, TypeRow};
+use fb_schema::{EnumRow, FieldRow, Kind, MemberRow, ObjectRow, TypeRow};
+use std::alloc::{AllocError, Global};
 
 /// A table Type.
 fn type_row(place: &Place) -> TypeRow
@@ -40,31 +43,90 @@ fn union_type(place: &Place) -> TypeRow
 }
 
 /// A table Field.
-pub fn field_row<'b>(place: &Place<'_, 'b, '_, '_>) -> FieldRow<'b>
-    requires { IsAt place.now (Kind.Table 4) }
-    ensures { IsFieldRow (seen place.now) (field_of result) }
-{
-    let ty = place.go(Step::Field(1));
-    FieldRow {
-        name: text_in(place, 0),
-        ty: type_row(&ty),
-        slot: ushort_in(place, 3),
-        default: long_in(place, 4),
-        deprecated: bool_in(place, 6),
-        required: bool_in(place, 7),
-        optional: bool_in(place, 11),
-        offset64: bool_in(place, 13),
+impl<'b> FromTable<'b> for FieldRow<'b> {
+    ghost number = { 4 };
+
+    ghost is_row = { λ D row. IsFieldRow D (field_of row) };
+
+    ghost listed = { λ row. 0 };
+
+    fn from_table(
+        _alloc: Global,
+        place: &Place<'_, 'b, '_, '_>,
+    ) -> Result<FieldRow<'b>, AllocError> {
+        let ty = place.go(Step::Field(1));
+        Ok(FieldRow {
+            name: text_in(place, 0),
+            ty: type_row(&ty),
+            slot: ushort_in(place, 3),
+            default: long_in(place, 4),
+            deprecated: bool_in(place, 6),
+            required: bool_in(place, 7),
+            optional: bool_in(place, 11),
+            offset64: bool_in(place, 13),
+        })
+    }
+}
+
+/// A table Object.
+impl<'b> FromTable<'b> for ObjectRow<'b> {
+    ghost number = { 5 };
+
+    ghost is_row = { λ D row. IsObjectRow D (object_of row) };
+
+    ghost listed = { λ row. vec_len row.fields };
+
+    fn from_table(
+        alloc: Global,
+        place: &Place<'_, 'b, '_, '_>,
+    ) -> Result<ObjectRow<'b>, AllocError> {
+        let list = place.go(Step::Field(1));
+        let fields = rows_at(alloc, &list)?;
+        Ok(ObjectRow {
+            name: text_in(place, 0),
+            fields,
+            is_struct: bool_in(place, 2),
+            minalign: int_in(place, 3),
+            bytesize: int_in(place, 4),
+        })
     }
 }
 
 /// A table EnumVal.
-pub fn member_row<'b>(place: &Place<'_, 'b, '_, '_>) -> MemberRow<'b>
-    requires { IsAt place.now (Kind.Table 2) }
-    ensures { IsMemberRow (seen place.now) (member_of_row result) }
-{
-    MemberRow {
-        name: text_in(place, 0),
-        value: long_in(place, 1),
-        ty: union_type(place),
+impl<'b> FromTable<'b> for MemberRow<'b> {
+    ghost number = { 2 };
+
+    ghost is_row = { λ D row. IsMemberRow D (member_of_row row) };
+
+    ghost listed = { λ row. 0 };
+
+    fn from_table(
+        _alloc: Global,
+        place: &Place<'_, 'b, '_, '_>,
+    ) -> Result<MemberRow<'b>, AllocError> {
+        Ok(MemberRow {
+            name: text_in(place, 0),
+            value: long_in(place, 1),
+            ty: union_type(place),
+        })
+    }
+}
+
+/// A table Enum.
+impl<'b> FromTable<'b> for EnumRow<'b> {
+    ghost number = { 3 };
+
+    ghost is_row = { λ D row. IsEnumRow D (enum_of row) };
+
+    ghost listed = { λ row. vec_len row.members };
+
+    fn from_table(alloc: Global, place: &Place<'_, 'b, '_, '_>) -> Result<EnumRow<'b>, AllocError> {
+        let list = place.go(Step::Field(1));
+        let members = rows_at(alloc, &list)?;
+        Ok(EnumRow {
+            name: text_in(place, 0),
+            members,
+            is_union: bool_in(place, 2),
+        })
     }
 }

@@ -10,7 +10,7 @@ ghost use Rattle.fb_bfbs.specs.Seen.{seen, IsAt};
 ghost use Rattle.fb_bfbs.specs.Describes.{Describes, IsRootName};
 ghost use Rattle.fb_bfbs.specs.FileRows.{IsTold};
 
-use crate::lists::{enum_rows, object_rows};
+use crate::lists::rows_at;
 use crate::values::{table_or_none, text_in, text_or_none};
 use fb_access::{Place, Step, at_root};
 use fb_schema::{EnumRow, Kind, ObjectRow};
@@ -45,9 +45,9 @@ fn schema_rows<'b>(alloc: Global, place: &Place<'_, 'b, '_, '_>) -> Result<FileR
     ensures few { IfOk result (λ f. AreFew f.objects.items f.enums.items) }
 {
     let list = place.go(Step::Field(0));
-    let objects = object_rows(alloc, &list)?;
+    let objects = rows_at(alloc, &list)?;
     let list = place.go(Step::Field(1));
-    let enums = enum_rows(alloc, &list)?;
+    let enums = rows_at(alloc, &list)?;
     Ok(FileRows {
         objects,
         enums,

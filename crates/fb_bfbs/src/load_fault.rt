@@ -1,7 +1,13 @@
 // Why no schema is loaded.
 
+ghost use Rattle.std.specs.Prelude.{◌≡◌};
+ghost use Rattle.fb_bfbs.specs.declared.load_fault.LoadFault.TheVariants.{NotWellFormed, OutOfMemory, TooLong as TooManyBytes};
+ghost use Rattle.fb_bfbs.specs.Loads.{build_fault};
+
+use fb_bytes::TooLong;
 use fb_schema::{Code, SchemaFault};
 use fb_verify::{Fault, Reason};
+use std::alloc::AllocError;
 use std::error::Error;
 use std::fmt;
 
@@ -18,6 +24,42 @@ pub enum LoadFault {
     OutOfMemory,
     /// L5: there are 2^31 bytes or more.
     TooLong,
+}
+
+impl From<TooLong> for LoadFault {
+    ghost from_gives = { λ _ fault. fault ≡ TooManyBytes };
+
+    fn from(_: TooLong) -> Self {
+        Self::TooLong
+    }
+}
+
+impl From<AllocError> for LoadFault {
+    ghost from_gives = { λ _ fault. fault ≡ OutOfMemory };
+
+    fn from(_: AllocError) -> Self {
+        Self::OutOfMemory
+    }
+}
+
+impl From<Fault> for LoadFault {
+    ghost from_gives = { λ first fault. fault ≡ NotWellFormed first };
+
+    fn from(first: Fault) -> Self {
+        Self::NotWellFormed(first)
+    }
+}
+
+/// Memory was refused, or the rows are no schema.
+impl From<SchemaFault> for LoadFault {
+    ghost from_gives = { λ first fault. fault ≡ build_fault first.code first };
+
+    fn from(first: SchemaFault) -> Self {
+        match first.code {
+            Code::OutOfMemory => Self::OutOfMemory,
+            _ => Self::BadSchema(first),
+        }
+    }
 }
 
 /// A reason's code and name.

@@ -4,13 +4,13 @@ ghost use Rattle.std.specs.Prelude.{◌≡◌, ◌<◌, ◌≤◌, IfOk, OnOk, I
 ghost use Rattle.fb_schema.specs.Rows.{AreFew};
 ghost use Rattle.fb_bfbs.specs.Describes.{table_named};
 ghost use Rattle.fb_bfbs.specs.FileRows.{IsTold};
-ghost use Rattle.fb_bfbs.specs.Loads.{IsSchemaFile, IsLoaded, IsLoadFault, build_fault, told};
+ghost use Rattle.fb_bfbs.specs.Loads.{IsSchemaFile, IsLoaded, IsLoadFault, told};
 
 use crate::file::{FileRows, file_rows};
 use crate::fixed::reflection;
 use crate::load_fault::LoadFault;
 use fb_bytes::Meter;
-use fb_schema::{Code, Schema, SchemaFault};
+use fb_schema::Schema;
 use fb_verify::{Checks, Ident, Limits, Scratch, ScratchFault, Start, verify};
 use std::alloc::{AllocError, Global};
 
@@ -46,18 +46,12 @@ fn read<'b>(alloc: Global, bytes: &'b [u8], limits: Limits) -> Result<FileRows<'
     ensures few { IfOk result (λ f. AreFew f.objects.items f.enums.items) }
     ensures no { IfErr result (λ fault. IsLoadFault bytes.now limits fault) }
 {
-    let Ok(meter) = Meter::new(bytes) else {
-        return Err(LoadFault::TooLong);
-    };
-    let Ok(fixed) = reflection(alloc) else {
-        return Err(LoadFault::OutOfMemory);
-    };
-    let Ok(mut scratch) = scratch_of(alloc, limits) else {
-        return Err(LoadFault::OutOfMemory);
-    };
+    let meter = Meter::new(bytes)?;
+    let fixed = reflection(alloc)?;
+    let mut scratch = scratch_of(alloc, limits)?;
     let ident = Ident::Want(*b"BFBS");
     let checks = Checks::published();
-    let verdict = verify(
+    let verified = verify(
         meter,
         &fixed,
         SCHEMA,
@@ -66,25 +60,8 @@ fn read<'b>(alloc: Global, bytes: &'b [u8], limits: Limits) -> Result<FileRows<'
         limits,
         checks,
         &mut scratch,
-    );
-    let verified = match verdict {
-        Ok(verified) => verified,
-        Err(fault) => return Err(LoadFault::NotWellFormed(fault)),
-    };
-    match file_rows(alloc, &verified) {
-        Ok(rows) => Ok(rows),
-        Err(_) => Err(LoadFault::OutOfMemory),
-    }
-}
-
-/// Why rows are no schema, for want of memory or else.
-fn bad_schema(fault: SchemaFault) -> LoadFault
-    ensures { result ≡ build_fault fault.code fault }
-{
-    match fault.code {
-        Code::OutOfMemory => LoadFault::OutOfMemory,
-        _ => LoadFault::BadSchema(fault),
-    }
+    )?;
+    Ok(file_rows(alloc, &verified)?)
 }
 
 /// The table of this name.
@@ -112,16 +89,10 @@ pub fn load<'b>(alloc: Global, bytes: &'b [u8], limits: Limits) -> Result<Loaded
     ensures no { IfErr result (λ fault. IsLoadFault bytes.now limits fault) }
 {
     let rows = read(alloc, bytes, limits)?;
-    let schema = match Schema::build(alloc, rows.objects, rows.enums) {
-        Ok(schema) => schema,
-        Err(fault) => return Err(bad_schema(fault)),
-    };
+    let schema = Schema::build(alloc, rows.objects, rows.enums)?;
     let root = match rows.root {
         None => None,
-        Some(name) => match table_named(&schema, name) {
-            Some(n) => Some(n),
-            None => return Err(LoadFault::RootNotListed),
-        },
+        Some(name) => Some(table_named(&schema, name).ok_or(LoadFault::RootNotListed)?),
     };
     Ok(Loaded {
         schema,

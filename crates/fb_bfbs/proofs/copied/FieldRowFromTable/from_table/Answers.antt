@@ -1,12 +1,13 @@
 use Rattle.std.proofs.Common.{[], ◌∷◌, rules}
+use Rattle.fb_bfbs.specs.Describes.{IsFieldRow}
 use Rattle.fb_access.specs.Denotes.{signed}
+use Rattle.fb_access.specs.declared.step.Step.TheVariants.{Field as ToField}
 use Rattle.fb_bfbs.specs.Seen.{seen}
 use Rattle.fb_bfbs.proofs.Narrow.{long_back}
-use Rattle.fb_access.specs.declared.step.Step.TheVariants.{Field as ToField}
 use Rattle.fb_bfbs.proofs.Sure.{field_allowed, at_field}
 use Rattle.fb_bfbs.proofs.FixedFields.{field_fields}
-use Rattle.fb_bfbs.proofs.Composed.{seen_after, type_within}
-use Rattle.fb_bfbs.proofs.copied.field_row.Goals as goal
+use Rattle.fb_bfbs.proofs.Composed.{seen_after, type_within, field_within, row_before}
+use Rattle.fb_bfbs.proofs.copied.FieldRowFromTable.from_table.Goals as goal
 
 pub go-ty-requires : goal.go-ty-requires
 go-ty-requires c = field_allowed _ _ _ (field_fields _ c.requires).ty
@@ -35,8 +36,8 @@ bool_in-requires-3 c = (field_fields _ c.requires).optional
 pub bool_in-requires-4 : goal.bool_in-requires-4
 bool_in-requires-4 c = (field_fields _ c.requires).offset64
 
-pub returns : goal.returns
-returns c = record {
+pub returns-clause-row : goal.returns-clause-row
+returns-clause-row c = row_before IsFieldRow field_within 4 c.args.place.now _ (record {
   name = c.text_in.ensures;
   ty = type_within _ _ _ (seen_after _ _ (ToField 1) c.go-ty.ensures.same c.go-ty.ensures.leads) c.type_row.ensures;
   slot = c.ushort_in.ensures;
@@ -45,4 +46,4 @@ returns c = record {
   required = c.bool_in-2.ensures;
   optional = c.bool_in-3.ensures;
   offset64 = c.bool_in-4.ensures;
-}
+})
