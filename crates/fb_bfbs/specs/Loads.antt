@@ -1,6 +1,6 @@
 -- What is answered of a schema file.
-use Rattle.std.specs.Prelude.{ℕ, ◌<◌, ◌≤◌, ◌^◌, true, false, List, [], ◌∷◌, length}
-use Rattle.fb_schema.specs.Rows.{Rows}
+use Rattle.std.specs.Prelude.{ℕ, ◌<◌, ◌≤◌, ◌^◌, true, false, IfSome, IsTrue, List, [], ◌∷◌, length}
+use Rattle.fb_schema.specs.Rows.{Rows, is_table}
 use Rattle.fb_schema.specs.declared.fault.Code.{Code}
 use Rattle.fb_schema.specs.declared.fault.Code.TheVariants.{OutOfMemory as NoMemory}
 use Rattle.fb_schema.specs.declared.fault.SchemaFault.{SchemaFault}
@@ -45,12 +45,17 @@ pub record IsSchemaFile (b : List ℕ) (L : Bounds) : Type 0 where
 abbrev pub told : List ℕ → Says
 told b = Denotes b fixed Bare schema_number
 
+-- the root, where there is one, is a table of the schema
+abbrev pub HasTableForRoot : Loaded → Type 0
+HasTableForRoot loaded = IfSome loaded.root (λ n. IsTrue (is_table loaded.schema n))
+
 -- what is loaded of a schema file
 pub record IsLoaded (b : List ℕ) (L : Bounds) (loaded : Loaded) : Type 0 where
   pub file : IsSchemaFile b L
   pub rows : Describes (told b) loaded.schema
   pub legal : IsLegal loaded.schema
   pub root : IsRoot (told b) loaded.schema loaded.root
+  pub root_is_table : HasTableForRoot loaded
   pub ident : told b (ToField 2 ∷ []) (text_or_nothing loaded.ident)
 
 -- the rows of a schema file are no schema, first by this fault

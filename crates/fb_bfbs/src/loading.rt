@@ -1,10 +1,10 @@
 // A schema out of its file.
 
-ghost use Rattle.std.specs.Prelude.{◌≡◌, ◌<◌, ◌≤◌, IfOk, OnOk, IfErr};
-ghost use Rattle.fb_schema.specs.Rows.{AreFew};
+ghost use Rattle.std.specs.Prelude.{◌≡◌, ◌<◌, ◌≤◌, IsTrue, IfSome, IfOk, OnOk, IfErr};
+ghost use Rattle.fb_schema.specs.Rows.{AreFew, is_table};
 ghost use Rattle.fb_bfbs.specs.Describes.{table_named};
 ghost use Rattle.fb_bfbs.specs.FileRows.{IsTold};
-ghost use Rattle.fb_bfbs.specs.Loads.{IsSchemaFile, IsLoaded, IsLoadFault, told};
+ghost use Rattle.fb_bfbs.specs.Loads.{IsSchemaFile, HasTableForRoot, IsLoaded, IsLoadFault, told};
 
 use crate::file::{FileRows, file_rows};
 use crate::fixed::reflection;
@@ -22,7 +22,8 @@ const SCHEMA: u32 = 9;
 pub struct Loaded<'b> {
     /// Its rows. Their names are the file's bytes, not copies.
     pub schema: Schema<'b>,
-    /// The number of the root table's object, none where the file has no root table.
+    /// The number of the root table's object, none where the file has no root table. As [`load`] gives it, it is a
+    /// table of the schema.
     pub root: Option<u32>,
     /// The identifier of its buffers, none where the file has none. It may have any length.
     pub ident: Option<&'b [u8]>,
@@ -67,7 +68,8 @@ fn read<'b>(alloc: Global, bytes: &'b [u8], limits: Limits) -> Result<FileRows<'
 /// The table of this name.
 #[tactic(auto, unfolding(crate::specs::Describes::table_named))]
 fn table_named(schema: &Schema, name: &[u8]) -> Option<u32>
-    ensures { result ≡ table_named schema.now name.now }
+    ensures named { result ≡ table_named schema.now name.now }
+    ensures table { IfSome result (λ n. IsTrue (is_table schema.now n)) }
 {
     match schema.object_named(name) {
         Some(n) if schema.is_table(n) => Some(n),
@@ -86,6 +88,7 @@ fn table_named(schema: &Schema, name: &[u8]) -> Option<u32>
 /// schema; then L3 where the file has a root table and no listed table has its name. L4 may come in place of any but L5.
 pub fn load<'b>(alloc: Global, bytes: &'b [u8], limits: Limits) -> Result<Loaded<'b>, LoadFault>
     ensures yes { IfOk result (λ loaded. IsLoaded bytes.now limits loaded) }
+    ensures root { IfOk result (λ loaded. HasTableForRoot loaded) }
     ensures no { IfErr result (λ fault. IsLoadFault bytes.now limits fault) }
 {
     let rows = read(alloc, bytes, limits)?;
