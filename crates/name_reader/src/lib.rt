@@ -16,9 +16,6 @@ pub fn name_in<'b>(alloc: Global, schema_file: &[u8], buffer: &'b [u8]) -> Optio
     let limits = Limits::published();
     let loaded = load(alloc, schema_file, limits).ok()?;
     let root = loaded.root?;
-    if !loaded.schema.is_table(root) {
-        return None;
-    }
     let path = Path::resolve(alloc, &loaded.schema, root, b"to.name").ok()?;
     let mut scratch = Scratch::new(alloc, limits.depth()).ok()?;
 
