@@ -2,6 +2,8 @@
 
 ghost use Rattle.fb_schema.specs.Demands.{IsOutOfMemory};
 
+use std::alloc::AllocError;
+
 /// What is wrong with rows.
 #[derive(Clone, Copy, Debug, PartialEq, Eq)]
 pub enum Code {
@@ -36,13 +38,15 @@ pub struct SchemaFault {
     pub part: Option<u32>,
 }
 
-/// The fault where a growth was refused.
-pub fn out_of_memory() -> SchemaFault
-    ensures { IsOutOfMemory result }
-{
-    SchemaFault {
-        code: Code::OutOfMemory,
-        owner: 0,
-        part: None,
+/// A growth was refused.
+impl From<AllocError> for SchemaFault {
+    ghost from_gives = { λ _ fault. IsOutOfMemory fault };
+
+    fn from(_: AllocError) -> Self {
+        SchemaFault {
+            code: Code::OutOfMemory,
+            owner: 0,
+            part: None,
+        }
     }
 }

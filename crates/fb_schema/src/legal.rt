@@ -6,7 +6,7 @@ ghost use Rattle.fb_schema.specs.Rows.{AreFew, object_of, enum_of, borrowed_rows
 ghost use Rattle.fb_schema.specs.Demands.{IsLegal, AreClear, Refuses, IsFirstOf, demands_of_field, demands_of_union};
 
 use crate::demands::object_fault;
-use crate::fault::{Code, SchemaFault, out_of_memory};
+use crate::fault::{Code, SchemaFault};
 use crate::order::first_again;
 use crate::rows::{EnumRow, ObjectRow};
 use crate::types::RowLists;
@@ -66,16 +66,13 @@ fn objects_legal<A: Allocator + Copy>(
                 part: None,
             });
         }
-        match fields_fault(alloc, rows, object) {
-            Err(_) => return Err(out_of_memory()),
-            Ok(Some((code, p))) => {
-                return Err(SchemaFault {
-                    code,
-                    owner: n as u32,
-                    part: Some(p),
-                });
-            }
-            Ok(None) => {}
+        let fault = fields_fault(alloc, rows, object)?;
+        if let Some((code, p)) = fault {
+            return Err(SchemaFault {
+                code,
+                owner: n as u32,
+                part: Some(p),
+            });
         }
     }
     Ok(())
@@ -90,16 +87,13 @@ fn unions_legal<A: Allocator + Copy>(alloc: A, rows: &RowLists) -> Result<(), Sc
     ensures refused { IfErr result (Refuses (borrowed_rows rows.now)) }
 {
     for (n, row) in rows.enums.iter().enumerate() {
-        match union_fault(alloc, rows, row) {
-            Err(_) => return Err(out_of_memory()),
-            Ok(Some((code, p))) => {
-                return Err(SchemaFault {
-                    code,
-                    owner: n as u32,
-                    part: Some(p),
-                });
-            }
-            Ok(None) => {}
+        let fault = union_fault(alloc, rows, row)?;
+        if let Some((code, p)) = fault {
+            return Err(SchemaFault {
+                code,
+                owner: n as u32,
+                part: Some(p),
+            });
         }
     }
     Ok(())

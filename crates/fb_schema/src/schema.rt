@@ -10,7 +10,7 @@ ghost use Rattle.fb_schema.specs.Members.{member_of, member_named};
 ghost use Rattle.fb_schema.specs.Demands.{IsLegal, Refuses};
 ghost use Rattle.fb_schema.specs.Served.{IsServed};
 
-use crate::fault::{SchemaFault, out_of_memory};
+use crate::fault::SchemaFault;
 use crate::index::{LiveIndex, MemberIndex};
 use crate::indexing::{live_index, member_index};
 use crate::keys::object_names;
@@ -63,19 +63,10 @@ impl<'n, A: Allocator + Copy> Schema<'n, A> {
             objects: objects.as_slice(),
             enums: enums.as_slice(),
         };
-        let order = match object_names(alloc, rows.objects) {
-            Ok(order) => order,
-            Err(_) => return Err(out_of_memory()),
-        };
+        let order = object_names(alloc, rows.objects)?;
         legal(alloc, &rows, &order)?;
-        let live = match live_index(alloc, &rows) {
-            Ok(live) => live,
-            Err(_) => return Err(out_of_memory()),
-        };
-        let members = match member_index(alloc, &rows) {
-            Ok(members) => members,
-            Err(_) => return Err(out_of_memory()),
-        };
+        let live = live_index(alloc, &rows)?;
+        let members = member_index(alloc, &rows)?;
         Ok(Schema {
             objects,
             enums,

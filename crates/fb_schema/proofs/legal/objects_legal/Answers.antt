@@ -14,17 +14,17 @@ returns-in-Some-clause-refused g c =
     let d = (goal.at.returns-in-Some-clause-refused g c).After-object_fault in
     inl (refused_object (borrowed_rows c.args.rows.now) c.args.rows.now.objects.now refl c.loop-n.n c.object-item.result (at_row g d) c.args.again c.requires.again c.loop-n.invariant c.is_at.result c.in-Some.code c.is_at.ensures (sym c.in-Some.is ∙ c.object_fault.ensures))
 
-pub returns-in-Ok-Some-clause-refused : goal.returns-in-Ok-Some-clause-refused
-returns-in-Ok-Some-clause-refused g c =
-    let d = (goal.at.returns-in-Ok-Some-clause-refused g c).After-object_fault in
-    inl (refused_field (borrowed_rows c.args.rows.now) c.args.rows.now.objects.now refl c.loop-n.n c.object-item.result (at_row g d) c.args.again c.requires.again c.loop-n.invariant c.is_at.result c.is_at.ensures (sym c.in_default.is ∙ c.object_fault.ensures) c.in-Ok-Some.code c.in-Ok-Some.p
-    (rw c.in-Ok-Some.field-0-is at c.in-Ok-Some.ensures))
+pub returns-in-Some-fault-clause-refused : goal.returns-in-Some-fault-clause-refused
+returns-in-Some-fault-clause-refused g c =
+    let d = (goal.at.returns-in-Some-fault-clause-refused g c).After-object_fault in
+    inl (refused_field (borrowed_rows c.args.rows.now) c.args.rows.now.objects.now refl c.loop-n.n c.object-item.result (at_row g d) c.args.again c.requires.again c.loop-n.invariant c.is_at.result c.is_at.ensures (sym c.in_default.is ∙ c.object_fault.ensures) c.in-Some-fault.code c.in-Some-fault.p
+    (rw c.in-Some-fault.is at c.in_ok-fault.ensures))
 
 pub loop-n-preserved : goal.loop-n-preserved
 loop-n-preserved g c =
     let d = (goal.at.loop-n-preserved g c).After-object_fault in
     clear_object (borrowed_rows c.args.rows.now) c.args.rows.now.objects.now refl c.loop-n.n c.object-item.result (at_row g d) c.args.again c.requires.again c.loop-n.invariant c.is_at.result c.is_at.ensures (sym c.in_default.is ∙ c.object_fault.ensures)
-    (rw c.in-Ok-None.field-0-is at c.in-Ok-None.ensures)
+    (rw c.in_default-fault.is at c.in_ok-fault.ensures)
 
 pub returns-clause-clear : goal.returns-clause-clear
 returns-clause-clear g c = all_objects (borrowed_rows c.args.rows.now) c.loop-n.n (rw length-map c.loop-n-test.false) c.loop-n.invariant

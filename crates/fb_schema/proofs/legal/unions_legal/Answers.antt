@@ -10,15 +10,15 @@ use Rattle.fb_schema.proofs.legal.unions_legal.Goals.{After-union_fault}
 at_row : (g : _) (c : After-union_fault g) → slice_get (borrowed_rows c.args.rows.now).enums c.loop-n.n ≡ Some (enum_of c.row-item.result)
 at_row g c = mapped_at enum_of c.args.rows.now.enums.now c.loop-n.n c.row-item.result (slice_get-get_or c.args.rows.now.enums.now c.loop-n.n c.row-item.result c.loop-n-test.true ∙ ap Some (sym c.row-item.is))
 
-pub returns-in-Ok-Some-clause-refused : goal.returns-in-Ok-Some-clause-refused
-returns-in-Ok-Some-clause-refused g c =
-    let d = (goal.at.returns-in-Ok-Some-clause-refused g c).After-union_fault in
-    inl (refused_member (borrowed_rows c.args.rows.now) c.requires.objects c.loop-n.n (enum_of c.row-item.result) (at_row g d) c.loop-n.invariant c.in-Ok-Some.code c.in-Ok-Some.p (rw c.in-Ok-Some.field-0-is at c.in-Ok-Some.ensures))
+pub returns-in-Some-clause-refused : goal.returns-in-Some-clause-refused
+returns-in-Some-clause-refused g c =
+    let d = (goal.at.returns-in-Some-clause-refused g c).After-union_fault in
+    inl (refused_member (borrowed_rows c.args.rows.now) c.requires.objects c.loop-n.n (enum_of c.row-item.result) (at_row g d) c.loop-n.invariant c.in-Some.code c.in-Some.p (rw c.in-Some.is at c.in_ok-fault.ensures))
 
 pub loop-n-preserved : goal.loop-n-preserved
 loop-n-preserved g c =
     let d = (goal.at.loop-n-preserved g c).After-union_fault in
-    clear_enum (borrowed_rows c.args.rows.now) c.requires.objects c.loop-n.n (enum_of c.row-item.result) (at_row g d) c.loop-n.invariant (rw c.in-Ok-None.field-0-is at c.in-Ok-None.ensures)
+    clear_enum (borrowed_rows c.args.rows.now) c.requires.objects c.loop-n.n (enum_of c.row-item.result) (at_row g d) c.loop-n.invariant (rw c.in_default.is at c.in_ok-fault.ensures)
 
 pub returns-clause-clear : goal.returns-clause-clear
 returns-clause-clear g c = all_enums (borrowed_rows c.args.rows.now) c.loop-n.n (rw length-map c.loop-n-test.false) c.loop-n.invariant
