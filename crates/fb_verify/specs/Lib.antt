@@ -19,3 +19,4 @@ pub mod Verdict
 pub mod Sealed
 pub mod Samples
 pub mod Examples
+pub mod Reasons

@@ -1,5 +1,8 @@
 // What is answered of a buffer.
 
+ghost use Rattle.std.specs.Prelude.{◌≡◌, ◌≤◌, length};
+ghost use Rattle.fb_verify.specs.Reasons.{reason_text};
+
 /// Why a buffer is refused, by the codes V1 to V12 in their order. What is asked is said by FlatBuffers Internals; the order in which it is asked,
 /// and the position that each fault names, by the project.
 #[derive(Clone, Copy, Debug, PartialEq, Eq)]
@@ -28,6 +31,29 @@ pub enum Reason {
     LengthsDiffer,
     /// V12: a field ends past the inline size of its table.
     PastTable,
+}
+
+impl Reason {
+    /// Its code and its name, as they are printed: `V1 WrongPrefix`. They have at most 20 bytes.
+    pub fn text(self) -> &'static str
+        ensures name { result.now ≡ reason_text self }
+        ensures short { length result.now ≤ 20 }
+    {
+        match self {
+            Reason::WrongPrefix => "V1 WrongPrefix",
+            Reason::OutOfBuffer => "V2 OutOfBuffer",
+            Reason::Misaligned => "V3 Misaligned",
+            Reason::ZeroOffset => "V4 ZeroOffset",
+            Reason::WrongIdentifier => "V5 WrongIdentifier",
+            Reason::TooDeep => "V6 TooDeep",
+            Reason::TooManyTables => "V7 TooManyTables",
+            Reason::BadVtable => "V8 BadVtable",
+            Reason::MissingRequired => "V9 MissingRequired",
+            Reason::NoTerminator => "V10 NoTerminator",
+            Reason::LengthsDiffer => "V11 LengthsDiffer",
+            Reason::PastTable => "V12 PastTable",
+        }
+    }
 }
 
 /// The first place where a buffer is wrong, and why.

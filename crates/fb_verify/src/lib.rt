@@ -30,4 +30,6 @@ pub use verdict::walk;
 pub use verified::{Verified, verify};
 
 #[cfg(test)]
+mod fault_tests;
+#[cfg(test)]
 mod tests;
