@@ -99,7 +99,8 @@ fn options(settings: &Settings, root: u32, path: Option<Path>) -> Options
 ///
 /// # Errors
 ///
-/// N9 where there is no such table, and then N6 where the path isn't one from there; both before anything is read. Then as `run`.
+/// `NoRoot` where there is no such table, and then `Path` where the path isn't one from there; both before anything is
+/// read. Then as `run`.
 pub fn run_asked<S: Source, K: Sink>(
     alloc: Global,
     schema: &Schema<'_>,

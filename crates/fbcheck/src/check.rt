@@ -36,8 +36,9 @@ fn fault_of(fault: LoadFault) -> RunFault
 ///
 /// # Errors
 ///
-/// N5 where the schema file gives no schema, then N9 where there is no root table, then N6 where the path isn't one from there; all
-/// before anything is read of the input, and N7 in place of any where memory was refused. Then as [`run`](crate::run::run).
+/// `Load` where the schema file gives no schema, then `NoRoot` where there is no root table, then `Path` where the path
+/// isn't one from there; all before anything is read of the input, and `OutOfMemory` in place of any where memory was
+/// refused. Then as [`run`](crate::run::run).
 #[tactic(auto, using(crate::proofs::CheckLemmas::loaded_root_is_table, crate::proofs::CheckLemmas::schema_is_table))]
 pub fn check<S: Source, K: Sink>(
     alloc: Global,

@@ -35,13 +35,13 @@ pub struct Settings {
 /// Why words give no settings.
 #[derive(Debug, Drop, DeriveError)]
 pub enum SettingsFault {
-    /// G1: `clap` refuses the words, or they ask for its help.
+    /// `clap` refuses the words, or they ask for its help.
     #[error(transparent)]
     Usage(Error),
-    /// G2: the words are read, and the text of `--ident` isn't four bytes long.
+    /// The words are read, and the text of `--ident` isn't four bytes long.
     #[error("ident must be four bytes")]
     BadIdent,
-    /// G3: no memory was to be had.
+    /// No memory was to be had.
     #[error("out of memory")]
     OutOfMemory,
 }

@@ -12,31 +12,31 @@ use thiserror::Error;
 /// Why a run came to rest before its end.
 #[derive(Clone, Copy, Debug, PartialEq, Eq, Error)]
 pub enum RunFault {
-    /// N1: the reader failed.
+    /// The reader failed.
     #[error("read failed")]
     ReadFault,
-    /// N2: the writer failed, or took nothing. `written` counts the bytes that it took in this run.
+    /// The writer failed, or took nothing. `written` counts the bytes that it took in this run.
     #[error("write failed after {written} bytes")]
     WriteFault { written: u128 },
-    /// N3: the stream declares too much, or ends in mid-message.
+    /// The stream declares too much, or ends in mid-message.
     #[error("stream: {0}")]
     Stream(StreamFault),
-    /// N4: after 2^32 reads the input had not ended.
+    /// After 2^32 reads the input had not ended.
     #[error("too many reads")]
     TooManyTurns,
-    /// N5: the schema file gives no schema. It is never L4, which is told as N7.
+    /// The schema file gives no schema. It is never that fault's own `OutOfMemory`, which is told as this type's.
     #[error("schema: {0}")]
     Load(LoadFault),
-    /// N6: the path isn't one from the root table. It is never P7, which is told as N7.
+    /// The path isn't one from the root table. It is never that fault's own `OutOfMemory`, which is told as this type's.
     #[error("path: {0}")]
     Path(PathFault),
-    /// N7: memory was refused.
+    /// Memory was refused.
     #[error("out of memory")]
     OutOfMemory,
-    /// N8: a bare input has more than `limit` bytes.
+    /// A bare input has more than `limit` bytes.
     #[error("input longer than {limit} bytes")]
     BareTooLong { limit: u32 },
-    /// N9: the schema has no table of the root's name, or no root was given and the schema file has none.
+    /// The schema has no table of the root's name, or no root was given and the schema file has none.
     #[error("no root table")]
     NoRoot,
 }

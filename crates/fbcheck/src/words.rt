@@ -15,8 +15,8 @@ use std::alloc::{AllocError, Global};
 ///
 /// # Errors
 ///
-/// G1 where `clap` refuses them, help included, G2 where it reads them and the identifier isn't four bytes long, and G3 for want
-/// of memory.
+/// `Usage` where `clap` refuses them, help included, `BadIdent` where it reads them and the identifier isn't four bytes
+/// long, and `OutOfMemory` for want of memory.
 pub fn settings(alloc: Global, words: &[String]) -> Result<Settings, SettingsFault>
     ensures read { OnOk result (fault_of program (map string_bytes words.now) ≡ []) }
     ensures refused { IfErr result (Refuses (map string_bytes words.now)) }
