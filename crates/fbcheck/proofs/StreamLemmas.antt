@@ -1,8 +1,7 @@
 -- What was read and told, and then more of the stream.
-use Rattle.std.proofs.Common.{◌≡◌, ℕ, ◌+◌, ◌≤◌, ◌⊎◌, Bool, List, [], ◌∷◌, ◌++◌, length, take, drop, refl, sym, ap, subst, ◌∙◌, arith, append-nil, append_assoc, take-append-drop, take_all}
+use Rattle.std.proofs.Common.{◌≡◌, ℕ, ◌+◌, ◌≤◌, ◌⊎◌, Bool, List, [], ◌∷◌, ◌++◌, length, take, drop, refl, sym, ap, subst, ◌∙◌, arith, append-nil, append_assoc, take-append-drop}
 use mathlib.Core.Logic.{inl, inr}
 use Rattle.std.specs.List.{concat}
-use Rattle.std.proofs.Math.Seq.{take-add}
 use Rattle.std.proofs.lemmas.List.Elements.{All-nil, All-cons, All-append}
 use Rattle.std.proofs.lemmas.List.Folds.{concat-append}
 use Rattle.fb_bytes.specs.Messages.{IsMessage, IsPartial, IsOversize, Splits}
@@ -16,6 +15,7 @@ use Rattle.fbcheck.specs.Stream.{Gathers, Halts, IsFeedFault, Onward, Rests, Tel
 use Rattle.fbcheck.specs.declared.fault.RunFault.{RunFault}
 use Rattle.fbcheck.specs.declared.fault.RunFault.TheVariants as run
 use Rattle.fbcheck.proofs.LinesLemmas.{lines_more}
+use Rattle.fbcheck.proofs.Pieces.{front-more}
 
 -- the rest with more bytes is split further
 splits_then : (limit : ℕ) (bytes more held rest : List ℕ) (xs ys : List (List ℕ))
@@ -127,29 +127,43 @@ onward_line job old new after piece message text text' used whole good bad good'
     subst (λ (l : List ℕ). Tells job old.limit (bytes ++ take used piece) (written ++ text') good' bad' l) (sym (ap (λ (f : Framing). f.held) gone))
     (tells_line job old.limit good bad good' bad' bytes (take used piece) old.held message text text' (at ∙ feeds.held) is' adds written tells)
 
--- all of the piece was fed
-pub onward_all : (job : Job) (limit at good bad good' bad' : ℕ) (held held' piece text text' : List ℕ) → length piece ≤ at
-    → Onward job limit text good bad held (take at piece) text' good' bad' held' → Onward job limit text good bad held piece text' good' bad' held'
-onward_all job limit at good bad good' bad' held held' piece text text' all onward =
-    subst (λ (l : List ℕ). Onward job limit text good bad held l text' good' bad' held') (take_all at piece all) onward
+-- a piece of which the front was passed, and the rest is still to come
+abbrev pub HasPassed : Job → ℕ → List ℕ → ℕ → ℕ → List ℕ → List ℕ → List ℕ → List ℕ → ℕ → ℕ → List ℕ → Type 0
+HasPassed job limit text good bad held piece rest text' good' bad' held' =
+    (front : List ℕ) × (piece ≡ front ++ rest) × Onward job limit text good bad held front text' good' bad' held'
 
--- the piece was fed up to `at`, and then n bytes more
-pub onward_more : (job : Job) (limit limit' at n good bad good' bad' good'' bad'' : ℕ) (held held' held'' piece text text' text'' : List ℕ) → limit' ≡ limit
-    → Onward job limit text good bad held (take at piece) text' good' bad' held' → Onward job limit' text' good' bad' held' (take n (drop at piece)) text'' good'' bad'' held''
-    → Onward job limit text good bad held (take (at + n) piece) text'' good'' bad'' held''
-onward_more job limit limit' at n good bad good' bad' good'' bad'' held held' held'' piece text text' text'' same first second = λ bytes written tells.
-    let second' = subst (λ (m : ℕ). Onward job m text' good' bad' held' (take n (drop at piece)) text'' good'' bad'' held'') same second in
-    subst (λ (l : List ℕ). Tells job limit l (written ++ text'') good'' bad'' held'') (append_assoc bytes (take at piece) (take n (drop at piece)) ∙ ap (λ l. bytes ++ l) (sym (take-add at n piece)))
-    (second' (bytes ++ take at piece) written (first bytes written tells))
+-- at first nothing was
+pub passed_none : (job : Job) (limit good bad : ℕ) (held piece text : List ℕ) → HasPassed job limit text good bad held piece piece text good bad held
+passed_none job limit good bad held piece text = ([], refl, λ bytes written tells. subst (λ (l : List ℕ). Tells job limit l (written ++ text) good bad held) (sym (append-nil bytes)) tells)
+
+-- n bytes more
+pub passed_more : (job : Job) (limit limit' n good bad good' bad' good'' bad'' : ℕ) (held held' held'' piece rest rest' text text' text'' : List ℕ) → limit' ≡ limit → rest' ≡ drop n rest
+    → HasPassed job limit text good bad held piece rest text' good' bad' held' → Onward job limit' text' good' bad' held' (take n rest) text'' good'' bad'' held''
+    → HasPassed job limit text good bad held piece rest' text'' good'' bad'' held''
+passed_more job limit limit' n good bad good' bad' good'' bad'' held held' held'' piece rest rest' text text' text'' same after (front, whole, first) second = (
+  front ++ take n rest,
+  front-more piece front rest rest' n whole after,
+  λ bytes written tells.
+      let second' = subst (λ (m : ℕ). Onward job m text' good' bad' held' (take n rest) text'' good'' bad'' held'') same second in
+      subst (λ (l : List ℕ). Tells job limit l (written ++ text'') good'' bad'' held'') (append_assoc bytes front (take n rest))
+      (second' (bytes ++ front) written (first bytes written tells)),
+)
+
+-- all of the piece
+pub onward_all : (job : Job) (limit good bad good' bad' : ℕ) (held held' piece rest text text' : List ℕ) → length rest ≡ 0
+    → HasPassed job limit text good bad held piece rest text' good' bad' held' → Onward job limit text good bad held piece text' good' bad' held'
+onward_all job limit good bad good' bad' held held' piece [] text text' none (front, whole, onward) =
+    subst (λ (l : List ℕ). Onward job limit text good bad held l text' good' bad' held') (sym (whole ∙ append-nil front)) onward
+onward_all job limit good bad good' bad' held held' piece (x ∷ xs) text text' none passed = absurd (omega arith)
 
 -- and then the run came to rest
-pub halts_after : (job : Job) (limit limit' at good bad good' bad' : ℕ) (held held' piece text text' text'' : List ℕ) (fault : RunFault) → limit' ≡ limit
-    → Onward job limit text good bad held (take at piece) text' good' bad' held' → Halts job limit' text' good' bad' held' (drop at piece) text'' fault
+pub halts_after : (job : Job) (limit limit' good bad good' bad' : ℕ) (held held' piece rest text text' text'' : List ℕ) (fault : RunFault) → limit' ≡ limit
+    → HasPassed job limit text good bad held piece rest text' good' bad' held' → Halts job limit' text' good' bad' held' rest text'' fault
     → Halts job limit text good bad held piece text'' fault
-halts_after job limit limit' at good bad good' bad' held held' piece text text' text'' fault same first second = λ bytes written tells.
-    let second' = subst (λ (m : ℕ). Halts job m text' good' bad' held' (drop at piece) text'' fault) same second in
-    subst (λ (l : List ℕ). Rests job limit l (written ++ text'') fault) (append_assoc bytes (take at piece) (drop at piece) ∙ ap (λ l. bytes ++ l) (take-append-drop at piece))
-    (second' (bytes ++ take at piece) written (first bytes written tells))
+halts_after job limit limit' good bad good' bad' held held' piece rest text text' text'' fault same (front, whole, first) second = λ bytes written tells.
+    let second' = subst (λ (m : ℕ). Halts job m text' good' bad' held' rest text'' fault) same second in
+    subst (λ (l : List ℕ). Rests job limit l (written ++ text'') fault) (append_assoc bytes front rest ∙ ap (λ l. bytes ++ l) (sym whole))
+    (second' (bytes ++ front) written (first bytes written tells))
 
 -- a piece that was fed whole gathers lines
 pub gathers_onward : (job : Job) (limit good bad good' bad' : ℕ) (held held' piece text text' : List ℕ) → Onward job limit text good bad held piece text' good' bad' held' → Gathers job limit text good bad held piece text'

@@ -1,6 +1,6 @@
 //! A message that stands whole in a piece.
 
-ghost use Rattle.std.specs.Prelude.{IfOk, IfErr, IfSome, OnOk, OnErr, ◌≡◌, ◌+◌, ◌<◌, ◌≤◌, ◌^◌, [], length, take, drop};
+ghost use Rattle.std.specs.Prelude.{IfOk, IfErr, IfSome, OnOk, OnErr, ◌≡◌, ◌+◌, ◌<◌, ◌≤◌, ◌^◌, [], length, take};
 ghost use Rattle.fb_bytes.specs.Messages.{IsMessage};
 ghost use Rattle.fbcheck.specs.Job.{job_of};
 ghost use Rattle.fbcheck.specs.Stream.{Onward};
@@ -33,33 +33,20 @@ fn front_message(bytes: &[u8], limit: u32) -> Option<&[u8]>
     Some(window.bytes(0, len))
 }
 
-/// The same of the piece from `at` on.
-fn message_at(piece: &[u8], at: usize, limit: u32) -> Option<&[u8]>
-    requires at { at < length piece.now }
-    ensures whole { IfSome result (λ message. IsMessage limit message.now) }
-    ensures front { IfSome result (λ message. message.now ≡ take (length message.now) (drop at piece.now)) }
-    ensures some { IfSome result (λ message. 0 < length message.now) }
-    ensures within { IfSome result (λ message. at + length message.now ≤ length piece.now) }
-{
-    front_message(&piece[at..], limit)
-}
-
-/// Adds the line of the message that stands whole in the piece from `at` on, and answers how many bytes it has; none where no
-/// message is whole there.
+/// Adds the line of the message that stands whole at the front of these bytes, and answers how many bytes it has; none
+/// where no message is whole there.
 pub fn tell_front<A: Allocator>(
     checker: &Checker<'_, '_>,
     scratch: &mut Scratch<A>,
-    piece: &[u8],
-    at: usize,
+    bytes: &[u8],
     output: &mut Output<A>,
 ) -> Result<usize, RunFault>
-    requires at { at < length piece.now }
     requires room { ((checker.now.options.now).limits).depth ≤ scratch.old }
     requires short { (checker.now.options.now).max_bytes < 2 ^ 31 }
     requires few { output.old.yes + output.old.no < 2 ^ 63 }
-    ensures within { IfOk result (λ used. at + used ≤ length piece.now) }
+    ensures within { IfOk result (λ used. used ≤ length bytes.now) }
     ensures onward { IfOk result (λ used. 0 < used → Onward (job_of checker.now.schema.now checker.now.options.now) (checker.now.options.now).max_bytes
-        output.old.text.items output.old.yes output.old.no [] (take used (drop at piece.now))
+        output.old.text.items output.old.yes output.old.no [] (take used bytes.now)
         output.new.text.items output.new.yes output.new.no []) }
     ensures same { IfOk result (λ used. used ≡ 0 → output.new ≡ output.old) }
     ensures memory { IfErr result (λ fault. fault ≡ RunFault.OutOfMemory) }
@@ -68,7 +55,7 @@ pub fn tell_front<A: Allocator>(
     ensures written { output.new.written ≡ output.old.written }
     ensures scratch { scratch.new ≡ scratch.old }
 {
-    match message_at(piece, at, checker.options.max_bytes) {
+    match front_message(bytes, checker.options.max_bytes) {
         Some(message) => match output.add_line(checker, scratch, message) {
             Ok(()) => Ok(message.len()),
             Err(_) => Err(RunFault::OutOfMemory),

@@ -45,18 +45,6 @@ pub fn pull_piece<A: Allocator, S: Source>(
     source.pull(piece.as_mut_slice())
 }
 
-/// Adds the first bytes of the read buffer.
-fn add_front<A: Allocator, B: Allocator>(
-    whole: &mut Vec<u8, A>,
-    piece: &Vec<u8, B>,
-    n: usize,
-) -> Result<(), AllocError>
-    requires { n ≤ length piece.now.items }
-    ensures { OnOk result (whole.new.items ≡ whole.old.items ++ take n piece.now.items) }
-{
-    whole.extend_from_slice(&piece.as_slice()[..n])
-}
-
 /// Reads the whole input, of at most `limit` bytes, in at most `turns` reads. Whatever a sink holds, it keeps.
 pub fn read_whole<A: Allocator, B: Allocator, S: Source>(
     alloc: A,
@@ -88,7 +76,7 @@ pub fn read_whole<A: Allocator, B: Allocator, S: Source>(
         if read > limit as usize - whole.len() {
             return Err(RunFault::BareTooLong { limit });
         }
-        let Ok(()) = add_front(&mut whole, piece, read) else {
+        let Ok(()) = whole.extend_from_slice(&piece.as_slice()[..read]) else {
             return Err(RunFault::OutOfMemory);
         };
     }

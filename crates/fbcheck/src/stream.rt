@@ -1,7 +1,6 @@
 //! A run over a stream of size-prefixed buffers.
 
-ghost use Rattle.std.specs.Prelude.{IfOk, IfErr, OnOk, OnErr, ◌≡◌, ◌+◌, ◌*◌, ◌-◌, ◌<◌, ◌≤◌, ◌^◌, ℕ, true, false, length, take, drop};
-ghost use Rattle.fb_bytes.specs.Framing.{FeedFails, Feeds};
+ghost use Rattle.std.specs.Prelude.{IfOk, IfErr, OnOk, OnErr, ◌≡◌, ◌+◌, ◌*◌, ◌-◌, ◌<◌, ◌≤◌, ◌^◌, ℕ, true, false, length, take};
 ghost use Rattle.fb_bytes.specs.Messages.{IsPartial};
 ghost use Rattle.fbcheck.specs.Faults.{IsCaused};
 ghost use Rattle.fbcheck.specs.Job.{job_of};
@@ -12,7 +11,7 @@ use crate::fault::RunFault;
 use crate::front::tell_front;
 use crate::output::{Output, Tally};
 use crate::reading::{MOST_TURNS, PIECE, pull_piece, read_buffer};
-use fb_bytes::{Framer, Sink, Source, StreamFault, Taken};
+use fb_bytes::{Framer, Sink, Source, StreamFault};
 use fb_verify::Scratch;
 use std::alloc::Allocator;
 
@@ -26,53 +25,38 @@ fn fault_of(fault: StreamFault) -> RunFault
     }
 }
 
-/// Feeds the framer the piece from `at` on.
-fn feed_from<A: Allocator>(
-    framer: &mut Framer<A>,
-    piece: &[u8],
-    at: usize,
-) -> Result<Taken, StreamFault>
-    requires at { at < length piece.now }
-    requires fine { framer.old.failed ≡ false }
-    ensures ok { IfOk result (λ taken. Feeds framer.old framer.new (drop at piece.now) taken.used taken.whole) }
-    ensures fault { IfErr result (λ fault. FeedFails framer.old framer.new (drop at piece.now) fault) }
-{
-    framer.feed(&piece[at..])
-}
-
-/// Feeds bytes of the piece from `at` on, up to the end of a message, and adds its line. Answers how many bytes that
-/// were.
+/// Feeds bytes from the front of the rest of a piece, up to the end of a message, and adds its line. Answers how many
+/// bytes that were.
 fn feed_some<A: Allocator>(
     checker: &Checker<'_, '_>,
     scratch: &mut Scratch<A>,
     framer: &mut Framer<A>,
-    piece: &[u8],
-    at: usize,
+    rest: &[u8],
     output: &mut Output<A>,
 ) -> Result<usize, RunFault>
-    requires at { at < length piece.now }
+    requires rest { 0 < length rest.now }
     requires room { ((checker.now.options.now).limits).depth ≤ scratch.old }
     requires fine { framer.old.failed ≡ false }
     requires part { IsPartial framer.old.limit framer.old.held }
     requires short { framer.old.limit < 2 ^ 31 }
     requires few { output.old.yes + output.old.no < 2 ^ 63 }
     ensures some { IfOk result (λ used. 0 < used) }
-    ensures within { IfOk result (λ used. at + used ≤ length piece.now) }
+    ensures within { IfOk result (λ used. used ≤ length rest.now) }
     ensures onward { IfOk result (λ used. Onward (job_of checker.now.schema.now checker.now.options.now) framer.old.limit
-        output.old.text.items output.old.yes output.old.no framer.old.held (take used (drop at piece.now))
+        output.old.text.items output.old.yes output.old.no framer.old.held (take used rest.now)
         output.new.text.items output.new.yes output.new.no framer.new.held) }
     ensures fine { OnOk result (framer.new.failed ≡ false) }
     ensures limit { OnOk result (framer.new.limit ≡ framer.old.limit) }
     ensures part { OnOk result (IsPartial framer.new.limit framer.new.held) }
     ensures halts { IfErr result (λ fault. Halts (job_of checker.now.schema.now checker.now.options.now) framer.old.limit
-        output.old.text.items output.old.yes output.old.no framer.old.held (drop at piece.now)
+        output.old.text.items output.old.yes output.old.no framer.old.held rest.now
         output.new.text.items fault) }
     ensures kind { IfErr result (λ fault. IsFeedFault fault) }
     ensures few { OnOk result (output.new.yes + output.new.no ≤ output.old.yes + output.old.no + 1) }
     ensures written { output.new.written ≡ output.old.written }
     ensures scratch { scratch.new ≡ scratch.old }
 {
-    let taken = match feed_from(framer, piece, at) {
+    let taken = match framer.feed(rest) {
         Ok(taken) => taken,
         Err(fault) => return Err(fault_of(fault)),
     };
@@ -88,17 +72,16 @@ fn feed_some<A: Allocator>(
     Ok(taken.used)
 }
 
-/// Passes bytes of the piece from `at` on, up to the end of a message, and adds its line. A message that stands whole in the
-/// piece is checked where it stands; of others the framer holds what came.
+/// Passes bytes from the front of the rest of a piece, up to the end of a message, and adds its line. Answers how many
+/// bytes that were. A message that stands whole there is checked where it stands; of others the framer holds what came.
 fn pass_some<A: Allocator>(
     checker: &Checker<'_, '_>,
     scratch: &mut Scratch<A>,
     framer: &mut Framer<A>,
-    piece: &[u8],
-    at: usize,
+    rest: &[u8],
     output: &mut Output<A>,
 ) -> Result<usize, RunFault>
-    requires at { at < length piece.now }
+    requires rest { 0 < length rest.now }
     requires room { ((checker.now.options.now).limits).depth ≤ scratch.old }
     requires fine { framer.old.failed ≡ false }
     requires part { IsPartial framer.old.limit framer.old.held }
@@ -106,15 +89,15 @@ fn pass_some<A: Allocator>(
     requires short { framer.old.limit < 2 ^ 31 }
     requires few { output.old.yes + output.old.no < 2 ^ 63 }
     ensures some { IfOk result (λ used. 0 < used) }
-    ensures within { IfOk result (λ used. at + used ≤ length piece.now) }
+    ensures within { IfOk result (λ used. used ≤ length rest.now) }
     ensures onward { IfOk result (λ used. Onward (job_of checker.now.schema.now checker.now.options.now) framer.old.limit
-        output.old.text.items output.old.yes output.old.no framer.old.held (take used (drop at piece.now))
+        output.old.text.items output.old.yes output.old.no framer.old.held (take used rest.now)
         output.new.text.items output.new.yes output.new.no framer.new.held) }
     ensures fine { OnOk result (framer.new.failed ≡ false) }
     ensures limit { OnOk result (framer.new.limit ≡ framer.old.limit) }
     ensures part { OnOk result (IsPartial framer.new.limit framer.new.held) }
     ensures halts { IfErr result (λ fault. Halts (job_of checker.now.schema.now checker.now.options.now) framer.old.limit
-        output.old.text.items output.old.yes output.old.no framer.old.held (drop at piece.now)
+        output.old.text.items output.old.yes output.old.no framer.old.held rest.now
         output.new.text.items fault) }
     ensures kind { IfErr result (λ fault. IsFeedFault fault) }
     ensures few { OnOk result (output.new.yes + output.new.no ≤ output.old.yes + output.old.no + 1) }
@@ -122,13 +105,13 @@ fn pass_some<A: Allocator>(
     ensures scratch { scratch.new ≡ scratch.old }
 {
     if framer.held() == 0 {
-        match tell_front(checker, scratch, piece, at, output) {
+        match tell_front(checker, scratch, rest, output) {
             Ok(0) => {}
             Ok(used) => return Ok(used),
             Err(fault) => return Err(fault),
         }
     }
-    feed_some(checker, scratch, framer, piece, at, output)
+    feed_some(checker, scratch, framer, rest, output)
 }
 
 /// Feeds a whole piece, and adds the lines of the messages that end in it.
@@ -161,10 +144,10 @@ fn use_up<A: Allocator>(
     ensures written { output.new.written ≡ output.old.written }
     ensures scratch { scratch.new ≡ scratch.old }
 {
-    let mut at = 0;
-    while at < piece.len() {
-        match pass_some(checker, scratch, framer, piece, at, output) {
-            Ok(used) => at += used,
+    let mut rest = piece;
+    while !rest.is_empty() {
+        match pass_some(checker, scratch, framer, rest, output) {
+            Ok(used) => rest = &rest[used..],
             Err(fault) => return Err(fault),
         }
     }

@@ -1,17 +1,28 @@
 use Rattle.std.proofs.Common.{rules}
-use Rattle.fbcheck.proofs.StreamLemmas.{gathers_halts, gathers_onward, halts_after, onward_all, onward_more}
+use Rattle.std.proofs.lemmas.List.{take_rest}
+use Rattle.fbcheck.proofs.StreamLemmas.{gathers_halts, gathers_onward, halts_after, onward_all, passed_more, passed_none}
 use Rattle.fbcheck.proofs.stream.use_up.Goals as goal
 
-pub loop-at-preserved : goal.loop-at-preserved
-loop-at-preserved g c =
-    let before = c.loop-at.invariant in
+pub loop-rest-init : goal.loop-rest-init
+loop-rest-init g c = record {
+  fine = search rules;
+  limit = search rules;
+  part = search rules;
+  passed = passed_none _ _ _ _ _ _ _;
+  few = search rules;
+  scratch = search rules;
+  written = search rules;
+}
+
+pub loop-rest-preserved : goal.loop-rest-preserved
+loop-rest-preserved g c =
+    let before = c.loop-rest.invariant in
     let some = c.in-Ok.ensures in
     record {
-      within = some.within;
       fine = some.fine;
       limit = search rules;
       part = some.part;
-      onward = onward_more _ _ _ c.loop-at.at c.in-Ok.used _ _ _ _ _ _ _ _ _ c.args.piece.now _ _ _ before.limit before.onward some.onward;
+      passed = passed_more _ _ _ c.in-Ok.used _ _ _ _ _ _ _ _ _ _ c.loop-rest.rest.now _ _ _ _ before.limit (take_rest c.loop-rest.rest.now c.in-Ok.used) before.passed some.onward;
       few = search rules;
       scratch = search rules;
       written = search rules;
@@ -19,17 +30,17 @@ loop-at-preserved g c =
 
 pub returns-in-Err-clause-halts : goal.returns-in-Err-clause-halts
 returns-in-Err-clause-halts g c =
-    halts_after _ _ _ c.loop-at.at _ _ _ _ _ _ c.args.piece.now _ _ _ c.in-Err.fault c.loop-at.invariant.limit c.loop-at.invariant.onward c.in-Err.ensures.halts
+    halts_after _ _ _ _ _ _ _ _ _ c.args.piece.now c.loop-rest.rest.now _ _ _ c.in-Err.fault c.loop-rest.invariant.limit c.loop-rest.invariant.passed c.in-Err.ensures.halts
 
 pub returns-in-Err-clause-gathers : goal.returns-in-Err-clause-gathers
 returns-in-Err-clause-gathers g c =
     gathers_halts _ _ _ _ _ c.args.piece.now _ _ c.in-Err.fault c.in-Err.ensures.kind
-    (halts_after _ _ _ c.loop-at.at _ _ _ _ _ _ c.args.piece.now _ _ _ c.in-Err.fault c.loop-at.invariant.limit c.loop-at.invariant.onward c.in-Err.ensures.halts)
+    (halts_after _ _ _ _ _ _ _ _ _ c.args.piece.now c.loop-rest.rest.now _ _ _ c.in-Err.fault c.loop-rest.invariant.limit c.loop-rest.invariant.passed c.in-Err.ensures.halts)
 
 pub returns-clause-onward : goal.returns-clause-onward
-returns-clause-onward g c = onward_all _ _ c.loop-at.at _ _ _ _ _ _ c.args.piece.now _ _ (search rules) c.loop-at.invariant.onward
+returns-clause-onward g c = onward_all _ _ _ _ _ _ _ _ c.args.piece.now c.loop-rest.rest.now _ _ (search rules) c.loop-rest.invariant.passed
 
 pub returns-clause-gathers : goal.returns-clause-gathers
 returns-clause-gathers g c =
     gathers_onward _ _ _ _ _ _ _ _ c.args.piece.now _ _
-    (onward_all _ _ c.loop-at.at _ _ _ _ _ _ c.args.piece.now _ _ (search rules) c.loop-at.invariant.onward)
+    (onward_all _ _ _ _ _ _ _ _ c.args.piece.now c.loop-rest.rest.now _ _ (search rules) c.loop-rest.invariant.passed)

@@ -1,21 +1,20 @@
-use Rattle.std.proofs.Common.{length, ◌-◌, ◌≡◌, ◌+◌, ◌≤◌, false, take}
+use Rattle.std.proofs.Common.{length, ◌≡◌, ◌+◌, ◌≤◌, false}
 use Rattle.fb_bytes.specs.Messages.{IsPartial}
 use Rattle.fbcheck.specs.Job.{job_of}
-use Rattle.fbcheck.specs.Stream.{Onward}
+use Rattle.fbcheck.proofs.StreamLemmas.{HasPassed}
 use Rattle.fbcheck.proofs.stream.use_up.Given as goal
 
-abbrev pub invariant-loop-at : goal.invariant-loop-at
-invariant-loop-at g l = record {
-  within : l.at ≤ length l.piece;
+abbrev pub invariant-loop-rest : goal.invariant-loop-rest
+invariant-loop-rest g l = record {
   fine : l.framer.failed ≡ false;
   limit : l.framer.limit ≡ l.initial.framer.limit;
   part : IsPartial l.framer.limit l.framer.held;
-  onward : Onward (job_of l.checker.schema.now l.checker.options.now) l.initial.framer.limit l.initial.output.text.items l.initial.output.yes l.initial.output.no l.initial.framer.held
-      (take l.at l.piece) l.output.text.items l.output.yes l.output.no l.framer.held;
-  few : l.output.yes + l.output.no ≤ l.initial.output.yes + l.initial.output.no + l.at;
+  passed : HasPassed (job_of l.checker.schema.now l.checker.options.now) l.initial.framer.limit l.initial.output.text.items l.initial.output.yes l.initial.output.no l.initial.framer.held
+      l.piece l.rest l.output.text.items l.output.yes l.output.no l.framer.held;
+  few : l.output.yes + l.output.no + length l.rest ≤ l.initial.output.yes + l.initial.output.no + length l.piece;
   scratch : l.scratch ≡ l.initial.scratch;
   written : l.output.written ≡ l.initial.output.written;
 }
 
-abbrev pub decreases-loop-at : goal.decreases-loop-at
-decreases-loop-at g l = length l.piece - l.at
+abbrev pub decreases-loop-rest : goal.decreases-loop-rest
+decreases-loop-rest g l = length l.rest

@@ -1,15 +1,22 @@
-use Rattle.std.proofs.Common.{rules, sym, subst}
-use Rattle.std.proofs.Math.Seq.{take-add}
+use Rattle.std.proofs.Common.{rules, [], refl, take, ◌++◌, ◌-◌, length, sym, subst}
+use Rattle.std.proofs.KnownBytes.{Appends-nil, Appends-trans}
+use Rattle.std.proofs.lemmas.List.{take_rest}
 use Rattle.std.specs.Io.KnownBytes.{Appends}
-use Rattle.std.proofs.KnownBytes.{Appends-trans}
+use Rattle.fbcheck.proofs.Pieces.{front-is, front-more}
 use Rattle.fbcheck.proofs.writing.push_all.Goals as goal
 
-pub loop-at-preserved : goal.loop-at-preserved
-loop-at-preserved g c =
-    let held = c.loop-at.invariant in
+pub loop-sink-init : goal.loop-sink-init
+loop-sink-init g c = record { bytes = ([], refl, Appends-nil _); failures = search rules; calls = search rules }
+
+pub loop-sink-preserved : goal.loop-sink-preserved
+loop-sink-preserved g c =
+    let (front, whole, wrote) = c.loop-sink.invariant.bytes in
     record {
-      within = search rules;
-      bytes = subst (Appends _ _) (sym (take-add c.loop-at.at c.in-Ok.taken c.args.text.now)) (Appends-trans _ _ _ _ _ held.bytes c.in-Ok.ensures.ok);
+      bytes = (
+        front ++ take c.in-Ok.taken c.loop-sink.rest.now,
+        front-more c.args.text.now front c.loop-sink.rest.now _ c.in-Ok.taken whole (take_rest c.loop-sink.rest.now c.in-Ok.taken),
+        Appends-trans _ _ _ _ _ wrote c.in-Ok.ensures.bytes,
+      );
       failures = search rules;
       calls = search rules;
     }

@@ -1,14 +1,13 @@
-use Rattle.std.proofs.Common.{◌≡◌, ◌-◌, ◌+◌, ◌≤◌, length, take}
+use Rattle.std.proofs.Common.{◌≡◌, ◌-◌, ◌+◌, ◌≤◌, ◌++◌, List, ℕ, length}
 use Rattle.std.specs.Io.KnownBytes.{Appends}
 use Rattle.fbcheck.proofs.writing.push_all.Given as goal
 
-abbrev pub invariant-loop-at : goal.invariant-loop-at
-invariant-loop-at g l = record {
-  within : l.at ≤ length l.text;
-  bytes : Appends (g.K.Sink.contents l.initial.sink) (g.K.Sink.contents l.sink) (take l.at l.text);
+abbrev pub invariant-loop-sink : goal.invariant-loop-sink
+invariant-loop-sink g l = record {
+  bytes : (front : List ℕ) × (l.text ≡ front ++ l.rest) × Appends (g.K.Sink.contents l.initial.sink) (g.K.Sink.contents l.sink) front;
   failures : g.K.Sink.failures l.sink ≡ g.K.Sink.failures l.initial.sink;
-  calls : g.K.Sink.calls l.sink ≤ g.K.Sink.calls l.initial.sink + l.at;
+  calls : g.K.Sink.calls l.sink + length l.rest ≤ g.K.Sink.calls l.initial.sink + length l.text;
 }
 
-abbrev pub decreases-loop-at : goal.decreases-loop-at
-decreases-loop-at g l = length l.text - l.at
+abbrev pub decreases-loop-sink : goal.decreases-loop-sink
+decreases-loop-sink g l = length l.rest
