@@ -1,3 +1,4 @@
+pub mod Builders
 pub mod Demands
 pub mod Flat
 pub mod FlatLists

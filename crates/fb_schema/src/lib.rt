@@ -1,8 +1,11 @@
 // Schema rows, checked once, and look-ups in them.
 #![tactic(auto)]
 
+pub mod base_type;
+pub mod builders;
 mod demands;
 mod fault;
+mod few;
 mod index;
 mod indexing;
 mod keys;
@@ -20,11 +23,14 @@ mod views;
 mod walk;
 
 pub use fault::{Code, SchemaFault};
+pub use few::are_few;
 pub use kinds::{Kind, Scalar};
 pub use rows::{EnumRow, FieldRow, MemberRow, ObjectRow, TypeRow};
 pub use schema::Schema;
 pub use views::{FieldView, ObjectView};
 
+#[cfg(test)]
+mod builders_tests;
 #[cfg(test)]
 mod demands_tests;
 #[cfg(test)]

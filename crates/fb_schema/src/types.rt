@@ -6,6 +6,7 @@ ghost use Rattle.fb_schema.specs.Kinds.{element_of, shape_of, scalar_size, kind_
 ghost use Rattle.fb_schema.specs.Demands.{is_inline, is_supported, is_for_member, is_object, is_union_shape, is_type_field, names_no_object, names_table, names_no_union, inline_bytes, bytes_in, element_bytes};
 ghost use Rattle.fb_schema.specs.declared.kinds.Kind.{Kind};
 
+use crate::base_type;
 use crate::kinds::{Element, Kind, Scalar, Shape, TypeField};
 use crate::rows::{EnumRow, ObjectRow, TypeRow};
 
@@ -34,21 +35,21 @@ fn element_of(base: i8) -> Option<Element>
     ensures { result ≡ element_of base }
 {
     match base {
-        1 => Some(Element::Scalar(Scalar::UType)),
-        2 => Some(Element::Scalar(Scalar::Bool)),
-        3 => Some(Element::Scalar(Scalar::Byte)),
-        4 => Some(Element::Scalar(Scalar::UByte)),
-        5 => Some(Element::Scalar(Scalar::Short)),
-        6 => Some(Element::Scalar(Scalar::UShort)),
-        7 => Some(Element::Scalar(Scalar::Int)),
-        8 => Some(Element::Scalar(Scalar::UInt)),
-        9 => Some(Element::Scalar(Scalar::Long)),
-        10 => Some(Element::Scalar(Scalar::ULong)),
-        11 => Some(Element::Scalar(Scalar::Float)),
-        12 => Some(Element::Scalar(Scalar::Double)),
-        13 => Some(Element::Text),
-        15 => Some(Element::Object),
-        16 => Some(Element::Union),
+        base_type::UTYPE => Some(Element::Scalar(Scalar::UType)),
+        base_type::BOOL => Some(Element::Scalar(Scalar::Bool)),
+        base_type::BYTE => Some(Element::Scalar(Scalar::Byte)),
+        base_type::UBYTE => Some(Element::Scalar(Scalar::UByte)),
+        base_type::SHORT => Some(Element::Scalar(Scalar::Short)),
+        base_type::USHORT => Some(Element::Scalar(Scalar::UShort)),
+        base_type::INT => Some(Element::Scalar(Scalar::Int)),
+        base_type::UINT => Some(Element::Scalar(Scalar::UInt)),
+        base_type::LONG => Some(Element::Scalar(Scalar::Long)),
+        base_type::ULONG => Some(Element::Scalar(Scalar::ULong)),
+        base_type::FLOAT => Some(Element::Scalar(Scalar::Float)),
+        base_type::DOUBLE => Some(Element::Scalar(Scalar::Double)),
+        base_type::STRING => Some(Element::Text),
+        base_type::OBJ => Some(Element::Object),
+        base_type::UNION => Some(Element::Union),
         _ => None,
     }
 }
@@ -59,8 +60,8 @@ pub fn shape_of(ty: TypeRow) -> Option<Shape>
     ensures { result ≡ shape_of ty }
 {
     match ty.base {
-        14 => Some(Shape::Vector(element_of(ty.element)?)),
-        17 => Some(Shape::Array(element_of(ty.element)?)),
+        base_type::VECTOR => Some(Shape::Vector(element_of(ty.element)?)),
+        base_type::ARRAY => Some(Shape::Array(element_of(ty.element)?)),
         _ => Some(Shape::One(element_of(ty.base)?)),
     }
 }
