@@ -3,7 +3,6 @@ mod AskedLemmas
 mod BareLemmas
 mod CheckLemmas
 mod DefaultLemmas
-mod FitLemmas
 mod FrontLemmas
 mod LineLemmas
 mod LinesLemmas

@@ -1,6 +1,5 @@
 -- A text or an input that is passed on in pieces.
-use Rattle.std.proofs.Common.{◌≡◌, ℕ, ◌+◌, ◌-◌, ◌≤◌, List, ◌++◌, length, take, drop, sym, ap, ◌∙◌, arith, append_assoc, length-append, length-take-le, take-append-drop}
-use Rattle.std.proofs.Math.Seq.{take-append_seam}
+use Rattle.std.proofs.Common.{◌≡◌, ℕ, ◌+◌, ◌≤◌, List, ◌++◌, length, take, drop, sym, ap, ◌∙◌, arith, append_assoc, length-append, length-take-le, take-append-drop}
 
 -- the length with the front of a piece behind
 pub length-with : (whole piece : List ℕ) (n : ℕ) → n ≤ length piece → length (whole ++ take n piece) ≡ length whole + n
@@ -10,9 +9,3 @@ length-with whole piece n fits = omega (arith, length-append whole (take n piece
 pub front-more : (whole front rest rest' : List ℕ) (n : ℕ) → whole ≡ front ++ rest → rest' ≡ drop n rest → whole ≡ (front ++ take n rest) ++ rest'
 front-more whole front rest rest' n is after =
     is ∙ ap (λ l. front ++ l) (sym (take-append-drop n rest)) ∙ sym (append_assoc front (take n rest) (drop n rest)) ∙ ap (λ l. (front ++ take n rest) ++ l) (sym after)
-
--- what was passed, by how long the rest is
-pub front-is : (whole front rest : List ℕ) → whole ≡ front ++ rest → front ≡ take (length whole - length rest) whole
-front-is whole front rest is =
-    let long : length whole - length rest ≡ length front = omega (arith, ap length is, length-append front rest) in
-    sym (ap (λ n. take n whole) long ∙ ap (take (length front)) is ∙ take-append_seam front rest)

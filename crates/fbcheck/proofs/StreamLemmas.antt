@@ -1,17 +1,17 @@
 -- What was read and told, and then more of the stream.
-use Rattle.std.proofs.Common.{◌≡◌, ℕ, ◌+◌, ◌≤◌, ◌⊎◌, Bool, List, [], ◌∷◌, ◌++◌, length, take, drop, refl, sym, ap, subst, ◌∙◌, arith, append-nil, append_assoc, take-append-drop}
+use Rattle.std.proofs.Common.{◌≡◌, ℕ, ◌+◌, ◌⊎◌, Bool, List, [], ◌∷◌, ◌++◌, length, take, drop, refl, sym, ap, subst, ◌∙◌, arith, append-nil, append_assoc}
 use mathlib.Core.Logic.{inl, inr}
 use Rattle.std.specs.List.{concat}
 use Rattle.std.proofs.lemmas.List.Elements.{All-nil, All-cons, All-append}
 use Rattle.std.proofs.lemmas.List.Folds.{concat-append}
-use Rattle.fb_bytes.specs.Messages.{IsMessage, IsPartial, IsOversize, Splits}
+use Rattle.fb_bytes.specs.Messages.{declared, IsMessage, IsPartial, IsOversize, Splits}
 use Rattle.fb_bytes.specs.Framing.{Framing, Feeds, FeedFails}
 use Rattle.fb_bytes.specs.declared.stream_fault.StreamFault.{StreamFault}
 use Rattle.fb_bytes.specs.declared.stream_fault.StreamFault.TheVariants as stream
 use Rattle.fb_bytes.proofs.MessageLemmas.{readings_some}
 use Rattle.fbcheck.specs.Job.{Job}
 use Rattle.fbcheck.specs.Lines.{IsLines, AddsLine}
-use Rattle.fbcheck.specs.Stream.{Gathers, Halts, IsFeedFault, Onward, Rests, Tells, TellsSome, feed_fault}
+use Rattle.fbcheck.specs.Stream.{Gathers, Halts, IsFeedFault, Onward, Rests, Standing, Tells, TellsSome, feed_fault}
 use Rattle.fbcheck.specs.declared.fault.RunFault.{RunFault}
 use Rattle.fbcheck.specs.declared.fault.RunFault.TheVariants as run
 use Rattle.fbcheck.proofs.LinesLemmas.{lines_more}
@@ -79,20 +79,21 @@ rests_memory job limit good bad bytes more held text tells =
     (some.0, some.1, some.4, some)
 
 -- the framer failed at a piece
-pub halts_feed : (job : Job) (old new : Framing) (piece text : List ℕ) (good bad : ℕ) (fault : StreamFault) (told : RunFault) → told ≡ feed_fault fault
-    → FeedFails old new piece fault → Halts job old.limit text good bad old.held piece text told
-halts_feed job old new piece text good bad (stream.Oversize number) told is refused bytes written (xs, splits, lines) =
-    let over : Splits old.limit (old.held ++ piece) [] (old.held ++ piece) = splits_rest old.limit (old.held ++ piece) (inr refused.oversize) in
-    let whole : Splits old.limit (bytes ++ piece) xs (old.held ++ piece) =
-    subst (λ (l : List (List ℕ)). Splits old.limit (bytes ++ piece) l (old.held ++ piece)) (append-nil xs)
-    (splits_then old.limit bytes piece old.held (old.held ++ piece) xs [] splits over) in
-    subst (Rests job old.limit (bytes ++ piece) (written ++ text)) (sym is)
-    (xs, old.held ++ piece, whole, (refused.oversize, refused.number, (good, bad, lines)))
-halts_feed job old new piece text good bad stream.OutOfMemory told is starved bytes written tells =
-    subst (Rests job old.limit (bytes ++ piece) (written ++ text)) (sym is)
-    (rests_memory job old.limit good bad bytes piece old.held (written ++ text) tells)
-halts_feed job old new piece text good bad (stream.Truncated held) told is never bytes written tells = absurd never
-halts_feed job old new piece text good bad stream.Failed told is never bytes written tells = absurd never
+pub halts_feed : (job : Job) (before : Standing) (old new : Framing) (piece : List ℕ) (fault : StreamFault) (told : RunFault) → old.limit ≡ job.limit → old.held ≡ before.held
+    → told ≡ feed_fault fault → FeedFails old new piece fault → Halts job before piece before.text told
+halts_feed job before old new piece (stream.Oversize number) told limit held is refused bytes written (xs, splits, lines) =
+    let over : IsOversize job.limit (before.held ++ piece) =
+    subst (λ (n : ℕ). IsOversize n (before.held ++ piece)) limit (subst (λ (l : List ℕ). IsOversize old.limit (l ++ piece)) held refused.oversize) in
+    let whole : Splits job.limit (bytes ++ piece) xs (before.held ++ piece) =
+    subst (λ (l : List (List ℕ)). Splits job.limit (bytes ++ piece) l (before.held ++ piece)) (append-nil xs)
+    (splits_then job.limit bytes piece before.held (before.held ++ piece) xs [] splits (splits_rest job.limit (before.held ++ piece) (inr over))) in
+    subst (Rests job job.limit (bytes ++ piece) (written ++ before.text)) (sym is)
+    (xs, before.held ++ piece, whole, (over, refused.number ∙ ap (λ l. declared (l ++ piece)) held, (before.good, before.bad, lines)))
+halts_feed job before old new piece stream.OutOfMemory told limit held is starved bytes written tells =
+    subst (Rests job job.limit (bytes ++ piece) (written ++ before.text)) (sym is)
+    (rests_memory job job.limit before.good before.bad bytes piece before.held (written ++ before.text) tells)
+halts_feed job before old new piece (stream.Truncated held) told limit same is never bytes written tells = absurd never
+halts_feed job before old new piece stream.Failed told limit held is never bytes written tells = absurd never
 
 pub feed_kind : (old new : Framing) (piece : List ℕ) (fault : StreamFault) (told : RunFault) → told ≡ feed_fault fault → FeedFails old new piece fault → IsFeedFault told
 feed_kind old new piece (stream.Oversize number) told is refused = subst IsFeedFault (sym is) tt
@@ -101,76 +102,74 @@ feed_kind old new piece (stream.Truncated held) told is never = absurd never
 feed_kind old new piece stream.Failed told is never = absurd never
 
 -- there was no memory for a line
-pub halts_memory : (job : Job) (limit good bad : ℕ) (held piece text text' : List ℕ) → text' ≡ text → Halts job limit text good bad held piece text' run.OutOfMemory
-halts_memory job limit good bad held piece text text' same bytes written tells =
-    rests_memory job limit good bad bytes piece held (written ++ text')
-    (subst (λ (l : List ℕ). Tells job limit bytes (written ++ l) good bad held) (sym same) tells)
+pub halts_memory : (job : Job) (before : Standing) (piece text : List ℕ) → text ≡ before.text → Halts job before piece text run.OutOfMemory
+halts_memory job before piece text same bytes written tells =
+    rests_memory job job.limit before.good before.bad bytes piece before.held (written ++ text)
+    (subst (λ (l : List ℕ). Tells job job.limit bytes (written ++ l) before.good before.bad before.held) (sym same) tells)
 
 -- the front of a piece was fed, and no message was whole
-pub onward_partial : (job : Job) (old new : Framing) (piece text text' : List ℕ) (used : ℕ) (whole : Bool) (good bad good' bad' : ℕ) → Feeds old new piece used whole
-    → IsPartial new.limit new.held → text' ≡ text → good' ≡ good → bad' ≡ bad
-    → Onward job old.limit text good bad old.held (take used piece) text' good' bad' new.held
-onward_partial job old new piece text text' used whole good bad good' bad' feeds part same gs bs bytes written tells =
-    let part' : IsPartial old.limit new.held = subst (λ (n : ℕ). IsPartial n new.held) feeds.limit part in
-    let after = tells_held job old.limit good bad bytes (take used piece) old.held new.held (written ++ text) feeds.held part' tells in
-    subst (λ (l : List ℕ). Tells job old.limit (bytes ++ take used piece) (written ++ l) good' bad' new.held) (sym same)
-    (subst (λ (n : ℕ). Tells job old.limit (bytes ++ take used piece) (written ++ text) n bad' new.held) (sym gs)
-    (subst (λ (n : ℕ). Tells job old.limit (bytes ++ take used piece) (written ++ text) good n new.held) (sym bs) after))
+pub onward_partial : (job : Job) (before after : Standing) (old new : Framing) (piece : List ℕ) (used : ℕ) (whole : Bool) → old.limit ≡ job.limit → old.held ≡ before.held
+    → Feeds old new piece used whole → IsPartial new.limit new.held → new.held ≡ after.held → after.text ≡ before.text → after.good ≡ before.good → after.bad ≡ before.bad
+    → Onward job before (take used piece) after
+onward_partial job before after old new piece used whole limit held feeds part is same gs bs bytes written tells =
+    let grown : after.held ≡ before.held ++ take used piece = sym is ∙ feeds.held ∙ ap (λ l. l ++ take used piece) held in
+    let part' : IsPartial job.limit after.held = subst (IsPartial job.limit) is (subst (λ (n : ℕ). IsPartial n new.held) (feeds.limit ∙ limit) part) in
+    let more = tells_held job job.limit before.good before.bad bytes (take used piece) before.held after.held (written ++ before.text) grown part' tells in
+    subst (λ (l : List ℕ). Tells job job.limit (bytes ++ take used piece) (written ++ l) after.good after.bad after.held) (sym same)
+    (subst (λ (n : ℕ). Tells job job.limit (bytes ++ take used piece) (written ++ before.text) n after.bad after.held) (sym gs)
+    (subst (λ (n : ℕ). Tells job job.limit (bytes ++ take used piece) (written ++ before.text) before.good n after.held) (sym bs) more))
 
--- the front of a piece was fed, and the message that it ends got its line
-pub onward_line : (job : Job) (old new after : Framing) (piece message text text' : List ℕ) (used : ℕ) (whole : Bool) (good bad good' bad' : ℕ) → Feeds old new piece used whole
-    → message ≡ new.held → IsMessage new.limit new.held → after ≡ record new { held = [] }
-    → AddsLine job (1 + (good + bad)) message text good bad text' good' bad'
-    → Onward job old.limit text good bad old.held (take used piece) text' good' bad' after.held
-onward_line job old new after piece message text text' used whole good bad good' bad' feeds at is gone adds bytes written tells =
-    let is' : IsMessage old.limit message = subst (λ (n : ℕ). IsMessage n message) feeds.limit (subst (IsMessage new.limit) (sym at) is) in
-    subst (λ (l : List ℕ). Tells job old.limit (bytes ++ take used piece) (written ++ text') good' bad' l) (sym (ap (λ (f : Framing). f.held) gone))
-    (tells_line job old.limit good bad good' bad' bytes (take used piece) old.held message text text' (at ∙ feeds.held) is' adds written tells)
+-- bytes came by which a message was whole, and it got its line
+pub onward_message : (job : Job) (before after : Standing) (piece message : List ℕ) → message ≡ before.held ++ piece → IsMessage job.limit message → after.held ≡ []
+    → AddsLine job (1 + (before.good + before.bad)) message before.text before.good before.bad after.text after.good after.bad → Onward job before piece after
+onward_message job before after piece message at is gone adds bytes written tells =
+    subst (λ (l : List ℕ). Tells job job.limit (bytes ++ piece) (written ++ after.text) after.good after.bad l) (sym gone)
+    (tells_line job job.limit before.good before.bad after.good after.bad bytes piece before.held message before.text after.text at is adds written tells)
+
+-- the framer came to hold it
+pub onward_line : (job : Job) (before after : Standing) (old new : Framing) (piece message : List ℕ) (used : ℕ) (whole : Bool) → old.limit ≡ job.limit → old.held ≡ before.held
+    → Feeds old new piece used whole → message ≡ new.held → IsMessage new.limit new.held → after.held ≡ []
+    → AddsLine job (1 + (before.good + before.bad)) message before.text before.good before.bad after.text after.good after.bad → Onward job before (take used piece) after
+onward_line job before after old new piece message used whole limit held feeds at is gone adds =
+    let is' : IsMessage job.limit message = subst (λ (n : ℕ). IsMessage n message) (feeds.limit ∙ limit) (subst (IsMessage new.limit) (sym at) is) in
+    onward_message job before after (take used piece) message (at ∙ feeds.held ∙ ap (λ l. l ++ take used piece) held) is' gone adds
 
 -- a piece of which the front was passed, and the rest is still to come
-abbrev pub HasPassed : Job → ℕ → List ℕ → ℕ → ℕ → List ℕ → List ℕ → List ℕ → List ℕ → ℕ → ℕ → List ℕ → Type 0
-HasPassed job limit text good bad held piece rest text' good' bad' held' =
-    (front : List ℕ) × (piece ≡ front ++ rest) × Onward job limit text good bad held front text' good' bad' held'
+abbrev pub HasPassed : Job → Standing → List ℕ → List ℕ → Standing → Type 0
+HasPassed job before piece rest after = (front : List ℕ) × (piece ≡ front ++ rest) × Onward job before front after
 
 -- at first nothing was
-pub passed_none : (job : Job) (limit good bad : ℕ) (held piece text : List ℕ) → HasPassed job limit text good bad held piece piece text good bad held
-passed_none job limit good bad held piece text = ([], refl, λ bytes written tells. subst (λ (l : List ℕ). Tells job limit l (written ++ text) good bad held) (sym (append-nil bytes)) tells)
+pub passed_none : (job : Job) (before : Standing) (piece : List ℕ) → HasPassed job before piece piece before
+passed_none job before piece =
+    ([], refl, λ bytes written tells. subst (λ (l : List ℕ). Tells job job.limit l (written ++ before.text) before.good before.bad before.held) (sym (append-nil bytes)) tells)
 
 -- n bytes more
-pub passed_more : (job : Job) (limit limit' n good bad good' bad' good'' bad'' : ℕ) (held held' held'' piece rest rest' text text' text'' : List ℕ) → limit' ≡ limit → rest' ≡ drop n rest
-    → HasPassed job limit text good bad held piece rest text' good' bad' held' → Onward job limit' text' good' bad' held' (take n rest) text'' good'' bad'' held''
-    → HasPassed job limit text good bad held piece rest' text'' good'' bad'' held''
-passed_more job limit limit' n good bad good' bad' good'' bad'' held held' held'' piece rest rest' text text' text'' same after (front, whole, first) second = (
+pub passed_more : (job : Job) (before between after : Standing) (n : ℕ) (piece rest rest' : List ℕ) → rest' ≡ drop n rest
+    → HasPassed job before piece rest between → Onward job between (take n rest) after → HasPassed job before piece rest' after
+passed_more job before between after n piece rest rest' is (front, whole, first) second = (
   front ++ take n rest,
-  front-more piece front rest rest' n whole after,
-  λ bytes written tells.
-      let second' = subst (λ (m : ℕ). Onward job m text' good' bad' held' (take n rest) text'' good'' bad'' held'') same second in
-      subst (λ (l : List ℕ). Tells job limit l (written ++ text'') good'' bad'' held'') (append_assoc bytes front (take n rest))
-      (second' (bytes ++ front) written (first bytes written tells)),
+  front-more piece front rest rest' n whole is,
+  λ bytes written tells. subst (λ (l : List ℕ). Tells job job.limit l (written ++ after.text) after.good after.bad after.held) (append_assoc bytes front (take n rest))
+      (second (bytes ++ front) written (first bytes written tells)),
 )
 
 -- all of the piece
-pub onward_all : (job : Job) (limit good bad good' bad' : ℕ) (held held' piece rest text text' : List ℕ) → length rest ≡ 0
-    → HasPassed job limit text good bad held piece rest text' good' bad' held' → Onward job limit text good bad held piece text' good' bad' held'
-onward_all job limit good bad good' bad' held held' piece [] text text' none (front, whole, onward) =
-    subst (λ (l : List ℕ). Onward job limit text good bad held l text' good' bad' held') (sym (whole ∙ append-nil front)) onward
-onward_all job limit good bad good' bad' held held' piece (x ∷ xs) text text' none passed = absurd (omega arith)
+pub onward_all : (job : Job) (before after : Standing) (piece rest : List ℕ) → length rest ≡ 0 → HasPassed job before piece rest after → Onward job before piece after
+onward_all job before after piece [] none (front, whole, onward) = subst (λ (l : List ℕ). Onward job before l after) (sym (whole ∙ append-nil front)) onward
+onward_all job before after piece (x ∷ xs) none passed = absurd (omega arith)
 
 -- and then the run came to rest
-pub halts_after : (job : Job) (limit limit' good bad good' bad' : ℕ) (held held' piece rest text text' text'' : List ℕ) (fault : RunFault) → limit' ≡ limit
-    → HasPassed job limit text good bad held piece rest text' good' bad' held' → Halts job limit' text' good' bad' held' rest text'' fault
-    → Halts job limit text good bad held piece text'' fault
-halts_after job limit limit' good bad good' bad' held held' piece rest text text' text'' fault same (front, whole, first) second = λ bytes written tells.
-    let second' = subst (λ (m : ℕ). Halts job m text' good' bad' held' rest text'' fault) same second in
-    subst (λ (l : List ℕ). Rests job limit l (written ++ text'') fault) (append_assoc bytes front rest ∙ ap (λ l. bytes ++ l) (sym whole))
-    (second' (bytes ++ front) written (first bytes written tells))
+pub halts_after : (job : Job) (before after : Standing) (piece rest text : List ℕ) (fault : RunFault) → HasPassed job before piece rest after → Halts job after rest text fault
+    → Halts job before piece text fault
+halts_after job before after piece rest text fault (front, whole, first) second bytes written tells =
+    subst (λ (l : List ℕ). Rests job job.limit l (written ++ text) fault) (append_assoc bytes front rest ∙ ap (λ l. bytes ++ l) (sym whole))
+    (second (bytes ++ front) written (first bytes written tells))
 
 -- a piece that was fed whole gathers lines
-pub gathers_onward : (job : Job) (limit good bad good' bad' : ℕ) (held held' piece text text' : List ℕ) → Onward job limit text good bad held piece text' good' bad' held' → Gathers job limit text good bad held piece text'
-gathers_onward job limit good bad good' bad' held held' piece text text' onward bytes written tells =
-    let after = onward bytes written tells in
-    subst (λ (l : List ℕ). TellsSome job limit l (written ++ text')) (append-nil (bytes ++ piece))
-    (tells_some job limit good' bad' (bytes ++ piece) [] held' (written ++ text') after)
+pub gathers_onward : (job : Job) (before after : Standing) (piece : List ℕ) → Onward job before piece after → Gathers job before piece after.text
+gathers_onward job before after piece onward bytes written tells =
+    subst (λ (l : List ℕ). TellsSome job job.limit l (written ++ after.text)) (append-nil (bytes ++ piece))
+    (tells_some job job.limit after.good after.bad (bytes ++ piece) [] after.held (written ++ after.text) (onward bytes written tells))
 
 some_of : (job : Job) (limit : ℕ) (bytes text : List ℕ) (fault : RunFault) → IsFeedFault fault → Rests job limit bytes text fault → TellsSome job limit bytes text
 some_of job limit bytes text (run.Stream (stream.Oversize number)) kind (xs, rest, splits, (over, is, lines)) = (xs, rest, xs, [], splits, sym (append-nil xs), lines)
@@ -187,6 +186,5 @@ some_of job limit bytes text (run.Path fault) kind rests = absurd kind
 some_of job limit bytes text run.NoRoot kind rests = absurd kind
 
 -- so does one in which the run came to rest
-pub gathers_halts : (job : Job) (limit good bad : ℕ) (held piece text text' : List ℕ) (fault : RunFault) → IsFeedFault fault → Halts job limit text good bad held piece text' fault
-    → Gathers job limit text good bad held piece text'
-gathers_halts job limit good bad held piece text text' fault kind halts bytes written tells = some_of job limit (bytes ++ piece) (written ++ text') fault kind (halts bytes written tells)
+pub gathers_halts : (job : Job) (before : Standing) (piece text : List ℕ) (fault : RunFault) → IsFeedFault fault → Halts job before piece text fault → Gathers job before piece text
+gathers_halts job before piece text fault kind halts bytes written tells = some_of job job.limit (bytes ++ piece) (written ++ text) fault kind (halts bytes written tells)

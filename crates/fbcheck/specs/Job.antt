@@ -1,6 +1,6 @@
 -- What the buffers of a run are checked by, and what a verdict on one of them says.
-use Rattle.std.specs.Prelude.{ℕ, Bool, true, false, List, [], ◌∷◌, Option, Some, None, is_some, Result, Ok, Err, option_map, option_and_then}
-use Rattle.fb_schema.specs.Rows.{Rows}
+use Rattle.std.specs.Prelude.{ℕ, ◌<◌, ◌≤◌, ◌^◌, IsTrue, Bool, true, false, List, Option, Some, None, Result, Ok, Err, option_map}
+use Rattle.fb_schema.specs.Rows.{Rows, is_table}
 use Rattle.fb_verify.specs.Bounds.{Bounds}
 use Rattle.fb_verify.specs.Stops.{Stops}
 use Rattle.fb_verify.specs.Verdict.{Reports}
@@ -10,15 +10,15 @@ use Rattle.fb_verify.specs.declared.fault.Report.{Report}
 use Rattle.fb_verify.specs.declared.start.Ident.{Ident}
 use Rattle.fb_verify.specs.declared.start.Start.{Start}
 use Rattle.fb_verify.specs.declared.start.Start.TheVariants.{Bare, Prefixed}
-use Rattle.fb_schema.specs.declared.kinds.Kind.{Kind}
 use Rattle.fb_schema.specs.declared.kinds.Kind.TheVariants.{Table}
 use Rattle.fb_access.specs.declared.step.Step.{Step}
 use Rattle.fb_access.specs.Denotes.{Denotes, Shown, shown}
-use Rattle.fb_access.specs.Fitting.{StepsFit, next_kind}
+use Rattle.fb_access.specs.Fitting.{StepsFit}
 use Rattle.fbcheck.specs.declared.checker.Found.{Found}
 use Rattle.fbcheck.specs.declared.options.Options.{Options}
 
--- a schema with its root, how a buffer starts, the identifier, the limits and the checks, and the steps to the value that is asked for
+-- a schema with its root, how a buffer starts, the identifier, the limits and the checks, the steps to the value that is
+-- asked for, and the most bytes that a message may have
 pub record Job : Type 0 where
   pub rows : Rows
   pub root : ℕ
@@ -27,6 +27,7 @@ pub record Job : Type 0 where
   pub limits : Bounds
   pub checks : Checks
   pub steps : Option (List Step)
+  pub limit : ℕ
 
 -- a yes: what was counted, and the value that was asked for
 pub record Yes : Type 0 where
@@ -69,6 +70,7 @@ job_of rows options = record {
   limits = options.limits;
   checks = record { alignment = options.alignment; inline_size = options.inline_size };
   steps = options.path;
+  limit = options.max_bytes;
 }
 
 -- the steps, where there are any, fit from this table on
@@ -76,12 +78,9 @@ abbrev pub PathFits : Rows → ℕ → Option (List Step) → Type 0
 PathFits rows root None = Unit {0}
 PathFits rows root (Some steps) = StepsFit rows (Table root) steps
 
--- the kind at the end of some steps, if they fit
-unfoldable pub end_kind : Rows → Kind → List Step → Option Kind
-end_kind rows kind [] = Some kind
-end_kind rows kind (step ∷ steps) = option_and_then (λ next. end_kind rows next steps) (next_kind rows kind step)
-
--- whether the steps, where there are any, fit from this table on
-unfoldable pub path_fits : Rows → ℕ → Option (List Step) → Bool
-path_fits rows root None = true
-path_fits rows root (Some steps) = is_some (end_kind rows (Table root) steps)
+-- the options serve the schema: the root is a table of it, the path fits from there, and a framer may have the limit
+pub record Serves (rows : Rows) (options : Options) : Type 0 where
+  pub table : IsTrue (is_table rows options.root)
+  pub fits : PathFits rows options.root options.path
+  pub least : 8 ≤ options.max_bytes
+  pub most : options.max_bytes < 2 ^ 31

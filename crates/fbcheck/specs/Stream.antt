@@ -1,11 +1,13 @@
 -- What a run over a stream has read and written, and how it ends.
-use Rattle.std.specs.Prelude.{◌≡◌, ℕ, ◌<◌, List, [], ◌++◌, Option, length}
+use Rattle.std.specs.Prelude.{◌≡◌, ℕ, ◌<◌, ◌≤◌, ◌^◌, false, List, [], ◌++◌, Option, length}
 use Rattle.std.specs.Io.KnownBytes.{Consumes, Appends}
+use Rattle.fb_bytes.specs.Framing.{Framing}
 use Rattle.fb_bytes.specs.Messages.{declared, IsPartial, IsOversize, Splits}
 use Rattle.fb_bytes.specs.declared.stream_fault.StreamFault.{StreamFault}
 use Rattle.fb_bytes.specs.declared.stream_fault.StreamFault.TheVariants as stream
 use Rattle.fbcheck.specs.Job.{Job}
 use Rattle.fbcheck.specs.Lines.{IsLines, AreLines}
+use Rattle.fbcheck.specs.declared.stream.Carried.{Carried}
 use Rattle.fbcheck.specs.declared.fault.RunFault.{RunFault}
 use Rattle.fbcheck.specs.declared.fault.RunFault.TheVariants.{ReadFault, WriteFault, Stream, TooManyTurns, OutOfMemory, BareTooLong, Load, Path, NoRoot}
 
@@ -55,21 +57,45 @@ pub record FailsStream (job : Job) (limit : ℕ) (source source' sink sink' : Op
   pub wrote : Appends sink sink' text
   pub rests : Rests job limit bytes text fault
 
--- A part of a run, told without what was before it: `text` waits to be written, and whatever was written and read before,
--- it goes on with the piece.
-abbrev pub Onward : Job → ℕ → List ℕ → ℕ → ℕ → List ℕ → List ℕ → List ℕ → ℕ → ℕ → List ℕ → Type 0
-Onward job limit text good bad held piece text' good' bad' held' =
-    (bytes written : List ℕ) → Tells job limit bytes (written ++ text) good bad held → Tells job limit (bytes ++ piece) (written ++ text') good' bad' held'
+-- where a run over a stream stands: the lines that wait, how many verdicts were yes and no, and what is held of a message
+pub record Standing : Type 0 where
+  pub text : List ℕ
+  pub good : ℕ
+  pub bad : ℕ
+  pub held : List ℕ
 
--- it comes to rest in the piece
-abbrev pub Halts : Job → ℕ → List ℕ → ℕ → ℕ → List ℕ → List ℕ → List ℕ → RunFault → Type 0
-Halts job limit text good bad held piece text' fault =
-    (bytes written : List ℕ) → Tells job limit bytes (written ++ text) good bad held → Rests job limit (bytes ++ piece) (written ++ text') fault
+-- where one stands that carries this
+abbrev pub standing : {A : Type 0} → Carried A → Standing
+standing carried = record {
+  text = carried.output.text.items;
+  good = carried.output.yes;
+  bad = carried.output.no;
+  held = carried.framer.held;
+}
+
+-- the framer is fit to go on with a job, and the scratch is deep enough for it
+pub record IsReady (job : Job) (framer : Framing) (depth : ℕ) : Type 0 where
+  pub deep : job.limits.depth ≤ depth
+  pub fine : framer.failed ≡ false
+  pub limit : framer.limit ≡ job.limit
+  pub short : framer.limit < 2 ^ 31
+  pub part : IsPartial framer.limit framer.held
+
+-- A part of a run, told without what was before it: whatever was written and read before, it goes on with the piece.
+abbrev pub Onward : Job → Standing → List ℕ → Standing → Type 0
+Onward job before piece after =
+    (bytes written : List ℕ) → Tells job job.limit bytes (written ++ before.text) before.good before.bad before.held
+    → Tells job job.limit (bytes ++ piece) (written ++ after.text) after.good after.bad after.held
+
+-- it comes to rest in the piece, and this text waits
+abbrev pub Halts : Job → Standing → List ℕ → List ℕ → RunFault → Type 0
+Halts job before piece text fault =
+    (bytes written : List ℕ) → Tells job job.limit bytes (written ++ before.text) before.good before.bad before.held → Rests job job.limit (bytes ++ piece) (written ++ text) fault
 
 -- however it ends, the text that waits is the lines of the first messages
-abbrev pub Gathers : Job → ℕ → List ℕ → ℕ → ℕ → List ℕ → List ℕ → List ℕ → Type 0
-Gathers job limit text good bad held piece text' =
-    (bytes written : List ℕ) → Tells job limit bytes (written ++ text) good bad held → TellsSome job limit (bytes ++ piece) (written ++ text')
+abbrev pub Gathers : Job → Standing → List ℕ → List ℕ → Type 0
+Gathers job before piece text =
+    (bytes written : List ℕ) → Tells job job.limit bytes (written ++ before.text) before.good before.bad before.held → TellsSome job job.limit (bytes ++ piece) (written ++ text)
 
 -- a fault of the framer, as the run tells it
 abbrev pub feed_fault : StreamFault → RunFault

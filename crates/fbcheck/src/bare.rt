@@ -3,7 +3,6 @@
 ghost use Rattle.std.specs.Prelude.{IfOk, IfErr, OnOk, ◌≡◌, ◌+◌, ◌-◌, ◌<◌, ◌≤◌, ◌^◌, true};
 ghost use Rattle.fbcheck.specs.Bare.{FailsBare, PassesBare};
 ghost use Rattle.fbcheck.specs.Faults.{IsCaused};
-ghost use Rattle.fbcheck.specs.Job.{job_of};
 
 use crate::checker::Checker;
 use crate::fault::RunFault;
@@ -15,8 +14,8 @@ use std::alloc::Allocator;
 
 /// Checks one bare buffer, and writes its line, with at most `turns` reads.
 ///
-/// The whole input is read, of at most `max_bytes` of the options; then one line is written. On `ReadFault`, `TooManyTurns`,
-/// `OutOfMemory` and `BareTooLong` nothing is written, and on `WriteFault` a front of the line.
+/// The whole input is read, of at most `max_bytes` of the options; then one line is written. On `ReadFault`,
+/// `TooManyTurns`, `OutOfMemory` and `BareTooLong` nothing is written, and on `WriteFault` a front of the line.
 pub fn run_bare<A: Allocator, S: Source, K: Sink>(
     alloc: A,
     reader: &mut S,
@@ -24,14 +23,13 @@ pub fn run_bare<A: Allocator, S: Source, K: Sink>(
     checker: &Checker<'_, '_>,
     turns: u64,
 ) -> Result<Tally, RunFault>
-    requires most { (checker.now.options.now).max_bytes < 2 ^ 31 }
     requires turns { turns ≤ MOST_TURNS }
     requires reads { S.calls reader.old < 2 ^ 64 }
     requires writes { K.calls writer.old < 2 ^ 64 }
-    ensures ok { IfOk result (λ tally. PassesBare (job_of checker.now.schema.now checker.now.options.now) (checker.now.options.now).max_bytes (S.remaining reader.old) (S.remaining reader.new)
+    ensures ok { IfOk result (λ tally. PassesBare checker.now checker.now.limit (S.remaining reader.old) (S.remaining reader.new)
         (K.contents writer.old) (K.contents writer.new) tally.yes tally.no) }
     ensures end { OnOk result (S.ended reader.new ≡ true) }
-    ensures fault { IfErr result (λ fault. FailsBare (job_of checker.now.schema.now checker.now.options.now) (checker.now.options.now).max_bytes (S.remaining reader.old) (S.remaining reader.new)
+    ensures fault { IfErr result (λ fault. FailsBare checker.now checker.now.limit (S.remaining reader.old) (S.remaining reader.new)
         (K.contents writer.old) (K.contents writer.new) fault) }
     ensures cause { IfErr result (λ fault. IsCaused (S.failures reader.old) (S.failures reader.new)
         (K.failures writer.old) (K.failures writer.new)
@@ -41,10 +39,10 @@ pub fn run_bare<A: Allocator, S: Source, K: Sink>(
     let Ok(mut piece) = read_buffer(&alloc) else {
         return Err(RunFault::OutOfMemory);
     };
-    let Ok(mut scratch) = Scratch::new(&alloc, checker.options.limits.depth()) else {
+    let Ok(mut scratch) = Scratch::new(&alloc, checker.depth()) else {
         return Err(RunFault::OutOfMemory);
     };
-    let bytes = match read_whole(&alloc, reader, &mut piece, checker.options.max_bytes, turns) {
+    let bytes = match read_whole(&alloc, reader, &mut piece, checker.limit(), turns) {
         Ok(bytes) => bytes,
         Err(fault) => return Err(fault),
     };

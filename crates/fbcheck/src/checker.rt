@@ -3,7 +3,7 @@
 ghost use Rattle.std.specs.Prelude.{◌≡◌, ◌<◌, ◌≤◌, ◌^◌, IsTrue, length, option_map};
 ghost use Rattle.fb_schema.specs.Rows.{is_table};
 ghost use Rattle.fb_access.specs.Denotes.{shown};
-ghost use Rattle.fbcheck.specs.Job.{IsAnswer, IsVerdict, job_of, path_fits, verdict_of};
+ghost use Rattle.fbcheck.specs.Job.{IsAnswer, IsVerdict, PathFits, job_of, verdict_of};
 
 use crate::options::Options;
 use fb_access::{Answer, Path, get};
@@ -11,6 +11,7 @@ use fb_bytes::Meter;
 use fb_schema::Schema;
 use fb_verify::{Checks, Fault, Report, Scratch, Start, Verified, verify};
 use std::alloc::Allocator;
+use std::marker::Model;
 
 /// What is found in a buffer that is well formed.
 #[derive(Clone, Copy)]
@@ -21,25 +22,61 @@ pub struct Found<'b> {
     pub answer: Option<Answer<'b>>,
 }
 
-/// A schema and the options by which a run checks its buffers; the root is a table, and the path fits from there.
-#[derive(Clone, Copy)]
+/// A schema and the options by which a run checks its buffers: the root is a table, and the path fits from there. A
+/// clause sees the job that they make.
+#[derive(Drop)]
 pub struct Checker<'s, 'n> {
-    pub schema: &'s Schema<'n>,
-    pub options: &'s Options,
-    ghost table: { IsTrue (is_table schema.now (options.now).root) },
-    ghost fits: { IsTrue (path_fits schema.now (options.now).root (options.now).path) },
+    schema: &'s Schema<'n>,
+    options: &'s Options,
+}
+
+impl<'s, 'n> Model for Checker<'s, 'n> {
+    ghost use Rattle.fbcheck.specs.Job.{Job, Serves, job_of};
+
+    ghost Value = { Job };
+
+    ghost view = { λ c. job_of c.schema.now c.options.now };
+
+    ghost invariant = { λ c. Serves c.schema.now c.options.now };
 }
 
 impl<'s, 'n> Checker<'s, 'n> {
+    /// The checker by this schema and these options.
+    pub fn new(schema: &'s Schema<'n>, options: &'s Options) -> Checker<'s, 'n>
+        requires table { IsTrue (is_table schema.now options.now.root) }
+        requires path { PathFits schema.now options.now.root options.now.path }
+        requires least { 8 ≤ options.now.max_bytes }
+        requires most { options.now.max_bytes < 2 ^ 31 }
+        ensures { result ≡ job_of schema.now options.now }
+    {
+        Checker { schema, options }
+    }
+
+    /// The most bytes of a message, prefix included, or of a bare input.
+    pub fn limit(&self) -> u32
+        ensures value { result ≡ self.now.limit }
+        ensures least { 8 ≤ self.now.limit }
+        ensures most { self.now.limit < 2 ^ 31 }
+    {
+        self.options.max_bytes
+    }
+
+    /// How many tables may be open at once.
+    pub fn depth(&self) -> u32
+        ensures { result ≡ self.now.limits.depth }
+    {
+        self.options.limits.depth()
+    }
+
     /// The verdict on one buffer, with the value at the end of the path.
     pub fn verdict<'b, A: Allocator>(
         &self,
         scratch: &mut Scratch<A>,
         bytes: &'b [u8],
     ) -> Result<Found<'b>, Fault>
-        requires room { ((self.now.options.now).limits).depth ≤ scratch.old }
+        requires room { self.now.limits.depth ≤ scratch.old }
         requires short { length bytes.now < 2 ^ 31 }
-        ensures verdict { IsVerdict (job_of self.now.schema.now self.now.options.now) bytes.now (verdict_of result) }
+        ensures verdict { IsVerdict self.now bytes.now (verdict_of result) }
         ensures scratch { scratch.new ≡ scratch.old }
     {
         let Ok(meter) = Meter::new(bytes) else {
@@ -75,9 +112,8 @@ impl<'s, 'n> Checker<'s, 'n> {
 }
 
 /// The value at the end of the path, where there is one.
-#[tactic(auto, using(crate::proofs::FitLemmas::passing_fits))]
 fn answer_in<'b>(verified: &Verified<'b, '_, '_>, path: &Option<Path>) -> Option<Answer<'b>>
-    requires { IsTrue (path_fits (verified.now).schema (verified.now).root path.now) }
+    requires { PathFits (verified.now).schema (verified.now).root path.now }
     ensures { IsAnswer (verified.now).bytes (verified.now).schema (verified.now).start (verified.now).root path.now (option_map shown result) }
 {
     match path {

@@ -4,7 +4,7 @@ ghost use Rattle.std.specs.Prelude.{IfErr, OnOk, OnErr, ◌≡◌, ◌+◌, ◌<
 ghost use Rattle.std.specs.Io.KnownBytes.{Appends};
 ghost use Rattle.fb_access.specs.Denotes.{shown};
 ghost use Rattle.fbcheck.specs.AnswerText.{answer_text};
-ghost use Rattle.fbcheck.specs.Job.{job_of, verdict_of};
+ghost use Rattle.fbcheck.specs.Job.{verdict_of};
 ghost use Rattle.fbcheck.specs.Line.{verdict_line};
 ghost use Rattle.fbcheck.specs.Lines.{AddsLine, WritesFront};
 
@@ -65,10 +65,10 @@ impl<A: Allocator> Output<A> {
         scratch: &mut Scratch<B>,
         message: &[u8],
     ) -> Result<(), AllocError>
-        requires room { ((checker.now.options.now).limits).depth ≤ scratch.old }
+        requires room { checker.now.limits.depth ≤ scratch.old }
         requires few { self.old.yes + self.old.no < 2 ^ 63 }
         requires short { length message.now < 2 ^ 31 }
-        ensures ok { OnOk result (AddsLine (job_of checker.now.schema.now checker.now.options.now) (1 + (self.old.yes + self.old.no)) message.now
+        ensures ok { OnOk result (AddsLine checker.now (1 + (self.old.yes + self.old.no)) message.now
             self.old.text.items self.old.yes self.old.no self.new.text.items self.new.yes self.new.no) }
         ensures one { OnOk result (self.new.yes + self.new.no ≡ self.old.yes + self.old.no + 1) }
         ensures err_text { OnErr result (self.new.text.items ≡ self.old.text.items) }

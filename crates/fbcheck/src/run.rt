@@ -31,7 +31,6 @@ use std::alloc::Allocator;
 /// - `WriteFault` where the writer failed or took nothing: it took `written` bytes, a front of the lines.
 /// - `OutOfMemory` where memory was refused: the lines of the first messages are written, of a bare input nothing.
 /// - `BareTooLong` where more than `max_bytes` bytes of a bare input were read: nothing is written.
-#[tactic(auto, using(crate::proofs::FitLemmas::path_passes))]
 pub fn run_within<A: Allocator, S: Source, K: Sink>(
     alloc: A,
     reader: &mut S,
@@ -60,7 +59,7 @@ pub fn run_within<A: Allocator, S: Source, K: Sink>(
         (S.calls reader.old + turns - S.calls reader.new) (S.ended reader.new) fault) }
     ensures turns { S.calls reader.new ≤ S.calls reader.old + turns }
 {
-    let checker = Checker { schema, options };
+    let checker = Checker::new(schema, options);
     if options.bare {
         run_bare(alloc, reader, writer, &checker, turns)
     } else {

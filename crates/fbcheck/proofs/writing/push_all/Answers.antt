@@ -1,8 +1,7 @@
-use Rattle.std.proofs.Common.{rules, [], refl, take, ◌++◌, ◌-◌, length, sym, subst}
+use Rattle.std.proofs.Common.{rules, [], refl, take, ◌++◌}
 use Rattle.std.proofs.KnownBytes.{Appends-nil, Appends-trans}
 use Rattle.std.proofs.lemmas.List.{take_rest}
-use Rattle.std.specs.Io.KnownBytes.{Appends}
-use Rattle.fbcheck.proofs.Pieces.{front-is, front-more}
+use Rattle.fbcheck.proofs.Pieces.{front-more}
 use Rattle.fbcheck.proofs.writing.push_all.Goals as goal
 
 pub loop-sink-init : goal.loop-sink-init

@@ -1,0 +1,17 @@
+use Rattle.std.proofs.Common.{◌≡◌, ◌++◌, ◌∙◌, ℕ, List, [], arith, ap, length, subst, sym, take}
+use Rattle.std.proofs.lemmas.List.{nil_from_length}
+use Rattle.fb_bytes.specs.Messages.{IsMessage}
+use Rattle.fbcheck.specs.Stream.{standing}
+use Rattle.fbcheck.proofs.StreamLemmas.{halts_memory, onward_message}
+use Rattle.fbcheck.proofs.stream.Carried.pass_some.Goals as goal
+
+pub returns-in_default-add_line-clause-halts : goal.returns-in_default-add_line-clause-halts
+returns-in_default-add_line-clause-halts g c = halts_memory _ (standing c.args.self.now) _ _ c.in_default-add_line.ensures.err_text
+
+pub returns-in-Some-clause-onward : goal.returns-in-Some-clause-onward
+returns-in-Some-clause-onward g c =
+    let message = c.in-Some.message.now in
+    let none : c.args.self.now.framer.held ≡ [] = nil_from_length c.args.self.now.framer.held (omega (arith, c.held.ensures.value, c.if-held-eq0.true)) in
+    onward_message _ (standing c.args.self.now) _ _ message
+    (c.in-Some.ensures.front ∙ ap (λ (l : List ℕ). l ++ take (length message) c.args.rest.now) (sym none))
+    (subst (λ (n : ℕ). IsMessage n message) c.limit.ensures.value c.in-Some.ensures.whole) none c.in-Ok.ensures.ok

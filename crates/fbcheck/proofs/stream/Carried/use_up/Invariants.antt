@@ -1,0 +1,15 @@
+use Rattle.std.proofs.Common.{length, ◌≡◌, ◌+◌, ◌≤◌}
+use Rattle.fbcheck.specs.Stream.{IsReady, standing}
+use Rattle.fbcheck.proofs.StreamLemmas.{HasPassed}
+use Rattle.fbcheck.proofs.stream.Carried.use_up.Given as goal
+
+abbrev pub invariant-loop-rest : goal.invariant-loop-rest
+invariant-loop-rest g l = record {
+  ready : IsReady l.checker l.self.framer l.self.scratch;
+  passed : HasPassed l.checker (standing l.initial.self) l.piece l.rest (standing l.self);
+  few : l.self.output.yes + l.self.output.no + length l.rest ≤ l.initial.self.output.yes + l.initial.self.output.no + length l.piece;
+  written : l.self.output.written ≡ l.initial.self.output.written;
+}
+
+abbrev pub decreases-loop-rest : goal.decreases-loop-rest
+decreases-loop-rest g l = length l.rest
