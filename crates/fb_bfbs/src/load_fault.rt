@@ -6,7 +6,7 @@ ghost use Rattle.fb_bfbs.specs.Loads.{build_fault};
 
 use fb_bytes::TooLong;
 use fb_schema::{Code, SchemaFault};
-use fb_verify::{Fault, Reason};
+use fb_verify::Fault;
 use std::alloc::AllocError;
 use std::error::Error;
 use std::fmt;
@@ -62,24 +62,6 @@ impl From<SchemaFault> for LoadFault {
     }
 }
 
-/// A reason's code and name.
-fn reason_text(reason: Reason) -> &'static str {
-    match reason {
-        Reason::WrongPrefix => "V1 WrongPrefix",
-        Reason::OutOfBuffer => "V2 OutOfBuffer",
-        Reason::Misaligned => "V3 Misaligned",
-        Reason::ZeroOffset => "V4 ZeroOffset",
-        Reason::WrongIdentifier => "V5 WrongIdentifier",
-        Reason::TooDeep => "V6 TooDeep",
-        Reason::TooManyTables => "V7 TooManyTables",
-        Reason::BadVtable => "V8 BadVtable",
-        Reason::MissingRequired => "V9 MissingRequired",
-        Reason::NoTerminator => "V10 NoTerminator",
-        Reason::LengthsDiffer => "V11 LengthsDiffer",
-        Reason::PastTable => "V12 PastTable",
-    }
-}
-
 /// The code and name of what is wrong with rows.
 fn code_text(code: Code) -> &'static str {
     match code {
@@ -99,7 +81,7 @@ impl fmt::Display for LoadFault {
     fn fmt<W: fmt::Write>(&self, f: &mut fmt::Formatter<W>) -> fmt::Result {
         match self {
             LoadFault::NotWellFormed(fault) => {
-                let reason = reason_text(fault.reason);
+                let reason = fault.reason.text();
                 write!(
                     f,
                     "L1 {reason} at={} object={} field=",
