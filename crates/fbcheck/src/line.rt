@@ -3,11 +3,11 @@
 ghost use Rattle.std.specs.Prelude.{◌≡◌, ◌+◌, ◌≤◌, ◌++◌, [], length, decimal, option_map};
 ghost use Rattle.fb_access.specs.Denotes.{shown};
 ghost use Rattle.fbcheck.specs.Job.{verdict_of};
-ghost use Rattle.fbcheck.specs.Line.{field_text, no_end, place_end, reason_text, short_ending, short_line, yes_end};
+ghost use Rattle.fbcheck.specs.Line.{field_text, no_end, place_end, short_ending, short_line, yes_end};
 
 use crate::checker::Found;
 use fb_access::Answer;
-use fb_verify::{Fault, Reason, Report};
+use fb_verify::{Fault, Report};
 use itoa::{Buffer, write_digits};
 use std::marker::Model;
 
@@ -93,7 +93,7 @@ impl Line {
         self.put_place(fault);
         self.put_number(fault.at);
         self.put_text(" at=");
-        self.put_text(reason_name(fault.reason));
+        self.put_text(fault.reason.text());
         self.put_text(" bad ");
     }
 
@@ -167,26 +167,5 @@ fn short_end(answer: &Option<Answer<'_>>) -> &'static str
     match answer {
         Some(_) => " ",
         None => "\n",
-    }
-}
-
-/// A reason's code and name.
-fn reason_name(reason: Reason) -> &'static str
-    ensures name { result.now ≡ reason_text reason }
-    ensures short { length result.now ≤ 20 }
-{
-    match reason {
-        Reason::WrongPrefix => "V1 WrongPrefix",
-        Reason::OutOfBuffer => "V2 OutOfBuffer",
-        Reason::Misaligned => "V3 Misaligned",
-        Reason::ZeroOffset => "V4 ZeroOffset",
-        Reason::WrongIdentifier => "V5 WrongIdentifier",
-        Reason::TooDeep => "V6 TooDeep",
-        Reason::TooManyTables => "V7 TooManyTables",
-        Reason::BadVtable => "V8 BadVtable",
-        Reason::MissingRequired => "V9 MissingRequired",
-        Reason::NoTerminator => "V10 NoTerminator",
-        Reason::LengthsDiffer => "V11 LengthsDiffer",
-        Reason::PastTable => "V12 PastTable",
     }
 }
