@@ -32,6 +32,8 @@ pub use views::{FieldView, ObjectView};
 #[cfg(test)]
 mod builders_tests;
 #[cfg(test)]
+mod cases;
+#[cfg(test)]
 mod demands_tests;
 #[cfg(test)]
 mod lookup_tests;

@@ -3,103 +3,59 @@
 ghost use Rattle.std.specs.Prelude.{IsTrue};
 ghost use Rattle.fb_schema.specs.Rows.{is_table, is_union};
 
+use crate::cases::Rows;
 use crate::plain::PlainRows;
-use crate::tests::{
-    LONG, OBJECT, TEXT, UBYTE, UNION, UNSIGNED_TYPE, VECTOR, built, field, member,
-    objects_with_unions, one, structure, table, union, union_of_three, unions, vector,
-};
-use crate::{EnumRow, FieldView, Kind, ObjectRow, Scalar, Schema};
-use std::alloc::{AllocError, Global};
+use crate::tests::UNIONS;
+use crate::{FieldView, Schema};
+use std::alloc::Global;
 use std::process::Abort;
 use std::test::Fail;
 
 /// A number past those of all objects and enums here.
 const PAST_ALL: u32 = 10;
 
-/// A table with a live field of each kind, in no order of slots, and a deprecated one below the last; a struct, an empty table.
-fn objects_of_every_kind<'n>(alloc: Global) -> Result<Vec<ObjectRow<'n>>, AllocError> {
-    let mut gone = field(b"gone", 28, vector(VECTOR, 0));
-    gone.deprecated = true;
-    let mut byte = field(b"byte", 4, one(UBYTE, 0));
-    byte.default = 9;
-    byte.optional = true;
-    let mut text = field(b"text", 6, one(TEXT, 0));
-    text.required = true;
-    let fields = [
-        field(b"unions", 26, vector(UNION, 1)),
-        byte,
-        field(b"union", 14, one(UNION, 1)),
-        field(b"longs", 16, vector(LONG, 0)),
-        text,
-        gone,
-        field(b"last", 30, one(UBYTE, 0)),
-        field(b"structs", 20, vector(OBJECT, 1)),
-        field(b"struct", 8, one(OBJECT, 1)),
-        field(b"union_type", 12, one(UNSIGNED_TYPE, 0)),
-        field(b"texts", 18, vector(TEXT, 0)),
-        field(b"table", 10, one(OBJECT, 2)),
-        field(b"unions_type", 24, vector(UNSIGNED_TYPE, 0)),
-        field(b"tables", 22, vector(OBJECT, 2)),
-    ];
-    Ok(vec![in alloc;
-        table(alloc, b"All", &fields)?,
-        structure(alloc, b"S", 12, 4, &[field(b"x", 0, one(LONG, 0))])?,
-        table(alloc, b"T", &[])?,
-    ]?)
-}
+/// A table with a live field of each kind, in no order of slots, and a deprecated one below the last; a struct, an
+/// empty table; an enum, and a union whose members stand in another order than their values.
+const EVERY_KIND: &str =
+    "All table: unions@26 [union]#1, byte@4 ubyte default=9 optional, union@14 union#1, \
+    longs@16 [long], text@6 string required, gone@28 [vector] gone, last@30 ubyte, structs@20 [obj]#1, struct@8 obj#1, \
+    union_type@12 utype, texts@18 [string], table@10 obj#2, unions_type@24 [utype], tables@22 [obj]#2; \
+    S struct 12/4: x@0 long; T table: ; E enum: ; U union: S=200 obj#1, NONE=0 none, Text=2 string, T=1 obj#2";
 
-/// An enum, and a union whose members stand in another order than their values.
-fn enums_of_every_kind<'n>(alloc: Global) -> Result<Vec<EnumRow<'n>>, AllocError> {
-    let members = [
-        member(b"S", 200, one(OBJECT, 1)),
-        member(b"NONE", 0, one(0, 0)),
-        member(b"Text", 2, one(TEXT, 0)),
-        member(b"T", 1, one(OBJECT, 2)),
-    ];
-    let plain = EnumRow {
-        name: b"E",
-        members: Vec::new(alloc),
-        is_union: false,
-    };
-    Ok(vec![in alloc; plain, union(alloc, b"U", &members)?]?)
-}
-
-fn schema_of_every_kind<'n>(rt: &impl Abort, alloc: Global) -> Result<Schema<'n>, Fail> {
-    let objects = objects_of_every_kind(alloc)?;
-    let enums = enums_of_every_kind(alloc)?;
-    Ok(built(rt, alloc, objects, enums).ok().ok_or("refused")?)
-}
+/// The live fields of the table with every kind: slot, kind, size, alignment, and the place of the type field.
+const KINDS: &str = "\
+    4 Scalar(UByte) 1 1 None\n\
+    6 Text 4 4 None\n\
+    8 Struct(1) 12 4 None\n\
+    10 Table(2) 4 4 None\n\
+    12 Scalar(UType) 1 1 None\n\
+    14 Union(1) 4 4 Some(4)\n\
+    16 Scalars(Long) 8 8 None\n\
+    18 Texts 4 4 None\n\
+    20 Structs(1) 12 4 None\n\
+    22 Tables(2) 4 4 None\n\
+    24 Scalars(UType) 1 1 None\n\
+    26 Unions(1) 4 4 Some(10)\n\
+    30 Scalar(UByte) 1 1 None\n\
+";
 
 #[test]
 fn a_legal_table_has_each_kind_in_rising_slot(rt: HostRuntime) -> Result<(), Fail> {
-    let schema = schema_of_every_kind(&rt, rt.alloc())?;
+    let alloc = rt.alloc();
+    let schema = Rows::read(alloc, EVERY_KIND)?.built(&rt, alloc)?;
     assert!(rt; schema.is_table(0));
-    let kinds = [
-        (4, Kind::Scalar(Scalar::UByte), 1, 1, None),
-        (6, Kind::Text, 4, 4, None),
-        (8, Kind::Struct(1), 12, 4, None),
-        (10, Kind::Table(2), 4, 4, None),
-        (12, Kind::Scalar(Scalar::UType), 1, 1, None),
-        (14, Kind::Union(1), 4, 4, Some(4)),
-        (16, Kind::Scalars(Scalar::Long), 8, 8, None),
-        (18, Kind::Texts, 4, 4, None),
-        (20, Kind::Structs(1), 12, 4, None),
-        (22, Kind::Tables(2), 4, 4, None),
-        (24, Kind::Scalars(Scalar::UType), 1, 1, None),
-        (26, Kind::Unions(1), 4, 4, Some(10)),
-        (30, Kind::Scalar(Scalar::UByte), 1, 1, None),
-    ];
-    let fields = schema.fields_of(0);
-    assert_eq!(rt; fields.len(), kinds.len());
-    for (field, want) in fields.iter().zip(&kinds) {
-        let is = (
-            field.slot,
-            field.kind,
-            field.size,
-            field.align,
-            field.companion,
-        );
-        assert_eq!(rt; is, *want);
+    assert_eq!(rt; schema.fields_of(0).len(), KINDS.lines().count());
+    for (field, want) in schema.fields_of(0).iter().zip(KINDS.lines()) {
+        let FieldView {
+            slot,
+            kind,
+            size,
+            align,
+            companion,
+            ..
+        } = *field;
+        let is = format!(in alloc; "{slot} {kind:?} {size} {align} {companion:?}")?;
+        assert_eq!(rt; is.as_str(), want);
     }
     assert_eq!(rt; schema.field_named(0, b"gone"), None);
     Ok(())
@@ -209,28 +165,23 @@ fn look_ups_agree(
     Ok(())
 }
 
-#[test]
-fn look_ups_of_every_kind_are_plain_walks(rt: HostRuntime) -> Result<(), Fail> {
-    let alloc = rt.alloc();
-    let schema = schema_of_every_kind(&rt, alloc)?;
-    let objects = objects_of_every_kind(alloc)?;
-    let enums = enums_of_every_kind(alloc)?;
+/// Every look-up of the schema of these rows answers as a plain walk over them does.
+fn look_ups_of(rt: &impl Abort, alloc: Global, text: &str) -> Result<(), Fail> {
+    let schema = Rows::read(alloc, text)?.built(rt, alloc)?;
+    let Rows { objects, enums } = Rows::read(alloc, text)?;
     let rows = PlainRows {
         objects: &objects,
         enums: &enums,
     };
-    look_ups_agree(&rt, alloc, &schema, &rows)
+    look_ups_agree(rt, alloc, &schema, &rows)
+}
+
+#[test]
+fn look_ups_of_every_kind_are_plain_walks(rt: HostRuntime) -> Result<(), Fail> {
+    look_ups_of(&rt, rt.alloc(), EVERY_KIND)
 }
 
 #[test]
 fn look_ups_of_unions_are_plain_walks(rt: HostRuntime) -> Result<(), Fail> {
-    let alloc = rt.alloc();
-    let schema = unions(&rt, alloc)?;
-    let objects = objects_with_unions(alloc)?;
-    let enums = union_of_three(alloc)?;
-    let rows = PlainRows {
-        objects: &objects,
-        enums: &enums,
-    };
-    look_ups_agree(&rt, alloc, &schema, &rows)
+    look_ups_of(&rt, rt.alloc(), UNIONS)
 }

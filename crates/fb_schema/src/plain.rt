@@ -1,6 +1,6 @@
 //! Look-ups as plain walks over the two lists of rows, beside which tests put those by the index.
 
-use crate::tests::{OBJECT, TEXT, VECTOR};
+use crate::base_type::{OBJ, STRING, VECTOR};
 use crate::{EnumRow, FieldRow, FieldView, Kind, ObjectRow, Scalar, TypeRow};
 use std::alloc::{AllocError, Global};
 
@@ -126,11 +126,11 @@ impl<'r, 'n> PlainRows<'r, 'n> {
                 Kind::Scalar(scalar)
             });
         }
-        if base == TEXT {
+        if base == STRING {
             return Some(if is_vector { Kind::Texts } else { Kind::Text });
         }
         let number = u32::try_from(ty.index).ok()?;
-        if base != OBJECT {
+        if base != OBJ {
             return Some(if is_vector {
                 Kind::Unions(number)
             } else {

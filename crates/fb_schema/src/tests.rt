@@ -1,281 +1,56 @@
 // Worked schemas: what is refused and how, and what look-ups answer.
 
-ghost use Rattle.std.specs.Prelude.{◌≡◌, ◌<◌, ◌^◌, true, All, vec_len};
-ghost use Rattle.fb_schema.specs.Rows.{AreFew};
-
 use super::*;
-use std::alloc::{AllocError, Global};
+use crate::cases::{Rows, answered};
+use std::alloc::Global;
 use std::process::Abort;
 use std::test::Fail;
 
-// Numbers of `BaseType` in reflection.fbs.
-
-pub const UNSIGNED_TYPE: i8 = 1;
-
-pub const UBYTE: i8 = 4;
-
-pub const INT: i8 = 7;
-
-pub const LONG: i8 = 9;
-
-pub const TEXT: i8 = 13;
-
-pub const VECTOR: i8 = 14;
-
-pub const OBJECT: i8 = 15;
-
-pub const UNION: i8 = 16;
-
-pub fn one(base: i8, index: i32) -> TypeRow {
-    TypeRow {
-        base,
-        element: 0,
-        index,
-        fixed_length: 0,
-    }
-}
-
-pub fn vector(element: i8, index: i32) -> TypeRow {
-    TypeRow {
-        base: VECTOR,
-        element,
-        index,
-        fixed_length: 0,
-    }
-}
-
-pub fn field<'n>(name: &'n [u8], slot: u16, ty: TypeRow) -> FieldRow<'n> {
-    FieldRow {
-        name,
-        ty,
-        slot,
-        default: 0,
-        deprecated: false,
-        required: false,
-        optional: false,
-        offset64: false,
-    }
-}
-
-pub fn table<'n>(
-    alloc: Global,
-    name: &'n [u8],
-    fields: &[FieldRow<'n>],
-) -> Result<ObjectRow<'n>, AllocError> {
-    Ok(ObjectRow {
-        name,
-        fields: fields.to_vec(alloc)?,
-        is_struct: false,
-        minalign: 1,
-        bytesize: 0,
-    })
-}
-
-pub fn structure<'n>(
-    alloc: Global,
-    name: &'n [u8],
-    bytesize: i32,
-    minalign: i32,
-    fields: &[FieldRow<'n>],
-) -> Result<ObjectRow<'n>, AllocError> {
-    Ok(ObjectRow {
-        name,
-        fields: fields.to_vec(alloc)?,
-        is_struct: true,
-        minalign,
-        bytesize,
-    })
-}
-
-pub fn member<'n>(name: &'n [u8], value: i64, ty: TypeRow) -> MemberRow<'n> {
-    MemberRow { name, value, ty }
-}
-
-pub fn union<'n>(
-    alloc: Global,
-    name: &'n [u8],
-    members: &[MemberRow<'n>],
-) -> Result<EnumRow<'n>, AllocError> {
-    Ok(EnumRow {
-        name,
-        members: members.to_vec(alloc)?,
-        is_union: true,
-    })
-}
-
-const MANY: usize = 2147483648;
-
-fn fields_few(objects: &[ObjectRow]) -> bool
-    ensures { result ≡ true → All (λ o. vec_len o.fields < 2 ^ 31) objects.now }
-{
-    for object in objects {
-        if object.fields.len() >= MANY {
-            return false;
-        }
-    }
-    true
-}
-
-fn members_few(enums: &[EnumRow]) -> bool
-    ensures { result ≡ true → All (λ e. vec_len e.members < 2 ^ 31) enums.now }
-{
-    for row in enums {
-        if row.members.len() >= MANY {
-            return false;
-        }
-    }
-    true
-}
-
-fn are_few(objects: &[ObjectRow], enums: &[EnumRow]) -> bool
-    ensures { result ≡ true → AreFew objects.now enums.now }
-{
-    objects.len() < MANY && enums.len() < MANY && fields_few(objects) && members_few(enums)
-}
-
-pub fn built<'n>(
-    rt: &impl Abort,
-    alloc: Global,
-    objects: Vec<ObjectRow<'n>>,
-    enums: Vec<EnumRow<'n>>,
-) -> Result<Schema<'n>, SchemaFault> {
-    assert!(rt; are_few(&objects, &enums));
-    Schema::build(alloc, objects, enums)
-}
-
-fn fault(code: Code, owner: u32, part: Option<u32>) -> Option<SchemaFault> {
-    Some(SchemaFault { code, owner, part })
-}
-
-/// What one table of these fields is refused by, where there are no enums.
-fn table_fault(
-    rt: &impl Abort,
-    alloc: Global,
-    fields: &[FieldRow],
-) -> Result<Option<SchemaFault>, AllocError> {
-    let objects = vec![in alloc; table(alloc, b"A", fields)?]?;
-    Ok(built(rt, alloc, objects, Vec::new(alloc)).err())
-}
-
-/// What a union of these members is refused by, beside one empty table.
-fn union_fault(
-    rt: &impl Abort,
-    alloc: Global,
-    members: &[MemberRow],
-) -> Result<Option<SchemaFault>, AllocError> {
-    let objects = vec![in alloc; table(alloc, b"A", &[])?]?;
-    let enums = vec![in alloc; union(alloc, b"U", members)?]?;
-    Ok(built(rt, alloc, objects, enums).err())
-}
-
 #[test]
 fn a_table_is_refused_by_its_first_broken_demand(rt: HostRuntime) -> Result<(), Fail> {
-    let alloc = rt.alloc();
-    let at = |ty: TypeRow| [field(b"f", 4, ty)];
-    assert_eq!(rt;
-        table_fault(&rt, alloc, &at(one(OBJECT, 1)))?,
-        fault(Code::NoSuchObject, 0, Some(0))
-    );
-    assert_eq!(rt;
-        table_fault(&rt, alloc, &at(one(UNION, 0)))?,
-        fault(Code::NoSuchEnum, 0, Some(0))
-    );
-    assert_eq!(rt;
-        table_fault(&rt, alloc, &at(vector(VECTOR, 0)))?,
-        fault(Code::Unsupported, 0, Some(0))
-    );
-    let mut gone = field(b"f", 4, vector(VECTOR, 0));
-    gone.deprecated = true;
-    assert_eq!(rt; table_fault(&rt, alloc, &[gone])?, None);
-    assert_eq!(rt;
-        table_fault(&rt, alloc, &[field(b"f", 5, one(INT, 0))])?,
-        fault(Code::BadSlot, 0, Some(0))
-    );
-    assert_eq!(rt;
-        table_fault(&rt, alloc, &[field(b"f", 2, one(INT, 0))])?,
-        fault(Code::BadSlot, 0, Some(0))
-    );
-    assert_eq!(rt;
-        table_fault(
-            &rt,
-            alloc,
-            &[field(b"f", 4, one(INT, 0)), field(b"g", 4, one(INT, 0))]
-        )?,
-        fault(Code::BadSlot, 0, Some(1))
-    );
-    assert_eq!(rt;
-        table_fault(
-            &rt,
-            alloc,
-            &[field(b"a", 4, one(INT, 0)), field(b"a", 6, one(INT, 0))]
-        )?,
-        fault(Code::NameTwice, 0, Some(1))
-    );
-    Ok(())
+    let cases = "\
+        no object    | f@4 obj#1         | NoSuchObject 0.0\n\
+        no union     | f@4 union#0       | NoSuchEnum 0.0\n\
+        vectors      | f@4 [vector]      | Unsupported 0.0\n\
+        deprecated   | f@4 [vector] gone | ok\n\
+        an odd slot  | f@5 int           | BadSlot 0.0\n\
+        a low slot   | f@2 int           | BadSlot 0.0\n\
+        a slot twice | f@4 int, g@4 int  | BadSlot 0.1\n\
+        a name twice | a@4 int, a@6 int  | NameTwice 0.1\n\
+    ";
+    answered(&rt, rt.alloc(), "A table: ", cases)
 }
 
 #[test]
 fn a_union_field_needs_its_type_field(rt: HostRuntime) -> Result<(), Fail> {
-    let alloc = rt.alloc();
-    let objects = vec![in alloc; table(alloc, b"A", &[field(b"u", 4, one(UNION, 0))])?]?;
-    let enums = vec![in alloc; union(alloc, b"U", &[])?]?;
-    assert_eq!(rt;
-        built(&rt, alloc, objects, enums).err(),
-        fault(Code::NoTypeField, 0, Some(0))
-    );
-    Ok(())
+    let case = "alone | A table: u@4 union#0; U union: | NoTypeField 0.0";
+    answered(&rt, rt.alloc(), "", case)
 }
 
 #[test]
 fn structs_and_names_of_objects_are_refused(rt: HostRuntime) -> Result<(), Fail> {
-    let alloc = rt.alloc();
-    let empty = vec![in alloc; structure(alloc, b"S", 0, 4, &[])?]?;
-    assert_eq!(rt;
-        built(&rt, alloc, empty, Vec::new(alloc)).err(),
-        fault(Code::BadStruct, 0, None)
-    );
-    let short = vec![in alloc; structure(alloc, b"S", 4, 4, &[field(b"f", 1, one(INT, 0))])?]?;
-    assert_eq!(rt;
-        built(&rt, alloc, short, Vec::new(alloc)).err(),
-        fault(Code::BadStruct, 0, Some(0))
-    );
-    let twice = vec![in alloc; table(alloc, b"A", &[])?, table(alloc, b"A", &[])?]?;
-    assert_eq!(rt;
-        built(&rt, alloc, twice, Vec::new(alloc)).err(),
-        fault(Code::NameTwice, 1, None)
-    );
-    Ok(())
+    let cases = "\
+        no bytes        | S struct 0/4:         | BadStruct 0\n\
+        past the end    | S struct 4/4: f@1 int | BadStruct 0.0\n\
+        two of one name | A table: ; A table:   | NameTwice 1\n\
+    ";
+    answered(&rt, rt.alloc(), "", cases)
 }
 
 #[test]
 fn a_union_is_refused_by_its_first_bad_member(rt: HostRuntime) -> Result<(), Fail> {
-    let alloc = rt.alloc();
-    assert_eq!(rt;
-        union_fault(&rt, alloc, &[member(b"m", 256, one(TEXT, 0))])?,
-        fault(Code::BadMember, 0, Some(0))
-    );
-    assert_eq!(rt;
-        union_fault(
-            &rt,
-            alloc,
-            &[member(b"m", 0, one(0, 0)), member(b"n", 0, one(0, 0))]
-        )?,
-        fault(Code::BadMember, 0, Some(1))
-    );
-    let enums = vec![in alloc; union(alloc, b"U", &[member(b"m", 1, one(OBJECT, 5))])?]?;
-    assert_eq!(rt;
-        built(&rt, alloc, Vec::new(alloc), enums).err(),
-        fault(Code::NoSuchObject, 0, Some(0))
-    );
-    Ok(())
+    let cases = "\
+        a value past a byte | A table: ; U union: m=256 string       | BadMember 0.0\n\
+        a value twice       | A table: ; U union: m=0 none, n=0 none | BadMember 0.1\n\
+        no object           | U union: m=1 obj#5                     | NoSuchObject 0.0\n\
+    ";
+    answered(&rt, rt.alloc(), "", cases)
 }
 
 #[test]
 fn no_rows_are_a_schema(rt: HostRuntime) -> Result<(), Fail> {
     let alloc = rt.alloc();
-    let schema = built(&rt, alloc, Vec::new(alloc), Vec::new(alloc))
-        .ok()
-        .ok_or("refused")?;
+    let schema = Rows::read(alloc, "")?.built(&rt, alloc)?;
     assert_eq!(rt; schema.object_count(), 0);
     assert_eq!(rt; schema.widest(), 0);
     assert!(rt; !schema.is_table(0));
@@ -283,38 +58,14 @@ fn no_rows_are_a_schema(rt: HostRuntime) -> Result<(), Fail> {
     Ok(())
 }
 
-/// The objects of: table A { v: int; } struct W { x: long; } union U { A = 1, W = 2, T: string = 3 } table R { u: U; } table Q { us: [U]; }
-pub fn objects_with_unions<'n>(alloc: Global) -> Result<Vec<ObjectRow<'n>>, AllocError> {
-    let single = [
-        field(b"u_type", 4, one(UNSIGNED_TYPE, 0)),
-        field(b"u", 6, one(UNION, 0)),
-    ];
-    let several = [
-        field(b"us_type", 4, vector(UNSIGNED_TYPE, 0)),
-        field(b"us", 6, vector(UNION, 0)),
-    ];
-    Ok(vec![in alloc;
-        table(alloc, b"A", &[field(b"v", 4, one(INT, 0))])?,
-        structure(alloc, b"W", 8, 8, &[field(b"x", 0, one(LONG, 0))])?,
-        table(alloc, b"R", &single)?,
-        table(alloc, b"Q", &several)?,
-    ]?)
-}
+/// `table A { v: int; } struct W { x: long; } table R { u: U; } table Q { us: [U]; }
+/// union U { A = 1, W = 2, T: string = 3 }`
+pub const UNIONS: &str =
+    "A table: v@4 int; W struct 8/8: x@0 long; R table: u_type@4 utype, u@6 union#0; \
+    Q table: us_type@4 [utype], us@6 [union]#0; U union: A=1 obj#0, W=2 obj#1, T=3 string";
 
-/// The union U of these objects.
-pub fn union_of_three<'n>(alloc: Global) -> Result<Vec<EnumRow<'n>>, AllocError> {
-    let members = [
-        member(b"A", 1, one(OBJECT, 0)),
-        member(b"W", 2, one(OBJECT, 1)),
-        member(b"T", 3, one(TEXT, 0)),
-    ];
-    Ok(vec![in alloc; union(alloc, b"U", &members)?]?)
-}
-
-pub fn unions<'n>(rt: &impl Abort, alloc: Global) -> Result<Schema<'n>, Fail> {
-    let objects = objects_with_unions(alloc)?;
-    let enums = union_of_three(alloc)?;
-    Ok(built(rt, alloc, objects, enums).ok().ok_or("refused")?)
+fn unions(rt: &impl Abort, alloc: Global) -> Result<Schema<'static>, Fail> {
+    Ok(Rows::read(alloc, UNIONS)?.built(rt, alloc)?)
 }
 
 #[test]
