@@ -5,9 +5,9 @@
 use crate::answers;
 use crate::engine::{ALL_CHECKS, Engine};
 use crate::fixtures::{Fixture, SHORT_ONES, Swept};
-use crate::naive::Question;
 use crate::paths::{Way, ways};
 use fb_verify::Checks;
+use naive::checker::Question;
 use std::alloc::{AllocError, Global};
 use std::ops::Range;
 use std::process::Abort;

@@ -1,11 +1,11 @@
 //! The engine, asked as the naive checker is, and its answers in that one's words.
 
-use crate::naive::{Question, Verdict, verdict};
 use fb_bytes::Meter;
 use fb_schema::Schema;
 use fb_verify::{
     Checks, Fault, Ident, Limits, Reason, Report, Scratch, Start, Verified, most_reads, verify,
 };
+use naive::checker::{Question, Verdict, verdict};
 use std::alloc::{AllocError, Global};
 use std::process::Abort;
 use std::test::Fail;

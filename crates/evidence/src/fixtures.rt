@@ -1,12 +1,12 @@
 //! The swept buffers, each with its schema.
 
-use crate::naive::Question;
 use crate::reflection_rows::{SCHEMA, reflection_rows};
 use crate::rows::Rows;
 use crate::schemas::{ONE, SEVERAL, longs, members, monsters, nodes, vectors_of_longs};
 use fb_bfbs::reflection;
 use fb_schema::Schema;
 use fb_verify::Checks;
+use naive::checker::Question;
 use std::alloc::{AllocError, Global};
 use std::process::Abort;
 use std::test::Fail;

@@ -1,5 +1,5 @@
-//! A checker that was written apart from the engine, from the rules alone, and sweeps in which both answer the same
-//! questions: what a definition and its code have wrong together, no proof shows. The crate has tests alone.
+//! Sweeps in which the engine and the naive checker answer the same questions: what a definition and its code have wrong
+//! together, no proof shows. The crate has tests alone.
 #![tactic(auto)]
 
 #[cfg(test)]
@@ -22,22 +22,6 @@ mod limits_tests;
 mod load_tests;
 #[cfg(test)]
 mod lookups;
-#[cfg(test)]
-mod naive;
-#[cfg(test)]
-mod naive_kinds;
-#[cfg(test)]
-mod naive_rows;
-#[cfg(test)]
-mod naive_schema_tests;
-#[cfg(test)]
-mod naive_tests;
-#[cfg(test)]
-mod naive_tree;
-#[cfg(test)]
-mod naive_value_tests;
-#[cfg(test)]
-mod naive_values;
 #[cfg(test)]
 mod path_tests;
 #[cfg(test)]

@@ -2,8 +2,8 @@
 
 use crate::engine::{ALL_CHECKS, Engine};
 use crate::fixtures::{Fixture, SHORT_ONES, Swept};
-use crate::naive::Question;
 use fb_verify::Checks;
+use naive::checker::Question;
 use std::alloc::Global;
 use std::process::Abort;
 use std::test::Fail;

@@ -1,12 +1,12 @@
 //! Every short path over the names of a schema, resolved by the engine and by the naive reader.
 
 use crate::fixtures::Fixture;
-use crate::naive::Question;
-use crate::naive_values::{self, Part};
 use crate::rows::Rows;
 use fb_access::{Path, Step};
 use fb_schema::Schema;
 use fb_verify::Checks;
+use naive::checker::Question;
+use naive::values::{self, Part};
 use std::alloc::{AllocError, Global};
 use std::process::Abort;
 
@@ -14,7 +14,7 @@ use std::process::Abort;
 #[derive(Drop)]
 pub struct Way {
     pub steps: Vec<Step>,
-    pub naive: Vec<naive_values::Step>,
+    pub naive: Vec<values::Step>,
 }
 
 /// A part of a path with its text, which begins with the mark unless it is the path's first.
@@ -89,11 +89,11 @@ fn text_of(alloc: Global, pieces: &[Piece<'_>]) -> Result<Vec<u8>, AllocError> {
 }
 
 /// A step of the engine in the naive reader's words.
-fn told(step: Step) -> naive_values::Step {
+fn told(step: Step) -> values::Step {
     match step {
-        Step::Field(number) => naive_values::Step::Field(number),
-        Step::Element(number) => naive_values::Step::Element(number),
-        Step::Member(value) => naive_values::Step::Member(value),
+        Step::Field(number) => values::Step::Field(number),
+        Step::Element(number) => values::Step::Element(number),
+        Step::Member(value) => values::Step::Member(value),
     }
 }
 
@@ -109,7 +109,7 @@ fn resolved(
     let parts: Vec<Part<'_>> = pieces.iter().map(|piece| piece.part).collect(alloc)?;
     assert!(rt; schema.is_table(question.root));
     let path = Path::resolve(alloc, schema, question.root, &text);
-    let naive = naive_values::steps(alloc, question, &parts)?;
+    let naive = values::steps(alloc, question, &parts)?;
     let (path, naive) = match (path, naive) {
         (Ok(path), Some(naive)) => (path, naive),
         (Err(_), None) => return Ok(None),

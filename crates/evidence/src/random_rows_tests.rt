@@ -2,10 +2,10 @@
 //! and the look-ups of a schema answer by its rows.
 
 use crate::lookups;
-use crate::naive_rows::first_broken;
 use crate::random::Random;
 use crate::random_rows::Maker;
 use crate::rows::{Rows, broken_by};
+use naive::rows::first_broken;
 use std::alloc::Global;
 use std::process::Abort;
 use std::test::Fail;

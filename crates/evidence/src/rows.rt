@@ -3,8 +3,8 @@
 ghost use Rattle.std.specs.Prelude.{◌≡◌, ◌<◌, ◌^◌, true, All, vec_len};
 ghost use Rattle.fb_schema.specs.Rows.{AreFew};
 
-use crate::naive_rows::Broken;
 use fb_schema::{Code, EnumRow, FieldRow, MemberRow, ObjectRow, Schema, SchemaFault, TypeRow};
+use naive::rows::Broken;
 use std::alloc::{AllocError, Global};
 use std::process::Abort;
 

@@ -3,11 +3,11 @@
 //! It shares nothing with the verifier that it is compared with. It looks through the rows anew at every field, goes
 //! down by plain recursion, and builds the whole tree of visited tables before anything is counted on it.
 
-use crate::naive_kinds::{
+use crate::kinds::{
     Kind, Live, Shape, element_at, field_count, kind_of, member_kind, next_live, number,
     scalar_size, signed,
 };
-use crate::naive_tree::{Found, Members, Node};
+use crate::tree::{Found, Members, Node};
 use fb_schema::{EnumRow, ObjectRow, TypeRow};
 use std::alloc::{AllocError, Global};
 

@@ -1,10 +1,8 @@
 //! A naive reader of values, step by step, over a buffer that the naive checker said yes to.
 
-use crate::naive::Question;
-use crate::naive_kinds::{
-    Kind, element_at, kind_of, member_kind, number, scalar_size, signed, slice,
-};
-pub use crate::naive_values::answer::Value;
+use crate::checker::Question;
+use crate::kinds::{Kind, element_at, kind_of, member_kind, number, scalar_size, signed, slice};
+pub use crate::values::answer::Value;
 use fb_schema::FieldRow;
 use std::alloc::{AllocError, Global};
 

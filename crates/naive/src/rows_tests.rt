@@ -1,12 +1,12 @@
 //! The naive checker over schema files, whose own schema is the table of reflection.fbs, and the naive test of rows.
 
-use crate::naive::verdict;
-use crate::naive_rows::{Broken, first_broken};
-use crate::naive_tests::{
+use crate::checker::verdict;
+use crate::checker_tests::{
     Asks, BARE, BOOL, BYTE, INT, LONG_TYPE, OBJ, PREFIXED, Rows, SHORT, STRING, UBYTE, ULONG,
     UNION, USHORT, VECTOR, at_slot, by_default, bytes_of, deprecated, field, judge, list, member,
     no, one_table, pairs, plain, required, structure, table, to, union_of, unions, yes,
 };
+use crate::rows::{Broken, first_broken};
 use fb_schema::{FieldRow, TypeRow};
 use std::alloc::{AllocError, Global};
 use std::test::Fail;

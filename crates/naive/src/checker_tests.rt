@@ -1,6 +1,6 @@
 //! The naive checker, reader and test of rows over worked examples, each worked out by hand from the format.
 
-use crate::naive::{Question, Verdict, verdict};
+use crate::checker::{Question, Verdict, verdict};
 use fb_schema::{EnumRow, FieldRow, MemberRow, ObjectRow, TypeRow};
 use std::alloc::{AllocError, Global};
 use std::process::Abort;

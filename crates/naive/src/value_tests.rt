@@ -1,13 +1,13 @@
 //! The naive reader of values over worked buffers.
 
-use crate::naive::Question;
-use crate::naive_tests::{
+use crate::checker::Question;
+use crate::checker_tests::{
     BARE, BLANK, BOOL, BYTE, HALF, INT, LONG, LONG_TYPE, LONGS, NO_LONGS, ORC, PREFIXED, Q, R,
     Rows, TWO_LISTS, UBYTE, ULONG, UNALIGNED, UNION_PAIR, UNION_STRUCT, UNION_TABLE, UNION_UNKNOWN,
     USHORT, by_default, bytes_of, field, half, lists, longs, monster, one_table, plain, unions,
 };
-use crate::naive_values::Part::{Index, Member, Name};
-use crate::naive_values::{Part, Value, steps, value};
+use crate::values::Part::{Index, Member, Name};
+use crate::values::{Part, Value, steps, value};
 use fb_schema::FieldRow;
 use std::alloc::{AllocError, Global};
 use std::process::Abort;
