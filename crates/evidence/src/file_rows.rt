@@ -15,13 +15,13 @@ pub struct FileReader<'q, 'r, 'n, 'b> {
 
 /// A table of the file: the steps to it.
 #[derive(Clone, Copy)]
-struct Spot<'q, 'r, 'n, 'b> {
+struct TableSpot<'q, 'r, 'n, 'b> {
     reader: FileReader<'q, 'r, 'n, 'b>,
     steps: [Step; 6],
     length: usize,
 }
 
-impl<'q, 'r, 'n, 'b> Spot<'q, 'r, 'n, 'b> {
+impl<'q, 'r, 'n, 'b> TableSpot<'q, 'r, 'n, 'b> {
     /// One step on.
     fn to(mut self, step: Step) -> Self {
         let length = self.length;
@@ -141,8 +141,8 @@ impl<'q, 'r, 'n, 'b> Spot<'q, 'r, 'n, 'b> {
 }
 
 impl<'q, 'r, 'n, 'b> FileReader<'q, 'r, 'n, 'b> {
-    fn root(self) -> Spot<'q, 'r, 'n, 'b> {
-        Spot {
+    fn root(self) -> TableSpot<'q, 'r, 'n, 'b> {
+        TableSpot {
             reader: self,
             steps: [Step::Field(0); 6],
             length: 0,

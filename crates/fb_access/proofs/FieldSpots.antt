@@ -16,7 +16,7 @@ use Rattle.fb_verify.specs.Places.{target, field_place}
 use Rattle.fb_verify.specs.Fields.{IsPresent, IsPresentOrAbsent, IsField, entries, entries_of, entries_at, union_entry, union_type, type_count, types_begin, type_place, to_table, to_string, lead_of}
 use Rattle.fb_verify.specs.Tree.{Elements}
 use Rattle.fb_verify.specs.Unfolds.{ElementsUnfold}
-use Rattle.fb_verify.specs.Rows.{TypesFit, IsTyped}
+use Rattle.fb_verify.specs.OffsetRows.{TypesFit, IsTyped}
 use Rattle.fb_access.specs.Fitting.{numbered}
 use Rattle.fb_access.specs.Spots.{default_spot, absent_spot, present_spot, spot_at, field_spot}
 use Rattle.fb_access.specs.Held.{IsTableAt, IsLed, IsSpot, IsReadable}

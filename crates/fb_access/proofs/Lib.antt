@@ -19,7 +19,7 @@ pub mod Found
 pub mod MemberKinds
 pub mod NumberedFields
 pub mod Fits
-pub mod Walked
+pub mod Following
 pub mod OneReading
 pub mod OneAnswer
 pub mod SomeAnswer

@@ -16,7 +16,7 @@ use Rattle.fb_access.specs.Resolving.{fitting, fault_of, Follows, Misfits, IsAns
 use Rattle.fb_access.specs.Scanned.{next_seen, seen, is_end}
 use Rattle.fb_access.proofs.ScanPlaces.{seen_more, wrong_at, wrong_at_end, right_at_end}
 use Rattle.fb_access.proofs.ScanSteps.{either}
-use Rattle.fb_access.proofs.Walked.{follows_more, append_assoc, append_nil}
+use Rattle.fb_access.proofs.Following.{follows_more, append_assoc, append_nil}
 
 -- A text is a path, or is wrong at some place.
 scanned_from : (text : List ℕ) (more i : ℕ) (s : Seen) → i + more ≡ length text → seen (Some Mark) (take i text) ≡ Some s → IsPath text ⊎ ((at : ℕ) × IsWrongAt text at)

@@ -17,7 +17,7 @@ use Rattle.fb_verify.specs.Facts.{IsTable}
 use Rattle.fb_verify.specs.Fields.{IsPresent, IsPresentOrAbsent, IsField, entries, type_place}
 use Rattle.fb_verify.specs.Tree.{Tree, node, Kids, no_kids, kid, Elements}
 use Rattle.fb_verify.specs.Unfolds.{Unfolds, FieldsUnfold, ElementsUnfold}
-use Rattle.fb_verify.specs.Rows.{TypeFits, TypesFit, IsTyped}
+use Rattle.fb_verify.specs.OffsetRows.{TypeFits, TypesFit, IsTyped}
 use Rattle.fb_access.specs.Fitting.{numbered}
 use Rattle.fb_access.specs.Held.{IsTableAt, HasVtable}
 

@@ -14,7 +14,7 @@ use Rattle.fb_access.specs.Fitting.{StepsFit}
 use Rattle.fb_access.specs.Denotes.{Leads, allows, Reaches}
 use Rattle.fb_access.specs.Held.{IsSpot, IsPlaced}
 use Rattle.fb_access.specs.Here.{IsHere}
-use Rattle.fb_access.specs.Walked.{IsWalked}
+use Rattle.fb_access.specs.Underway.{IsWalked}
 use Rattle.fb_access.proofs.StepKinds.{kind_allows, kinds_go_on}
 
 -- the root table of a buffer that unfolds

@@ -11,7 +11,7 @@ use Rattle.fb_verify.specs.Places.{has_vtable, vtable, vtable_size}
 use Rattle.fb_verify.specs.Fields.{Lead, to_table, to_string, lead_of}
 use Rattle.fb_verify.specs.Tree.{Tree, Element}
 use Rattle.fb_verify.specs.Unfolds.{Unfolds, ElementUnfolds}
-use Rattle.fb_verify.specs.Rows.{TypeFits, TypesFit}
+use Rattle.fb_verify.specs.OffsetRows.{TypeFits, TypesFit}
 use Rattle.fb_verify.specs.Sealed.{Sealed, IsUnfolded}
 use Rattle.fb_access.specs.declared.spot.Spot.{Spot}
 use Rattle.fb_access.specs.declared.spot.Spot.TheVariants.{AtTable, AtInline, AtStruct, AtText, AtScalars, AtStructs, AtTexts, AtTables, AtUnions, AtUnion, AtDefault, AtAbsent, AtNoElement, AtOtherMember}

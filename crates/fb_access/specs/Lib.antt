@@ -1,12 +1,14 @@
+-- What public contracts say, in reading order.
 pub mod Fitting
 pub mod Spots
 pub mod Denotes
-pub mod Held
 pub mod Here
-pub mod Walked
 pub mod PlaceLaws
-pub mod Cutting
 pub mod Grammar
-pub mod Kept
 pub mod Resolving
+-- What proofs alone need.
+pub mod Cutting
+pub mod Held
+pub mod Kept
 pub mod Scanned
+pub mod Underway

@@ -6,7 +6,7 @@ ghost use Rattle.fb_schema.specs.Rows.{is_table};
 ghost use Rattle.fb_schema.specs.Live.{live_of_view};
 ghost use Rattle.fb_verify.specs.Places.{target, vtable, field_place};
 ghost use Rattle.fb_verify.specs.Fields.{type_place, union_type, types_begin};
-ghost use Rattle.fb_verify.specs.Rows.{TypeFits, TypesFit};
+ghost use Rattle.fb_verify.specs.OffsetRows.{TypeFits, TypesFit};
 ghost use Rattle.fb_access.specs.Fitting.{numbered};
 ghost use Rattle.fb_access.specs.Spots.{present_spot, absent_spot, default_spot, field_spot};
 ghost use Rattle.fb_access.specs.Held.{HasVtable, IsReadable};

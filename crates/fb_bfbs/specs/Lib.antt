@@ -1,7 +1,9 @@
+-- What public contracts say, in reading order.
+pub mod Fixed
+pub mod Says
 pub mod Describes
 pub mod FileRows
-pub mod Fixed
-pub mod LoadLaws
 pub mod Loads
-pub mod Says
+pub mod LoadLaws
+-- What proofs alone need.
 pub mod Seen

@@ -1,4 +1,5 @@
-pub mod Ends
-pub mod Framing
-pub mod Messages
+-- What public contracts say, in reading order.
 pub mod Word
+pub mod Ends
+pub mod Messages
+pub mod Framing

@@ -8,7 +8,7 @@ use Rattle.std.proofs.lemmas.Grind.{take_at_read}
 use Rattle.std.specs.List.{list_any}
 use Rattle.std.specs.declared.cmp.Ordering.{Ordering}
 use Rattle.std.specs.declared.cmp.Ordering.TheVariants.{Equal}
-use Rattle.fb_schema.specs.Order.{numbered, IsAgain, IsFirstAgain}
+use Rattle.fb_schema.specs.Sorting.{numbered, IsAgain, IsFirstAgain}
 use Rattle.fb_schema.specs.Demands.{stands_before, is_at}
 use Rattle.fb_schema.proofs.Numbers.{lt_or_eq, le_or_lt, get_or_default}
 

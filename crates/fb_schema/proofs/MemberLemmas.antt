@@ -8,7 +8,7 @@ use Rattle.std.specs.Str.{bytes_eq}
 use Rattle.std.specs.declared.cmp.Ordering.{Ordering}
 use Rattle.std.specs.declared.cmp.Ordering.TheVariants.{Less, Equal, Greater}
 use Rattle.fb_schema.specs.declared.rows.MemberRow.{MemberRow}
-use Rattle.fb_schema.specs.Order.{IsAgain, IsFirstAgain, name_cmp, member_cmp, member_value, member_key}
+use Rattle.fb_schema.specs.Sorting.{IsAgain, IsFirstAgain, name_cmp, member_cmp, member_value, member_key}
 use Rattle.fb_schema.specs.Rows.{Rows, Member, member_of_row}
 use Rattle.fb_schema.specs.Demands.{is_at, first_code, stands_before, same_value, same_member_name, Demand, member_demands, members_asked, demands_of_member}
 use Rattle.fb_schema.proofs.DemandLaws.{clear_line}

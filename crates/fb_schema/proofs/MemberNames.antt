@@ -14,7 +14,7 @@ use Rattle.fb_schema.specs.declared.rows.EnumRow.{EnumRow}
 use Rattle.fb_schema.specs.declared.rows.MemberRow.{MemberRow}
 use Rattle.fb_schema.specs.Demands.{first_code, members_asked, member_demands, stands_before, same_value, same_member_name}
 use Rattle.fb_schema.specs.Members.{is_member_value, member_named}
-use Rattle.fb_schema.specs.Order.{name_cmp, member_cmp, member_key}
+use Rattle.fb_schema.specs.Sorting.{name_cmp, member_cmp, member_key}
 use Rattle.fb_schema.specs.Rows.{Rows, Member, member_of_row, enum_of}
 use Rattle.fb_schema.proofs.DemandLaws.{clear_line}
 use Rattle.fb_schema.proofs.FindLemmas.{find_filter, found_item, no_item}

@@ -12,7 +12,7 @@ use Rattle.fb_schema.specs.declared.views.FieldView.{FieldView}
 use Rattle.fb_schema.specs.Demands.{IsLegal, first_code, table_asked, demands_of_object, demands_of_struct_field, demands_of_table_field}
 use Rattle.fb_schema.specs.Index.{view_name}
 use Rattle.fb_schema.specs.Live.{Live, by_slot, is_live, live_of, live_of_view, live_in, AreApart}
-use Rattle.fb_schema.specs.Order.{IsAgain, name_cmp, field_name}
+use Rattle.fb_schema.specs.Sorting.{IsAgain, name_cmp, field_name}
 use Rattle.fb_schema.specs.Rows.{Rows, Field, field_of, object_of, is_some_table}
 use Rattle.fb_schema.proofs.IndexLemmas.{legal_slots, table_list, same_length}
 use Rattle.fb_schema.proofs.LegalLemmas.{legal_clear}

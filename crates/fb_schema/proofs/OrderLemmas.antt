@@ -9,7 +9,7 @@ use Rattle.std.specs.Ordering.{nat_cmp, ordering_then, is_lt, ordering_reverse}
 use Rattle.std.specs.List.{Contains, swap}
 use Rattle.std.specs.declared.cmp.Ordering.{Ordering}
 use Rattle.std.specs.declared.cmp.Ordering.TheVariants.{Less, Equal, Greater}
-use Rattle.fb_schema.specs.Order.{entry_cmp, numbered, IsOrderOf, IsAgain, IsFirstAgain}
+use Rattle.fb_schema.specs.Sorting.{entry_cmp, numbered, IsOrderOf, IsAgain, IsFirstAgain}
 use Rattle.fb_schema.proofs.Numbers.{lt_or_eq, le_or_lt, get_or_default, slice_get_some}
 
 pub get_or-numbered : {K : Type 0} (keys : List K) (n i : ℕ) (d : K × ℕ) → i < length keys → get_or (numbered n keys) i d ≡ (get_or keys i d.0, n + i)

@@ -3,7 +3,7 @@ use Rattle.std.proofs.Common.{◌≡◌, ℕ, zero, suc, ◌+◌, ◌<◌, ◌�
 use Rattle.std.proofs.lemmas.List.{length-map}
 use Rattle.fb_schema.specs.declared.fault.Code.{Code}
 use Rattle.fb_schema.specs.declared.rows.ObjectRow.{ObjectRow}
-use Rattle.fb_schema.specs.Order.{IsAgain, IsFirstAgain, name_cmp, object_name}
+use Rattle.fb_schema.specs.Sorting.{IsAgain, IsFirstAgain, name_cmp, object_name}
 use Rattle.fb_schema.specs.Rows.{Rows, Object, Enum, object_of}
 use Rattle.fb_schema.specs.Demands.{is_at, first_code, stands_before, same_object_name, object_demands, demands_of_object, demands_of_enum, demands_of_field, demands_of_union, demands_at, IsFirstOf, IsFirstIllegal, IsLegal, AreClear}
 use Rattle.fb_schema.proofs.DemandLaws.{IsClear, AreLevelsClear, AreClearBelow, clear_line, first_illegal, is_legal, no_levels, past_objects, past_enums}

@@ -7,7 +7,7 @@ use Rattle.std.specs.List.Sorted.{IsSortedBy, IsNonDecreasingBy, IsPartitionPoin
 use Rattle.std.specs.Ordering.{is_lt, ordering_index, ordering_then, ordering_reverse}
 use Rattle.std.specs.declared.cmp.Ordering.{Ordering}
 use Rattle.std.specs.declared.cmp.Ordering.TheVariants.{Less, Equal, Greater}
-use Rattle.fb_schema.specs.Order.{IsOrderOf, IsPlaceOf, IsAgain}
+use Rattle.fb_schema.specs.Sorting.{IsOrderOf, IsPlaceOf, IsAgain}
 use Rattle.fb_schema.proofs.Numbers.{lt_or_eq, le_or_lt, get_or_default, slice_get_some}
 use Rattle.fb_schema.proofs.OrderLemmas.{is_key, stands}
 use Rattle.fb_schema.proofs.PositionLemmas.{found_position, no_position}

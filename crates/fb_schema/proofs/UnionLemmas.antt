@@ -20,7 +20,7 @@ use Rattle.fb_schema.specs.Index.{member_kind}
 use Rattle.fb_schema.specs.Kinds.{kind_of, shape_of, shape_kind, object_kind}
 use Rattle.fb_schema.specs.Matched.{AreMatched}
 use Rattle.fb_schema.specs.Members.{is_member_value, member_of, members_in}
-use Rattle.fb_schema.specs.Order.{member_value}
+use Rattle.fb_schema.specs.Sorting.{member_value}
 use Rattle.fb_schema.specs.Rows.{Rows, Object, Member, Enum, member_of_row, enum_of, entry_at, is_some_union}
 use Rattle.fb_schema.proofs.DemandLaws.{clear_line}
 use Rattle.fb_schema.proofs.FindLemmas.{find_filter, found_item, no_item}

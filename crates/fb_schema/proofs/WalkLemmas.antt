@@ -16,7 +16,7 @@ use Rattle.std.specs.declared.cmp.Ordering.TheVariants.{Equal}
 use Rattle.fb_schema.specs.declared.rows.ObjectRow.{ObjectRow}
 use Rattle.fb_schema.specs.declared.rows.FieldRow.{FieldRow}
 use Rattle.fb_schema.specs.declared.rows.MemberRow.{MemberRow}
-use Rattle.fb_schema.specs.Order.{IsAgain, IsFirstAgain, name_cmp, object_name, field_name, field_slot, member_value}
+use Rattle.fb_schema.specs.Sorting.{IsAgain, IsFirstAgain, name_cmp, object_name, field_name, field_slot, member_value}
 use Rattle.fb_schema.specs.Rows.{Rows, field_of, object_of, member_of_row}
 use Rattle.fb_schema.specs.Demands.{is_at, first_code, stands_before, same_object_name, same_field_name, same_slot, same_value, struct_field_demands, struct_asked, demands_of_struct_field, Demand, table_field_demands, table_asked, demands_of_table_field, stands_below}
 use Rattle.fb_schema.specs.declared.kinds.TypeField.TheVariants.{ForUnion, ForUnions}

@@ -12,7 +12,7 @@ use Rattle.fb_schema.specs.FlatLists.{lists_of}
 use Rattle.fb_schema.specs.Kinds.{kind_of}
 use Rattle.fb_schema.specs.Live.{live_of_view, live_in, widest_of}
 use Rattle.fb_schema.specs.Matched.{AreMatched}
-use Rattle.fb_schema.specs.Order.{IsOrderOf, name_cmp, member_cmp, member_value, member_key}
+use Rattle.fb_schema.specs.Sorting.{IsOrderOf, name_cmp, member_cmp, member_value, member_key}
 use Rattle.fb_schema.specs.Rows.{Rows, Object, Member, member_of_row}
 
 abbrev pub view_name : FieldView → Bor (List ℕ)

@@ -7,7 +7,7 @@ use Rattle.fb_schema.specs.declared.index.LiveIndex.{LiveIndex}
 use Rattle.fb_schema.specs.declared.index.MemberIndex.{MemberIndex}
 use Rattle.fb_schema.specs.Demands.{IsLegal}
 use Rattle.fb_schema.specs.Index.{IsLiveIndex, IsMemberIndex}
-use Rattle.fb_schema.specs.Order.{IsOrderOf, name_cmp, object_name}
+use Rattle.fb_schema.specs.Sorting.{IsOrderOf, name_cmp, object_name}
 use Rattle.fb_schema.specs.Rows.{rows_of, AreFew}
 
 -- the rows are legal, and this is their index

@@ -1,14 +1,16 @@
-pub mod Builders
+-- What public contracts say, in reading order.
+pub mod Rows
+pub mod Kinds
 pub mod Demands
+pub mod Live
+pub mod Members
+pub mod Served
+pub mod Builders
+-- What proofs alone need.
 pub mod Flat
 pub mod FlatLists
 pub mod Heads
 pub mod Index
 pub mod Indexed
-pub mod Kinds
-pub mod Live
 pub mod Matched
-pub mod Members
-pub mod Order
-pub mod Rows
-pub mod Served
+pub mod Sorting

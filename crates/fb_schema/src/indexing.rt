@@ -1,7 +1,7 @@
 // How the index of legal rows is made.
 
 ghost use Rattle.std.specs.Prelude.{◌≡◌, ◌<◌, ◌^◌, map, length, IfOk, All, vec_len};
-ghost use Rattle.fb_schema.specs.Order.{IsOrderOf, name_cmp};
+ghost use Rattle.fb_schema.specs.Sorting.{IsOrderOf, name_cmp};
 ghost use Rattle.fb_schema.specs.Rows.{borrowed_rows, member_of_row};
 ghost use Rattle.fb_schema.specs.Index.{view_name, member_kind, IsLiveIndex, IsMemberIndex};
 ghost use Rattle.fb_schema.specs.Demands.{IsLegal};
@@ -11,8 +11,8 @@ use crate::keys::{member_names, member_values};
 use crate::kinds::Kind;
 use crate::lists::Lists;
 use crate::live::table_views;
-use crate::order::put_in_order;
 use crate::rows::MemberRow;
+use crate::sorting::put_in_order;
 use crate::types::RowLists;
 use crate::views::FieldView;
 use std::alloc::{AllocError, Allocator};

@@ -2,10 +2,10 @@
 
 ghost use Rattle.std.specs.Prelude.{◌≡◌, ◌<◌, ◌^◌, pos, length, map, IfOk};
 ghost use Rattle.std.specs.Ordering.{nat_cmp, int_cmp, int_eq};
-ghost use Rattle.fb_schema.specs.Order.{IsOrderOf, name_cmp, member_cmp, object_name, field_name, field_slot, member_value, member_key};
+ghost use Rattle.fb_schema.specs.Sorting.{IsOrderOf, name_cmp, member_cmp, object_name, field_name, field_slot, member_value, member_key};
 
-use crate::order::put_in_order;
 use crate::rows::{FieldRow, MemberRow, ObjectRow};
+use crate::sorting::put_in_order;
 use std::alloc::{AllocError, Allocator};
 
 /// The names of objects.

@@ -1,16 +1,16 @@
 // Rows are refused by the first demand that they break.
 
 ghost use Rattle.std.specs.Prelude.{◌<◌, ◌^◌, map, length, IfOk, OnOk, IfErr, All, vec_len};
-ghost use Rattle.fb_schema.specs.Order.{IsOrderOf, IsFirstAgain, name_cmp, object_name};
+ghost use Rattle.fb_schema.specs.Sorting.{IsOrderOf, IsFirstAgain, name_cmp, object_name};
 ghost use Rattle.fb_schema.specs.Rows.{AreFew, object_of, enum_of, borrowed_rows};
 ghost use Rattle.fb_schema.specs.Demands.{IsLegal, AreClear, Refuses, IsFirstOf, demands_of_field, demands_of_union};
 
 use crate::demands::object_fault;
 use crate::fault::{Code, SchemaFault};
-use crate::order::first_again;
+use crate::first_fault::{is_at, members_fault, struct_fields_fault, table_fields_fault};
 use crate::rows::{EnumRow, ObjectRow};
+use crate::sorting::first_again;
 use crate::types::RowLists;
-use crate::walk::{is_at, members_fault, struct_fields_fault, table_fields_fault};
 use std::alloc::{AllocError, Allocator};
 
 /// The first demand that a field of an object breaks, with the field's place.

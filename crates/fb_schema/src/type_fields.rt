@@ -6,7 +6,7 @@ ghost use Rattle.std.specs.List.Sorted.{IsSorted};
 ghost use Rattle.std.specs.Ordering.{nat_cmp};
 ghost use Rattle.fb_schema.specs.Rows.{Field, field_of};
 ghost use Rattle.fb_schema.specs.Demands.{stands_below};
-ghost use Rattle.fb_schema.specs.Order.{AreTypeSlots};
+ghost use Rattle.fb_schema.specs.Sorting.{AreTypeSlots};
 ghost use Rattle.fb_schema.specs.declared.kinds.TypeField.{TypeField};
 
 use crate::kinds::TypeField;

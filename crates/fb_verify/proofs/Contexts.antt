@@ -8,7 +8,7 @@ use Rattle.fb_verify.specs.Bounds.{Bounds}
 use Rattle.fb_verify.specs.Way.{Way}
 use Rattle.fb_verify.specs.Stops.{StopsFrom}
 use Rattle.fb_verify.specs.Stack.{Context, Goes}
-use Rattle.fb_verify.specs.Rows.{words_of}
+use Rattle.fb_verify.specs.OffsetRows.{words_of}
 use Rattle.fb_verify.proofs.Steps.{stops_below}
 
 module _ (c : Checks) (b : List ℕ) (S : Rows) where

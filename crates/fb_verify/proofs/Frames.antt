@@ -12,15 +12,15 @@ use Rattle.fb_schema.specs.Live.{Live, live_fields}
 use Rattle.fb_schema.specs.Served.{IsServed}
 use Rattle.fb_verify.specs.declared.checks.Checks.{Checks}
 use Rattle.fb_verify.specs.declared.field.Table.{Table as TableOf}
-use Rattle.fb_verify.specs.declared.row.Leads.{Leads}
-use Rattle.fb_verify.specs.declared.row.Leads.TheVariants.{All, ByType}
-use Rattle.fb_verify.specs.declared.row.Row.{Row}
+use Rattle.fb_verify.specs.declared.offset_row.Leads.{Leads}
+use Rattle.fb_verify.specs.declared.offset_row.Leads.TheVariants.{All, ByType}
+use Rattle.fb_verify.specs.declared.offset_row.Row.{Row}
 use Rattle.fb_verify.specs.declared.scratch.Frame.{Frame}
 use Rattle.fb_verify.specs.Cost.{head_reads, slot_reads, reads_if_present, present_reads, reads_at, own_reads, lead_reads}
 use Rattle.fb_verify.specs.Places.{field_place}
 use Rattle.fb_verify.specs.Fields.{Lead, to_table, to_struct, to_string, to_nothing, type_place}
 use Rattle.fb_verify.specs.Told.{IsHead}
-use Rattle.fb_verify.specs.Rows.{first_word, word_at, past_first, IsRow, AreLeads, AreTypesNear}
+use Rattle.fb_verify.specs.OffsetRows.{first_word, word_at, past_first, IsRow, AreLeads, AreTypesNear}
 use Rattle.fb_verify.specs.Stack.{blank, opened, IsFrame, frame_work}
 use Rattle.fb_verify.proofs.Words.{row_on}
 

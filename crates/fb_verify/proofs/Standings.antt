@@ -7,7 +7,7 @@ use Rattle.fb_schema.specs.Served.{IsServed}
 use Rattle.fb_verify.specs.declared.checks.Checks.{Checks}
 use Rattle.fb_verify.specs.declared.fault.Fault.{Fault}
 use Rattle.fb_verify.specs.declared.field.Table.{Table}
-use Rattle.fb_verify.specs.declared.row.Row.{Row}
+use Rattle.fb_verify.specs.declared.offset_row.Row.{Row}
 use Rattle.fb_verify.specs.declared.scratch.Frame.{Frame}
 use Rattle.fb_verify.specs.declared.site.Site.{Site}
 use Rattle.fb_verify.specs.Bounds.{Bounds}
@@ -22,7 +22,7 @@ use Rattle.fb_verify.specs.Order.{Failure, ◌▷◌, head_failure, own_failure,
 use Rattle.fb_verify.specs.Way.{Way, way_to_table}
 use Rattle.fb_verify.specs.Stops.{in_head, in_field, in_element, fault_of, budget_failure, fault_at, StopsFrom}
 use Rattle.fb_verify.specs.Told.{told, way_at}
-use Rattle.fb_verify.specs.Rows.{words_of, first_word, past_first, IsLeafLead, IsTyped}
+use Rattle.fb_verify.specs.OffsetRows.{words_of, first_word, past_first, IsLeafLead, IsTyped}
 use Rattle.fb_verify.specs.Walked.{ended, TableWalked, IsInside, IsInField}
 use Rattle.fb_verify.specs.Stack.{opened as opened_frame, reached, Resting, Middle, Goes, Context, Origin, Standing}
 use Rattle.fb_verify.proofs.Chains.{head_none, own_none, element_none}

@@ -12,7 +12,7 @@ use Rattle.fb_verify.specs.Places.{field_place}
 use Rattle.fb_verify.specs.Fields.{IsPresent, IsPresentOrAbsent, IsField, type_place}
 use Rattle.fb_verify.specs.Tree.{Kids, no_kids, kid}
 use Rattle.fb_verify.specs.Unfolds.{FieldsUnfold}
-use Rattle.fb_verify.specs.Rows.{TypeFits, TypesFit, IsTyped}
+use Rattle.fb_verify.specs.OffsetRows.{TypeFits, TypesFit, IsTyped}
 
 get_take : {A : Type 0} (xs : List A) (m n : ℕ) → m < n → slice_get (take n xs) m ≡ slice_get xs m
 get_take [] m zero h = refl

@@ -8,7 +8,7 @@ use Rattle.fb_schema.specs.Rows.{Rows, is_table}
 use Rattle.fb_schema.specs.Live.{Live, live_fields}
 use Rattle.fb_verify.specs.declared.checks.Checks.{Checks}
 use Rattle.fb_verify.specs.declared.field.Table.{Table}
-use Rattle.fb_verify.specs.declared.row.Row.{Row}
+use Rattle.fb_verify.specs.declared.offset_row.Row.{Row}
 use Rattle.fb_verify.specs.declared.scratch.Frame.{Frame}
 use Rattle.fb_verify.specs.Bounds.{Bounds}
 use Rattle.fb_verify.specs.Places.{target}
@@ -16,7 +16,7 @@ use Rattle.fb_verify.specs.Fields.{to_table, entries}
 use Rattle.fb_verify.specs.Cost.{head_reads, own_reads, lead_reads}
 use Rattle.fb_verify.specs.Order.{head_failure, own_failure, element_failure}
 use Rattle.fb_verify.specs.Told.{IsHead}
-use Rattle.fb_verify.specs.Rows.{words_of, first_word, past_first, IsLeafLead, IsRow}
+use Rattle.fb_verify.specs.OffsetRows.{words_of, first_word, past_first, IsLeafLead, IsRow}
 use Rattle.fb_verify.specs.Stack.{IsFrame, frame_work, work, opened, Origin, IsUnderWay}
 use Rattle.fb_verify.proofs.Frames.{first_few, head_few, own_few, field_within, frame_on, frame_passed, frame_next, frame_opened, work_opened}
 use Rattle.fb_verify.proofs.Standings.{pass_leaf, pass_more, pass_over, open_more, close_more}

@@ -1,11 +1,11 @@
 -- What is left of a row.
 use Rattle.std.proofs.Common.{◌≡◌, ℕ, zero, suc, ◌+◌, ◌-◌, ◌<◌, List, [], ◌∷◌, refl, arith}
 use Rattle.fb_schema.specs.Rows.{Rows}
-use Rattle.fb_verify.specs.declared.row.Leads.{Leads}
-use Rattle.fb_verify.specs.declared.row.Leads.TheVariants.{All, ByType}
-use Rattle.fb_verify.specs.declared.row.Row.{Row}
+use Rattle.fb_verify.specs.declared.offset_row.Leads.{Leads}
+use Rattle.fb_verify.specs.declared.offset_row.Leads.TheVariants.{All, ByType}
+use Rattle.fb_verify.specs.declared.offset_row.Row.{Row}
 use Rattle.fb_verify.specs.Fields.{row, union_row}
-use Rattle.fb_verify.specs.Rows.{words, words_of, word_at, first_word, leads_after, past_first, AreLeads, IsRow}
+use Rattle.fb_verify.specs.OffsetRows.{words, words_of, word_at, first_word, leads_after, past_first, AreLeads, IsRow}
 
 module _ (b : List ℕ) (S : Rows) where
   words-front : (leads : Leads) (p n : ℕ) → 0 < n → words b S leads p n ≡ word_at b S leads p ∷ words b S (leads_after leads) (p + 4) (n - 1)

@@ -1,3 +1,4 @@
+-- What public contracts say, in reading order.
 pub mod Bounds
 pub mod Places
 pub mod Facts
@@ -9,14 +10,15 @@ pub mod WellFormed
 pub mod Order
 pub mod Way
 pub mod Stops
+pub mod Reasons
 pub mod MostReads
-pub mod Laws
-pub mod Told
-pub mod Rows
-pub mod Walked
-pub mod Stack
 pub mod Verdict
 pub mod Sealed
+pub mod Laws
 pub mod Samples
 pub mod Examples
-pub mod Reasons
+-- What proofs alone need.
+pub mod OffsetRows
+pub mod Stack
+pub mod Told
+pub mod Walked

@@ -7,15 +7,15 @@ use Rattle.fb_schema.specs.Served.{IsServed}
 use Rattle.fb_bytes.specs.Word.{Metered}
 use Rattle.fb_verify.specs.declared.checks.Checks.{Checks}
 use Rattle.fb_verify.specs.declared.fault.Fault.{Fault}
-use Rattle.fb_verify.specs.declared.row.Referent.TheVariants.{Nothing}
-use Rattle.fb_verify.specs.declared.row.Leads.TheVariants.{All as AllTo}
+use Rattle.fb_verify.specs.declared.offset_row.Referent.TheVariants.{Nothing}
+use Rattle.fb_verify.specs.declared.offset_row.Leads.TheVariants.{All as AllTo}
 use Rattle.fb_verify.specs.declared.scratch.Frame.{Frame}
 use Rattle.fb_verify.specs.declared.field.Table.{Table}
 use Rattle.fb_verify.specs.declared.stack.Walk.{Walk}
 use Rattle.fb_verify.specs.Bounds.{Bounds}
 use Rattle.fb_verify.specs.Way.{Way}
 use Rattle.fb_verify.specs.Told.{IsHead}
-use Rattle.fb_verify.specs.Rows.{words_of, IsRow}
+use Rattle.fb_verify.specs.OffsetRows.{words_of, IsRow}
 use Rattle.fb_verify.specs.Stops.{StopsFrom}
 use Rattle.fb_verify.specs.Walked.{ended, TableWalked, IsInside, IsInField, Waits}
 

@@ -2,18 +2,18 @@
 
 ghost use Rattle.std.specs.Prelude.{◌≡◌, ◌+◌, ◌*◌, ◌^◌, ◌<◌, ◌≤◌, length, IfOk, IfErr, IfSome, MatchOption, IsTrue, Some, None};
 ghost use Rattle.fb_schema.specs.Rows.{is_table};
-ghost use Rattle.fb_verify.specs.declared.row.Referent.TheVariants.{Table as ATable};
+ghost use Rattle.fb_verify.specs.declared.offset_row.Referent.TheVariants.{Table as ATable};
 ghost use Rattle.fb_verify.specs.Places.{target};
 ghost use Rattle.fb_verify.specs.Cost.{lead_reads};
 ghost use Rattle.fb_verify.specs.Fields.{to_table};
 ghost use Rattle.fb_verify.specs.Order.{after, lead_failure, element_failure};
 ghost use Rattle.fb_verify.specs.Told.{told, refused, stopped};
-ghost use Rattle.fb_verify.specs.Rows.{lead_to, first_word, IsSized, IsRow, IsLeafLead};
+ghost use Rattle.fb_verify.specs.OffsetRows.{lead_to, first_word, IsSized, IsRow, IsLeafLead};
 ghost use Rattle.fb_schema.specs.Served.{IsServed};
 
 use crate::checks::Checks;
 use crate::field::referent_of;
-use crate::row::{Leads, Referent, Row};
+use crate::offset_row::{Leads, Referent, Row};
 use crate::site::{Refusal, Site, Stop};
 use crate::values::{check_inline, read_offset, read_string};
 use fb_bytes::Meter;

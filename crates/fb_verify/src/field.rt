@@ -9,15 +9,15 @@ ghost use Rattle.fb_verify.specs.Places.{target, has_slot, field_place};
 ghost use Rattle.fb_verify.specs.Fields.{type_place, union_type, type_count, types_begin, entries_of, entries, union_entry, lead_of};
 ghost use Rattle.fb_verify.specs.Cost.{own_reads, present_reads, slot_reads, reads_if_present};
 ghost use Rattle.fb_verify.specs.Order.{after, vector_field_failure, unions_field_failure, union_field_failure, present_failure, own_failure};
-ghost use Rattle.fb_verify.specs.declared.row.Leads.TheVariants.{All, ByType};
+ghost use Rattle.fb_verify.specs.declared.offset_row.Leads.TheVariants.{All, ByType};
 ghost use Rattle.fb_verify.specs.Told.{told, refused, stopped, IsHead, IsVtable};
 ghost use Rattle.fb_schema.specs.Served.{IsServed, KindHolds, MemberHolds};
-ghost use Rattle.fb_verify.specs.Rows.{words_of, lead_to, IsReferent, IsRow, TypeFits, TypesFit, IsTyped, IsVectorOrUnion};
+ghost use Rattle.fb_verify.specs.OffsetRows.{words_of, lead_to, IsReferent, IsRow, TypeFits, TypesFit, IsTyped, IsVectorOrUnion};
 
 use crate::checks::Checks;
 use crate::fault::Reason;
 use crate::head::{Head, check_end, read_slot};
-use crate::row::{Leads, NO_ROW, Referent, Row};
+use crate::offset_row::{Leads, NO_ROW, Referent, Row};
 use crate::site::{Refusal, Site, Stop, refuse};
 use crate::values::{check_inline, read_offset, read_vector};
 use fb_bytes::Meter;
@@ -33,7 +33,7 @@ pub struct Table {
 
 /// A present field: the position and the head of its table, and the position that its slot tells.
 #[derive(Clone, Copy, Debug, PartialEq, Eq)]
-struct Spot {
+struct FieldSpot {
     at: u64,
     head: Head,
     place: u64,
@@ -51,7 +51,7 @@ struct Vector {
 fn read_vector_field(
     meter: &mut Meter<'_>,
     checks: Checks,
-    spot: Spot,
+    spot: FieldSpot,
     size: u32,
     align: u32,
 ) -> Result<Vector, Refusal>
@@ -80,7 +80,7 @@ fn read_vector_field(
 fn check_vector_field(
     meter: &mut Meter<'_>,
     checks: Checks,
-    spot: Spot,
+    spot: FieldSpot,
     size: u32,
     align: u32,
 ) -> Result<(), Refusal>
@@ -102,7 +102,7 @@ fn check_vector_field(
 
 /// Reads the type of a union again, whose field has this slot: 0 where its type field is absent.
 #[inline(never)]
-fn read_type(meter: &mut Meter<'_>, spot: Spot, slot: u16) -> u8
+fn read_type(meter: &mut Meter<'_>, spot: FieldSpot, slot: u16) -> u8
     requires few { meter.old.count < 2 ^ 98 }
     requires near { spot.at < 2 ^ 33 }
     requires head { IsVtable meter.old.bytes spot.at spot.head }
@@ -120,7 +120,7 @@ fn read_type(meter: &mut Meter<'_>, spot: Spot, slot: u16) -> u8
 /// Reads again where the types of a vector of unions begin, whose field has this slot, and how many they are: none where
 /// their field is absent.
 #[inline(never)]
-fn read_types(meter: &mut Meter<'_>, spot: Spot, slot: u16) -> Vector
+fn read_types(meter: &mut Meter<'_>, spot: FieldSpot, slot: u16) -> Vector
     requires few { meter.old.count < 2 ^ 98 }
     requires near { spot.at < 2 ^ 33 }
     requires head { IsVtable meter.old.bytes spot.at spot.head }
@@ -169,7 +169,7 @@ fn pass_union(
     meter: &mut Meter<'_>,
     schema: &Schema<'_>,
     checks: Checks,
-    spot: Spot,
+    spot: FieldSpot,
     slot: u16,
     union: u32,
 ) -> Result<Row, Refusal>
@@ -201,7 +201,7 @@ fn pass_union(
 fn pass_unions(
     meter: &mut Meter<'_>,
     checks: Checks,
-    spot: Spot,
+    spot: FieldSpot,
     slot: u16,
     union: u32,
 ) -> Result<Row, Refusal>
@@ -237,7 +237,7 @@ fn pass_unions(
 fn pass_vector(
     meter: &mut Meter<'_>,
     checks: Checks,
-    spot: Spot,
+    spot: FieldSpot,
     referent: Referent,
 ) -> Result<Row, Refusal>
     requires few { meter.old.count < 2 ^ 97 }
@@ -267,7 +267,7 @@ fn check_vector_or_union(
     meter: &mut Meter<'_>,
     schema: &Schema<'_>,
     checks: Checks,
-    spot: Spot,
+    spot: FieldSpot,
     field: &FieldView<'_>,
 ) -> Result<Row, Refusal>
     requires served { IsServed schema.now }
@@ -347,7 +347,7 @@ fn check_field(
             Ok(true)
         }
         _ => {
-            let spot = Spot {
+            let spot = FieldSpot {
                 at: table.at,
                 head: table.head,
                 place,

@@ -11,7 +11,7 @@ mod head;
 pub mod laws;
 pub mod limits;
 mod most;
-mod row;
+mod offset_row;
 mod scratch;
 mod site;
 mod stack;

@@ -6,7 +6,7 @@ ghost use Rattle.fb_verify.specs.Stack.{blank};
 
 use crate::field::Table;
 use crate::head::Head;
-use crate::row::{NO_ROW, Row};
+use crate::offset_row::{NO_ROW, Row};
 use std::alloc::{Allocator, Global};
 use std::marker::Model;
 

@@ -6,7 +6,7 @@ use crate::output::Tally;
 use crate::schema_files::{
     ORC, SCHEMA_L, SCHEMA_M, SEVEN, changed, refusal_text, run_by, schema_m, schema_n, spelled,
 };
-use crate::stop::Stop;
+use crate::start_fault::StartFault;
 use crate::tests::{Full, Narrow, Slow};
 use crate::words_tests::given;
 use fb_access::PathFault;
@@ -453,8 +453,8 @@ fn an_input_may_be_too_long(rt: HostRuntime) -> Result<(), Fail> {
 #[test]
 fn a_stop_has_its_text(rt: HostRuntime) -> Result<(), Fail> {
     for (stop, text, status) in [
-        (Stop::Unreadable, "cannot read schema", 2),
-        (Stop::OutOfMemory, "out of memory", 3),
+        (StartFault::Unreadable, "cannot read schema", 2),
+        (StartFault::OutOfMemory, "out of memory", 3),
     ] {
         assert_eq!(rt; format!(in rt.alloc(); "{stop}")?.as_str(), text);
         assert_eq!(rt; stop.status(), status, "{text}");

@@ -27,7 +27,7 @@ mod reading;
 mod run;
 #[cfg(test)]
 mod schema_files;
-mod stop;
+mod start_fault;
 mod stream;
 #[cfg(test)]
 mod tests;
@@ -44,11 +44,11 @@ use choices::SettingsFault;
 use clap::Error;
 use fault::status;
 use fb_bytes::Counted;
+use start_fault::StartFault;
 use std::fs::File;
 use std::io;
 use std::io::{ErrorKind, Read};
 use std::process::ExitCode;
-use stop::Stop;
 use words::settings;
 use writing::push_all;
 
@@ -56,19 +56,19 @@ use writing::push_all;
 const SCHEMA_BYTES: u64 = 0x8000_0000;
 
 /// The words of the command line, the program's name first.
-fn read_words(rt: &HostRuntime) -> Result<Vec<String>, Stop> {
+fn read_words(rt: &HostRuntime) -> Result<Vec<String>, StartFault> {
     let words = match std::env::args(rt) {
         Ok(words) => words,
         Err(error) => {
             return Err(match error.kind() {
-                ErrorKind::OutOfMemory => Stop::OutOfMemory,
-                _ => Stop::NotText,
+                ErrorKind::OutOfMemory => StartFault::OutOfMemory,
+                _ => StartFault::NotText,
             });
         }
     };
     match words.collect::<Vec<String>>(rt.alloc()) {
         Ok(words) => Ok(words),
-        Err(_) => Err(Stop::OutOfMemory),
+        Err(_) => Err(StartFault::OutOfMemory),
     }
 }
 
@@ -81,45 +81,45 @@ fn read_file(rt: &HostRuntime, name: &str) -> io::Result<Vec<u8>> {
 }
 
 /// The bytes of the schema file, where one is named.
-fn read_schema(rt: &HostRuntime, name: &Option<String>) -> Result<Option<Vec<u8>>, Stop> {
+fn read_schema(rt: &HostRuntime, name: &Option<String>) -> Result<Option<Vec<u8>>, StartFault> {
     let Some(name) = name else {
         return Ok(None);
     };
     match read_file(rt, name.as_str()) {
         Ok(bytes) => Ok(Some(bytes)),
         Err(error) => match error.kind() {
-            ErrorKind::OutOfMemory => Err(Stop::OutOfMemory),
-            _ => Err(Stop::Unreadable),
+            ErrorKind::OutOfMemory => Err(StartFault::OutOfMemory),
+            _ => Err(StartFault::Unreadable),
         },
     }
 }
 
 /// Writes the help to standard output.
-fn write_help(rt: &HostRuntime, help: &Error) -> Result<(), Stop> {
+fn write_help(rt: &HostRuntime, help: &Error) -> Result<(), StartFault> {
     let Ok(text) = format!(in rt.alloc(); "{help}") else {
-        return Err(Stop::OutOfMemory);
+        return Err(StartFault::OutOfMemory);
     };
     let mut writer = Counted::new(rt.stdout());
     let written = push_all(&mut writer, text.as_bytes());
     if written < text.len() {
-        return Err(Stop::HelpCutOff { written });
+        return Err(StartFault::HelpCutOff { written });
     }
     Ok(())
 }
 
 /// What is done where the words give no settings: help is written where they ask for it, and else the program stops.
-fn without_settings(rt: &HostRuntime, fault: SettingsFault) -> Result<u8, Stop> {
+fn without_settings(rt: &HostRuntime, fault: SettingsFault) -> Result<u8, StartFault> {
     match &fault {
         SettingsFault::Usage(error) if !error.use_stderr() => {
             write_help(rt, error)?;
             Ok(fault.status())
         }
-        _ => Err(Stop::Settings(fault)),
+        _ => Err(StartFault::Settings(fault)),
     }
 }
 
 /// Reads the words, then the schema file, then the input; answers the exit status.
-fn start(rt: &HostRuntime) -> Result<u8, Stop> {
+fn start(rt: &HostRuntime) -> Result<u8, StartFault> {
     let alloc = rt.alloc();
     let words = match read_words(rt) {
         Ok(words) => words,
@@ -151,7 +151,7 @@ fn main(rt: HostRuntime) -> io::Result<ExitCode> {
         Ok(status) => status,
         Err(stop) => {
             let _ = match &stop {
-                Stop::Settings(SettingsFault::Usage(error)) => error.print(&rt),
+                StartFault::Settings(SettingsFault::Usage(error)) => error.print(&rt),
                 _ => eprintln!(rt; "fbcheck: {stop}"),
             };
             stop.status()

@@ -1,7 +1,7 @@
 use Rattle.std.proofs.Common.{inl, refl, arith, sym, ◌∙◌, subst}
 use Rattle.fb_access.specs.Resolving.{IsFault}
 use Rattle.fb_access.proofs.ScanSteps.{false≢true}
-use Rattle.fb_access.proofs.Walked.{shorter, goes_on, leads_on, is_fault, resolves, resolved_fits}
+use Rattle.fb_access.proofs.Following.{shorter, goes_on, leads_on, is_fault, resolves, resolved_fits}
 use Rattle.fb_access.proofs.path.follow.Goals as goal
 
 pub returns-in-Err-clause-refused : goal.returns-in-Err-clause-refused

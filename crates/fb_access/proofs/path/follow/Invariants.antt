@@ -1,6 +1,6 @@
 use Rattle.std.proofs.Common.{length}
 use Rattle.fb_access.specs.Kept.{IsThere}
-use Rattle.fb_access.proofs.Walked.{IsWalked}
+use Rattle.fb_access.proofs.Following.{IsWalked}
 use Rattle.fb_access.proofs.path.follow.Given as goal
 
 -- the parts before the rest are these steps

@@ -3,7 +3,7 @@ use Rattle.std.proofs.lemmas.List.{length-map}
 use Rattle.fb_schema.specs.Index.{view_name}
 use Rattle.fb_schema.specs.FlatLists.{lists_of}
 use Rattle.fb_schema.specs.Live.{live_in, live_of, live_of_view, live_rows, by_slot, is_live, AreSpaced}
-use Rattle.fb_schema.specs.Order.{IsOrderOf, name_cmp}
+use Rattle.fb_schema.specs.Sorting.{IsOrderOf, name_cmp}
 use Rattle.fb_schema.specs.Rows.{borrowed_rows, object_of}
 use Rattle.fb_schema.proofs.IndexLemmas.{legal_slots, matched_pushed, lists_step, widest_step, same_length, kept_read, mapped_read}
 use Rattle.fb_schema.proofs.TypedLemmas.{rows_spaced}

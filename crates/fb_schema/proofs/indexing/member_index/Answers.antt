@@ -2,7 +2,7 @@ use Rattle.std.proofs.Common.{◌≡◌, map, sym, subst, ◌∙◌, ap}
 use Rattle.std.specs.Ordering.{int_cmp}
 use Rattle.fb_schema.specs.Index.{member_kind}
 use Rattle.fb_schema.specs.FlatLists.{lists_of}
-use Rattle.fb_schema.specs.Order.{IsOrderOf, member_cmp, member_value, member_key}
+use Rattle.fb_schema.specs.Sorting.{IsOrderOf, member_cmp, member_value, member_key}
 use Rattle.fb_schema.specs.Rows.{borrowed_rows, member_of_row}
 use Rattle.fb_schema.proofs.IndexLemmas.{matched_step}
 use Rattle.fb_schema.proofs.indexing.member_index.Goals as goal

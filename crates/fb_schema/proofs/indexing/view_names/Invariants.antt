@@ -1,5 +1,5 @@
 use Rattle.std.proofs.Common.{◌≡◌, map, take}
-use Rattle.fb_schema.specs.Order.{numbered}
+use Rattle.fb_schema.specs.Sorting.{numbered}
 use Rattle.fb_schema.specs.Index.{view_name}
 use Rattle.fb_schema.proofs.indexing.view_names.Given as goal
 

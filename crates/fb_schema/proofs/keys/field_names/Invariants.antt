@@ -1,5 +1,5 @@
 use Rattle.std.proofs.Common.{◌≡◌, map, take}
-use Rattle.fb_schema.specs.Order.{numbered, field_name}
+use Rattle.fb_schema.specs.Sorting.{numbered, field_name}
 use Rattle.fb_schema.proofs.keys.field_names.Given as goal
 
 abbrev pub invariant-loop-p : goal.invariant-loop-p

@@ -1,5 +1,5 @@
 use Rattle.std.proofs.Common.{◌∙◌}
-use Rattle.fb_schema.specs.Order.{field_slot}
+use Rattle.fb_schema.specs.Sorting.{field_slot}
 use Rattle.fb_schema.proofs.Blank.{blank_field}
 use Rattle.fb_schema.proofs.KeyLemmas.{numbered_more}
 use Rattle.fb_schema.proofs.keys.field_slots.Goals as goal

@@ -1,5 +1,5 @@
 use Rattle.std.proofs.Common.{◌≡◌, map, take}
-use Rattle.fb_schema.specs.Order.{numbered, field_slot}
+use Rattle.fb_schema.specs.Sorting.{numbered, field_slot}
 use Rattle.fb_schema.proofs.keys.field_slots.Given as goal
 
 abbrev pub invariant-loop-p : goal.invariant-loop-p

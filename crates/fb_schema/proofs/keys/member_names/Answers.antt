@@ -1,5 +1,5 @@
 use Rattle.std.proofs.Common.{◌++◌, ◌∷◌, [], get_or, ap, ◌∙◌}
-use Rattle.fb_schema.specs.Order.{member_key}
+use Rattle.fb_schema.specs.Sorting.{member_key}
 use Rattle.fb_schema.proofs.Blank.{blank_member}
 use Rattle.fb_schema.proofs.KeyLemmas.{numbered_more}
 use Rattle.fb_schema.proofs.keys.member_names.Goals as goal

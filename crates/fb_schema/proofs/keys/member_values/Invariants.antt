@@ -1,5 +1,5 @@
 use Rattle.std.proofs.Common.{◌≡◌, map, take}
-use Rattle.fb_schema.specs.Order.{numbered, member_value}
+use Rattle.fb_schema.specs.Sorting.{numbered, member_value}
 use Rattle.fb_schema.proofs.keys.member_values.Given as goal
 
 abbrev pub invariant-loop-p : goal.invariant-loop-p

@@ -1,5 +1,5 @@
 use Rattle.std.proofs.Common.{◌++◌, ◌∷◌, [], ap, ◌∙◌}
-use Rattle.fb_schema.specs.Order.{object_name}
+use Rattle.fb_schema.specs.Sorting.{object_name}
 use Rattle.fb_schema.proofs.KeyLemmas.{numbered_more}
 use Rattle.fb_schema.proofs.keys.object_names.Goals as goal
 

@@ -1,5 +1,5 @@
 use Rattle.std.proofs.Common.{◌≡◌, map, take}
-use Rattle.fb_schema.specs.Order.{numbered, object_name}
+use Rattle.fb_schema.specs.Sorting.{numbered, object_name}
 use Rattle.fb_schema.proofs.keys.object_names.Given as goal
 
 abbrev pub invariant-loop-n : goal.invariant-loop-n

@@ -3,7 +3,7 @@ use Rattle.std.specs.Str.{bytes_eq}
 use Rattle.fb_schema.specs.FlatLists.{lists_of}
 use Rattle.fb_schema.specs.Index.{view_name}
 use Rattle.fb_schema.specs.Live.{Live, live_in, live_fields, live_of_view, live_of, by_slot, is_live}
-use Rattle.fb_schema.specs.Order.{name_cmp}
+use Rattle.fb_schema.specs.Sorting.{name_cmp}
 use Rattle.fb_schema.specs.Rows.{Rows, rows_of, object_of, field_of, is_table}
 use Rattle.fb_schema.proofs.LookLemmas.{live_read}
 use Rattle.fb_schema.proofs.NameLemmas.{table_at, live_in_table, view_not_again}

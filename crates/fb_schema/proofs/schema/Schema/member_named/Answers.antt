@@ -6,7 +6,7 @@ use Rattle.std.specs.declared.cmp.Ordering.TheVariants.{Equal}
 use Rattle.fb_schema.specs.declared.rows.EnumRow.{EnumRow}
 use Rattle.fb_schema.specs.Demands.{first_code, members_asked}
 use Rattle.fb_schema.specs.Members.{member_named, is_member_value}
-use Rattle.fb_schema.specs.Order.{IsPlaceOf, member_cmp, member_key}
+use Rattle.fb_schema.specs.Sorting.{IsPlaceOf, member_cmp, member_key}
 use Rattle.fb_schema.specs.Rows.{Rows, Member, rows_of, is_union, member_of_row}
 use Rattle.fb_schema.proofs.Blank.{blank_member}
 use Rattle.fb_schema.proofs.UnionLemmas.{union_at, members_clear}

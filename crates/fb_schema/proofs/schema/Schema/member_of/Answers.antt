@@ -12,7 +12,7 @@ use Rattle.fb_schema.specs.Index.{member_kind}
 use Rattle.fb_schema.specs.Kinds.{kind_of}
 use Rattle.fb_schema.specs.Members.{member_of, is_member_value}
 use Rattle.fb_schema.specs.Demands.{first_code, members_asked}
-use Rattle.fb_schema.specs.Order.{IsOrderOf, IsPlaceOf, member_value}
+use Rattle.fb_schema.specs.Sorting.{IsOrderOf, IsPlaceOf, member_value}
 use Rattle.fb_schema.specs.Rows.{Rows, Member, rows_of, is_union, member_of_row}
 use Rattle.fb_schema.proofs.Blank.{blank_member}
 use Rattle.fb_schema.proofs.UnionLemmas.{union_at, members_clear, member_of_row_is, member_of_zero, value_found, value_missing, value_at, kind_found}

@@ -1,6 +1,6 @@
 use Rattle.std.proofs.Common.{map, ap, ◌∙◌, position, refl}
 use Rattle.std.specs.Str.{bytes_eq}
-use Rattle.fb_schema.specs.Order.{name_cmp, object_name}
+use Rattle.fb_schema.specs.Sorting.{name_cmp, object_name}
 use Rattle.fb_schema.specs.Rows.{Object, Rows, object_of, rows_of}
 use Rattle.fb_schema.proofs.PlaceLemmas.{place_position}
 use Rattle.fb_schema.proofs.LegalLemmas.{legal_clear}

@@ -1,8 +1,8 @@
 // The offset words by which a field leads on.
 
 ghost use Rattle.std.specs.Prelude.{◌≡◌, ◌+◌, ◌*◌, ◌-◌, ◌<◌, ◌^◌, true, false};
-ghost use Rattle.fb_verify.specs.Rows.{past_first, AreTypesNear};
-ghost use Rattle.fb_verify.specs.declared.row.Leads.TheVariants.{All};
+ghost use Rattle.fb_verify.specs.OffsetRows.{past_first, AreTypesNear};
+ghost use Rattle.fb_verify.specs.declared.offset_row.Leads.TheVariants.{All};
 
 /// What an offset word refers to, past its own test.
 #[derive(Clone, Copy, Debug, PartialEq, Eq)]

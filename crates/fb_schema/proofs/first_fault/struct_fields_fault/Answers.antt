@@ -1,12 +1,12 @@
 use Rattle.std.proofs.Common.{◌≡◌, map, get_or, sym, ◌∙◌, below_more}
 use Rattle.std.proofs.lemmas.Option.{slice_get-get_or}
-use Rattle.fb_schema.specs.Order.{IsFirstAgain, name_cmp, field_name}
+use Rattle.fb_schema.specs.Sorting.{IsFirstAgain, name_cmp, field_name}
 use Rattle.fb_schema.specs.Rows.{field_of, borrowed_rows}
 use Rattle.fb_schema.specs.Demands.{first_code, struct_asked}
 use Rattle.fb_schema.proofs.Blank.{blank_field}
 use Rattle.fb_schema.proofs.WalkLemmas.{struct_code, past_struct}
-use Rattle.fb_schema.proofs.walk.struct_fields_fault.Goals as goal
-use Rattle.fb_schema.proofs.walk.struct_fields_fault.Goals.{After-struct_field_fault}
+use Rattle.fb_schema.proofs.first_fault.struct_fields_fault.Goals as goal
+use Rattle.fb_schema.proofs.first_fault.struct_fields_fault.Goals.{After-struct_field_fault}
 
 found : (g : _) (c : After-struct_field_fault g) → c.struct_field_fault.result ≡ first_code (struct_asked (borrowed_rows c.args.rows.now) c.args.object.now.bytesize (map field_of c.args.fields.now) c.loop-p.p)
 found g c =

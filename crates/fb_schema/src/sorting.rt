@@ -1,7 +1,7 @@
 // Keys in order, each with its place, by which repeated ones are found without comparing each with all others.
 
 ghost use Rattle.std.specs.Prelude.{◌≡◌, List, MatchOption, min};
-ghost use Rattle.fb_schema.specs.Order.{IsOrderOf, IsFirstAgain, IsPlaceOf, numbered};
+ghost use Rattle.fb_schema.specs.Sorting.{IsOrderOf, IsFirstAgain, IsPlaceOf, numbered};
 
 use std::alloc::Allocator;
 

@@ -1,7 +1,7 @@
 use Rattle.std.proofs.Common.{◌≡◌, ◌<◌, ℕ, map, None}
 use Rattle.fb_schema.specs.Rows.{field_of, borrowed_rows}
 use Rattle.fb_schema.specs.Demands.{first_code, table_asked}
-use Rattle.fb_schema.proofs.walk.table_fields_fault.Given as goal
+use Rattle.fb_schema.proofs.first_fault.table_fields_fault.Given as goal
 
 abbrev pub invariant-loop-p : goal.invariant-loop-p
 invariant-loop-p g l = (q : ℕ) → q < l.p → first_code (table_asked (borrowed_rows l.rows) (map field_of l.fields) q) ≡ None

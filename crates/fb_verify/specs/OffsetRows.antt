@@ -5,11 +5,11 @@ use Rattle.fb_schema.specs.declared.kinds.Kind.{Kind}
 use Rattle.fb_schema.specs.declared.kinds.Kind.TheVariants.{Scalar, Text, Struct, Table, Union, Unions}
 use Rattle.fb_schema.specs.Rows.{Rows, is_table, is_union}
 use Rattle.fb_schema.specs.Members.{member_of}
-use Rattle.fb_verify.specs.declared.row.Referent.{Referent}
-use Rattle.fb_verify.specs.declared.row.Referent.TheVariants.{Text as AText, Table as ATable, Struct as AStruct, Nothing}
-use Rattle.fb_verify.specs.declared.row.Leads.{Leads}
-use Rattle.fb_verify.specs.declared.row.Leads.TheVariants.{All, ByType}
-use Rattle.fb_verify.specs.declared.row.Row.{Row}
+use Rattle.fb_verify.specs.declared.offset_row.Referent.{Referent}
+use Rattle.fb_verify.specs.declared.offset_row.Referent.TheVariants.{Text as AText, Table as ATable, Struct as AStruct, Nothing}
+use Rattle.fb_verify.specs.declared.offset_row.Leads.{Leads}
+use Rattle.fb_verify.specs.declared.offset_row.Leads.TheVariants.{All, ByType}
+use Rattle.fb_verify.specs.declared.offset_row.Row.{Row}
 use Rattle.fb_verify.specs.Places.{target}
 use Rattle.fb_verify.specs.Fields.{type_place, Lead, to_table, to_struct, to_string, to_nothing, lead_of, Entry, entry, row, union_row}
 

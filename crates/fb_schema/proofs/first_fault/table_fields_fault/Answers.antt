@@ -2,13 +2,13 @@ use Rattle.std.proofs.Common.{◌≡◌, map, get_or, sym, ◌∙◌, below_more
 use Rattle.std.proofs.lemmas.Option.{slice_get-get_or}
 use Rattle.std.specs.Ordering.{nat_cmp}
 use Rattle.fb_schema.specs.declared.kinds.TypeField.TheVariants.{ForUnion, ForUnions}
-use Rattle.fb_schema.specs.Order.{IsFirstAgain, name_cmp, field_name, field_slot, AreTypeSlots}
+use Rattle.fb_schema.specs.Sorting.{IsFirstAgain, name_cmp, field_name, field_slot, AreTypeSlots}
 use Rattle.fb_schema.specs.Rows.{field_of, borrowed_rows}
 use Rattle.fb_schema.specs.Demands.{first_code, table_asked}
 use Rattle.fb_schema.proofs.Blank.{blank_field}
 use Rattle.fb_schema.proofs.WalkLemmas.{table_code, past_table}
-use Rattle.fb_schema.proofs.walk.table_fields_fault.Goals as goal
-use Rattle.fb_schema.proofs.walk.table_fields_fault.Goals.{After-table_field_fault}
+use Rattle.fb_schema.proofs.first_fault.table_fields_fault.Goals as goal
+use Rattle.fb_schema.proofs.first_fault.table_fields_fault.Goals.{After-table_field_fault}
 
 found : (g : _) (c : After-table_field_fault g) → c.table_field_fault.result ≡ first_code (table_asked (borrowed_rows c.args.rows.now) (map field_of c.args.fields.now) c.loop-p.p)
 found g c =

@@ -3,8 +3,8 @@ use Rattle.std.specs.Cmp.{Equal-is}
 use Rattle.std.specs.Ordering.{is_eq}
 use Rattle.fb_schema.proofs.Numbers.{get_or_default}
 use Rattle.fb_schema.proofs.OrderLemmas.{least_apart, least_alike, least_first, neighbours}
-use Rattle.fb_schema.proofs.order.first_again.Goals as goal
-use Rattle.fb_schema.proofs.order.first_again.Goals.{then-eq, else-eq}
+use Rattle.fb_schema.proofs.sorting.first_again.Goals as goal
+use Rattle.fb_schema.proofs.sorting.first_again.Goals.{then-eq, else-eq}
 
 pub loop-i-preserved : goal.loop-i-preserved
 loop-i-preserved g c =

@@ -2,7 +2,7 @@
 
 ghost use Rattle.std.specs.Prelude.{◌≡◌, ◌<◌, ◌^◌, pos, not, ◌&&◌, map, length, IfOk, OnOk, IfErr, All, vec_len};
 ghost use Rattle.std.specs.Ordering.{int_eq};
-ghost use Rattle.fb_schema.specs.Order.{IsOrderOf, name_cmp, object_name};
+ghost use Rattle.fb_schema.specs.Sorting.{IsOrderOf, name_cmp, object_name};
 ghost use Rattle.fb_schema.specs.Rows.{field_of, object_of, member_of_row, borrowed_rows};
 ghost use Rattle.fb_schema.specs.Demands.{is_at, IsFirstOf, struct_asked, table_asked, members_asked, demands_of_field};
 
@@ -10,8 +10,8 @@ use crate::demands::{Beside, member_fault, object_fault, struct_field_fault, tab
 use crate::fault::Code;
 use crate::keys::{field_names, field_slots, is_none, member_names, member_values};
 use crate::kinds::TypeField;
-use crate::order::first_again;
 use crate::rows::{FieldRow, MemberRow, ObjectRow};
+use crate::sorting::first_again;
 use crate::type_fields::{stands_below, type_slots};
 use crate::types::RowLists;
 use std::alloc::{AllocError, Allocator};

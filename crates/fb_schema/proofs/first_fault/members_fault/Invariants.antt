@@ -1,7 +1,7 @@
 use Rattle.std.proofs.Common.{◌≡◌, ◌<◌, ℕ, map, None}
 use Rattle.fb_schema.specs.Rows.{member_of_row, borrowed_rows}
 use Rattle.fb_schema.specs.Demands.{first_code, members_asked}
-use Rattle.fb_schema.proofs.walk.members_fault.Given as goal
+use Rattle.fb_schema.proofs.first_fault.members_fault.Given as goal
 
 abbrev pub invariant-loop-p : goal.invariant-loop-p
 invariant-loop-p g l = (q : ℕ) → q < l.p → first_code (members_asked (borrowed_rows l.rows) (map member_of_row l.members) q) ≡ None

@@ -1,13 +1,13 @@
 use Rattle.std.proofs.Common.{◌≡◌, map, get_or, sym, ◌∙◌, below_more}
 use Rattle.std.proofs.lemmas.Option.{slice_get-get_or}
 use Rattle.std.specs.Ordering.{int_cmp}
-use Rattle.fb_schema.specs.Order.{IsFirstAgain, member_cmp, member_value, member_key}
+use Rattle.fb_schema.specs.Sorting.{IsFirstAgain, member_cmp, member_value, member_key}
 use Rattle.fb_schema.specs.Rows.{member_of_row, borrowed_rows}
 use Rattle.fb_schema.specs.Demands.{first_code, members_asked}
 use Rattle.fb_schema.proofs.Blank.{blank_member}
 use Rattle.fb_schema.proofs.MemberLemmas.{member_code, past_members}
-use Rattle.fb_schema.proofs.walk.members_fault.Goals as goal
-use Rattle.fb_schema.proofs.walk.members_fault.Goals.{After-member_fault}
+use Rattle.fb_schema.proofs.first_fault.members_fault.Goals as goal
+use Rattle.fb_schema.proofs.first_fault.members_fault.Goals.{After-member_fault}
 
 found : (g : _) (c : After-member_fault g) → c.member_fault.result ≡ first_code (members_asked (borrowed_rows c.args.rows.now) (map member_of_row c.args.members.now) c.loop-p.p)
 found g c =

@@ -5,7 +5,7 @@ use thiserror::Error;
 
 /// Why the program comes to rest before a run.
 #[derive(Debug, Drop, Error)]
-pub enum Stop {
+pub enum StartFault {
     /// A word of the command line isn't a text.
     #[error("a word is not UTF-8")]
     NotText,
@@ -23,14 +23,14 @@ pub enum Stop {
     OutOfMemory,
 }
 
-impl Stop {
+impl StartFault {
     /// The program's exit status: 2 for wrong words and for a schema file that can't be read, 3 for want of memory and
     /// for help that can't be written.
     pub fn status(&self) -> u8 {
         match self {
-            Stop::NotText | Stop::Unreadable => 2,
-            Stop::Settings(fault) => fault.status(),
-            Stop::HelpCutOff { .. } | Stop::OutOfMemory => 3,
+            StartFault::NotText | StartFault::Unreadable => 2,
+            StartFault::Settings(fault) => fault.status(),
+            StartFault::HelpCutOff { .. } | StartFault::OutOfMemory => 3,
         }
     }
 }
