@@ -47,7 +47,7 @@ use fb_bytes::Counted;
 use start_fault::StartFault;
 use std::fs::File;
 use std::io;
-use std::io::{ErrorKind, Read};
+use std::io::Read;
 use std::process::ExitCode;
 use words::settings;
 use writing::push_all;
@@ -57,19 +57,8 @@ const SCHEMA_BYTES: u64 = 0x8000_0000;
 
 /// The words of the command line, the program's name first.
 fn read_words(rt: &HostRuntime) -> Result<Vec<String>, StartFault> {
-    let words = match std::env::args(rt) {
-        Ok(words) => words,
-        Err(error) => {
-            return Err(match error.kind() {
-                ErrorKind::OutOfMemory => StartFault::OutOfMemory,
-                _ => StartFault::NotText,
-            });
-        }
-    };
-    match words.collect::<Vec<String>>(rt.alloc()) {
-        Ok(words) => Ok(words),
-        Err(_) => Err(StartFault::OutOfMemory),
-    }
+    let words = std::env::args(rt).map_err(StartFault::of_words)?;
+    Ok(words.collect::<Vec<String>>(rt.alloc())?)
 }
 
 /// The bytes of a schema file, at most [`SCHEMA_BYTES`] of them.
@@ -85,20 +74,13 @@ fn read_schema(rt: &HostRuntime, name: &Option<String>) -> Result<Option<Vec<u8>
     let Some(name) = name else {
         return Ok(None);
     };
-    match read_file(rt, name.as_str()) {
-        Ok(bytes) => Ok(Some(bytes)),
-        Err(error) => match error.kind() {
-            ErrorKind::OutOfMemory => Err(StartFault::OutOfMemory),
-            _ => Err(StartFault::Unreadable),
-        },
-    }
+    let bytes = read_file(rt, name.as_str()).map_err(StartFault::of_schema)?;
+    Ok(Some(bytes))
 }
 
 /// Writes the help to standard output.
 fn write_help(rt: &HostRuntime, help: &Error) -> Result<(), StartFault> {
-    let Ok(text) = format!(in rt.alloc(); "{help}") else {
-        return Err(StartFault::OutOfMemory);
-    };
+    let text = format!(in rt.alloc(); "{help}")?;
     let mut writer = Counted::new(rt.stdout());
     let written = push_all(&mut writer, text.as_bytes());
     if written < text.len() {
@@ -121,18 +103,12 @@ fn without_settings(rt: &HostRuntime, fault: SettingsFault) -> Result<u8, StartF
 /// Reads the words, then the schema file, then the input; answers the exit status.
 fn start(rt: &HostRuntime) -> Result<u8, StartFault> {
     let alloc = rt.alloc();
-    let words = match read_words(rt) {
-        Ok(words) => words,
-        Err(stop) => return Err(stop),
-    };
+    let words = read_words(rt)?;
     let settings = match settings(alloc, words.as_slice()) {
         Ok(settings) => settings,
         Err(fault) => return without_settings(rt, fault),
     };
-    let file = match read_schema(rt, &settings.schema) {
-        Ok(file) => file,
-        Err(stop) => return Err(stop),
-    };
+    let file = read_schema(rt, &settings.schema)?;
     let bytes = match &file {
         Some(bytes) => Some(bytes.as_slice()),
         None => None,

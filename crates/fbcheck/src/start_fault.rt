@@ -1,6 +1,9 @@
 //! Why the program comes to rest before a run.
 
 use crate::choices::SettingsFault;
+use std::alloc::AllocError;
+use std::io;
+use std::io::ErrorKind;
 use thiserror::Error;
 
 /// Why the program comes to rest before a run.
@@ -24,6 +27,22 @@ pub enum StartFault {
 }
 
 impl StartFault {
+    /// Why the words of the command line can't be read.
+    pub fn of_words(error: io::Error) -> StartFault {
+        match error.kind() {
+            ErrorKind::OutOfMemory => StartFault::OutOfMemory,
+            _ => StartFault::NotText,
+        }
+    }
+
+    /// Why the schema file can't be read.
+    pub fn of_schema(error: io::Error) -> StartFault {
+        match error.kind() {
+            ErrorKind::OutOfMemory => StartFault::OutOfMemory,
+            _ => StartFault::Unreadable,
+        }
+    }
+
     /// The program's exit status: 2 for wrong words and for a schema file that can't be read, 3 for want of memory and
     /// for help that can't be written.
     pub fn status(&self) -> u8 {
@@ -32,5 +51,11 @@ impl StartFault {
             StartFault::Settings(fault) => fault.status(),
             StartFault::HelpCutOff { .. } | StartFault::OutOfMemory => 3,
         }
+    }
+}
+
+impl From<AllocError> for StartFault {
+    fn from(_error: AllocError) -> StartFault {
+        StartFault::OutOfMemory
     }
 }

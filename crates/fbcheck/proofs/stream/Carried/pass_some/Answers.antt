@@ -11,7 +11,7 @@ returns-in_default-add_line-clause-halts g c = halts_memory _ (standing c.args.s
 pub returns-in-Some-clause-onward : goal.returns-in-Some-clause-onward
 returns-in-Some-clause-onward g c =
     let message = c.in-Some.message.now in
-    let none : c.args.self.now.framer.held ≡ [] = nil_from_length c.args.self.now.framer.held (omega (arith, c.held.ensures.value, c.if-held-eq0.true)) in
+    let none : c.args.self.now.framer.held ≡ [] = nil_from_length c.args.self.now.framer.held (omega (arith, c.held.ensures.value)) in
     onward_message _ (standing c.args.self.now) _ _ message
     (c.in-Some.ensures.front ∙ ap (λ (l : List ℕ). l ++ take (length message) c.args.rest.now) (sym none))
     (subst (λ (n : ℕ). IsMessage n message) c.limit.ensures.value c.in-Some.ensures.whole) none c.in-Ok.ensures.ok
