@@ -45,6 +45,7 @@ fn number(reason: Reason) -> u8 {
         Reason::NoTerminator => 10,
         Reason::LengthsDiffer => 11,
         Reason::PastTable => 12,
+        Reason::TooManyReads => 13,
     }
 }
 

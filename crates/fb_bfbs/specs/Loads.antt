@@ -39,7 +39,7 @@ pub record IsSchemaFile (b : List ℕ) (L : Bounds) : Type 0 where
   pub short : length b < 2 ^ 31
   pub found : Tree
   pub well_formed : IsWellFormed published b fixed schema_number Bare schema_ident found
-  pub within : IsWithin found L
+  pub within : IsWithin found published b fixed Bare schema_ident L
 
 -- what a schema file says
 abbrev pub told : List ℕ → Says

@@ -211,6 +211,7 @@ fn each_reason_of_the_verifier_has_its_text(rt: HostRuntime) -> Result<(), Fail>
         (Reason::NoTerminator, "V10 NoTerminator"),
         (Reason::LengthsDiffer, "V11 LengthsDiffer"),
         (Reason::PastTable, "V12 PastTable"),
+        (Reason::TooManyReads, "V13 TooManyReads"),
     ];
     for (reason, name) in &reasons {
         let fault = LoadFault::NotWellFormed(Fault {

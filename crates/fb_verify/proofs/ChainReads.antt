@@ -1,5 +1,5 @@
 -- How many reads a chain of tests makes at most where it fails.
-use Rattle.std.proofs.Common.{◌≡◌, ℕ, ◌+◌, ◌≤◌, List, refl, arith, Option, Some, None}
+use Rattle.std.proofs.Common.{◌≡◌, ℕ, ◌+◌, ◌≤◌, Bool, true, false, List, refl, arith, Option, Some, None}
 use Rattle.std.proofs.lemmas.Bool.Decides.{nat_tests}
 use Rattle.fb_schema.specs.declared.kinds.Kind.{Kind}
 use Rattle.fb_schema.specs.declared.kinds.Kind.TheVariants.{Scalar, Text, Struct, Table, Union, Scalars, Texts, Structs, Tables, Unions}
@@ -11,12 +11,16 @@ use Rattle.fb_verify.specs.declared.start.Start.{Start}
 use Rattle.fb_verify.specs.declared.start.Start.TheVariants.{Bare, Prefixed}
 use Rattle.fb_verify.specs.declared.start.Ident.{Ident}
 use Rattle.fb_verify.specs.declared.start.Ident.TheVariants.{Any, Want}
+use Rattle.fb_verify.specs.declared.fault.Reason.{Reason}
+use Rattle.fb_verify.specs.declared.fault.Reason.TheVariants.{TooManyReads}
+use Rattle.fb_verify.specs.Bounds.{Bounds, allowed}
 use Rattle.fb_verify.specs.Places.{target, field_place}
 use Rattle.fb_verify.specs.Fields.{type_place, union_type, Lead, to_table, to_struct, to_string, to_nothing, Entry}
 use Rattle.fb_verify.specs.Tree.{size}
 use Rattle.fb_verify.specs.Cost.{slot_reads, reads_if_present, lead_reads}
 use Rattle.fb_verify.specs.WellFormed.{base, prefix_reads, ident_reads, start_reads}
-use Rattle.fb_verify.specs.Order.{Failure, after, ◌▷◌, prefix_failure, ident_failure, offset_failure, start_failure, head_failure, string_failure, vector_failure, inline_failure, table_failure, inline_field_failure, vector_field_failure, unions_field_failure, union_field_failure, present_failure, failure_at, own_failure, lead_failure, element_failure}
+use Rattle.fb_verify.specs.Stops.{reads_failure, lead_reads_failure}
+use Rattle.fb_verify.specs.Order.{Failure, check, after, ◌▷◌, prefix_failure, ident_failure, offset_failure, start_failure, head_failure, string_failure, vector_failure, inline_failure, table_failure, inline_field_failure, vector_field_failure, unions_field_failure, union_field_failure, present_failure, failure_at, own_failure, lead_failure, element_failure}
 use Rattle.fb_verify.proofs.Price.{few_if_present, slot_price}
 
 -- the reads of chains that fail
@@ -25,11 +29,11 @@ use Rattle.fb_verify.proofs.Price.{few_if_present, slot_price}
 unfoldable pub AtMost : ℕ → Option Failure → Type 0
 AtMost n x = (e : Failure) → x ≡ Some e → e.reads ≤ n
 
-more : (m n : ℕ) (x : Option Failure) → m ≤ n → AtMost m x → AtMost n x
+pub more : (m n : ℕ) (x : Option Failure) → m ≤ n → AtMost m x → AtMost n x
 unfolding AtMost
 more m n x h g e i = omega (arith, g e i)
 
-either : (n : ℕ) (x y : Option Failure) → AtMost n x → AtMost n y → AtMost n (x ▷ y)
+pub either : (n : ℕ) (x y : Option Failure) → AtMost n x → AtMost n y → AtMost n (x ▷ y)
 unfolding AtMost
 either n None y h g = g
 either n (Some d) y h g = h
@@ -41,6 +45,23 @@ later : (m n : ℕ) (x : Option Failure) → AtMost n x → AtMost (m + n) (afte
 unfolding AtMost
 later m n None h e i = absurd (cc)
 later m n (Some d) h e i = let g = h d refl in let j : m + d.reads ≡ e.reads = ap_reads i in omega arith
+
+-- the budget of reads is asked after so many reads
+
+check_most : (holds : Bool) (reason : Reason) (p n : ℕ) → AtMost n (check holds reason p n None)
+unfolding AtMost
+check_most true reason p n e h = absurd (cc)
+check_most false reason p n e h = let i = ap_reads h in omega (arith, i)
+
+pub reads_most : (L : Bounds) (paid n p : ℕ) → AtMost n (reads_failure L paid n p)
+reads_most L paid n p = check_most (allowed L.reads (paid + n)) TooManyReads p n
+
+pub lead_reads_most : (L : Bounds) (paid : ℕ) (x : Entry) (lead : Lead) → AtMost (x.reads + lead_reads lead) (lead_reads_failure L paid x lead)
+unfolding AtMost
+lead_reads_most L paid x (to_table k) = λ e h. absurd (cc)
+lead_reads_most L paid x (to_struct size align) = reads_most L paid (x.reads + 1) x.place
+lead_reads_most L paid x to_string = reads_most L paid (x.reads + 3) x.place
+lead_reads_most L paid x to_nothing = reads_most L paid (x.reads + 0) x.place
 
 module _ (c : Checks) (b : List ℕ) where
   offset_most : (p : ℕ) → AtMost 1 (offset_failure c b p)

@@ -1,3 +1,4 @@
+pub mod Budgets
 pub mod Identifiers
 pub mod Chains
 pub mod Unique
@@ -7,6 +8,7 @@ pub mod Refusals
 pub mod Nones
 pub mod Price
 pub mod ChainReads
+pub mod Nears
 pub mod TrailPrice
 pub mod Pushes
 pub mod Steps

@@ -1,7 +1,6 @@
 -- At most one fault is the first.
-use Rattle.std.proofs.Common.{◌≡◌, ℕ, zero, suc, ◌<◌, ◌⊎◌, inl, inr, List, [], ◌∷◌, take, refl, sym, ◌∙◌, ap, subst, arith, Some}
+use Rattle.std.proofs.Common.{◌≡◌, ℕ, zero, suc, ◌+◌, ◌<◌, ◌⊎◌, inl, inr, List, [], ◌∷◌, take, refl, sym, ◌∙◌, ap, subst, arith, Some}
 use Rattle.std.specs.Prelude.{slice_get}
-use Rattle.std.proofs.lemmas.Bool.Decides.{nat_tests}
 use Rattle.std.proofs.lemmas.List.{take-take}
 use Rattle.fb_schema.specs.Rows.{Rows}
 use Rattle.fb_schema.specs.Live.{Live, live_fields}
@@ -12,15 +11,17 @@ use Rattle.fb_verify.specs.declared.fault.Fault.{Fault}
 use Rattle.fb_verify.specs.Bounds.{Bounds}
 use Rattle.fb_verify.specs.Places.{target}
 use Rattle.fb_verify.specs.Facts.{IsTable}
-use Rattle.fb_verify.specs.Fields.{to_table, Entry, entries}
+use Rattle.fb_verify.specs.Fields.{IsField, to_table, Entry, entries}
 use Rattle.fb_verify.specs.Tree.{Kids, kids_length, Elements, elements_length}
-use Rattle.fb_verify.specs.WellFormed.{base}
+use Rattle.fb_verify.specs.WellFormed.{base, start_reads, IsStart}
+use Rattle.fb_verify.specs.Cost.{own_reads, kids_cost, elements_cost}
 use Rattle.fb_verify.specs.Order.{start_failure, own_failure, element_failure}
 use Rattle.fb_verify.specs.Way.{Way, way_to_start, way_to_root, way_to_field, way_to_element, way_to_table, StaysWithin}
 use Rattle.fb_verify.specs.Stops.{Place, in_start, in_head, in_field, in_element, fault_at, IsFalseAt, Trail, at_head, at_field, FieldTrail, at_own, at_element, ElementTrail, at_lead, through, IsLink, IsInField, IsTrail, IsFieldTrail, IsElementTrail, Stops}
-use Rattle.fb_verify.proofs.Chains.{start_none, head_none, own_none, through_passes}
+use Rattle.fb_verify.proofs.Chains.{start_none, own_none, through_passes}
 use Rattle.fb_verify.proofs.Unique.{one_kids, one_elements}
-use Rattle.fb_verify.proofs.Overruns.{no_fault, kids_at, elements_at, field_overruns, element_overruns}
+use Rattle.fb_verify.proofs.Budgets.{fewer_reads, not_both}
+use Rattle.fb_verify.proofs.Overruns.{reads_fault, no_lead_fault, kids_at, elements_at, head_overruns, field_overruns, element_overruns, kids_cost_take, elements_cost_take}
 
 -- lists
 
@@ -60,29 +61,27 @@ module _ (c : Checks) (b : List ℕ) (S : Rows) (L : Bounds) where
     trail_within at_head k t w f h = h.within
     trail_within (at_field earlier s) k t w f h =
         let r = field_within s t h.0 (way_to_field c b S k t earlier h.0 w) f h.2 in
-        record { tables = omega (arith, r.tables); depth = omega (arith, r.depth) }
+        record { tables = omega (arith, r.tables); depth = omega (arith, r.depth); reads = fewer_reads L.reads _ _ (omega arith) r.reads }
 
     pub field_within : (s : FieldTrail) (t : ℕ) (g : Live) (w : Way) (f : Fault) → IsFieldTrail s c b S L t g w f → StaysWithin w L
     field_within at_own t g w f h = h.within
     field_within (at_element before s) t g w f h =
         let r = element_within s h.0 (way_to_element c b S t g before w) f h.2 in
-        record { tables = omega (arith, r.tables); depth = omega (arith, r.depth) }
+        record { tables = omega (arith, r.tables); depth = omega (arith, r.depth); reads = fewer_reads L.reads _ _ (omega arith) r.reads }
 
     pub element_within : (s : ElementTrail) (x : Entry) (w : Way) (f : Fault) → IsElementTrail s c b S L x w f → StaysWithin w L
     element_within at_lead x w f h = h.within
     element_within (through s) x w f h =
         let r = trail_within s h.0 (target b x.place) (way_to_table x w) f h.3 in
-        record { tables = omega (arith, r.tables); depth = omega (arith, r.depth) }
+        record { tables = omega (arith, r.tables); depth = omega (arith, r.depth); reads = fewer_reads L.reads _ _ (omega arith) r.reads }
 
   -- a table that another trail opened isn't where a trail stops
   opened_head : (k t : ℕ) (w : Way) (earlier : Kids) (g : Live) (f : Fault) → IsTable c b t → StaysWithin (way_to_field c b S k t earlier g w) L → IsFalseAt c b S L (in_head k t) w f → ⊥
-  unfolding fault_at
   opened_head k t w earlier g f h r i =
-      let e = i.first in
-      let o = (head_none c b t).1 h in
-      let few : w.passed < L.tables = omega (arith, r.tables) in
-      let shallow : w.links < L.depth = omega (arith, r.depth) in
-      grind (arith, nat_tests)
+      elim (head_overruns c b S L k t w f h i) [
+        | inl p ↦ omega (arith, p.1, r.depth)
+        | inr o ↦ elim o [ inl p ↦ omega (arith, p.1, r.tables) | inr p ↦ not_both L.reads _ _ (omega arith) r.reads p.1 ]
+      ]
 
   -- nor is a field that another trail passed
   passed_field : (k t : ℕ) (w : Way) (e1 e2 : Kids) (g1 g2 : Live) (s : FieldTrail) (f : Fault) → kids_length e1 < kids_length e2 → IsLink c b S k t e1 g1 → IsLink c b S k t e2 g2 → StaysWithin (way_to_field c b S k t e2 g2 w) L → IsFieldTrail s c b S L t g1 (way_to_field c b S k t e1 g1 w) f → ⊥
@@ -90,9 +89,10 @@ module _ (c : Checks) (b : List ℕ) (S : Rows) (L : Bounds) where
       let all = live_fields S k in
       let fs = take (kids_length e2) all in
       let a = kids_at c b S e1 e2 t fs g1 h2.passed (rw (take-take (kids_length e1) (kids_length e2) all (omega arith)) h1.passed) (get_take all (kids_length e1) (kids_length e2) lt ∙ h1.next) in
+      let same = sym (kids_cost_take c b S e1 t fs) ∙ ap (λ xs. kids_cost e1 c b S t xs) (take-take (kids_length e1) (kids_length e2) all (omega arith)) ∙ kids_cost_take c b S e1 t all in
       elim (field_overruns c b S L s a.0 t g1 (way_to_field c b S k t e1 g1 w) f a.1 a.2 stops) [
         | inl p ↦ omega (arith, p.1, a.4, r.depth)
-        | inr p ↦ omega (arith, p.1, a.3, r.tables)
+        | inr o ↦ elim o [ inl p ↦ omega (arith, p.1, a.3, r.tables) | inr p ↦ not_both L.reads _ _ (omega (arith, a.5, same, kids_cost_take c b S e2 t all)) r.reads p.1 ]
       ]
 
   -- nor is an element that another trail passed
@@ -101,10 +101,18 @@ module _ (c : Checks) (b : List ℕ) (S : Rows) (L : Bounds) where
       let all = entries b S t g in
       let xs = take (elements_length z2) all in
       let a = elements_at c b S z1 z2 xs x1 h2.passed (rw (take-take (elements_length z1) (elements_length z2) all (omega arith)) h1.passed) (get_take all (elements_length z1) (elements_length z2) lt ∙ h1.next) in
+      let same = sym (elements_cost_take c b S z1 xs) ∙ ap (λ ys. elements_cost z1 c b S ys) (take-take (elements_length z1) (elements_length z2) all (omega arith)) ∙ elements_cost_take c b S z1 all in
       elim (element_overruns c b S L s a.0 x1 (way_to_element c b S t g z1 w) f a.1 stops) [
         | inl p ↦ omega (arith, p.1, a.3, r.depth)
-        | inr p ↦ omega (arith, p.1, a.2, r.tables)
+        | inr o ↦ elim o [ inl p ↦ omega (arith, p.1, a.2, r.tables) | inr p ↦ not_both L.reads _ _ (omega (arith, a.4, same, elements_cost_take c b S z2 (entries b S t g))) r.reads p.1 ]
       ]
+
+  -- nor is a field of which another trail passed all tests
+  passed_own : (t : ℕ) (x : Live) (w : Way) (z : Elements) (f : Fault) → IsField c b S t x → StaysWithin (way_to_element c b S t x z w) L → IsFalseAt c b S L (in_field t x) w f → ⊥
+  unfolding fault_at
+  passed_own t x w z f o r h =
+      let p = reads_fault L w w (own_reads b t x) t (own_failure c b S t x) f ((own_none c b S t x).1 o) h.first in
+      not_both L.reads (w.paid + own_reads b t x) _ (omega arith) r.reads p.1
 
   mutual
     unfolding IsTrail IsFieldTrail IsElementTrail fault_at
@@ -129,8 +137,8 @@ module _ (c : Checks) (b : List ℕ) (S : Rows) (L : Bounds) where
 
     one_field_fault : (s r : FieldTrail) (t : ℕ) (x : Live) (w : Way) (f g : Fault) → IsFieldTrail s c b S L t x w f → IsFieldTrail r c b S L t x w g → f ≡ g
     one_field_fault at_own at_own t x w f g h i = same_fault (in_field t x) w f g h i
-    one_field_fault at_own (at_element z r) t x w f g h i = absurd (no_fault w (own_failure c b S t x) f ((own_none c b S t x).1 i.1.own) h.first)
-    one_field_fault (at_element z s) at_own t x w f g h i = absurd (no_fault w (own_failure c b S t x) g ((own_none c b S t x).1 h.1.own) i.first)
+    one_field_fault at_own (at_element z r) t x w f g h i = absurd (passed_own t x w z f i.1.own (element_within r i.0 (way_to_element c b S t x z w) g i.2) h)
+    one_field_fault (at_element z s) at_own t x w f g h i = absurd (passed_own t x w z g h.1.own (element_within s h.0 (way_to_element c b S t x z w) f h.2) i)
     one_field_fault (at_element z1 s) (at_element z2 r) t x w f g h i =
         elim (compare (elements_length z1) (elements_length z2)) [
           | inl lt ↦ absurd (passed_element t x w z1 z2 h.0 i.0 s f lt h.1 i.1 (element_within r i.0 (way_to_element c b S t x z2 w) g i.2) h.2)
@@ -145,16 +153,24 @@ module _ (c : Checks) (b : List ℕ) (S : Rows) (L : Bounds) where
 
     one_element_fault : (s r : ElementTrail) (x : Entry) (w : Way) (f g : Fault) → IsElementTrail s c b S L x w f → IsElementTrail r c b S L x w g → f ≡ g
     one_element_fault at_lead at_lead x w f g h i = same_fault (in_element x) w f g h i
-    one_element_fault at_lead (through r) x w f g h i = absurd (no_fault w (element_failure c b x) f (through_passes c b x i.0 i.1 i.2) h.first)
-    one_element_fault (through s) at_lead x w f g h i = absurd (no_fault w (element_failure c b x) g (through_passes c b x h.0 h.1 h.2) i.first)
+    one_element_fault at_lead (through r) x w f g h i = absurd (no_lead_fault L w x i.0 x.lead (element_failure c b x) f i.1 (through_passes c b x i.0 i.1 i.2) h.first)
+    one_element_fault (through s) at_lead x w f g h i = absurd (no_lead_fault L w x h.0 x.lead (element_failure c b x) g h.1 (through_passes c b x h.0 h.1 h.2) i.first)
     one_element_fault (through s) (through r) x w f g h i =
         let e : i.0 ≡ h.0 = same_table (sym i.1 ∙ h.1) in
         one_fault s r h.0 (target b x.place) (way_to_table x w) f g h.3 (subst (λ k. IsTrail r c b S L k (target b x.place) (way_to_table x w) g) e i.3)
 
+  -- nor is a start that another trail passed
+  passed_start : (root t : ℕ) (start : Start) (ident : Ident) (s : Trail) (f g : Fault) → IsStart c b start ident → IsTrail s c b S L root t (way_to_root root start ident) g → IsFalseAt c b S L (in_start start ident) (way_to_start root) f → ⊥
+  unfolding fault_at
+  passed_start root t start ident s f g o i h =
+      let w = way_to_start root in
+      let p = reads_fault L w w (start_reads start ident) (base start) (start_failure c b start ident) f ((start_none c b start ident).1 o) h.first in
+      let r = trail_within s root t (way_to_root root start ident) g i in
+      not_both L.reads (w.paid + start_reads start ident) _ (omega arith) r.reads p.1
+
   -- of a whole buffer
   pub stops_once : (root : ℕ) (start : Start) (ident : Ident) (f g : Fault) → Stops c b S root start ident L f → Stops c b S root start ident L g → f ≡ g
-  unfolding fault_at
   stops_once root start ident f g (inl h) (inl i) = same_fault (in_start start ident) (way_to_start root) f g h i
-  stops_once root start ident f g (inl h) (inr i) = absurd (no_fault (way_to_start root) (start_failure c b start ident) f ((start_none c b start ident).1 i.0) h.first)
-  stops_once root start ident f g (inr h) (inl i) = absurd (no_fault (way_to_start root) (start_failure c b start ident) g ((start_none c b start ident).1 h.0) i.first)
+  stops_once root start ident f g (inl h) (inr i) = absurd (passed_start root (target b (base start)) start ident i.1.0 f g i.0 i.1.1 h)
+  stops_once root start ident f g (inr h) (inl i) = absurd (passed_start root (target b (base start)) start ident h.1.0 g f h.0 h.1.1 i)
   stops_once root start ident f g (inr h) (inr i) = one_fault h.1.0 i.1.0 root (target b (base start)) (way_to_root root start ident) f g h.1.1 i.1.1

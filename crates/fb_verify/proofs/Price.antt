@@ -51,7 +51,7 @@ unfoldable pub row_reads : List Entry → ℕ
 row_reads [] = 0
 row_reads (x ∷ xs) = x.reads + lead_reads x.lead + row_reads xs
 
-few_reads : (lead : Lead) → lead_reads lead ≤ 3
+pub few_reads : (lead : Lead) → lead_reads lead ≤ 3
 few_reads (to_table k) = omega arith
 few_reads (to_struct size align) = omega arith
 few_reads to_string = omega arith

@@ -18,7 +18,7 @@ use Rattle.fb_verify.specs.WellFormed.{IsStart}
 use Rattle.fb_verify.specs.Order.{own_failure, element_failure, start_failure, prefix_failure, ident_failure, head_failure, offset_failure, string_failure, vector_failure, inline_failure, table_failure}
 use Rattle.fb_verify.specs.Stops.{fault_at, IsTrail}
 use Rattle.fb_verify.specs.Samples.{published_checks, nodes, unions, every_kind, shared}
-use Rattle.fb_verify.specs.Examples.{MonsterUnfolds, OneMemberUnfolds, TwoMembersUnfold, number, EveryKindUnfolds, last, middle, OpenNameStops, NoNameStops, ThreeValuesStop, CrookedStructStops, SeventhTableStops, ThirdLevelStops, OddVtableStops, ShortTableStops}
+use Rattle.fb_verify.specs.Examples.{MonsterUnfolds, OneMemberUnfolds, TwoMembersUnfold, number, EveryKindUnfolds, last, middle, OpenNameStops, NoNameStops, ThreeValuesStop, CrookedStructStops, SeventhTableStops, ThirdLevelStops, OddVtableStops, ShortTableStops, FirstReadStops, LastTextStops, SeventhHeadStops, LastFieldStops}
 use Rattle.fb_verify.proofs.Chains.{start_none, head_none, own_none, offset_none, string_none, inline_none}
 
 -- all that is computed
@@ -84,39 +84,58 @@ every_kind_unfolds = (record { starts = start refl; unfolds = (refl, refl, head 
 pub open_name_stops : OpenNameStops
 unfolding computing
 open_name_stops =
-    (start refl, (_, record { head = head refl; passed = (own _ _ _ _ _ refl, tt, tt); next = refl }, (_, record { own = own _ _ _ _ _ refl; passed = tt; next = refl }, record { within = record { tables = omega arith; depth = omega arith }; first = refl })))
+    (start refl, (_, record { head = head refl; passed = (own _ _ _ _ _ refl, tt, tt); next = refl }, (_, record { own = own _ _ _ _ _ refl; passed = tt; next = refl }, record { within = record { tables = omega arith; depth = omega arith; reads = tt }; first = refl })))
 
 pub no_name_stops : NoNameStops
 unfolding computing
 no_name_stops =
-    (start refl, (_, record { head = head refl; passed = (own _ _ _ _ _ refl, tt, tt); next = refl }, (_, record { own = own _ _ _ _ _ refl; passed = tt; next = refl }, record { within = record { tables = omega arith; depth = omega arith }; first = refl })))
+    (start refl, (_, record { head = head refl; passed = (own _ _ _ _ _ refl, tt, tt); next = refl }, (_, record { own = own _ _ _ _ _ refl; passed = tt; next = refl }, record { within = record { tables = omega arith; depth = omega arith; reads = tt }; first = refl })))
 
 pub three_values_stop : ThreeValuesStop
 unfolding computing
 three_values_stop =
-    (start refl, (_, record { head = head refl; passed = (own _ _ _ _ _ refl, tt, tt); next = refl }, record { within = record { tables = omega arith; depth = omega arith }; first = refl }))
+    (start refl, (_, record { head = head refl; passed = (own _ _ _ _ _ refl, tt, tt); next = refl }, record { within = record { tables = omega arith; depth = omega arith; reads = tt }; first = refl }))
 
 pub crooked_struct_stops : CrookedStructStops
 unfolding computing
 crooked_struct_stops =
-    (start refl, (_, record { head = head refl; passed = (own _ _ _ _ _ refl, tt, tt); next = refl }, (_, record { own = own _ _ _ _ _ refl; passed = tt; next = refl }, record { within = record { tables = omega arith; depth = omega arith }; first = refl })))
+    (start refl, (_, record { head = head refl; passed = (own _ _ _ _ _ refl, tt, tt); next = refl }, (_, record { own = own _ _ _ _ _ refl; passed = tt; next = refl }, record { within = record { tables = omega arith; depth = omega arith; reads = tt }; first = refl })))
 
 pub seventh_table_stops : SeventhTableStops
 unfolding computing
 seventh_table_stops =
-    (start refl, (_, record { head = head refl; passed = (own _ _ _ _ _ refl, ((offset refl, middle_unfolds), tt), tt); next = refl }, (_, record { own = own _ _ _ _ _ refl; passed = tt; next = refl }, (_, refl, offset refl, (_, record { head = head refl; passed = (own _ _ _ _ _ refl, ((offset refl, last_unfolds), tt), tt); next = refl }, (_, record { own = own _ _ _ _ _ refl; passed = tt; next = refl }, (_, refl, offset refl, record { within = record { tables = omega arith; depth = omega arith }; first = refl })))))))
+    (start refl, (_, record { head = head refl; passed = (own _ _ _ _ _ refl, ((offset refl, middle_unfolds), tt), tt); next = refl }, (_, record { own = own _ _ _ _ _ refl; passed = tt; next = refl }, (_, refl, offset refl, (_, record { head = head refl; passed = (own _ _ _ _ _ refl, ((offset refl, last_unfolds), tt), tt); next = refl }, (_, record { own = own _ _ _ _ _ refl; passed = tt; next = refl }, (_, refl, offset refl, record { within = record { tables = omega arith; depth = omega arith; reads = tt }; first = refl })))))))
 
 pub third_level_stops : ThirdLevelStops
 unfolding computing
 third_level_stops =
-    (start refl, (_, record { head = head refl; passed = tt; next = refl }, (_, record { own = own _ _ _ _ _ refl; passed = tt; next = refl }, (_, refl, offset refl, (_, record { head = head refl; passed = tt; next = refl }, (_, record { own = own _ _ _ _ _ refl; passed = tt; next = refl }, (_, refl, offset refl, record { within = record { tables = omega arith; depth = omega arith }; first = refl })))))))
+    (start refl, (_, record { head = head refl; passed = tt; next = refl }, (_, record { own = own _ _ _ _ _ refl; passed = tt; next = refl }, (_, refl, offset refl, (_, record { head = head refl; passed = tt; next = refl }, (_, record { own = own _ _ _ _ _ refl; passed = tt; next = refl }, (_, refl, offset refl, record { within = record { tables = omega arith; depth = omega arith; reads = tt }; first = refl })))))))
 
 pub odd_vtable_stops : OddVtableStops
 unfolding computing
 odd_vtable_stops =
-    (start refl, (_, record { head = head refl; passed = (own _ _ _ _ _ refl, tt, tt); next = refl }, (_, record { own = own _ _ _ _ _ refl; passed = tt; next = refl }, (_, refl, offset refl, record { within = record { tables = omega arith; depth = omega arith }; first = refl }))))
+    (start refl, (_, record { head = head refl; passed = (own _ _ _ _ _ refl, tt, tt); next = refl }, (_, record { own = own _ _ _ _ _ refl; passed = tt; next = refl }, (_, refl, offset refl, record { within = record { tables = omega arith; depth = omega arith; reads = tt }; first = refl }))))
 
 pub short_table_stops : ShortTableStops
 unfolding computing
 short_table_stops =
-    (start refl, (_, record { head = head refl; passed = tt; next = refl }, record { within = record { tables = omega arith; depth = omega arith }; first = refl }))
+    (start refl, (_, record { head = head refl; passed = tt; next = refl }, record { within = record { tables = omega arith; depth = omega arith; reads = tt }; first = refl }))
+
+pub first_read_stops : FirstReadStops
+unfolding computing
+first_read_stops = record { within = record { tables = omega arith; depth = omega arith; reads = omega arith }; first = refl }
+
+pub last_text_stops : LastTextStops
+unfolding computing
+last_text_stops =
+    (start refl, (_, record { head = head refl; passed = (own _ _ _ _ _ refl, tt, tt); next = refl }, (_, record { own = own _ _ _ _ _ refl; passed = tt; next = refl }, record { within = record { tables = omega arith; depth = omega arith; reads = omega arith }; first = refl })))
+
+pub seventh_head_stops : SeventhHeadStops
+unfolding computing
+seventh_head_stops =
+    (start refl, (_, record { head = head refl; passed = (own _ _ _ _ _ refl, ((offset refl, middle_unfolds), tt), tt); next = refl }, (_, record { own = own _ _ _ _ _ refl; passed = tt; next = refl }, (_, refl, offset refl, (_, record { head = head refl; passed = (own _ _ _ _ _ refl, ((offset refl, last_unfolds), tt), tt); next = refl }, (_, record { own = own _ _ _ _ _ refl; passed = tt; next = refl }, (_, refl, offset refl, record { within = record { tables = omega arith; depth = omega arith; reads = omega arith }; first = refl })))))))
+
+pub last_field_stops : LastFieldStops
+unfolding computing
+last_field_stops =
+    (start refl, (_, record { head = head refl; passed = (own _ _ _ _ _ refl, tt, tt); next = refl }, (_, record { own = own _ _ _ _ _ refl; passed = tt; next = refl }, (_, refl, offset refl, (_, record { head = head refl; passed = tt; next = refl }, record { within = record { tables = omega arith; depth = omega arith; reads = omega arith }; first = refl })))))

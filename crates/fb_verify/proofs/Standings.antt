@@ -10,7 +10,7 @@ use Rattle.fb_verify.specs.declared.field.Table.{Table}
 use Rattle.fb_verify.specs.declared.offset_row.Row.{Row}
 use Rattle.fb_verify.specs.declared.scratch.Frame.{Frame}
 use Rattle.fb_verify.specs.declared.site.Site.{Site}
-use Rattle.fb_verify.specs.Bounds.{Bounds}
+use Rattle.fb_verify.specs.Bounds.{Bounds, AreAllowed}
 use Rattle.fb_verify.specs.Places.{target}
 use Rattle.fb_verify.specs.Facts.{IsOffset}
 use Rattle.fb_verify.specs.Fields.{Lead, to_table, to_struct, to_string, to_nothing, entries}
@@ -20,11 +20,12 @@ use Rattle.fb_verify.specs.Cost.{head_reads, own_reads, lead_reads, element_cost
 use Rattle.fb_verify.specs.Laws.{IsLead}
 use Rattle.fb_verify.specs.Order.{Failure, ◌▷◌, head_failure, own_failure, element_failure}
 use Rattle.fb_verify.specs.Way.{Way, way_to_table}
-use Rattle.fb_verify.specs.Stops.{in_head, in_field, in_element, fault_of, budget_failure, fault_at, StopsFrom}
+use Rattle.fb_verify.specs.Stops.{in_head, in_field, in_element, fault_of, budget_failure, reads_failure, lead_reads_failure, fault_at, StopsFrom}
 use Rattle.fb_verify.specs.Told.{told, way_at}
 use Rattle.fb_verify.specs.OffsetRows.{words_of, first_word, past_first, IsLeafLead, IsTyped}
 use Rattle.fb_verify.specs.Walked.{ended, TableWalked, IsInside, IsInField}
 use Rattle.fb_verify.specs.Stack.{opened as opened_frame, reached, Resting, Middle, Goes, Context, Origin, Standing}
+use Rattle.fb_verify.proofs.Budgets.{fewer_reads}
 use Rattle.fb_verify.proofs.Chains.{head_none, own_none, element_none}
 use Rattle.fb_verify.proofs.Steps.{same_way, field_deep, opened, entered, passed_on, field_done, closed, waits, resumed, stops_at_head, stops_at_field, stops_at_element, stops_below}
 use Rattle.fb_verify.proofs.Words.{row_front, row_none, first_place}
@@ -62,13 +63,13 @@ module _ (c : Checks) (b : List ℕ) (S : Rows) where
   in_middle fr w n d r l (inr h) = rw (row_front b S fr.row l) at h
 
   -- the way to the table that a frame waits for
-  goes_way : (fr : Frame) (w : Way) (k t : ℕ) (u : Way) (n d r : ℕ) → Goes c b S fr w k t u → record u { passed = n; deepest = d; paid = r } ≡ reached w (fr.table).object (Some fr.number) n d r
+  goes_way : (fr : Frame) (w : Way) (k t : ℕ) (u : Way) (n d r : ℕ) → Goes c b S fr w k t u → record u { passed = n; deepest = d; paid = r; leading = 0 } ≡ reached w (fr.table).object (Some fr.number) n d r
   goes_way fr w k t u n d r h =
       let f = h.in_field in
       let i = f.inside in
       let v = rw (f.after, i.after) at h.after in
       let number = ap Some f.number_is in
-      rw v (same_way _ _ refl refl refl refl refl (sym number))
+      rw v (same_way _ _ refl refl refl refl refl refl (sym number))
 
   module _ (L : Bounds) (s : Origin) where
     -- a table that was opened
@@ -76,7 +77,7 @@ module _ (c : Checks) (b : List ℕ) (S : Rows) where
         → Resting c b S (opened_frame table) u (n + 1) (max d (m + 1)) (r + head_reads c)
     fresh table u m n d r ul un ud ur h =
         let i = opened c b S table.object table.at u ((head_none c b table.at).0 h) in
-        record { none = refl; inside = subst (λ x. IsInside c b S table.object table.at u 0 x) (same_way _ _ refl (omega (arith, un)) (omega (arith, ul, ud)) (omega (arith, ur)) refl refl) i }
+        record { none = refl; inside = subst (λ x. IsInside c b S table.object table.at u 0 x) (same_way _ _ refl (omega (arith, un)) (omega (arith, ul, ud)) (omega (arith, ur)) refl refl refl) i }
 
     -- the first table is opened
     pub begin : (table : Table) (d : ℕ) → (s.way).links ≡ 0 → (s.way).deepest ≡ d → table.object ≡ s.object → table.at ≡ s.position → head_failure c b table.at ≡ None
@@ -84,15 +85,15 @@ module _ (c : Checks) (b : List ℕ) (S : Rows) where
     begin table d z e o p h = record { v = s.way; root = z; under = (sym o, sym p, refl); at = inl (fresh table s.way 0 (s.way).passed d (s.way).paid z refl e refl h) }
 
     -- it stops before the first table, or at its head
-    pub stop_at_root : (t : ℕ) (site : Site) (n d r : ℕ) (f : Fault) → s.way ≡ way_at 0 n d r site → t ≡ s.position → n ≤ L.tables → d ≤ L.depth
-        → (told site r (budget_failure L (way_at 0 n d r site) t) ▷ told (record { object = s.object; field = None }) r (head_failure c b t)) ≡ Some f → StopsFrom c b S L s.object s.position s.way f
+    pub stop_at_root : (t : ℕ) (site : Site) (n d r : ℕ) (f : Fault) → s.way ≡ way_at 0 n d r site → t ≡ s.position → n ≤ L.tables → d ≤ L.depth → AreAllowed L.reads r
+        → (told site r (budget_failure L (way_at 0 n d r site) t) ▷ told (record { object = s.object; field = None }) r (head_failure c b t ▷ reads_failure L r (head_reads c) t)) ≡ Some f → StopsFrom c b S L s.object s.position s.way f
     unfolding fault_at
-    stop_at_root t site n d r f e p a x h =
+    stop_at_root t site n d r f e p a x y h =
         let u = way_at 0 n d r site in
         let i = told_is u site (budget_failure L u t) refl refl in
-        let j = told_is (record u { object = s.object; field = None }) (record { object = s.object; field = None }) (head_failure c b t) refl refl in
+        let j = told_is (record u { object = s.object; field = None }) (record { object = s.object; field = None }) (head_failure c b t ▷ reads_failure L r (head_reads c) t) refl refl in
         let g : fault_at c b S L (in_head s.object t) u ≡ Some f = rw (i, j) at h in
-        rw (p, sym e) at (stops_at_head c b S s.object t u L f (record { within = record { tables = a; depth = x }; first = g }))
+        rw (p, sym e) at (stops_at_head c b S s.object t u L f (record { within = record { tables = a; depth = x; reads = fewer_reads L.reads _ r (omega arith) y }; first = g }))
 
     module _ (below : List Frame) (top : Frame) (n d r : ℕ) (h : Standing c b S s below top n d r) where
       abbrev here : Site
@@ -115,27 +116,27 @@ module _ (c : Checks) (b : List ℕ) (S : Rows) where
       stop : (f : Fault) → StopsFrom c b S L (top.table).object (top.table).at h.v f → StopsFrom c b S L s.object s.position s.way f
       stop f g = context_stop c b S L f below s.object s.position (top.table).object (top.table).at s.way h.v h.under g
 
-      module _ (few : n ≤ L.tables) (shallow : d ≤ L.depth) where
-        pub stop_at_element : (f : Fault) → 0 < (top.row).left → told here r (element_failure c b (first_word b S top.row)) ≡ Some f → StopsFrom c b S L s.object s.position s.way f
+      module _ (few : n ≤ L.tables) (shallow : d ≤ L.depth) (cheap : AreAllowed L.reads r) where
+        pub stop_at_element : (f : Fault) → 0 < (top.row).left → told here r (element_failure c b (first_word b S top.row) ▷ lead_reads_failure L r (first_word b S top.row) (first_word b S top.row).lead) ≡ Some f → StopsFrom c b S L s.object s.position s.way f
         unfolding fault_at
         stop_at_element f l e =
             let x = first_word b S top.row in
-            let g : fault_at c b S L (in_element x) v' ≡ Some f = sym (told_is v' here (element_failure c b x) refl refl) ∙ e in
-            stop f (stops_at_element c b S (top.table).object (top.table).at h.v L f top.next top.number x (words_of b S (past_first top.row)) v' (middle l) (record { within = record { tables = few; depth = shallow }; first = g }))
+            let g : fault_at c b S L (in_element x) v' ≡ Some f = sym (told_is v' here (element_failure c b x ▷ lead_reads_failure L r x x.lead) refl refl) ∙ e in
+            stop f (stops_at_element c b S (top.table).object (top.table).at h.v L f top.next top.number x (words_of b S (past_first top.row)) v' (middle l) (record { within = record { tables = few; depth = shallow; reads = fewer_reads L.reads _ r (omega arith) cheap }; first = g }))
 
         pub stop_at_field : (f : Fault) (field : Live) → (top.row).left ≡ 0 → slice_get (live_fields S (top.table).object) top.next ≡ Some field
-            → told (record { object = (top.table).object; field = Some field.number }) r (own_failure c b S (top.table).at field) ≡ Some f → StopsFrom c b S L s.object s.position s.way f
+            → told (record { object = (top.table).object; field = Some field.number }) r (own_failure c b S (top.table).at field ▷ reads_failure L r (own_reads b (top.table).at field) (top.table).at) ≡ Some f → StopsFrom c b S L s.object s.position s.way f
         unfolding fault_at
         stop_at_field f field l i e =
             let u = reached h.v (top.table).object (Some field.number) n d r in
             let site : Site = record { object = (top.table).object; field = Some field.number } in
-            let g : fault_at c b S L (in_field (top.table).at field) u ≡ Some f = sym (told_is u site (own_failure c b S (top.table).at field) refl refl) ∙ e in
-            stop f (stops_at_field c b S (top.table).object (top.table).at h.v L f top.next (reached h.v (top.table).object None n d r) field (rests l).inside i (record { within = record { tables = few; depth = shallow }; first = g }))
+            let g : fault_at c b S L (in_field (top.table).at field) u ≡ Some f = sym (told_is u site (own_failure c b S (top.table).at field ▷ reads_failure L r (own_reads b (top.table).at field) (top.table).at) refl refl) ∙ e in
+            stop f (stops_at_field c b S (top.table).object (top.table).at h.v L f top.next (reached h.v (top.table).object None n d r) field (rests l).inside i (record { within = record { tables = few; depth = shallow; reads = fewer_reads L.reads _ r (omega arith) cheap }; first = g }))
 
         -- the next offset word leads to a table, which can't be opened or has no head
         pub stop_at_table : (m : ℕ) (f : Fault) (k t : ℕ) → m ≡ length below + 1 → 0 < (top.row).left → element_failure c b (first_word b S top.row) ≡ None → (first_word b S top.row).lead ≡ to_table k → t ≡ target b (top.row).place
             → (q : ℕ) → q ≡ r + (first_word b S top.row).reads + lead_reads (first_word b S top.row).lead
-            → (told here q (budget_failure L (way_at m n d q here) t) ▷ told (record { object = k; field = None }) q (head_failure c b t)) ≡ Some f → StopsFrom c b S L s.object s.position s.way f
+            → (told here q (budget_failure L (way_at m n d q here) t) ▷ told (record { object = k; field = None }) q (head_failure c b t ▷ reads_failure L q (head_reads c) t)) ≡ Some f → StopsFrom c b S L s.object s.position s.way f
         unfolding fault_at
         stop_at_table m f k t mi l o e p q z g =
             let x = first_word b S top.row in
@@ -143,12 +144,12 @@ module _ (c : Checks) (b : List ℕ) (S : Rows) where
             let wait = waits c b S (top.table).object (top.table).at h.v top.next top.number x (words_of b S (past_first top.row)) v' k t (middle l) e offset (rw (first_place b S top.row) p) in
             let one : lead_reads x.lead ≡ 1 = rw e refl in
             let u = way_to_table x v' in
-            let u_is : u ≡ way_at m n d q here = same_way _ _ (omega (arith, mi, links_is)) refl refl (omega (arith, z, one)) refl refl in
-            let w = way_at m n d q here in
+            let w : Way = record (way_at m n d q here) { leading = x.reads + 1 } in
+            let u_is : u ≡ w = same_way _ _ (omega (arith, mi, links_is)) refl refl (omega (arith, z, one)) refl refl refl in
             let i = told_is w here (budget_failure L w t) refl refl in
-            let j = told_is (record w { object = k; field = None }) (record { object = k; field = None }) (head_failure c b t) refl refl in
+            let j = told_is (record w { object = k; field = None }) (record { object = k; field = None }) (head_failure c b t ▷ reads_failure L q (head_reads c) t) refl refl in
             let first : fault_at c b S L (in_head k t) w ≡ Some f = rw (i, j) at g in
-            let at_head = stops_at_head c b S k t w L f (record { within = record { tables = few; depth = shallow }; first = first }) in
+            let at_head = stops_at_head c b S k t w L f (record { within = record { tables = few; depth = shallow; reads = fewer_reads L.reads _ r (omega (arith, z, one)) cheap }; first = first }) in
             stop f (stops_below c b S (top.table).object (top.table).at h.v L f top.next top.number (words_of b S (past_first top.row)) k t u wait (rw (sym u_is) at at_head))
 
       -- an offset word that leads to no table is passed
@@ -161,7 +162,7 @@ module _ (c : Checks) (b : List ℕ) (S : Rows) where
           let u = reached h.v (top.table).object (Some top.number) n d q in
           let unfolds = leaf_unfolds x.place x.lead k ((element_none c b x).0 o) in
           let deep = field_deep c b S (top.table).object (top.table).at h.v top.next top.number _ v' (middle l) in
-          let on = passed_on c b S (top.table).object (top.table).at h.v top.next top.number x (words_of b S (past_first top.row)) v' u leaf (middle l) unfolds (same_way _ _ refl (omega arith) (omega (arith, deep)) (omega (arith, z)) refl refl) in
+          let on = passed_on c b S (top.table).object (top.table).at h.v top.next top.number x (words_of b S (past_first top.row)) v' u leaf (middle l) unfolds (same_way _ _ refl (omega arith) (omega (arith, deep)) (omega (arith, z)) refl refl refl) in
           record { v = h.v; root = h.root; under = h.under; at = inr (rw re on) }
 
       -- a field is passed

@@ -1,5 +1,5 @@
 -- The steps of a walk in one table.
-use Rattle.std.proofs.Common.{◌≡◌, ℕ, suc, ◌+◌, ◌≤◌, List, [], ◌∷◌, length, take, refl, sym, ◌∙◌, subst, arith, Option, Some, None}
+use Rattle.std.proofs.Common.{◌≡◌, ℕ, suc, ◌+◌, ◌≤◌, List, [], ◌∷◌, length, take, refl, sym, ◌∙◌, ap, subst, arith, Option, Some, None}
 use Rattle.std.specs.Prelude.{slice_get}
 use Rattle.fb_schema.specs.Rows.{Rows}
 use Rattle.fb_schema.specs.Live.{Live, live_fields}
@@ -17,16 +17,19 @@ use Rattle.fb_verify.specs.Stops.{in_head, in_field, in_element, IsFalseAt, at_h
 use Rattle.fb_verify.specs.Walked.{at_number, TableWalked, IsInside, IsInField, Waits}
 use Rattle.fb_verify.proofs.Pushes.{elements_push, kids_push, elements_size-push, elements_depth-push, elements_length-push, kids_size-push, kids_depth-push, kids_length-push, front_of, rest_of, all_of, take_all, ElementsUnfold-push, elements_cost-push, FieldsUnfold-push, kids_cost-push}
 
-abbrev the_way : (links passed deepest paid object : ℕ) → Option ℕ → Way
-the_way links passed deepest paid object field = record { links = links; passed = passed; deepest = deepest; paid = paid; object = object; field = field }
+abbrev the_way : (links passed deepest paid leading object : ℕ) → Option ℕ → Way
+the_way links passed deepest paid leading object field =
+    record { links = links; passed = passed; deepest = deepest; paid = paid; leading = leading; object = object; field = field }
 
 -- two ways are one where their parts are
-same_parts : (links passed deepest paid object links' passed' deepest' paid' object' : ℕ) (field field' : Option ℕ) → links ≡ links' → passed ≡ passed' → deepest ≡ deepest' → paid ≡ paid' → object ≡ object' → field ≡ field'
-    → the_way links passed deepest paid object field ≡ the_way links' passed' deepest' paid' object' field'
-same_parts links passed deepest paid object links' passed' deepest' paid' object' field field' a b c d e f = cc
+same_parts : (links passed deepest paid leading object links' passed' deepest' paid' leading' object' : ℕ) (field field' : Option ℕ)
+    → links ≡ links' → passed ≡ passed' → deepest ≡ deepest' → paid ≡ paid' → leading ≡ leading' → object ≡ object' → field ≡ field'
+    → the_way links passed deepest paid leading object field ≡ the_way links' passed' deepest' paid' leading' object' field'
+same_parts links passed deepest paid leading object links' passed' deepest' paid' leading' object' field field' a b c d e f g = cc
 
-pub same_way : (v w : Way) → v.links ≡ w.links → v.passed ≡ w.passed → v.deepest ≡ w.deepest → v.paid ≡ w.paid → v.object ≡ w.object → v.field ≡ w.field → v ≡ w
-same_way v w a b c d e f = same_parts v.links v.passed v.deepest v.paid v.object w.links w.passed w.deepest w.paid w.object v.field w.field a b c d e f
+pub same_way : (v w : Way) → v.links ≡ w.links → v.passed ≡ w.passed → v.deepest ≡ w.deepest → v.paid ≡ w.paid → v.leading ≡ w.leading → v.object ≡ w.object → v.field ≡ w.field → v ≡ w
+same_way v w a b c d e f g =
+    same_parts v.links v.passed v.deepest v.paid v.leading v.object w.links w.passed w.deepest w.paid w.leading w.object v.field w.field a b c d e f g
 
 module _ (c : Checks) (b : List ℕ) (S : Rows) (k t : ℕ) (w : Way) where
   -- the depth reached counts the open tables
@@ -44,7 +47,7 @@ module _ (c : Checks) (b : List ℕ) (S : Rows) (k t : ℕ) (w : Way) where
     head = h;
     count = refl;
     passed = tt;
-    after = same_way _ _ refl (omega arith) (omega arith) (omega arith) refl refl;
+    after = same_way _ _ refl (omega arith) (omega arith) (omega arith) refl refl refl;
   }
 
   -- a field holds by itself
@@ -65,7 +68,7 @@ module _ (c : Checks) (b : List ℕ) (S : Rows) (k t : ℕ) (w : Way) where
         before = no_elements;
         passed = tt;
         left_is = refl;
-        after = same_way _ _ refl (omega arith) (omega (arith, d)) (omega arith) refl refl;
+        after = same_way _ _ refl (omega arith) (omega (arith, d)) (omega arith) (ap (λ x. x.leading) h.after) refl refl;
       }
 
   -- an offset word is passed with what it leads to
@@ -91,7 +94,7 @@ module _ (c : Checks) (b : List ℕ) (S : Rows) (k t : ℕ) (w : Way) where
         before = elements_push h.before y;
         passed = rw l (ElementsUnfold-push c b S h.before es y x h.passed f g);
         left_is = rw l (rest_of es (elements_length h.before) x xs h.left_is);
-        after = e ∙ rw h.after (same_way _ _ refl (omega (arith, s)) (omega (arith, d)) (omega (arith, r)) refl refl);
+        after = e ∙ rw h.after (same_way _ _ refl (omega (arith, s)) (omega (arith, d)) (omega (arith, r)) refl refl refl);
       }
 
   -- nothing is left of the field
@@ -113,7 +116,7 @@ module _ (c : Checks) (b : List ℕ) (S : Rows) (k t : ℕ) (w : Way) where
         head = i.head;
         count = l ∙ sym n;
         passed = rw n (FieldsUnfold-push c b S t i.earlier fs h.before h.field p f h.own u);
-        after = rw (h.after, i.after) (same_way _ _ refl (omega (arith, s)) (omega (arith, d)) (omega (arith, r)) refl refl);
+        after = rw (h.after, i.after) (same_way _ _ refl (omega (arith, s)) (omega (arith, d)) (omega (arith, r)) refl refl refl);
       }
 
   -- all fields are passed
@@ -122,7 +125,7 @@ module _ (c : Checks) (b : List ℕ) (S : Rows) (k t : ℕ) (w : Way) where
   closed i v u h l e = record {
     found = node k t h.earlier;
     unfolds = (refl, refl, h.head, rw (take_all (live_fields S k) i l) at h.passed);
-    after = e ∙ rw h.after (same_way _ _ refl (omega arith) (omega arith) (omega arith) refl refl);
+    after = e ∙ rw h.after (same_way _ _ refl (omega arith) (omega arith) (omega arith) refl refl refl);
   }
 
   -- an offset word leads to a table
@@ -137,7 +140,7 @@ module _ (c : Checks) (b : List ℕ) (S : Rows) (k t : ℕ) (w : Way) where
       let y = table g.found in
       let r : lead_reads (h.x).lead ≡ 1 = rw h.leads refl in
       let unfolds : ElementUnfolds y c b S (h.x).place (to_table k') = (h.offset, rw h.place at g.unfolds) in
-      passed_on next number h.x xs h.v v y h.in_field (subst (λ lead. ElementUnfolds y c b S (h.x).place lead) (sym h.leads) unfolds) (g.after ∙ rw h.after (same_way _ _ refl refl refl (omega (arith, r)) refl refl))
+      passed_on next number h.x xs h.v v y h.in_field (subst (λ lead. ElementUnfolds y c b S (h.x).place lead) (sym h.leads) unfolds) (g.after ∙ rw h.after (same_way _ _ refl refl refl (omega (arith, r)) refl refl refl))
 
   -- Where it stops.
   module _ (L : Bounds) (f : Fault) where

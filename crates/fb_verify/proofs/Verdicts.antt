@@ -6,18 +6,19 @@ use Rattle.fb_verify.specs.declared.fault.Fault.{Fault}
 use Rattle.fb_verify.specs.declared.site.Site.{Site}
 use Rattle.fb_verify.specs.declared.start.Start.{Start}
 use Rattle.fb_verify.specs.declared.start.Ident.{Ident}
-use Rattle.fb_verify.specs.Bounds.{Bounds}
+use Rattle.fb_verify.specs.Bounds.{Bounds, AreAllowed}
 use Rattle.fb_verify.specs.Places.{target}
 use Rattle.fb_verify.specs.Tree.{size, depth}
 use Rattle.fb_verify.specs.Cost.{tree_cost}
 use Rattle.fb_verify.specs.WellFormed.{base, start_reads}
-use Rattle.fb_verify.specs.Order.{start_failure}
+use Rattle.fb_verify.specs.Order.{◌▷◌, start_failure}
 use Rattle.fb_verify.specs.Way.{way_to_start, way_to_root}
-use Rattle.fb_verify.specs.Stops.{in_start, fault_at, StopsFrom, Stops}
+use Rattle.fb_verify.specs.Stops.{in_start, reads_failure, fault_at, StopsFrom, Stops}
 use Rattle.fb_verify.specs.Told.{told, way_at}
 use Rattle.fb_verify.specs.Walked.{TableWalked, ended}
 use Rattle.fb_verify.specs.MostReads.{most_reads}
 use Rattle.fb_verify.specs.Verdict.{Reports, HasNone}
+use Rattle.fb_verify.proofs.Budgets.{fewer_reads, no_reads}
 use Rattle.fb_verify.proofs.Chains.{start_none}
 use Rattle.fb_verify.proofs.Nones.{stops_nowhere}
 use Rattle.fb_verify.proofs.TrailPrice.{cost_is_bounded, reads_are_bounded}
@@ -30,15 +31,15 @@ module _ (c : Checks) (b : List ℕ) (S : Rows) (root : ℕ) (start : Start) (id
 
   -- the root's way, as the walk has it
   pub root_way : (r : ℕ) → r ≡ start_reads start ident → way_at 0 0 0 r root_site ≡ way_to_root root start ident
-  root_way r e = same_way _ _ refl refl refl (omega (arith, e)) refl refl
+  root_way r e = same_way _ _ refl refl refl (omega (arith, e)) refl refl refl
 
   -- a fault before the root table
-  pub stops_at_start : (f : Fault) → told root_site 0 (start_failure c b start ident) ≡ Some f → Stops c b S root start ident L f
+  pub stops_at_start : (f : Fault) → told root_site 0 (start_failure c b start ident ▷ reads_failure L 0 (start_reads start ident) (base start)) ≡ Some f → Stops c b S root start ident L f
   unfolding fault_at
   stops_at_start f h =
       let w = way_to_start root in
-      let g : fault_at c b S L (in_start start ident) w ≡ Some f = sym (told_is w root_site (start_failure c b start ident) refl refl) ∙ h in
-      inl (record { within = record { tables = omega arith; depth = omega arith }; first = g })
+      let g : fault_at c b S L (in_start start ident) w ≡ Some f = sym (told_is w root_site (start_failure c b start ident ▷ reads_failure L 0 (start_reads start ident) (base start)) refl refl) ∙ h in
+      inl (record { within = record { tables = omega arith; depth = omega arith; reads = no_reads L.reads }; first = g })
 
   -- a fault at the root table or below
   pub stops_below_start : (t r : ℕ) (f : Fault) → start_failure c b start ident ≡ None → t ≡ target b (base start) → r ≡ start_reads start ident → StopsFrom c b S L root t (way_at 0 0 0 r root_site) f → Stops c b S root start ident L f
@@ -46,9 +47,9 @@ module _ (c : Checks) (b : List ℕ) (S : Rows) (root : ℕ) (start : Start) (id
 
   -- the root table was walked
   pub reports : (t r n d q count : ℕ) → start_failure c b start ident ≡ None → t ≡ target b (base start) → r ≡ start_reads start ident
-      → TableWalked c b S root t (way_at 0 0 0 r root_site) (ended (way_at 0 0 0 r root_site) n d q) → n ≤ L.tables → d ≤ L.depth
+      → TableWalked c b S root t (way_at 0 0 0 r root_site) (ended (way_at 0 0 0 r root_site) n d q) → n ≤ L.tables → d ≤ L.depth → AreAllowed L.reads q
       → count ≡ q → Reports c b S root start ident L (record { tables = n; depth = d; reads = count })
-  reports t r n d q count o p e h a x z =
+  reports t r n d q count o p e h a x w z =
       let y = h.found in
       let s : n ≡ size y = omega (arith, ap (λ v. v.passed) h.after) in
       let i : d ≡ depth y = omega (arith, ap (λ v. v.deepest) h.after) in
@@ -56,7 +57,7 @@ module _ (c : Checks) (b : List ℕ) (S : Rows) (root : ℕ) (start : Start) (id
       record {
         found = y;
         well_formed = record { starts = (start_none c b start ident).0 o; unfolds = rw p at h.unfolds };
-        within = record { tables = omega (arith, s); depth = omega (arith, i) };
+        within = record { tables = omega (arith, s); depth = omega (arith, i); reads = fewer_reads L.reads _ q (omega (arith, m)) w };
         tables = s;
         depth = i;
         reads = z ∙ m;
@@ -71,7 +72,7 @@ module _ (c : Checks) (b : List ℕ) (S : Rows) (root : ℕ) (start : Start) (id
   price_of_no f h = reads_are_bounded c b S L root start ident f h
 
   pub price_of_yes : (t r n d q : ℕ) → start_failure c b start ident ≡ None → t ≡ target b (base start) → r ≡ start_reads start ident
-      → TableWalked c b S root t (way_at 0 0 0 r root_site) (ended (way_at 0 0 0 r root_site) n d q) → n ≤ L.tables → d ≤ L.depth → q ≤ most_reads S L (length b)
-  price_of_yes t r n d q o p e h a x =
-      let y = reports t r n d q q o p e h a x refl in
+      → TableWalked c b S root t (way_at 0 0 0 r root_site) (ended (way_at 0 0 0 r root_site) n d q) → n ≤ L.tables → d ≤ L.depth → AreAllowed L.reads q → q ≤ most_reads S L (length b)
+  price_of_yes t r n d q o p e h a x w =
+      let y = reports t r n d q q o p e h a x w refl in
       omega (arith, y.reads, cost_is_bounded c b S L root start ident y.found y.well_formed y.within)

@@ -10,7 +10,7 @@ use Rattle.fb_verify.specs.declared.checks.Checks.{Checks}
 use Rattle.fb_verify.specs.declared.field.Table.{Table}
 use Rattle.fb_verify.specs.declared.offset_row.Row.{Row}
 use Rattle.fb_verify.specs.declared.scratch.Frame.{Frame}
-use Rattle.fb_verify.specs.Bounds.{Bounds}
+use Rattle.fb_verify.specs.Bounds.{Bounds, AreAllowed}
 use Rattle.fb_verify.specs.Places.{target}
 use Rattle.fb_verify.specs.Fields.{to_table, entries}
 use Rattle.fb_verify.specs.Cost.{head_reads, own_reads, lead_reads}
@@ -46,6 +46,7 @@ module _ (c : Checks) (b : List ℕ) (S : Rows) (L : Bounds) (s : Origin) (below
         served = h.served;
         tables = h.tables;
         deepest = h.deepest;
+        reads = h.reads;
         links = omega (arith, h.links, ap length e, length-append rest (above ∷ []));
         low = omega (arith, h.low, ap length e, length-append rest (above ∷ []));
         frames = frames.0;
@@ -58,11 +59,12 @@ module _ (c : Checks) (b : List ℕ) (S : Rows) (L : Bounds) (s : Origin) (below
     left_is = ap (λ (x : Row). x.left) re
 
     -- an offset word that leads to no table is passed
-    pub leaf_passed : IsLeafLead (first_word b S top.row).lead → IsUnderWay c b S L s below (top_on row) n d q
-    leaf_passed k = record {
+    pub leaf_passed : IsLeafLead (first_word b S top.row).lead → AreAllowed L.reads q → IsUnderWay c b S L s below (top_on row) n d q
+    leaf_passed k cheap = record {
       served = h.served;
       tables = h.tables;
       deepest = h.deepest;
+      reads = cheap;
       links = h.links;
       low = h.low;
       frames = h.frames;
@@ -76,11 +78,12 @@ module _ (c : Checks) (b : List ℕ) (S : Rows) (L : Bounds) (s : Origin) (below
 
     module _ (m k : ℕ) (table : Table) (mi : m ≡ length below + 1) (e : (first_word b S top.row).lead ≡ to_table k) (ko : table.object ≡ k) (p : table.at ≡ target b (top.row).place) (g : head_failure c b table.at ≡ None) (fewer : n < L.tables) (shallow : m < L.depth) (low : m < 4096) where
       -- a table is opened
-      pub table_opened : IsTrue (is_table S k) → table.at < 2 ^ 33 → IsHead c b table.at table.head → IsUnderWay c b S L s (below ++ top_on row ∷ []) (opened table) (n + 1) (max d (m + 1)) (q + head_reads c)
-      table_opened is near head = record {
+      pub table_opened : IsTrue (is_table S k) → table.at < 2 ^ 33 → IsHead c b table.at table.head → AreAllowed L.reads (q + head_reads c) → IsUnderWay c b S L s (below ++ top_on row ∷ []) (opened table) (n + 1) (max d (m + 1)) (q + head_reads c)
+      table_opened is near head cheap = record {
         served = h.served;
         tables = omega (arith, fewer);
         deepest = omega (arith, h.deepest, shallow);
+        reads = cheap;
         links = omega (arith, length-append below (top_on row ∷ []), mi, shallow);
         low = omega (arith, length-append below (top_on row ∷ []), mi, low);
         frames = All-push (IsFrame c b S) below (top_on row) h.frames (frame_on c b S top row re l h.frame);
@@ -104,11 +107,12 @@ module _ (c : Checks) (b : List ℕ) (S : Rows) (L : Bounds) (s : Origin) (below
 
   module _ (field : Live) (row : Row) (number q : ℕ) (l : (top.row).left ≡ 0) (i : slice_get (live_fields S (top.table).object) top.next ≡ Some field) (z : q ≡ r + own_reads b (top.table).at field) (good : IsRow b S row) where
     -- a field is passed
-    pub field_passed : number ≡ field.number → own_failure c b S (top.table).at field ≡ None → entries b S (top.table).at field ≡ words_of b S row → IsUnderWay c b S L s below (top_past number row) n d q
-    field_passed ne o e = record {
+    pub field_passed : AreAllowed L.reads q → number ≡ field.number → own_failure c b S (top.table).at field ≡ None → entries b S (top.table).at field ≡ words_of b S row → IsUnderWay c b S L s below (top_past number row) n d q
+    field_passed cheap ne o e = record {
       served = h.served;
       tables = h.tables;
       deepest = h.deepest;
+      reads = cheap;
       links = h.links;
       low = h.low;
       frames = h.frames;
@@ -120,11 +124,12 @@ module _ (c : Checks) (b : List ℕ) (S : Rows) (L : Bounds) (s : Origin) (below
     field_work = omega (arith, field_within (live_fields S (top.table).object) top.next field i, good.left, own_few b (top.table).at field, z)
 
     -- a field that leads nowhere is passed
-    pub field_skipped : row.left ≡ 0 → own_failure c b S (top.table).at field ≡ None → entries b S (top.table).at field ≡ words_of b S row → IsUnderWay c b S L s below top_over n d q
-    field_skipped none o e = record {
+    pub field_skipped : AreAllowed L.reads q → row.left ≡ 0 → own_failure c b S (top.table).at field ≡ None → entries b S (top.table).at field ≡ words_of b S row → IsUnderWay c b S L s below top_over n d q
+    field_skipped cheap none o e = record {
       served = h.served;
       tables = h.tables;
       deepest = h.deepest;
+      reads = cheap;
       links = h.links;
       low = h.low;
       frames = h.frames;

@@ -6,13 +6,13 @@ use Rattle.fb_verify.specs.declared.start.Start.TheVariants.{Bare}
 use Rattle.fb_verify.specs.declared.start.Ident.TheVariants.{Any}
 use Rattle.fb_verify.specs.declared.fault.Fault.{Fault}
 use Rattle.fb_verify.specs.declared.fault.Reason.{Reason}
-use Rattle.fb_verify.specs.declared.fault.Reason.TheVariants.{Misaligned, ZeroOffset, TooDeep, TooManyTables, BadVtable, NoTerminator, LengthsDiffer, PastTable}
+use Rattle.fb_verify.specs.declared.fault.Reason.TheVariants.{Misaligned, ZeroOffset, TooDeep, TooManyTables, BadVtable, NoTerminator, LengthsDiffer, PastTable, TooManyReads}
 use Rattle.fb_verify.specs.Bounds.{Bounds}
 use Rattle.fb_verify.specs.Places.{target}
 use Rattle.fb_verify.specs.Tree.{Tree, node, Kids, no_kids, kid, Elements, no_elements, element, leaf, table, size, depth}
 use Rattle.fb_verify.specs.WellFormed.{IsStart, IsWellFormed, cost}
-use Rattle.fb_verify.specs.Way.{way_to_root}
-use Rattle.fb_verify.specs.Stops.{Trail, at_head, at_field, at_own, at_element, at_lead, through, IsTrail}
+use Rattle.fb_verify.specs.Way.{way_to_start, way_to_root}
+use Rattle.fb_verify.specs.Stops.{in_start, IsFalseAt, Trail, at_head, at_field, at_own, at_element, at_lead, through, IsTrail}
 use Rattle.fb_verify.specs.Samples.{published_checks, published_limits, monsters, nodes, unions, monster, open_name, no_name, short_table, one_member, odd_vtable, crooked_struct, two_members, three_values, every_kind, shared}
 
 -- under the published checks the buffer unfolds into this tree, with so many tables, so deep, for so many reads
@@ -99,12 +99,35 @@ middle = node 0 28 (kid (one_table last) (kid (one_table last) no_kids))
 -- with 6 tables allowed: past the root's first subtable and the first of its second's, the seventh
 abbrev pub SeventhTableStops : Type 0
 SeventhTableStops =
-    StopsBy published_checks shared nodes 0 (record { depth = 64; tables = 6 }) (at_field (kid (one_table middle) no_kids) (at_element no_elements (through (at_field (kid (one_table last) no_kids) (at_element no_elements (through at_head)))))) (in_field_of 0 1 40 TooManyTables 25)
+    StopsBy published_checks shared nodes 0 (record { depth = 64; tables = 6; reads = None }) (at_field (kid (one_table middle) no_kids) (at_element no_elements (through (at_field (kid (one_table last) no_kids) (at_element no_elements (through at_head)))))) (in_field_of 0 1 40 TooManyTables 25)
+
+-- the published limits with a budget of so many reads
+abbrev pub with_reads : ℕ → Bounds
+with_reads most = record published_limits { reads = Some most }
+
+-- with no read allowed: past the root offset
+abbrev pub FirstReadStops : Type 0
+FirstReadStops =
+    IsFalseAt published_checks monster monsters (with_reads 0) (in_start Bare Any) (way_to_start 0) (record { at = 0; object = 0; field = None; reason = TooManyReads; reads = 1 })
+
+-- with 7 reads allowed: past the hit points and the name, at its offset word
+abbrev pub LastTextStops : Type 0
+LastTextStops = StopsBy published_checks monster monsters 0 (with_reads 7) (at_field one_field (at_element no_elements at_lead)) (in_field_of 0 1 16 TooManyReads 8)
+
+-- with 24 reads allowed: past the head of the seventh table, to which the 25th leads
+abbrev pub SeventhHeadStops : Type 0
+SeventhHeadStops =
+    StopsBy published_checks shared nodes 0 (with_reads 24) (at_field (kid (one_table middle) no_kids) (at_element no_elements (through (at_field (kid (one_table last) no_kids) (at_element no_elements (through at_head)))))) (record { at = 40; object = 0; field = None; reason = TooManyReads; reads = 27 })
+
+-- with 10 reads allowed: past the type, through the value, past the number of the table A
+abbrev pub LastFieldStops : Type 0
+LastFieldStops =
+    StopsBy published_checks one_member unions 2 (with_reads 10) (at_field one_field (at_element no_elements (through (at_field no_kids at_own)))) (in_field_of 0 0 32 TooManyReads 11)
 
 -- with depth 2 and 2 tables allowed: the first table of the first, where both limits are reached
 abbrev pub ThirdLevelStops : Type 0
 ThirdLevelStops =
-    StopsBy published_checks shared nodes 0 (record { depth = 2; tables = 2 }) (at_field no_kids (at_element no_elements (through (at_field no_kids (at_element no_elements (through at_head)))))) (in_field_of 0 0 40 TooDeep 9)
+    StopsBy published_checks shared nodes 0 (record { depth = 2; tables = 2; reads = None }) (at_field no_kids (at_element no_elements (through (at_field no_kids (at_element no_elements (through at_head)))))) (in_field_of 0 0 40 TooDeep 9)
 
 -- past the type, through the value, the head of the table A, whose vtable has an odd size
 abbrev pub OddVtableStops : Type 0

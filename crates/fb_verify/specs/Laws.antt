@@ -6,14 +6,15 @@ use Rattle.fb_schema.specs.Live.{Live}
 use Rattle.fb_verify.specs.declared.checks.Checks.{Checks}
 use Rattle.fb_verify.specs.declared.start.Start.{Start}
 use Rattle.fb_verify.specs.declared.start.Ident.{Ident}
-use Rattle.fb_verify.specs.declared.fault.Reason.TheVariants.{TooDeep, TooManyTables}
+use Rattle.fb_verify.specs.declared.fault.Reason.TheVariants.{TooDeep, TooManyTables, TooManyReads}
 use Rattle.fb_verify.specs.declared.fault.Fault.{Fault}
-use Rattle.fb_verify.specs.Bounds.{Bounds}
+use Rattle.fb_verify.specs.Bounds.{Bounds, AreTooMany}
 use Rattle.fb_verify.specs.Places.{target}
 use Rattle.fb_verify.specs.Facts.{IsTable, IsOffset, IsString, IsVector, IsInline}
 use Rattle.fb_verify.specs.Fields.{IsField, Lead, to_table, to_struct, to_string, to_nothing, Entry}
 use Rattle.fb_verify.specs.Tree.{Tree, size, depth}
 use Rattle.fb_verify.specs.Unfolds.{Unfolds}
+use Rattle.fb_verify.specs.Cost.{tree_cost}
 use Rattle.fb_verify.specs.WellFormed.{IsStart, IsWellFormed, IsWithin, cost}
 use Rattle.fb_verify.specs.Way.{Way}
 use Rattle.fb_verify.specs.Stops.{Trail, IsTrail, Stops}
@@ -62,15 +63,16 @@ IdentifierLaw =
 abbrev pub HasOneTree : Type 0
 HasOneTree = (c : Checks) (b : List ℕ) (S : Rows) (k t : ℕ) (y z : Tree) → Unfolds y c b S k t → Unfolds z c b S k t → y ≡ z
 
--- the fault is a limit, and a tree of this depth and size at the end of this way is past it
-abbrev pub Overruns : Bounds → Way → ℕ → ℕ → Fault → Type 0
-Overruns L w deep many f =
-    ((f.reason ≡ TooDeep) × (L.depth < w.links + deep)) ⊎ ((f.reason ≡ TooManyTables) × (L.tables < w.passed + many))
+-- the fault is a limit, and a tree of this depth, size and cost at the end of this way is past it
+abbrev pub Overruns : Bounds → Way → ℕ → ℕ → ℕ → Fault → Type 0
+Overruns L w deep many reads f =
+    ((f.reason ≡ TooDeep) × (L.depth < w.links + deep))
+    ⊎ (((f.reason ≡ TooManyTables) × (L.tables < w.passed + many)) ⊎ ((f.reason ≡ TooManyReads) × AreTooMany L.reads (w.paid + reads)))
 
 -- where the way w leads to a table with a tree, a trail from there stops only at a limit, and the tree is past it
 abbrev pub StopsOnlyAtLimits : Type 0
 StopsOnlyAtLimits =
-    (c : Checks) (b : List ℕ) (S : Rows) (L : Bounds) (k t : ℕ) (y : Tree) (w : Way) (s : Trail) (f : Fault) → Unfolds y c b S k t → IsTrail s c b S L k t w f → Overruns L w (depth y) (size y) f
+    (c : Checks) (b : List ℕ) (S : Rows) (L : Bounds) (k t : ℕ) (y : Tree) (w : Way) (s : Trail) (f : Fault) → Unfolds y c b S k t → IsTrail s c b S L k t w f → Overruns L w (depth y) (size y) (tree_cost y c b S) f
 
 -- at most one fault is the first
 abbrev pub StopsOnce : Type 0
@@ -80,14 +82,14 @@ StopsOnce =
 -- none is, where a tree is well formed and within the limits
 abbrev pub StopsNowhereWithin : Type 0
 StopsNowhereWithin =
-    (c : Checks) (b : List ℕ) (S : Rows) (root : ℕ) (start : Start) (ident : Ident) (L : Bounds) (y : Tree) (f : Fault) → IsWellFormed c b S root start ident y → IsWithin y L → Stops c b S root start ident L f → ⊥
+    (c : Checks) (b : List ℕ) (S : Rows) (root : ℕ) (start : Start) (ident : Ident) (L : Bounds) (y : Tree) (f : Fault) → IsWellFormed c b S root start ident y → IsWithin y c b S start ident L → Stops c b S root start ident L f → ⊥
 
 -- a well formed tree within the limits costs at most that many reads
 abbrev pub CostIsBounded : Type 0
 CostIsBounded =
-    (c : Checks) (b : List ℕ) (S : Rows) (root : ℕ) (start : Start) (ident : Ident) (L : Bounds) (y : Tree) → IsWellFormed c b S root start ident y → IsWithin y L → cost y c b S start ident ≤ most_reads S L (length b)
+    (c : Checks) (b : List ℕ) (S : Rows) (root : ℕ) (start : Start) (ident : Ident) (L : Bounds) (y : Tree) → IsWellFormed c b S root start ident y → IsWithin y c b S start ident L → cost y c b S start ident ≤ most_reads S L (length b)
 
--- so does a fault
+-- so does a fault: within a budget of reads it comes after at most 7 more than these
 abbrev pub ReadsAreBounded : Type 0
 ReadsAreBounded =
     (c : Checks) (b : List ℕ) (S : Rows) (root : ℕ) (start : Start) (ident : Ident) (L : Bounds) (f : Fault) → Stops c b S root start ident L f → f.reads ≤ most_reads S L (length b)

@@ -1,7 +1,7 @@
 -- What the reasons are called where they are printed.
 use Rattle.std.specs.Prelude.{ℕ, List, codes}
 use Rattle.fb_verify.specs.declared.fault.Reason.{Reason}
-use Rattle.fb_verify.specs.declared.fault.Reason.TheVariants.{WrongPrefix, OutOfBuffer, Misaligned, ZeroOffset, WrongIdentifier, TooDeep, TooManyTables, BadVtable, MissingRequired, NoTerminator, LengthsDiffer, PastTable}
+use Rattle.fb_verify.specs.declared.fault.Reason.TheVariants.{WrongPrefix, OutOfBuffer, Misaligned, ZeroOffset, WrongIdentifier, TooDeep, TooManyTables, BadVtable, MissingRequired, NoTerminator, LengthsDiffer, PastTable, TooManyReads}
 
 -- a reason's code and name
 abbrev pub reason_text : Reason → List ℕ
@@ -17,3 +17,4 @@ reason_text MissingRequired = codes "V9 MissingRequired"
 reason_text NoTerminator = codes "V10 NoTerminator"
 reason_text LengthsDiffer = codes "V11 LengthsDiffer"
 reason_text PastTable = codes "V12 PastTable"
+reason_text TooManyReads = codes "V13 TooManyReads"

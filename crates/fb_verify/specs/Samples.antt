@@ -1,5 +1,5 @@
 -- Schemas and buffers for examples.
-use Rattle.std.specs.Prelude.{ℕ, pos, true, false, List, [], ◌∷◌}
+use Rattle.std.specs.Prelude.{ℕ, pos, true, false, List, [], ◌∷◌, None}
 use Rattle.fb_schema.specs.declared.rows.TypeRow.{TypeRow}
 use Rattle.fb_schema.specs.Rows.{Field, Object, Rows}
 use Rattle.fb_verify.specs.declared.checks.Checks.{Checks}
@@ -10,7 +10,7 @@ abbrev pub published_checks : Checks
 published_checks = record { alignment = true; inline_size = false }
 
 abbrev pub published_limits : Bounds
-published_limits = record { depth = 64; tables = 1000000 }
+published_limits = record { depth = 64; tables = 1000000; reads = None }
 
 -- types by their base type, its element's, and the object or enum that is named
 

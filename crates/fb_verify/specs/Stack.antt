@@ -12,7 +12,7 @@ use Rattle.fb_verify.specs.declared.offset_row.Leads.TheVariants.{All as AllTo}
 use Rattle.fb_verify.specs.declared.scratch.Frame.{Frame}
 use Rattle.fb_verify.specs.declared.field.Table.{Table}
 use Rattle.fb_verify.specs.declared.stack.Walk.{Walk}
-use Rattle.fb_verify.specs.Bounds.{Bounds}
+use Rattle.fb_verify.specs.Bounds.{Bounds, AreAllowed}
 use Rattle.fb_verify.specs.Way.{Way}
 use Rattle.fb_verify.specs.Told.{IsHead}
 use Rattle.fb_verify.specs.OffsetRows.{words_of, IsRow}
@@ -44,7 +44,7 @@ AreFrames c b S frames = All (IsFrame c b S) frames
 
 -- into a table of the object k at the end of the way w, where the walk came to n tables, the depth d and r reads
 abbrev pub reached : Way → ℕ → Option ℕ → ℕ → ℕ → ℕ → Way
-reached w k field n d r = record { links = w.links + 1; passed = n; deepest = d; paid = r; object = k; field = field }
+reached w k field n d r = record { links = w.links + 1; passed = n; deepest = d; paid = r; leading = 0; object = k; field = field }
 
 -- no field of the frame's table is under check
 pub record Resting (c : Checks) (b : List ℕ) (S : Rows) (fr : Frame) (w : Way) (n d r : ℕ) : Type 0 where
@@ -88,6 +88,7 @@ pub record IsUnderWay (c : Checks) (b : List ℕ) (S : Rows) (L : Bounds) (s : O
   pub served : IsServed S
   pub tables : n ≤ L.tables
   pub deepest : d ≤ L.depth
+  pub reads : AreAllowed L.reads r
   pub links : length below < L.depth
   pub low : length below < 4096
   pub frames : AreFrames c b S below

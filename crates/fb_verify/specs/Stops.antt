@@ -5,15 +5,16 @@ use Rattle.fb_schema.specs.Live.{Live, live_fields}
 use Rattle.fb_verify.specs.declared.checks.Checks.{Checks}
 use Rattle.fb_verify.specs.declared.start.Start.{Start}
 use Rattle.fb_verify.specs.declared.start.Ident.{Ident}
-use Rattle.fb_verify.specs.declared.fault.Reason.TheVariants.{TooDeep, TooManyTables}
+use Rattle.fb_verify.specs.declared.fault.Reason.TheVariants.{TooDeep, TooManyTables, TooManyReads}
 use Rattle.fb_verify.specs.declared.fault.Fault.{Fault}
-use Rattle.fb_verify.specs.Bounds.{Bounds}
+use Rattle.fb_verify.specs.Bounds.{Bounds, allowed}
 use Rattle.fb_verify.specs.Places.{target}
 use Rattle.fb_verify.specs.Facts.{IsTable, IsOffset}
-use Rattle.fb_verify.specs.Fields.{IsField, to_table, Entry, entries}
+use Rattle.fb_verify.specs.Fields.{IsField, Lead, to_table, Entry, entries}
 use Rattle.fb_verify.specs.Tree.{Kids, kids_length, Elements, elements_length}
 use Rattle.fb_verify.specs.Unfolds.{FieldsUnfold, ElementsUnfold}
-use Rattle.fb_verify.specs.WellFormed.{base, IsStart}
+use Rattle.fb_verify.specs.Cost.{head_reads, own_reads, lead_reads}
+use Rattle.fb_verify.specs.WellFormed.{base, start_reads, IsStart}
 use Rattle.fb_verify.specs.Order.{Failure, check, ◌▷◌, start_failure, head_failure, own_failure, element_failure}
 use Rattle.fb_verify.specs.Way.{Way, way_to_start, way_to_root, way_to_field, way_to_element, way_to_table, StaysWithin}
 
@@ -34,12 +35,23 @@ fault_of w (Some e) = Some (record { at = e.at; object = w.object; field = w.fie
 abbrev pub budget_failure : Bounds → Way → ℕ → Option Failure
 budget_failure L w t = check (nat_lt w.links L.depth) TooDeep t 0 (check (nat_lt w.passed L.tables) TooManyTables t 0 None)
 
--- the first condition that fails at this place; in the head of a table the fault's object is that table's
+-- whether the limits allow n reads more than were paid, which is told at p
+abbrev pub reads_failure : Bounds → (paid n p : ℕ) → Option Failure
+reads_failure L paid n p = check (allowed L.reads (paid + n)) TooManyReads p n None
+
+-- the same of an element by its lead; the reads that lead to a table are asked with its head
+abbrev pub lead_reads_failure : Bounds → (paid : ℕ) → Entry → Lead → Option Failure
+lead_reads_failure L paid x (to_table k) = None
+lead_reads_failure L paid x lead = reads_failure L paid (x.reads + lead_reads lead) x.place
+
+-- the first condition that fails at this place, its own before that on the reads; in the head of a table the fault's
+-- object is that table's
 unfoldable pub fault_at : Checks → List ℕ → Rows → Bounds → Place → Way → Option Fault
-fault_at c b S L (in_start start ident) w = fault_of w (start_failure c b start ident)
-fault_at c b S L (in_head k t) w = fault_of w (budget_failure L w t) ▷ fault_of (record w { object = k; field = None }) (head_failure c b t)
-fault_at c b S L (in_field t g) w = fault_of w (own_failure c b S t g)
-fault_at c b S L (in_element x) w = fault_of w (element_failure c b x)
+fault_at c b S L (in_start start ident) w = fault_of w (start_failure c b start ident ▷ reads_failure L w.paid (start_reads start ident) (base start))
+fault_at c b S L (in_head k t) w =
+    fault_of w (budget_failure L w t) ▷ fault_of (record w { object = k; field = None }) (head_failure c b t ▷ reads_failure L w.paid (head_reads c) t)
+fault_at c b S L (in_field t g) w = fault_of w (own_failure c b S t g ▷ reads_failure L w.paid (own_reads b t g) t)
+fault_at c b S L (in_element x) w = fault_of w (element_failure c b x ▷ lead_reads_failure L w.paid x x.lead)
 
 -- at the end of this way, which stays within the limits, f is the first condition of this place that fails
 pub record IsFalseAt (c : Checks) (b : List ℕ) (S : Rows) (L : Bounds) (p : Place) (w : Way) (f : Fault) : Type 0 where

@@ -25,7 +25,7 @@ stopped s reads = record { at = (s.refusal).at; object = (s.site).object; field 
 
 -- at this site, with so many tables open, so many passed, so many open at once, and so many reads paid
 abbrev pub way_at : ℕ → ℕ → ℕ → ℕ → Site → Way
-way_at links passed deepest paid site = record { links = links; passed = passed; deepest = deepest; paid = paid; object = site.object; field = site.field }
+way_at links passed deepest paid site = record { links = links; passed = passed; deepest = deepest; paid = paid; leading = 0; object = site.object; field = site.field }
 
 -- the vtable that was read for the table at t
 pub record IsVtable (b : List ℕ) (t : ℕ) (h : Head) : Type 0 where

@@ -13,11 +13,11 @@ use Rattle.fb_verify.specs.WellFormed.{IsWellFormed, IsWithin, cost}
 pub record Reports (c : Checks) (b : List ℕ) (S : Rows) (root : ℕ) (start : Start) (ident : Ident) (L : Bounds) (r : Report) : Type 0 where
   pub found : Tree
   pub well_formed : IsWellFormed c b S root start ident found
-  pub within : IsWithin found L
+  pub within : IsWithin found c b S start ident L
   pub tables : r.tables ≡ size found
   pub depth : r.depth ≡ depth found
   pub reads : r.reads ≡ cost found c b S start ident
 
 -- no tree is well formed and within the limits
 abbrev pub HasNone : Checks → List ℕ → Rows → ℕ → Start → Ident → Bounds → Type 0
-HasNone c b S root start ident L = (y : Tree) → IsWellFormed c b S root start ident y → IsWithin y L → ⊥
+HasNone c b S root start ident L = (y : Tree) → IsWellFormed c b S root start ident y → IsWithin y c b S start ident L → ⊥

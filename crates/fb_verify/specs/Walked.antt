@@ -16,7 +16,7 @@ at_number field w = record w { field = field }
 
 -- the same way, where the walk came to so many tables, this depth and so many reads
 abbrev pub ended : Way → ℕ → ℕ → ℕ → Way
-ended w n d r = record w { passed = n; deepest = d; paid = r }
+ended w n d r = record w { passed = n; deepest = d; paid = r; leading = 0 }
 
 -- the table at t of the object k was walked
 pub record TableWalked (c : Checks) (b : List ℕ) (S : Rows) (k t : ℕ) (w v : Way) : Type 0 where

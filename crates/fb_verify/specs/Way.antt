@@ -1,29 +1,30 @@
 -- The way to a place: what lies before it.
-use Rattle.std.specs.Prelude.{ℕ, ◌+◌, ◌≤◌, max, List, Option, Some, None}
+use Rattle.std.specs.Prelude.{ℕ, ◌+◌, ◌-◌, ◌≤◌, max, List, Option, Some, None}
 use Rattle.fb_schema.specs.Rows.{Rows}
 use Rattle.fb_schema.specs.Live.{Live, live_fields}
 use Rattle.fb_verify.specs.declared.checks.Checks.{Checks}
 use Rattle.fb_verify.specs.declared.start.Start.{Start}
 use Rattle.fb_verify.specs.declared.start.Ident.{Ident}
-use Rattle.fb_verify.specs.Bounds.{Bounds}
+use Rattle.fb_verify.specs.Bounds.{Bounds, AreAllowed}
 use Rattle.fb_verify.specs.Tree.{Tree, size, depth, Kids, kids_size, kids_depth, Elements, elements_size, elements_depth}
 use Rattle.fb_verify.specs.Fields.{Entry, entries}
 use Rattle.fb_verify.specs.Cost.{head_reads, own_reads, tree_cost, kids_cost, elements_cost}
 use Rattle.fb_verify.specs.WellFormed.{start_reads}
 
--- the open tables, the tables passed with these, the greatest number that were open at once, the reads paid, and the object and field of the
--- innermost open table
+-- the open tables, the tables passed with these, the greatest number that were open at once, the reads paid, those of
+-- them that lead to a table and are asked with its head, and the object and field of the innermost open table
 pub record Way : Type 0 where
   pub links : ℕ
   pub passed : ℕ
   pub deepest : ℕ
   pub paid : ℕ
+  pub leading : ℕ
   pub object : ℕ
   pub field : Option ℕ
 
 -- before the first read
 abbrev pub way_to_start : ℕ → Way
-way_to_start root = record { links = 0; passed = 0; deepest = 0; paid = 0; object = root; field = None }
+way_to_start root = record { links = 0; passed = 0; deepest = 0; paid = 0; leading = 0; object = root; field = None }
 
 -- so many reads on
 abbrev pub paying : ℕ → Way → Way
@@ -40,13 +41,14 @@ opening c k w = record {
   passed = w.passed + 1;
   deepest = max w.deepest (w.links + 1);
   paid = w.paid + head_reads c;
+  leading = 0;
   object = k;
   field = None;
 }
 
 -- past trees of this size, depth and cost
 abbrev pub passing : ℕ → ℕ → ℕ → Way → Way
-passing many deep reads w = record w { passed = w.passed + many; deepest = max w.deepest (w.links + deep); paid = w.paid + reads }
+passing many deep reads w = record w { passed = w.passed + many; deepest = max w.deepest (w.links + deep); paid = w.paid + reads; leading = 0 }
 
 -- past a whole table
 abbrev pub past_tree : Checks → List ℕ → Rows → Tree → Way → Way
@@ -70,9 +72,11 @@ way_to_element c b S t g before w = past_elements c b S (entries b S t g) before
 
 -- to the table that this element leads to
 abbrev pub way_to_table : Entry → Way → Way
-way_to_table x w = paying (x.reads + 1) w
+way_to_table x w = record (paying (x.reads + 1) w) { leading = x.reads + 1 }
 
--- no more tables were passed than the limits allow, and no more were open at once
+-- no more tables were passed than the limits allow, no more were open at once, and no more reads were made, but for
+-- those that lead to a table
 pub record StaysWithin (w : Way) (L : Bounds) : Type 0 where
   pub tables : w.passed ≤ L.tables
   pub depth : w.deepest ≤ L.depth
+  pub reads : AreAllowed L.reads (w.paid - w.leading)

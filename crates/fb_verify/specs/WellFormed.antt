@@ -7,7 +7,7 @@ use Rattle.fb_verify.specs.declared.start.Start.{Start}
 use Rattle.fb_verify.specs.declared.start.Start.TheVariants.{Bare, Prefixed}
 use Rattle.fb_verify.specs.declared.start.Ident.{Ident}
 use Rattle.fb_verify.specs.declared.start.Ident.TheVariants.{Any, Want}
-use Rattle.fb_verify.specs.Bounds.{Bounds}
+use Rattle.fb_verify.specs.Bounds.{Bounds, AreAllowed}
 use Rattle.fb_verify.specs.Places.{target}
 use Rattle.fb_verify.specs.Facts.{IsOffset}
 use Rattle.fb_verify.specs.Tree.{Tree, size, depth}
@@ -40,11 +40,6 @@ pub record IsWellFormed (c : Checks) (b : List ℕ) (S : Rows) (root : ℕ) (sta
   pub starts : IsStart c b start ident
   pub unfolds : Unfolds y c b S root (target b (base start))
 
--- the tree has no more tables and no longer chains than these
-pub record IsWithin (y : Tree) (L : Bounds) : Type 0 where
-  pub tables : size y ≤ L.tables
-  pub depth : depth y ≤ L.depth
-
 abbrev pub prefix_reads : Start → ℕ
 prefix_reads Bare = 0
 prefix_reads Prefixed = 1
@@ -60,3 +55,9 @@ start_reads start ident = prefix_reads start + ident_reads ident + 1
 -- all counted reads of a buffer that unfolds into this tree
 abbrev pub cost : Tree → Checks → List ℕ → Rows → Start → Ident → ℕ
 cost y c b S start ident = start_reads start ident + tree_cost y c b S
+
+-- the tree has no more tables and no longer chains than these, and costs no more reads
+pub record IsWithin (y : Tree) (c : Checks) (b : List ℕ) (S : Rows) (start : Start) (ident : Ident) (L : Bounds) : Type 0 where
+  pub tables : size y ≤ L.tables
+  pub depth : depth y ≤ L.depth
+  pub reads : AreAllowed L.reads (cost y c b S start ident)

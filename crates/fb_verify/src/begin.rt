@@ -4,15 +4,30 @@ ghost use Rattle.std.specs.Prelude.{◌≡◌, ◌+◌, ◌^◌, ◌<◌, ◌≤
 ghost use Rattle.fb_bytes.specs.Word.{word};
 ghost use Rattle.fb_verify.specs.Places.{target};
 ghost use Rattle.fb_verify.specs.WellFormed.{base, prefix_reads, ident_reads, start_reads};
-ghost use Rattle.fb_verify.specs.Order.{after, prefix_failure, ident_failure, start_failure};
+ghost use Rattle.fb_verify.specs.Bounds.{AreAllowed};
+ghost use Rattle.fb_verify.specs.Stops.{reads_failure};
+ghost use Rattle.fb_verify.specs.Order.{after, ◌▷◌, prefix_failure, ident_failure, start_failure};
 ghost use Rattle.fb_verify.specs.Told.{told, refused, stopped};
 
+use crate::budget::ask_reads;
 use crate::checks::Checks;
 use crate::fault::Reason;
+use crate::limits::Limits;
 use crate::site::{Refusal, Site, Stop, refuse};
 use crate::start::{Ident, Start};
 use crate::values::read_offset;
 use fb_bytes::Meter;
+
+/// Where the root offset stands.
+fn base_of(start: Start) -> u64
+    ensures value { result ≡ base start }
+    ensures near { result ≤ 4 }
+{
+    match start {
+        Start::Bare => 0,
+        Start::Prefixed => 4,
+    }
+}
 
 /// Reads the prefix, if there should be one.
 #[tactic(auto, unfolding(crate::specs::Order::prefix_failure))]
@@ -85,19 +100,18 @@ fn check_start(
     ensures err { IfErr result (λ e. after meter.old.count (start_failure checks meter.old.bytes start ident) ≡ Some (refused e meter.new.count)) }
     ensures bytes { meter.new.bytes ≡ meter.old.bytes }
 {
-    let base = match start {
-        Start::Bare => 0,
-        Start::Prefixed => 4,
-    };
+    let base = base_of(start);
     read_prefix(meter, start)?;
     read_ident(meter, base + 4, ident)?;
     read_offset(meter, checks, base)
 }
 
-/// Reads all that stands before the root table, and answers where that stands. What fails does so at this site.
+/// Reads all that stands before the root table, asks the budget, and answers where that table stands. What fails does so at
+/// this site.
 #[tactic(auto, using(crate::proofs::Refusals::told_after))]
 pub fn read_start(
     meter: &mut Meter<'_>,
+    limits: Limits,
     checks: Checks,
     site: Site,
     start: Start,
@@ -108,11 +122,15 @@ pub fn read_start(
     ensures value { IfOk result (λ t. t ≡ target meter.old.bytes (base start)) }
     ensures near { IfOk result (λ t. t < 2 ^ 33) }
     ensures counted { IfOk result (λ _. meter.new ≡ record meter.old { count = meter.old.count + start_reads start ident }) }
-    ensures err { IfErr result (λ s. told site meter.old.count (start_failure checks meter.old.bytes start ident) ≡ Some (stopped s meter.new.count)) }
+    ensures reads { IfOk result (λ _. AreAllowed limits.reads meter.new.count) }
+    ensures err { IfErr result (λ s. told site meter.old.count (start_failure checks meter.old.bytes start ident ▷ reads_failure limits meter.old.count (start_reads start ident) (base start)) ≡ Some (stopped s meter.new.count)) }
     ensures bytes { meter.new.bytes ≡ meter.old.bytes }
 {
     match check_start(meter, checks, start, ident) {
-        Ok(at) => Ok(at),
+        Ok(at) => {
+            ask_reads(meter, limits, site, base_of(start))?;
+            Ok(at)
+        }
         Err(refusal) => Err(Stop { site, refusal }),
     }
 }

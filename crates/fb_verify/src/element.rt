@@ -6,13 +6,17 @@ ghost use Rattle.fb_verify.specs.declared.offset_row.Referent.TheVariants.{Table
 ghost use Rattle.fb_verify.specs.Places.{target};
 ghost use Rattle.fb_verify.specs.Cost.{lead_reads};
 ghost use Rattle.fb_verify.specs.Fields.{to_table};
-ghost use Rattle.fb_verify.specs.Order.{after, lead_failure, element_failure};
+ghost use Rattle.fb_verify.specs.Bounds.{AreAllowed};
+ghost use Rattle.fb_verify.specs.Stops.{lead_reads_failure};
+ghost use Rattle.fb_verify.specs.Order.{after, ◌▷◌, lead_failure, element_failure};
 ghost use Rattle.fb_verify.specs.Told.{told, refused, stopped};
 ghost use Rattle.fb_verify.specs.OffsetRows.{lead_to, first_word, IsSized, IsRow, IsLeafLead};
 ghost use Rattle.fb_schema.specs.Served.{IsServed};
 
+use crate::budget::ask_reads;
 use crate::checks::Checks;
 use crate::field::referent_of;
+use crate::limits::Limits;
 use crate::offset_row::{Leads, Referent, Row};
 use crate::site::{Refusal, Site, Stop};
 use crate::values::{check_inline, read_offset, read_string};
@@ -92,11 +96,13 @@ fn check_element(
     pass_referent(meter, checks, row.place, referent)
 }
 
-/// Checks the first offset word of a row, and answers the table to which it leads, if it does. What fails does so at this site.
+/// Checks the first offset word of a row, and answers the table to which it leads, if it does; else the budget is asked. What
+/// fails does so at this site.
 #[tactic(auto, using(crate::proofs::Refusals::told_after))]
 pub fn pass_element(
     meter: &mut Meter<'_>,
     schema: &Schema<'_>,
+    limits: Limits,
     checks: Checks,
     site: Site,
     row: Row,
@@ -110,11 +116,16 @@ pub fn pass_element(
     ensures table { IfOk result (λ o. IfSome o (λ child. IsTrue (is_table schema.now child.object))) }
     ensures near { IfOk result (λ o. IfSome o (λ child. child.at < 2 ^ 33)) }
     ensures counted { IfOk result (λ _. meter.new ≡ record meter.old { count = meter.old.count + (first_word meter.old.bytes schema.now row).reads + lead_reads (first_word meter.old.bytes schema.now row).lead }) }
-    ensures err { IfErr result (λ s. told site meter.old.count (element_failure checks meter.old.bytes (first_word meter.old.bytes schema.now row)) ≡ Some (stopped s meter.new.count)) }
+    ensures reads { IfOk result (λ o. o ≡ None → AreAllowed limits.reads meter.new.count) }
+    ensures err { IfErr result (λ s. told site meter.old.count (element_failure checks meter.old.bytes (first_word meter.old.bytes schema.now row) ▷ lead_reads_failure limits meter.old.count (first_word meter.old.bytes schema.now row) (first_word meter.old.bytes schema.now row).lead) ≡ Some (stopped s meter.new.count)) }
     ensures bytes { meter.new.bytes ≡ meter.old.bytes }
 {
     match check_element(meter, schema, checks, row) {
-        Ok(child) => Ok(child),
+        Ok(Some(child)) => Ok(Some(child)),
+        Ok(None) => {
+            ask_reads(meter, limits, site, row.place)?;
+            Ok(None)
+        }
         Err(refusal) => Err(Stop { site, refusal }),
     }
 }

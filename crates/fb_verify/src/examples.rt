@@ -1,6 +1,6 @@
 //! Examples of the definitions: each is a clause of a function that does nothing.
 
-ghost use Rattle.fb_verify.specs.Examples.{MonsterUnfolds, OneMemberUnfolds, TwoMembersUnfold, EveryKindUnfolds, OpenNameStops, NoNameStops, ThreeValuesStop, CrookedStructStops, SeventhTableStops, ThirdLevelStops, OddVtableStops, ShortTableStops};
+ghost use Rattle.fb_verify.specs.Examples.{MonsterUnfolds, OneMemberUnfolds, TwoMembersUnfold, EveryKindUnfolds, OpenNameStops, NoNameStops, ThreeValuesStop, CrookedStructStops, SeventhTableStops, ThirdLevelStops, OddVtableStops, ShortTableStops, FirstReadStops, LastTextStops, SeventhHeadStops, LastFieldStops};
 
 /// Buffers with their trees, and the tables, depth and reads of these.
 #[tactic(auto, using(crate::proofs::Shown::monster_unfolds, crate::proofs::Shown::one_member_unfolds, crate::proofs::Shown::two_members_unfold, crate::proofs::Shown::every_kind_unfolds))]
@@ -12,7 +12,7 @@ pub fn trees()
 {}
 
 /// Buffers with their faults, and the trails that lead to these.
-#[tactic(auto, using(crate::proofs::Shown::open_name_stops, crate::proofs::Shown::no_name_stops, crate::proofs::Shown::three_values_stop, crate::proofs::Shown::crooked_struct_stops, crate::proofs::Shown::seventh_table_stops, crate::proofs::Shown::third_level_stops, crate::proofs::Shown::odd_vtable_stops, crate::proofs::Shown::short_table_stops))]
+#[tactic(auto, using(crate::proofs::Shown::open_name_stops, crate::proofs::Shown::no_name_stops, crate::proofs::Shown::three_values_stop, crate::proofs::Shown::crooked_struct_stops, crate::proofs::Shown::seventh_table_stops, crate::proofs::Shown::third_level_stops, crate::proofs::Shown::odd_vtable_stops, crate::proofs::Shown::short_table_stops, crate::proofs::Shown::first_read_stops, crate::proofs::Shown::last_text_stops, crate::proofs::Shown::seventh_head_stops, crate::proofs::Shown::last_field_stops))]
 pub fn faults()
     ensures no_terminator { OpenNameStops }
     ensures a_zero_offset { NoNameStops }
@@ -22,4 +22,8 @@ pub fn faults()
     ensures one_level_too_deep_before_one_table_too_many { ThirdLevelStops }
     ensures an_odd_vtable_size { OddVtableStops }
     ensures a_field_past_its_table { ShortTableStops }
+    ensures too_many_reads_in_the_start { FirstReadStops }
+    ensures too_many_reads_in_a_text { LastTextStops }
+    ensures too_many_reads_in_a_head { SeventhHeadStops }
+    ensures too_many_reads_in_a_field { LastFieldStops }
 {}

@@ -3,7 +3,7 @@
 ghost use Rattle.std.specs.Prelude.{◌≡◌, ◌≤◌, length};
 ghost use Rattle.fb_verify.specs.Reasons.{reason_text};
 
-/// Why a buffer is refused, by the codes V1 to V12 in their order. What is asked is said by FlatBuffers Internals; the order in which it is asked,
+/// Why a buffer is refused, by the codes V1 to V13 in their order. What is asked is said by FlatBuffers Internals; the order in which it is asked,
 /// and the position that each fault names, by the project.
 #[derive(Clone, Copy, Debug, PartialEq, Eq)]
 pub enum Reason {
@@ -31,6 +31,8 @@ pub enum Reason {
     LengthsDiffer,
     /// V12: a field ends past the inline size of its table.
     PastTable,
+    /// V13: more reads were made than the budget allows.
+    TooManyReads,
 }
 
 impl Reason {
@@ -52,6 +54,7 @@ impl Reason {
             Reason::NoTerminator => "V10 NoTerminator",
             Reason::LengthsDiffer => "V11 LengthsDiffer",
             Reason::PastTable => "V12 PastTable",
+            Reason::TooManyReads => "V13 TooManyReads",
         }
     }
 }

@@ -8,15 +8,19 @@ ghost use Rattle.fb_schema.specs.Live.{live_of_view};
 ghost use Rattle.fb_verify.specs.Places.{target, has_slot, field_place};
 ghost use Rattle.fb_verify.specs.Fields.{type_place, union_type, type_count, types_begin, entries_of, entries, union_entry, lead_of};
 ghost use Rattle.fb_verify.specs.Cost.{own_reads, present_reads, slot_reads, reads_if_present};
-ghost use Rattle.fb_verify.specs.Order.{after, vector_field_failure, unions_field_failure, union_field_failure, present_failure, own_failure};
+ghost use Rattle.fb_verify.specs.Bounds.{AreAllowed};
+ghost use Rattle.fb_verify.specs.Stops.{reads_failure};
+ghost use Rattle.fb_verify.specs.Order.{after, ◌▷◌, vector_field_failure, unions_field_failure, union_field_failure, present_failure, own_failure};
 ghost use Rattle.fb_verify.specs.declared.offset_row.Leads.TheVariants.{All, ByType};
 ghost use Rattle.fb_verify.specs.Told.{told, refused, stopped, IsHead, IsVtable};
 ghost use Rattle.fb_schema.specs.Served.{IsServed, KindHolds, MemberHolds};
 ghost use Rattle.fb_verify.specs.OffsetRows.{words_of, lead_to, IsReferent, IsRow, TypeFits, TypesFit, IsTyped, IsVectorOrUnion};
 
+use crate::budget::ask_reads;
 use crate::checks::Checks;
 use crate::fault::Reason;
 use crate::head::{Head, check_end, read_slot};
+use crate::limits::Limits;
 use crate::offset_row::{Leads, NO_ROW, Referent, Row};
 use crate::site::{Refusal, Site, Stop, refuse};
 use crate::values::{check_inline, read_offset, read_vector};
@@ -357,12 +361,14 @@ fn check_field(
     }
 }
 
-/// Checks a field of a table by itself, and answers whether it leads on, and then by which offset words. What fails does so at this field.
+/// Checks a field of a table by itself, asks the budget, and answers whether the field leads on, and then by which offset words.
+/// What fails does so at this field.
 #[inline(always)]
 #[tactic(auto, using(crate::proofs::Refusals::told_after))]
 pub fn pass_field(
     meter: &mut Meter<'_>,
     schema: &Schema<'_>,
+    limits: Limits,
     checks: Checks,
     table: Table,
     field: &FieldView<'_>,
@@ -379,7 +385,8 @@ pub fn pass_field(
     ensures entries { IfOk result (λ more. more ≡ true → entries meter.old.bytes schema.now table.at (live_of_view field.now) ≡ words_of meter.old.bytes schema.now row.new) }
     ensures row { IfOk result (λ more. more ≡ true → IsRow meter.old.bytes schema.now row.new × (0 < (row.new).left)) }
     ensures counted { IfOk result (λ _. meter.new ≡ record meter.old { count = meter.old.count + own_reads meter.old.bytes table.at (live_of_view field.now) }) }
-    ensures err { IfErr result (λ s. told (record { object = table.object; field = Some (field.now).number }) meter.old.count (own_failure checks meter.old.bytes schema.now table.at (live_of_view field.now)) ≡ Some (stopped s meter.new.count)) }
+    ensures reads { IfOk result (λ _. AreAllowed limits.reads meter.new.count) }
+    ensures err { IfErr result (λ s. told (record { object = table.object; field = Some (field.now).number }) meter.old.count (own_failure checks meter.old.bytes schema.now table.at (live_of_view field.now) ▷ reads_failure limits meter.old.count (own_reads meter.old.bytes table.at (live_of_view field.now)) table.at) ≡ Some (stopped s meter.new.count)) }
     ensures bytes { meter.new.bytes ≡ meter.old.bytes }
 {
     let site = Site {
@@ -387,7 +394,10 @@ pub fn pass_field(
         field: Some(field.number),
     };
     match check_field(meter, schema, checks, table, field, row) {
-        Ok(more) => Ok(more),
+        Ok(more) => {
+            ask_reads(meter, limits, site, table.at)?;
+            Ok(more)
+        }
         Err(refusal) => Err(Stop { site, refusal }),
     }
 }

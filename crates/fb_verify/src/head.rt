@@ -3,11 +3,15 @@
 ghost use Rattle.std.specs.Prelude.{◌≡◌, ◌+◌, ◌^◌, ◌<◌, ◌≤◌, length, pos, IfOk, IfErr, IfSome, MatchOption, Some, None, IsTrue, true, false};
 ghost use Rattle.fb_verify.specs.Places.{has_vtable, has_slot, vtable, field_place, ends_in_table};
 ghost use Rattle.fb_verify.specs.Cost.{head_reads, slot_reads};
-ghost use Rattle.fb_verify.specs.Order.{after, head_failure, table_failure};
+ghost use Rattle.fb_verify.specs.Bounds.{AreAllowed};
+ghost use Rattle.fb_verify.specs.Order.{after, ◌▷◌, head_failure, table_failure};
+ghost use Rattle.fb_verify.specs.Stops.{reads_failure};
 ghost use Rattle.fb_verify.specs.Told.{told, refused, stopped, IsVtable, IsHead};
 
+use crate::budget::ask_reads;
 use crate::checks::Checks;
 use crate::fault::Reason;
+use crate::limits::Limits;
 use crate::site::{Refusal, Site, Stop, is_aligned, refuse};
 use fb_bytes::Meter;
 
@@ -80,15 +84,23 @@ fn check_head(meter: &mut Meter<'_>, checks: Checks, at: u64) -> Result<Head, Re
     })
 }
 
-/// Reads the head of the table at a position, of this object. What fails does so in this table, before its first field.
+/// Reads the head of the table at a position, of this object, and asks the budget. What fails does so in this table, before its
+/// first field.
 #[inline(always)]
 #[tactic(auto, using(crate::proofs::Refusals::told_after))]
-pub fn read_head(meter: &mut Meter<'_>, checks: Checks, object: u32, at: u64) -> Result<Head, Stop>
+pub fn read_head(
+    meter: &mut Meter<'_>,
+    limits: Limits,
+    checks: Checks,
+    object: u32,
+    at: u64,
+) -> Result<Head, Stop>
     requires few { meter.old.count < 2 ^ 98 }
     ensures ok { IfOk result (λ _. head_failure checks meter.old.bytes at ≡ None) }
     ensures head { IfOk result (λ h. IsHead checks meter.old.bytes at h) }
     ensures counted { IfOk result (λ _. meter.new ≡ record meter.old { count = meter.old.count + head_reads checks }) }
-    ensures err { IfErr result (λ s. told (record { object = object; field = None }) meter.old.count (head_failure checks meter.old.bytes at) ≡ Some (stopped s meter.new.count)) }
+    ensures reads { IfOk result (λ _. AreAllowed limits.reads meter.new.count) }
+    ensures err { IfErr result (λ s. told (record { object = object; field = None }) meter.old.count (head_failure checks meter.old.bytes at ▷ reads_failure limits meter.old.count (head_reads checks) at) ≡ Some (stopped s meter.new.count)) }
     ensures bytes { meter.new.bytes ≡ meter.old.bytes }
 {
     let site = Site {
@@ -96,7 +108,10 @@ pub fn read_head(meter: &mut Meter<'_>, checks: Checks, object: u32, at: u64) ->
         field: None,
     };
     match check_head(meter, checks, at) {
-        Ok(head) => Ok(head),
+        Ok(head) => {
+            ask_reads(meter, limits, site, at)?;
+            Ok(head)
+        }
         Err(refusal) => Err(Stop { site, refusal }),
     }
 }

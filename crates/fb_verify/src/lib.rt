@@ -2,6 +2,7 @@
 #![tactic(auto)]
 
 mod begin;
+mod budget;
 pub mod checks;
 mod element;
 pub mod examples;

@@ -4,9 +4,10 @@ ghost use Rattle.std.specs.Prelude.{◌≡◌, ◌+◌, ◌-◌, ◌*◌, ◌^�
 ghost use Rattle.fb_schema.specs.Rows.{is_table};
 ghost use Rattle.fb_schema.specs.Live.{live_fields};
 ghost use Rattle.fb_schema.specs.Served.{IsServed};
+ghost use Rattle.fb_verify.specs.Bounds.{AreAllowed};
 ghost use Rattle.fb_verify.specs.Cost.{head_reads};
 ghost use Rattle.fb_verify.specs.Order.{◌▷◌, head_failure};
-ghost use Rattle.fb_verify.specs.Stops.{budget_failure, StopsFrom};
+ghost use Rattle.fb_verify.specs.Stops.{budget_failure, reads_failure, StopsFrom};
 ghost use Rattle.fb_verify.specs.Told.{told, stopped, way_at, IsHead};
 ghost use Rattle.fb_verify.specs.Walked.{TableWalked, ended};
 ghost use Rattle.fb_verify.specs.Stack.{blank, Origin, Waiting, frame_work, work, opened, IsWalking, IsOver, IsStopped};
@@ -50,9 +51,10 @@ impl<'s, 'n> Walk<'s, 'n> {
         ensures ok { IfOk result (λ _. head_failure self.old.checks meter.old.bytes child.at ≡ None) }
         ensures head { IfOk result (λ t. IsHead self.old.checks meter.old.bytes child.at t.head) }
         ensures table { IfOk result (λ t. t ≡ record { object = child.object; at = child.at; head = t.head }) }
+        ensures reads { IfOk result (λ _. AreAllowed (self.old.limits).reads meter.new.count) }
         ensures opened { IfOk result (λ _. self.new ≡ record self.old { tables = self.old.tables + 1; deepest = max self.old.deepest (links + 1) }) }
         ensures counted { IfOk result (λ _. meter.new ≡ record meter.old { count = meter.old.count + head_reads self.old.checks }) }
-        ensures err { IfErr result (λ s. (told site meter.old.count (budget_failure self.old.limits (way_at links self.old.tables self.old.deepest meter.old.count site) child.at) ▷ told (record { object = child.object; field = None }) meter.old.count (head_failure self.old.checks meter.old.bytes child.at)) ≡ Some (stopped s meter.new.count)) }
+        ensures err { IfErr result (λ s. (told site meter.old.count (budget_failure self.old.limits (way_at links self.old.tables self.old.deepest meter.old.count site) child.at) ▷ told (record { object = child.object; field = None }) meter.old.count (head_failure self.old.checks meter.old.bytes child.at ▷ reads_failure self.old.limits meter.old.count (head_reads self.old.checks) child.at)) ≡ Some (stopped s meter.new.count)) }
         ensures bytes { meter.new.bytes ≡ meter.old.bytes }
     {
         if links >= self.limits.depth() {
@@ -65,7 +67,7 @@ impl<'s, 'n> Walk<'s, 'n> {
         }
         self.tables += 1;
         self.deepest = self.deepest.max(links + 1);
-        let head = read_head(meter, self.checks, child.object, child.at)?;
+        let head = read_head(meter, self.limits, self.checks, child.object, child.at)?;
         Ok(Table {
             object: child.object,
             at: child.at,
@@ -95,6 +97,7 @@ impl<'s, 'n> Walk<'s, 'n> {
             if pass_field(
                 meter,
                 self.schema,
+                self.limits,
                 self.checks,
                 top.table,
                 field,
@@ -167,7 +170,7 @@ impl<'s, 'n> Walk<'s, 'n> {
                 object: top.table.object,
                 field: Some(top.number),
             };
-            let child = pass_element(meter, self.schema, self.checks, site, top.row)?;
+            let child = pass_element(meter, self.schema, self.limits, self.checks, site, top.row)?;
             top.row.advance();
             if let Some(child) = child {
                 let table = self.open_table(meter, waiting + 1, site, child)?;
@@ -199,6 +202,7 @@ impl<'s, 'n> Walk<'s, 'n> {
             (λ after. IsWalking self.new meter.new under.start (take after frames.new) (slice_index_or frames.new after blank))) }
         ensures within { IfOk result (λ _. self.new.tables ≤ (self.old.limits).tables) }
         ensures shallow { IfOk result (λ _. self.new.deepest ≤ (self.old.limits).depth) }
+        ensures reads { IfOk result (λ _. AreAllowed (self.old.limits).reads meter.new.count) }
         ensures falls { IfOk result (λ o. IfSome o (λ after. meter.new.count + work self.old.schema.now self.old.limits (take after frames.new) (slice_index_or frames.new after blank) self.new.tables < meter.old.count + work self.old.schema.now self.old.limits under.frames (slice_index_or frames.old waiting blank) self.old.tables)) }
         ensures grows { IfOk result (λ _. meter.old.count ≤ meter.new.count) }
         ensures bytes { meter.new.bytes ≡ meter.old.bytes }
@@ -236,10 +240,12 @@ impl<'s, 'n> Walk<'s, 'n> {
         requires room { (self.old.limits).depth ≤ length frames.old }
         requires within { self.old.tables ≤ (self.old.limits).tables }
         requires shallow { self.old.deepest ≤ (self.old.limits).depth }
+        requires reads { AreAllowed (self.old.limits).reads meter.old.count }
         requires few { meter.old.count < 2 ^ 90 }
         ensures ok { IfOk result (λ _. TableWalked self.old.checks meter.old.bytes self.old.schema.now start.object start.position start.way (ended start.way self.new.tables self.new.deepest meter.new.count)) }
         ensures within { IfOk result (λ _. self.new.tables ≤ (self.old.limits).tables) }
         ensures shallow { IfOk result (λ _. self.new.deepest ≤ (self.old.limits).depth) }
+        ensures reads { IfOk result (λ _. AreAllowed (self.old.limits).reads meter.new.count) }
         ensures err { IfErr result (λ s. StopsFrom self.old.checks meter.old.bytes self.old.schema.now self.old.limits start.object start.position start.way (stopped s meter.new.count)) }
         ensures bytes { meter.new.bytes ≡ meter.old.bytes }
     {

@@ -1,6 +1,7 @@
 //! What no contract says: that the definitions give worked buffers the verdicts, places and reads that were worked out by hand.
 
 mod alignments;
+mod budgets;
 mod calls;
 mod heads;
 mod question;

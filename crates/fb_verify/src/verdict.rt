@@ -47,7 +47,7 @@ fn judge<A: Allocator>(
         object: root,
         field: None,
     };
-    let at = read_start(meter, checks, site, start, ident)?;
+    let at = read_start(meter, limits, checks, site, start, ident)?;
     let mut walk = Walk {
         schema,
         limits,

@@ -16,7 +16,7 @@ use Rattle.fbcheck.specs.declared.fault.RunFault.TheVariants.{Load, OutOfMemory}
 
 -- the limits by which schema files are verified
 abbrev pub published_limits : Bounds
-published_limits = record { depth = 64; tables = 1000000 }
+published_limits = record { depth = 64; tables = 1000000; reads = None }
 
 -- the rows of a schema file and the root table that it names; without a file the fixed table, and its table Schema
 abbrev pub IsSchema : Option (Bor (List ℕ)) → Rows → Option ℕ → Type 0

@@ -26,6 +26,15 @@ fn the_price_is_known_in_advance(rt: HostRuntime) -> Result<(), Fail> {
     let schema = monsters(&rt, alloc)?;
     assert_eq!(rt; most_reads(&schema, Limits::published(), 32), 84_000_004);
     assert_eq!(rt; most_reads(&schema, Limits::new(64, 0)?, 32), 4);
+    for (budget, most) in [
+        (0, 7),
+        (10, 17),
+        (83_999_996, 84_000_003),
+        (u64::MAX, 84_000_004),
+    ] {
+        let limits = Limits::published().with_reads(budget);
+        assert_eq!(rt; most_reads(&schema, limits, 32), most);
+    }
     let nothing = built(&rt, alloc, Vec::new(alloc), Vec::new(alloc))?;
     for len in [0, 32, 0x7fff_ffff] {
         assert_eq!(rt; most_reads(&nothing, Limits::new(64, 7)?, len), 32);

@@ -52,6 +52,14 @@ impl<'b> Question<'b> {
         Question { limits, ..self }
     }
 
+    /// The same, with a budget of so many reads.
+    pub fn paying(self, most: u64) -> Self {
+        Question {
+            limits: self.limits.with_reads(most),
+            ..self
+        }
+    }
+
     /// The same, with the inline size checked too.
     pub fn with_inline_size(self) -> Self {
         Question {

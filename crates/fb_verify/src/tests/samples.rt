@@ -27,6 +27,18 @@ pub const UNION_OF_NOTHING: [u8; 40] = [
     0, 4, 0, 0, 0, 8, 0, 0, 0, 5, 0, 0, 0,
 ];
 
+/// A vector of the text `hi` and of nothing: the types' vector at 24, the values' at 32.
+pub const TEXT_AND_NOTHING: [u8; 52] = [
+    12, 0, 0, 0, 8, 0, 12, 0, 4, 0, 8, 0, 8, 0, 0, 0, 8, 0, 0, 0, 12, 0, 0, 0, 2, 0, 0, 0, 3, 0, 0,
+    0, 2, 0, 0, 0, 8, 0, 0, 0, 0, 0, 0, 0, 2, 0, 0, 0, 104, 105, 0, 0,
+];
+
+/// A node that leads twice to a second, which leads twice to a third: seven visits.
+pub const NODES: [u8; 44] = [
+    16, 0, 0, 0, 8, 0, 12, 0, 4, 0, 8, 0, 4, 0, 4, 0, 12, 0, 0, 0, 8, 0, 0, 0, 4, 0, 0, 0, 24, 0,
+    0, 0, 8, 0, 0, 0, 4, 0, 0, 0, 28, 0, 0, 0,
+];
+
 /// The schema file of `table M { hp: short = 100; name: string; } root_type M;`.
 pub const SCHEMA_FILE: [u8; 208] = [
     24, 0, 0, 0, 66, 70, 66, 83, 14, 0, 16, 0, 4, 0, 8, 0, 0, 0, 0, 0, 12, 0, 0, 0, 16, 0, 0, 0,

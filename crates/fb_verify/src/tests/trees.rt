@@ -1,6 +1,7 @@
 //! Tables below tables: what is counted of them, the limits, and the place that a fault names.
 
 use super::question::{all_answered, ask, no_at, yes};
+use super::samples::NODES;
 use super::schemas::{MANY, PARENT, families, lists, nodes};
 use crate::{Fault, Limits, Reason, Report, Scratch};
 use std::alloc::{AllocError, Global};
@@ -38,10 +39,6 @@ fn list(alloc: Global, links: u16) -> Result<Vec<u8>, AllocError> {
 #[test]
 fn each_visit_of_a_shared_table_counts(rt: HostRuntime) -> Result<(), Fail> {
     let alloc = rt.alloc();
-    let three = [
-        16, 0, 0, 0, 8, 0, 12, 0, 4, 0, 8, 0, 4, 0, 4, 0, 12, 0, 0, 0, 8, 0, 0, 0, 4, 0, 0, 0, 24,
-        0, 0, 0, 8, 0, 0, 0, 4, 0, 0, 0, 28, 0, 0, 0,
-    ];
     all_answered(
         &rt,
         alloc,
@@ -49,22 +46,22 @@ fn each_visit_of_a_shared_table_counts(rt: HostRuntime) -> Result<(), Fail> {
         &[
             (
                 "seven visits of three tables",
-                ask(&three, 0).within(Limits::new(64, 7)?),
+                ask(&NODES, 0).within(Limits::new(64, 7)?),
                 yes(7, 3, 27),
             ),
             (
                 "one more than the limit",
-                ask(&three, 0).within(Limits::new(64, 6)?),
+                ask(&NODES, 0).within(Limits::new(64, 6)?),
                 no_at(Reason::TooManyTables, 40, 0, 1, 25),
             ),
             (
                 "one level more than the limit",
-                ask(&three, 0).within(Limits::new(2, 7)?),
+                ask(&NODES, 0).within(Limits::new(2, 7)?),
                 no_at(Reason::TooDeep, 40, 0, 0, 9),
             ),
             (
                 "more than both limits",
-                ask(&three, 0).within(Limits::new(2, 2)?),
+                ask(&NODES, 0).within(Limits::new(2, 2)?),
                 no_at(Reason::TooDeep, 40, 0, 0, 9),
             ),
         ],

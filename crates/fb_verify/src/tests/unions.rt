@@ -1,16 +1,10 @@
 //! Unions and vectors of unions.
 
 use super::question::{all_answered, ask, no_at, no_in, yes};
-use super::samples::{UNION_OF_NOTHING, UNION_OF_TABLE};
+use super::samples::{TEXT_AND_NOTHING, UNION_OF_NOTHING, UNION_OF_TABLE};
 use super::schemas::{ONE, SEVERAL, members};
 use crate::Reason;
 use std::test::Fail;
-
-/// A vector of the text `hi` and of nothing: the types at 28, the offset words at 36.
-const TEXT_AND_NOTHING: [u8; 52] = [
-    12, 0, 0, 0, 8, 0, 12, 0, 4, 0, 8, 0, 8, 0, 0, 0, 8, 0, 0, 0, 12, 0, 0, 0, 2, 0, 0, 0, 3, 0, 0,
-    0, 2, 0, 0, 0, 8, 0, 0, 0, 0, 0, 0, 0, 2, 0, 0, 0, 104, 105, 0, 0,
-];
 
 #[test]
 fn a_union_is_followed_where_its_type_is_known(rt: HostRuntime) -> Result<(), Fail> {

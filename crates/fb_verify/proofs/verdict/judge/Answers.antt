@@ -54,11 +54,11 @@ returns-clause-yes g c =
     let bytes = ap (λ m. m.bytes) c.in_ok-at.ensures.counted in
     let reads : c.read_start.new.meter.count ≡ start_reads c.args.start c.args.ident = omega (arith, c.requires.fresh, ap (λ m. m.count) c.in_ok-at.ensures.counted) in
     reports c.args.checks c.args.meter.now.bytes c.args.schema.now c.args.root c.args.start c.args.ident c.args.limits c.in_ok-at.at c.read_start.new.meter.count c.run.new.self.tables c.run.new.self.deepest c.run.new.meter.count
-    c.reads.result c.in_ok-at.ensures.ok c.in_ok-at.ensures.value reads (rw bytes at c.in_ok-run.ensures.ok) c.in_ok-run.ensures.within c.in_ok-run.ensures.shallow c.reads.ensures
+    c.reads.result c.in_ok-at.ensures.ok c.in_ok-at.ensures.value reads (rw bytes at c.in_ok-run.ensures.ok) c.in_ok-run.ensures.within c.in_ok-run.ensures.shallow c.in_ok-run.ensures.reads c.reads.ensures
 
 pub returns-clause-price : goal.returns-clause-price
 returns-clause-price g c =
     let bytes = ap (λ m. m.bytes) c.in_ok-at.ensures.counted in
     let reads : c.read_start.new.meter.count ≡ start_reads c.args.start c.args.ident = omega (arith, c.requires.fresh, ap (λ m. m.count) c.in_ok-at.ensures.counted) in
     price_of_yes c.args.checks c.args.meter.now.bytes c.args.schema.now c.args.root c.args.start c.args.ident c.args.limits c.in_ok-at.at c.read_start.new.meter.count c.run.new.self.tables c.run.new.self.deepest c.run.new.meter.count
-    c.in_ok-at.ensures.ok c.in_ok-at.ensures.value reads (rw bytes at c.in_ok-run.ensures.ok) c.in_ok-run.ensures.within c.in_ok-run.ensures.shallow
+    c.in_ok-at.ensures.ok c.in_ok-at.ensures.value reads (rw bytes at c.in_ok-run.ensures.ok) c.in_ok-run.ensures.within c.in_ok-run.ensures.shallow c.in_ok-run.ensures.reads

@@ -16,7 +16,7 @@ returns-in_err-child-clause-err g c =
     let h = i.walking in
     if_err_exit _ _ _ c.from_residual.ensures.1
     (rw (sym checks, sym schema, sym limits, sym i.bytes)
-    (stop_at_element w.checks c.loop-top.meter.bytes w.schema.now w.limits (g.under).start (g.under).frames c.loop-top.top w.tables w.deepest c.loop-top.meter.count h.standing h.tables h.deepest _ c.loop-top-test.true c.in_err-child.ensures.err))
+    (stop_at_element w.checks c.loop-top.meter.bytes w.schema.now w.limits (g.under).start (g.under).frames c.loop-top.top w.tables w.deepest c.loop-top.meter.count h.standing h.tables h.deepest h.reads _ c.loop-top-test.true c.in_err-child.ensures.err))
 
 pub returns-in_err-table-clause-err : goal.returns-in_err-table-clause-err
 returns-in_err-table-clause-err g c =
@@ -30,7 +30,7 @@ returns-in_err-table-clause-err g c =
     let bytes = ap (λ m. m.bytes) c.in_ok-child.ensures.counted in
     if_err_exit _ _ _ c.from_residual-in_err-table.ensures.1
     (rw (sym checks, sym schema, sym limits, sym i.bytes)
-    (stop_at_table w.checks c.loop-top.meter.bytes w.schema.now w.limits (g.under).start (g.under).frames c.loop-top.top w.tables w.deepest c.loop-top.meter.count h.standing h.tables h.deepest
+    (stop_at_table w.checks c.loop-top.meter.bytes w.schema.now w.limits (g.under).start (g.under).frames c.loop-top.top w.tables w.deepest c.loop-top.meter.count h.standing h.tables h.deepest h.reads
     (c.args.waiting + 1) _ c.in-Some.child.object c.in-Some.child.at (omega (arith, c.requires.0)) c.loop-top-test.true c.in_ok-child.ensures.ok child.0 child.1 _ (ap (λ m. m.count) c.in_ok-child.ensures.counted) (rw bytes at c.in_err-table.ensures.err)))
 
 pub pass_below-requires : goal.pass_below-requires
@@ -49,13 +49,14 @@ pass_below-requires g c =
     let at = ap (λ (x : Table). x.at) t in
     let head = rw bytes at c.in_ok-table.ensures.head in
     let ok = rw bytes at c.in_ok-table.ensures.ok in
+    let cheap = rw (c.in_ok-table.ensures.counted, c.in_ok-child.ensures.counted) at c.in_ok-table.ensures.reads in
     let less = rw (schema, limits) at (open_work w.checks c.loop-top.meter.bytes w.schema.now w.limits (g.under).start (g.under).frames c.loop-top.top w.tables w.deepest c.loop-top.meter.count i.walking
     c.advance.new.self _ c.advance.ensures c.loop-top-test.true c.in_ok-child.ensures.ok (ap (λ m. m.count) c.in_ok-child.ensures.counted) (c.args.waiting + 1) c.in-Some.child.object c.in_ok-table.table (omega (arith, c.requires.0)) child.0 object (at ∙ child.1) (rw (sym at) at ok)
     c.in_ok-table.ensures.fewer c.in_ok-table.ensures.shallow c.in_ok-table.ensures.low) in (
       rw (c.in_ok-table.ensures.opened, c.in_ok-table.ensures.counted, c.in_ok-child.ensures.counted)
           (table_opened w.checks c.loop-top.meter.bytes w.schema.now w.limits (g.under).start (g.under).frames c.loop-top.top w.tables w.deepest c.loop-top.meter.count i.walking
           c.advance.new.self _ c.advance.ensures c.loop-top-test.true c.in_ok-child.ensures.ok refl (c.args.waiting + 1) c.in-Some.child.object c.in_ok-table.table (omega (arith, c.requires.0)) child.0 object (at ∙ child.1) (rw (sym at) at ok)
-          c.in_ok-table.ensures.fewer c.in_ok-table.ensures.shallow c.in_ok-table.ensures.low is_table (rw (sym at) at near) (rw (sym at) at head)),
+          c.in_ok-table.ensures.fewer c.in_ok-table.ensures.shallow c.in_ok-table.ensures.low is_table (rw (sym at) at near) (rw (sym at) at head) cheap),
       rw c.in_ok-table.ensures.counted (omega (arith, less, i.budget, c.requires.1.1.1)),
     )
 
@@ -78,6 +79,7 @@ loop-top-preserved g c =
     let limits = ap (λ (x : Walk). x.limits) i.same in
     let leaf = rw c.in_default.is at c.in_ok-child.ensures.child in
     let count = ap (λ m. m.count) c.in_ok-child.ensures.counted in
+    let cheap = rw c.in_ok-child.ensures.counted at (c.in_ok-child.ensures.reads c.in_default.is) in
     let less = rw (schema, limits) at (leaf_work w.checks c.loop-top.meter.bytes w.schema.now w.limits (g.under).start (g.under).frames c.loop-top.top w.tables w.deepest c.loop-top.meter.count i.walking
     c.advance.new.self _ c.advance.ensures c.loop-top-test.true c.in_ok-child.ensures.ok count) in
     record {
@@ -86,7 +88,7 @@ loop-top-preserved g c =
       walking =
           rw c.in_ok-child.ensures.counted
           (leaf_passed w.checks c.loop-top.meter.bytes w.schema.now w.limits (g.under).start (g.under).frames c.loop-top.top w.tables w.deepest c.loop-top.meter.count i.walking
-          c.advance.new.self _ c.advance.ensures c.loop-top-test.true c.in_ok-child.ensures.ok refl leaf);
+          c.advance.new.self _ c.advance.ensures c.loop-top-test.true c.in_ok-child.ensures.ok refl leaf cheap);
       budget = omega (arith, less, i.budget);
       began = λ _. omega (arith, less, i.budget);
       grows = omega (arith, i.grows, count);

@@ -30,7 +30,7 @@ returns-in_err-pass_field-clause-err g c =
     if_err_exit _ _ _ c.from_residual.ensures.1
     (rw i.bytes at
     (stop_at_field c.args.self.now.checks c.loop-field.meter.bytes c.args.self.now.schema.now c.args.self.now.limits (g.under).start (g.under).frames c.loop-field.top c.args.self.now.tables c.args.self.now.deepest c.loop-field.meter.count h.standing
-    h.tables h.deepest _ _ i.rests here c.in_err-pass_field.ensures.err))
+    h.tables h.deepest h.reads _ _ i.rests here c.in_err-pass_field.ensures.err))
 
 pub returns-then-branch-clause-walking : goal.returns-then-branch-clause-walking
 returns-then-branch-clause-walking g c =
@@ -39,9 +39,10 @@ returns-then-branch-clause-walking g c =
     let here = rw e at (field_at live_of_view c.fields_of-fields.result.now _ _ _ c.fields_of-fields.ensures.value (item_some _ _ _ _ c.get.ensures.lookup c.in-Some.is)) in
     let row = c.in_ok-pass_field.ensures.row c.if-branch.true in
     let entries = c.in_ok-pass_field.ensures.entries c.if-branch.true in
+    let cheap = rw c.in_ok-pass_field.ensures.counted at c.in_ok-pass_field.ensures.reads in
     rw c.in_ok-pass_field.ensures.counted
     (field_passed c.args.self.now.checks c.loop-field.meter.bytes c.args.self.now.schema.now c.args.self.now.limits (g.under).start (g.under).frames c.loop-field.top c.args.self.now.tables c.args.self.now.deepest c.loop-field.meter.count i.walking
-    _ c.pass_field.new.row _ _ i.rests here refl row.0 refl c.in_ok-pass_field.ensures.ok entries)
+    _ c.pass_field.new.row _ _ i.rests here refl row.0 cheap refl c.in_ok-pass_field.ensures.ok entries)
 
 pub returns-then-branch-clause-falls : goal.returns-then-branch-clause-falls
 returns-then-branch-clause-falls g c =
@@ -64,6 +65,7 @@ loop-field-preserved g c =
     let less = skip_work c.args.self.now.checks b S c.args.self.now.limits (g.under).start (g.under).frames c.loop-field.top c.args.self.now.tables c.args.self.now.deepest c.loop-field.meter.count i.walking
     _ blank.row c.in-Some.field.now.number _ i.rests here refl (no_row c.args.self.now.checks b S) in
     let count = ap (λ m. m.count) c.in_ok-pass_field.ensures.counted in
+    let cheap = rw c.in_ok-pass_field.ensures.counted at c.in_ok-pass_field.ensures.reads in
     record {
       bytes = ap (λ m. m.bytes) c.in_ok-pass_field.ensures.counted ∙ i.bytes;
       table = i.table;
@@ -71,7 +73,7 @@ loop-field-preserved g c =
       walking =
           rw (c.in_ok-pass_field.ensures.counted, none.1)
           (field_skipped c.args.self.now.checks b S c.args.self.now.limits (g.under).start (g.under).frames c.loop-field.top c.args.self.now.tables c.args.self.now.deepest c.loop-field.meter.count i.walking
-          _ blank.row c.in-Some.field.now.number _ i.rests here refl (no_row c.args.self.now.checks b S) refl c.in_ok-pass_field.ensures.ok (none.0 ∙ sym (row_none b S blank.row refl)));
+          _ blank.row c.in-Some.field.now.number _ i.rests here refl (no_row c.args.self.now.checks b S) cheap refl c.in_ok-pass_field.ensures.ok (none.0 ∙ sym (row_none b S blank.row refl)));
       budget = rw none.1 (omega (arith, less, i.budget, count));
       grows = omega (arith, i.grows, count);
     }

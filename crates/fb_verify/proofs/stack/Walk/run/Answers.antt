@@ -14,7 +14,7 @@ returns-in_err-table-clause-err g c =
     let s : Origin = record { object = c.args.root.object; position = c.args.root.at; way = way_at 0 c.args.self.now.tables c.args.self.now.deepest c.args.meter.now.count c.args.site } in
     if_err_exit _ _ _ c.from_residual.ensures.1
     (rw c.requires.0 (stop_at_root c.args.self.now.checks c.args.meter.now.bytes c.args.self.now.schema.now c.args.self.now.limits s c.args.root.at c.args.site c.args.self.now.tables c.args.self.now.deepest c.args.meter.now.count _ refl refl
-    c.requires.1.1.1.1.1.0 c.requires.1.1.1.1.1.1.0 c.in_err-table.ensures.err))
+    c.requires.1.1.1.1.1.0 c.requires.1.1.1.1.1.1.0 c.requires.1.1.1.1.1.1.1.0 c.in_err-table.ensures.err))
 
 pub loop-after-init : goal.loop-after-init
 unfolding work
@@ -44,11 +44,12 @@ loop-after-init g c =
         served = c.requires.1.0;
         tables = omega (arith, c.in_ok-table.ensures.fewer);
         deepest = omega (arith, c.in_ok-table.ensures.shallow, c.requires.1.1.1.1.1.1.0);
+        reads = rw c.in_ok-table.ensures.counted at c.in_ok-table.ensures.reads;
         links = c.in_ok-table.ensures.shallow;
         low = omega arith;
         frames = All-nil (IsFrame ch b S);
         frame = frame;
         standing = rw c.requires.0 h;
       };
-      budget = omega (arith, new, head_few ch, c.requires.1.1.1.1.1.1.1, c.in_ok-table.ensures.fewer, c.in_ok-table.ensures.few_tables);
+      budget = omega (arith, new, head_few ch, c.requires.1.1.1.1.1.1.1.1, c.in_ok-table.ensures.fewer, c.in_ok-table.ensures.few_tables);
     })

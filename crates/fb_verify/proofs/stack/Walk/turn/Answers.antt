@@ -33,6 +33,7 @@ returns-then-not-branch-clause-walking g c =
       served = h.served;
       tables = h.tables;
       deepest = h.deepest;
+      reads = h.reads;
       links = omega (arith, h.links, ap length below, length-take m ys, length-take (m - 1) ys);
       low = omega (arith, h.low, ap length below, length-take m ys, length-take (m - 1) ys);
       frames = all_below ys m blank some room P all;

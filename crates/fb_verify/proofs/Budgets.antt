@@ -1,0 +1,47 @@
+-- What a budget of reads allows.
+use Rattle.std.proofs.Common.{◌≡◌, ℕ, ◌+◌, ◌≤◌, true, false, refl, arith, Option, Some, None}
+use Rattle.std.proofs.lemmas.Bool.Decides.{nat_tests}
+use Rattle.fb_verify.specs.Bounds.{AreAllowed, allowed, AreTooMany}
+
+-- fewer reads are allowed too
+pub fewer_reads : (budget : Option ℕ) (m n : ℕ) → m ≤ n → AreAllowed budget n → AreAllowed budget m
+fewer_reads None m n l h = tt
+fewer_reads (Some most) m n l h = omega arith
+
+-- no reads are always allowed
+pub no_reads : (budget : Option ℕ) → AreAllowed budget 0
+no_reads None = tt
+no_reads (Some most) = omega arith
+
+-- the test tells whether they are
+pub are_allowed : (budget : Option ℕ) (n : ℕ) → allowed budget n ≡ true → AreAllowed budget n
+are_allowed None n h = tt
+are_allowed (Some most) n h = grind (arith, nat_tests)
+
+pub is_allowed : (budget : Option ℕ) (n : ℕ) → AreAllowed budget n → allowed budget n ≡ true
+is_allowed None n h = refl
+is_allowed (Some most) n h = grind (arith, nat_tests)
+
+pub are_too_many : (budget : Option ℕ) (n : ℕ) → allowed budget n ≡ false → AreTooMany budget n
+are_too_many None n h = absurd cc
+are_too_many (Some most) n h = grind (arith, nat_tests)
+
+-- reads that aren't allowed
+pub not_both : (budget : Option ℕ) (m n : ℕ) → m ≤ n → AreAllowed budget n → AreTooMany budget m → ⊥
+not_both None m n l h t = t
+not_both (Some most) m n l h t = omega arith
+
+-- no more than 7 reads past the budget, if there is one
+unfoldable pub IsNear : Option ℕ → ℕ → Type 0
+IsNear None n = Unit {0}
+IsNear (Some most) n = n ≤ most + 7
+
+pub near : (budget : Option ℕ) (m n : ℕ) → n ≤ m + 7 → AreAllowed budget m → IsNear budget n
+unfolding IsNear
+near None m n h r = tt
+near (Some most) m n h r = omega (arith, h, r)
+
+-- more reads are too many too
+pub more_reads : (budget : Option ℕ) (m n : ℕ) → m ≤ n → AreTooMany budget m → AreTooMany budget n
+more_reads None m n l t = t
+more_reads (Some most) m n l t = omega arith
