@@ -6,7 +6,6 @@ pub mod Here
 pub mod PlaceLaws
 pub mod Grammar
 pub mod Resolving
-
 -- What proofs alone need.
 pub mod Cutting
 pub mod Held

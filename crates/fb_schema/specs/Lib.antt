@@ -6,7 +6,6 @@ pub mod Live
 pub mod Members
 pub mod Served
 pub mod Builders
-
 -- What proofs alone need.
 pub mod Flat
 pub mod FlatLists
