@@ -1,6 +1,7 @@
 //! What the look-ups of a schema answer, beside plain walks over its rows.
 
-use crate::rows::{OBJECT, Rows, TEXT, VECTOR};
+use crate::rows::Rows;
+use fb_schema::base_type::{OBJ, STRING, VECTOR};
 use fb_schema::{EnumRow, FieldRow, FieldView, Kind, ObjectRow, Scalar, Schema, TypeRow};
 use std::process::Abort;
 
@@ -26,11 +27,11 @@ fn single(rows: &Rows<'_>, base: i8, index: i32) -> Option<(Kind, u32, u32)> {
     if let Some((scalar, size)) = SCALARS.get(place.checked_sub(1)?) {
         return Some((Kind::Scalar(*scalar), *size, *size));
     }
-    if base == TEXT {
+    if base == STRING {
         return Some((Kind::Text, 4, 4));
     }
     let number = u32::try_from(index).ok()?;
-    if base != OBJECT {
+    if base != OBJ {
         return Some((Kind::Union(number), 4, 4));
     }
     let object = rows.objects.as_slice().get(number as usize)?;

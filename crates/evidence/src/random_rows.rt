@@ -1,7 +1,9 @@
 //! Rows of schemas at random: mostly legal, with now and then what a schema may not have.
 
 use crate::random::Random;
-use crate::rows::{ARRAY, OBJECT, Rows, TEXT, UNION, UTYPE, VECTOR, many, one};
+use crate::rows::Rows;
+use fb_schema::base_type::{ARRAY, NONE, OBJ, STRING, UBYTE, UNION, UTYPE, VECTOR, VECTOR64};
+use fb_schema::builders::{array, one, vector};
 use fb_schema::{EnumRow, FieldRow, MemberRow, ObjectRow, TypeRow};
 use std::alloc::{AllocError, Global};
 
@@ -13,13 +15,13 @@ const WRONG_ALIGNMENTS: [i32; 8] = [3, 0, 512, -1, -4, 257, 6, i32::MIN];
 
 /// Types of which no field of a table can be, each with an element.
 const WRONG_TYPES: [(i8, i8); 8] = [
-    (0, 0),
+    (NONE, NONE),
     (VECTOR, VECTOR),
-    (ARRAY, 4),
-    (18, 4),
-    (VECTOR, 0),
-    (19, 0),
-    (-1, 0),
+    (ARRAY, UBYTE),
+    (VECTOR64, UBYTE),
+    (VECTOR, NONE),
+    (19, NONE),
+    (-1, NONE),
     (VECTOR, ARRAY),
 ];
 
@@ -121,8 +123,8 @@ impl Maker {
     fn single(&mut self) -> i8 {
         match self.random.below(7) {
             0 | 1 => self.scalar(),
-            2 => TEXT,
-            3 | 4 => OBJECT,
+            2 => STRING,
+            3 | 4 => OBJ,
             _ if self.enums > 0 => UNION,
             _ => self.scalar(),
         }
@@ -132,7 +134,7 @@ impl Maker {
     fn typed(&mut self, base: i8, element: i8) -> TypeRow {
         let value = if base == VECTOR { element } else { base };
         let index = match value {
-            OBJECT => self.object_number(),
+            OBJ => self.object_number(),
             UNION => self.union_number(),
             _ => self.random.pick(&[-1, 0, 99]).unwrap_or(0),
         };
@@ -146,7 +148,7 @@ impl Maker {
     /// The type of a table's field.
     fn table_type(&mut self) -> TypeRow {
         if self.errs() {
-            let (base, element) = self.random.pick(&WRONG_TYPES).unwrap_or((0, 0));
+            let (base, element) = self.random.pick(&WRONG_TYPES).unwrap_or((NONE, NONE));
             return self.typed(base, element);
         }
         let value = self.single();
@@ -194,14 +196,14 @@ impl Maker {
         let ty = self.table_type();
         let types = match (ty.base, ty.element) {
             (UNION, _) => Some(one(UTYPE)),
-            (VECTOR, UNION) => Some(many(UTYPE)),
+            (VECTOR, UNION) => Some(vector(UTYPE)),
             _ => None,
         };
         let mut slot = slot;
         if let Some(types) = types
             && !self.errs()
         {
-            let types = if self.errs() { many(UTYPE) } else { types };
+            let types = if self.errs() { vector(UTYPE) } else { types };
             fields.push(self.field(fields.len(), slot, types))?;
             slot = slot.saturating_add(2);
         }
@@ -240,37 +242,26 @@ impl Maker {
             && inner_size <= size
         {
             let index = i32::try_from(inner).unwrap_or(0);
-            return (
-                TypeRow {
-                    index,
-                    ..one(OBJECT)
-                },
-                inner_size,
-            );
+            return (one(OBJ).naming(index), inner_size);
         }
         if choice == 2 {
-            let ty = TypeRow {
-                element: 4,
-                fixed_length: size,
-                ..one(ARRAY)
-            };
-            return (ty, size);
+            return (array(UBYTE, size), size);
         }
-        (one(4), 1)
+        (one(UBYTE), 1)
     }
 
     /// A type of a struct's field that can't be, or not always.
     fn wrong_struct_type(&mut self) -> TypeRow {
         let types = [
-            (TEXT, 0),
-            (VECTOR, 4),
-            (OBJECT, 0),
-            (ARRAY, OBJECT),
-            (ARRAY, TEXT),
-            (0, 0),
-            (UNION, 0),
+            (STRING, NONE),
+            (VECTOR, UBYTE),
+            (OBJ, NONE),
+            (ARRAY, OBJ),
+            (ARRAY, STRING),
+            (NONE, NONE),
+            (UNION, NONE),
         ];
-        let (base, element) = self.random.pick(&types).unwrap_or((0, 0));
+        let (base, element) = self.random.pick(&types).unwrap_or((NONE, NONE));
         TypeRow {
             element,
             index: self.random.pick(&[0, 1, 2, 3, 9, -1]).unwrap_or(0),
@@ -348,13 +339,16 @@ impl Maker {
     /// The type of a union's member.
     fn member_type(&mut self) -> TypeRow {
         if self.errs() {
-            let base = self.random.pick(&[0, 4, VECTOR, UNION]).unwrap_or(0);
+            let base = self
+                .random
+                .pick(&[NONE, UBYTE, VECTOR, UNION])
+                .unwrap_or(NONE);
             return one(base);
         }
         if self.random.once_in(4) {
-            one(TEXT)
+            one(STRING)
         } else {
-            self.typed(OBJECT, 0)
+            self.typed(OBJ, NONE)
         }
     }
 

@@ -1,10 +1,9 @@
 //! The fixed table of reflection.fbs, typed anew: the tables of a schema file with their fields in the order of their
 //! numbers, and what a loader of schemas demands as required.
 
-use crate::rows::{
-    BOOL, BYTE, DOUBLE, INT, LONG, Rows, TEXT, ULONG, USHORT, field, many, object, objects, one,
-    table,
-};
+use crate::rows::{Rows, field, table};
+use fb_schema::base_type::{BOOL, BYTE, DOUBLE, INT, LONG, OBJ, STRING, ULONG, USHORT};
+use fb_schema::builders::{one, vector};
 use fb_schema::{FieldRow, ObjectRow};
 use std::alloc::{AllocError, Global};
 
@@ -61,39 +60,39 @@ fn type_table<'n>(alloc: Global) -> Result<ObjectRow<'n>, AllocError> {
 }
 
 fn key_value_table<'n>(alloc: Global) -> Result<ObjectRow<'n>, AllocError> {
-    let fields = [field(b"key", one(TEXT)), field(b"value", one(TEXT))];
+    let fields = [field(b"key", one(STRING)), field(b"value", one(STRING))];
     table(alloc, b"reflection.KeyValue", &fields)
 }
 
 fn enum_val_table<'n>(alloc: Global) -> Result<ObjectRow<'n>, AllocError> {
     let fields = [
-        required(field(b"name", one(TEXT))),
+        required(field(b"name", one(STRING))),
         field(b"value", one(LONG)),
-        deprecated(field(b"object", object(OBJECT))),
-        field(b"union_type", object(TYPE)),
-        field(b"documentation", many(TEXT)),
-        field(b"attributes", objects(KEY_VALUE)),
+        deprecated(field(b"object", one(OBJ).naming(OBJECT))),
+        field(b"union_type", one(OBJ).naming(TYPE)),
+        field(b"documentation", vector(STRING)),
+        field(b"attributes", vector(OBJ).naming(KEY_VALUE)),
     ];
     table(alloc, b"reflection.EnumVal", &fields)
 }
 
 fn enum_table<'n>(alloc: Global) -> Result<ObjectRow<'n>, AllocError> {
     let fields = [
-        required(field(b"name", one(TEXT))),
-        required(field(b"values", objects(ENUM_VAL))),
+        required(field(b"name", one(STRING))),
+        required(field(b"values", vector(OBJ).naming(ENUM_VAL))),
         field(b"is_union", one(BOOL)),
-        field(b"underlying_type", object(TYPE)),
-        field(b"attributes", objects(KEY_VALUE)),
-        field(b"documentation", many(TEXT)),
-        field(b"declaration_file", one(TEXT)),
+        field(b"underlying_type", one(OBJ).naming(TYPE)),
+        field(b"attributes", vector(OBJ).naming(KEY_VALUE)),
+        field(b"documentation", vector(STRING)),
+        field(b"declaration_file", one(STRING)),
     ];
     table(alloc, b"reflection.Enum", &fields)
 }
 
 fn field_table<'n>(alloc: Global) -> Result<ObjectRow<'n>, AllocError> {
     let fields = [
-        required(field(b"name", one(TEXT))),
-        required(field(b"type", object(TYPE))),
+        required(field(b"name", one(STRING))),
+        required(field(b"type", one(OBJ).naming(TYPE))),
         field(b"id", one(USHORT)),
         field(b"offset", one(USHORT)),
         field(b"default_integer", one(LONG)),
@@ -101,8 +100,8 @@ fn field_table<'n>(alloc: Global) -> Result<ObjectRow<'n>, AllocError> {
         field(b"deprecated", one(BOOL)),
         field(b"required", one(BOOL)),
         field(b"key", one(BOOL)),
-        field(b"attributes", objects(KEY_VALUE)),
-        field(b"documentation", many(TEXT)),
+        field(b"attributes", vector(OBJ).naming(KEY_VALUE)),
+        field(b"documentation", vector(STRING)),
         field(b"optional", one(BOOL)),
         deprecated(field(b"padding", one(USHORT))),
         field(b"offset64", one(BOOL)),
@@ -112,58 +111,58 @@ fn field_table<'n>(alloc: Global) -> Result<ObjectRow<'n>, AllocError> {
 
 fn object_table<'n>(alloc: Global) -> Result<ObjectRow<'n>, AllocError> {
     let fields = [
-        required(field(b"name", one(TEXT))),
-        required(field(b"fields", objects(FIELD))),
+        required(field(b"name", one(STRING))),
+        required(field(b"fields", vector(OBJ).naming(FIELD))),
         field(b"is_struct", one(BOOL)),
         field(b"minalign", one(INT)),
         field(b"bytesize", one(INT)),
-        field(b"attributes", objects(KEY_VALUE)),
-        field(b"documentation", many(TEXT)),
-        field(b"declaration_file", one(TEXT)),
+        field(b"attributes", vector(OBJ).naming(KEY_VALUE)),
+        field(b"documentation", vector(STRING)),
+        field(b"declaration_file", one(STRING)),
     ];
     table(alloc, b"reflection.Object", &fields)
 }
 
 fn call_table<'n>(alloc: Global) -> Result<ObjectRow<'n>, AllocError> {
     let fields = [
-        field(b"name", one(TEXT)),
-        field(b"request", object(OBJECT)),
-        field(b"response", object(OBJECT)),
-        field(b"attributes", objects(KEY_VALUE)),
-        field(b"documentation", many(TEXT)),
+        field(b"name", one(STRING)),
+        field(b"request", one(OBJ).naming(OBJECT)),
+        field(b"response", one(OBJ).naming(OBJECT)),
+        field(b"attributes", vector(OBJ).naming(KEY_VALUE)),
+        field(b"documentation", vector(STRING)),
     ];
     table(alloc, b"reflection.RPCCall", &fields)
 }
 
 fn service_table<'n>(alloc: Global) -> Result<ObjectRow<'n>, AllocError> {
     let fields = [
-        field(b"name", one(TEXT)),
-        field(b"calls", objects(CALL)),
-        field(b"attributes", objects(KEY_VALUE)),
-        field(b"documentation", many(TEXT)),
-        field(b"declaration_file", one(TEXT)),
+        field(b"name", one(STRING)),
+        field(b"calls", vector(OBJ).naming(CALL)),
+        field(b"attributes", vector(OBJ).naming(KEY_VALUE)),
+        field(b"documentation", vector(STRING)),
+        field(b"declaration_file", one(STRING)),
     ];
     table(alloc, b"reflection.Service", &fields)
 }
 
 fn file_table<'n>(alloc: Global) -> Result<ObjectRow<'n>, AllocError> {
     let fields = [
-        field(b"filename", one(TEXT)),
-        field(b"included_filenames", many(TEXT)),
+        field(b"filename", one(STRING)),
+        field(b"included_filenames", vector(STRING)),
     ];
     table(alloc, b"reflection.SchemaFile", &fields)
 }
 
 fn schema_table<'n>(alloc: Global) -> Result<ObjectRow<'n>, AllocError> {
     let fields = [
-        required(field(b"objects", objects(OBJECT))),
-        required(field(b"enums", objects(ENUM))),
-        field(b"file_ident", one(TEXT)),
-        field(b"file_ext", one(TEXT)),
-        field(b"root_table", object(OBJECT)),
-        field(b"services", objects(SERVICE)),
+        required(field(b"objects", vector(OBJ).naming(OBJECT))),
+        required(field(b"enums", vector(OBJ).naming(ENUM))),
+        field(b"file_ident", one(STRING)),
+        field(b"file_ext", one(STRING)),
+        field(b"root_table", one(OBJ).naming(OBJECT)),
+        field(b"services", vector(OBJ).naming(SERVICE)),
         field(b"advanced_features", one(ULONG)),
-        field(b"fbs_files", objects(FILE)),
+        field(b"fbs_files", vector(OBJ).naming(FILE)),
     ];
     table(alloc, b"reflection.Schema", &fields)
 }

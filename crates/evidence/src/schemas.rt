@@ -1,9 +1,9 @@
 //! The rows of the swept schemas.
 
-use crate::rows::{
-    INT, LONG, Rows, SHORT, TEXT, UTYPE, field, many, object, one, table, union, union_of, unions,
-};
-use fb_schema::{EnumRow, FieldRow, MemberRow, ObjectRow};
+use crate::rows::{Rows, field, table};
+use fb_schema::base_type::{INT, LONG, OBJ, SHORT, STRING, UNION, UTYPE};
+use fb_schema::builders::{self, member, one, structure, union, vector};
+use fb_schema::{EnumRow, FieldRow};
 use std::alloc::{AllocError, Global};
 
 /// One table of these fields.
@@ -24,7 +24,7 @@ pub fn monsters<'n>(alloc: Global) -> Result<Rows<'n>, AllocError> {
         default: 100,
         ..field(b"hp", one(SHORT))
     };
-    one_table(alloc, b"M", &[hp, field(b"name", one(TEXT))])
+    one_table(alloc, b"M", &[hp, field(b"name", one(STRING))])
 }
 
 /// `table Node { a: Node; b: Node; }`
@@ -32,7 +32,10 @@ pub fn nodes<'n>(alloc: Global) -> Result<Rows<'n>, AllocError> {
     one_table(
         alloc,
         b"Node",
-        &[field(b"a", object(0)), field(b"b", object(0))],
+        &[
+            field(b"a", one(OBJ).naming(0)),
+            field(b"b", one(OBJ).naming(0)),
+        ],
     )
 }
 
@@ -43,7 +46,7 @@ pub fn longs<'n>(alloc: Global) -> Result<Rows<'n>, AllocError> {
 
 /// `table Z { l: [long]; }`
 pub fn vectors_of_longs<'n>(alloc: Global) -> Result<Rows<'n>, AllocError> {
-    one_table(alloc, b"Z", &[field(b"l", many(LONG))])
+    one_table(alloc, b"Z", &[field(b"l", vector(LONG))])
 }
 
 /// The number of the table with one union in `members`.
@@ -52,36 +55,30 @@ pub const ONE: u32 = 2;
 /// The number of the table with a vector of unions in `members`.
 pub const SEVERAL: u32 = 3;
 
-fn long_struct<'n>(alloc: Global) -> Result<ObjectRow<'n>, AllocError> {
-    let x = FieldRow {
-        slot: 0,
-        ..field(b"x", one(LONG))
-    };
-    Ok(ObjectRow {
-        name: b"W",
-        fields: vec![in alloc; x]?,
-        is_struct: true,
-        minalign: 8,
-        bytesize: 8,
-    })
-}
-
 fn table_struct_or_text<'n>(alloc: Global) -> Result<EnumRow<'n>, AllocError> {
-    let (a, w, t) = (object(0), object(1), one(TEXT));
-    let members = [(b"A", 1, a), (b"W", 2, w), (b"T", 3, t)];
-    let members = members.map(|(name, value, ty)| MemberRow { name, value, ty });
-    union_of(alloc, b"U", &members)
+    let members = [
+        member(b"A", 1, one(OBJ).naming(0)),
+        member(b"W", 2, one(OBJ).naming(1)),
+        member(b"T", 3, one(STRING)),
+    ];
+    union(alloc, b"U", &members)
 }
 
 /// `table A { v: int; } struct W { x: long; } union U { A = 1, W = 2, T: string = 3 } table R { u: U; } table Q { us:
 /// [U]; }`
 pub fn members<'n>(alloc: Global) -> Result<Rows<'n>, AllocError> {
-    let one_union = [field(b"u_type", one(UTYPE)), field(b"u", union(0))];
-    let several = [field(b"us_type", many(UTYPE)), field(b"us", unions(0))];
+    let one_union = [
+        field(b"u_type", one(UTYPE)),
+        field(b"u", one(UNION).naming(0)),
+    ];
+    let several = [
+        field(b"us_type", vector(UTYPE)),
+        field(b"us", vector(UNION).naming(0)),
+    ];
     Ok(Rows {
         objects: vec![in alloc;
             table(alloc, b"A", &[field(b"v", one(INT))])?,
-            long_struct(alloc)?,
+            structure(alloc, b"W", 8, 8, &[builders::field(b"x", 0, one(LONG))])?,
             table(alloc, b"R", &one_union)?,
             table(alloc, b"Q", &several)?,
         ]?,

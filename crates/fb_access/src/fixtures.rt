@@ -1,141 +1,23 @@
 // Schemas for the tests, and a way through a buffer.
 
-ghost use Rattle.std.specs.Prelude.{◌≡◌, ◌<◌, ◌^◌, true, All, vec_len};
-ghost use Rattle.fb_schema.specs.Rows.{AreFew};
-
 use crate::{Answer, Step, at_root};
 use fb_bytes::Meter;
-use fb_schema::{EnumRow, FieldRow, MemberRow, ObjectRow, Schema, TypeRow};
+use fb_schema::base_type::{
+    BOOL, BYTE, FLOAT, INT, LONG, OBJ, SHORT, STRING, UBYTE, UINT, ULONG, UNION, USHORT, UTYPE,
+};
+use fb_schema::builders::{field, member, one, structure, table, union, vector};
+use fb_schema::{EnumRow, FieldRow, ObjectRow, Schema, are_few};
 use fb_verify::{Checks, Ident, Limits, Scratch, Start, Verified, verify};
-use std::alloc::{AllocError, Global};
+use std::alloc::Global;
 use std::process::Abort;
 use std::test::Fail;
 
-/// Base types of reflection.fbs.
-const UTYPE: i8 = 1;
-
-const BOOL: i8 = 2;
-
-const BYTE: i8 = 3;
-
-const UBYTE: i8 = 4;
-
-const SHORT: i8 = 5;
-
-const USHORT: i8 = 6;
-
-const INT: i8 = 7;
-
-const UINT: i8 = 8;
-
-pub const LONG: i8 = 9;
-
-const ULONG: i8 = 10;
-
-pub const FLOAT: i8 = 11;
-
-pub const TEXT: i8 = 13;
-
-const VECTOR: i8 = 14;
-
-const OBJECT: i8 = 15;
-
-const UNION: i8 = 16;
-
-/// One value of this base type; the index is that of an object or enum.
-pub fn one(base: i8, index: i32) -> TypeRow {
-    TypeRow {
-        base,
-        element: 0,
-        index,
-        fixed_length: 0,
-    }
-}
-
-/// A vector of values of this base type.
-pub fn vector(element: i8, index: i32) -> TypeRow {
-    TypeRow {
-        base: VECTOR,
-        element,
-        index,
-        fixed_length: 0,
-    }
-}
-
-/// A field without a default.
-pub fn field<'n>(name: &'n [u8], slot: u16, ty: TypeRow) -> FieldRow<'n> {
-    FieldRow {
-        name,
-        ty,
-        slot,
-        default: 0,
-        deprecated: false,
-        required: false,
-        optional: false,
-        offset64: false,
-    }
-}
-
 /// A scalar field with this default.
 pub fn scalar<'n>(name: &'n [u8], slot: u16, base: i8, default: i64) -> FieldRow<'n> {
-    let mut row = field(name, slot, one(base, 0));
-    row.default = default;
-    row
-}
-
-pub fn table<'n>(
-    alloc: Global,
-    name: &'n [u8],
-    fields: &[FieldRow<'n>],
-) -> Result<ObjectRow<'n>, AllocError> {
-    Ok(ObjectRow {
-        name,
-        fields: fields.to_vec(alloc)?,
-        is_struct: false,
-        minalign: 1,
-        bytesize: 0,
-    })
-}
-
-/// A struct of one long.
-pub fn long_struct<'n>(alloc: Global, name: &'n [u8]) -> Result<ObjectRow<'n>, AllocError> {
-    Ok(ObjectRow {
-        name,
-        fields: [field(b"x", 0, one(LONG, 0))].to_vec(alloc)?,
-        is_struct: true,
-        minalign: 8,
-        bytesize: 8,
-    })
-}
-
-const MANY: usize = 2147483648;
-
-fn fields_few(objects: &[ObjectRow]) -> bool
-    ensures { result ≡ true → All (λ o. vec_len o.fields < 2 ^ 31) objects.now }
-{
-    for object in objects {
-        if object.fields.len() >= MANY {
-            return false;
-        }
+    FieldRow {
+        default,
+        ..field(name, slot, one(base))
     }
-    true
-}
-
-fn members_few(enums: &[EnumRow]) -> bool
-    ensures { result ≡ true → All (λ e. vec_len e.members < 2 ^ 31) enums.now }
-{
-    for row in enums {
-        if row.members.len() >= MANY {
-            return false;
-        }
-    }
-    true
-}
-
-fn are_few(objects: &[ObjectRow], enums: &[EnumRow]) -> bool
-    ensures { result ≡ true → AreFew objects.now enums.now }
-{
-    objects.len() < MANY && enums.len() < MANY && fields_few(objects) && members_few(enums)
 }
 
 /// The schema of these rows.
@@ -164,10 +46,7 @@ pub fn monsters<'n>(rt: &impl Abort, alloc: Global) -> Result<Schema<'n>, Fail> 
     one_table(
         rt,
         alloc,
-        &[
-            scalar(b"hp", 4, SHORT, 100),
-            field(b"name", 6, one(TEXT, 0)),
-        ],
+        &[scalar(b"hp", 4, SHORT, 100), field(b"name", 6, one(STRING))],
     )
 }
 
@@ -217,48 +96,40 @@ pub fn defaults<'n>(rt: &impl Abort, alloc: Global) -> Result<Schema<'n>, Fail> 
 /// The default of `u_type` is 1.
 pub fn unions<'n>(rt: &impl Abort, alloc: Global) -> Result<Schema<'n>, Fail> {
     let objects = vec![in alloc;
-        table(alloc, b"A", &[field(b"v", 4, one(INT, 0))])?,
-        long_struct(alloc, b"W")?,
+        table(alloc, b"A", &[field(b"v", 4, one(INT))])?,
+        structure(alloc, b"W", 8, 8, &[field(b"x", 0, one(LONG))])?,
         table(
             alloc,
             b"R",
             &[
                 scalar(b"u_type", 4, UTYPE, 1),
-                field(b"u", 6, one(UNION, 0))
+                field(b"u", 6, one(UNION).naming(0))
             ]
         )?,
         table(
             alloc,
             b"Q",
             &[
-                field(b"us_type", 4, vector(UTYPE, 0)),
-                field(b"us", 6, vector(UNION, 0))
+                field(b"us_type", 4, vector(UTYPE)),
+                field(b"us", 6, vector(UNION).naming(0))
             ]
         )?,
         table(
             alloc,
             b"L",
             &[
-                field(b"ws", 4, vector(OBJECT, 1)),
-                field(b"tables", 6, vector(OBJECT, 0))
+                field(b"ws", 4, vector(OBJ).naming(1)),
+                field(b"tables", 6, vector(OBJ).naming(0))
             ]
         )?,
     ]?;
     let members = [
-        member(b"A", 1, one(OBJECT, 0)),
-        member(b"W", 2, one(OBJECT, 1)),
-        member(b"T", 3, one(TEXT, 0)),
+        member(b"A", 1, one(OBJ).naming(0)),
+        member(b"W", 2, one(OBJ).naming(1)),
+        member(b"T", 3, one(STRING)),
     ];
-    let union = EnumRow {
-        name: b"U",
-        members: members.to_vec(alloc)?,
-        is_union: true,
-    };
-    built(rt, alloc, objects, vec![in alloc; union]?)
-}
-
-fn member<'n>(name: &'n [u8], value: i64, ty: TypeRow) -> MemberRow<'n> {
-    MemberRow { name, value, ty }
+    let enums = vec![in alloc; union(alloc, b"U", &members)?]?;
+    built(rt, alloc, objects, enums)
 }
 
 /// How a buffer is verified before it is read.

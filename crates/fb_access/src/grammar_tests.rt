@@ -1,15 +1,17 @@
 //! The bytes beside each range of the grammar of paths, and numbers beside the greatest.
 
-use crate::fixtures::{LONG, field, one_table, vector};
+use crate::fixtures::one_table;
 use crate::{Path, PathFault, Step};
 use fb_schema::Schema;
+use fb_schema::base_type::LONG;
+use fb_schema::builders::{field, vector};
 use std::alloc::Global;
 use std::process::Abort;
 use std::test::Fail;
 
 /// `table A { l: [long]; }`
 fn lists<'n>(rt: &impl Abort, alloc: Global) -> Result<Schema<'n>, Fail> {
-    one_table(rt, alloc, &[field(b"l", 4, vector(LONG, 0))])
+    one_table(rt, alloc, &[field(b"l", 4, vector(LONG))])
 }
 
 /// Why a text is no path of `lists`.

@@ -23,6 +23,8 @@ pub use place::{Place, at_root, get};
 pub use step::Step;
 
 #[cfg(test)]
+mod cases;
+#[cfg(test)]
 mod fixtures;
 #[cfg(test)]
 mod get_tests;

@@ -1,116 +1,13 @@
 // Worked paths: what they resolve to, and why others don't.
 
-ghost use Rattle.std.specs.Prelude.{◌≡◌, ◌<◌, ◌^◌, true, All, vec_len};
-ghost use Rattle.fb_schema.specs.Rows.{AreFew};
-
 use super::*;
-use fb_schema::{EnumRow, FieldRow, MemberRow, ObjectRow, Schema, TypeRow};
-use std::alloc::{AllocError, Global};
+use crate::fixtures::built;
+use fb_schema::base_type::{INT, LONG, NONE, OBJ, STRING, UNION, UTYPE};
+use fb_schema::builders::{field, member, one, structure, table, union, vector};
+use fb_schema::{MemberRow, Schema};
+use std::alloc::Global;
 use std::process::Abort;
 use std::test::Fail;
-
-const U_TYPE: i8 = 1;
-
-const INT: i8 = 7;
-
-const LONG: i8 = 9;
-
-const TEXT: i8 = 13;
-
-const VECTOR: i8 = 14;
-
-const OBJECT: i8 = 15;
-
-const UNION: i8 = 16;
-
-const MANY: usize = 2147483648;
-
-fn one(base: i8, index: i32) -> TypeRow {
-    TypeRow {
-        base,
-        element: 0,
-        index,
-        fixed_length: 0,
-    }
-}
-
-fn vector(element: i8, index: i32) -> TypeRow {
-    TypeRow {
-        base: VECTOR,
-        element,
-        index,
-        fixed_length: 0,
-    }
-}
-
-fn field<'n>(name: &'n [u8], slot: u16, ty: TypeRow) -> FieldRow<'n> {
-    FieldRow {
-        name,
-        ty,
-        slot,
-        default: 0,
-        deprecated: false,
-        required: false,
-        optional: false,
-        offset64: false,
-    }
-}
-
-fn table<'n>(
-    alloc: Global,
-    name: &'n [u8],
-    fields: &[FieldRow<'n>],
-) -> Result<ObjectRow<'n>, AllocError> {
-    Ok(ObjectRow {
-        name,
-        fields: fields.to_vec(alloc)?,
-        is_struct: false,
-        minalign: 1,
-        bytesize: 0,
-    })
-}
-
-fn member<'n>(name: &'n [u8], value: i64, ty: TypeRow) -> MemberRow<'n> {
-    MemberRow { name, value, ty }
-}
-
-fn fields_few(objects: &[ObjectRow]) -> bool
-    ensures { result ≡ true → All (λ o. vec_len o.fields < 2 ^ 31) objects.now }
-{
-    for object in objects {
-        if object.fields.len() >= MANY {
-            return false;
-        }
-    }
-    true
-}
-
-fn members_few(enums: &[EnumRow]) -> bool
-    ensures { result ≡ true → All (λ e. vec_len e.members < 2 ^ 31) enums.now }
-{
-    for row in enums {
-        if row.members.len() >= MANY {
-            return false;
-        }
-    }
-    true
-}
-
-fn are_few(objects: &[ObjectRow], enums: &[EnumRow]) -> bool
-    ensures { result ≡ true → AreFew objects.now enums.now }
-{
-    objects.len() < MANY && enums.len() < MANY && fields_few(objects) && members_few(enums)
-}
-
-fn built<'n>(
-    rt: &impl Abort,
-    alloc: Global,
-    objects: Vec<ObjectRow<'n>>,
-    enums: Vec<EnumRow<'n>>,
-) -> Result<Schema<'n>, Fail> {
-    assert!(rt; are_few(&objects, &enums));
-    Ok(Schema::build(alloc, objects, enums).ok().ok_or("refused")?)
-}
 
 /// `table A { v: int; } struct W { x: long; } table R { u: U; } table Q { us: [U]; }`, with objects from 0 to 3 in this order,
 /// and a union `U` of these members.
@@ -119,33 +16,22 @@ fn with_members<'n>(
     alloc: Global,
     members: &[MemberRow<'n>],
 ) -> Result<Schema<'n>, Fail> {
-    let long = ObjectRow {
-        name: b"W",
-        fields: [field(b"x", 0, one(LONG, 0))].to_vec(alloc)?,
-        is_struct: true,
-        minalign: 8,
-        bytesize: 8,
-    };
     let value = [
-        field(b"u_type", 4, one(U_TYPE, 0)),
-        field(b"u", 6, one(UNION, 0)),
+        field(b"u_type", 4, one(UTYPE)),
+        field(b"u", 6, one(UNION).naming(0)),
     ];
     let values = [
-        field(b"us_type", 4, vector(U_TYPE, 0)),
-        field(b"us", 6, vector(UNION, 0)),
+        field(b"us_type", 4, vector(UTYPE)),
+        field(b"us", 6, vector(UNION).naming(0)),
     ];
     let objects = vec![in alloc;
-        table(alloc, b"A", &[field(b"v", 4, one(INT, 0))])?,
-        long,
+        table(alloc, b"A", &[field(b"v", 4, one(INT))])?,
+        structure(alloc, b"W", 8, 8, &[field(b"x", 0, one(LONG))])?,
         table(alloc, b"R", &value)?,
         table(alloc, b"Q", &values)?,
     ]?;
-    let union = EnumRow {
-        name: b"U",
-        members: members.to_vec(alloc)?,
-        is_union: true,
-    };
-    built(rt, alloc, objects, vec![in alloc; union]?)
+    let enums = vec![in alloc; union(alloc, b"U", members)?]?;
+    built(rt, alloc, objects, enums)
 }
 
 /// `union U { A = 1, W = 2, T: string = 3 }`.
@@ -154,9 +40,9 @@ fn unions<'n>(rt: &impl Abort, alloc: Global) -> Result<Schema<'n>, Fail> {
         rt,
         alloc,
         &[
-            member(b"A", 1, one(OBJECT, 0)),
-            member(b"W", 2, one(OBJECT, 1)),
-            member(b"T", 3, one(TEXT, 0)),
+            member(b"A", 1, one(OBJ).naming(0)),
+            member(b"W", 2, one(OBJ).naming(1)),
+            member(b"T", 3, one(STRING)),
         ],
     )
 }
@@ -231,9 +117,9 @@ fn a_path_names_its_steps(rt: HostRuntime) -> Result<(), Fail> {
 #[test]
 fn a_deprecated_field_can_not_be_named(rt: HostRuntime) -> Result<(), Fail> {
     let alloc = rt.alloc();
-    let mut gone = field(b"gone", 4, one(INT, 0));
+    let mut gone = field(b"gone", 4, one(INT));
     gone.deprecated = true;
-    let objects = vec![in alloc; table(alloc, b"A", &[gone, field(b"here", 6, one(INT, 0))])?]?;
+    let objects = vec![in alloc; table(alloc, b"A", &[gone, field(b"here", 6, one(INT))])?]?;
     let schema = built(&rt, alloc, objects, Vec::new(alloc))?;
     assert_eq!(rt;
         resolved(&rt, alloc, &schema, 0, b"gone").err(),
@@ -251,9 +137,9 @@ fn members_are_named_by_value_whatever_their_order(rt: HostRuntime) -> Result<()
         &rt,
         alloc,
         &[
-            member(b"T", 3, one(TEXT, 0)),
-            member(b"NONE", 0, one(0, 0)),
-            member(b"A", 1, one(OBJECT, 0)),
+            member(b"T", 3, one(STRING)),
+            member(b"NONE", 0, one(NONE)),
+            member(b"A", 1, one(OBJ).naming(0)),
         ],
     )?;
     let text = resolved(&rt, alloc, &schema, R, b"u@T")?;

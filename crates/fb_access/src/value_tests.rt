@@ -1,260 +1,244 @@
 //! Elements past the first, numbers of every width with their sign, and defaults that are wider than their scalar.
 
-use crate::fixtures::{
-    Reading, TEXT, answer_at, bare, built, field, one, one_table, scalar, table, unions, vector,
-};
-use crate::step::Step::{Element, Field, Member};
-use crate::{Answer, Step};
-use fb_schema::{ObjectRow, Schema};
-use std::alloc::Global;
+use crate::Answer;
+use crate::cases::{all_answered, base, bytes_of};
+use crate::fixtures::{answer_at, bare, built, one_table, scalar, unions};
+use crate::step::Step::{Element, Field};
+use fb_schema::Schema;
+use fb_schema::base_type::{BOOL, INT, OBJ, STRING};
+use fb_schema::builders::{field, one, structure, table, vector};
+use std::alloc::{AllocError, Global};
 use std::process::Abort;
 use std::test::Fail;
 
-/// Steps from the root, and what they are to lead to.
-type Case = (&'static [Step], Answer<'static>);
+/// A vector at 20 of three elements. From 24 on 36 bytes stand there that count up from 0x80.
+const THREE: &str = "
+    0c000000 06000800 04000000 08000000 04000000 03000000 80818283 84858687 88898a8b 8c8d8e8f
+    90919293 94959697 98999a9b 9c9d9e9f a0a1a2a3
+";
 
-fn all_answered(
-    rt: &impl Abort,
-    alloc: Global,
-    bytes: &[u8],
-    schema: &Schema,
-    reading: Reading,
-    cases: &[Case],
-) -> Result<(), Fail> {
-    for (steps, want) in cases {
-        let answer = answer_at(rt, alloc, bytes, schema, reading, *steps)?;
-        assert_eq!(rt; answer, *want);
+/// Scalar base types, with elements 1 and 2 of these bytes. Numbers are in hexadecimal.
+const ELEMENTS: &str = "\
+    utype  | UInt(0x81)                                      | UInt(0x82)\n\
+    bool   | Bool(true)                                      | Bool(true)\n\
+    byte   | Int(-0x7f)                                      | Int(-0x7e)\n\
+    ubyte  | UInt(0x81)                                      | UInt(0x82)\n\
+    short  | Int(-0x7c7e)                                    | Int(-0x7a7c)\n\
+    ushort | UInt(0x8382)                                    | UInt(0x8584)\n\
+    int    | Int(-0x78797a7c)                                | Int(-0x74757678)\n\
+    uint   | UInt(0x87868584)                                | UInt(0x8b8a8988)\n\
+    long   | Int(-0x7071727374757678)                        | Int(-0x68696a6b6c6d6e70)\n\
+    ulong  | UInt(0x8f8e8d8c8b8a8988)                        | UInt(0x9796959493929190)\n\
+    float  | Float([132, 133, 134, 135])                     | Float([136, 137, 138, 139])\n\
+    double | Float([136, 137, 138, 139, 140, 141, 142, 143]) | Float([144, 145, 146, 147, 148, 149, 150, 151])\n\
+";
+
+/// An answer as `{:?}` writes it, but its number in hexadecimal.
+fn in_hex(alloc: Global, answer: Answer<'_>) -> Result<String, AllocError> {
+    match answer {
+        Answer::UInt(number) => format!(in alloc; "UInt(0x{number:x})"),
+        Answer::Int(number) if number < 0 => {
+            let size = number.unsigned_abs();
+            format!(in alloc; "Int(-0x{size:x})")
+        }
+        _ => format!(in alloc; "{answer:?}"),
     }
-    Ok(())
 }
 
-/// A vector at 20 of three elements. From 24 on 36 bytes stand there that count up from 0x80.
-const THREE: [u8; 60] = [
-    12, 0, 0, 0, 6, 0, 8, 0, 4, 0, 0, 0, 8, 0, 0, 0, 4, 0, 0, 0, 3, 0, 0, 0, 0x80, 0x81, 0x82,
-    0x83, 0x84, 0x85, 0x86, 0x87, 0x88, 0x89, 0x8a, 0x8b, 0x8c, 0x8d, 0x8e, 0x8f, 0x90, 0x91, 0x92,
-    0x93, 0x94, 0x95, 0x96, 0x97, 0x98, 0x99, 0x9a, 0x9b, 0x9c, 0x9d, 0x9e, 0x9f, 0xa0, 0xa1, 0xa2,
-    0xa3,
-];
-
-/// Scalar base types by their numbers, with elements 1 and 2 of these bytes.
-const ELEMENTS: [(i8, Answer<'static>, Answer<'static>); 12] = [
-    (1, Answer::UInt(0x81), Answer::UInt(0x82)),
-    (2, Answer::Bool(true), Answer::Bool(true)),
-    (3, Answer::Int(-0x7f), Answer::Int(-0x7e)),
-    (4, Answer::UInt(0x81), Answer::UInt(0x82)),
-    (5, Answer::Int(-0x7c7e), Answer::Int(-0x7a7c)),
-    (6, Answer::UInt(0x8382), Answer::UInt(0x8584)),
-    (7, Answer::Int(-0x7879_7a7c), Answer::Int(-0x7475_7678)),
-    (8, Answer::UInt(0x8786_8584), Answer::UInt(0x8b8a_8988)),
-    (
-        9,
-        Answer::Int(-0x7071_7273_7475_7678),
-        Answer::Int(-0x6869_6a6b_6c6d_6e70),
-    ),
-    (
-        10,
-        Answer::UInt(0x8f8e_8d8c_8b8a_8988),
-        Answer::UInt(0x9796_9594_9392_9190),
-    ),
-    (
-        11,
-        Answer::Float(&[0x84, 0x85, 0x86, 0x87]),
-        Answer::Float(&[0x88, 0x89, 0x8a, 0x8b]),
-    ),
-    (
-        12,
-        Answer::Float(&[0x88, 0x89, 0x8a, 0x8b, 0x8c, 0x8d, 0x8e, 0x8f]),
-        Answer::Float(&[0x90, 0x91, 0x92, 0x93, 0x94, 0x95, 0x96, 0x97]),
-    ),
-];
+/// Asserts that this element of a vector of this base type is this.
+fn element_is(
+    rt: &impl Abort,
+    alloc: Global,
+    schema: &Schema,
+    element: u32,
+    want: &str,
+) -> Result<(), Fail> {
+    let bytes = bytes_of(alloc, THREE)?;
+    let steps = [Field(0), Element(element)];
+    let answer = answer_at(rt, alloc, &bytes, schema, bare(0), &steps)?;
+    let told = in_hex(alloc, answer)?;
+    assert_eq!(rt; told.as_str(), want, "element {element}");
+    Ok(())
+}
 
 #[test]
 fn an_element_of_every_scalar_stands_behind_those_before(rt: HostRuntime) -> Result<(), Fail> {
-    for (base, second, third) in ELEMENTS {
-        let schema = one_table(&rt, rt.alloc(), &[field(b"l", 4, vector(base, 0))])?;
-        let at = |steps: &[Step]| answer_at(&rt, rt.alloc(), &THREE, &schema, bare(0), steps);
-        assert_eq!(rt; at(&[Field(0), Element(1)])?, second, "{base}");
-        assert_eq!(rt; at(&[Field(0), Element(2)])?, third, "{base}");
-        assert_eq!(rt; at(&[Field(0), Element(3)])?, Answer::NoElement, "{base}");
+    let alloc = rt.alloc();
+    for line in ELEMENTS.lines() {
+        let (name, wanted) = line.split_once('|').ok_or("no case")?;
+        let (second, third) = wanted.split_once('|').ok_or("no third")?;
+        let base = base(name.trim_ascii()).ok_or("no base type")?;
+        let schema = one_table(&rt, alloc, &[field(b"l", 4, vector(base))])?;
+        element_is(&rt, alloc, &schema, 1, second.trim_ascii())?;
+        element_is(&rt, alloc, &schema, 2, third.trim_ascii())?;
+        element_is(&rt, alloc, &schema, 3, "NoElement")?;
     }
     Ok(())
 }
 
+/// The first bytes of these, with a 0 at 25.
+const FALSE: &str = "0c000000 06000800 04000000 08000000 04000000 03000000 80008283";
+
 #[test]
 fn a_bool_of_a_vector_is_false_where_its_byte_is_0(rt: HostRuntime) -> Result<(), Fail> {
-    let schema = one_table(&rt, rt.alloc(), &[field(b"l", 4, vector(2, 0))])?;
-    let mut bytes = THREE;
-    bytes[25] = 0;
-    let steps = [Field(0), Element(1)];
-    let answer = answer_at(&rt, rt.alloc(), &bytes, &schema, bare(0), &steps)?;
-    assert_eq!(rt; answer, Answer::Bool(false));
-    Ok(())
+    let alloc = rt.alloc();
+    let schema = one_table(&rt, alloc, &[field(b"l", 4, vector(BOOL))])?;
+    all_answered(&rt, alloc, FALSE, &schema, bare(0), ".0 [1] | Bool(false)")
 }
 
-const BOXES: [Case; 4] = [
-    (
-        &[Field(0), Element(0)],
-        Answer::Struct(&[
-            0x80, 0x81, 0x82, 0x83, 0x84, 0x85, 0x86, 0x87, 0x88, 0x89, 0x8a, 0x8b,
-        ]),
-    ),
-    (
-        &[Field(0), Element(1)],
-        Answer::Struct(&[
-            0x8c, 0x8d, 0x8e, 0x8f, 0x90, 0x91, 0x92, 0x93, 0x94, 0x95, 0x96, 0x97,
-        ]),
-    ),
-    (
-        &[Field(0), Element(2)],
-        Answer::Struct(&[
-            0x98, 0x99, 0x9a, 0x9b, 0x9c, 0x9d, 0x9e, 0x9f, 0xa0, 0xa1, 0xa2, 0xa3,
-        ]),
-    ),
-    (&[Field(0), Element(3)], Answer::NoElement),
-];
+const BOXES: &str = "\
+    .0 [0] | Struct([128, 129, 130, 131, 132, 133, 134, 135, 136, 137, 138, 139])\n\
+    .0 [1] | Struct([140, 141, 142, 143, 144, 145, 146, 147, 148, 149, 150, 151])\n\
+    .0 [2] | Struct([152, 153, 154, 155, 156, 157, 158, 159, 160, 161, 162, 163])\n\
+    .0 [3] | NoElement\n\
+";
 
 #[test]
 fn structs_of_12_bytes_stand_12_bytes_apart(rt: HostRuntime) -> Result<(), Fail> {
     let alloc = rt.alloc();
-    let twelve = ObjectRow {
-        name: b"Box",
-        fields: Vec::new(alloc),
-        is_struct: true,
-        minalign: 4,
-        bytesize: 12,
-    };
-    let root = table(alloc, b"Boxes", &[field(b"l", 4, vector(15, 1))])?;
+    let twelve = structure(alloc, b"Box", 12, 4, &[])?;
+    let root = table(alloc, b"Boxes", &[field(b"l", 4, vector(OBJ).naming(1))])?;
     let schema = built(&rt, alloc, vec![in alloc; root, twelve]?, Vec::new(alloc))?;
-    all_answered(&rt, alloc, &THREE, &schema, bare(0), &BOXES)
+    all_answered(&rt, alloc, THREE, &schema, bare(0), BOXES)
 }
 
 /// Three texts by the words from 28 on, and three tables by those from 44 on.
-const LISTS: [u8; 112] = [
-    12, 0, 0, 0, 8, 0, 12, 0, 4, 0, 8, 0, 8, 0, 0, 0, 8, 0, 0, 0, 20, 0, 0, 0, 3, 0, 0, 0, 28, 0,
-    0, 0, 32, 0, 0, 0, 36, 0, 0, 0, 3, 0, 0, 0, 44, 0, 0, 0, 48, 0, 0, 0, 52, 0, 0, 0, 1, 0, 0, 0,
-    0x61, 0, 0, 0, 2, 0, 0, 0, 0x62, 0x63, 0, 0, 0, 0, 0, 0, 0, 0, 0, 0, 6, 0, 8, 0, 4, 0, 0, 0, 8,
-    0, 0, 0, 1, 0, 0, 0, 16, 0, 0, 0, 2, 0, 0, 0, 24, 0, 0, 0, 0xff, 0xff, 0xff, 0xff,
-];
+const LISTS: &str = "
+    0c000000 08000c00 04000800 08000000 08000000 14000000 03000000 1c000000 20000000 24000000
+    03000000 2c000000 30000000 34000000 01000000 61000000 02000000 62630000 00000000 00000000
+    06000800 04000000 08000000 01000000 10000000 02000000 18000000 ffffffff
+";
 
-const LISTED: [Case; 7] = [
-    (&[Field(0), Element(0)], Answer::Text(b"a")),
-    (&[Field(0), Element(1)], Answer::Text(b"bc")),
-    (&[Field(0), Element(2)], Answer::Text(b"")),
-    (&[Field(0), Element(3)], Answer::NoElement),
-    (&[Field(1), Element(1), Field(0)], Answer::Int(2)),
-    (&[Field(1), Element(2), Field(0)], Answer::Int(-1)),
-    (&[Field(1), Element(3), Field(0)], Answer::NoElement),
-];
+const LISTED: &str = "\
+    .0 [0]    | Text(\"a\")\n\
+    .0 [1]    | Text(\"bc\")\n\
+    .0 [2]    | Text(\"\")\n\
+    .0 [3]    | NoElement\n\
+    .1 [1] .0 | Int(2)\n\
+    .1 [2] .0 | Int(-1)\n\
+    .1 [3] .0 | NoElement\n\
+";
 
 #[test]
 fn texts_and_tables_past_the_first_are_their_own(rt: HostRuntime) -> Result<(), Fail> {
     let alloc = rt.alloc();
     let fields = [
-        field(b"texts", 4, vector(TEXT, 0)),
-        field(b"tables", 6, vector(15, 1)),
+        field(b"texts", 4, vector(STRING)),
+        field(b"tables", 6, vector(OBJ).naming(1)),
     ];
     let objects = vec![in alloc;
         table(alloc, b"L", &fields)?,
-        table(alloc, b"A", &[field(b"v", 4, one(7, 0))])?,
+        table(alloc, b"A", &[field(b"v", 4, one(INT))])?,
     ]?;
     let schema = built(&rt, alloc, objects, Vec::new(alloc))?;
-    all_answered(&rt, alloc, &LISTS, &schema, bare(0), &LISTED)
+    all_answered(&rt, alloc, LISTS, &schema, bare(0), LISTED)
 }
 
 /// Three unions: the types 3, 2 and 1 from 28 on, a text at 48, a struct at 56 and a table at 72.
-const UNIONS: [u8; 80] = [
-    12, 0, 0, 0, 8, 0, 12, 0, 4, 0, 8, 0, 8, 0, 0, 0, 8, 0, 0, 0, 12, 0, 0, 0, 3, 0, 0, 0, 3, 2, 1,
-    0, 3, 0, 0, 0, 12, 0, 0, 0, 16, 0, 0, 0, 28, 0, 0, 0, 2, 0, 0, 0, 0x68, 0x69, 0, 0, 7, 0, 0, 0,
-    0, 0, 0, 9, 6, 0, 8, 0, 4, 0, 0, 0, 8, 0, 0, 0, 5, 0, 0, 0,
-];
+const UNIONS: &str = "
+    0c000000 08000c00 04000800 08000000 08000000 0c000000 03000000 03020100 03000000 0c000000
+    10000000 1c000000 02000000 68690000 07000000 00000009 06000800 04000000 08000000 05000000
+";
 
-const UNITED: [Case; 9] = [
-    (&[Field(0), Element(1)], Answer::UInt(2)),
-    (&[Field(0), Element(2)], Answer::UInt(1)),
-    (&[Field(1), Element(0), Member(3)], Answer::Text(b"hi")),
-    (&[Field(1), Element(1)], Answer::Union(2)),
-    (
-        &[Field(1), Element(1), Member(2)],
-        Answer::Struct(&[7, 0, 0, 0, 0, 0, 0, 9]),
-    ),
-    (&[Field(1), Element(1), Member(3)], Answer::OtherMember),
-    (&[Field(1), Element(2)], Answer::Union(1)),
-    (&[Field(1), Element(2), Member(1), Field(0)], Answer::Int(5)),
-    (&[Field(1), Element(3)], Answer::NoElement),
-];
+const UNITED: &str = "\
+    .0 [1]       | UInt(2)\n\
+    .0 [2]       | UInt(1)\n\
+    .1 [0] @3    | Text(\"hi\")\n\
+    .1 [1]       | Union(2)\n\
+    .1 [1] @2    | Struct([7, 0, 0, 0, 0, 0, 0, 9])\n\
+    .1 [1] @3    | OtherMember\n\
+    .1 [2]       | Union(1)\n\
+    .1 [2] @1 .0 | Int(5)\n\
+    .1 [3]       | NoElement\n\
+";
 
 #[test]
 fn unions_past_the_first_have_types_of_their_own(rt: HostRuntime) -> Result<(), Fail> {
-    let schema = unions(&rt, rt.alloc())?;
-    all_answered(&rt, rt.alloc(), &UNIONS, &schema, bare(3), &UNITED)
+    let alloc = rt.alloc();
+    let schema = unions(&rt, alloc)?;
+    all_answered(&rt, alloc, UNIONS, &schema, bare(3), UNITED)
 }
 
 /// A field at 16, and there 8 bytes that count up from 0x80.
-const ONE: [u8; 24] = [
-    12, 0, 0, 0, 6, 0, 12, 0, 4, 0, 0, 0, 8, 0, 0, 0, 0x80, 0x81, 0x82, 0x83, 0x84, 0x85, 0x86,
-    0x87,
-];
+const ONE: &str = "
+    0c000000 06000c00 04000000 08000000 80818283 84858687
+";
+
+/// Scalar base types, with the number that those bytes are. Numbers are in hexadecimal.
+const WIDTHS: &str = "\
+    utype  | UInt(0x80)\n\
+    bool   | Bool(true)\n\
+    byte   | Int(-0x80)\n\
+    ubyte  | UInt(0x80)\n\
+    short  | Int(-0x7e80)\n\
+    ushort | UInt(0x8180)\n\
+    int    | Int(-0x7c7d7e80)\n\
+    uint   | UInt(0x83828180)\n\
+    long   | Int(-0x78797a7b7c7d7e80)\n\
+    ulong  | UInt(0x8786858483828180)\n\
+";
 
 #[test]
 fn a_number_of_every_width_has_its_sign(rt: HostRuntime) -> Result<(), Fail> {
-    for (base, want) in [
-        (1, Answer::UInt(0x80)),
-        (2, Answer::Bool(true)),
-        (3, Answer::Int(-0x80)),
-        (4, Answer::UInt(0x80)),
-        (5, Answer::Int(-0x7e80)),
-        (6, Answer::UInt(0x8180)),
-        (7, Answer::Int(-0x7c7d_7e80)),
-        (8, Answer::UInt(0x8382_8180)),
-        (9, Answer::Int(-0x7879_7a7b_7c7d_7e80)),
-        (10, Answer::UInt(0x8786_8584_8382_8180)),
-    ] {
-        let schema = one_table(&rt, rt.alloc(), &[field(b"v", 4, one(base, 0))])?;
-        let answer = answer_at(&rt, rt.alloc(), &ONE, &schema, bare(0), &[Field(0)])?;
-        assert_eq!(rt; answer, want, "{base}");
+    let alloc = rt.alloc();
+    let bytes = bytes_of(alloc, ONE)?;
+    for line in WIDTHS.lines() {
+        let (name, want) = line.split_once('|').ok_or("no case")?;
+        let base = base(name.trim_ascii()).ok_or("no base type")?;
+        let schema = one_table(&rt, alloc, &[field(b"v", 4, one(base))])?;
+        let answer = answer_at(&rt, alloc, &bytes, &schema, bare(0), &[Field(0)])?;
+        let told = in_hex(alloc, answer)?;
+        assert_eq!(rt; told.as_str(), want.trim_ascii(), "{name}");
     }
     Ok(())
 }
 
 /// A table without fields.
-const EMPTY: [u8; 12] = [8, 0, 0, 0, 4, 0, 4, 0, 4, 0, 0, 0];
+const EMPTY: &str = "08000000 04000400 04000000";
 
-/// Scalar base types by their numbers, a default, and the answer where the field is absent.
-const DEFAULTS: [(i8, i64, Answer<'static>); 26] = [
-    (1, 257, Answer::UInt(1)),
-    (1, -1, Answer::UInt(255)),
-    (2, 256, Answer::Bool(false)),
-    (2, 258, Answer::Bool(true)),
-    (2, -256, Answer::Bool(false)),
-    (3, 128, Answer::Int(-128)),
-    (3, 255, Answer::Int(-1)),
-    (3, 256, Answer::Int(0)),
-    (3, -129, Answer::Int(127)),
-    (4, -1, Answer::UInt(255)),
-    (4, 256, Answer::UInt(0)),
-    (5, 32_768, Answer::Int(-32_768)),
-    (5, 65_537, Answer::Int(1)),
-    (5, -32_769, Answer::Int(32_767)),
-    (6, -1, Answer::UInt(65_535)),
-    (6, 65_536, Answer::UInt(0)),
-    (7, 2_147_483_648, Answer::Int(-2_147_483_648)),
-    (7, 4_294_967_295, Answer::Int(-1)),
-    (7, 4_294_967_296, Answer::Int(0)),
-    (8, -1, Answer::UInt(4_294_967_295)),
-    (8, 4_294_967_297, Answer::UInt(1)),
-    (9, -1, Answer::Int(-1)),
-    (10, -1, Answer::UInt(18_446_744_073_709_551_615)),
-    (10, -2, Answer::UInt(18_446_744_073_709_551_614)),
-    (11, 1, Answer::Absent),
-    (12, 1, Answer::Absent),
-];
+/// Scalar base types, a default, and the answer where the field is absent.
+const DEFAULTS: &str = "\
+    utype  | 257        | UInt(1)\n\
+    utype  | -1         | UInt(255)\n\
+    bool   | 256        | Bool(false)\n\
+    bool   | 258        | Bool(true)\n\
+    bool   | -256       | Bool(false)\n\
+    byte   | 128        | Int(-128)\n\
+    byte   | 255        | Int(-1)\n\
+    byte   | 256        | Int(0)\n\
+    byte   | -129       | Int(127)\n\
+    ubyte  | -1         | UInt(255)\n\
+    ubyte  | 256        | UInt(0)\n\
+    short  | 32768      | Int(-32768)\n\
+    short  | 65537      | Int(1)\n\
+    short  | -32769     | Int(32767)\n\
+    ushort | -1         | UInt(65535)\n\
+    ushort | 65536      | UInt(0)\n\
+    int    | 2147483648 | Int(-2147483648)\n\
+    int    | 4294967295 | Int(-1)\n\
+    int    | 4294967296 | Int(0)\n\
+    uint   | -1         | UInt(4294967295)\n\
+    uint   | 4294967297 | UInt(1)\n\
+    long   | -1         | Int(-1)\n\
+    ulong  | -1         | UInt(18446744073709551615)\n\
+    ulong  | -2         | UInt(18446744073709551614)\n\
+    float  | 1          | Absent\n\
+    double | 1          | Absent\n\
+";
 
 #[test]
 fn an_absent_scalar_is_what_its_low_bytes_are(rt: HostRuntime) -> Result<(), Fail> {
-    for (base, default, want) in DEFAULTS {
-        let schema = one_table(&rt, rt.alloc(), &[scalar(b"v", 4, base, default)])?;
-        let answer = answer_at(&rt, rt.alloc(), &EMPTY, &schema, bare(0), &[Field(0)])?;
-        assert_eq!(rt; answer, want, "{base}, {default}");
+    let alloc = rt.alloc();
+    let bytes = bytes_of(alloc, EMPTY)?;
+    for line in DEFAULTS.lines() {
+        let (name, case) = line.split_once('|').ok_or("no case")?;
+        let (default, want) = case.split_once('|').ok_or("no answer")?;
+        let base = base(name.trim_ascii()).ok_or("no base type")?;
+        let default = default.trim_ascii().parse::<i64>()?;
+        let schema = one_table(&rt, alloc, &[scalar(b"v", 4, base, default)])?;
+        let answer = answer_at(&rt, alloc, &bytes, &schema, bare(0), &[Field(0)])?;
+        let told = format!(in alloc; "{answer:?}")?;
+        assert_eq!(rt; told.as_str(), want.trim_ascii(), "{name}, {default}");
     }
     Ok(())
 }

@@ -1,8 +1,7 @@
 //! Schemas, with each request for memory refused in turn.
 
-use crate::few::are_few;
 use crate::schemas::unions_rows;
-use fb_schema::{Code, Schema, SchemaFault};
+use fb_schema::{Code, Schema, SchemaFault, are_few};
 use scarce::{Plan, Refusing};
 use std::alloc::Global;
 use std::process::Abort;

@@ -5,8 +5,6 @@
 #[cfg(test)]
 mod build_tests;
 #[cfg(test)]
-mod few;
-#[cfg(test)]
 mod framer_tests;
 #[cfg(test)]
 mod path_tests;

@@ -3,19 +3,10 @@
 ghost use Rattle.std.specs.Prelude.{◌≡◌, ◌<◌, ◌^◌, length, vec_len, All, IfOk};
 ghost use Rattle.fb_schema.specs.Rows.{AreFew};
 
-use fb_schema::{EnumRow, FieldRow, MemberRow, ObjectRow, TypeRow};
+use fb_schema::base_type::{NONE, OBJ, SHORT, STRING, UNION, UTYPE};
+use fb_schema::builders::{field, member, one, structure, table, union};
+use fb_schema::{EnumRow, ObjectRow};
 use std::alloc::{AllocError, Global};
-
-/// The numbers of base types in reflection.fbs.
-const UTYPE: i8 = 1;
-
-const SHORT: i8 = 5;
-
-const TEXT: i8 = 13;
-
-const OBJECT: i8 = 15;
-
-const UNION: i8 = 16;
 
 /// The object of the root table.
 pub const NODE: u32 = 0;
@@ -32,63 +23,12 @@ pub struct HandRows {
     pub enums: Vec<EnumRow<'static>>,
 }
 
-fn one(base: i8, index: i32) -> TypeRow {
-    TypeRow {
-        base,
-        element: 0,
-        index,
-        fixed_length: 0,
-    }
-}
-
-fn field(name: &'static [u8], slot: u16, ty: TypeRow) -> FieldRow<'static> {
-    FieldRow {
-        name,
-        ty,
-        slot,
-        default: 0,
-        deprecated: false,
-        required: false,
-        optional: false,
-        offset64: false,
-    }
-}
-
-fn member(name: &'static [u8], value: i64, ty: TypeRow) -> MemberRow<'static> {
-    MemberRow { name, value, ty }
-}
-
-fn table(
-    alloc: Global,
-    name: &'static [u8],
-    fields: &[FieldRow<'static>],
-) -> Result<ObjectRow<'static>, AllocError>
-    ensures { IfOk result (λ t. vec_len t.fields ≡ length fields.now) }
-{
-    Ok(ObjectRow {
-        name,
-        fields: fields.to_vec(alloc)?,
-        is_struct: false,
-        minalign: 1,
-        bytesize: 0,
-    })
-}
-
 /// `struct Place { x: short; y: short; }`.
 fn place(alloc: Global) -> Result<ObjectRow<'static>, AllocError>
     ensures { IfOk result (λ s. vec_len s.fields ≡ 2) }
 {
-    let fields = [
-        field(b"x", 0, one(SHORT, -1)),
-        field(b"y", 2, one(SHORT, -1)),
-    ];
-    Ok(ObjectRow {
-        name: b"Place",
-        fields: fields.to_vec(alloc)?,
-        is_struct: true,
-        minalign: 2,
-        bytesize: 4,
-    })
+    let fields = [field(b"x", 0, one(SHORT)), field(b"y", 2, one(SHORT))];
+    structure(alloc, b"Place", 4, 2, &fields)
 }
 
 /// `table Node { at: Place; next: Node; any: Any; name: string; }`.
@@ -96,11 +36,11 @@ fn node(alloc: Global) -> Result<ObjectRow<'static>, AllocError>
     ensures { IfOk result (λ t. vec_len t.fields ≡ 5) }
 {
     let fields = [
-        field(b"at", 4, one(OBJECT, PLACE)),
-        field(b"next", 6, one(OBJECT, NODE as i32)),
-        field(b"any_type", 8, one(UTYPE, 0)),
-        field(b"any", 10, one(UNION, 0)),
-        field(b"name", 12, one(TEXT, -1)),
+        field(b"at", 4, one(OBJ).naming(PLACE)),
+        field(b"next", 6, one(OBJ).naming(NODE as i32)),
+        field(b"any_type", 8, one(UTYPE)),
+        field(b"any", 10, one(UNION).naming(0)),
+        field(b"name", 12, one(STRING)),
     ];
     table(alloc, b"Node", &fields)
 }
@@ -109,7 +49,7 @@ fn node(alloc: Global) -> Result<ObjectRow<'static>, AllocError>
 fn leaf(alloc: Global) -> Result<ObjectRow<'static>, AllocError>
     ensures { IfOk result (λ t. vec_len t.fields ≡ 1) }
 {
-    table(alloc, b"Leaf", &[field(b"size", 4, one(SHORT, -1))])
+    table(alloc, b"Leaf", &[field(b"size", 4, one(SHORT))])
 }
 
 /// `union Any { Node, Leaf, Place, Text: string }`.
@@ -117,17 +57,13 @@ fn any(alloc: Global) -> Result<EnumRow<'static>, AllocError>
     ensures { IfOk result (λ e. vec_len e.members ≡ 5) }
 {
     let members = [
-        member(b"NONE", 0, one(0, -1)),
-        member(b"Node", 1, one(OBJECT, NODE as i32)),
-        member(b"Leaf", 2, one(OBJECT, LEAF)),
-        member(b"Place", 3, one(OBJECT, PLACE)),
-        member(b"Text", 4, one(TEXT, -1)),
+        member(b"NONE", 0, one(NONE)),
+        member(b"Node", 1, one(OBJ).naming(NODE as i32)),
+        member(b"Leaf", 2, one(OBJ).naming(LEAF)),
+        member(b"Place", 3, one(OBJ).naming(PLACE)),
+        member(b"Text", 4, one(STRING)),
     ];
-    Ok(EnumRow {
-        name: b"Any",
-        members: members.to_vec(alloc)?,
-        is_union: true,
-    })
+    union(alloc, b"Any", &members)
 }
 
 fn objects(alloc: Global) -> Result<Vec<ObjectRow<'static>>, AllocError>

@@ -5,11 +5,9 @@
 //! five runs go to standard error.
 #![tactic(auto)]
 
-mod few;
 mod rows;
 
-use fb_schema::{EnumRow, ObjectRow, Schema};
-use few::are_few;
+use fb_schema::{EnumRow, ObjectRow, Schema, are_few};
 use rows::{many_tables, names, one_struct, one_table};
 use std::alloc::{AllocError, Global};
 use std::io;

@@ -1,29 +1,31 @@
 //! Scalars and structs of every width: their ranges to the byte, and the multiples at which they may stand.
 
 use super::question::{ask, no_at, yes};
-use super::rows::{
-    built, field, many, member, object, objects, one, one_table, structure, table, union,
-};
+use super::rows::{built, one_table};
 use crate::{Reason, Scratch};
-use fb_schema::{EnumRow, Schema};
+use fb_schema::Schema;
+use fb_schema::base_type::{
+    BOOL, BYTE, DOUBLE, FLOAT, INT, LONG, OBJ, SHORT, UBYTE, UINT, ULONG, UNION, USHORT, UTYPE,
+};
+use fb_schema::builders::{field, member, one, structure, table, union, vector};
 use std::alloc::{AllocError, Global};
 use std::process::Abort;
 use std::test::Fail;
 
-/// The scalar base types by their numbers, with their sizes.
+/// The scalar base types, with their sizes.
 const SCALARS: [(i8, u8); 12] = [
-    (1, 1),
-    (2, 1),
-    (3, 1),
-    (4, 1),
-    (5, 2),
-    (6, 2),
-    (7, 4),
-    (8, 4),
-    (9, 8),
-    (10, 8),
-    (11, 4),
-    (12, 8),
+    (UTYPE, 1),
+    (BOOL, 1),
+    (BYTE, 1),
+    (UBYTE, 1),
+    (SHORT, 2),
+    (USHORT, 2),
+    (INT, 4),
+    (UINT, 4),
+    (LONG, 8),
+    (ULONG, 8),
+    (FLOAT, 4),
+    (DOUBLE, 8),
 ];
 
 /// A table at 12 that has its vtable at 4, with these words for its first two slots; then, from 16 on, `rest` and
@@ -65,7 +67,7 @@ fn scalars_of_a_vector_lie_in_the_buffer_to_their_last_byte(rt: HostRuntime) -> 
     let alloc = rt.alloc();
     let mut scratch = Scratch::new(alloc, 64)?;
     for (base, size) in SCALARS {
-        let schema = one_table(&rt, alloc, &[field(b"v", 4, many(base))])?;
+        let schema = one_table(&rt, alloc, &[field(b"v", 4, vector(base))])?;
         let end = 24 + 3 * usize::from(size);
         let three = [4, 0, 0, 0, 3, 0, 0, 0];
         let whole = buffer(alloc, [4, 0], &three, end)?;
@@ -84,14 +86,14 @@ fn a_scalar_stands_at_a_multiple_of_its_size(rt: HostRuntime) -> Result<(), Fail
     let alloc = rt.alloc();
     let mut scratch = Scratch::new(alloc, 64)?;
     for (base, word) in [
-        (5, 5),
-        (6, 5),
-        (7, 6),
-        (8, 6),
-        (9, 8),
-        (10, 8),
-        (11, 6),
-        (12, 8),
+        (SHORT, 5),
+        (USHORT, 5),
+        (INT, 6),
+        (UINT, 6),
+        (LONG, 8),
+        (ULONG, 8),
+        (FLOAT, 6),
+        (DOUBLE, 8),
     ] {
         let schema = one_table(&rt, alloc, &[field(b"v", 4, one(base))])?;
         let at = 12 + u64::from(word);
@@ -118,19 +120,18 @@ const PICK: u32 = 3;
 fn boxes<'n>(rt: &impl Abort, alloc: Global, minalign: i32) -> Result<Schema<'n>, Fail> {
     let rows = vec![in alloc;
         structure(alloc, b"Box", 12, minalign, &[])?,
-        table(alloc, b"Holder", &[field(b"v", 4, object(0))])?,
-        table(alloc, b"Boxes", &[field(b"v", 4, objects(0))])?,
+        table(alloc, b"Holder", &[field(b"v", 4, one(OBJ).naming(0))])?,
+        table(alloc, b"Boxes", &[field(b"v", 4, vector(OBJ).naming(0))])?,
         table(
             alloc,
             b"Pick",
-            &[field(b"v_type", 4, one(1)), field(b"v", 6, union(0))]
+            &[
+                field(b"v_type", 4, one(UTYPE)),
+                field(b"v", 6, one(UNION).naming(0))
+            ]
         )?,
     ]?;
-    let any = EnumRow {
-        name: b"Any",
-        members: vec![in alloc; member(b"Box", 1, object(0))]?,
-        is_union: true,
-    };
+    let any = union(alloc, b"Any", &[member(b"Box", 1, one(OBJ).naming(0))])?;
     built(rt, alloc, rows, vec![in alloc; any]?)
 }
 

@@ -1,11 +1,11 @@
 //! Where a value lies past the end of the buffer and out of alignment too, the end is told; and each of the two alone.
 
 use super::question::{all_answered, ask, no_at, no_in, yes};
-use super::rows::{
-    INT, TEXT, built, field, many, member, object, objects, one, structure, table, union,
-};
+use super::rows::built;
 use crate::{Fault, Reason, Report};
-use fb_schema::{EnumRow, Schema};
+use fb_schema::Schema;
+use fb_schema::base_type::{INT, OBJ, STRING, UNION, UTYPE};
+use fb_schema::builders::{field, member, one, structure, table, union, vector};
 use std::alloc::Global;
 use std::process::Abort;
 use std::test::Fail;
@@ -32,29 +32,32 @@ const PICK: u32 = 7;
 /// struct Box` of 12 bytes, aligned to 8, and `union Any { Box = 1, Node = 2, Text: string = 3 }`
 fn kinds<'n>(rt: &impl Abort, alloc: Global) -> Result<Schema<'n>, Fail> {
     let rows = vec![in alloc;
-        table(alloc, b"Note", &[field(b"v", 4, one(TEXT))])?,
-        table(alloc, b"Node", &[field(b"v", 4, object(1))])?,
-        table(alloc, b"Sums", &[field(b"v", 4, many(INT))])?,
-        table(alloc, b"Notes", &[field(b"v", 4, many(TEXT))])?,
-        table(alloc, b"Nodes", &[field(b"v", 4, objects(1))])?,
-        table(alloc, b"Holder", &[field(b"v", 4, object(8))])?,
-        table(alloc, b"Boxes", &[field(b"v", 4, objects(8))])?,
+        table(alloc, b"Note", &[field(b"v", 4, one(STRING))])?,
+        table(alloc, b"Node", &[field(b"v", 4, one(OBJ).naming(1))])?,
+        table(alloc, b"Sums", &[field(b"v", 4, vector(INT))])?,
+        table(alloc, b"Notes", &[field(b"v", 4, vector(STRING))])?,
+        table(alloc, b"Nodes", &[field(b"v", 4, vector(OBJ).naming(1))])?,
+        table(alloc, b"Holder", &[field(b"v", 4, one(OBJ).naming(8))])?,
+        table(alloc, b"Boxes", &[field(b"v", 4, vector(OBJ).naming(8))])?,
         table(
             alloc,
             b"Pick",
-            &[field(b"v_type", 4, one(1)), field(b"v", 6, union(0))]
+            &[
+                field(b"v_type", 4, one(UTYPE)),
+                field(b"v", 6, one(UNION).naming(0))
+            ]
         )?,
         structure(alloc, b"Box", 12, 8, &[])?,
     ]?;
-    let any = EnumRow {
-        name: b"Any",
-        members: vec![in alloc;
-            member(b"Box", 1, object(8)),
-            member(b"Node", 2, object(1)),
-            member(b"Text", 3, one(TEXT)),
-        ]?,
-        is_union: true,
-    };
+    let any = union(
+        alloc,
+        b"Any",
+        &[
+            member(b"Box", 1, one(OBJ).naming(8)),
+            member(b"Node", 2, one(OBJ).naming(1)),
+            member(b"Text", 3, one(STRING)),
+        ],
+    )?;
     built(rt, alloc, rows, vec![in alloc; any]?)
 }
 

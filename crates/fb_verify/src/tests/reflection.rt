@@ -1,9 +1,8 @@
 //! The schema of schema files (reflection.fbs), with the fields that a reader of them must have.
 
-use super::rows::{
-    BOOL, BYTE, DOUBLE, INT, LONG, TEXT, ULONG, USHORT, built, deprecated, field, many, object,
-    objects, one, required, table,
-};
+use super::rows::{built, deprecated, required};
+use fb_schema::base_type::{BOOL, BYTE, DOUBLE, INT, LONG, OBJ, STRING, ULONG, USHORT};
+use fb_schema::builders::{field, one, table, vector};
 use fb_schema::{ObjectRow, Schema};
 use std::alloc::{AllocError, Global};
 use std::process::Abort;
@@ -48,7 +47,10 @@ fn key_value_table<'n>(alloc: Global) -> Result<ObjectRow<'n>, AllocError> {
     table(
         alloc,
         b"KeyValue",
-        &[field(b"key", 4, one(TEXT)), field(b"value", 6, one(TEXT))],
+        &[
+            field(b"key", 4, one(STRING)),
+            field(b"value", 6, one(STRING)),
+        ],
     )
 }
 
@@ -57,12 +59,12 @@ fn enum_val_table<'n>(alloc: Global) -> Result<ObjectRow<'n>, AllocError> {
         alloc,
         b"EnumVal",
         &[
-            required(b"name", 4, one(TEXT)),
+            required(b"name", 4, one(STRING)),
             field(b"value", 6, one(LONG)),
-            deprecated(b"object", 8, object(OBJECT)),
-            field(b"union_type", 10, object(TYPE)),
-            field(b"documentation", 12, many(TEXT)),
-            field(b"attributes", 14, objects(KEY_VALUE)),
+            deprecated(b"object", 8, one(OBJ).naming(OBJECT)),
+            field(b"union_type", 10, one(OBJ).naming(TYPE)),
+            field(b"documentation", 12, vector(STRING)),
+            field(b"attributes", 14, vector(OBJ).naming(KEY_VALUE)),
         ],
     )
 }
@@ -72,13 +74,13 @@ fn enum_table<'n>(alloc: Global) -> Result<ObjectRow<'n>, AllocError> {
         alloc,
         b"Enum",
         &[
-            required(b"name", 4, one(TEXT)),
-            required(b"values", 6, objects(ENUM_VAL)),
+            required(b"name", 4, one(STRING)),
+            required(b"values", 6, vector(OBJ).naming(ENUM_VAL)),
             field(b"is_union", 8, one(BOOL)),
-            field(b"underlying_type", 10, object(TYPE)),
-            field(b"attributes", 12, objects(KEY_VALUE)),
-            field(b"documentation", 14, many(TEXT)),
-            field(b"declaration_file", 16, one(TEXT)),
+            field(b"underlying_type", 10, one(OBJ).naming(TYPE)),
+            field(b"attributes", 12, vector(OBJ).naming(KEY_VALUE)),
+            field(b"documentation", 14, vector(STRING)),
+            field(b"declaration_file", 16, one(STRING)),
         ],
     )
 }
@@ -88,8 +90,8 @@ fn field_table<'n>(alloc: Global) -> Result<ObjectRow<'n>, AllocError> {
         alloc,
         b"Field",
         &[
-            required(b"name", 4, one(TEXT)),
-            required(b"type", 6, object(TYPE)),
+            required(b"name", 4, one(STRING)),
+            required(b"type", 6, one(OBJ).naming(TYPE)),
             field(b"id", 8, one(USHORT)),
             field(b"offset", 10, one(USHORT)),
             field(b"default_integer", 12, one(LONG)),
@@ -97,8 +99,8 @@ fn field_table<'n>(alloc: Global) -> Result<ObjectRow<'n>, AllocError> {
             field(b"deprecated", 16, one(BOOL)),
             field(b"required", 18, one(BOOL)),
             field(b"key", 20, one(BOOL)),
-            field(b"attributes", 22, objects(KEY_VALUE)),
-            field(b"documentation", 24, many(TEXT)),
+            field(b"attributes", 22, vector(OBJ).naming(KEY_VALUE)),
+            field(b"documentation", 24, vector(STRING)),
             field(b"optional", 26, one(BOOL)),
             deprecated(b"padding", 28, one(USHORT)),
             field(b"offset64", 30, one(BOOL)),
@@ -111,14 +113,14 @@ fn object_table<'n>(alloc: Global) -> Result<ObjectRow<'n>, AllocError> {
         alloc,
         b"Object",
         &[
-            required(b"name", 4, one(TEXT)),
-            required(b"fields", 6, objects(FIELD)),
+            required(b"name", 4, one(STRING)),
+            required(b"fields", 6, vector(OBJ).naming(FIELD)),
             field(b"is_struct", 8, one(BOOL)),
             field(b"minalign", 10, one(INT)),
             field(b"bytesize", 12, one(INT)),
-            field(b"attributes", 14, objects(KEY_VALUE)),
-            field(b"documentation", 16, many(TEXT)),
-            field(b"declaration_file", 18, one(TEXT)),
+            field(b"attributes", 14, vector(OBJ).naming(KEY_VALUE)),
+            field(b"documentation", 16, vector(STRING)),
+            field(b"declaration_file", 18, one(STRING)),
         ],
     )
 }
@@ -128,11 +130,11 @@ fn call_table<'n>(alloc: Global) -> Result<ObjectRow<'n>, AllocError> {
         alloc,
         b"RPCCall",
         &[
-            field(b"name", 4, one(TEXT)),
-            field(b"request", 6, object(OBJECT)),
-            field(b"response", 8, object(OBJECT)),
-            field(b"attributes", 10, objects(KEY_VALUE)),
-            field(b"documentation", 12, many(TEXT)),
+            field(b"name", 4, one(STRING)),
+            field(b"request", 6, one(OBJ).naming(OBJECT)),
+            field(b"response", 8, one(OBJ).naming(OBJECT)),
+            field(b"attributes", 10, vector(OBJ).naming(KEY_VALUE)),
+            field(b"documentation", 12, vector(STRING)),
         ],
     )
 }
@@ -142,11 +144,11 @@ fn service_table<'n>(alloc: Global) -> Result<ObjectRow<'n>, AllocError> {
         alloc,
         b"Service",
         &[
-            field(b"name", 4, one(TEXT)),
-            field(b"calls", 6, objects(CALL)),
-            field(b"attributes", 8, objects(KEY_VALUE)),
-            field(b"documentation", 10, many(TEXT)),
-            field(b"declaration_file", 12, one(TEXT)),
+            field(b"name", 4, one(STRING)),
+            field(b"calls", 6, vector(OBJ).naming(CALL)),
+            field(b"attributes", 8, vector(OBJ).naming(KEY_VALUE)),
+            field(b"documentation", 10, vector(STRING)),
+            field(b"declaration_file", 12, one(STRING)),
         ],
     )
 }
@@ -156,8 +158,8 @@ fn file_table<'n>(alloc: Global) -> Result<ObjectRow<'n>, AllocError> {
         alloc,
         b"SchemaFile",
         &[
-            field(b"filename", 4, one(TEXT)),
-            field(b"included_filenames", 6, many(TEXT)),
+            field(b"filename", 4, one(STRING)),
+            field(b"included_filenames", 6, vector(STRING)),
         ],
     )
 }
@@ -167,14 +169,14 @@ fn schema_table<'n>(alloc: Global) -> Result<ObjectRow<'n>, AllocError> {
         alloc,
         b"Schema",
         &[
-            required(b"objects", 4, objects(OBJECT)),
-            required(b"enums", 6, objects(ENUM)),
-            field(b"file_ident", 8, one(TEXT)),
-            field(b"file_ext", 10, one(TEXT)),
-            field(b"root_table", 12, object(OBJECT)),
-            field(b"services", 14, objects(SERVICE)),
+            required(b"objects", 4, vector(OBJ).naming(OBJECT)),
+            required(b"enums", 6, vector(OBJ).naming(ENUM)),
+            field(b"file_ident", 8, one(STRING)),
+            field(b"file_ext", 10, one(STRING)),
+            field(b"root_table", 12, one(OBJ).naming(OBJECT)),
+            field(b"services", 14, vector(OBJ).naming(SERVICE)),
             field(b"advanced_features", 16, one(ULONG)),
-            field(b"fbs_files", 18, objects(FILE)),
+            field(b"fbs_files", 18, vector(OBJ).naming(FILE)),
         ],
     )
 }

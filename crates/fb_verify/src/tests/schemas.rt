@@ -1,9 +1,8 @@
 //! The schemas of the worked buffers.
 
-use super::rows::{
-    INT, LONG, SHORT, TEXT, UBYTE, UTYPE, built, field, many, member, object, objects, one,
-    one_table, required, structure, table, union, unions,
-};
+use super::rows::{built, one_table, required};
+use fb_schema::base_type::{INT, LONG, OBJ, SHORT, STRING, UBYTE, UNION, UTYPE};
+use fb_schema::builders::{field, member, one, structure, table, union, vector};
 use fb_schema::{EnumRow, Schema};
 use std::alloc::{AllocError, Global};
 use std::process::Abort;
@@ -14,7 +13,7 @@ pub fn monsters<'n>(rt: &impl Abort, alloc: Global) -> Result<Schema<'n>, Fail> 
     one_table(
         rt,
         alloc,
-        &[field(b"hp", 4, one(SHORT)), field(b"name", 6, one(TEXT))],
+        &[field(b"hp", 4, one(SHORT)), field(b"name", 6, one(STRING))],
     )
 }
 
@@ -25,12 +24,12 @@ pub fn longs<'n>(rt: &impl Abort, alloc: Global) -> Result<Schema<'n>, Fail> {
 
 /// `table Root { s: string (required); }`
 pub fn named<'n>(rt: &impl Abort, alloc: Global) -> Result<Schema<'n>, Fail> {
-    one_table(rt, alloc, &[required(b"s", 4, one(TEXT))])
+    one_table(rt, alloc, &[required(b"s", 4, one(STRING))])
 }
 
 /// `table Root { l: [long]; }`
 pub fn vectors_of_longs<'n>(rt: &impl Abort, alloc: Global) -> Result<Schema<'n>, Fail> {
-    one_table(rt, alloc, &[field(b"l", 4, many(LONG))])
+    one_table(rt, alloc, &[field(b"l", 4, vector(LONG))])
 }
 
 /// `table Root { a: [string]; b: [string]; }`
@@ -38,7 +37,10 @@ pub fn vectors_of_texts<'n>(rt: &impl Abort, alloc: Global) -> Result<Schema<'n>
     one_table(
         rt,
         alloc,
-        &[field(b"a", 4, many(TEXT)), field(b"b", 6, many(TEXT))],
+        &[
+            field(b"a", 4, vector(STRING)),
+            field(b"b", 6, vector(STRING)),
+        ],
     )
 }
 
@@ -60,13 +62,16 @@ pub fn nodes<'n>(rt: &impl Abort, alloc: Global) -> Result<Schema<'n>, Fail> {
     one_table(
         rt,
         alloc,
-        &[field(b"a", 4, object(0)), field(b"b", 6, object(0))],
+        &[
+            field(b"a", 4, one(OBJ).naming(0)),
+            field(b"b", 6, one(OBJ).naming(0)),
+        ],
     )
 }
 
 /// `table Root { next: Root; }`
 pub fn lists<'n>(rt: &impl Abort, alloc: Global) -> Result<Schema<'n>, Fail> {
-    one_table(rt, alloc, &[field(b"next", 4, object(0))])
+    one_table(rt, alloc, &[field(b"next", 4, one(OBJ).naming(0))])
 }
 
 /// The number of the table `Parent` in `families`.
@@ -82,9 +87,12 @@ pub fn families<'n>(rt: &impl Abort, alloc: Global) -> Result<Schema<'n>, Fail> 
         table(
             alloc,
             b"Parent",
-            &[field(b"c", 4, object(0)), field(b"s", 6, one(TEXT))]
+            &[
+                field(b"c", 4, one(OBJ).naming(0)),
+                field(b"s", 6, one(STRING))
+            ]
         )?,
-        table(alloc, b"Many", &[field(b"cs", 4, objects(0))])?,
+        table(alloc, b"Many", &[field(b"cs", 4, vector(OBJ).naming(0))])?,
     ]?;
     built(rt, alloc, objects, Vec::new(alloc))
 }
@@ -104,14 +112,17 @@ pub fn members<'n>(rt: &impl Abort, alloc: Global) -> Result<Schema<'n>, Fail> {
         table(
             alloc,
             b"One",
-            &[field(b"u_type", 4, one(UTYPE)), field(b"u", 6, union(0))]
+            &[
+                field(b"u_type", 4, one(UTYPE)),
+                field(b"u", 6, one(UNION).naming(0))
+            ]
         )?,
         table(
             alloc,
             b"Several",
             &[
-                field(b"us_type", 4, many(UTYPE)),
-                field(b"us", 6, unions(0))
+                field(b"us_type", 4, vector(UTYPE)),
+                field(b"us", 6, vector(UNION).naming(0))
             ]
         )?,
     ]?;
@@ -120,13 +131,10 @@ pub fn members<'n>(rt: &impl Abort, alloc: Global) -> Result<Schema<'n>, Fail> {
 }
 
 fn union_of_three<'n>(alloc: Global) -> Result<EnumRow<'n>, AllocError> {
-    Ok(EnumRow {
-        name: b"U",
-        members: vec![in alloc;
-            member(b"A", 1, object(0)),
-            member(b"W", 2, object(1)),
-            member(b"T", 3, one(TEXT)),
-        ]?,
-        is_union: true,
-    })
+    let members = [
+        member(b"A", 1, one(OBJ).naming(0)),
+        member(b"W", 2, one(OBJ).naming(1)),
+        member(b"T", 3, one(STRING)),
+    ];
+    union(alloc, b"U", &members)
 }
