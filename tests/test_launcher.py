@@ -10,7 +10,7 @@ import time
 
 import outside
 
-TOOLS = ["env", "bash", "dirname", "find", "touch", "cat", "mkdir", "cp"]
+TOOLS = ["env", "bash", "dirname", "readlink", "find", "touch", "cat", "mkdir", "cp"]
 CRATES = """# NAME: a comment
 fbcheck_more: other
 low:
@@ -84,9 +84,9 @@ class Copy:
         path.unlink(missing_ok=True)
         return text
 
-    def call(self, *words, folder=None, **more):
+    def call(self, *words, script="fbcheck", folder=None, **more):
         environment = {"PATH": str(self.bin), "CALLS": str(self.top / "calls"), **more}
-        command = [self.top / "fbcheck", *words]
+        command = [self.top / script, *words]
         ran = subprocess.run(command, input=b"input", capture_output=True, cwd=folder, env=environment, timeout=60)
         return outside.Ran(ran.returncode, ran.stdout, ran.stderr)
 
@@ -112,6 +112,10 @@ def a_call_from_elsewhere(cases):
     ran = copy.call(*WORDS, folder="/")
     cases.same("from another folder, of one with a space in its name", (ran.status, ran.out, copy.calls()),
                (3, RAN.out, ONE_CALL))
+    (copy.top / "a link").symlink_to(copy.top / "fbcheck")
+    cases.same("by a link, the same program", copy.call(*WORDS, script="a link", folder="/"), RAN)
+    (copy.bin / "a link").symlink_to("../a link")
+    cases.same("by a link to a link", copy.call(*WORDS, script="bin/a link", folder="/"), RAN)
 
 
 def without_rt(cases):

@@ -12,7 +12,7 @@ mod tests;
 
 /// The string at `to.name` of a good buffer; none where it is absent, or anything is wrong.
 pub fn name_in<'b>(alloc: Global, schema_file: &[u8], buffer: &'b [u8]) -> Option<&'b [u8]> {
-    // Once for all buffers: the schema with its root table, the path, and room for the walk.
+    // A server does this once: the schema with its root table, the path, and room for the walk.
     let limits = Limits::published();
     let loaded = load(alloc, schema_file, limits).ok()?;
     let root = loaded.root?;
