@@ -30,9 +30,9 @@ def write(path, text):
     path.chmod(0o755)
 
 
-def called(top, *words):
-    ran = subprocess.run([top / "test", *words], capture_output=True, env={"PATH": str(top / "bin")}, timeout=60,
-                         text=True)
+def called(top, *words, **environment):
+    ran = subprocess.run([top / "test", *words], capture_output=True, env={"PATH": str(top / "bin"), **environment},
+                         timeout=60, text=True)
     return ran.returncode, ran.stdout.splitlines(), ran.stderr
 
 
@@ -66,6 +66,20 @@ def counts_are_added(cases):
         cases.holds(f"{name}: the output of rt ci is shown", "== rt ci" in out, out)
 
 
+def checks_stand_side_by_side(cases):
+    for name, environment, cores, want in [
+        ("one a core", {}, "echo 2", "2"),
+        ("as many as memory holds", {}, "echo 4000", None),
+        ("one where the cores aren't known", {}, "exit 1", "1"),
+        ("as many as the caller says", {"RT_JOBS": "7"}, "echo 2", "7"),
+    ]:
+        top = folder_of(f"jobs {name}", {"rt": f'echo "jobs $RT_JOBS"\n{tells(1, 0)}', "nproc": cores})
+        write(top / "tests" / "test_0.py", tells(1, 0))
+        _, out, _ = called(top, **environment)
+        told = [line.removeprefix("jobs ") for line in out if line.startswith("jobs ")]
+        cases.holds(f"{name}: {told}", len(told) == 1 and (told[0] == want if want else 1 <= int(told[0]) < 4000), out)
+
+
 def what_is_missing_is_named(cases):
     for missing, text in [("rt", "rt, the command of the Rattle toolchain"), ("python3", "python3, which runs"),
                           ("cc", "cc, a C compiler")]:
@@ -94,4 +108,7 @@ def other_words_are_refused(cases):
 
 
 if __name__ == "__main__":
-    outside.main(counts_are_added, what_is_missing_is_named, from_outside_alone, other_words_are_refused)
+    outside.main(
+        counts_are_added, checks_stand_side_by_side, what_is_missing_is_named, from_outside_alone,
+        other_words_are_refused,
+    )
