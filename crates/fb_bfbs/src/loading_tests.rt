@@ -184,6 +184,24 @@ fn limits_are_those_of_the_caller(rt: HostRuntime) -> Result<(), Fail> {
 }
 
 #[test]
+fn a_budget_of_reads_is_that_of_the_caller(rt: HostRuntime) -> Result<(), Fail> {
+    let bytes = plain_file(rt.alloc())?;
+    assert!(rt; load(rt.alloc(), &bytes, Limits::published().with_reads(91)).is_ok());
+    let fault = load(rt.alloc(), &bytes, Limits::published().with_reads(90)).err();
+    assert_eq!(rt;
+        fault,
+        Some(LoadFault::NotWellFormed(Fault {
+            at: 172,
+            object: 4,
+            field: Some(3),
+            reason: Reason::TooManyReads,
+            reads: 91,
+        }))
+    );
+    Ok(())
+}
+
+#[test]
 fn texts_of_the_other_faults(rt: HostRuntime) {
     let fault = LoadFault::BadSchema(SchemaFault {
         code: Code::NameTwice,
