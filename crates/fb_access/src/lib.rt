@@ -21,18 +21,3 @@ pub use path::Path;
 pub use path_fault::PathFault;
 pub use place::{Place, at_root, get};
 pub use step::Step;
-
-#[cfg(test)]
-mod cases;
-#[cfg(test)]
-mod fixtures;
-#[cfg(test)]
-mod get_tests;
-#[cfg(test)]
-mod grammar_tests;
-#[cfg(test)]
-mod path_tests;
-#[cfg(test)]
-mod tests;
-#[cfg(test)]
-mod value_tests;

@@ -15,14 +15,3 @@ mod values;
 pub use fixed::reflection;
 pub use load_fault::LoadFault;
 pub use loading::{Loaded, load};
-
-#[cfg(test)]
-mod fixtures;
-#[cfg(test)]
-mod loading_tests;
-#[cfg(test)]
-mod lookup_tests;
-#[cfg(test)]
-mod sweep_tests;
-#[cfg(test)]
-mod tests;

@@ -9,13 +9,9 @@
 pub mod counted;
 pub mod ends;
 pub mod framer;
-#[cfg(test)]
-mod framer_tests;
 pub mod messages;
 pub mod meter;
 pub mod stream_fault;
-#[cfg(test)]
-mod tests;
 pub mod window;
 
 pub use counted::Counted;

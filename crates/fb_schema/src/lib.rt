@@ -28,18 +28,3 @@ pub use kinds::{Kind, Scalar};
 pub use rows::{EnumRow, FieldRow, MemberRow, ObjectRow, TypeRow};
 pub use schema::Schema;
 pub use views::{FieldView, ObjectView};
-
-#[cfg(test)]
-mod builders_tests;
-#[cfg(test)]
-mod cases;
-#[cfg(test)]
-mod demands_tests;
-#[cfg(test)]
-mod lookup_tests;
-#[cfg(test)]
-mod member_demands_tests;
-#[cfg(test)]
-mod plain;
-#[cfg(test)]
-mod tests;

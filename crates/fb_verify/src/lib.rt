@@ -29,8 +29,3 @@ pub use scratch::{Scratch, ScratchFault};
 pub use start::{Ident, Start};
 pub use verdict::walk;
 pub use verified::{Verified, verify};
-
-#[cfg(test)]
-mod fault_tests;
-#[cfg(test)]
-mod tests;

@@ -4,13 +4,7 @@
 #![tactic(auto)]
 
 pub mod checker;
-#[cfg(test)]
-mod checker_tests;
 mod kinds;
 pub mod rows;
-#[cfg(test)]
-mod rows_tests;
 mod tree;
-#[cfg(test)]
-mod value_tests;
 pub mod values;

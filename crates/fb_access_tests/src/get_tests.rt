@@ -1,0 +1,38 @@
+// A path by names, from its text to its value.
+
+use crate::fixtures::monsters;
+use fb_access::{Answer, Path, get};
+use fb_bytes::Meter;
+use fb_verify::{Checks, Ident, Limits, Scratch, Start, verify};
+use std::test::Fail;
+
+/// The hit points 300, and the name "Orc".
+const ORC: [u8; 32] = [
+    12, 0, 0, 0, 8, 0, 12, 0, 8, 0, 4, 0, 8, 0, 0, 0, 8, 0, 0, 0, 0x2c, 1, 0, 0, 3, 0, 0, 0, 0x4f,
+    0x72, 0x63, 0,
+];
+
+#[test]
+fn a_path_by_names_has_its_value(rt: HostRuntime) -> Result<(), Fail> {
+    let schema = monsters(&rt, rt.alloc())?;
+    let meter = Meter::new(&ORC).ok().ok_or("too long")?;
+    let mut scratch = Scratch::new(rt.alloc(), 64).ok().ok_or("out of memory")?;
+    assert!(rt; schema.is_table(0));
+    let Ok(verified) = verify(
+        meter,
+        &schema,
+        0,
+        Start::Bare,
+        Ident::Any,
+        Limits::published(),
+        Checks::published(),
+        &mut scratch,
+    ) else {
+        return Err(Fail::from("a no"));
+    };
+    let Ok(path) = Path::resolve(rt.alloc(), &schema, 0, b"name") else {
+        return Err(Fail::from("no path"));
+    };
+    assert_eq!(rt; get(&verified, &path), Answer::Text(b"Orc"));
+    Ok(())
+}

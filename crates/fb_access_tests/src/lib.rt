@@ -1,0 +1,18 @@
+//! Tests of `fb_access`: worked paths and the values that they lead to. Tests of a library stand in a crate of their
+//! own, since a check of tests proves all of the crate that they stand in once more.
+#![tactic(auto)]
+
+#[cfg(test)]
+mod cases;
+#[cfg(test)]
+mod fixtures;
+#[cfg(test)]
+mod get_tests;
+#[cfg(test)]
+mod grammar_tests;
+#[cfg(test)]
+mod path_tests;
+#[cfg(test)]
+mod tests;
+#[cfg(test)]
+mod value_tests;

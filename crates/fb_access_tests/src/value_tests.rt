@@ -1,0 +1,244 @@
+//! Elements past the first, numbers of every width with their sign, and defaults that are wider than their scalar.
+
+use crate::cases::{all_answered, base, bytes_of};
+use crate::fixtures::{answer_at, bare, built, one_table, scalar, unions};
+use fb_access::Answer;
+use fb_access::step::Step::{Element, Field};
+use fb_schema::Schema;
+use fb_schema::base_type::{BOOL, INT, OBJ, STRING};
+use fb_schema::builders::{field, one, structure, table, vector};
+use std::alloc::{AllocError, Global};
+use std::process::Abort;
+use std::test::Fail;
+
+/// A vector at 20 of three elements. From 24 on 36 bytes stand there that count up from 0x80.
+const THREE: &str = "
+    0c000000 06000800 04000000 08000000 04000000 03000000 80818283 84858687 88898a8b 8c8d8e8f
+    90919293 94959697 98999a9b 9c9d9e9f a0a1a2a3
+";
+
+/// Scalar base types, with elements 1 and 2 of these bytes. Numbers are in hexadecimal.
+const ELEMENTS: &str = "\
+    utype  | UInt(0x81)                                      | UInt(0x82)\n\
+    bool   | Bool(true)                                      | Bool(true)\n\
+    byte   | Int(-0x7f)                                      | Int(-0x7e)\n\
+    ubyte  | UInt(0x81)                                      | UInt(0x82)\n\
+    short  | Int(-0x7c7e)                                    | Int(-0x7a7c)\n\
+    ushort | UInt(0x8382)                                    | UInt(0x8584)\n\
+    int    | Int(-0x78797a7c)                                | Int(-0x74757678)\n\
+    uint   | UInt(0x87868584)                                | UInt(0x8b8a8988)\n\
+    long   | Int(-0x7071727374757678)                        | Int(-0x68696a6b6c6d6e70)\n\
+    ulong  | UInt(0x8f8e8d8c8b8a8988)                        | UInt(0x9796959493929190)\n\
+    float  | Float([132, 133, 134, 135])                     | Float([136, 137, 138, 139])\n\
+    double | Float([136, 137, 138, 139, 140, 141, 142, 143]) | Float([144, 145, 146, 147, 148, 149, 150, 151])\n\
+";
+
+/// An answer as `{:?}` writes it, but its number in hexadecimal.
+fn in_hex(alloc: Global, answer: Answer<'_>) -> Result<String, AllocError> {
+    match answer {
+        Answer::UInt(number) => format!(in alloc; "UInt(0x{number:x})"),
+        Answer::Int(number) if number < 0 => {
+            let size = number.unsigned_abs();
+            format!(in alloc; "Int(-0x{size:x})")
+        }
+        _ => format!(in alloc; "{answer:?}"),
+    }
+}
+
+/// Asserts that this element of a vector of this base type is this.
+fn element_is(
+    rt: &impl Abort,
+    alloc: Global,
+    schema: &Schema,
+    element: u32,
+    want: &str,
+) -> Result<(), Fail> {
+    let bytes = bytes_of(alloc, THREE)?;
+    let steps = [Field(0), Element(element)];
+    let answer = answer_at(rt, alloc, &bytes, schema, bare(0), &steps)?;
+    let told = in_hex(alloc, answer)?;
+    assert_eq!(rt; told.as_str(), want, "element {element}");
+    Ok(())
+}
+
+#[test]
+fn an_element_of_every_scalar_stands_behind_those_before(rt: HostRuntime) -> Result<(), Fail> {
+    let alloc = rt.alloc();
+    for line in ELEMENTS.lines() {
+        let (name, wanted) = line.split_once('|').ok_or("no case")?;
+        let (second, third) = wanted.split_once('|').ok_or("no third")?;
+        let base = base(name.trim_ascii()).ok_or("no base type")?;
+        let schema = one_table(&rt, alloc, &[field(b"l", 4, vector(base))])?;
+        element_is(&rt, alloc, &schema, 1, second.trim_ascii())?;
+        element_is(&rt, alloc, &schema, 2, third.trim_ascii())?;
+        element_is(&rt, alloc, &schema, 3, "NoElement")?;
+    }
+    Ok(())
+}
+
+/// The first bytes of these, with a 0 at 25.
+const FALSE: &str = "0c000000 06000800 04000000 08000000 04000000 03000000 80008283";
+
+#[test]
+fn a_bool_of_a_vector_is_false_where_its_byte_is_0(rt: HostRuntime) -> Result<(), Fail> {
+    let alloc = rt.alloc();
+    let schema = one_table(&rt, alloc, &[field(b"l", 4, vector(BOOL))])?;
+    all_answered(&rt, alloc, FALSE, &schema, bare(0), ".0 [1] | Bool(false)")
+}
+
+const BOXES: &str = "\
+    .0 [0] | Struct([128, 129, 130, 131, 132, 133, 134, 135, 136, 137, 138, 139])\n\
+    .0 [1] | Struct([140, 141, 142, 143, 144, 145, 146, 147, 148, 149, 150, 151])\n\
+    .0 [2] | Struct([152, 153, 154, 155, 156, 157, 158, 159, 160, 161, 162, 163])\n\
+    .0 [3] | NoElement\n\
+";
+
+#[test]
+fn structs_of_12_bytes_stand_12_bytes_apart(rt: HostRuntime) -> Result<(), Fail> {
+    let alloc = rt.alloc();
+    let twelve = structure(alloc, b"Box", 12, 4, &[])?;
+    let root = table(alloc, b"Boxes", &[field(b"l", 4, vector(OBJ).naming(1))])?;
+    let schema = built(&rt, alloc, vec![in alloc; root, twelve]?, Vec::new(alloc))?;
+    all_answered(&rt, alloc, THREE, &schema, bare(0), BOXES)
+}
+
+/// Three texts by the words from 28 on, and three tables by those from 44 on.
+const LISTS: &str = "
+    0c000000 08000c00 04000800 08000000 08000000 14000000 03000000 1c000000 20000000 24000000
+    03000000 2c000000 30000000 34000000 01000000 61000000 02000000 62630000 00000000 00000000
+    06000800 04000000 08000000 01000000 10000000 02000000 18000000 ffffffff
+";
+
+const LISTED: &str = "\
+    .0 [0]    | Text(\"a\")\n\
+    .0 [1]    | Text(\"bc\")\n\
+    .0 [2]    | Text(\"\")\n\
+    .0 [3]    | NoElement\n\
+    .1 [1] .0 | Int(2)\n\
+    .1 [2] .0 | Int(-1)\n\
+    .1 [3] .0 | NoElement\n\
+";
+
+#[test]
+fn texts_and_tables_past_the_first_are_their_own(rt: HostRuntime) -> Result<(), Fail> {
+    let alloc = rt.alloc();
+    let fields = [
+        field(b"texts", 4, vector(STRING)),
+        field(b"tables", 6, vector(OBJ).naming(1)),
+    ];
+    let objects = vec![in alloc;
+        table(alloc, b"L", &fields)?,
+        table(alloc, b"A", &[field(b"v", 4, one(INT))])?,
+    ]?;
+    let schema = built(&rt, alloc, objects, Vec::new(alloc))?;
+    all_answered(&rt, alloc, LISTS, &schema, bare(0), LISTED)
+}
+
+/// Three unions: the types 3, 2 and 1 from 28 on, a text at 48, a struct at 56 and a table at 72.
+const UNIONS: &str = "
+    0c000000 08000c00 04000800 08000000 08000000 0c000000 03000000 03020100 03000000 0c000000
+    10000000 1c000000 02000000 68690000 07000000 00000009 06000800 04000000 08000000 05000000
+";
+
+const UNITED: &str = "\
+    .0 [1]       | UInt(2)\n\
+    .0 [2]       | UInt(1)\n\
+    .1 [0] @3    | Text(\"hi\")\n\
+    .1 [1]       | Union(2)\n\
+    .1 [1] @2    | Struct([7, 0, 0, 0, 0, 0, 0, 9])\n\
+    .1 [1] @3    | OtherMember\n\
+    .1 [2]       | Union(1)\n\
+    .1 [2] @1 .0 | Int(5)\n\
+    .1 [3]       | NoElement\n\
+";
+
+#[test]
+fn unions_past_the_first_have_types_of_their_own(rt: HostRuntime) -> Result<(), Fail> {
+    let alloc = rt.alloc();
+    let schema = unions(&rt, alloc)?;
+    all_answered(&rt, alloc, UNIONS, &schema, bare(3), UNITED)
+}
+
+/// A field at 16, and there 8 bytes that count up from 0x80.
+const ONE: &str = "
+    0c000000 06000c00 04000000 08000000 80818283 84858687
+";
+
+/// Scalar base types, with the number that those bytes are. Numbers are in hexadecimal.
+const WIDTHS: &str = "\
+    utype  | UInt(0x80)\n\
+    bool   | Bool(true)\n\
+    byte   | Int(-0x80)\n\
+    ubyte  | UInt(0x80)\n\
+    short  | Int(-0x7e80)\n\
+    ushort | UInt(0x8180)\n\
+    int    | Int(-0x7c7d7e80)\n\
+    uint   | UInt(0x83828180)\n\
+    long   | Int(-0x78797a7b7c7d7e80)\n\
+    ulong  | UInt(0x8786858483828180)\n\
+";
+
+#[test]
+fn a_number_of_every_width_has_its_sign(rt: HostRuntime) -> Result<(), Fail> {
+    let alloc = rt.alloc();
+    let bytes = bytes_of(alloc, ONE)?;
+    for line in WIDTHS.lines() {
+        let (name, want) = line.split_once('|').ok_or("no case")?;
+        let base = base(name.trim_ascii()).ok_or("no base type")?;
+        let schema = one_table(&rt, alloc, &[field(b"v", 4, one(base))])?;
+        let answer = answer_at(&rt, alloc, &bytes, &schema, bare(0), &[Field(0)])?;
+        let told = in_hex(alloc, answer)?;
+        assert_eq!(rt; told.as_str(), want.trim_ascii(), "{name}");
+    }
+    Ok(())
+}
+
+/// A table without fields.
+const EMPTY: &str = "08000000 04000400 04000000";
+
+/// Scalar base types, a default, and the answer where the field is absent.
+const DEFAULTS: &str = "\
+    utype  | 257        | UInt(1)\n\
+    utype  | -1         | UInt(255)\n\
+    bool   | 256        | Bool(false)\n\
+    bool   | 258        | Bool(true)\n\
+    bool   | -256       | Bool(false)\n\
+    byte   | 128        | Int(-128)\n\
+    byte   | 255        | Int(-1)\n\
+    byte   | 256        | Int(0)\n\
+    byte   | -129       | Int(127)\n\
+    ubyte  | -1         | UInt(255)\n\
+    ubyte  | 256        | UInt(0)\n\
+    short  | 32768      | Int(-32768)\n\
+    short  | 65537      | Int(1)\n\
+    short  | -32769     | Int(32767)\n\
+    ushort | -1         | UInt(65535)\n\
+    ushort | 65536      | UInt(0)\n\
+    int    | 2147483648 | Int(-2147483648)\n\
+    int    | 4294967295 | Int(-1)\n\
+    int    | 4294967296 | Int(0)\n\
+    uint   | -1         | UInt(4294967295)\n\
+    uint   | 4294967297 | UInt(1)\n\
+    long   | -1         | Int(-1)\n\
+    ulong  | -1         | UInt(18446744073709551615)\n\
+    ulong  | -2         | UInt(18446744073709551614)\n\
+    float  | 1          | Absent\n\
+    double | 1          | Absent\n\
+";
+
+#[test]
+fn an_absent_scalar_is_what_its_low_bytes_are(rt: HostRuntime) -> Result<(), Fail> {
+    let alloc = rt.alloc();
+    let bytes = bytes_of(alloc, EMPTY)?;
+    for line in DEFAULTS.lines() {
+        let (name, case) = line.split_once('|').ok_or("no case")?;
+        let (default, want) = case.split_once('|').ok_or("no answer")?;
+        let base = base(name.trim_ascii()).ok_or("no base type")?;
+        let default = default.trim_ascii().parse::<i64>()?;
+        let schema = one_table(&rt, alloc, &[scalar(b"v", 4, base, default)])?;
+        let answer = answer_at(&rt, alloc, &bytes, &schema, bare(0), &[Field(0)])?;
+        let told = format!(in alloc; "{answer:?}")?;
+        assert_eq!(rt; told.as_str(), want.trim_ascii(), "{name}, {default}");
+    }
+    Ok(())
+}

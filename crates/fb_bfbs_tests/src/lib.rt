@@ -1,0 +1,12 @@
+//! Tests of `fb_bfbs`: schema files of the schema compiler and files with one thing wrong. Tests of a library stand in
+//! a crate of their own, since a check of tests proves all of the crate that they stand in once more.
+#![tactic(auto)]
+
+#[cfg(test)]
+mod fixtures;
+#[cfg(test)]
+mod loading_tests;
+#[cfg(test)]
+mod sweep_tests;
+#[cfg(test)]
+mod tests;

@@ -1,0 +1,320 @@
+//! Schema files that are loaded, and why others are not.
+
+use crate::fixtures::{file_of_flatc, plain_file};
+use fb_bfbs::{LoadFault, load, reflection};
+use fb_bytes::Meter;
+use fb_schema::{Code, Kind, Scalar, SchemaFault};
+use fb_verify::{Checks, Fault, Ident, Limits, Reason, Report, Scratch, Start, verify};
+use std::alloc::{AllocError, Global};
+use std::process::Abort;
+use std::test::Fail;
+
+/// A schema file with some bytes changed.
+fn changed(alloc: Global, changes: &[(usize, u8)]) -> Result<Vec<u8>, AllocError> {
+    let mut bytes = plain_file(alloc)?;
+    for (at, byte) in changes {
+        if *at < bytes.len() {
+            bytes[*at] = *byte;
+        }
+    }
+    Ok(bytes)
+}
+
+/// Why a schema file with these changes isn't loaded.
+fn fault_of(alloc: Global, changes: &[(usize, u8)]) -> Result<LoadFault, Fail> {
+    let bytes = changed(alloc, changes)?;
+    let fault = load(alloc, &bytes, Limits::published()).err();
+    Ok(fault.ok_or("loaded")?)
+}
+
+#[test]
+fn a_table_with_a_default_is_loaded(rt: HostRuntime) -> Result<(), Fail> {
+    let bytes = plain_file(rt.alloc())?;
+    let loaded = load(rt.alloc(), &bytes, Limits::published())?;
+    assert_eq!(rt; loaded.root, Some(0));
+    assert!(rt; loaded.ident.is_none());
+    let schema = &loaded.schema;
+    assert_eq!(rt; schema.object_count(), 1);
+    assert_eq!(rt; schema.object_named(b"M"), Some(0));
+    assert!(rt; schema.is_table(0));
+    let fields = schema.fields_of(0);
+    assert_eq!(rt; fields.len(), 2);
+    let hp = fields.first().ok_or("no field")?;
+    assert!(rt; hp.name == b"hp".as_slice());
+    assert_eq!(rt; hp.slot, 4);
+    assert_eq!(rt; hp.kind, Kind::Scalar(Scalar::Short));
+    assert_eq!(rt; hp.default, 100);
+    let name = fields.get(1).ok_or("one field")?;
+    assert!(rt; name.name == b"name".as_slice());
+    assert_eq!(rt; name.slot, 6);
+    assert_eq!(rt; name.kind, Kind::Text);
+    assert!(rt; !name.required);
+    Ok(())
+}
+
+#[test]
+fn what_flatc_writes_is_loaded(rt: HostRuntime) -> Result<(), Fail> {
+    let bytes = file_of_flatc(rt.alloc())?;
+    let loaded = load(rt.alloc(), &bytes, Limits::published())?;
+    let schema = &loaded.schema;
+    assert_eq!(rt; schema.object_count(), 3);
+    let a = schema.object_named(b"A").ok_or("no A")?;
+    let q = schema.object_named(b"Q").ok_or("no Q")?;
+    let w = schema.object_named(b"W").ok_or("no W")?;
+    assert_eq!(rt; loaded.root, Some(q));
+    assert!(rt; loaded.ident.ok_or("no identifier")? == b"TEST".as_slice());
+    assert!(rt; schema.is_table(a));
+    assert!(rt; !schema.is_table(w) && w < schema.object_count());
+    assert_eq!(rt; schema.object(w).bytesize, 8);
+    assert_eq!(rt; schema.object(w).minalign, 8);
+    assert!(rt; schema.is_table(q));
+    // us_type, us, e, n and o; d is deprecated
+    let fields = schema.fields_of(q);
+    assert_eq!(rt; fields.len(), 5);
+    let us = fields.get(1).ok_or("no us")?;
+    assert!(rt; us.name == b"us".as_slice());
+    assert_eq!(rt; us.companion, Some(0));
+    let e = fields.get(2).ok_or("no e")?;
+    assert_eq!(rt; e.kind, Kind::Scalar(Scalar::UByte));
+    assert_eq!(rt; e.default, 2);
+    assert!(rt; fields.get(3).ok_or("no n")?.required);
+    assert!(rt; fields.get(4).ok_or("no o")?.optional);
+    Ok(())
+}
+
+#[test]
+fn a_union_of_flatc_has_its_members(rt: HostRuntime) -> Result<(), Fail> {
+    let bytes = file_of_flatc(rt.alloc())?;
+    let loaded = load(rt.alloc(), &bytes, Limits::published())?;
+    let schema = &loaded.schema;
+    let a = schema.object_named(b"A").ok_or("no A")?;
+    let w = schema.object_named(b"W").ok_or("no W")?;
+    let q = schema.object_named(b"Q").ok_or("no Q")?;
+    assert!(rt; schema.is_table(q));
+    let us = schema.fields_of(q).get(1).ok_or("no us")?;
+    let Kind::Unions(u) = us.kind else {
+        return Err("no unions".into());
+    };
+    assert!(rt; schema.is_union(u));
+    assert_eq!(rt; schema.member_named(u, b"A"), Some(1));
+    assert_eq!(rt; schema.member_of(u, 1), Some(Kind::Table(a)));
+    assert_eq!(rt; schema.member_of(u, 2), Some(Kind::Struct(w)));
+    assert_eq!(rt; schema.member_of(u, 3), Some(Kind::Text));
+    assert_eq!(rt; schema.member_of(u, 4), None);
+    Ok(())
+}
+
+#[test]
+fn another_identifier_is_refused(rt: HostRuntime) -> Result<(), Fail> {
+    let fault = fault_of(rt.alloc(), &[(4, 0x58)])?;
+    assert_eq!(rt;
+        fault,
+        LoadFault::NotWellFormed(Fault {
+            at: 4,
+            object: 9,
+            field: None,
+            reason: Reason::WrongIdentifier,
+            reads: 1
+        })
+    );
+    assert_eq!(rt;
+        fault.to_string(rt.alloc()).expect(&rt, "memory").as_str(),
+        "L1 V5 WrongIdentifier at=4 object=9 field=- reads=1"
+    );
+    Ok(())
+}
+
+#[test]
+fn rows_that_are_no_schema_are_refused(rt: HostRuntime) -> Result<(), Fail> {
+    let fault = fault_of(rt.alloc(), &[(156, 18)])?;
+    assert_eq!(rt;
+        fault,
+        LoadFault::BadSchema(SchemaFault {
+            code: Code::Unsupported,
+            owner: 0,
+            part: Some(0)
+        })
+    );
+    assert_eq!(rt;
+        fault.to_string(rt.alloc()).expect(&rt, "memory").as_str(),
+        "L2 C3 Unsupported owner=0 part=0"
+    );
+    Ok(())
+}
+
+#[test]
+fn a_root_that_is_not_listed_is_refused(rt: HostRuntime) -> Result<(), Fail> {
+    let fault = fault_of(rt.alloc(), &[(44, 0)])?;
+    assert_eq!(rt; fault, LoadFault::RootNotListed);
+    assert_eq!(rt;
+        fault.to_string(rt.alloc()).expect(&rt, "memory").as_str(),
+        "L3 RootNotListed"
+    );
+    Ok(())
+}
+
+#[test]
+fn a_schema_may_have_no_root(rt: HostRuntime) -> Result<(), Fail> {
+    let bytes = changed(rt.alloc(), &[(20, 0), (21, 0)])?;
+    let loaded = load(rt.alloc(), &bytes, Limits::published())?;
+    assert_eq!(rt; loaded.root, None);
+    assert_eq!(rt; loaded.schema.object_count(), 1);
+    Ok(())
+}
+
+/// Why the verifier refuses a schema file within these limits; none where it is loaded.
+fn refusal(alloc: Global, depth: u32, tables: u32) -> Result<Option<Reason>, Fail> {
+    let bytes = plain_file(alloc)?;
+    let limits = Limits::new(depth, tables)?;
+    match load(alloc, &bytes, limits) {
+        Ok(_) => Ok(None),
+        Err(LoadFault::NotWellFormed(fault)) => Ok(Some(fault.reason)),
+        Err(_) => Err("another fault".into()),
+    }
+}
+
+#[test]
+fn limits_are_those_of_the_caller(rt: HostRuntime) -> Result<(), Fail> {
+    let alloc = rt.alloc();
+    assert_eq!(rt; refusal(alloc, 3, 1000)?, Some(Reason::TooDeep));
+    assert_eq!(rt; refusal(alloc, 4, 10)?, Some(Reason::TooManyTables));
+    assert_eq!(rt; refusal(alloc, 4, 11)?, None);
+    assert_eq!(rt; refusal(alloc, 4096, 11)?, None);
+    Ok(())
+}
+
+#[test]
+fn a_budget_of_reads_is_that_of_the_caller(rt: HostRuntime) -> Result<(), Fail> {
+    let bytes = plain_file(rt.alloc())?;
+    assert!(rt; load(rt.alloc(), &bytes, Limits::published().with_reads(91)).is_ok());
+    let fault = load(rt.alloc(), &bytes, Limits::published().with_reads(90)).err();
+    assert_eq!(rt;
+        fault,
+        Some(LoadFault::NotWellFormed(Fault {
+            at: 172,
+            object: 4,
+            field: Some(3),
+            reason: Reason::TooManyReads,
+            reads: 91,
+        }))
+    );
+    Ok(())
+}
+
+#[test]
+fn texts_of_the_other_faults(rt: HostRuntime) {
+    let fault = LoadFault::BadSchema(SchemaFault {
+        code: Code::NameTwice,
+        owner: 3,
+        part: None,
+    });
+    let text = |fault: LoadFault| fault.to_string(rt.alloc()).expect(&rt, "memory");
+    assert_eq!(rt; text(fault).as_str(), "L2 C8 NameTwice owner=3 part=-");
+    assert_eq!(rt; text(LoadFault::TooLong).as_str(), "L5 TooLong");
+    assert_eq!(rt; text(LoadFault::OutOfMemory).as_str(), "L4 OutOfMemory");
+}
+
+#[test]
+fn each_reason_of_the_verifier_has_its_text(rt: HostRuntime) -> Result<(), Fail> {
+    let reasons = [
+        (Reason::WrongPrefix, "V1 WrongPrefix"),
+        (Reason::OutOfBuffer, "V2 OutOfBuffer"),
+        (Reason::Misaligned, "V3 Misaligned"),
+        (Reason::ZeroOffset, "V4 ZeroOffset"),
+        (Reason::WrongIdentifier, "V5 WrongIdentifier"),
+        (Reason::TooDeep, "V6 TooDeep"),
+        (Reason::TooManyTables, "V7 TooManyTables"),
+        (Reason::BadVtable, "V8 BadVtable"),
+        (Reason::MissingRequired, "V9 MissingRequired"),
+        (Reason::NoTerminator, "V10 NoTerminator"),
+        (Reason::LengthsDiffer, "V11 LengthsDiffer"),
+        (Reason::PastTable, "V12 PastTable"),
+        (Reason::TooManyReads, "V13 TooManyReads"),
+    ];
+    for (reason, name) in &reasons {
+        let fault = LoadFault::NotWellFormed(Fault {
+            at: 31,
+            object: 4,
+            field: Some(1),
+            reason: *reason,
+            reads: 8,
+        });
+        let text = fault.to_string(rt.alloc())?;
+        let expected = format!(in rt.alloc(); "L1 {name} at=31 object=4 field=1 reads=8")?;
+        assert_eq!(rt; text.as_str(), expected.as_str());
+    }
+    Ok(())
+}
+
+#[test]
+fn each_fault_of_rows_has_its_text(rt: HostRuntime) -> Result<(), Fail> {
+    let codes = [
+        (Code::NoSuchObject, "C1 NoSuchObject"),
+        (Code::NoSuchEnum, "C2 NoSuchEnum"),
+        (Code::Unsupported, "C3 Unsupported"),
+        (Code::BadSlot, "C4 BadSlot"),
+        (Code::NoTypeField, "C5 NoTypeField"),
+        (Code::BadStruct, "C6 BadStruct"),
+        (Code::BadMember, "C7 BadMember"),
+        (Code::NameTwice, "C8 NameTwice"),
+    ];
+    for (code, name) in &codes {
+        let fault = LoadFault::BadSchema(SchemaFault {
+            code: *code,
+            owner: 3,
+            part: Some(2),
+        });
+        let text = fault.to_string(rt.alloc())?;
+        let expected = format!(in rt.alloc(); "L2 {name} owner=3 part=2")?;
+        assert_eq!(rt; text.as_str(), expected.as_str());
+    }
+    Ok(())
+}
+
+/// What the verifier counts in a schema file by the fixed table.
+fn counted(rt: &impl Abort, alloc: Global, bytes: &[u8], ident: Ident) -> Report {
+    let schema = reflection(alloc).expect(rt, "memory");
+    let Ok(meter) = Meter::new(bytes) else {
+        panic!(rt; "too long");
+    };
+    let limits = Limits::published();
+    let mut scratch = Scratch::new(alloc, 64).ok().expect(rt, "memory");
+    assert!(rt; schema.is_table(9) && scratch.depth() >= limits.depth());
+    verify(
+        meter,
+        &schema,
+        9,
+        Start::Bare,
+        ident,
+        limits,
+        Checks::published(),
+        &mut scratch,
+    )
+    .ok()
+    .expect(rt, "well formed")
+    .report()
+}
+
+#[test]
+fn a_schema_file_is_counted_by_the_fixed_table(rt: HostRuntime) -> Result<(), Fail> {
+    let bytes = plain_file(rt.alloc())?;
+    let any = counted(&rt, rt.alloc(), &bytes, Ident::Any);
+    assert_eq!(rt;
+        any,
+        Report {
+            tables: 11,
+            depth: 4,
+            reads: 90
+        }
+    );
+    let wanted = counted(&rt, rt.alloc(), &bytes, Ident::Want(*b"BFBS"));
+    assert_eq!(rt;
+        wanted,
+        Report {
+            tables: 11,
+            depth: 4,
+            reads: 91
+        }
+    );
+    Ok(())
+}

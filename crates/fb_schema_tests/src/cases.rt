@@ -1,0 +1,199 @@
+//! Cases of the tests as text: one a line, with its name, rows, and what `build` answers of these.
+//!
+//! ```text
+//! a slot twice | A table: a@4 int, b@4 [obj]#0 gone far        | BadSlot 0.1
+//! no type      | S struct 8/4: ; U union: m=1 string, n=2 none | BadMember 0.1
+//! ```
+//!
+//! Rows are objects and enums, with a semicolon between each two: `struct BYTES/ALIGNMENT:` and `table:` have fields
+//! behind them, `union:` and `enum:` members. A field has its slot behind the `@`, a member its value behind the `=`.
+//! A type is a base type by its name in reflection.fbs or by its number; `[int]` is a vector, `[int:3]` an array, and
+//! the index stands behind a `#`. Behind a field's type `gone` says that it is deprecated, `far` that its offset has 64
+//! bits, and `required`, `optional` and `default=9` what they say. An answer is `ok`, or a code with the owner and,
+//! behind a dot, the place of the field or member.
+
+use fb_schema::builders::{array, field, member, one, plain_enum, structure, table, union, vector};
+use fb_schema::{EnumRow, FieldRow, MemberRow, ObjectRow, Schema, SchemaFault, TypeRow, are_few};
+use std::alloc::{AllocError, Global};
+use std::process::Abort;
+use std::test::Fail;
+
+/// The base types from number 0 on, by their names in reflection.fbs.
+const BASE_TYPES: &str =
+    "none utype bool byte ubyte short ushort int uint long ulong float double string vector obj \
+    union array vector64";
+
+fn base(text: &str) -> Option<i8> {
+    match BASE_TYPES.split(' ').position(|name| name == text) {
+        Some(number) => i8::try_from(number).ok(),
+        None => text.parse::<i8>().ok(),
+    }
+}
+
+/// A type without an index.
+fn shape(text: &str) -> Option<TypeRow> {
+    let Some(inner) = text.strip_prefix('[') else {
+        return Some(one(base(text)?));
+    };
+    let inner = inner.strip_suffix(']')?;
+    match inner.split_once(':') {
+        Some((element, length)) => Some(array(base(element)?, length.parse::<u16>().ok()?)),
+        None => Some(vector(base(inner)?)),
+    }
+}
+
+fn type_row(text: &str) -> Option<TypeRow> {
+    match text.split_once('#') {
+        Some((text, index)) => Some(shape(text)?.naming(index.parse::<i32>().ok()?)),
+        None => shape(text),
+    }
+}
+
+fn field_row(text: &str) -> Option<FieldRow<'_>> {
+    let mut words = text.split_whitespace();
+    let (name, slot) = words.next()?.split_once('@')?;
+    let ty = type_row(words.next()?)?;
+    let mut row = field(name.as_bytes(), slot.parse::<u16>().ok()?, ty);
+    for word in words {
+        match word {
+            "gone" => row.deprecated = true,
+            "far" => row.offset64 = true,
+            "required" => row.required = true,
+            "optional" => row.optional = true,
+            _ => row.default = word.strip_prefix("default=")?.parse::<i64>().ok()?,
+        }
+    }
+    Some(row)
+}
+
+fn member_row(text: &str) -> Option<MemberRow<'_>> {
+    let mut words = text.split_whitespace();
+    let (name, value) = words.next()?.split_once('=')?;
+    let ty = type_row(words.next()?)?;
+    Some(member(name.as_bytes(), value.parse::<i64>().ok()?, ty))
+}
+
+fn fields<'t>(alloc: Global, text: &'t str) -> Result<Vec<FieldRow<'t>>, Fail> {
+    let mut rows = Vec::new(alloc);
+    for part in text.split_terminator(',') {
+        rows.push(field_row(part).ok_or("no field")?)?;
+    }
+    Ok(rows)
+}
+
+fn members<'t>(alloc: Global, text: &'t str) -> Result<Vec<MemberRow<'t>>, Fail> {
+    let mut rows = Vec::new(alloc);
+    for part in text.split_terminator(',') {
+        rows.push(member_row(part).ok_or("no member")?)?;
+    }
+    Ok(rows)
+}
+
+/// A struct's bytes and alignment.
+fn measures(text: &str) -> Option<(i32, i32)> {
+    let (bytesize, minalign) = text.split_once('/')?;
+    Some((bytesize.parse::<i32>().ok()?, minalign.parse::<i32>().ok()?))
+}
+
+/// The objects and enums of a schema.
+#[derive(Drop)]
+pub struct Rows<'t> {
+    pub objects: Vec<ObjectRow<'t>>,
+    pub enums: Vec<EnumRow<'t>>,
+}
+
+impl<'t> Rows<'t> {
+    /// The rows that a text has.
+    pub fn read(alloc: Global, text: &'t str) -> Result<Rows<'t>, Fail> {
+        let mut rows = Rows {
+            objects: Vec::new(alloc),
+            enums: Vec::new(alloc),
+        };
+        for part in text.split_terminator(';') {
+            let (head, items) = part.split_once(':').ok_or("no row")?;
+            let (name, kind) = head.trim_ascii().split_once(' ').ok_or("no name")?;
+            rows.add(alloc, name.as_bytes(), kind, items.trim_ascii())?;
+        }
+        Ok(rows)
+    }
+
+    fn add(
+        &mut self,
+        alloc: Global,
+        name: &'t [u8],
+        kind: &str,
+        items: &'t str,
+    ) -> Result<(), Fail> {
+        match kind {
+            "table" => self
+                .objects
+                .push(table(alloc, name, &fields(alloc, items)?)?)?,
+            "union" => self
+                .enums
+                .push(union(alloc, name, &members(alloc, items)?)?)?,
+            "enum" => self
+                .enums
+                .push(plain_enum(alloc, name, &members(alloc, items)?)?)?,
+            _ => {
+                let measures = measures(kind.strip_prefix("struct ").ok_or("no kind")?);
+                let (bytesize, minalign) = measures.ok_or("no struct")?;
+                let fields = fields(alloc, items)?;
+                self.objects
+                    .push(structure(alloc, name, bytesize, minalign, &fields)?)?;
+            }
+        }
+        Ok(())
+    }
+
+    /// What `build` answers of these rows.
+    pub fn built(self, rt: &impl Abort, alloc: Global) -> Result<Schema<'t>, SchemaFault> {
+        let Rows { objects, enums } = self;
+        assert!(rt; are_few(&objects, &enums));
+        Schema::build(alloc, objects, enums)
+    }
+}
+
+/// What `build` answers, as cases have it.
+fn told(alloc: Global, fault: Option<SchemaFault>) -> Result<String, AllocError> {
+    let Some(SchemaFault { code, owner, part }) = fault else {
+        return format!(in alloc; "ok");
+    };
+    match part {
+        Some(place) => format!(in alloc; "{code:?} {owner}.{place}"),
+        None => format!(in alloc; "{code:?} {owner}"),
+    }
+}
+
+/// What a case shows, its rows, and what is to be answered.
+fn parts(line: &str) -> Option<(&str, &str, &str)> {
+    let (shows, rest) = line.split_once('|')?;
+    let (rows, answer) = rest.split_once('|')?;
+    Some((shows.trim_ascii(), rows.trim_ascii(), answer.trim_ascii()))
+}
+
+/// What `build` answers of these rows behind others.
+fn answer(rt: &impl Abort, alloc: Global, before: &str, rows: &str) -> Result<String, Fail> {
+    let text = format!(in alloc; "{before}{rows}")?;
+    let rows = Rows::read(alloc, text.as_str())?;
+    Ok(told(alloc, rows.built(rt, alloc).err())?)
+}
+
+/// Asserts that the rows of each case, behind these rows, are answered as it says.
+pub fn answered(rt: &impl Abort, alloc: Global, before: &str, cases: &str) -> Result<(), Fail> {
+    for line in cases.lines() {
+        let (shows, rows, want) = parts(line).ok_or("no case")?;
+        let answer = answer(rt, alloc, before, rows)?;
+        assert_eq!(rt; answer.as_str(), want, "{shows}: {rows}");
+    }
+    Ok(())
+}
+
+/// Asserts that the rows of each case are good behind these rows, whatever the case says.
+pub fn all_good(rt: &impl Abort, alloc: Global, before: &str, cases: &str) -> Result<(), Fail> {
+    for line in cases.lines() {
+        let (shows, rows, _) = parts(line).ok_or("no case")?;
+        let answer = answer(rt, alloc, before, rows)?;
+        assert_eq!(rt; answer.as_str(), "ok", "{shows}: {rows}");
+    }
+    Ok(())
+}
