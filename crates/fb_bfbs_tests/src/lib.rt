@@ -3,10 +3,4 @@
 #![tactic(auto)]
 
 #[cfg(test)]
-mod fixtures;
-#[cfg(test)]
-mod loading_tests;
-#[cfg(test)]
-mod sweep_tests;
-#[cfg(test)]
 mod tests;

@@ -3,16 +3,4 @@
 #![tactic(auto)]
 
 #[cfg(test)]
-mod builders_tests;
-#[cfg(test)]
-mod cases;
-#[cfg(test)]
-mod demands_tests;
-#[cfg(test)]
-mod lookup_tests;
-#[cfg(test)]
-mod member_demands_tests;
-#[cfg(test)]
-mod plain;
-#[cfg(test)]
 mod tests;

@@ -4,36 +4,4 @@
 #![tactic(auto)]
 
 #[cfg(test)]
-mod alignments;
-#[cfg(test)]
-mod budgets;
-#[cfg(test)]
-mod calls;
-#[cfg(test)]
-mod fault_tests;
-#[cfg(test)]
-mod heads;
-#[cfg(test)]
-mod limits;
-#[cfg(test)]
-mod question;
-#[cfg(test)]
-mod ranges;
-#[cfg(test)]
-mod reflection;
-#[cfg(test)]
-mod rows;
-#[cfg(test)]
-mod samples;
-#[cfg(test)]
-mod schemas;
-#[cfg(test)]
-mod starts;
-#[cfg(test)]
-mod switches;
-#[cfg(test)]
-mod trees;
-#[cfg(test)]
-mod unions;
-#[cfg(test)]
-mod values;
+mod tests;

@@ -3,12 +3,4 @@
 #![tactic(auto)]
 
 #[cfg(test)]
-mod build_tests;
-#[cfg(test)]
-mod framer_tests;
-#[cfg(test)]
-mod path_tests;
-#[cfg(test)]
-mod schemas;
-#[cfg(test)]
-mod walk_tests;
+mod tests;

@@ -1,6 +1,6 @@
 //! Paths, with each request for memory refused in turn.
 
-use crate::schemas::{nodes, unions};
+use super::schemas::{nodes, unions};
 use fb_access::{Path, PathFault};
 use fb_schema::Schema;
 use scarce::{Plan, Refusing};

@@ -3,9 +3,9 @@
 ghost use Rattle.std.specs.Prelude.{IsTrue};
 ghost use Rattle.fb_schema.specs.Rows.{is_table, is_union};
 
-use crate::cases::Rows;
-use crate::plain::PlainRows;
-use crate::tests::UNIONS;
+use super::plain::PlainRows;
+use super::worked::UNIONS;
+use case_text::rows::Rows;
 use fb_schema::{FieldView, Schema};
 use std::alloc::Global;
 use std::process::Abort;

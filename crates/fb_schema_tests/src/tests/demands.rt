@@ -3,7 +3,7 @@
 //!
 //! Each case is about object 2. Beside it stand the table 0, the struct 1 of 8 bytes, the union 0 and the enum 1.
 
-use crate::cases::answered;
+use super::cases::answered;
 use std::alloc::Global;
 use std::process::Abort;
 use std::test::Fail;

@@ -1,7 +1,7 @@
 //! A schema file cut off everywhere, and with each byte changed to each other value. `load` refuses it for the fault of the verifier; where that
 //! says yes, for none of its faults.
 
-use crate::fixtures::plain_file;
+use super::fixtures::plain_file;
 use fb_bfbs::{LoadFault, load, reflection};
 use fb_bytes::Meter;
 use fb_schema::Schema;

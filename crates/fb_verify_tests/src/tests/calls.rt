@@ -1,14 +1,17 @@
 //! Each public call once, where it succeeds and where it refuses.
 
-use crate::question::ask;
-use crate::rows::built;
-use crate::samples::{ORC, UNION_OF_TABLE};
-use crate::schemas::{ONE, members, monsters};
+use super::question::{Question, schema_of};
+use super::samples::SAMPLES;
+use super::schemas::{MEMBERS, MONSTERS};
+use case_text::buffer::bytes_of;
 use fb_bytes::Meter;
 use fb_verify::{
     Checks, Ident, Limits, Reason, Report, Scratch, ScratchFault, Start, most_reads, verify,
 };
 use std::test::Fail;
+
+/// The number of the table `One` in `MEMBERS`.
+const ONE: u32 = 2;
 
 #[test]
 fn a_scratch_has_up_to_4096_levels(rt: HostRuntime) {
@@ -23,7 +26,7 @@ fn a_scratch_has_up_to_4096_levels(rt: HostRuntime) {
 #[test]
 fn the_price_is_known_in_advance(rt: HostRuntime) -> Result<(), Fail> {
     let alloc = rt.alloc();
-    let schema = monsters(&rt, alloc)?;
+    let schema = schema_of(&rt, alloc, MONSTERS)?;
     assert_eq!(rt; most_reads(&schema, Limits::published(), 32), 84_000_004);
     assert_eq!(rt; most_reads(&schema, Limits::new(64, 0)?, 32), 4);
     for (budget, most) in [
@@ -35,7 +38,7 @@ fn the_price_is_known_in_advance(rt: HostRuntime) -> Result<(), Fail> {
         let limits = Limits::published().with_reads(budget);
         assert_eq!(rt; most_reads(&schema, limits, 32), most);
     }
-    let nothing = built(&rt, alloc, Vec::new(alloc), Vec::new(alloc))?;
+    let nothing = schema_of(&rt, alloc, "")?;
     for len in [0, 32, 0x7fff_ffff] {
         assert_eq!(rt; most_reads(&nothing, Limits::new(64, 7)?, len), 32);
     }
@@ -45,10 +48,8 @@ fn the_price_is_known_in_advance(rt: HostRuntime) -> Result<(), Fail> {
 #[test]
 fn what_was_verified_is_told(rt: HostRuntime) -> Result<(), Fail> {
     let alloc = rt.alloc();
-    let mut bytes = [0; 44];
-    bytes[0] = 40;
-    bytes[4..].copy_from_slice(&UNION_OF_TABLE);
-    let schema = members(&rt, alloc)?;
+    let bytes = bytes_of(alloc, &SAMPLES, "28000000 PICKED")?;
+    let schema = schema_of(&rt, alloc, MEMBERS)?;
     let checks = Checks {
         alignment: true,
         inline_size: true,
@@ -83,20 +84,23 @@ fn what_was_verified_is_told(rt: HostRuntime) -> Result<(), Fail> {
 #[test]
 fn a_scratch_serves_another_schema_after_a_fault(rt: HostRuntime) -> Result<(), Fail> {
     let alloc = rt.alloc();
-    let (unions, monster) = (members(&rt, alloc)?, monsters(&rt, alloc)?);
+    let (unions, monster) = (
+        schema_of(&rt, alloc, MEMBERS)?,
+        schema_of(&rt, alloc, MONSTERS)?,
+    );
     let mut scratch = Scratch::new(alloc, 1)?;
-    let shallow = Limits::new(1, 7)?;
-    let refused = ask(&UNION_OF_TABLE, ONE)
-        .within(shallow)
-        .answer(&rt, &unions, &mut scratch);
+    let (picked, orc) = (
+        bytes_of(alloc, &SAMPLES, "PICKED")?,
+        bytes_of(alloc, &SAMPLES, "ORC")?,
+    );
+    let question = Question::read(&unions, "root=One depth=1").ok_or("no question")?;
+    let refused = question.answer(&rt, &unions, &picked, &mut scratch)?;
     assert_eq!(rt;
         refused.err().map(|fault| fault.reason),
         Some(Reason::TooDeep)
     );
     assert_eq!(rt; scratch.depth(), 1);
-    let answered = ask(&ORC, 0)
-        .within(shallow)
-        .answer(&rt, &monster, &mut scratch);
-    assert!(rt; answered.is_ok());
+    let question = Question::read(&monster, "depth=1").ok_or("no question")?;
+    assert!(rt; question.answer(&rt, &monster, &orc, &mut scratch)?.is_ok());
     Ok(())
 }

@@ -3,7 +3,7 @@
 //!
 //! Each case is about enum 1. Beside it stand the table 0, the struct 1 of 8 bytes and the union 0.
 
-use crate::cases::{all_good, answered};
+use super::cases::{all_good, answered};
 use std::alloc::Global;
 use std::process::Abort;
 use std::test::Fail;

@@ -1,6 +1,6 @@
 //! A walk takes no memory: it serves where there is none left.
 
-use crate::schemas::nodes;
+use super::schemas::nodes;
 use fb_bytes::Meter;
 use fb_schema::Schema;
 use fb_verify::{Checks, Fault, Ident, Limits, Reason, Report, Scratch, ScratchFault, Start, walk};

@@ -1,20 +1,17 @@
-//! Cases of the tests as text: one a line, with its name, rows, and what `build` answers of these.
+//! Rows of schemas as text: objects and enums, with a semicolon between each two.
 //!
 //! ```text
-//! a slot twice | A table: a@4 int, b@4 [obj]#0 gone far        | BadSlot 0.1
-//! no type      | S struct 8/4: ; U union: m=1 string, n=2 none | BadMember 0.1
+//! A table: a@4 int, b@4 [obj]#0 gone far; S struct 8/4: ; U union: m=1 string, n=2 none
 //! ```
 //!
-//! Rows are objects and enums, with a semicolon between each two: `struct BYTES/ALIGNMENT:` and `table:` have fields
-//! behind them, `union:` and `enum:` members. A field has its slot behind the `@`, a member its value behind the `=`.
-//! A type is a base type by its name in reflection.fbs or by its number; `[int]` is a vector, `[int:3]` an array, and
-//! the index stands behind a `#`. Behind a field's type `gone` says that it is deprecated, `far` that its offset has 64
-//! bits, and `required`, `optional` and `default=9` what they say. An answer is `ok`, or a code with the owner and,
-//! behind a dot, the place of the field or member.
+//! `struct BYTES/ALIGNMENT:` and `table:` have fields behind them, `union:` and `enum:` members. A field has its slot
+//! behind the `@`, a member its value behind the `=`. A type is a base type by its name in reflection.fbs or by its
+//! number; `[int]` is a vector, `[int:3]` an array, and the index stands behind a `#`. Behind a field's type `gone` says
+//! that it is deprecated, `far` that its offset has 64 bits, and `required`, `optional` and `default=9` what they say.
 
 use fb_schema::builders::{array, field, member, one, plain_enum, structure, table, union, vector};
 use fb_schema::{EnumRow, FieldRow, MemberRow, ObjectRow, Schema, SchemaFault, TypeRow, are_few};
-use std::alloc::{AllocError, Global};
+use std::alloc::Global;
 use std::process::Abort;
 use std::test::Fail;
 
@@ -151,49 +148,4 @@ impl<'t> Rows<'t> {
         assert!(rt; are_few(&objects, &enums));
         Schema::build(alloc, objects, enums)
     }
-}
-
-/// What `build` answers, as cases have it.
-fn told(alloc: Global, fault: Option<SchemaFault>) -> Result<String, AllocError> {
-    let Some(SchemaFault { code, owner, part }) = fault else {
-        return format!(in alloc; "ok");
-    };
-    match part {
-        Some(place) => format!(in alloc; "{code:?} {owner}.{place}"),
-        None => format!(in alloc; "{code:?} {owner}"),
-    }
-}
-
-/// What a case shows, its rows, and what is to be answered.
-fn parts(line: &str) -> Option<(&str, &str, &str)> {
-    let (shows, rest) = line.split_once('|')?;
-    let (rows, answer) = rest.split_once('|')?;
-    Some((shows.trim_ascii(), rows.trim_ascii(), answer.trim_ascii()))
-}
-
-/// What `build` answers of these rows behind others.
-fn answer(rt: &impl Abort, alloc: Global, before: &str, rows: &str) -> Result<String, Fail> {
-    let text = format!(in alloc; "{before}{rows}")?;
-    let rows = Rows::read(alloc, text.as_str())?;
-    Ok(told(alloc, rows.built(rt, alloc).err())?)
-}
-
-/// Asserts that the rows of each case, behind these rows, are answered as it says.
-pub fn answered(rt: &impl Abort, alloc: Global, before: &str, cases: &str) -> Result<(), Fail> {
-    for line in cases.lines() {
-        let (shows, rows, want) = parts(line).ok_or("no case")?;
-        let answer = answer(rt, alloc, before, rows)?;
-        assert_eq!(rt; answer.as_str(), want, "{shows}: {rows}");
-    }
-    Ok(())
-}
-
-/// Asserts that the rows of each case are good behind these rows, whatever the case says.
-pub fn all_good(rt: &impl Abort, alloc: Global, before: &str, cases: &str) -> Result<(), Fail> {
-    for line in cases.lines() {
-        let (shows, rows, _) = parts(line).ok_or("no case")?;
-        let answer = answer(rt, alloc, before, rows)?;
-        assert_eq!(rt; answer.as_str(), "ok", "{shows}: {rows}");
-    }
-    Ok(())
 }

@@ -1,6 +1,6 @@
 //! Schema files that are loaded, and why others are not.
 
-use crate::fixtures::{file_of_flatc, plain_file};
+use super::fixtures::{file_of_flatc, plain_file};
 use fb_bfbs::{LoadFault, load, reflection};
 use fb_bytes::Meter;
 use fb_schema::{Code, Kind, Scalar, SchemaFault};

@@ -1,6 +1,6 @@
 //! Schemas, with each request for memory refused in turn.
 
-use crate::schemas::unions_rows;
+use super::schemas::unions_rows;
 use fb_schema::{Code, Schema, SchemaFault, are_few};
 use scarce::{Plan, Refusing};
 use std::alloc::Global;

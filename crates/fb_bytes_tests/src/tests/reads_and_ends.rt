@@ -1,0 +1,133 @@
+//! What no contract says: that calls succeed, on bytes and answers known from outside.
+
+use fb_bytes::{Counted, Meter, Sink, Source, Window};
+use std::io;
+use std::io::{ErrorKind, Read};
+use std::test::Fail;
+
+/// A buffer of one table with a short and a string.
+static ORC: [u8; 32] = [
+    12, 0, 0, 0, 8, 0, 12, 0, 8, 0, 4, 0, 8, 0, 0, 0, 8, 0, 0, 0, 0x2c, 1, 0, 0, 3, 0, 0, 0, b'O',
+    b'r', b'c', 0,
+];
+
+/// A window that outlives its meter, over bytes that outlive both.
+fn name_of(bytes: &[u8]) -> Option<&[u8]> {
+    let Ok(meter) = Meter::new(bytes) else {
+        return None;
+    };
+    let window = meter.seal();
+    if !window.fits(28, 3) {
+        return None;
+    }
+    Some(window.bytes(28, 3))
+}
+
+/// A reader that gives one byte, then fails, then ends.
+#[derive(Drop)]
+struct Falters {
+    calls: u32,
+}
+
+impl Read for Falters {
+    fn read(&mut self, buf: &mut [u8]) -> io::Result<usize> {
+        self.calls = self.calls.saturating_add(1);
+        match self.calls {
+            1 if !buf.is_empty() => {
+                buf[0] = 7;
+                Ok(1)
+            }
+            2 => Err(io::Error::from(ErrorKind::Other)),
+            _ => Ok(0),
+        }
+    }
+}
+
+#[test]
+fn a_read_is_little_endian_and_counts_one(rt: HostRuntime) -> Result<(), Fail> {
+    let bytes = [0x01u8, 0x02, 0x03, 0x84, 0xff, 0xff, 0xff, 0xff];
+    let Ok(mut meter) = Meter::new(&bytes) else {
+        return Err(Fail::from("too long"));
+    };
+    assert_eq!(rt; meter.len(), 8);
+    assert_eq!(rt; meter.u8_at(3), 0x84);
+    assert_eq!(rt; meter.u16_at(1), 0x0302);
+    assert_eq!(rt; meter.u32_at(0), 0x8403_0201);
+    assert_eq!(rt; meter.i32_at(0), -2_080_177_663);
+    assert_eq!(rt; meter.i32_at(4), -1);
+    assert_eq!(rt; meter.reads(), 5);
+    Ok(())
+}
+
+#[test]
+fn a_range_fits_or_not_whatever_its_sum(rt: HostRuntime) -> Result<(), Fail> {
+    let Ok(meter) = Meter::new(&ORC) else {
+        return Err(Fail::from("too long"));
+    };
+    for (at, n, want) in [
+        (0, 32, true),
+        (32, 0, true),
+        (31, 1, true),
+        (33, 0, false),
+        (0, 33, false),
+        (28, 5, false),
+        (u64::MAX, 1, false),
+        (1, u64::MAX, false),
+        (u64::MAX, u64::MAX, false),
+    ] {
+        assert_eq!(rt; meter.fits(at, n), want, "at {at}, {n} bytes");
+    }
+    assert_eq!(rt; meter.reads(), 0);
+    Ok(())
+}
+
+#[test]
+fn a_window_lends_what_its_meter_read(rt: HostRuntime) -> Result<(), Fail> {
+    assert_eq!(rt; name_of(&ORC), Some(b"Orc".as_slice()));
+    let Ok(meter) = Meter::new(&ORC) else {
+        return Err(Fail::from("too long"));
+    };
+    let window: Window = meter.seal();
+    assert_eq!(rt; window.len(), 32);
+    assert_eq!(rt; window.u8_at(28), b'O');
+    assert_eq!(rt; window.u16_at(20), 300);
+    assert_eq!(rt; window.u32_at(24), 3);
+    assert_eq!(rt; window.i32_at(12), 8);
+    assert_eq!(rt; window.u64_at(20), 0x0000_0003_0000_012c);
+    Ok(())
+}
+
+#[test]
+fn a_source_tells_calls_failures_and_end(rt: HostRuntime) -> Result<(), Fail> {
+    let mut source = Counted::new(Falters { calls: 0 });
+    let mut piece = [0u8; 4];
+    let mut nothing = [0u8; 0];
+    assert_eq!(rt; source.pull(&mut piece).ok(), Some(1));
+    assert!(rt; source.pull(&mut piece).is_err());
+    assert_eq!(rt;
+        (source.calls(), source.failures(), source.ended()),
+        (2, 1, false)
+    );
+    assert_eq!(rt; source.pull(&mut nothing).ok(), Some(0));
+    assert!(rt; !source.ended());
+    assert_eq!(rt; source.pull(&mut piece).ok(), Some(0));
+    assert_eq!(rt;
+        (source.calls(), source.failures(), source.ended()),
+        (4, 1, true)
+    );
+    assert_eq!(rt; source.get_ref().calls, 4);
+    Ok(())
+}
+
+#[test]
+fn a_sink_that_takes_nothing_has_failed(rt: HostRuntime) -> Result<(), Fail> {
+    let mut room = [0u8; 2];
+    let mut sink = Counted::new(room.as_mut_slice());
+    assert_eq!(rt; sink.push(b"ab").ok(), Some(2));
+    assert_eq!(rt; sink.push(b"").ok(), Some(0));
+    assert_eq!(rt; (sink.calls(), sink.failures()), (2, 0));
+    assert_eq!(rt; sink.push(b"c").ok(), Some(0));
+    assert_eq!(rt; (sink.calls(), sink.failures()), (3, 1));
+    assert_eq!(rt; sink.into_inner().len(), 0);
+    Ok(())
+}

@@ -1,0 +1,59 @@
+//! Cases of the tests as text: one a line, with its name, rows, and what `build` answers of these.
+//!
+//! ```text
+//! a slot twice | A table: a@4 int, b@4 [obj]#0 gone far        | BadSlot 0.1
+//! no type      | S struct 8/4: ; U union: m=1 string, n=2 none | BadMember 0.1
+//! ```
+//!
+//! An answer is `ok`, or a code with the owner and, behind a dot, the place of the field or member.
+
+use case_text::rows::Rows;
+use fb_schema::SchemaFault;
+use std::alloc::{AllocError, Global};
+use std::process::Abort;
+use std::test::Fail;
+
+/// What `build` answers, as cases have it.
+fn told(alloc: Global, fault: Option<SchemaFault>) -> Result<String, AllocError> {
+    let Some(SchemaFault { code, owner, part }) = fault else {
+        return format!(in alloc; "ok");
+    };
+    match part {
+        Some(place) => format!(in alloc; "{code:?} {owner}.{place}"),
+        None => format!(in alloc; "{code:?} {owner}"),
+    }
+}
+
+/// What a case shows, its rows, and what is to be answered.
+fn parts(line: &str) -> Option<(&str, &str, &str)> {
+    let (shows, rest) = line.split_once('|')?;
+    let (rows, answer) = rest.split_once('|')?;
+    Some((shows.trim_ascii(), rows.trim_ascii(), answer.trim_ascii()))
+}
+
+/// What `build` answers of these rows behind others.
+fn answer(rt: &impl Abort, alloc: Global, before: &str, rows: &str) -> Result<String, Fail> {
+    let text = format!(in alloc; "{before}{rows}")?;
+    let rows = Rows::read(alloc, text.as_str())?;
+    Ok(told(alloc, rows.built(rt, alloc).err())?)
+}
+
+/// Asserts that the rows of each case, behind these rows, are answered as it says.
+pub fn answered(rt: &impl Abort, alloc: Global, before: &str, cases: &str) -> Result<(), Fail> {
+    for line in cases.lines() {
+        let (shows, rows, want) = parts(line).ok_or("no case")?;
+        let answer = answer(rt, alloc, before, rows)?;
+        assert_eq!(rt; answer.as_str(), want, "{shows}: {rows}");
+    }
+    Ok(())
+}
+
+/// Asserts that the rows of each case are good behind these rows, whatever the case says.
+pub fn all_good(rt: &impl Abort, alloc: Global, before: &str, cases: &str) -> Result<(), Fail> {
+    for line in cases.lines() {
+        let (shows, rows, _) = parts(line).ok_or("no case")?;
+        let answer = answer(rt, alloc, before, rows)?;
+        assert_eq!(rt; answer.as_str(), "ok", "{shows}: {rows}");
+    }
+    Ok(())
+}

@@ -1,0 +1,15 @@
+mod alignments;
+mod budgets;
+mod calls;
+mod heads;
+mod limits;
+mod question;
+mod ranges;
+mod reasons;
+mod samples;
+mod schemas;
+mod starts;
+mod switches;
+mod trees;
+mod unions;
+mod values;

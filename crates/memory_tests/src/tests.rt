@@ -1,0 +1,5 @@
+mod build;
+mod framer;
+mod paths;
+mod schemas;
+mod walks;
