@@ -3,16 +3,4 @@
 #![tactic(auto)]
 
 #[cfg(test)]
-mod cases;
-#[cfg(test)]
-mod fixtures;
-#[cfg(test)]
-mod get_tests;
-#[cfg(test)]
-mod grammar_tests;
-#[cfg(test)]
-mod path_tests;
-#[cfg(test)]
 mod tests;
-#[cfg(test)]
-mod value_tests;

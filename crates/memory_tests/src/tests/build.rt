@@ -1,6 +1,7 @@
 //! Schemas, with each request for memory refused in turn.
 
-use super::schemas::unions_rows;
+use super::schemas::UNIONS;
+use case_text::rows::Rows;
 use fb_schema::{Code, Schema, SchemaFault, are_few};
 use scarce::{Plan, Refusing};
 use std::alloc::Global;
@@ -13,7 +14,7 @@ fn built(
     alloc: Global,
     plan: Plan,
 ) -> Result<(Result<u32, SchemaFault>, u64), Fail> {
-    let rows = unions_rows(alloc)?;
+    let rows = Rows::read(alloc, UNIONS)?;
     assert!(rt; are_few(&rows.objects, &rows.enums));
     let heap = Refusing::new(alloc, plan);
     let schema = Schema::build(&heap, rows.objects, rows.enums);

@@ -1,6 +1,6 @@
 //! Paths, with each request for memory refused in turn.
 
-use super::schemas::{nodes, unions};
+use super::schemas::{NODES, UNIONS, built};
 use fb_access::{Path, PathFault};
 use fb_schema::Schema;
 use scarce::{Plan, Refusing};
@@ -51,7 +51,7 @@ fn refused_in_turn(
 
 #[test]
 fn each_request_of_a_path_is_refused_in_turn(rt: HostRuntime) -> Result<(), Fail> {
-    let schema = unions(&rt, rt.alloc())?;
+    let schema = built(&rt, rt.alloc(), UNIONS)?;
     for (text, steps) in [
         (b"us[0]@T".as_slice(), 3),
         (b"us_type[0]".as_slice(), 2),
@@ -64,7 +64,7 @@ fn each_request_of_a_path_is_refused_in_turn(rt: HostRuntime) -> Result<(), Fail
 
 #[test]
 fn each_growth_of_a_long_path_is_refused_in_turn(rt: HostRuntime) -> Result<(), Fail> {
-    let schema = nodes(&rt, rt.alloc())?;
+    let schema = built(&rt, rt.alloc(), NODES)?;
     let text = b"next.next.next.next.next.next.next.next.next".as_slice();
     refused_in_turn(&rt, rt.alloc(), &schema, 0, text, 9);
     let (_, asked) = resolved(&rt, rt.alloc(), &schema, 0, text, Plan::GrantAll);

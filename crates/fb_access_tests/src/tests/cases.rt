@@ -7,48 +7,13 @@
 //! `.1` is the field 1, `[2]` the element 2 and `@3` the member of value 3. Before the first step stands the root. An
 //! answer is written as `{:?}` writes it, but a text as text.
 
-use crate::fixtures::{Reading, answer_at};
+use super::fixtures::{Reading, answer_at};
+use case_text::buffer::bytes_of;
 use fb_access::{Answer, Step};
 use fb_schema::Schema;
 use std::alloc::{AllocError, Global};
 use std::process::Abort;
 use std::test::Fail;
-
-/// The scalar base types from number 1 on, by their names in reflection.fbs.
-const SCALARS: &str = "utype bool byte ubyte short ushort int uint long ulong float double";
-
-/// The scalar base type of this name.
-pub fn base(name: &str) -> Option<i8> {
-    let place = SCALARS.split(' ').position(|other| other == name)?;
-    i8::try_from(place).ok()?.checked_add(1)
-}
-
-fn digit(byte: u8) -> Option<u8> {
-    match byte {
-        b'0'..=b'9' => Some(byte - b'0'),
-        b'a'..=b'f' => Some(byte - b'a' + 10),
-        _ => None,
-    }
-}
-
-/// The bytes that pairs of hexadecimal digits stand for, whatever else stands between them.
-pub fn bytes_of(alloc: Global, hex: &str) -> Result<Vec<u8>, AllocError> {
-    let mut bytes = Vec::new(alloc);
-    let mut high = None;
-    for byte in hex.as_bytes() {
-        let Some(low) = digit(*byte) else {
-            continue;
-        };
-        match high {
-            None => high = Some(low),
-            Some(first) => {
-                bytes.push((first & 15) << 4 | low)?;
-                high = None;
-            }
-        }
-    }
-    Ok(bytes)
-}
 
 fn step(word: &str) -> Option<Step> {
     if let Some(number) = word.strip_prefix('.') {
@@ -89,7 +54,7 @@ pub fn all_answered(
     reading: Reading,
     cases: &str,
 ) -> Result<(), Fail> {
-    let bytes = bytes_of(alloc, hex)?;
+    let bytes = bytes_of(alloc, &[], hex)?;
     for line in cases.lines() {
         let (steps, want) = line.split_once('|').ok_or("no case")?;
         let path = steps_of(alloc, steps)?;

@@ -1,12 +1,11 @@
 //! Elements past the first, numbers of every width with their sign, and defaults that are wider than their scalar.
 
-use crate::cases::{all_answered, base, bytes_of};
-use crate::fixtures::{answer_at, bare, built, one_table, scalar, unions};
+use super::cases::all_answered;
+use super::fixtures::{self, answer_at, bare, schema_of};
+use case_text::buffer::bytes_of;
 use fb_access::Answer;
 use fb_access::step::Step::{Element, Field};
 use fb_schema::Schema;
-use fb_schema::base_type::{BOOL, INT, OBJ, STRING};
-use fb_schema::builders::{field, one, structure, table, vector};
 use std::alloc::{AllocError, Global};
 use std::process::Abort;
 use std::test::Fail;
@@ -53,7 +52,7 @@ fn element_is(
     element: u32,
     want: &str,
 ) -> Result<(), Fail> {
-    let bytes = bytes_of(alloc, THREE)?;
+    let bytes = bytes_of(alloc, &[], THREE)?;
     let steps = [Field(0), Element(element)];
     let answer = answer_at(rt, alloc, &bytes, schema, bare(0), &steps)?;
     let told = in_hex(alloc, answer)?;
@@ -67,8 +66,9 @@ fn an_element_of_every_scalar_stands_behind_those_before(rt: HostRuntime) -> Res
     for line in ELEMENTS.lines() {
         let (name, wanted) = line.split_once('|').ok_or("no case")?;
         let (second, third) = wanted.split_once('|').ok_or("no third")?;
-        let base = base(name.trim_ascii()).ok_or("no base type")?;
-        let schema = one_table(&rt, alloc, &[field(b"l", 4, vector(base))])?;
+        let name = name.trim_ascii();
+        let rows = format!(in alloc; "A table: l@4 [{name}]")?;
+        let schema = schema_of(&rt, alloc, rows.as_str())?;
         element_is(&rt, alloc, &schema, 1, second.trim_ascii())?;
         element_is(&rt, alloc, &schema, 2, third.trim_ascii())?;
         element_is(&rt, alloc, &schema, 3, "NoElement")?;
@@ -82,7 +82,7 @@ const FALSE: &str = "0c000000 06000800 04000000 08000000 04000000 03000000 80008
 #[test]
 fn a_bool_of_a_vector_is_false_where_its_byte_is_0(rt: HostRuntime) -> Result<(), Fail> {
     let alloc = rt.alloc();
-    let schema = one_table(&rt, alloc, &[field(b"l", 4, vector(BOOL))])?;
+    let schema = schema_of(&rt, alloc, "A table: l@4 [bool]")?;
     all_answered(&rt, alloc, FALSE, &schema, bare(0), ".0 [1] | Bool(false)")
 }
 
@@ -96,9 +96,7 @@ const BOXES: &str = "\
 #[test]
 fn structs_of_12_bytes_stand_12_bytes_apart(rt: HostRuntime) -> Result<(), Fail> {
     let alloc = rt.alloc();
-    let twelve = structure(alloc, b"Box", 12, 4, &[])?;
-    let root = table(alloc, b"Boxes", &[field(b"l", 4, vector(OBJ).naming(1))])?;
-    let schema = built(&rt, alloc, vec![in alloc; root, twelve]?, Vec::new(alloc))?;
+    let schema = schema_of(&rt, alloc, "Boxes table: l@4 [obj]#1; Box struct 12/4: ")?;
     all_answered(&rt, alloc, THREE, &schema, bare(0), BOXES)
 }
 
@@ -122,15 +120,8 @@ const LISTED: &str = "\
 #[test]
 fn texts_and_tables_past_the_first_are_their_own(rt: HostRuntime) -> Result<(), Fail> {
     let alloc = rt.alloc();
-    let fields = [
-        field(b"texts", 4, vector(STRING)),
-        field(b"tables", 6, vector(OBJ).naming(1)),
-    ];
-    let objects = vec![in alloc;
-        table(alloc, b"L", &fields)?,
-        table(alloc, b"A", &[field(b"v", 4, one(INT))])?,
-    ]?;
-    let schema = built(&rt, alloc, objects, Vec::new(alloc))?;
+    let rows = "L table: texts@4 [string], tables@6 [obj]#1; A table: v@4 int";
+    let schema = schema_of(&rt, alloc, rows)?;
     all_answered(&rt, alloc, LISTS, &schema, bare(0), LISTED)
 }
 
@@ -155,7 +146,7 @@ const UNITED: &str = "\
 #[test]
 fn unions_past_the_first_have_types_of_their_own(rt: HostRuntime) -> Result<(), Fail> {
     let alloc = rt.alloc();
-    let schema = unions(&rt, alloc)?;
+    let schema = schema_of(&rt, alloc, fixtures::UNIONS)?;
     all_answered(&rt, alloc, UNIONS, &schema, bare(3), UNITED)
 }
 
@@ -181,11 +172,12 @@ const WIDTHS: &str = "\
 #[test]
 fn a_number_of_every_width_has_its_sign(rt: HostRuntime) -> Result<(), Fail> {
     let alloc = rt.alloc();
-    let bytes = bytes_of(alloc, ONE)?;
+    let bytes = bytes_of(alloc, &[], ONE)?;
     for line in WIDTHS.lines() {
         let (name, want) = line.split_once('|').ok_or("no case")?;
-        let base = base(name.trim_ascii()).ok_or("no base type")?;
-        let schema = one_table(&rt, alloc, &[field(b"v", 4, one(base))])?;
+        let name = name.trim_ascii();
+        let rows = format!(in alloc; "A table: v@4 {name}")?;
+        let schema = schema_of(&rt, alloc, rows.as_str())?;
         let answer = answer_at(&rt, alloc, &bytes, &schema, bare(0), &[Field(0)])?;
         let told = in_hex(alloc, answer)?;
         assert_eq!(rt; told.as_str(), want.trim_ascii(), "{name}");
@@ -229,13 +221,13 @@ const DEFAULTS: &str = "\
 #[test]
 fn an_absent_scalar_is_what_its_low_bytes_are(rt: HostRuntime) -> Result<(), Fail> {
     let alloc = rt.alloc();
-    let bytes = bytes_of(alloc, EMPTY)?;
+    let bytes = bytes_of(alloc, &[], EMPTY)?;
     for line in DEFAULTS.lines() {
         let (name, case) = line.split_once('|').ok_or("no case")?;
         let (default, want) = case.split_once('|').ok_or("no answer")?;
-        let base = base(name.trim_ascii()).ok_or("no base type")?;
-        let default = default.trim_ascii().parse::<i64>()?;
-        let schema = one_table(&rt, alloc, &[scalar(b"v", 4, base, default)])?;
+        let (name, default) = (name.trim_ascii(), default.trim_ascii());
+        let rows = format!(in alloc; "A table: v@4 {name} default={default}")?;
+        let schema = schema_of(&rt, alloc, rows.as_str())?;
         let answer = answer_at(&rt, alloc, &bytes, &schema, bare(0), &[Field(0)])?;
         let told = format!(in alloc; "{answer:?}")?;
         assert_eq!(rt; told.as_str(), want.trim_ascii(), "{name}, {default}");
