@@ -1,4 +1,3 @@
-mod cut_files;
 mod fixed_table;
 mod fixtures;
 mod loading;

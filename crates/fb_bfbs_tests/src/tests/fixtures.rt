@@ -1,6 +1,9 @@
 //! Schema files for the tests.
 
-use std::alloc::{AllocError, Global};
+use case_text::buffer::Sample;
+
+/// The schema files by their names.
+pub const SAMPLES: [Sample; 2] = [("PLAIN", PLAIN), ("OF_FLATC", OF_FLATC)];
 
 /// `table M { hp: short = 100; name: string; } root_type M;`, laid out by hand.
 const PLAIN: &str = "
@@ -54,35 +57,3 @@ const OF_FLATC: &str = "
     0c001000 08000c00 00000600 0c000000 00000400 24000000 14000000 10000c00 07000000 00000000 00000800 10000000 00000007
     01000000 01000000 76000000
 ";
-
-/// What a hexadecimal digit tells; nothing for another byte.
-fn digit(byte: u8) -> Option<u8> {
-    match byte {
-        b'0'..=b'9' => Some(byte - b'0'),
-        b'a'..=b'f' => Some(byte - b'a' + 10),
-        _ => None,
-    }
-}
-
-/// The bytes of a text of hexadecimal digits, two for each byte.
-fn bytes_of(alloc: Global, text: &str) -> Result<Vec<u8>, AllocError> {
-    let mut bytes = Vec::new(alloc);
-    let mut first = None;
-    for digit in text.bytes().filter_map(digit) {
-        match first.take() {
-            None => first = Some(digit),
-            Some(high) => bytes.push(high << 4 | digit)?,
-        }
-    }
-    Ok(bytes)
-}
-
-/// The file of a schema with one table, which has a number with a default and a text.
-pub fn plain_file(alloc: Global) -> Result<Vec<u8>, AllocError> {
-    bytes_of(alloc, PLAIN)
-}
-
-/// The file of a schema with structs, enums and unions, as flatc writes it.
-pub fn file_of_flatc(alloc: Global) -> Result<Vec<u8>, AllocError> {
-    bytes_of(alloc, OF_FLATC)
-}

@@ -1,35 +1,21 @@
 //! Schema files that are loaded, and why others are not.
 
-use super::fixtures::{file_of_flatc, plain_file};
-use fb_bfbs::{LoadFault, load, reflection};
-use fb_bytes::Meter;
+use super::fixtures::SAMPLES;
+use case_text::buffer::bytes_of;
+use fb_bfbs::{LoadFault, load};
 use fb_schema::{Code, Kind, Scalar, SchemaFault};
-use fb_verify::{Checks, Fault, Ident, Limits, Reason, Report, Scratch, Start, verify};
-use std::alloc::{AllocError, Global};
-use std::process::Abort;
+use fb_verify::{Fault, Limits, Reason};
+use std::alloc::Global;
 use std::test::Fail;
 
-/// A schema file with some bytes changed.
-fn changed(alloc: Global, changes: &[(usize, u8)]) -> Result<Vec<u8>, AllocError> {
-    let mut bytes = plain_file(alloc)?;
-    for (at, byte) in changes {
-        if *at < bytes.len() {
-            bytes[*at] = *byte;
-        }
-    }
-    Ok(bytes)
-}
-
-/// Why a schema file with these changes isn't loaded.
-fn fault_of(alloc: Global, changes: &[(usize, u8)]) -> Result<LoadFault, Fail> {
-    let bytes = changed(alloc, changes)?;
-    let fault = load(alloc, &bytes, Limits::published()).err();
-    Ok(fault.ok_or("loaded")?)
+/// A schema file by text.
+fn file(alloc: Global, text: &str) -> Result<Vec<u8>, Fail> {
+    bytes_of(alloc, &SAMPLES, text)
 }
 
 #[test]
 fn a_table_with_a_default_is_loaded(rt: HostRuntime) -> Result<(), Fail> {
-    let bytes = plain_file(rt.alloc())?;
+    let bytes = file(rt.alloc(), "PLAIN")?;
     let loaded = load(rt.alloc(), &bytes, Limits::published())?;
     assert_eq!(rt; loaded.root, Some(0));
     assert!(rt; loaded.ident.is_none());
@@ -54,7 +40,7 @@ fn a_table_with_a_default_is_loaded(rt: HostRuntime) -> Result<(), Fail> {
 
 #[test]
 fn what_flatc_writes_is_loaded(rt: HostRuntime) -> Result<(), Fail> {
-    let bytes = file_of_flatc(rt.alloc())?;
+    let bytes = file(rt.alloc(), "OF_FLATC")?;
     let loaded = load(rt.alloc(), &bytes, Limits::published())?;
     let schema = &loaded.schema;
     assert_eq!(rt; schema.object_count(), 3);
@@ -84,7 +70,7 @@ fn what_flatc_writes_is_loaded(rt: HostRuntime) -> Result<(), Fail> {
 
 #[test]
 fn a_union_of_flatc_has_its_members(rt: HostRuntime) -> Result<(), Fail> {
-    let bytes = file_of_flatc(rt.alloc())?;
+    let bytes = file(rt.alloc(), "OF_FLATC")?;
     let loaded = load(rt.alloc(), &bytes, Limits::published())?;
     let schema = &loaded.schema;
     let a = schema.object_named(b"A").ok_or("no A")?;
@@ -104,58 +90,29 @@ fn a_union_of_flatc_has_its_members(rt: HostRuntime) -> Result<(), Fail> {
     Ok(())
 }
 
-#[test]
-fn another_identifier_is_refused(rt: HostRuntime) -> Result<(), Fail> {
-    let fault = fault_of(rt.alloc(), &[(4, 0x58)])?;
-    assert_eq!(rt;
-        fault,
-        LoadFault::NotWellFormed(Fault {
-            at: 4,
-            object: 9,
-            field: None,
-            reason: Reason::WrongIdentifier,
-            reads: 1
-        })
-    );
-    assert_eq!(rt;
-        fault.to_string(rt.alloc()).expect(&rt, "memory").as_str(),
-        "L1 V5 WrongIdentifier at=4 object=9 field=- reads=1"
-    );
-    Ok(())
-}
+/// What each file shows, the file, and why it isn't loaded.
+const REFUSED: &str = "\
+    another identifier       | PLAIN 4=58   | L1 V5 WrongIdentifier at=4 object=9 field=- reads=1\n\
+    rows that are no schema  | PLAIN 156=12 | L2 C3 Unsupported owner=0 part=0\n\
+    a root that isn't listed | PLAIN 44=00  | L3 RootNotListed\n\
+";
 
 #[test]
-fn rows_that_are_no_schema_are_refused(rt: HostRuntime) -> Result<(), Fail> {
-    let fault = fault_of(rt.alloc(), &[(156, 18)])?;
-    assert_eq!(rt;
-        fault,
-        LoadFault::BadSchema(SchemaFault {
-            code: Code::Unsupported,
-            owner: 0,
-            part: Some(0)
-        })
-    );
-    assert_eq!(rt;
-        fault.to_string(rt.alloc()).expect(&rt, "memory").as_str(),
-        "L2 C3 Unsupported owner=0 part=0"
-    );
-    Ok(())
-}
-
-#[test]
-fn a_root_that_is_not_listed_is_refused(rt: HostRuntime) -> Result<(), Fail> {
-    let fault = fault_of(rt.alloc(), &[(44, 0)])?;
-    assert_eq!(rt; fault, LoadFault::RootNotListed);
-    assert_eq!(rt;
-        fault.to_string(rt.alloc()).expect(&rt, "memory").as_str(),
-        "L3 RootNotListed"
-    );
+fn a_file_that_is_no_schema_is_refused(rt: HostRuntime) -> Result<(), Fail> {
+    for line in REFUSED.lines() {
+        let (shows, rest) = line.split_once('|').ok_or("no case")?;
+        let (text, want) = rest.split_once('|').ok_or("no answer")?;
+        let bytes = file(rt.alloc(), text)?;
+        let fault = load(rt.alloc(), &bytes, Limits::published()).err();
+        let told = fault.ok_or("loaded")?.to_string(rt.alloc())?;
+        assert_eq!(rt; told.as_str(), want.trim_ascii(), "{shows}");
+    }
     Ok(())
 }
 
 #[test]
 fn a_schema_may_have_no_root(rt: HostRuntime) -> Result<(), Fail> {
-    let bytes = changed(rt.alloc(), &[(20, 0), (21, 0)])?;
+    let bytes = file(rt.alloc(), "PLAIN 20=0000")?;
     let loaded = load(rt.alloc(), &bytes, Limits::published())?;
     assert_eq!(rt; loaded.root, None);
     assert_eq!(rt; loaded.schema.object_count(), 1);
@@ -164,7 +121,7 @@ fn a_schema_may_have_no_root(rt: HostRuntime) -> Result<(), Fail> {
 
 /// Why the verifier refuses a schema file within these limits; none where it is loaded.
 fn refusal(alloc: Global, depth: u32, tables: u32) -> Result<Option<Reason>, Fail> {
-    let bytes = plain_file(alloc)?;
+    let bytes = file(alloc, "PLAIN")?;
     let limits = Limits::new(depth, tables)?;
     match load(alloc, &bytes, limits) {
         Ok(_) => Ok(None),
@@ -185,7 +142,7 @@ fn limits_are_those_of_the_caller(rt: HostRuntime) -> Result<(), Fail> {
 
 #[test]
 fn a_budget_of_reads_is_that_of_the_caller(rt: HostRuntime) -> Result<(), Fail> {
-    let bytes = plain_file(rt.alloc())?;
+    let bytes = file(rt.alloc(), "PLAIN")?;
     assert!(rt; load(rt.alloc(), &bytes, Limits::published().with_reads(91)).is_ok());
     let fault = load(rt.alloc(), &bytes, Limits::published().with_reads(90)).err();
     assert_eq!(rt;
@@ -268,53 +225,5 @@ fn each_fault_of_rows_has_its_text(rt: HostRuntime) -> Result<(), Fail> {
         let expected = format!(in rt.alloc(); "L2 {name} owner=3 part=2")?;
         assert_eq!(rt; text.as_str(), expected.as_str());
     }
-    Ok(())
-}
-
-/// What the verifier counts in a schema file by the fixed table.
-fn counted(rt: &impl Abort, alloc: Global, bytes: &[u8], ident: Ident) -> Report {
-    let schema = reflection(alloc).expect(rt, "memory");
-    let Ok(meter) = Meter::new(bytes) else {
-        panic!(rt; "too long");
-    };
-    let limits = Limits::published();
-    let mut scratch = Scratch::new(alloc, 64).ok().expect(rt, "memory");
-    assert!(rt; schema.is_table(9) && scratch.depth() >= limits.depth());
-    verify(
-        meter,
-        &schema,
-        9,
-        Start::Bare,
-        ident,
-        limits,
-        Checks::published(),
-        &mut scratch,
-    )
-    .ok()
-    .expect(rt, "well formed")
-    .report()
-}
-
-#[test]
-fn a_schema_file_is_counted_by_the_fixed_table(rt: HostRuntime) -> Result<(), Fail> {
-    let bytes = plain_file(rt.alloc())?;
-    let any = counted(&rt, rt.alloc(), &bytes, Ident::Any);
-    assert_eq!(rt;
-        any,
-        Report {
-            tables: 11,
-            depth: 4,
-            reads: 90
-        }
-    );
-    let wanted = counted(&rt, rt.alloc(), &bytes, Ident::Want(*b"BFBS"));
-    assert_eq!(rt;
-        wanted,
-        Report {
-            tables: 11,
-            depth: 4,
-            reads: 91
-        }
-    );
     Ok(())
 }
