@@ -1,8 +1,8 @@
 -- What the look-ups read.
-use Rattle.std.proofs.Common.{◌≡◌, ℕ, zero, suc, ◌≤◌, List, [], ◌∷◌, length, slice_get, map, Some, None, sym, ◌∙◌, ap, arith}
+use Rattle.std.proofs.Common.{◌≡◌, ℕ, zero, suc, ◌≤◌, List, [], ◌∷◌, length, get_or, slice_get, map, Some, None, IsTrue, sym, ◌∙◌, ap, arith}
 use Rattle.std.proofs.lemmas.List.{length-map}
-use Rattle.fb_schema.specs.Live.{Live, live_in, live_rows, live_fields, widest, widest_of}
-use Rattle.fb_schema.specs.Rows.{Rows, Object}
+use Rattle.fb_schema.specs.Live.{Live, live_in, live_rows, live_fields, required_end, required_end_of, widest, widest_of}
+use Rattle.fb_schema.specs.Rows.{Rows, Object, is_table, is_some_table}
 
 read_list : (rows : Rows) (objects : List Object) (n : ℕ) (y : List Live) → slice_get (map (λ o. live_in rows (Some o)) objects) n ≡ Some y → y ≡ live_in rows (slice_get objects n)
 read_list rows [] n y e = absurd (let w : None ≡ Some y = e in cc)
@@ -11,6 +11,16 @@ read_list rows (o ∷ os) (suc n) y e = read_list rows os n y e
 
 pub live_read : (rows : Rows) (objects : List Object) (lists : List (List Live)) (n : ℕ) (y : List Live) → lists ≡ map (λ o. live_in rows (Some o)) objects → slice_get lists n ≡ Some y → y ≡ live_in rows (slice_get objects n)
 live_read rows objects lists n y e at = read_list rows objects n y (ap (λ ls. slice_get ls n) (sym e) ∙ at)
+
+read_end : (rows : Rows) (objects : List Object) (n e : ℕ) → IsTrue (is_some_table (slice_get objects n)) → e ≡ get_or (map (λ o. required_end_of (live_in rows (Some o))) objects) n e → e ≡ required_end_of (live_in rows (slice_get objects n))
+read_end rows [] n e t h = absurd cc
+read_end rows (o ∷ os) zero e t h = h
+read_end rows (o ∷ os) (suc n) e t h = read_end rows os n e t h
+
+-- how many live fields the index tells up to the last required one
+pub end_read : (rows : Rows) (ends : List ℕ) (n e : ℕ) → ends ≡ map (λ o. required_end_of (live_in rows (Some o))) rows.objects → IsTrue (is_table rows n) → e ≡ get_or ends n e → e ≡ required_end rows n
+unfolding live_fields
+end_read rows ends n e h t at = read_end rows rows.objects n e t (at ∙ ap (λ xs. get_or xs n e) h)
 
 count_within : (rows : Rows) (objects : List Object) (n : ℕ) → length (live_in rows (slice_get objects n)) ≤ widest_of objects
 count_within rows [] n = omega arith

@@ -364,11 +364,22 @@ rows_spaced rows legal k o at = record {
   at = spaced_from 4 (live_rows o) refl (rows_rise rows legal k o at) (λ f c. let p = place_in (live_rows o) f c in row_slot rows legal k p.0 o f (row_in rows k p.0 o f at p.1));
 }
 
+-- the slots of a legal table's live fields rise
+fields_rise : (rows : Rows) → IsLegal rows → (k i j : ℕ) (f g : Live) → slice_get (live_fields rows k) i ≡ Some f → slice_get (live_fields rows k) j ≡ Some g → i < j → f.slot < g.slot
+fields_rise rows legal k i j f g a b lt =
+    let p = row_of rows k i f a in
+    let q = row_of rows k j g b in
+    let same : p.0 ≡ q.0 = let w : Some p.0 ≡ Some q.0 = sym p.2.at ∙ q.2.at in cc in
+    let there = subst (λ o. slice_get (live_rows o) j ≡ Some q.1) (sym same) q.2.here in
+    let less = rises_at (live_rows p.0) (rows_rise rows legal k p.0 p.2.at) i j p.1 q.1 p.2.here there lt in
+    omega (arith, less, ap (λ (x : Live). x.slot) p.3, ap (λ (x : Live). x.slot) q.3)
+
 -- What legal rows give, where no table has more live fields than slots.
 pub served_by : (rows : Rows) → IsLegal rows → widest rows ≤ 32766 → IsServed rows
 served_by rows legal few = record {
   few = λ k. (let w = within_widest rows k in omega arith);
   kinds = field_holds rows legal;
   typed = field_typed rows legal;
+  rising = fields_rise rows legal;
   members = member_holds rows legal;
 }

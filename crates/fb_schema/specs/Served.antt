@@ -48,4 +48,5 @@ pub record IsServed (rows : Rows) : Type 0 where
   pub few : (k : ℕ) → length (live_fields rows k) ≤ 32766
   pub kinds : (k i : ℕ) (f : Live) → slice_get (live_fields rows k) i ≡ Some f → KindHolds rows f f.kind
   pub typed : (k i : ℕ) (f : Live) → slice_get (live_fields rows k) i ≡ Some f → IsTyped (live_fields rows k) i f.slot f.kind
+  pub rising : (k i j : ℕ) (f g : Live) → slice_get (live_fields rows k) i ≡ Some f → slice_get (live_fields rows k) j ≡ Some g → i < j → f.slot < g.slot
   pub members : (e value : ℕ) → MemberHolds rows (member_of rows e value)

@@ -5,6 +5,7 @@ ghost use Rattle.fb_schema.specs.Sorting.{IsOrderOf, name_cmp};
 ghost use Rattle.fb_schema.specs.Rows.{borrowed_rows, member_of_row};
 ghost use Rattle.fb_schema.specs.Index.{view_name, member_kind, IsLiveIndex, IsMemberIndex};
 ghost use Rattle.fb_schema.specs.Demands.{IsLegal};
+ghost use Rattle.fb_schema.specs.Live.{live_of_view, required_end_of};
 
 use crate::index::{LiveIndex, MemberIndex};
 use crate::keys::{member_names, member_values};
@@ -31,6 +32,20 @@ fn view_names<'n, A: Allocator>(
     }
     put_in_order(&mut order);
     Ok(order)
+}
+
+/// How many fields there are up to and with the last required one, 0 where none is.
+fn required_end(fields: &[FieldView]) -> u32
+    requires { length fields.now < 2 ^ 31 }
+    ensures { result ≡ required_end_of (map live_of_view fields.now) }
+{
+    let mut end = 0;
+    for (p, field) in fields.iter().enumerate() {
+        if field.required {
+            end = p as u32 + 1;
+        }
+    }
+    end
 }
 
 /// The kinds of members.
@@ -60,6 +75,7 @@ pub fn live_index<'n, A: Allocator + Copy>(
     let mut index = LiveIndex {
         fields: Lists::new(alloc),
         names: Lists::new(alloc),
+        required: Vec::new(alloc),
         widest: 0,
     };
     for object in rows.objects {
@@ -68,6 +84,7 @@ pub fn live_index<'n, A: Allocator + Copy>(
         index.widest = index.widest.max(fields.len() as u32);
         index.fields.push(&fields)?;
         index.names.push(&names)?;
+        index.required.push(required_end(&fields))?;
     }
     Ok(index)
 }

@@ -5,7 +5,7 @@ ghost use Rattle.std.specs.Prelude.{position, ◌≤◌, ◌^◌};
 ghost use Rattle.std.specs.Str.{bytes_eq};
 ghost use Rattle.fb_schema.specs.Rows.{AreFew, rows_of, is_table, is_union};
 ghost use Rattle.fb_schema.specs.Heads.{head_of, head_of_view};
-ghost use Rattle.fb_schema.specs.Live.{live_fields, live_of_view, field_named, widest};
+ghost use Rattle.fb_schema.specs.Live.{live_fields, live_of_view, field_named, required_end, widest};
 ghost use Rattle.fb_schema.specs.Members.{member_of, member_named};
 ghost use Rattle.fb_schema.specs.Demands.{IsLegal, Refuses};
 ghost use Rattle.fb_schema.specs.Served.{IsServed};
@@ -166,6 +166,15 @@ impl<'n, A: Allocator + Copy> Schema<'n, A> {
         ensures { slice_get (live_fields self.now n) i ≡ Some (live_of_view result) }
     {
         self.fields_of(n)[i as usize]
+    }
+
+    /// How many live fields a table has up to and with the last required one, 0 where none is: those behind it may be
+    /// absent.
+    pub fn required_end(&self, n: u32) -> u32
+        requires { IsTrue (is_table self.now n) }
+        ensures { result ≡ required_end self.now n }
+    {
+        self.live.required[n as usize]
     }
 
     /// The kind of the member of a union with this value, none where no member has it. The value 0 is the union without a value.

@@ -61,6 +61,24 @@ fn a_legal_table_has_each_kind_in_rising_slot(rt: HostRuntime) -> Result<(), Fai
     Ok(())
 }
 
+/// Tables without a required field and with some; two have one that is deprecated, behind the others or alone.
+const REQUIRED: &str =
+    "Empty table: ; Free table: a@4 int, b@6 string; First table: b@6 int, a@4 string required; \
+    Last table: d@12 string required, a@4 string required, c@8 int; \
+    Gone table: a@4 int, b@6 string required, c@8 string required gone, d@10 int; \
+    AllGone table: a@4 string required gone, b@6 int";
+
+#[test]
+fn required_fields_end_behind_the_last_that_is_live(rt: HostRuntime) -> Result<(), Fail> {
+    let alloc = rt.alloc();
+    let schema = Rows::read(alloc, REQUIRED)?.built(&rt, alloc)?;
+    for (n, want) in (0u32..).zip([0, 0, 1, 3, 2, 0]) {
+        assert!(rt; schema.is_table(n));
+        assert_eq!(rt; schema.required_end(n), want, "table {n}");
+    }
+    look_ups_of(&rt, alloc, REQUIRED)
+}
+
 /// Whether two views say the same.
 fn is_same_view(a: &FieldView, b: &FieldView) -> bool {
     a.number == b.number
@@ -111,6 +129,7 @@ fn fields_agree(
     let views = schema.fields_of(n);
     assert_eq!(rt; views.len(), rows.field_count(n));
     assert_eq!(rt; schema.field_count(n) as usize, rows.field_count(n));
+    assert_eq!(rt; schema.required_end(n) as usize, rows.required_end(n));
     for i in 0..schema.field_count(n) {
         let view = schema.field_at(n, i);
         let plain = rows.field_at(n, i as usize).ok_or("no such field")?;

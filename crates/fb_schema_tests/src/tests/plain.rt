@@ -88,6 +88,20 @@ impl<'r, 'n> PlainRows<'r, 'n> {
         widest
     }
 
+    /// How many live fields stand no higher than the highest that is required.
+    pub fn required_end(&self, n: u32) -> usize {
+        let Some(fields) = self.fields(n) else {
+            return 0;
+        };
+        let mut end = 0;
+        for field in fields {
+            if field.required && !field.deprecated {
+                end = end.max(live_below(fields, field.slot.saturating_add(1)));
+            }
+        }
+        end
+    }
+
     /// The live field that has i live fields below it.
     pub fn field_at(&self, n: u32, i: usize) -> Option<FieldView<'n>> {
         let fields = self.fields(n)?;
