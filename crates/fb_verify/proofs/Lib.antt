@@ -22,3 +22,4 @@ pub mod Verdicts
 pub mod Prices
 pub mod Shown
 pub mod Walking
+pub mod Absent

@@ -1,6 +1,6 @@
 // The head of a table, and the places of its fields.
 
-ghost use Rattle.std.specs.Prelude.{◌≡◌, ◌+◌, ◌^◌, ◌<◌, ◌≤◌, length, pos, IfOk, IfErr, IfSome, MatchOption, Some, None, IsTrue, true, false};
+ghost use Rattle.std.specs.Prelude.{◌≡◌, ◌+◌, ◌^◌, ◌<◌, ◌≤◌, length, pos, nat_lt, IfOk, IfErr, IfSome, MatchOption, Some, None, IsTrue, true, false};
 ghost use Rattle.fb_verify.specs.Places.{has_vtable, has_slot, vtable, field_place, ends_in_table};
 ghost use Rattle.fb_verify.specs.Cost.{head_reads, slot_reads};
 ghost use Rattle.fb_verify.specs.Bounds.{AreAllowed};
@@ -23,6 +23,16 @@ pub struct Head {
     pub vtable: u64,
     pub size: u16,
     pub inline: u16,
+}
+
+impl Head {
+    /// Whether the vtable ends before this slot does, whose field is absent then.
+    #[inline(always)]
+    pub fn ends_before(self, slot: u16) -> bool
+        ensures { result ≡ nat_lt self.size (slot + 2) }
+    {
+        u32::from(self.size) < u32::from(slot) + 2
+    }
 }
 
 /// Reads where the vtable of the table at a position stands, none where that is negative.
@@ -127,7 +137,7 @@ pub fn read_slot(meter: &mut Meter<'_>, at: u64, head: Head, slot: u16) -> Optio
     ensures near { IfSome result (λ p. p < 2 ^ 34) }
     ensures counted { meter.new ≡ record meter.old { count = meter.old.count + slot_reads meter.old.bytes at slot } }
 {
-    if u32::from(head.size) < u32::from(slot) + 2 {
+    if head.ends_before(slot) {
         return None;
     }
     let place = meter.u16_at(head.vtable + u64::from(slot));

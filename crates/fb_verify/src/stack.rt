@@ -93,6 +93,13 @@ impl<'s, 'n> Walk<'s, 'n> {
     {
         let fields = self.schema.fields_of(top.table.object);
         while let Some(field) = fields.get(top.next as usize) {
+            if top.table.head.ends_before(field.slot)
+                && self.schema.required_end(top.table.object) <= top.next
+            {
+                // This field and those after it are absent, and none of them is required.
+                top.next = fields.len() as u32;
+                return Ok(false);
+            }
             top.next += 1;
             if pass_field(
                 meter,

@@ -1,3 +1,4 @@
+mod absent;
 mod alignments;
 mod budgets;
 mod calls;

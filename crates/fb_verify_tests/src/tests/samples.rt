@@ -17,11 +17,14 @@ use case_text::buffer::Sample;
 /// - `TWICE`: two vectors that are one, of two texts that are one
 /// - `CUT`: a union with the type 9 in a table of 5 bytes, of which the value stands at 20
 /// - `NODES`: a node that leads twice to a second, which leads twice to a third: seven visits
+/// - `THIRD`: a table with the text `x` in its third slot, where its vtable ends, and none in the two before
+/// - `TWO_SLOTS`: a table whose vtable has two slots, both empty
+/// - `CHILDLESS`: a table whose one slot leads to a table, whose vtable has no slot
 /// - `FAMILY`: a parent whose child stands at 32, and whose string has the offset 0
 /// - `TWINS`: a vector at 20 of two tables, at 32 and at 40
 /// - `TABLE`: the start of a table at 12 with two slots, of which the first leads to 16
 /// - `FILE`: the schema file of `table M { hp: short = 100; name: string; } root_type M;`
-pub const SAMPLES: [Sample; 17] = [
+pub const SAMPLES: [Sample; 20] = [
     (
         "ORC",
         "0c000000 08000c00 08000400 08000000 08000000 2c010000 03000000 4f726300",
@@ -71,6 +74,15 @@ pub const SAMPLES: [Sample; 17] = [
     (
         "CUT",
         "0c000000 08000500 04000800 08000000 09000000 ffffffff",
+    ),
+    (
+        "THIRD",
+        "10000000 0a000800 00000000 04000000 0c000000 04000000 01000000 7800",
+    ),
+    ("TWO_SLOTS", "0c000000 08000400 00000000 08000000"),
+    (
+        "CHILDLESS",
+        "0c000000 06000800 04000000 08000000 08000000 04000400 04000000",
     ),
     (
         "FAMILY",

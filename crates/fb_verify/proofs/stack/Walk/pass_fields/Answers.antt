@@ -1,8 +1,10 @@
-use Rattle.std.proofs.Common.{refl, sym, ◌∙◌, ap, arith}
-use Rattle.fb_schema.specs.Live.{live_of_view}
+use Rattle.std.proofs.Common.{◌≡◌, ◌+◌, ◌<◌, ◌≤◌, length, refl, sym, ◌∙◌, ap, arith}
+use Rattle.fb_schema.specs.Live.{live_fields, live_of_view, required_end}
+use Rattle.fb_verify.specs.Places.{vtable_size}
 use Rattle.fb_verify.specs.Stack.{blank}
+use Rattle.fb_verify.proofs.Absent.{ends_below, others_absent}
 use Rattle.fb_verify.proofs.Words.{row_none}
-use Rattle.fb_verify.proofs.Frames.{if_err_exit, item_some, field_at, no_row}
+use Rattle.fb_verify.proofs.Frames.{if_err_exit, item_some, field_at, length_map, no_row}
 use Rattle.fb_verify.proofs.Standings.{stop_at_field, next_typed}
 use Rattle.fb_verify.proofs.Walking.{field_passed, field_work, field_skipped, skip_work}
 use Rattle.fb_verify.proofs.stack.Walk.pass_fields.Goals as goal
@@ -31,6 +33,22 @@ returns-in_err-pass_field-clause-err g c =
     (rw i.bytes at
     (stop_at_field c.args.self.now.checks c.loop-field.meter.bytes c.args.self.now.schema.now c.args.self.now.limits (g.under).start (g.under).frames c.loop-field.top c.args.self.now.tables c.args.self.now.deepest c.loop-field.meter.count h.standing
     h.tables h.deepest h.reads _ _ i.rests here c.in_err-pass_field.ensures.err))
+
+pub returns-then-required_end-top-clause-walking : goal.returns-then-required_end-top-clause-walking
+returns-then-required_end-top-clause-walking g c =
+    let i = c.loop-field.invariant in
+    let h = i.walking in
+    let e = sym i.table in
+    let b = c.loop-field.meter.bytes in
+    let S = c.args.self.now.schema.now in
+    let top = c.loop-field.top in
+    let fields = c.fields_of-fields.result.now in
+    let here = rw e at (field_at live_of_view fields _ _ _ c.fields_of-fields.ensures.value (item_some _ _ _ _ c.get.ensures.lookup c.in-Some.is)) in
+    let all = rw e at (ap length c.fields_of-fields.ensures.value) in
+    let long : length fields ≡ length (live_fields S (top.table).object) = omega (arith, length_map live_of_view fields, all) in
+    let past : vtable_size b (top.table).at < (c.in-Some.field.now).slot + 2 = omega (arith, ends_below _ _ _ c.ends_before.ensures c.if-ends_before.true, (((h.frame).head).vtable).size) in
+    let free : required_end S (top.table).object ≤ top.next = omega (arith, c.required_end.ensures, c.if-required_end-top.true) in
+    rw long (others_absent c.args.self.now.checks b S c.args.self.now.limits (g.under).start (g.under).frames top c.args.self.now.tables c.args.self.now.deepest c.loop-field.meter.count h i.rests _ here past free)
 
 pub returns-then-branch-clause-walking : goal.returns-then-branch-clause-walking
 returns-then-branch-clause-walking g c =
