@@ -18,6 +18,7 @@ SHAPES = [
     ("texts of bags", 900, 1 + 900 // 10),
     ("texts of objects", 800, 1 + 800 // 8),
     ("wide tables", 100, 2**5 - 1),
+    ("wide vtables", 1024, 2**19 - 1),
 ]
 
 
