@@ -13,7 +13,7 @@ use Rattle.fb_verify.specs.Bounds.{Bounds}
 use Rattle.fb_bfbs.specs.declared.loading.Loaded.{Loaded}
 use Rattle.fb_bfbs.specs.declared.load_fault.LoadFault.{LoadFault}
 use Rattle.fb_bfbs.specs.declared.load_fault.LoadFault.TheVariants as load
-use Rattle.fbcheck.specs.Checking.{IsSchema, LacksSchema, load_fault, published_limits}
+use Rattle.fbcheck.specs.Checking.{IsSchema, LacksSchema, load_fault, schema_limits}
 use Rattle.fbcheck.specs.declared.fault.RunFault.{RunFault}
 
 chosen : (rows : Rows) (k n : ℕ) (b : Bool) → is_table rows k ≡ b → (if b then Some k else None) ≡ Some n → IsTrue (is_table rows n)
@@ -43,7 +43,7 @@ unfolding fixed
 schema_is_table rows is = subst (λ (r : Rows). IsTrue (is_table r 9)) (sym is) refl
 
 -- what was loaded is the schema of the file
-pub schema_of_file : (file : Option (Bor (List ℕ))) (bytes : Bor (List ℕ)) (limits : Bounds) (loaded : Loaded) → file ≡ Some bytes → limits ≡ published_limits
+pub schema_of_file : (file : Option (Bor (List ℕ))) (bytes : Bor (List ℕ)) (limits : Bounds) (loaded : Loaded) → file ≡ Some bytes → limits ≡ schema_limits
     → IsLoaded bytes.now limits loaded → IsSchema file loaded.schema loaded.root
 schema_of_file file bytes limits loaded is same load =
     subst (λ (f : Option (Bor (List ℕ))). IsSchema f loaded.schema loaded.root) (sym is)
@@ -53,7 +53,7 @@ schema_of_file file bytes limits loaded is same load =
 pub schema_without_file : (file : Option (Bor (List ℕ))) (rows : Rows) → file ≡ None → rows ≡ fixed → IsSchema file rows (Some 9)
 schema_without_file file rows is same = subst (λ (f : Option (Bor (List ℕ))). IsSchema f rows (Some 9)) (sym is) (same, refl)
 
-lacks_loaded : (bytes : Bor (List ℕ)) (fault : LoadFault) (s k : Option (List ℕ)) → IsLoadFault bytes.now published_limits fault → LacksSchema (Some bytes) s s k k (load_fault fault)
+lacks_loaded : (bytes : Bor (List ℕ)) (fault : LoadFault) (s k : Option (List ℕ)) → IsLoadFault bytes.now schema_limits fault → LacksSchema (Some bytes) s s k k (load_fault fault)
 lacks_loaded bytes load.OutOfMemory s k fails = (Keeps-refl s, Keeps-refl k)
 lacks_loaded bytes load.TooLong s k fails = fails
 lacks_loaded bytes (load.NotWellFormed fault) s k fails = fails
@@ -62,7 +62,7 @@ lacks_loaded bytes load.RootNotListed s k fails = fails
 
 -- the file gives no schema
 pub lacks_schema : (file : Option (Bor (List ℕ))) (bytes : Bor (List ℕ)) (limits : Bounds) (fault : LoadFault) (told : RunFault) (s k : Option (List ℕ)) → file ≡ Some bytes
-    → limits ≡ published_limits → told ≡ load_fault fault → IsLoadFault bytes.now limits fault → LacksSchema file s s k k told
+    → limits ≡ schema_limits → told ≡ load_fault fault → IsLoadFault bytes.now limits fault → LacksSchema file s s k k told
 lacks_schema file bytes limits fault told s k is same tells fails =
     subst (λ (f : Option (Bor (List ℕ))). LacksSchema f s s k k told) (sym is)
     (subst (LacksSchema (Some bytes) s s k k) (sym tells) (lacks_loaded bytes fault s k (subst (λ (l : Bounds). IsLoadFault bytes.now l fault) same fails)))

@@ -11,7 +11,7 @@ use Rattle.fb_bfbs.specs.declared.load_fault.LoadFault.TheVariants as load
 use Rattle.fb_bfbs.specs.LoadLaws.{Applies}
 use Rattle.fbcheck.specs.Job.{Job, job_of}
 use Rattle.fbcheck.specs.Asked.{IsAsked, IsPath, IsPathFault, HasPathFault, asked_root, options_of}
-use Rattle.fbcheck.specs.Checking.{IsSchema, IsNoSchema, published_limits}
+use Rattle.fbcheck.specs.Checking.{IsSchema, IsNoSchema, schema_limits}
 use Rattle.fbcheck.specs.CheckLaws.{Asks, AsksBy}
 use Rattle.fbcheck.specs.declared.choices.Settings.{Settings}
 use Rattle.fbcheck.specs.declared.fault.RunFault.{RunFault}
@@ -78,7 +78,7 @@ module _ (rows : Rows) (own : Option ℕ) (settings : Settings) where
   asks_by_once (Err _) y h i = absurd h
 
 -- a file that gives no schema has that fault
-as_fault : (bytes : Bor (List ℕ)) (f : LoadFault) → IsNoSchema (Some bytes) f → Applies bytes.now published_limits (Err f)
+as_fault : (bytes : Bor (List ℕ)) (f : LoadFault) → IsNoSchema (Some bytes) f → Applies bytes.now schema_limits (Err f)
 as_fault bytes load.OutOfMemory h = absurd h
 as_fault bytes (load.NotWellFormed f) h = h
 as_fault bytes (load.BadSchema f) h = h
@@ -87,22 +87,22 @@ as_fault bytes load.TooLong h = h
 
 schema_or_none : (file : Option (Bor (List ℕ))) (rows : Rows) (own : Option ℕ) (f : LoadFault) → IsSchema file rows own → IsNoSchema file f → ⊥
 schema_or_none None rows own f h i = i
-schema_or_none (Some bytes) rows own f h i = one_load bytes.now published_limits (Ok h.0) (Err f) h.1 (as_fault bytes f i)
+schema_or_none (Some bytes) rows own f h i = one_load bytes.now schema_limits (Ok h.0) (Err f) h.1 (as_fault bytes f i)
 
 one_no_schema : (file : Option (Bor (List ℕ))) (f g : LoadFault) → IsNoSchema file f → IsNoSchema file g → f ≡ g
 one_no_schema None f g h i = absurd h
-one_no_schema (Some bytes) f g h i = one_load bytes.now published_limits (Err f) (Err g) (as_fault bytes f h) (as_fault bytes g i)
+one_no_schema (Some bytes) f g h i = one_load bytes.now schema_limits (Err f) (Err g) (as_fault bytes f h) (as_fault bytes g i)
 
 same_rows : (file : Option (Bor (List ℕ))) (rows others : Rows) (own other : Option ℕ) → IsSchema file rows own → IsSchema file others other → rows ≡ others
 same_rows None rows others own other h i = h.0 ∙ sym i.0
 same_rows (Some bytes) rows others own other h i =
-    let e = one_load bytes.now published_limits (Ok h.0) (Ok i.0) h.1 i.1 in
+    let e = one_load bytes.now schema_limits (Ok h.0) (Ok i.0) h.1 i.1 in
     h.2 ∙ e.schema ∙ sym i.2
 
 same_own : (file : Option (Bor (List ℕ))) (rows others : Rows) (own other : Option ℕ) → IsSchema file rows own → IsSchema file others other → own ≡ other
 same_own None rows others own other h i = h.1 ∙ sym i.1
 same_own (Some bytes) rows others own other h i =
-    let e = one_load bytes.now published_limits (Ok h.0) (Ok i.0) h.1 i.1 in
+    let e = one_load bytes.now schema_limits (Ok h.0) (Ok i.0) h.1 i.1 in
     h.3 ∙ e.root ∙ sym i.3
 
 -- what is asked by the rows of a file

@@ -10,17 +10,19 @@ use Rattle.clap.specs.Facts.{args_of, least_values, unwrap_or_range}
 use Rattle.clap.specs.Simple.{App, IsSimple, app_of, is_ready, is_ready_leaf}
 use Rattle.clap.specs.Texts.{items_of}
 use Rattle.clap.specs.Walk.{Rule, Text, rule_of}
-use Rattle.clap.specs.Words.{found_of, one_text, without_minus}
+use Rattle.clap.specs.Words.{found_of, one_text}
 use Rattle.clap.specs.declared.builder.arg.Arg.{Arg}
 use Rattle.clap.specs.declared.builder.command.Command.{Command}
 use Rattle.clap.specs.declared.builder.range.ValueRange.{ValueRange}
+use Rattle.clap.specs.Values.{Accepts, read_as, reading_of}
+use Rattle.clap.specs.declared.builder.value_parser.ValueParser.{ValueParser}
 use Rattle.clap.specs.declared.builder.value_parser.ValueParser.TheVariants as parser
 use Rattle.clap.specs.declared.parser.matches.ArgMatches.{ArgMatches}
 use Rattle.clap.proofs.OnLiterals.{clap_on_literals}
 use Rattle.clap.proofs.SimpleLemmas.{ready_simple, simple_groups}
 use Rattle.clap.proofs.WalkLemmas.{both}
-use Rattle.fbcheck.specs.CommandLine.{program, number_rule}
-use Rattle.fbcheck.specs.Values.{HoldsNumber}
+use Rattle.fbcheck.specs.CommandLine.{program, number_rule, value_rule, wide_number_rule}
+use Rattle.fbcheck.specs.Values.{HoldsNumber, HoldsWideNumber}
 use Rattle.fbcheck.proofs.DefaultLemmas.{IsDefaulted, default_reads}
 
 rule_at : (xs : List Arg) (k : ℕ) (d : Arg) → rule_of (slice_index_or xs k d) ≡ slice_index_or (map rule_of xs) k (rule_of d)
@@ -65,25 +67,28 @@ some_arg (x ∷ xs) lt = x
 least_one : (a : Arg) → a.num_vals ≡ None → 1 ≤ least_values a
 least_one a none = subst (λ (o : Option ValueRange). 1 ≤ (unwrap_or_range o).start_inclusive) (sym none) (omega arith)
 
--- the option at place k of the program, of which the rule is that of a number
-pub holds_number : (c : Command) (m : ArgMatches) → app_of c ≡ program → IsParsedFrom c m → (k least most : ℕ) (name default : Text) → k < 10
-    → ((d : Rule) → slice_index_or program.top.rules k d ≡ number_rule name least most default) → is_id_of name k program.top.rules ≡ true
+-- a text that passed this parser, as it is read
+abbrev Holds : Option Text → ValueParser → Type 0
+Holds found q = (ignore_case : Bool) × (t : Text) × (found ≡ Some (read_as (reading_of q) t)) × Accepts ignore_case q t
+
+-- the option at place k of the program, of which the rule has this parser and a default
+holds_value : (c : Command) (m : ArgMatches) → app_of c ≡ program → IsParsedFrom c m → (k : ℕ) (q : ValueParser) (name default : Text) → k < 11
+    → ((d : Rule) → slice_index_or program.top.rules k d ≡ value_rule name q default) → is_id_of name k program.top.rules ≡ true
     → (name ≡ [] → ⊥) → (name ≡ codes "help" → ⊥) → (name ≡ codes "version" → ⊥)
-    → HoldsNumber (one_text (found_of m) name) least most
-holds_number c m is p k least most name default lt at alone named help version =
+    → Holds (one_text (found_of m) name) q
+holds_value c m is p k q name default lt at alone named help version =
     let rules : map rule_of (args_of c) ≡ program.top.rules = ap (λ (a : App). a.top.rules) is in
-    let long : length (args_of c) ≡ 10 = sym (length-map (args_of c) rule_of) ∙ ap length rules in
+    let long : length (args_of c) ≡ 11 = sym (length-map (args_of c) rule_of) ∙ ap length rules in
     let low : k < length (args_of c) = omega arith in
     let d = some_arg (args_of c) (omega arith) in
     let a = slice_index_or (args_of c) k d in
-    let rule : rule_of a ≡ number_rule name least most default =
-    rule_at (args_of c) k d ∙ ap (λ l. slice_index_or l k (rule_of d)) rules ∙ at (rule_of d) in
+    let rule : rule_of a ≡ value_rule name q default = rule_at (args_of c) k d ∙ ap (λ l. slice_index_or l k (rule_of d)) rules ∙ at (rule_of d) in
     let id : a.id.now ≡ name = ap (λ (r : Rule). r.id) rule in
     let simple : IsSimple c = ready_simple c (ap (λ (x : App). is_ready x.top) is ∙ ready) (ap (λ (x : App). list_all is_ready_leaf x.subs) is) in
     let one = simple.args k d low in
     let local : All (λ x. x.groups.items ≡ []) (args_of c) = simple_groups c (ap (λ (x : App). list_all (λ (r : Rule). r.is_simple) x.top.rules) is) in
     let some : length (items_of a.default_vals) ≡ 1 = sym (length-map (items_of a.default_vals) _) ∙ ap (λ (r : Rule). length r.defaults) rule in
-    let defaulted : IsDefaulted c k d (parser.Signed (pos least) (pos most)) = record {
+    let defaulted : IsDefaulted c k d q = record {
       low = low;
       default = (one.default_ifs, omega arith);
       set = ap (λ (r : Rule). r.action) rule;
@@ -95,8 +100,26 @@ holds_number c m is p k least most name default lt at alone named help version =
       named = λ e. named (sym id ∙ e);
       own = λ auto. elim auto [ inl h ↦ help (sym id ∙ h) | inr h ↦ version (sym id ∙ h) ];
     } in
-    let read = default_reads c m p k d (parser.Signed (pos least) (pos most)) defaulted ((p.from.same_groups local).1 ∙ simple.groups) simple.globals in
-    (read.0, subst (λ (t : Text). one_text (found_of m) t ≡ Some (without_minus read.0)) id read.1, read.2)
+    let read = default_reads c m p k d q defaulted ((p.from.same_groups local).1 ∙ simple.groups) simple.globals in
+    (a.ignore_case, read.0, subst (λ (t : Text). one_text (found_of m) t ≡ Some (read_as (reading_of q) read.0)) id read.1, read.2)
+
+-- the option at place k of the program, of which the rule is that of a number
+pub holds_number : (c : Command) (m : ArgMatches) → app_of c ≡ program → IsParsedFrom c m → (k least most : ℕ) (name default : Text) → k < 11
+    → ((d : Rule) → slice_index_or program.top.rules k d ≡ number_rule name least most default) → is_id_of name k program.top.rules ≡ true
+    → (name ≡ [] → ⊥) → (name ≡ codes "help" → ⊥) → (name ≡ codes "version" → ⊥)
+    → HoldsNumber (one_text (found_of m) name) least most
+holds_number c m is p k least most name default lt at alone named help version =
+    let held = holds_value c m is p k (parser.Signed (pos least) (pos most)) name default lt at alone named help version in
+    (held.1, held.2, held.3)
+
+-- the same of any number
+pub holds_wide_number : (c : Command) (m : ArgMatches) → app_of c ≡ program → IsParsedFrom c m → (k : ℕ) (name default : Text) → k < 11
+    → ((d : Rule) → slice_index_or program.top.rules k d ≡ wide_number_rule name default) → is_id_of name k program.top.rules ≡ true
+    → (name ≡ [] → ⊥) → (name ≡ codes "help" → ⊥) → (name ≡ codes "version" → ⊥)
+    → HoldsWideNumber (one_text (found_of m) name)
+holds_wide_number c m is p k name default lt at alone named help version =
+    let held = holds_value c m is p k (parser.Unsigned 0 18446744073709551615) name default lt at alone named help version in
+    (held.1, held.2, held.3)
 
 pub differs : (a b : Text) → bytes_eq a b ≡ false → a ≡ b → ⊥
 differs a b unequal e =

@@ -46,7 +46,7 @@ options_of settings root steps = record {
   root = root;
   ident = ident_of settings.ident;
   path = steps;
-  limits = record { depth = settings.depth; tables = settings.tables; reads = None };
+  limits = record { depth = settings.depth; tables = settings.tables; reads = Some settings.reads };
   max_bytes = settings.max_bytes;
   bare = settings.bare;
   alignment = settings.alignment;

@@ -14,20 +14,20 @@ use Rattle.fbcheck.specs.declared.choices.Settings.{Settings}
 use Rattle.fbcheck.specs.declared.fault.RunFault.{RunFault}
 use Rattle.fbcheck.specs.declared.fault.RunFault.TheVariants.{Load, OutOfMemory}
 
--- the limits by which schema files are verified
-abbrev pub published_limits : Bounds
-published_limits = record { depth = 64; tables = 1000000; reads = None }
+-- the limits by which schema files are verified: the published ones, with a budget of reads
+abbrev pub schema_limits : Bounds
+schema_limits = record { depth = 64; tables = 1000000; reads = Some 1000000000 }
 
 -- the rows of a schema file and the root table that it names; without a file the fixed table, and its table Schema
 abbrev pub IsSchema : Option (Bor (List ℕ)) → Rows → Option ℕ → Type 0
 IsSchema None rows own = (rows ≡ fixed) × (own ≡ Some schema_number)
-IsSchema (Some bytes) rows own = (loaded : Loaded) × IsLoaded bytes.now published_limits loaded × (rows ≡ loaded.schema) × (own ≡ loaded.root)
+IsSchema (Some bytes) rows own = (loaded : Loaded) × IsLoaded bytes.now schema_limits loaded × (rows ≡ loaded.schema) × (own ≡ loaded.root)
 
 -- why a schema file gives no schema
 abbrev pub IsNoSchema : Option (Bor (List ℕ)) → LoadFault → Type 0
 IsNoSchema None fault = ⊥
 IsNoSchema (Some bytes) load.OutOfMemory = ⊥
-IsNoSchema (Some bytes) fault = IsLoadFault bytes.now published_limits fault
+IsNoSchema (Some bytes) fault = IsLoadFault bytes.now schema_limits fault
 
 -- a fault of a load, as a run tells it
 abbrev pub load_fault : LoadFault → RunFault

@@ -3,27 +3,39 @@ use Rattle.std.specs.Prelude.{ℕ, [], ◌∷◌, Some, codes, pos}
 use Rattle.clap.specs.Walk.{Rule, Text}
 use Rattle.clap.specs.Simple.{App, new_app, new_rule, with_rule}
 use Rattle.clap.specs.declared.builder.action.ArgAction.TheVariants.{Set, SetTrue}
+use Rattle.clap.specs.declared.builder.value_parser.ValueParser.{ValueParser}
 use Rattle.clap.specs.declared.builder.value_parser.ValueParser.TheVariants as parser
 
 -- an option that takes a text
 abbrev pub text_rule : Text → Rule
 text_rule name = record (new_rule name) { long = Some name; value_names = 1 }
 
--- an option that takes a number in a range, with a default
-abbrev pub number_rule : Text → ℕ → ℕ → Text → Rule
-number_rule name least most default = record (new_rule name) {
+-- an option that takes a value of this parser, with a default
+abbrev pub value_rule : Text → ValueParser → Text → Rule
+value_rule name value default = record (new_rule name) {
   long = Some name;
   value_names = 1;
-  parser = Some (parser.Signed (pos least) (pos most));
+  parser = Some value;
   defaults = default ∷ [];
   action = Some Set;
 }
+
+-- an option that takes a number in a range, with a default
+abbrev pub number_rule : Text → ℕ → ℕ → Text → Rule
+number_rule name least most default = value_rule name (parser.Signed (pos least) (pos most)) default
+
+-- an option that takes any number that `u64` holds, with a default
+abbrev pub wide_number_rule : Text → Text → Rule
+wide_number_rule name default = value_rule name (parser.Unsigned 0 18446744073709551615) default
 
 abbrev pub depth_rule : Rule
 depth_rule = number_rule (codes "max-depth") 0 4096 (codes "64")
 
 abbrev pub tables_rule : Rule
 tables_rule = number_rule (codes "max-tables") 0 4294967295 (codes "1000000")
+
+abbrev pub reads_rule : Rule
+reads_rule = wide_number_rule (codes "max-reads") (codes "1000000000")
 
 abbrev pub bytes_rule : Rule
 bytes_rule = number_rule (codes "max-bytes") 8 2147483647 (codes "67108864")
@@ -36,7 +48,7 @@ abbrev pub texts : App
 texts = with_rule (with_rule (with_rule (with_rule (new_app (codes "fbcheck")) (text_rule (codes "schema"))) (text_rule (codes "root"))) (text_rule (codes "ident"))) (text_rule (codes "path"))
 
 abbrev pub numbers : App
-numbers = with_rule (with_rule (with_rule texts depth_rule) tables_rule) bytes_rule
+numbers = with_rule (with_rule (with_rule (with_rule texts depth_rule) tables_rule) reads_rule) bytes_rule
 
 abbrev pub program : App
 program = with_rule (with_rule (with_rule numbers (flag_rule (codes "bare"))) (flag_rule (codes "no-alignment"))) (flag_rule (codes "inline-size"))

@@ -3,7 +3,7 @@ use Rattle.std.specs.Prelude.{◌≡◌, ◌≤◌, ℕ, List, Option, Some, Non
 use Rattle.std.specs.Str.Parse.{IsNumeral, digits_value, without_leading_plus}
 use Rattle.clap.specs.Walk.{Text, first_of, one_of}
 use Rattle.clap.specs.Simple.{matches_of}
-use Rattle.clap.specs.Words.{IsSignedIn, without_minus}
+use Rattle.clap.specs.Words.{IsSignedIn, IsUnsignedIn, without_minus}
 use Rattle.fbcheck.specs.CommandLine.{program}
 
 -- the text that the words give to this option
@@ -26,3 +26,7 @@ IsGiven name words = text_of name words ≡ Some (codes "true")
 -- the matches hold a text that passed the option's parser
 abbrev pub HoldsNumber : Option Text → ℕ → ℕ → Type 0
 HoldsNumber found least most = (t : Text) × (found ≡ Some (without_minus t)) × IsSignedIn (pos least) (pos most) t
+
+-- the matches hold a text that passed the parser of any number of `u64`
+abbrev pub HoldsWideNumber : Option Text → Type 0
+HoldsWideNumber found = (t : Text) × (found ≡ Some t) × IsUnsignedIn 0 18446744073709551615 t

@@ -87,7 +87,7 @@ fn options(settings: &Settings, root: u32, path: Option<Path>) -> Options
         root,
         ident: wanted(settings.ident),
         path,
-        limits,
+        limits: limits.with_reads(settings.reads),
         max_bytes: settings.max_bytes,
         bare: settings.bare,
         alignment: settings.alignment,

@@ -2,7 +2,7 @@
 
 ghost use Rattle.std.specs.Prelude.{IfOk, IfErr, OnOk, ◌≡◌, ◌+◌, ◌-◌, ◌<◌, ◌≤◌, ◌^◌, true};
 ghost use Rattle.fbcheck.specs.Asked.{IsRefusal};
-ghost use Rattle.fbcheck.specs.Checking.{FailsChecked, PassesChecked, load_fault};
+ghost use Rattle.fbcheck.specs.Checking.{FailsChecked, PassesChecked, load_fault, schema_limits};
 ghost use Rattle.fbcheck.specs.Faults.{IsCaused};
 
 use crate::asked::run_asked;
@@ -18,6 +18,13 @@ use std::alloc::Global;
 /// The number of the table `reflection.Schema` in the fixed table (reflection.fbs).
 const SCHEMA: u32 = 9;
 
+/// The limits by which schema files are verified, whatever the settings say: the published ones, and 1,000,000,000 reads.
+fn schema_limits() -> Limits
+    ensures { result ≡ schema_limits }
+{
+    Limits::published().with_reads(1_000_000_000)
+}
+
 /// A fault of a load, as a run tells it.
 fn fault_of(fault: LoadFault) -> RunFault
     ensures { result ≡ load_fault fault }
@@ -31,8 +38,9 @@ fn fault_of(fault: LoadFault) -> RunFault
 /// Checks the buffers of an input by the schema of a schema file (`.bfbs`), as the settings ask; without a file they are checked as schema
 /// files themselves, by the fixed table.
 ///
-/// The schema file is verified under the published limits and checks, whatever the settings say; these are for the buffers. The root is the
-/// table of the settings' name, or else that of the schema file, or `reflection.Schema` without one.
+/// The schema file is verified under the published limits and checks, and with a budget of 1,000,000,000 reads, whatever the settings
+/// say; these are for the buffers. The root is the table of the settings' name, or else that of the schema file, or
+/// `reflection.Schema` without one.
 ///
 /// # Errors
 ///
@@ -67,7 +75,7 @@ pub fn check<S: Source, K: Sink>(
         (S.calls reader.old + MOST_TURNS - S.calls reader.new) (S.ended reader.new) fault) }
 {
     match schema_bytes {
-        Some(bytes) => match load(alloc, bytes, Limits::published()) {
+        Some(bytes) => match load(alloc, bytes, schema_limits()) {
             Ok(loaded) => run_asked(alloc, &loaded.schema, loaded.root, settings, reader, writer),
             Err(fault) => Err(fault_of(fault)),
         },

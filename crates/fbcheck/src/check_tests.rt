@@ -276,6 +276,28 @@ fn a_chain_of_64_is_as_deep_as_may_be_without_words(rt: HostRuntime) -> Result<(
 }
 
 #[test]
+fn a_buffer_has_as_many_reads_as_the_words_allow(rt: HostRuntime) -> Result<(), Fail> {
+    let orc = spelled(rt.alloc(), ORC)?;
+    for (reads, line) in [
+        ("8", "1 ok tables=1 depth=1 reads=8\n"),
+        ("18446744073709551615", "1 ok tables=1 depth=1 reads=8\n"),
+        (
+            "7",
+            "1 bad V13 TooManyReads at=16 object=0 field=1 reads=8\n",
+        ),
+        (
+            "0",
+            "1 bad V13 TooManyReads at=0 object=0 field=- reads=1\n",
+        ),
+    ] {
+        let words = ["--bare", "--max-reads", reads];
+        let told = told_of(rt.alloc(), words.as_slice(), orc.as_slice())?;
+        assert_eq!(rt; told.as_slice(), line.as_bytes(), "{reads}");
+    }
+    Ok(())
+}
+
+#[test]
 fn a_schema_file_is_checked_by_the_fixed_table(rt: HostRuntime) -> Result<(), Fail> {
     let file = schema_m(rt.alloc())?;
     let run = run_by(rt.alloc(), None, ["--bare"].as_slice(), file.as_slice())?;

@@ -1,6 +1,6 @@
 ghost use Rattle.std.specs.Prelude.{IfOk, ◌≡◌, false};
 ghost use Rattle.clap.specs.Words.{app_of, rule_of};
-ghost use Rattle.fbcheck.specs.CommandLine.{program, texts, numbers, text_rule, depth_rule, tables_rule, bytes_rule, flag_rule};
+ghost use Rattle.fbcheck.specs.CommandLine.{program, texts, numbers, text_rule, depth_rule, tables_rule, reads_rule, bytes_rule, flag_rule};
 
 use clap::{Arg, ArgAction, Command, value_parser};
 use std::alloc::{AllocError, Global};
@@ -38,6 +38,19 @@ fn tables_arg<'a>(alloc: Global) -> Arg<'a>
         .help("Most tables in one buffer, 0 to 4294967295")
         .value_parser(value_parser!(u32))
         .default_value("1000000")
+        .action(ArgAction::Set)
+}
+
+fn reads_arg<'a>(alloc: Global) -> Arg<'a>
+    ensures rule { rule_of result ≡ reads_rule }
+    ensures local { result.global ≡ false }
+{
+    Arg::new(alloc, "max-reads")
+        .long("max-reads")
+        .value_name("N")
+        .help("Most reads of one buffer, 0 to 18446744073709551615")
+        .value_parser(value_parser!(u64))
+        .default_value("1000000000")
         .action(ArgAction::Set)
 }
 
@@ -101,6 +114,7 @@ fn with_numbers<'a>(alloc: Global) -> Result<Command<'a>, AllocError>
     with_texts(alloc)?
         .arg(depth_arg(alloc))?
         .arg(tables_arg(alloc))?
+        .arg(reads_arg(alloc))?
         .arg(bytes_arg(alloc))
 }
 

@@ -12,6 +12,7 @@ pub struct Options {
     pub ident: Ident,
     /// The path from the root table to the value that each yes line ends with, if one is wanted.
     pub path: Option<Path>,
+    /// The limits of each buffer: depth, tables, and counted reads, where these have a budget.
     pub limits: Limits,
     /// The longest message, prefix included, or the longest bare input: 8 to 2,147,483,647 bytes.
     pub max_bytes: u32,

@@ -48,6 +48,7 @@ fn published() -> Settings {
         path: None,
         depth: 64,
         tables: 1_000_000,
+        reads: 1_000_000_000,
         max_bytes: 67_108_864,
         bare: true,
         alignment: true,
@@ -210,6 +211,18 @@ fn a_bare_buffer_gets_its_line(rt: HostRuntime) -> Result<(), Fail> {
         tables: 0,
         ..published()
     };
+    let enough_reads = Settings {
+        reads: 8,
+        ..published()
+    };
+    let few_reads = Settings {
+        reads: 7,
+        ..published()
+    };
+    let no_reads = Settings {
+        reads: 0,
+        ..published()
+    };
     let no_depth = Settings {
         depth: 0,
         ..published()
@@ -255,6 +268,26 @@ fn a_bare_buffer_gets_its_line(rt: HostRuntime) -> Result<(), Fail> {
             &no_tables,
             ORC.as_slice(),
             "1 bad V7 TooManyTables at=12 object=0 field=- reads=1\n",
+        ),
+        (
+            &enough_reads,
+            ORC.as_slice(),
+            "1 ok tables=1 depth=1 reads=8\n",
+        ),
+        (
+            &few_reads,
+            ORC.as_slice(),
+            "1 bad V13 TooManyReads at=16 object=0 field=1 reads=8\n",
+        ),
+        (
+            &few_reads,
+            unterminated.as_slice(),
+            "1 bad V10 NoTerminator at=31 object=0 field=1 reads=8\n",
+        ),
+        (
+            &no_reads,
+            ORC.as_slice(),
+            "1 bad V13 TooManyReads at=0 object=0 field=- reads=1\n",
         ),
         (
             &no_depth,

@@ -2,7 +2,7 @@ ghost use Rattle.std.specs.Prelude.{IfOk, IfErr, IfSome, OnOk, OnErr, ℕ, ◌�
 ghost use Rattle.clap.specs.Faults.{fault_of};
 ghost use Rattle.clap.specs.Words.{first_value, found_of, one_text};
 ghost use Rattle.fbcheck.specs.CommandLine.{program};
-ghost use Rattle.fbcheck.specs.Values.{IsNumberOf, IsGiven, HoldsNumber, IsWrittenIn, text_of};
+ghost use Rattle.fbcheck.specs.Values.{IsNumberOf, IsGiven, HoldsNumber, HoldsWideNumber, IsWrittenIn, text_of};
 ghost use Rattle.fbcheck.specs.Refusal.{Refuses};
 
 use crate::choices::{Settings, SettingsFault};
@@ -29,6 +29,7 @@ pub fn settings(alloc: Global, words: &[String]) -> Result<Settings, SettingsFau
 
     ensures depth { IfOk result (λ s. IsNumberOf (codes "max-depth") 0 4096 (map string_bytes words.now) s.depth) }
     ensures tables { IfOk result (λ s. IsNumberOf (codes "max-tables") 0 4294967295 (map string_bytes words.now) s.tables) }
+    ensures reads { IfOk result (λ s. IsNumberOf (codes "max-reads") 0 18446744073709551615 (map string_bytes words.now) s.reads) }
     ensures bytes { IfOk result (λ s. IsNumberOf (codes "max-bytes") 8 2147483647 (map string_bytes words.now) s.max_bytes) }
 
     ensures bare { IfOk result (λ s. IsTrue s.bare ↔ IsGiven (codes "bare") (map string_bytes words.now)) }
@@ -61,6 +62,7 @@ pub fn settings(alloc: Global, words: &[String]) -> Result<Settings, SettingsFau
     };
     let depth = number(&matches, "max-depth", 0, 4096);
     let tables = number(&matches, "max-tables", 0, u32::MAX);
+    let reads = wide_number(&matches, "max-reads");
     let max_bytes = number(&matches, "max-bytes", 8, 2_147_483_647);
     let bare = flag(&matches, "bare");
     let alignment = !flag(&matches, "no-alignment");
@@ -72,6 +74,7 @@ pub fn settings(alloc: Global, words: &[String]) -> Result<Settings, SettingsFau
         path,
         depth,
         tables,
+        reads,
         max_bytes,
         bare,
         alignment,
@@ -114,6 +117,17 @@ fn number(matches: &ArgMatches<'_>, id: &str, least: u32, most: u32) -> u32
     ensures { IsWrittenIn (one_text (found_of matches.now) id.now) result × (least ≤ result) × (result ≤ most) }
 {
     match matches.get_one::<u32>(id) {
+        Some(number) => number,
+        None => unreachable!(),
+    }
+}
+
+/// The same of an option that may be any number of `u64`.
+fn wide_number(matches: &ArgMatches<'_>, id: &str) -> u64
+    requires { HoldsWideNumber (one_text (found_of matches.now) id.now) }
+    ensures { IsWrittenIn (one_text (found_of matches.now) id.now) result × (result ≤ 18446744073709551615) }
+{
+    match matches.get_one::<u64>(id) {
         Some(number) => number,
         None => unreachable!(),
     }

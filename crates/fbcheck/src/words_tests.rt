@@ -20,13 +20,14 @@ fn with_name(alloc: Global, words: &[&str]) -> Result<Vec<String>, AllocError> {
     Ok(all)
 }
 
-/// Depth, tables, bytes, then bare, alignment and inline size.
-type Row = (u32, u32, u32, bool, bool, bool);
+/// Depth, tables, reads, bytes, then bare, alignment and inline size.
+type Row = (u32, u32, u64, u32, bool, bool, bool);
 
 fn row_of(settings: &Settings) -> Row {
     (
         settings.depth,
         settings.tables,
+        settings.reads,
         settings.max_bytes,
         settings.bare,
         settings.alignment,
@@ -36,33 +37,60 @@ fn row_of(settings: &Settings) -> Row {
 
 #[test]
 fn words_are_read(rt: HostRuntime) -> Result<(), Fail> {
+    const READS: u64 = 1_000_000_000;
     const BYTES: u32 = 67_108_864;
     for (words, want) in [
-        ([].as_slice(), (64, 1_000_000, BYTES, false, true, false)),
+        (
+            [].as_slice(),
+            (64, 1_000_000, READS, BYTES, false, true, false),
+        ),
         (
             ["--bare", "--max-tables", "7"].as_slice(),
-            (64, 7, BYTES, true, true, false),
+            (64, 7, READS, BYTES, true, true, false),
         ),
         (
             ["--max-depth", "65"].as_slice(),
-            (65, 1_000_000, BYTES, false, true, false),
+            (65, 1_000_000, READS, BYTES, false, true, false),
         ),
         (
-            ["--max-depth", "0", "--max-tables", "0", "--max-bytes", "8"].as_slice(),
-            (0, 0, 8, false, true, false),
+            ["--max-reads", "7"].as_slice(),
+            (64, 1_000_000, 7, BYTES, false, true, false),
+        ),
+        (
+            [
+                "--max-depth",
+                "0",
+                "--max-tables",
+                "0",
+                "--max-reads",
+                "0",
+                "--max-bytes",
+                "8",
+            ]
+            .as_slice(),
+            (0, 0, 0, 8, false, true, false),
         ),
         (
             [
                 "--max-depth=4096",
                 "--max-tables=4294967295",
+                "--max-reads=18446744073709551615",
                 "--max-bytes=2147483647",
             ]
             .as_slice(),
-            (4096, 4_294_967_295, 2_147_483_647, false, true, false),
+            (
+                4096,
+                4_294_967_295,
+                u64::MAX,
+                2_147_483_647,
+                false,
+                true,
+                false,
+            ),
         ),
         (
             ["--no-alignment", "--inline-size"].as_slice(),
-            (64, 1_000_000, BYTES, false, false, true),
+            (64, 1_000_000, READS, BYTES, false, false, true),
         ),
     ] {
         let settings = given(rt.alloc(), words).ok().ok_or("refused")?;
@@ -77,6 +105,12 @@ fn wrong_words_are_refused(rt: HostRuntime) -> Result<(), Fail> {
         ["--max-depth", "4097"].as_slice(),
         ["--max-depth", "-1"].as_slice(),
         ["--max-tables", "4294967296"].as_slice(),
+        ["--max-reads", "18446744073709551616"].as_slice(),
+        ["--max-reads", "-1"].as_slice(),
+        ["--max-reads=-1"].as_slice(),
+        ["--max-reads", "seven"].as_slice(),
+        ["--max-reads"].as_slice(),
+        ["--max-reads", "7", "--max-reads", "7"].as_slice(),
         ["--max-bytes", "7"].as_slice(),
         ["--max-bytes", "2147483648"].as_slice(),
         ["--max-depth"].as_slice(),

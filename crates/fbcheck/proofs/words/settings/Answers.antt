@@ -2,7 +2,7 @@ use Rattle.std.proofs.Common.{rules, sym, ◌∙◌, codes, subst, Option, refl,
 use Rattle.clap.specs.Walk.{Text}
 use Rattle.fbcheck.specs.Values.{IsWrittenIn}
 use Rattle.fbcheck.proofs.words.settings.Goals.{in-OutOfMemory+in-Some-1, in-OutOfMemory+in-None-1, in_default-kind}
-use Rattle.fbcheck.proofs.ProgramLemmas.{differs, holds_number}
+use Rattle.fbcheck.proofs.ProgramLemmas.{differs, holds_number, holds_wide_number}
 use Rattle.fbcheck.proofs.WordsLemmas.{no_fault, refused_by, text_of_words, read_of_words, turned}
 use Rattle.fbcheck.proofs.words.settings.Goals as goal
 
@@ -21,10 +21,16 @@ number-tables-requires c =
     holds_number _ _ c.in-Ok.ensures.app c.in-Ok-try_get_matches_from.ensures.parsed 5 0 4294967295 name (codes "1000000") (omega arith) (λ d. refl) refl
     (differs name [] refl) (differs name (codes "help") refl) (differs name (codes "version") refl)
 
+pub wide_number-reads-requires : goal.wide_number-reads-requires
+wide_number-reads-requires c =
+    let name = codes "max-reads" in
+    holds_wide_number _ _ c.in-Ok.ensures.app c.in-Ok-try_get_matches_from.ensures.parsed 6 name (codes "1000000000") (omega arith) (λ d. refl) refl
+    (differs name [] refl) (differs name (codes "help") refl) (differs name (codes "version") refl)
+
 pub number-max_bytes-requires : goal.number-max_bytes-requires
 number-max_bytes-requires c =
     let name = codes "max-bytes" in
-    holds_number _ _ c.in-Ok.ensures.app c.in-Ok-try_get_matches_from.ensures.parsed 6 8 2147483647 name (codes "67108864") (omega arith) (λ d. refl) refl
+    holds_number _ _ c.in-Ok.ensures.app c.in-Ok-try_get_matches_from.ensures.parsed 7 8 2147483647 name (codes "67108864") (omega arith) (λ d. refl) refl
     (differs name [] refl) (differs name (codes "help") refl) (differs name (codes "version") refl)
 
 pub returns-clause-depth : goal.returns-clause-depth
@@ -36,6 +42,11 @@ pub returns-clause-tables : goal.returns-clause-tables
 returns-clause-tables c =
     let n = c.number-tables.ensures in
     (subst (λ (o : Option Text). IsWrittenIn o c.number-tables.result) (read_of_words _ _ _ (codes "max-tables") c.in-Ok.ensures.app c.in-Ok-try_get_matches_from.ensures.matches) n.0, n.1, n.2)
+
+pub returns-clause-reads : goal.returns-clause-reads
+returns-clause-reads c =
+    let n = c.wide_number-reads.ensures in
+    (subst (λ (o : Option Text). IsWrittenIn o c.wide_number-reads.result) (read_of_words _ _ _ (codes "max-reads") c.in-Ok.ensures.app c.in-Ok-try_get_matches_from.ensures.matches) n.0, omega arith, n.1)
 
 pub returns-clause-bytes : goal.returns-clause-bytes
 returns-clause-bytes c =
