@@ -13,7 +13,7 @@ TEXT, VECTOR, OBJECT, UNION = 13, 14, 15, 16
 NAMES = {
     "V1": "WrongPrefix", "V2": "OutOfBuffer", "V3": "Misaligned", "V4": "ZeroOffset", "V5": "WrongIdentifier",
     "V6": "TooDeep", "V7": "TooManyTables", "V8": "BadVtable", "V9": "MissingRequired", "V10": "NoTerminator",
-    "V11": "LengthsDiffer", "V12": "PastTable",
+    "V11": "LengthsDiffer", "V12": "PastTable", "V13": "TooManyReads",
 }
 
 
@@ -73,9 +73,9 @@ class Schema:
 class Walk:
     """One check of one buffer: what was read so far, and which tables are open."""
 
-    def __init__(self, schema, root, data, depth=64, tables=1_000_000, alignment=True, inline_size=False):
+    def __init__(self, schema, root, data, depth=64, tables=1_000_000, reads=10**9, alignment=True, inline_size=False):
         self.schema, self.root, self.data = schema, root, data
-        self.depth_limit, self.table_limit = depth, tables
+        self.depth_limit, self.table_limit, self.read_limit = depth, tables, reads
         self.alignment, self.inline_size = alignment, inline_size
         self.reads = self.tables = self.open = self.deepest = 0
         self.where = root, None
@@ -91,6 +91,11 @@ class Walk:
     def read(self, letter, at):
         self.reads += 1
         return struct.unpack_from(f"<{letter}", self.data, at)[0]
+
+    def passed(self, at):
+        """The start, a table's head, a field by itself or an element that is no table was passed."""
+        if self.reads > self.read_limit:
+            raise Fault("V13", at)
 
     def verdict(self, ident=None, prefix=True):
         """What stands behind the number in the line of this buffer."""
@@ -116,6 +121,7 @@ class Walk:
         offset = self.read("I", base)
         if not offset:
             raise Fault("V4", base)
+        self.passed(base)
         self.table(base + offset, self.root)
 
     def table(self, at, number):
@@ -129,6 +135,7 @@ class Walk:
         before, self.where = self.where, (number, None)
         vtable, size = self.head(at)
         inline = self.read("H", vtable + 2) if self.inline_size else None
+        self.passed(at)
         for field in self.schema.tables[number]:
             self.where = number, (field.slot - 4) // 2
             self.field(at, vtable, size, inline, field)
@@ -152,12 +159,14 @@ class Walk:
         if not word:
             if field.required:
                 raise Fault("V9", at)
+            self.passed(at)
             return
         is_unions = field.base == VECTOR and field.element == UNION
         types = self.types_of(at, vtable, field, is_unions) if is_unions or field.base == UNION else None
         if field.base == UNION:
             member = self.schema.unions[field.index].get(types)
             if not member:
+                self.passed(at)
                 return
         place = at + word
         length, alignment = self.schema.size(field.base, field.index)
@@ -166,12 +175,12 @@ class Walk:
         if self.schema.is_inline(field):
             self.fits(place, length, place)
             self.aligned(place, alignment)
-            return
-        target = self.offset(place)
-        if field.base == VECTOR:
-            self.vector(target, field, types)
+            self.passed(at)
+        elif field.base == VECTOR:
+            self.vector(self.offset(place), at, field, types)
         else:
-            self.value(target, member if field.base == UNION else field)
+            self.passed(at)
+            self.value(place, member if field.base == UNION else field)
 
     def types_of(self, at, vtable, field, is_unions):
         """The type of a union, or the place and the count of a vector of unions' types, which were checked before."""
@@ -191,16 +200,19 @@ class Walk:
             raise Fault("V4", at)
         return at + offset
 
-    def value(self, target, kind):
-        """A table, a string, or a union's struct."""
+    def value(self, at, kind):
+        """A table, a string, or a union's struct, to which the offset there leads."""
+        target = self.offset(at)
+        if kind.base == OBJECT and not self.schema.structs[kind.index]:
+            self.table(target, kind.index)
+            return
         if kind.base == TEXT:
             self.text(target)
-        elif self.schema.structs[kind.index]:
+        else:
             size, alignment = self.schema.structs[kind.index]
             self.fits(target, size, target)
             self.aligned(target, alignment)
-        else:
-            self.table(target, kind.index)
+        self.passed(at)
 
     def text(self, at):
         self.fits(at, 4, at)
@@ -210,7 +222,7 @@ class Walk:
         if self.read("B", at + 4 + count):
             raise Fault("V10", at + 4 + count)
 
-    def vector(self, at, field, types):
+    def vector(self, at, table, field, types):
         self.fits(at, 4, at)
         self.aligned(at, 4)
         count = self.read("I", at)
@@ -218,20 +230,23 @@ class Walk:
         self.fits(at + 4, count * size, at + 4)
         if count:
             self.aligned(at + 4, alignment)
+        if field.element == UNION and count != types[1]:
+            raise Fault("V11", at)
+        self.passed(table)
         if field.element == UNION:
-            self.unions(at, count, field, *types)
+            self.unions(at, count, field, types[0])
         elif field.element == TEXT or field.element == OBJECT and not self.schema.structs[field.index]:
             kind = kind_of(field.element, field.index)
             for number in range(count):
-                self.value(self.offset(at + 4 + 4 * number), kind)
+                self.value(at + 4 + 4 * number, kind)
 
-    def unions(self, at, count, field, types, type_count):
-        if count != type_count:
-            raise Fault("V11", at)
+    def unions(self, at, count, field, types):
         for number in range(count):
             member = self.schema.unions[field.index].get(self.read("B", types + 4 + number))
             if member:
-                self.value(self.offset(at + 4 + 4 * number), member)
+                self.value(at + 4 + 4 * number, member)
+            else:
+                self.passed(at + 4 + 4 * number)
 
 
 class End(Exception):

@@ -51,14 +51,14 @@ LITTLE = {6: "", 13: ("B", 7), 14: "one", 15: Plain(b"", 1, 0), 16: []}
 OPTIONS = [
     {}, {"alignment": False}, {"inline_size": True}, {"alignment": False,
                                                       "inline_size": True}, {"depth": 2}, {"tables": 3},
-    {"ident": b"KIND"},
+    {"ident": b"KIND"}, {"reads": 20}, {"reads": 70},
 ]
 
 
 def words_of(options):
     """The words that ask the program for the same."""
     flags = {"alignment": ["--no-alignment"], "inline_size": ["--inline-size"]}
-    words = {"depth": "--max-depth", "tables": "--max-tables", "ident": "--ident"}
+    words = {"depth": "--max-depth", "tables": "--max-tables", "reads": "--max-reads", "ident": "--ident"}
     told = [flags[name] if name in flags else [words[name], value] for name, value in options.items()]
     return [word if isinstance(word, bytes) else str(word) for pair in told for word in pair]
 
@@ -103,7 +103,17 @@ def buffers_of_every_kind(cases):
             told += told_alike(cases, f"{which}, {options}", by, (ALL, 0), given, options)
         cases.holds(f"{which}: the buffer itself is good", Walk(ALL, 0, prefixed(data)).verdict().startswith("ok"))
     cases.same("each reason, but for a prefix that no message of a stream has", reasons_of(told),
-               [f"V{number}" for number in range(2, 13)])
+               [f"V{number}" for number in range(2, 14)])
+
+
+def every_budget_of_reads(cases):
+    """The buffer with all fields, within each budget up to what it costs."""
+    by = ("--schema", file_of("all.bfbs", schema(OBJECTS, [UNION], root="All")))
+    given = buffer(WHOLE, b"KIND", prefix=True)
+    cost = int(Walk(ALL, 0, given).verdict().rpartition("=")[2])
+    for reads in range(cost + 1):
+        want = f"1 {Walk(ALL, 0, given, reads=reads).verdict()}\n".encode()
+        cases.same(f"within {reads} reads", run(*by, "--max-reads", str(reads), given=given).out, want)
 
 
 PATHS = [
@@ -170,4 +180,6 @@ def schema_files_without_a_schema(cases):
 
 
 if __name__ == "__main__":
-    outside.main(buffers_of_every_kind, values_by_paths, bare_buffers, schema_files_without_a_schema)
+    outside.main(
+        buffers_of_every_kind, every_budget_of_reads, values_by_paths, bare_buffers, schema_files_without_a_schema,
+    )

@@ -120,6 +120,42 @@ def the_tables_are_limited(cases):
     ])
 
 
+def the_reads_are_limited(cases):
+    sevens = "1 ok tables=1 depth=1 reads=5", "2 ok tables=1 depth=1 reads=5"
+    yes = good("1 ok tables=1 depth=1 reads=8")
+    told_alike(cases, [
+        ("as many as a good buffer takes", bare("M", "--max-reads", "8"), ORC, yes),
+        ("one fewer, in the text at its end", bare("M", "--max-reads", "7"), ORC,
+         bad("1 bad V13 TooManyReads at=16 object=0 field=1 reads=8")),
+        ("so few that a field is too much", bare("M", "--max-reads", "4"), ORC,
+         bad("1 bad V13 TooManyReads at=12 object=0 field=1 reads=5")),
+        ("so few that the table's head is too much", bare("M", "--max-reads", "2"), ORC,
+         bad("1 bad V13 TooManyReads at=12 object=0 field=- reads=3")),
+        ("none", bare("M", "--max-reads", "0"), ORC, bad("1 bad V13 TooManyReads at=0 object=0 field=- reads=1")),
+        ("none, of a stream", by("N", "--max-reads", "0"), SEVEN,
+         bad("1 bad V13 TooManyReads at=4 object=0 field=- reads=2")),
+        ("the most", bare("M", "--max-reads=18446744073709551615"), ORC, yes),
+        ("with a sign", bare("M", "--max-reads=+8"), ORC, yes),
+        ("as many as 7 visits take", bare("NODE", "--max-reads", "27"), TWINS,
+         good("1 ok tables=7 depth=3 reads=27")),
+        ("one fewer", bare("NODE", "--max-reads", "26"), TWINS,
+         bad("1 bad V13 TooManyReads at=40 object=0 field=- reads=27")),
+        ("for each message anew", by("N", "--max-reads", "5"), SEVEN + SEVEN, good(*sevens)),
+        ("too few for each", by("N", "--max-reads", "4"), SEVEN + SEVEN, bad(
+            "1 bad V13 TooManyReads at=20 object=0 field=0 reads=5",
+            "2 bad V13 TooManyReads at=20 object=0 field=0 reads=5")),
+        ("a read of the inline size counts", bare("M", "--inline-size", "--max-reads", "8"), ORC,
+         bad("1 bad V13 TooManyReads at=16 object=0 field=1 reads=9")),
+        ("a fault of what is read comes first", bare("M", "--max-reads", "7"), changed(ORC, (31, "01")),
+         bad("1 bad V10 NoTerminator at=31 object=0 field=1 reads=8")),
+        ("tables before the reads of their heads", bare("M", "--max-reads", "1", "--max-tables", "0"), ORC,
+         bad("1 bad V7 TooManyTables at=12 object=0 field=- reads=1")),
+        ("without a schema", ["--bare", "--max-reads", "90"], schemas.M, good("1 ok tables=11 depth=4 reads=90")),
+        ("the schema file has its own budget", bare("M", "--max-reads", "3"), PLAIN,
+         good("1 ok tables=1 depth=1 reads=3")),
+    ])
+
+
 def the_bytes_are_limited(cases):
     seven = good("1 ok tables=1 depth=1 reads=5")
     largest = spelled("fbffff7f")
@@ -197,6 +233,7 @@ CALL = {
     "--path": "u@A.v",
     "--max-depth": "2",
     "--max-tables": "2",
+    "--max-reads": "15",
     "--max-bytes": "49",
     "--no-alignment": None,
     "--inline-size": None,
@@ -225,6 +262,7 @@ def each_option_left_out_of_all(cases):
         ("--path", good("1 ok tables=2 depth=2 reads=15")),
         ("--max-depth", good("1 ok tables=2 depth=2 reads=15 5")),
         ("--max-tables", good("1 ok tables=2 depth=2 reads=15 5")),
+        ("--max-reads", good("1 ok tables=2 depth=2 reads=15 5")),
         ("--max-bytes", good("1 ok tables=2 depth=2 reads=15 5")),
         ("--no-alignment", bad("1 bad V3 Misaligned at=45 object=0 field=0 reads=15")),
         ("--inline-size", good("1 ok tables=2 depth=2 reads=13 5")),
@@ -241,6 +279,7 @@ def each_option_changed_among_all(cases):
         ("--path", "u@T", good("1 ok tables=2 depth=2 reads=15 other-member")),
         ("--max-depth", "1", bad("1 bad V6 TooDeep at=40 object=2 field=1 reads=11")),
         ("--max-tables", "1", bad("1 bad V7 TooManyTables at=40 object=2 field=1 reads=11")),
+        ("--max-reads", "14", bad("1 bad V13 TooManyReads at=40 object=0 field=0 reads=15")),
         ("--max-bytes", "48", failed("stream: S1 Oversize declared=45")),
     ]:
         cases.same(f"all options, {name} {value}", run(*words_of({**CALL, name: value}), given=ALL), want)
@@ -253,6 +292,8 @@ def wrong_words(cases):
     for words in [
         ["--max-depth", "4097"], ["--max-depth", "-1"], ["--max-depth", "seven"], ["--max-depth", "1.5"],
         ["--max-depth="], ["--max-depth"], ["--max-tables", "4294967296"], ["--max-tables", "-1"],
+        ["--max-reads", "18446744073709551616"], ["--max-reads", "-1"], ["--max-reads=-1"], ["--max-reads", "seven"],
+        ["--max-reads", "1e9"], ["--max-reads="], ["--max-reads"], ["--max-reads", "7", "--max-reads", "7"],
         ["--max-bytes", "7"], ["--max-bytes", "2147483648"], ["--max-bytes", "0"],
         ["--bare", "--bare"], ["--bare=yes"], ["--Bare"], ["-b"],
         ["--schema"], ["--root"], ["--ident"], ["--path"], ["--path", "name", "--path", "hp"],
@@ -284,7 +325,8 @@ def the_c_library_is_all_it_loads(cases):
 if __name__ == "__main__":
     outside.main(
         the_schema_decides, the_root_is_the_named_table, the_identifier_is_wanted, the_depth_is_limited,
-        the_tables_are_limited, the_bytes_are_limited, bare_input_is_one_buffer, the_checks_are_switched,
+        the_tables_are_limited, the_reads_are_limited, the_bytes_are_limited, bare_input_is_one_buffer,
+        the_checks_are_switched,
         all_options_together, each_option_left_out_of_all, each_option_changed_among_all, wrong_words, help_is_given,
         the_c_library_is_all_it_loads,
     )

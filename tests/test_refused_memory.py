@@ -192,8 +192,8 @@ BARE = MESSAGES[0][4:]
 LOADED = ["--schema", str(SCHEMA)]
 PATH = ["--path", "items[0]@Parcel.tags[1]"]
 MANY_WORDS = [
-    "--root", "post.Delivery", "--ident", "POST", "--max-depth", "9", "--max-tables=77", "--max-bytes", "4096",
-    "--inline-size", "--no-alignment",
+    "--root", "post.Delivery", "--ident", "POST", "--max-depth", "9", "--max-tables=77", "--max-reads", "999",
+    "--max-bytes", "4096", "--inline-size", "--no-alignment",
 ]
 
 # Runs over an input. Where memory is refused, a front of whole lines is written.
