@@ -18,7 +18,8 @@ use std::alloc::Global;
 /// The number of the table `reflection.Schema` in the fixed table (reflection.fbs).
 const SCHEMA: u32 = 9;
 
-/// The limits by which schema files are verified, whatever the settings say: the published ones, and 1,000,000,000 reads.
+/// The limits by which schema files are verified, whatever the settings say: the published ones with a budget of
+/// 1,000,000,000 reads.
 fn schema_limits() -> Limits
     ensures { result ≡ schema_limits }
 {
@@ -38,9 +39,9 @@ fn fault_of(fault: LoadFault) -> RunFault
 /// Checks the buffers of an input by the schema of a schema file (`.bfbs`), as the settings ask; without a file they are checked as schema
 /// files themselves, by the fixed table.
 ///
-/// The schema file is verified under the published limits and checks, and with a budget of 1,000,000,000 reads, whatever the settings
-/// say; these are for the buffers. The root is the table of the settings' name, or else that of the schema file, or
-/// `reflection.Schema` without one.
+/// The schema file is verified under the published limits and checks, and within 1,000,000,000 counted reads, whatever
+/// the settings say; these are for the buffers. The root is the table of the settings' name, or else that of the schema
+/// file, or `reflection.Schema` without one.
 ///
 /// # Errors
 ///
