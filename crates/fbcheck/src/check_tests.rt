@@ -3,9 +3,7 @@
 use crate::check::check;
 use crate::fault::{RunFault, status};
 use crate::output::Tally;
-use crate::schema_files::{
-    ORC, SCHEMA_L, SCHEMA_M, SEVEN, changed, refusal_text, run_by, schema_m, schema_n, spelled,
-};
+use crate::schema_files::{all_told, spelled, told_of};
 use crate::start_fault::StartFault;
 use crate::tests::{Full, Narrow, Slow};
 use crate::words_tests::given;
@@ -15,84 +13,37 @@ use fb_bytes::Counted;
 use std::alloc::Global;
 use std::test::Fail;
 
-/// The base types of reflection.fbs, each as one byte.
-const LONG: &[u8] = b"\x09";
-
-const FLOAT: &[u8] = b"\x0b";
-
-/// Neither field is present, of M and of N.
-const BLANK: &str = "08000000 04000400 04000000";
-
-/// What is written of a bare buffer by the schema file of M.
-fn told_of(alloc: Global, words: &[&str], input: &[u8]) -> Result<Vec<u8>, Fail> {
-    let file = schema_m(alloc)?;
-    let run = run_by(alloc, Some(file.as_slice()), words, input)?;
-    Ok(run.written)
-}
-
 #[test]
 fn a_value_stands_behind_a_yes(rt: HostRuntime) -> Result<(), Fail> {
-    let orc = spelled(rt.alloc(), ORC)?;
-    let blank = spelled(rt.alloc(), BLANK)?;
-    let odd = changed(rt.alloc(), ORC, [(28, b"\"\\\x7f".as_slice())].as_slice())?;
-    for (path, buffer, line) in [
-        (
-            "name",
-            orc.as_slice(),
-            "1 ok tables=1 depth=1 reads=8 \"Orc\"\n",
-        ),
-        (
-            "name",
-            odd.as_slice(),
-            "1 ok tables=1 depth=1 reads=8 \"\\\"\\\\\\x7f\"\n",
-        ),
-        ("hp", orc.as_slice(), "1 ok tables=1 depth=1 reads=8 300\n"),
-        (
-            "hp",
-            blank.as_slice(),
-            "1 ok tables=1 depth=1 reads=3 100\n",
-        ),
-        (
-            "name",
-            blank.as_slice(),
-            "1 ok tables=1 depth=1 reads=3 absent\n",
-        ),
-    ] {
-        let words = ["--bare", "--path", path];
-        let told = told_of(rt.alloc(), words.as_slice(), buffer)?;
-        assert_eq!(rt; told.as_slice(), line.as_bytes(), "{line}");
-    }
-    Ok(())
+    let cases = "\
+        a text              | M        | --bare --path name | ORC | 0 1 ok tables=1 depth=1 reads=8 \"Orc\"\n\
+        a text with escapes | M        | --bare --path name | ORC 28=225c7f | \
+            0 1 ok tables=1 depth=1 reads=8 \"\\\"\\\\\\x7f\"\n\
+        a number            | M        | --bare --path hp | ORC | 0 1 ok tables=1 depth=1 reads=8 300\n\
+        a default           | M        | --bare --path hp | BLANK | 0 1 ok tables=1 depth=1 reads=3 100\n\
+        no text             | M        | --bare --path name | BLANK | 0 1 ok tables=1 depth=1 reads=3 absent\n\
+        a float             | N 156=0b | --bare --path v | 0c000000 06000800 04000000 08000000 0000c03f | \
+            0 1 ok tables=1 depth=1 reads=4 float:0000c03f\n\
+        no float            | N 156=0b | --bare --path v | BLANK | 0 1 ok tables=1 depth=1 reads=3 absent\n\
+    ";
+    all_told(&rt, rt.alloc(), cases)
 }
 
 #[test]
 fn a_no_has_no_value(rt: HostRuntime) -> Result<(), Fail> {
-    let orc = spelled(rt.alloc(), ORC)?;
-    let words = ["--bare", "--path", "name", "--ident", "ABCD"];
-    let told = told_of(rt.alloc(), words.as_slice(), orc.as_slice())?;
-    assert_eq!(rt;
-        told.as_slice(),
-        b"1 bad V5 WrongIdentifier at=4 object=0 field=- reads=1\n".as_slice()
-    );
-    Ok(())
+    let cases = "\
+        another identifier | M | --bare --path name --ident ABCD | ORC | \
+            1 1 bad V5 WrongIdentifier at=4 object=0 field=- reads=1\n\
+    ";
+    all_told(&rt, rt.alloc(), cases)
 }
 
 #[test]
 fn a_stream_is_checked_by_a_schema_file(rt: HostRuntime) -> Result<(), Fail> {
-    let file = schema_n(rt.alloc(), LONG)?;
-    let mut stream = spelled(rt.alloc(), SEVEN)?;
-    let again = spelled(rt.alloc(), SEVEN)?;
-    stream.extend_from_slice(again.as_slice())?;
-    let run = run_by(
-        rt.alloc(),
-        Some(file.as_slice()),
-        ["--path", "v"].as_slice(),
-        stream.as_slice(),
-    )?;
-    assert_eq!(rt; run.answer, Ok(Tally { yes: 2, no: 0 }));
-    let lines = "1 ok tables=1 depth=1 reads=5 7\n2 ok tables=1 depth=1 reads=5 7\n";
-    assert_eq!(rt; run.written.as_slice(), lines.as_bytes());
-    Ok(())
+    let cases = "\
+        two | N | --path v | SEVEN SEVEN | 0 1 ok tables=1 depth=1 reads=5 7 / 2 ok tables=1 depth=1 reads=5 7\n\
+    ";
+    all_told(&rt, rt.alloc(), cases)
 }
 
 /// The lines of `SEVEN` twice.
@@ -110,13 +61,12 @@ fn run_in_pieces(
     room: usize,
     full: Full,
 ) -> Result<Told, Fail> {
-    let file = schema_n(alloc, LONG)?;
+    let file = spelled(alloc, "N")?;
     let settings = given(alloc, [].as_slice()).ok().ok_or("words")?;
     if settings.depth != 64 || settings.max_bytes != 67_108_864 {
         return Err(Fail::from("range"));
     }
-    let mut stream = spelled(alloc, SEVEN)?;
-    stream.extend_from_slice(spelled(alloc, SEVEN)?.as_slice())?;
+    let stream = spelled(alloc, "SEVEN SEVEN")?;
     let mut reader = Counted::new(Slow {
         rest: stream.as_slice(),
         most,
@@ -183,32 +133,6 @@ fn a_narrow_writer_takes_a_front_by_a_schema_file(rt: HostRuntime) -> Result<(),
     Ok(())
 }
 
-#[test]
-fn a_float_is_told_by_its_bytes(rt: HostRuntime) -> Result<(), Fail> {
-    let file = schema_n(rt.alloc(), FLOAT)?;
-    let words = ["--bare", "--path", "v"];
-    for (input, line) in [
-        (
-            "0c000000 06000800 04000000 08000000 0000c03f",
-            "1 ok tables=1 depth=1 reads=4 float:0000c03f\n",
-        ),
-        (
-            "08000000 04000400 04000000",
-            "1 ok tables=1 depth=1 reads=3 absent\n",
-        ),
-    ] {
-        let input = spelled(rt.alloc(), input)?;
-        let run = run_by(
-            rt.alloc(),
-            Some(file.as_slice()),
-            words.as_slice(),
-            input.as_slice(),
-        )?;
-        assert_eq!(rt; run.written.as_slice(), line.as_bytes(), "{line}");
-    }
-    Ok(())
-}
-
 /// A chain of this many tables, each of which leads to the next, by L.
 fn chain(alloc: Global, tables: u32) -> Result<Vec<u8>, Fail> {
     let mut bytes = spelled(alloc, "10000000 06000800 04000000 04000400")?;
@@ -224,252 +148,117 @@ fn chain(alloc: Global, tables: u32) -> Result<Vec<u8>, Fail> {
 
 #[test]
 fn a_chain_is_as_deep_as_the_words_allow(rt: HostRuntime) -> Result<(), Fail> {
-    let file = spelled(rt.alloc(), SCHEMA_L)?;
     let deep = chain(rt.alloc(), 4096)?;
     assert_eq!(rt; deep.len(), 32_780);
-    let path = ["--bare", "--path", "next.next.next"];
-    let run = run_by(
-        rt.alloc(),
-        Some(file.as_slice()),
-        path.as_slice(),
-        chain(rt.alloc(), 3)?.as_slice(),
-    )?;
-    assert_eq!(rt;
-        run.written.as_slice(),
-        b"1 ok tables=3 depth=3 reads=11 absent\n".as_slice()
-    );
-    for (depth, line) in [
-        ("4096", "1 ok tables=4096 depth=4096 reads=16383\n"),
+    for (words, want) in [
         (
-            "4095",
-            "1 bad V6 TooDeep at=32776 object=0 field=0 reads=16381\n",
+            "--bare --max-depth 4096",
+            "0 1 ok tables=4096 depth=4096 reads=16383",
         ),
-        ("64", "1 bad V6 TooDeep at=528 object=0 field=0 reads=257\n"),
+        (
+            "--bare --max-depth 4095",
+            "1 1 bad V6 TooDeep at=32776 object=0 field=0 reads=16381",
+        ),
+        (
+            "--bare --max-depth 64",
+            "1 1 bad V6 TooDeep at=528 object=0 field=0 reads=257",
+        ),
+        (
+            "--bare",
+            "1 1 bad V6 TooDeep at=528 object=0 field=0 reads=257",
+        ),
     ] {
-        let words = ["--bare", "--max-depth", depth];
-        let run = run_by(
-            rt.alloc(),
-            Some(file.as_slice()),
-            words.as_slice(),
-            deep.as_slice(),
-        )?;
-        assert_eq!(rt; run.written.as_slice(), line.as_bytes(), "{depth}");
+        let told = told_of(rt.alloc(), "L", words, &deep)?;
+        assert_eq!(rt; told.as_str(), want, "{words}");
     }
     Ok(())
 }
 
 #[test]
 fn a_chain_of_64_is_as_deep_as_may_be_without_words(rt: HostRuntime) -> Result<(), Fail> {
-    let file = spelled(rt.alloc(), SCHEMA_L)?;
-    let chain = chain(rt.alloc(), 64)?;
-    let run = run_by(
-        rt.alloc(),
-        Some(file.as_slice()),
-        ["--bare"].as_slice(),
-        chain.as_slice(),
-    )?;
-    assert_eq!(rt;
-        run.written.as_slice(),
-        b"1 ok tables=64 depth=64 reads=255\n".as_slice()
-    );
+    let told = told_of(rt.alloc(), "L", "--bare", &chain(rt.alloc(), 64)?)?;
+    assert_eq!(rt; told.as_str(), "0 1 ok tables=64 depth=64 reads=255");
+    let words = "--bare --path next.next.next";
+    let told = told_of(rt.alloc(), "L", words, &chain(rt.alloc(), 3)?)?;
+    assert_eq!(rt; told.as_str(), "0 1 ok tables=3 depth=3 reads=11 absent");
     Ok(())
 }
 
 #[test]
 fn a_buffer_has_as_many_reads_as_the_words_allow(rt: HostRuntime) -> Result<(), Fail> {
-    let orc = spelled(rt.alloc(), ORC)?;
-    for (reads, line) in [
-        ("8", "1 ok tables=1 depth=1 reads=8\n"),
-        ("18446744073709551615", "1 ok tables=1 depth=1 reads=8\n"),
-        (
-            "7",
-            "1 bad V13 TooManyReads at=16 object=0 field=1 reads=8\n",
-        ),
-        (
-            "0",
-            "1 bad V13 TooManyReads at=0 object=0 field=- reads=1\n",
-        ),
-    ] {
-        let words = ["--bare", "--max-reads", reads];
-        let told = told_of(rt.alloc(), words.as_slice(), orc.as_slice())?;
-        assert_eq!(rt; told.as_slice(), line.as_bytes(), "{reads}");
-    }
-    Ok(())
+    let cases = "\
+        its cost | M | --bare --max-reads 8 | ORC | 0 1 ok tables=1 depth=1 reads=8\n\
+        the most | M | --bare --max-reads 18446744073709551615 | ORC | 0 1 ok tables=1 depth=1 reads=8\n\
+        one less | M | --bare --max-reads 7 | ORC | 1 1 bad V13 TooManyReads at=16 object=0 field=1 reads=8\n\
+        none     | M | --bare --max-reads 0 | ORC | 1 1 bad V13 TooManyReads at=0 object=0 field=- reads=1\n\
+    ";
+    all_told(&rt, rt.alloc(), cases)
 }
 
 #[test]
 fn a_schema_file_is_checked_by_the_fixed_table(rt: HostRuntime) -> Result<(), Fail> {
-    let file = schema_m(rt.alloc())?;
-    let run = run_by(rt.alloc(), None, ["--bare"].as_slice(), file.as_slice())?;
-    assert_eq!(rt;
-        run.written.as_slice(),
-        b"1 ok tables=11 depth=4 reads=90\n".as_slice()
-    );
-    assert_eq!(rt; run.answer, Ok(Tally { yes: 1, no: 0 }));
-    let words = ["--bare", "--path", "objects[0].fields[1].name"];
-    let run = run_by(rt.alloc(), None, words.as_slice(), file.as_slice())?;
-    assert_eq!(rt;
-        run.written.as_slice(),
-        b"1 ok tables=11 depth=4 reads=90 \"name\"\n".as_slice()
-    );
-    Ok(())
-}
-
-#[test]
-fn a_prefix_moves_a_schema_file(rt: HostRuntime) -> Result<(), Fail> {
-    let file = schema_m(rt.alloc())?;
-    let mut prefixed = spelled(rt.alloc(), "d0000000")?;
-    prefixed.extend_from_slice(file.as_slice())?;
-    let run = run_by(rt.alloc(), None, [].as_slice(), prefixed.as_slice())?;
-    assert_eq!(rt;
-        run.written.as_slice(),
-        b"1 bad V3 Misaligned at=132 object=4 field=4 reads=32\n".as_slice()
-    );
-    assert_eq!(rt; status(&run.answer), 1);
-    let words = ["--no-alignment"];
-    let run = run_by(rt.alloc(), None, words.as_slice(), prefixed.as_slice())?;
-    assert_eq!(rt;
-        run.written.as_slice(),
-        b"1 ok tables=11 depth=4 reads=91\n".as_slice()
-    );
-    Ok(())
+    let cases = "\
+        bare             | - | --bare | M | 0 1 ok tables=11 depth=4 reads=90\n\
+        its path         | - | --bare --path objects[0].fields[1].name | M | \
+            0 1 ok tables=11 depth=4 reads=90 \"name\"\n\
+        prefixed         | - |  | d0000000 M | 1 1 bad V3 Misaligned at=132 object=4 field=4 reads=32\n\
+        anywhere         | - | --no-alignment | d0000000 M | 0 1 ok tables=11 depth=4 reads=91\n\
+        one list for two | - |  | 1c000000 0c000000 08000c00 04000800 08000000 08000000 04000000 00000000 | \
+            0 1 ok tables=1 depth=1 reads=10\n\
+    ";
+    all_told(&rt, rt.alloc(), cases)
 }
 
 #[test]
 fn alignment_alone_is_left_unchecked(rt: HostRuntime) -> Result<(), Fail> {
-    const ODD_TABLE: &str = "08000000 04000400 03000000";
-    const ODD_SIZE: &str = "08000000 03000400 04000000";
-    for (words, buffer, line) in [
-        (
-            ["--bare"].as_slice(),
-            ODD_TABLE,
-            "1 bad V3 Misaligned at=5 object=0 field=- reads=2\n",
-        ),
-        (
-            ["--bare", "--no-alignment"].as_slice(),
-            ODD_TABLE,
-            "1 bad V2 OutOfBuffer at=5 object=0 field=- reads=3\n",
-        ),
-        (
-            ["--bare", "--no-alignment"].as_slice(),
-            ODD_SIZE,
-            "1 bad V8 BadVtable at=4 object=0 field=- reads=3\n",
-        ),
-    ] {
-        let buffer = spelled(rt.alloc(), buffer)?;
-        let told = told_of(rt.alloc(), words, buffer.as_slice())?;
-        assert_eq!(rt; told.as_slice(), line.as_bytes(), "{line}");
-    }
-    Ok(())
-}
-
-#[test]
-fn a_schema_file_may_have_one_list_for_two(rt: HostRuntime) -> Result<(), Fail> {
-    let shared = spelled(
-        rt.alloc(),
-        "1c000000 0c000000 08000c00 04000800 08000000 08000000 04000000 00000000",
-    )?;
-    let run = run_by(rt.alloc(), None, [].as_slice(), shared.as_slice())?;
-    assert_eq!(rt;
-        run.written.as_slice(),
-        b"1 ok tables=1 depth=1 reads=10\n".as_slice()
-    );
-    assert_eq!(rt; status(&run.answer), 0);
-    Ok(())
+    let cases = "\
+        a table at 5 | M | --bare | BLANK 8=03 | 1 1 bad V3 Misaligned at=5 object=0 field=- reads=2\n\
+        the same     | M | --bare --no-alignment | BLANK 8=03 | \
+            1 1 bad V2 OutOfBuffer at=5 object=0 field=- reads=3\n\
+        an odd size  | M | --bare --no-alignment | BLANK 4=03 | 1 1 bad V8 BadVtable at=4 object=0 field=- reads=3\n\
+    ";
+    all_told(&rt, rt.alloc(), cases)
 }
 
 #[test]
 fn a_schema_file_with_a_fault_is_told_first(rt: HostRuntime) -> Result<(), Fail> {
-    let stranger = changed(rt.alloc(), SCHEMA_M, [(4, b"X".as_slice())].as_slice())?;
-    let told = refusal_text(
-        rt.alloc(),
-        stranger.as_slice(),
-        ["--root", "Q", "--path", "x"].as_slice(),
-    )?;
-    assert_eq!(rt;
-        told.as_bytes(),
-        b"schema: L1 V5 WrongIdentifier at=4 object=9 field=- reads=1".as_slice()
-    );
-    let vector64 = changed(rt.alloc(), SCHEMA_M, [(156, b"\x12".as_slice())].as_slice())?;
-    let told = refusal_text(rt.alloc(), vector64.as_slice(), [].as_slice())?;
-    assert_eq!(rt;
-        told.as_bytes(),
-        b"schema: L2 C3 Unsupported owner=0 part=0".as_slice()
-    );
-    let unlisted = changed(rt.alloc(), SCHEMA_M, [(44, b"\0".as_slice())].as_slice())?;
-    let told = refusal_text(rt.alloc(), unlisted.as_slice(), ["--root", "M"].as_slice())?;
-    assert_eq!(rt; told.as_bytes(), b"schema: L3 RootNotListed".as_slice());
-    Ok(())
+    let cases = "\
+        a stranger        | M 4=58   | --root Q --path x | ORC | \
+            2 schema: L1 V5 WrongIdentifier at=4 object=9 field=- reads=1\n\
+        no schema         | M 156=12 |  | ORC | 2 schema: L2 C3 Unsupported owner=0 part=0\n\
+        a root not listed | M 44=00  | --root M | ORC | 2 schema: L3 RootNotListed\n\
+    ";
+    all_told(&rt, rt.alloc(), cases)
 }
 
 #[test]
 fn a_root_is_looked_for_before_a_path(rt: HostRuntime) -> Result<(), Fail> {
-    let file = schema_m(rt.alloc())?;
-    let told = refusal_text(
-        rt.alloc(),
-        file.as_slice(),
-        ["--root", "Q", "--path", "x"].as_slice(),
-    )?;
-    assert_eq!(rt; told.as_bytes(), b"no root table".as_slice());
-    let rootless = changed(rt.alloc(), SCHEMA_M, [(20, b"\0\0".as_slice())].as_slice())?;
-    let told = refusal_text(
-        rt.alloc(),
-        rootless.as_slice(),
-        ["--path", "name"].as_slice(),
-    )?;
-    assert_eq!(rt; told.as_bytes(), b"no root table".as_slice());
-    Ok(())
+    let cases = "\
+        not there          | M         | --root Q --path x | ORC | 2 no root table\n\
+        not named          | M 20=0000 | --path name       | ORC | 2 no root table\n\
+        named by the words | M 20=0000 | --bare --root M   | ORC | 0 1 ok tables=1 depth=1 reads=8\n\
+    ";
+    all_told(&rt, rt.alloc(), cases)
 }
 
 #[test]
 fn a_path_is_looked_for_before_the_input(rt: HostRuntime) -> Result<(), Fail> {
-    let file = schema_m(rt.alloc())?;
-    for (path, text) in [
-        ("hp..x", "path: P1 BadText at=3"),
-        ("x", "path: P2 NoSuchField step=0"),
-        ("hp[0]", "path: P3 NotIndexable step=1"),
-        ("name@M", "path: P4 NotAUnion step=1"),
-        ("name.hp", "path: P6 NotATable step=1"),
-    ] {
-        let words = ["--path", path];
-        let told = refusal_text(rt.alloc(), file.as_slice(), words.as_slice())?;
-        assert_eq!(rt; told.as_str(), text);
-    }
-    Ok(())
-}
-
-#[test]
-fn a_root_may_be_named(rt: HostRuntime) -> Result<(), Fail> {
-    let rootless = changed(rt.alloc(), SCHEMA_M, [(20, b"\0\0".as_slice())].as_slice())?;
-    let orc = spelled(rt.alloc(), ORC)?;
-    let words = ["--bare", "--root", "M"];
-    let run = run_by(
-        rt.alloc(),
-        Some(rootless.as_slice()),
-        words.as_slice(),
-        orc.as_slice(),
-    )?;
-    assert_eq!(rt;
-        run.written.as_slice(),
-        b"1 ok tables=1 depth=1 reads=8\n".as_slice()
-    );
-    Ok(())
+    let cases = "\
+        no path  | M | --path hp..x   | ORC | 2 path: P1 BadText at=3\n\
+        no field | M | --path x       | ORC | 2 path: P2 NoSuchField step=0\n\
+        no list  | M | --path hp[0]   | ORC | 2 path: P3 NotIndexable step=1\n\
+        no union | M | --path name@M  | ORC | 2 path: P4 NotAUnion step=1\n\
+        no table | M | --path name.hp | ORC | 2 path: P6 NotATable step=1\n\
+    ";
+    all_told(&rt, rt.alloc(), cases)
 }
 
 #[test]
 fn an_input_may_be_too_long(rt: HostRuntime) -> Result<(), Fail> {
-    let file = schema_m(rt.alloc())?;
-    let orc = spelled(rt.alloc(), ORC)?;
-    let words = ["--bare", "--max-bytes", "31"];
-    let run = run_by(
-        rt.alloc(),
-        Some(file.as_slice()),
-        words.as_slice(),
-        orc.as_slice(),
-    )?;
-    assert_eq!(rt; run.answer, Err(RunFault::BareTooLong { limit: 31 }));
-    assert_eq!(rt; status(&run.answer), 3);
-    Ok(())
+    let cases = "\
+        31 of 32 | M | --bare --max-bytes 31 | ORC | 3 input longer than 31 bytes\n\
+    ";
+    all_told(&rt, rt.alloc(), cases)
 }
 
 #[test]

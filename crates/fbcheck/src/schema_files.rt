@@ -1,77 +1,73 @@
-//! Schema files and buffers that are known by hand, and runs by them.
+//! Runs whose cases are tables: by which schema file, by which words, over which input, and what is told.
+//!
+//! ```text
+//! a number          | M | --bare --path hp | ORC        | 0 1 ok tables=1 depth=1 reads=8 300
+//! two good ones     | N |                  | SEVEN ORC  | 0 1 ok tables=1 .. / 2 ok tables=1 ..
+//! a torn stream     | N |                  | SEVEN ..31 | 3 stream: S2 Truncated held=31
+//! ```
+//!
+//! A schema file and an input are written as [`case_text`] has it; a schema file `-` is none. What is told begins with
+//! the exit status; then come the lines, with a stroke between each two, and the text of the fault. Where the status is
+//! 2, nothing was read or written.
 
 use crate::check::check;
 use crate::fault::{RunFault, status};
 use crate::output::Tally;
 use crate::words_tests::given;
+use case_text::buffer::{Sample, bytes_of};
 use fb_bytes::{Counted, Source};
 use std::alloc::Global;
+use std::process::Abort;
 use std::test::Fail;
 
-/// The schema file of `table M { hp: short = 100; name: string; } root_type M;`.
-pub const SCHEMA_M: &str = "18000000 42464253 0e001000 04000800 00000000 0c000000 \
-    10000000 10000000 08000000 18000000 00000000 01000000 0c000000 \
-    08000c00 04000800 08000000 08000000 0c000000 01000000 4d000000 \
-    02000000 1c000000 54000000 0e001800 04000800 00000c00 10000000 00000000 \
-    14000000 14000000 20000000 04000000 64000000 00000000 02000000 68700000 \
-    06000800 04000000 08000000 05000000 0c001000 04000800 0c000e00 0c000000 \
-    0c000000 14000000 01000600 04000000 6e616d65 00000000 38000000 0d000000";
+/// The schema files and buffers by their names.
+///
+/// - `M`: the schema file of `table M { hp: short = 100; name: string; } root_type M;`
+/// - `N`: that of `table N { v: long; } root_type N;`
+/// - `L`: what flatc 2.0.8 writes for `table L { next: L; } root_type L;`
+/// - `ORC`: by M, the hit points 300 and the name "Orc"
+/// - `BLANK`: by M and by N, no field is there
+/// - `SEVEN`: by N, behind its size, `v` is 7
+pub const SAMPLES: [Sample; 6] = [
+    (
+        "M",
+        "18000000 42464253 0e001000 04000800 00000000 0c000000 10000000 10000000 08000000 18000000 00000000 \
+        01000000 0c000000 08000c00 04000800 08000000 08000000 0c000000 01000000 4d000000 02000000 1c000000 \
+        54000000 0e001800 04000800 00000c00 10000000 00000000 14000000 14000000 20000000 04000000 64000000 \
+        00000000 02000000 68700000 06000800 04000000 08000000 05000000 0c001000 04000800 0c000e00 0c000000 \
+        0c000000 14000000 01000600 04000000 6e616d65 00000000 38000000 0d000000",
+    ),
+    (
+        "N",
+        "18000000 42464253 0e001000 04000800 00000000 0c000000 10000000 10000000 08000000 18000000 00000000 \
+        01000000 0c000000 08000c00 04000800 08000000 08000000 0c000000 01000000 4e000000 01000000 1c000000 \
+        54000000 0e001800 04000800 00000c00 10000000 00000000 14000000 14000000 20000000 04000000 00000000 \
+        00000000 01000000 76000000 06000800 04000000 08000000 09000000 0c001000 04000800 0c000e00 0c000000 \
+        0c000000 14000000 01000600 04000000 6e616d65 00000000 38000000 0d000000",
+    ),
+    (
+        "L",
+        "18000000 42464253 10001c00 04000800 0c001000 14001800 10000000 30000000 28000000 1c000000 10000000 \
+        3c000000 04000000 00000000 00000000 00000000 00000000 00000000 00000000 01000000 18000000 14001400 \
+        04000800 00000c00 00000000 00001000 14000000 20000000 14000000 01000000 04000000 00000000 00000000 \
+        01000000 28000000 01000000 4c000000 1c001000 08000c00 00000600 00000000 00000000 00000000 00000500 \
+        1c000000 00010400 28000000 14000000 10001000 07000000 08000000 00000c00 10000000 0000000f 00000000 \
+        01000000 04000000 6e657874 00000000",
+    ),
+    (
+        "ORC",
+        "0c000000 08000c00 08000400 08000000 08000000 2c010000 03000000 4f726300",
+    ),
+    ("BLANK", "08000000 04000400 04000000"),
+    (
+        "SEVEN",
+        "1c000000 10000000 06000c00 04000000 00000000 0c000000 07000000 00000000",
+    ),
+];
 
-/// What flatc 2.0.8 writes for `table L { next: L; } root_type L;`.
-pub const SCHEMA_L: &str =
-    "18000000 42464253 10001c00 04000800 0c001000 14001800 10000000 30000000 \
-    28000000 1c000000 10000000 3c000000 04000000 00000000 00000000 00000000 \
-    00000000 00000000 00000000 01000000 18000000 14001400 04000800 00000c00 \
-    00000000 00001000 14000000 20000000 14000000 01000000 04000000 00000000 \
-    00000000 01000000 28000000 01000000 4c000000 1c001000 08000c00 00000600 \
-    00000000 00000000 00000000 00000500 1c000000 00010400 28000000 14000000 \
-    10001000 07000000 08000000 00000c00 10000000 0000000f 00000000 01000000 \
-    04000000 6e657874 00000000";
-
-/// By M: `hp` is 300 and `name` is "Orc".
-pub const ORC: &str = "0c000000 08000c00 08000400 08000000 08000000 2c010000 03000000 4f726300";
-
-/// By N, size-prefixed: `v` is 7.
-pub const SEVEN: &str = "1c000000 10000000 06000c00 04000000 00000000 0c000000 07000000 00000000";
-
-/// The bytes that hexadecimal digits spell.
+/// The bytes of a text.
 pub fn spelled(alloc: Global, text: &str) -> Result<Vec<u8>, Fail> {
-    let mut digits = Vec::new(alloc);
-    for digit in text.as_bytes() {
-        if *digit != b' ' {
-            digits.push(*digit)?;
-        }
-    }
-    hex::decode(alloc, digits.as_slice()).map_err(|_| Fail::from("digits"))
-}
-
-/// The schema file of M.
-pub fn schema_m(alloc: Global) -> Result<Vec<u8>, Fail> {
-    spelled(alloc, SCHEMA_M)
-}
-
-/// The bytes that hexadecimal digits spell, with other bytes at some places.
-pub fn changed(alloc: Global, text: &str, changes: &[(usize, &[u8])]) -> Result<Vec<u8>, Fail> {
-    let mut file = spelled(alloc, text)?;
-    for (at, bytes) in changes {
-        for (i, byte) in bytes.iter().enumerate() {
-            let place = file.get_mut(at.saturating_add(i)).ok_or("place")?;
-            *place = *byte;
-        }
-    }
-    Ok(file)
-}
-
-/// The schema file of `table N { v: ..; }`: that of M with another name, of one field with another name, base type and default.
-pub fn schema_n(alloc: Global, base: &[u8]) -> Result<Vec<u8>, Fail> {
-    let changes = [
-        (76, b"N".as_slice()),
-        (80, b"\x01".as_slice()),
-        (128, b"\0".as_slice()),
-        (136, b"\x01\0\0\0v\0".as_slice()),
-        (156, base),
-    ];
-    changed(alloc, SCHEMA_M, changes.as_slice())
+    bytes_of(alloc, &SAMPLES, text)
 }
 
 /// One run: its answer, what was written, and how many reads were made.
@@ -104,13 +100,61 @@ pub fn run_by(
     })
 }
 
-/// The text of the fault by which a run ends before it reads or writes anything, with status 2.
-pub fn refusal_text(alloc: Global, file: &[u8], words: &[&str]) -> Result<String, Fail> {
-    let input = spelled(alloc, ORC)?;
-    let run = run_by(alloc, Some(file), words, input.as_slice())?;
-    if run.reads != 0 || !run.written.is_empty() || status(&run.answer) != 2 {
-        return Err(Fail::from("no refusal"));
+/// What is told of a run.
+fn told(alloc: Global, run: &Run) -> Result<String, Fail> {
+    let status = status(&run.answer);
+    if status == 2 && (run.reads != 0 || !run.written.is_empty()) {
+        return Err(Fail::from("refused too late"));
     }
-    let fault = run.answer.err().ok_or("no fault")?;
-    Ok(format!(in alloc; "{fault}")?)
+    let mut text = format!(in alloc; "{status}")?;
+    for (i, line) in str::from_utf8(&run.written)?.lines().enumerate() {
+        text.push_str(if i == 0 { " " } else { " / " })?;
+        text.push_str(line)?;
+    }
+    if let Err(fault) = &run.answer {
+        let fault = format!(in alloc; " {fault}")?;
+        text.push_str(fault.as_str())?;
+    }
+    Ok(text)
+}
+
+/// What is told of an input by these words and the schema file that a text has.
+pub fn told_of(alloc: Global, schema: &str, words: &str, input: &[u8]) -> Result<String, Fail> {
+    let mut given = Vec::new(alloc);
+    for word in words.split_whitespace() {
+        given.push(word)?;
+    }
+    let file = if schema == "-" {
+        None
+    } else {
+        Some(spelled(alloc, schema)?)
+    };
+    let file = file.as_ref().map(|bytes| bytes.as_slice());
+    told(alloc, &run_by(alloc, file, &given, input)?)
+}
+
+/// What a case shows, its schema file, words and input, and what is to be told.
+fn parts(line: &str) -> Option<[&str; 5]> {
+    let (shows, rest) = line.split_once('|')?;
+    let (schema, rest) = rest.split_once('|')?;
+    let (words, rest) = rest.split_once('|')?;
+    let (input, told) = rest.split_once('|')?;
+    Some([
+        shows.trim_ascii(),
+        schema.trim_ascii(),
+        words,
+        input,
+        told.trim_ascii(),
+    ])
+}
+
+/// Asserts that of each case is told what it says.
+pub fn all_told(rt: &impl Abort, alloc: Global, cases: &str) -> Result<(), Fail> {
+    for line in cases.lines() {
+        let [shows, schema, words, input, want] = parts(line).ok_or("no case")?;
+        let input = spelled(alloc, input)?;
+        let told = told_of(alloc, schema, words, &input)?;
+        assert_eq!(rt; told.as_str(), want, "{shows}");
+    }
+    Ok(())
 }

@@ -2,27 +2,21 @@
 
 ghost use Rattle.std.specs.Prelude.{◌≡◌, None};
 
-use crate::check::check;
-use crate::choices::Settings;
 use crate::fault::{RunFault, status};
 use crate::options::Options;
 use crate::output::Tally;
 use crate::reading::MOST_TURNS;
 use crate::run::run_within;
-use crate::schema_files::schema_m;
+use crate::schema_files::all_told;
+use case_text::rows::Rows;
 use fb_bytes::{Counted, Source, StreamFault};
-use fb_schema::{FieldRow, ObjectRow, Schema, TypeRow};
+use fb_schema::Schema;
 use fb_verify::{Ident, Limits};
 use std::alloc::Global;
 use std::io;
 use std::io::{ErrorKind, Read, Write};
+use std::process::Abort;
 use std::test::Fail;
-
-/// By M: `hp` is 300 and `name` is "Orc".
-static ORC: [u8; 32] = [
-    12, 0, 0, 0, 8, 0, 12, 0, 8, 0, 4, 0, 8, 0, 0, 0, 8, 0, 0, 0, 0x2c, 1, 0, 0, 3, 0, 0, 0, b'O',
-    b'r', b'c', 0,
-];
 
 /// By M: neither field is present.
 static BLANK: [u8; 12] = [8, 0, 0, 0, 4, 0, 4, 0, 4, 0, 0, 0];
@@ -33,37 +27,8 @@ pub static SEVEN: [u8; 32] = [
     0, 0,
 ];
 
-/// The line of `SEVEN`.
-static FIRST_LINE: &str = "1 ok tables=1 depth=1 reads=5\n";
-
 /// The lines of `SEVEN` twice.
 static TWO_LINES: &str = "1 ok tables=1 depth=1 reads=5\n2 ok tables=1 depth=1 reads=5\n";
-
-/// The settings of `--bare` and no other words.
-fn published() -> Settings {
-    Settings {
-        schema: None,
-        root: None,
-        ident: None,
-        path: None,
-        depth: 64,
-        tables: 1_000_000,
-        reads: 1_000_000_000,
-        max_bytes: 67_108_864,
-        bare: true,
-        alignment: true,
-        inline_size: false,
-    }
-}
-
-/// A buffer with one byte changed.
-fn with_byte(bytes: [u8; 32], at: usize, byte: u8) -> [u8; 32] {
-    let mut bytes = bytes;
-    if let Some(place) = bytes.get_mut(at) {
-        *place = byte;
-    }
-    bytes
-}
 
 /// `SEVEN` twice.
 fn twice() -> [u8; 64] {
@@ -73,38 +38,14 @@ fn twice() -> [u8; 64] {
     stream
 }
 
-/// A schema of one table with one field at slot 4.
-fn one_field(alloc: Global, base: i8, required: bool) -> Result<Schema<'static>, Fail> {
-    let mut fields = Vec::new(alloc);
-    fields.push(FieldRow {
-        name: b"v",
-        ty: TypeRow {
-            base,
-            element: 0,
-            index: -1,
-            fixed_length: 0,
-        },
-        slot: 4,
-        default: 0,
-        deprecated: false,
-        required,
-        optional: false,
-        offset64: false,
-    })?;
-    let mut objects = Vec::new(alloc);
-    objects.push(ObjectRow {
-        name: b"N",
-        fields,
-        is_struct: false,
-        minalign: 4,
-        bytesize: 0,
-    })?;
-    Ok(Schema::build(alloc, objects, Vec::new(alloc))?)
+/// The schema of these rows.
+fn schema_of<'t>(rt: &impl Abort, alloc: Global, rows: &'t str) -> Result<Schema<'t>, Fail> {
+    Ok(Rows::read(alloc, rows)?.built(rt, alloc)?)
 }
 
 /// `table N { v: long; }`.
-pub fn schema_n(alloc: Global) -> Result<Schema<'static>, Fail> {
-    one_field(alloc, 9, false)
+pub fn schema_n(rt: &impl Abort, alloc: Global) -> Result<Schema<'static>, Fail> {
+    schema_of(rt, alloc, "N table: v@4 long")
 }
 
 /// A stream of messages of at most so many bytes, under the published limits.
@@ -199,146 +140,28 @@ impl Write for Narrow {
 
 #[test]
 fn a_bare_buffer_gets_its_line(rt: HostRuntime) -> Result<(), Fail> {
-    let unterminated = with_byte(ORC, 31, 1);
-    let mut endless = ORC;
-    endless[24..28].copy_from_slice(&[255; 4]);
-    let zero_offset = with_byte(ORC, 16, 0);
-    let short_table = with_byte(ORC, 6, 9);
-    let nothing: [u8; 0] = [];
-    let file = schema_m(rt.alloc())?;
-    let plain = published();
-    let no_tables = Settings {
-        tables: 0,
-        ..published()
-    };
-    let enough_reads = Settings {
-        reads: 8,
-        ..published()
-    };
-    let few_reads = Settings {
-        reads: 7,
-        ..published()
-    };
-    let no_reads = Settings {
-        reads: 0,
-        ..published()
-    };
-    let no_depth = Settings {
-        depth: 0,
-        ..published()
-    };
-    let nothing_allowed = Settings {
-        depth: 0,
-        tables: 0,
-        ..published()
-    };
-    let inline_size = Settings {
-        inline_size: true,
-        ..published()
-    };
-    let rows = [
-        (&plain, ORC.as_slice(), "1 ok tables=1 depth=1 reads=8\n"),
-        (&plain, BLANK.as_slice(), "1 ok tables=1 depth=1 reads=3\n"),
-        (
-            &plain,
-            nothing.as_slice(),
-            "1 bad V2 OutOfBuffer at=0 object=0 field=- reads=0\n",
-        ),
-        (
-            &plain,
-            unterminated.as_slice(),
-            "1 bad V10 NoTerminator at=31 object=0 field=1 reads=8\n",
-        ),
-        (
-            &plain,
-            &ORC[..31],
-            "1 bad V2 OutOfBuffer at=28 object=0 field=1 reads=7\n",
-        ),
-        (
-            &plain,
-            endless.as_slice(),
-            "1 bad V2 OutOfBuffer at=28 object=0 field=1 reads=7\n",
-        ),
-        (
-            &plain,
-            zero_offset.as_slice(),
-            "1 bad V4 ZeroOffset at=16 object=0 field=1 reads=6\n",
-        ),
-        (
-            &no_tables,
-            ORC.as_slice(),
-            "1 bad V7 TooManyTables at=12 object=0 field=- reads=1\n",
-        ),
-        (
-            &enough_reads,
-            ORC.as_slice(),
-            "1 ok tables=1 depth=1 reads=8\n",
-        ),
-        (
-            &few_reads,
-            ORC.as_slice(),
-            "1 bad V13 TooManyReads at=16 object=0 field=1 reads=8\n",
-        ),
-        (
-            &few_reads,
-            unterminated.as_slice(),
-            "1 bad V10 NoTerminator at=31 object=0 field=1 reads=8\n",
-        ),
-        (
-            &no_reads,
-            ORC.as_slice(),
-            "1 bad V13 TooManyReads at=0 object=0 field=- reads=1\n",
-        ),
-        (
-            &no_depth,
-            ORC.as_slice(),
-            "1 bad V6 TooDeep at=12 object=0 field=- reads=1\n",
-        ),
-        (
-            &nothing_allowed,
-            ORC.as_slice(),
-            "1 bad V6 TooDeep at=12 object=0 field=- reads=1\n",
-        ),
-        (
-            &inline_size,
-            ORC.as_slice(),
-            "1 ok tables=1 depth=1 reads=9\n",
-        ),
-        (
-            &inline_size,
-            short_table.as_slice(),
-            "1 bad V12 PastTable at=20 object=0 field=0 reads=5\n",
-        ),
-        (
-            &plain,
-            short_table.as_slice(),
-            "1 ok tables=1 depth=1 reads=8\n",
-        ),
-    ];
-    for (settings, bytes, line) in rows {
-        let mut reader = Counted::new(bytes);
-        let mut writer = Counted::new(Vec::new(rt.alloc()));
-        assert!(rt; settings.depth <= 4096 && settings.max_bytes == 67_108_864);
-        let answer = check(
-            rt.alloc(),
-            Some(file.as_slice()),
-            settings,
-            &mut reader,
-            &mut writer,
-        );
-        let no = u64::from(!line.starts_with("1 ok"));
-        assert_eq!(rt; answer, Ok(Tally { yes: 1 - no, no }), "{line}");
-        assert_eq!(rt; writer.get_ref().as_slice(), line.as_bytes(), "{line}");
-        assert_eq!(rt; u64::from(status(&answer)), no, "{line}");
-        assert!(rt; reader.ended(), "{line}");
-    }
-    Ok(())
+    let cases = "\
+        a monster      | M | --bare | ORC | 0 1 ok tables=1 depth=1 reads=8\n\
+        without fields | M | --bare | BLANK | 0 1 ok tables=1 depth=1 reads=3\n\
+        nothing        | M | --bare |  | 1 1 bad V2 OutOfBuffer at=0 object=0 field=- reads=0\n\
+        no terminator  | M | --bare | ORC 31=01 | 1 1 bad V10 NoTerminator at=31 object=0 field=1 reads=8\n\
+        cut            | M | --bare | ORC ..31 | 1 1 bad V2 OutOfBuffer at=28 object=0 field=1 reads=7\n\
+        endless        | M | --bare | ORC 24=ffffffff | 1 1 bad V2 OutOfBuffer at=28 object=0 field=1 reads=7\n\
+        no offset      | M | --bare | ORC 16=00 | 1 1 bad V4 ZeroOffset at=16 object=0 field=1 reads=6\n\
+        no table       | M | --bare --max-tables 0 | ORC | 1 1 bad V7 TooManyTables at=12 object=0 field=- reads=1\n\
+        no depth       | M | --bare --max-depth 0 | ORC | 1 1 bad V6 TooDeep at=12 object=0 field=- reads=1\n\
+        neither        | M | --bare --max-depth 0 --max-tables 0 | ORC | \
+            1 1 bad V6 TooDeep at=12 object=0 field=- reads=1\n\
+        its size       | M | --bare --inline-size | ORC | 0 1 ok tables=1 depth=1 reads=9\n\
+        short          | M | --bare --inline-size | ORC 6=09 | 1 1 bad V12 PastTable at=20 object=0 field=0 reads=5\n\
+        unasked        | M | --bare | ORC 6=09 | 0 1 ok tables=1 depth=1 reads=8\n\
+    ";
+    all_told(&rt, rt.alloc(), cases)
 }
 
 #[test]
 fn a_required_field_may_not_be_absent(rt: HostRuntime) -> Result<(), Fail> {
-    const STRING: i8 = 13;
-    let schema = one_field(rt.alloc(), STRING, true)?;
+    let schema = schema_of(&rt, rt.alloc(), "N table: v@4 string required")?;
     assert!(rt; schema.is_table(0));
     let options = Options {
         bare: true,
@@ -364,7 +187,7 @@ fn a_required_field_may_not_be_absent(rt: HostRuntime) -> Result<(), Fail> {
 
 #[test]
 fn a_stream_is_told_however_it_is_cut(rt: HostRuntime) -> Result<(), Fail> {
-    let schema = schema_n(rt.alloc())?;
+    let schema = schema_n(&rt, rt.alloc())?;
     assert!(rt; schema.is_table(0));
     let options = stream_options(67_108_864);
     let stream = twice();
@@ -396,92 +219,24 @@ fn a_stream_is_told_however_it_is_cut(rt: HostRuntime) -> Result<(), Fail> {
 
 #[test]
 fn a_stream_ends_with_what_is_left(rt: HostRuntime) -> Result<(), Fail> {
-    let schema = schema_n(rt.alloc())?;
-    assert!(rt; schema.is_table(0));
-    let stream = twice();
-    let all_but_one = stream.get(..63).ok_or("stream")?;
-    let mut oversize = [255; 36];
-    oversize[..32].copy_from_slice(&SEVEN);
-    let odd_vtable = with_byte(SEVEN, 20, 13);
-    let empty_message = [0; 4];
-    let nothing: [u8; 0] = [];
-    let truncated = Err(RunFault::Stream(StreamFault::Truncated { held: 31 }));
-    let refused = Err(RunFault::Stream(StreamFault::Oversize { declared: u32::MAX }));
-    let too_long = Err(RunFault::Stream(StreamFault::Oversize { declared: 28 }));
-    let rows = [
-        (64, nothing.as_slice(), Ok(Tally { yes: 0, no: 0 }), ""),
-        (64, oversize.as_slice(), refused, FIRST_LINE),
-        (64, all_but_one, truncated, FIRST_LINE),
-        (
-            32,
-            SEVEN.as_slice(),
-            Ok(Tally { yes: 1, no: 0 }),
-            FIRST_LINE,
-        ),
-        (31, SEVEN.as_slice(), too_long, ""),
-        (
-            64,
-            empty_message.as_slice(),
-            Ok(Tally { yes: 0, no: 1 }),
-            "1 bad V2 OutOfBuffer at=4 object=0 field=- reads=1\n",
-        ),
-        (
-            64,
-            odd_vtable.as_slice(),
-            Ok(Tally { yes: 0, no: 1 }),
-            "1 bad V3 Misaligned at=7 object=0 field=- reads=3\n",
-        ),
-    ];
-    for (max_bytes, bytes, want, lines) in rows {
-        let options = stream_options(max_bytes);
-        assert!(rt; options.max_bytes >= 8 && options.max_bytes <= 64);
-        let mut reader = Counted::new(bytes);
-        let mut writer = Counted::new(Vec::new(rt.alloc()));
-        let answer = run_within(
-            rt.alloc(),
-            &mut reader,
-            &mut writer,
-            &schema,
-            &options,
-            MOST_TURNS,
-        );
-        assert_eq!(rt; answer, want, "{lines}");
-        assert_eq!(rt; writer.get_ref().as_slice(), lines.as_bytes());
-        let fault = want.is_err();
-        assert_eq!(rt; status(&answer) == 3, fault);
-    }
-    Ok(())
-}
-
-#[test]
-fn a_wanted_identifier_is_looked_for(rt: HostRuntime) -> Result<(), Fail> {
-    let schema = schema_n(rt.alloc())?;
-    assert!(rt; schema.is_table(0));
-    let options = Options {
-        ident: Ident::Want(*b"ABCD"),
-        ..stream_options(64)
-    };
-    let mut reader = Counted::new(SEVEN.as_slice());
-    let mut writer = Counted::new(Vec::new(rt.alloc()));
-    let answer = run_within(
-        rt.alloc(),
-        &mut reader,
-        &mut writer,
-        &schema,
-        &options,
-        MOST_TURNS,
-    );
-    assert_eq!(rt; answer, Ok(Tally { yes: 0, no: 1 }));
-    assert_eq!(rt;
-        writer.get_ref().as_slice(),
-        b"1 bad V5 WrongIdentifier at=8 object=0 field=- reads=2\n".as_slice()
-    );
-    Ok(())
+    let cases = "\
+        nothing        | N | --max-bytes 64 |  | 0\n\
+        too large      | N | --max-bytes 64 | SEVEN ffffffff | \
+            3 1 ok tables=1 depth=1 reads=5 stream: S1 Oversize declared=4294967295\n\
+        torn           | N | --max-bytes 64 | SEVEN SEVEN ..63 | \
+            3 1 ok tables=1 depth=1 reads=5 stream: S2 Truncated held=31\n\
+        at the limit   | N | --max-bytes 32 | SEVEN | 0 1 ok tables=1 depth=1 reads=5\n\
+        past it        | N | --max-bytes 31 | SEVEN | 3 stream: S1 Oversize declared=28\n\
+        a prefix alone | N | --max-bytes 64 | 00000000 | 1 1 bad V2 OutOfBuffer at=4 object=0 field=- reads=1\n\
+        odd            | N | --max-bytes 64 | SEVEN 20=0d | 1 1 bad V3 Misaligned at=7 object=0 field=- reads=3\n\
+        a stranger     | N | --ident ABCD | SEVEN | 1 1 bad V5 WrongIdentifier at=8 object=0 field=- reads=2\n\
+    ";
+    all_told(&rt, rt.alloc(), cases)
 }
 
 #[test]
 fn a_failing_reader_leaves_the_lines_before_it(rt: HostRuntime) -> Result<(), Fail> {
-    let schema = schema_n(rt.alloc())?;
+    let schema = schema_n(&rt, rt.alloc())?;
     assert!(rt; schema.is_table(0));
     let options = stream_options(64);
     let stream = twice();
@@ -514,7 +269,7 @@ fn a_failing_reader_leaves_the_lines_before_it(rt: HostRuntime) -> Result<(), Fa
 
 #[test]
 fn a_narrow_writer_is_told_by_what_it_took(rt: HostRuntime) -> Result<(), Fail> {
-    let schema = schema_n(rt.alloc())?;
+    let schema = schema_n(&rt, rt.alloc())?;
     assert!(rt; schema.is_table(0));
     let options = stream_options(64);
     let stream = twice();
@@ -565,7 +320,7 @@ fn a_narrow_writer_is_told_by_what_it_took(rt: HostRuntime) -> Result<(), Fail> 
 
 #[test]
 fn a_run_ends_after_its_turns(rt: HostRuntime) -> Result<(), Fail> {
-    let schema = schema_n(rt.alloc())?;
+    let schema = schema_n(&rt, rt.alloc())?;
     assert!(rt; schema.is_table(0));
     let two =
         "1 bad V2 OutOfBuffer at=4 object=0 field=- reads=1\n2 bad V2 OutOfBuffer at=4 object=0 field=- reads=1\n";
