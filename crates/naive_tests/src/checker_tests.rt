@@ -1,342 +1,15 @@
-//! The naive checker, reader and test of rows over worked examples, each worked out by hand from the format.
+//! The naive checker over worked examples, each worked out by hand from the format.
 
-use fb_schema::{EnumRow, FieldRow, MemberRow, ObjectRow, TypeRow};
-use naive::checker::{Question, Verdict, verdict};
+use crate::common::{
+    Asks, BARE, BLANK, HALF, INSIDE, LONG, LONG_TYPE, LONGS, NO_LONGS, ORC, PREFIXED, Q, R, SHARED,
+    TWO_LISTS, UBYTE, UNALIGNED, UNION_PAIR, UNION_STRUCT, UNION_TABLE, UNION_UNKNOWN, at_slot,
+    bytes_of, deprecated, half, judge, lists, longs, monster, no, one, one_table, pairs, plain,
+    required, scalar, text, unions, yes,
+};
+use crate::reflection::{FILE_M, SCHEMA, reflection};
+use naive::checker::verdict;
 use std::alloc::{AllocError, Global};
-use std::process::Abort;
 use std::test::Fail;
-
-pub const UTYPE: i8 = 1;
-
-pub const BOOL: i8 = 2;
-
-pub const BYTE: i8 = 3;
-
-pub const UBYTE: i8 = 4;
-
-pub const SHORT: i8 = 5;
-
-pub const USHORT: i8 = 6;
-
-pub const INT: i8 = 7;
-
-pub const LONG_TYPE: i8 = 9;
-
-pub const ULONG: i8 = 10;
-
-pub const FLOAT: i8 = 11;
-
-pub const STRING: i8 = 13;
-
-pub const VECTOR: i8 = 14;
-
-pub const OBJ: i8 = 15;
-
-pub const UNION: i8 = 16;
-
-/// The rows of a schema.
-#[derive(Drop)]
-pub struct Rows {
-    pub objects: Vec<ObjectRow<'static>>,
-    pub enums: Vec<EnumRow<'static>>,
-}
-
-/// How a buffer is verified.
-#[derive(Clone, Copy)]
-pub struct Asks {
-    pub root: u32,
-    pub prefixed: bool,
-    pub ident: Option<[u8; 4]>,
-    pub depth: u32,
-    pub tables: u32,
-    pub alignment: bool,
-    pub inline_size: bool,
-}
-
-/// The published limits, over a bare buffer with any identifier.
-pub const BARE: Asks = Asks {
-    root: 0,
-    prefixed: false,
-    ident: None,
-    depth: 64,
-    tables: 1_000_000,
-    alignment: true,
-    inline_size: false,
-};
-
-pub const PREFIXED: Asks = Asks {
-    prefixed: true,
-    ..BARE
-};
-
-pub const UNALIGNED: Asks = Asks {
-    alignment: false,
-    ..BARE
-};
-
-pub const INSIDE: Asks = Asks {
-    inline_size: true,
-    ..BARE
-};
-
-impl Asks {
-    pub fn within(depth: u32, tables: u32) -> Asks {
-        Asks {
-            depth,
-            tables,
-            ..BARE
-        }
-    }
-
-    pub fn from(self, root: u32) -> Asks {
-        Asks { root, ..self }
-    }
-
-    pub fn of<'r>(self, rows: &'r Rows) -> Question<'r, 'static> {
-        Question {
-            objects: rows.objects.as_slice(),
-            enums: rows.enums.as_slice(),
-            root: self.root,
-            prefixed: self.prefixed,
-            ident: self.ident,
-            depth: self.depth,
-            tables: self.tables,
-            alignment: self.alignment,
-            inline_size: self.inline_size,
-        }
-    }
-}
-
-/// What a buffer shows, how it is verified, the buffer, and the verdict.
-pub type Case<'a> = (&'a str, Asks, &'a str, Verdict);
-
-pub fn yes(tables: u64, depth: u64, reads: u128) -> Verdict {
-    Verdict::Yes {
-        tables,
-        depth,
-        reads,
-    }
-}
-
-pub fn no(reason: u8, at: u64, object: u32, field: Option<u16>, reads: u128) -> Verdict {
-    Verdict::No {
-        reason,
-        at,
-        object,
-        field,
-        reads,
-    }
-}
-
-pub fn digit(byte: u8) -> Option<u8> {
-    match byte {
-        b'0'..=b'9' => Some(byte - b'0'),
-        b'a'..=b'f' => Some(byte - b'a' + 10),
-        _ => None,
-    }
-}
-
-/// The bytes that hexadecimal digits stand for, whatever else stands between them.
-pub fn bytes_of(alloc: Global, hex: &str) -> Result<Vec<u8>, AllocError> {
-    let mut bytes = Vec::new(alloc);
-    let mut high = None;
-    for byte in hex.as_bytes() {
-        let Some(low) = digit(*byte) else {
-            continue;
-        };
-        match high {
-            None => high = Some(low),
-            Some(first) => {
-                bytes.push((first & 15) << 4 | low)?;
-                high = None;
-            }
-        }
-    }
-    Ok(bytes)
-}
-
-pub fn judge(
-    rt: &impl Abort,
-    alloc: Global,
-    rows: &Rows,
-    cases: &[Case<'_>],
-) -> Result<(), AllocError> {
-    for (shows, asks, hex, wanted) in cases {
-        let bytes = bytes_of(alloc, hex)?;
-        let answer = verdict(alloc, &asks.of(rows), bytes.as_slice())?;
-        assert_eq!(rt; answer, *wanted, "{shows}");
-    }
-    Ok(())
-}
-
-pub fn plain(base: i8) -> TypeRow {
-    to(base, -1)
-}
-
-pub fn to(base: i8, index: i32) -> TypeRow {
-    TypeRow {
-        base,
-        element: 0,
-        index,
-        fixed_length: 0,
-    }
-}
-
-pub fn list(element: i8, index: i32) -> TypeRow {
-    TypeRow {
-        base: VECTOR,
-        element,
-        index,
-        fixed_length: 0,
-    }
-}
-
-pub fn at_slot(name: &'static [u8], slot: u16, ty: TypeRow) -> FieldRow<'static> {
-    FieldRow {
-        name,
-        ty,
-        slot,
-        default: 0,
-        deprecated: false,
-        required: false,
-        optional: false,
-        offset64: false,
-    }
-}
-
-pub fn field(name: &'static [u8], number: u8, ty: TypeRow) -> FieldRow<'static> {
-    at_slot(name, 4 + 2 * u16::from(number), ty)
-}
-
-pub fn required(row: FieldRow<'static>) -> FieldRow<'static> {
-    FieldRow {
-        required: true,
-        ..row
-    }
-}
-
-pub fn deprecated(row: FieldRow<'static>) -> FieldRow<'static> {
-    FieldRow {
-        deprecated: true,
-        ..row
-    }
-}
-
-pub fn by_default(row: FieldRow<'static>, default: i64) -> FieldRow<'static> {
-    FieldRow { default, ..row }
-}
-
-pub fn table(
-    alloc: Global,
-    name: &'static [u8],
-    fields: &[FieldRow<'static>],
-) -> Result<ObjectRow<'static>, AllocError> {
-    Ok(ObjectRow {
-        name,
-        fields: Vec::from_slice(alloc, fields)?,
-        is_struct: false,
-        minalign: 0,
-        bytesize: 0,
-    })
-}
-
-pub fn structure(
-    alloc: Global,
-    name: &'static [u8],
-    size: i32,
-    align: i32,
-    fields: &[FieldRow<'static>],
-) -> Result<ObjectRow<'static>, AllocError> {
-    Ok(ObjectRow {
-        name,
-        fields: Vec::from_slice(alloc, fields)?,
-        is_struct: true,
-        minalign: align,
-        bytesize: size,
-    })
-}
-
-pub fn member(name: &'static [u8], value: i64, ty: TypeRow) -> MemberRow<'static> {
-    MemberRow { name, value, ty }
-}
-
-pub fn union_of(
-    alloc: Global,
-    name: &'static [u8],
-    members: &[MemberRow<'static>],
-) -> Result<EnumRow<'static>, AllocError> {
-    Ok(EnumRow {
-        name,
-        members: Vec::from_slice(alloc, members)?,
-        is_union: true,
-    })
-}
-
-/// A schema of one table.
-pub fn one_table(alloc: Global, fields: &[FieldRow<'static>]) -> Result<Rows, AllocError> {
-    Ok(Rows {
-        objects: vec![in alloc; table(alloc, b"One", fields)?]?,
-        enums: Vec::new(alloc),
-    })
-}
-
-/// `table M { hp: short = 100; name: string; }`
-pub fn monster(alloc: Global) -> Result<Rows, AllocError> {
-    let hp = by_default(field(b"hp", 0, plain(SHORT)), 100);
-    one_table(alloc, [hp, field(b"name", 1, plain(STRING))].as_slice())
-}
-
-/// `table Node { a: Node; b: Node; }`
-pub fn pairs(alloc: Global) -> Result<Rows, AllocError> {
-    one_table(
-        alloc,
-        [field(b"a", 0, to(OBJ, 0)), field(b"b", 1, to(OBJ, 0))].as_slice(),
-    )
-}
-
-/// Two tables whose field is a union of a table, a struct and a string, and a vector of these.
-///
-/// `table A { v: int; } struct W { x: long; } union U { A = 1, W = 2, T: string = 3 }`
-/// `table R { u: U; } table Q { us: [U]; }`
-pub fn unions(alloc: Global) -> Result<Rows, AllocError> {
-    let one = [
-        field(b"u_type", 0, to(UTYPE, 0)),
-        field(b"u", 1, to(UNION, 0)),
-    ];
-    let many = [
-        field(b"us_type", 0, list(UTYPE, 0)),
-        field(b"us", 1, list(UNION, 0)),
-    ];
-    let members = [
-        member(b"NONE", 0, plain(0)),
-        member(b"A", 1, to(OBJ, 0)),
-        member(b"W", 2, to(OBJ, 1)),
-        member(b"T", 3, plain(STRING)),
-    ];
-    Ok(Rows {
-        objects: vec![in alloc;
-            table(alloc, b"A", [field(b"v", 0, plain(INT))].as_slice())?,
-            structure(
-                alloc,
-                b"W",
-                8,
-                8,
-                [at_slot(b"x", 0, plain(LONG_TYPE))].as_slice()
-            )?,
-            table(alloc, b"R", one.as_slice())?,
-            table(alloc, b"Q", many.as_slice())?,
-        ]?,
-        enums: vec![in alloc; union_of(alloc, b"U", members.as_slice())?]?,
-    })
-}
-
-pub const R: u32 = 2;
-
-pub const Q: u32 = 3;
-
-pub const ORC: &str = "0c000000 0800 0c00 0800 0400 08000000 08000000 2c01 0000 03000000 4f726300";
-
-pub const BLANK: &str = "08000000 0400 0400 04000000";
 
 #[test]
 fn a_table_of_a_number_and_a_string(rt: HostRuntime) -> Result<(), Fail> {
@@ -518,10 +191,6 @@ fn fields_past_the_inline_size(rt: HostRuntime) -> Result<(), Fail> {
     Ok(())
 }
 
-/// A root over two levels: two nodes share the two leaves, and each leads to each.
-pub const SHARED: &str =
-    "10000000 0800 0c00 0400 0800 0400 0400 0c000000 08000000 04000000 18000000 08000000 04000000 1c000000";
-
 #[test]
 fn shared_tables_count_at_each_visit(rt: HostRuntime) -> Result<(), Fail> {
     let rows = pairs(rt.alloc())?;
@@ -555,12 +224,9 @@ fn shared_tables_count_at_each_visit(rt: HostRuntime) -> Result<(), Fail> {
     Ok(())
 }
 
-/// A prefixed buffer whose table's one field, a long, is 7.
-pub const LONG: &str = "1c000000 10000000 0600 0c00 0400 000000000000 0c000000 0700000000000000";
-
 #[test]
 fn a_prefix_and_an_identifier(rt: HostRuntime) -> Result<(), Fail> {
-    let rows = one_table(rt.alloc(), [field(b"v", 0, plain(LONG_TYPE))].as_slice())?;
+    let rows = one_table(rt.alloc(), [scalar(b"v", 0, LONG_TYPE)].as_slice())?;
     let wanted = Asks {
         ident: Some(*b"ABCD"),
         ..PREFIXED
@@ -605,16 +271,6 @@ fn a_prefix_and_an_identifier(rt: HostRuntime) -> Result<(), Fail> {
     Ok(())
 }
 
-/// A union whose type says that it is a table, with 5 in it.
-pub const UNION_TABLE: &str =
-    "0c000000 0800 0c00 0800 0400 08000000 10000000 01000000 0600 0800 0400 0000 08000000 05000000";
-
-pub const UNION_UNKNOWN: &str =
-    "0c000000 0800 0c00 0800 0400 08000000 10000000 09000000 0600 0800 0400 0000 08000000 05000000";
-
-pub const UNION_STRUCT: &str =
-    "0c000000 0800 0c00 0800 0400 08000000 08000000 02000000 0700000000000000";
-
 #[test]
 fn unions_by_their_type(rt: HostRuntime) -> Result<(), Fail> {
     let rows = unions(rt.alloc())?;
@@ -657,11 +313,6 @@ fn unions_by_their_type(rt: HostRuntime) -> Result<(), Fail> {
     Ok(())
 }
 
-/// A vector of two unions: a string, and one without a type.
-pub const UNION_PAIR: &str =
-    "0c000000 0800 0c00 0400 0800 08000000 08000000 0c000000 02000000 03000000 02000000 08000000 \
-    00000000 02000000 68690000";
-
 #[test]
 fn vectors_of_unions(rt: HostRuntime) -> Result<(), Fail> {
     let rows = unions(rt.alloc())?;
@@ -692,35 +343,6 @@ fn vectors_of_unions(rt: HostRuntime) -> Result<(), Fail> {
     Ok(())
 }
 
-pub const LONGS: &str =
-    "0c000000 0600 0800 0400 0000 08000000 08000000 00000000 01000000 0100000000000000";
-
-pub const NO_LONGS: &str = "0c000000 0600 0800 0400 0000 08000000 08000000 00000000 00000000";
-
-pub const HALF: &str = "0c000000 0600 0800 0400 0000 08000000 0000c03f";
-
-pub const TWO_LISTS: &str =
-    "0c000000 0800 0c00 0400 0800 08000000 08000000 04000000 02000000 08000000 04000000 02000000 68690000";
-
-pub fn longs(alloc: Global) -> Result<Rows, AllocError> {
-    one_table(alloc, [field(b"l", 0, list(LONG_TYPE, 0))].as_slice())
-}
-
-pub fn half(alloc: Global) -> Result<Rows, AllocError> {
-    one_table(alloc, [field(b"f", 0, plain(FLOAT))].as_slice())
-}
-
-pub fn lists(alloc: Global) -> Result<Rows, AllocError> {
-    one_table(
-        alloc,
-        [
-            field(b"a", 0, list(STRING, 0)),
-            field(b"b", 1, list(STRING, 0)),
-        ]
-        .as_slice(),
-    )
-}
-
 #[test]
 fn vectors_and_single_fields(rt: HostRuntime) -> Result<(), Fail> {
     let cases = [
@@ -745,10 +367,7 @@ fn vectors_and_single_fields(rt: HostRuntime) -> Result<(), Fail> {
         ("an absent float", BARE, BLANK, yes(1, 1, 3)),
     ];
     judge(&rt, rt.alloc(), &half(rt.alloc())?, cases.as_slice())?;
-    let rows = one_table(
-        rt.alloc(),
-        [required(field(b"s", 0, plain(STRING)))].as_slice(),
-    )?;
+    let rows = one_table(rt.alloc(), [required(text(b"s", 0))].as_slice())?;
     let cases = [(
         "a required field is absent",
         BARE,
@@ -756,10 +375,7 @@ fn vectors_and_single_fields(rt: HostRuntime) -> Result<(), Fail> {
         no(9, 8, 0, Some(0), 3),
     )];
     judge(&rt, rt.alloc(), &rows, cases.as_slice())?;
-    let rows = one_table(
-        rt.alloc(),
-        [deprecated(field(b"s", 0, plain(STRING)))].as_slice(),
-    )?;
+    let rows = one_table(rt.alloc(), [deprecated(text(b"s", 0))].as_slice())?;
     let cases = [(
         "a deprecated field isn't checked",
         BARE,
@@ -774,5 +390,125 @@ fn vectors_and_single_fields(rt: HostRuntime) -> Result<(), Fail> {
         yes(1, 1, 21),
     )];
     judge(&rt, rt.alloc(), &lists(rt.alloc())?, cases.as_slice())?;
+    Ok(())
+}
+
+#[test]
+fn schema_files(rt: HostRuntime) -> Result<(), Fail> {
+    let rows = reflection(rt.alloc())?;
+    let schema = BARE.from(SCHEMA);
+    let named = Asks {
+        ident: Some(*b"BFBS"),
+        ..schema
+    };
+    let other = Asks {
+        ident: Some(*b"XFBS"),
+        ..schema
+    };
+    let lists = "1c000000 0c000000 0800 0c00 0400 0800 08000000 08000000 04000000 00000000";
+    let cases = [
+        (
+            "eleven visits, the table of the root twice",
+            schema,
+            FILE_M,
+            yes(11, 4, 90),
+        ),
+        ("its identifier is read", named, FILE_M, yes(11, 4, 91)),
+        ("another identifier", other, FILE_M, no(5, 4, 9, None, 1)),
+        (
+            "two lists share one empty vector",
+            PREFIXED.from(SCHEMA),
+            lists,
+            yes(1, 1, 10),
+        ),
+    ];
+    judge(&rt, rt.alloc(), &rows, cases.as_slice())?;
+    Ok(())
+}
+
+#[test]
+fn a_schema_file_behind_a_prefix(rt: HostRuntime) -> Result<(), Fail> {
+    let rows = reflection(rt.alloc())?;
+    let mut bytes = bytes_of(rt.alloc(), "d0000000")?;
+    bytes.extend_from_slice(bytes_of(rt.alloc(), FILE_M)?.as_slice())?;
+    let asks = PREFIXED.from(SCHEMA);
+    let answer = verdict(rt.alloc(), &asks.of(&rows), bytes.as_slice())?;
+    assert_eq!(rt;
+        answer,
+        no(3, 132, 4, Some(4), 32),
+        "a long is no more at a multiple of 8"
+    );
+    let unaligned = Asks {
+        alignment: false,
+        ..asks
+    };
+    let answer = verdict(rt.alloc(), &unaligned.of(&rows), bytes.as_slice())?;
+    assert_eq!(rt; answer, yes(11, 4, 91), "unaligned, it may stand there");
+    Ok(())
+}
+
+/// A chain of tables behind one root: each but the last has these words for its fields.
+fn chain(alloc: Global, head: &str, links: u32, words: &[u32]) -> Result<Vec<u8>, AllocError> {
+    let step = if words.len() == 2 { 12 } else { 8 };
+    let mut bytes = bytes_of(alloc, head)?;
+    for link in 0..links {
+        let back = link.saturating_mul(step).saturating_add(12);
+        bytes.extend_from_slice(back.to_le_bytes().as_slice())?;
+        for word in words {
+            bytes.extend_from_slice(word.to_le_bytes().as_slice())?;
+        }
+    }
+    let back = links.saturating_mul(step).saturating_add(4);
+    bytes.extend_from_slice(back.to_le_bytes().as_slice())?;
+    Ok(bytes)
+}
+
+/// The root offset and two vtables: one of two fields, one of none.
+const TWO_FIELDS: &str = "10000000 0800 0c00 0400 0800 0400 0400";
+/// The same, where the first has one field.
+const ONE_FIELD: &str = "10000000 0600 0800 0400 0000 0400 0400";
+
+#[test]
+fn a_chain_of_pairs_doubles_its_visits(rt: HostRuntime) -> Result<(), Fail> {
+    let rows = pairs(rt.alloc())?;
+    let bytes = chain(rt.alloc(), TWO_FIELDS, 10, [8, 4].as_slice())?;
+    for (shows, tables, wanted) in [
+        ("2^11 - 1 visits", 2047, yes(2047, 11, 8187)),
+        ("one visit too many", 2046, no(7, 136, 0, Some(1), 8185)),
+    ] {
+        let asks = Asks::within(64, tables);
+        let answer = verdict(rt.alloc(), &asks.of(&rows), bytes.as_slice())?;
+        assert_eq!(rt; answer, wanted, "{shows}");
+    }
+    Ok(())
+}
+
+#[test]
+fn a_chain_reaches_the_depth_limit(rt: HostRuntime) -> Result<(), Fail> {
+    let rows = one_table(rt.alloc(), [one(b"next", 0, 0)].as_slice())?;
+    for (shows, links, wanted) in [
+        ("64 tables", 63, yes(64, 64, 255)),
+        ("the 65th is too deep", 99, no(6, 528, 0, Some(0), 257)),
+    ] {
+        let bytes = chain(rt.alloc(), ONE_FIELD, links, [4].as_slice())?;
+        let answer = verdict(rt.alloc(), &BARE.of(&rows), bytes.as_slice())?;
+        assert_eq!(rt; answer, wanted, "{shows}");
+    }
+    Ok(())
+}
+
+#[test]
+fn a_slot_at_the_end_of_the_longest_vtable(rt: HostRuntime) -> Result<(), Fail> {
+    let fields = [
+        scalar(b"first", 0, UBYTE),
+        at_slot(b"last", 65532, plain(UBYTE)),
+        at_slot(b"past", 65534, plain(UBYTE)),
+    ];
+    let rows = one_table(rt.alloc(), fields.as_slice())?;
+    let mut bytes = bytes_of(rt.alloc(), "04000100 feff 0400")?;
+    bytes.extend_from_slice([0; 65532].as_slice())?;
+    bytes.extend_from_slice(bytes_of(rt.alloc(), "00000100")?.as_slice())?;
+    let answer = verdict(rt.alloc(), &BARE.of(&rows), bytes.as_slice())?;
+    assert_eq!(rt; answer, yes(1, 1, 5));
     Ok(())
 }

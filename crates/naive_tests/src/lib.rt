@@ -5,6 +5,10 @@
 #[cfg(test)]
 mod checker_tests;
 #[cfg(test)]
+mod common;
+#[cfg(test)]
+mod reflection;
+#[cfg(test)]
 mod rows_tests;
 #[cfg(test)]
 mod value_tests;

@@ -1,9 +1,9 @@
 //! The naive reader of values over worked buffers.
 
-use crate::checker_tests::{
+use crate::common::{
     BARE, BLANK, BOOL, BYTE, HALF, INT, LONG, LONG_TYPE, LONGS, NO_LONGS, ORC, PREFIXED, Q, R,
     Rows, TWO_LISTS, UBYTE, ULONG, UNALIGNED, UNION_PAIR, UNION_STRUCT, UNION_TABLE, UNION_UNKNOWN,
-    USHORT, by_default, bytes_of, field, half, lists, longs, monster, one_table, plain, unions,
+    USHORT, by_default, bytes_of, half, lists, longs, monster, one_table, scalar, unions,
 };
 use fb_schema::FieldRow;
 use naive::checker::Question;
@@ -47,7 +47,7 @@ fn values_of_plain_fields(rt: HostRuntime) -> Result<(), Fail> {
         ([].as_slice(), BLANK, Value::Table),
     ];
     read(&rt, alloc, &BARE.of(&monster(alloc)?), cases.as_slice())?;
-    let rows = one_table(alloc, [field(b"v", 0, plain(LONG_TYPE))].as_slice())?;
+    let rows = one_table(alloc, [scalar(b"v", 0, LONG_TYPE)].as_slice())?;
     let cases = [([Name(b"v")].as_slice(), LONG, Value::Int(7))];
     read(&rt, alloc, &PREFIXED.of(&rows), cases.as_slice())?;
     let path: &[Part<'_>] = &[Name(b"f")];
@@ -63,15 +63,15 @@ fn values_of_plain_fields(rt: HostRuntime) -> Result<(), Fail> {
 fn defaults(alloc: Global) -> Result<Rows, AllocError> {
     let optional = FieldRow {
         optional: true,
-        ..by_default(field(b"maybe", 6, plain(INT)), 9)
+        ..by_default(scalar(b"maybe", 6, INT), 9)
     };
     let fields = [
-        by_default(field(b"even", 0, plain(BOOL)), 256),
-        by_default(field(b"odd", 1, plain(BOOL)), -1),
-        by_default(field(b"byte", 2, plain(BYTE)), 200),
-        by_default(field(b"ubyte", 3, plain(UBYTE)), -56),
-        by_default(field(b"ushort", 4, plain(USHORT)), -1),
-        by_default(field(b"ulong", 5, plain(ULONG)), -1),
+        by_default(scalar(b"even", 0, BOOL), 256),
+        by_default(scalar(b"odd", 1, BOOL), -1),
+        by_default(scalar(b"byte", 2, BYTE), 200),
+        by_default(scalar(b"ubyte", 3, UBYTE), -56),
+        by_default(scalar(b"ushort", 4, USHORT), -1),
+        by_default(scalar(b"ulong", 5, ULONG), -1),
         optional,
     ];
     one_table(alloc, fields.as_slice())
