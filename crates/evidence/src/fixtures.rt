@@ -185,6 +185,7 @@ impl<'n> Fixture<'n> {
             ident: None,
             depth: 64,
             tables: 1_000_000,
+            reads: None,
             alignment: checks.alignment,
             inline_size: checks.inline_size,
         }

@@ -2,6 +2,10 @@
 //!
 //! It shares nothing with the verifier that it is compared with. It looks through the rows anew at every field, goes
 //! down by plain recursion, and builds the whole tree of visited tables before anything is counted on it.
+//!
+//! A budget of reads is asked after the start, after each head, after each field by itself, and after each entry that
+//! leads to no table: a string or struct with the offset word that leads to it, or an element of unknown type. So what
+//! leads to a table is asked with that table's head.
 
 use crate::kinds::{
     Kind, Live, Shape, element_at, field_count, kind_of, member_kind, next_live, number,
@@ -21,6 +25,8 @@ pub struct Question<'r, 'n> {
     pub ident: Option<[u8; 4]>,
     pub depth: u32,
     pub tables: u32,
+    /// The budget: the most counted reads, where there is a most.
+    pub reads: Option<u64>,
     pub alignment: bool,
     pub inline_size: bool,
 }
@@ -88,6 +94,8 @@ const LENGTHS_DIFFER: u8 = 11;
 
 const PAST_TABLE: u8 = 12;
 
+const TOO_MANY_READS: u8 = 13;
+
 /// Whom a fault names: the innermost opened table's object and the number of its field under check.
 #[derive(Clone, Copy)]
 struct Here {
@@ -149,6 +157,14 @@ struct Place {
     here: Here,
 }
 
+/// An offset word of a union or of an element: where it stands, where it leads, and whom a fault there names.
+#[derive(Clone, Copy)]
+struct Entry {
+    at: u64,
+    target: u64,
+    here: Here,
+}
+
 /// A walk through a buffer, with the reads made and the tables opened so far.
 #[derive(Drop)]
 struct Walk<'r, 'n, 'b> {
@@ -180,6 +196,18 @@ impl<'r, 'n, 'b> Walk<'r, 'n, 'b> {
     fn read(&mut self, at: u64, size: u64, here: Here) -> Result<u64, Stop> {
         self.reads = self.reads.saturating_add(1);
         number(self.bytes, at, size).ok_or(fault(IMPOSSIBLE, at, here))
+    }
+
+    /// V13: the reads made so far are at most the budget.
+    fn affordable(&self, at: u64, here: Here) -> Result<(), Stop> {
+        let most = self.question.reads;
+        let within = most.is_none_or(|most| self.reads <= most);
+        ensure(within, TOO_MANY_READS, at, here)
+    }
+
+    /// V13 of a field by itself, whose own tests have held while those of its entries are still to come.
+    fn field_affordable(&self, place: Place) -> Result<(), Stop> {
+        self.affordable(place.head.at, place.here)
     }
 
     /// The prefix, the wanted identifier and the root offset, then the tree of the root table.
@@ -214,6 +242,7 @@ impl<'r, 'n, 'b> Walk<'r, 'n, 'b> {
         self.range(base, WORD, here)?;
         let offset = self.read(base, WORD, here)?;
         ensure(offset != 0, ZERO_OFFSET, base, here)?;
+        self.affordable(base, here)?;
         self.table(
             self.question.root,
             base.saturating_add(offset),
@@ -263,6 +292,7 @@ impl<'r, 'n, 'b> Walk<'r, 'n, 'b> {
         } else {
             0
         };
+        self.affordable(at, here)?;
         Ok(Head {
             object,
             at,
@@ -320,6 +350,7 @@ impl<'r, 'n, 'b> Walk<'r, 'n, 'b> {
             Slot::Holds(word) => word,
             Slot::Missing(found) => {
                 ensure(!row.required, MISSING_REQUIRED, head.at, here)?;
+                self.affordable(head.at, here)?;
                 return Ok(found);
             }
         };
@@ -357,13 +388,19 @@ impl<'r, 'n, 'b> Walk<'r, 'n, 'b> {
         }
     }
 
-    /// What stands in the table itself: inside the inline size where that is asked (V12), in the buffer, aligned.
-    fn inline(&self, place: Place, shape: Shape) -> Result<(), Stop> {
-        let end = place.word.saturating_add(shape.size);
+    /// V12: what stands in the table itself ends within the inline size, where that is asked.
+    fn inside(&self, place: Place, size: u64) -> Result<(), Stop> {
+        let end = place.word.saturating_add(size);
         let inside = end <= place.head.inline_size || !self.question.inline_size;
-        ensure(inside, PAST_TABLE, place.at, place.here)?;
+        ensure(inside, PAST_TABLE, place.at, place.here)
+    }
+
+    /// What stands in the table itself: inside it, in the buffer, aligned. It is the field by itself.
+    fn inline(&self, place: Place, shape: Shape) -> Result<(), Stop> {
+        self.inside(place, shape.size)?;
         self.range(place.at, shape.size, place.here)?;
-        self.aligned(place.at, shape.align, place.here)
+        self.aligned(place.at, shape.align, place.here)?;
+        self.field_affordable(place)
     }
 
     /// A scalar: its bytes are in the buffer at a multiple of its size. The value isn't read.
@@ -379,20 +416,21 @@ impl<'r, 'n, 'b> Walk<'r, 'n, 'b> {
         Ok(Found::Inline)
     }
 
-    /// The offset word of a field: inline like a scalar, and not 0 (V4). Gives where it leads.
+    /// The offset word of a vector, with which the field by itself goes on. Gives where it leads.
     fn field_word(&mut self, place: Place) -> Result<u64, Stop> {
-        self.inline(
-            place,
-            Shape {
-                size: WORD,
-                align: WORD,
-            },
-        )?;
-        self.target(place.at, place.here)
+        self.inside(place, WORD)?;
+        self.offset_word(place.at, place.here)
     }
 
-    /// The offset word of an element: in the buffer, aligned, and not 0 (V4). Gives where it leads.
-    fn element_word(&mut self, at: u64, here: Here) -> Result<u64, Stop> {
+    /// The one offset word of a table, string or union, before which the field by itself ends. Gives where it leads.
+    fn single_word(&mut self, place: Place) -> Result<u64, Stop> {
+        self.inside(place, WORD)?;
+        self.field_affordable(place)?;
+        self.offset_word(place.at, place.here)
+    }
+
+    /// An offset word: in the buffer, aligned, and not 0 (V4). Gives where it leads.
+    fn offset_word(&mut self, at: u64, here: Here) -> Result<u64, Stop> {
         self.range(at, WORD, here)?;
         self.aligned(at, WORD, here)?;
         self.target(at, here)
@@ -414,7 +452,7 @@ impl<'r, 'n, 'b> Walk<'r, 'n, 'b> {
         left: u32,
         kids: &mut Vec<Node>,
     ) -> Result<Found, Stop> {
-        let target = self.field_word(place)?;
+        let target = self.single_word(place)?;
         let kid = self.table(object, target, left, place.here)?;
         kids.push(kid).map_err(AllocError::from)?;
         Ok(Found::Table)
@@ -422,8 +460,9 @@ impl<'r, 'n, 'b> Walk<'r, 'n, 'b> {
 
     /// A text: an offset word, then the string where it leads.
     fn text(&mut self, place: Place) -> Result<Found, Stop> {
-        let target = self.field_word(place)?;
+        let target = self.single_word(place)?;
         self.string(target, place.here)?;
+        self.affordable(place.at, place.here)?;
         Ok(Found::Text)
     }
 
@@ -471,6 +510,7 @@ impl<'r, 'n, 'b> Walk<'r, 'n, 'b> {
         let target = self.field_word(place)?;
         let size = scalar_size(base).unwrap_or(0);
         self.vector(target, Shape { size, align: size }, place.here)?;
+        self.field_affordable(place)?;
         Ok(Found::Plain)
     }
 
@@ -478,15 +518,19 @@ impl<'r, 'n, 'b> Walk<'r, 'n, 'b> {
     fn structs(&mut self, place: Place, shape: Shape) -> Result<Found, Stop> {
         let target = self.field_word(place)?;
         self.vector(target, shape, place.here)?;
+        self.field_affordable(place)?;
         Ok(Found::Plain)
     }
 
     /// A vector of texts: after the vector each element in turn, an offset word and its string.
     fn texts(&mut self, place: Place) -> Result<Found, Stop> {
         let (start, count) = self.words(place)?;
+        self.field_affordable(place)?;
         for index in 0..count {
-            let target = self.element_word(element_at(start, WORD, index), place.here)?;
+            let at = element_at(start, WORD, index);
+            let target = self.offset_word(at, place.here)?;
             self.string(target, place.here)?;
+            self.affordable(at, place.here)?;
         }
         Ok(Found::Texts(count))
     }
@@ -501,8 +545,9 @@ impl<'r, 'n, 'b> Walk<'r, 'n, 'b> {
         kids: &mut Vec<Node>,
     ) -> Result<Found, Stop> {
         let (start, count) = self.words(place)?;
+        self.field_affordable(place)?;
         for index in 0..count {
-            let target = self.element_word(element_at(start, WORD, index), place.here)?;
+            let target = self.offset_word(element_at(start, WORD, index), place.here)?;
             let kid = self.table(object, target, left, place.here)?;
             kids.push(kid).map_err(AllocError::from)?;
         }
@@ -533,11 +578,16 @@ impl<'r, 'n, 'b> Walk<'r, 'n, 'b> {
             None => 0,
         };
         let Some(kind) = member_kind(&self.question, union, value) else {
+            self.field_affordable(place)?;
             let members = Members::NONE;
             return Ok(Found::Union { typed, members });
         };
-        let target = self.field_word(place)?;
-        self.member(target, kind, left, place.here, kids)?;
+        let entry = Entry {
+            at: place.at,
+            target: self.single_word(place)?,
+            here: place.here,
+        };
+        self.member(entry, kind, left, kids)?;
         let members = Members::NONE.and(kind);
         Ok(Found::Union { typed, members })
     }
@@ -573,14 +623,21 @@ impl<'r, 'n, 'b> Walk<'r, 'n, 'b> {
             start.saturating_sub(WORD),
             place.here,
         )?;
+        self.field_affordable(place)?;
         let mut members = Members::NONE;
         for index in 0..count {
+            let at = element_at(start, WORD, index);
             let value = self.read(element_at(types, 1, index), 1, place.here)?;
             let Some(kind) = member_kind(&self.question, union, value) else {
+                self.affordable(at, place.here)?;
                 continue;
             };
-            let target = self.element_word(element_at(start, WORD, index), place.here)?;
-            self.member(target, kind, left, place.here, kids)?;
+            let entry = Entry {
+                at,
+                target: self.offset_word(at, place.here)?,
+                here: place.here,
+            };
+            self.member(entry, kind, left, kids)?;
             members = members.and(kind);
         }
         let typed = type_at.is_some();
@@ -595,22 +652,26 @@ impl<'r, 'n, 'b> Walk<'r, 'n, 'b> {
     #[cycle(walk)]
     fn member(
         &mut self,
-        at: u64,
+        entry: Entry,
         kind: Kind,
         left: u32,
-        here: Here,
         kids: &mut Vec<Node>,
     ) -> Result<(), Stop> {
+        let Entry { at, target, here } = entry;
         match kind {
             Kind::Table(object) => {
-                let kid = self.table(object, at, left, here)?;
+                let kid = self.table(object, target, left, here)?;
                 kids.push(kid).map_err(AllocError::from)?;
                 Ok(())
             }
-            Kind::Text => self.string(at, here),
+            Kind::Text => {
+                self.string(target, here)?;
+                self.affordable(at, here)
+            }
             Kind::Struct(shape) => {
-                self.range(at, shape.size, here)?;
-                self.aligned(at, shape.align, here)
+                self.range(target, shape.size, here)?;
+                self.aligned(target, shape.align, here)?;
+                self.affordable(at, here)
             }
             _ => Err(fault(IMPOSSIBLE, at, here)),
         }

@@ -62,6 +62,7 @@ pub struct Asks {
     pub ident: Option<[u8; 4]>,
     pub depth: u32,
     pub tables: u32,
+    pub reads: Option<u64>,
     pub alignment: bool,
     pub inline_size: bool,
 }
@@ -73,6 +74,7 @@ pub const BARE: Asks = Asks {
     ident: None,
     depth: 64,
     tables: 1_000_000,
+    reads: None,
     alignment: true,
     inline_size: false,
 };
@@ -105,6 +107,14 @@ impl Asks {
         }
     }
 
+    /// The same with a budget of reads.
+    pub fn paying(self, most: u64) -> Asks {
+        Asks {
+            reads: Some(most),
+            ..self
+        }
+    }
+
     /// The same from another root.
     pub fn from(self, root: u32) -> Asks {
         Asks { root, ..self }
@@ -120,6 +130,7 @@ impl Asks {
             ident: self.ident,
             depth: self.depth,
             tables: self.tables,
+            reads: self.reads,
             alignment: self.alignment,
             inline_size: self.inline_size,
         }

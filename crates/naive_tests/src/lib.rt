@@ -3,6 +3,8 @@
 #![tactic(auto)]
 
 #[cfg(test)]
+mod budget_tests;
+#[cfg(test)]
 mod checker_tests;
 #[cfg(test)]
 mod common;
