@@ -1,23 +1,32 @@
 //! Buffers cut off everywhere, and with each byte changed to each other value: engine and naive checker agree in
 //! every number, under every choice of the checks, and where they say yes, in the value at the end of every path of
-//! up to three steps.
+//! up to three steps. Now and then they are asked once more, with a budget of reads.
 
 use crate::answers;
-use crate::engine::{ALL_CHECKS, Engine};
+use crate::engine::{ALL_CHECKS, Engine, answered, reads_of};
 use crate::fixtures::{Fixture, SHORT_ONES, Swept};
 use crate::paths::{Way, ways};
-use fb_verify::Checks;
+use crate::random::Random;
+use fb_verify::{Checks, Reason};
 use naive::checker::Question;
 use std::alloc::{AllocError, Global};
 use std::ops::Range;
 use std::process::Abort;
 use std::test::Fail;
 
-/// How many damaged buffers were asked, and to how many of them both said yes.
+/// How many damaged buffers were asked, to how many of them both said yes, and how often a budget was too small.
 #[derive(Clone, Copy, Default, Debug, PartialEq, Eq)]
 struct Count {
     asked: u32,
     yes: u32,
+    too_many_reads: u32,
+}
+
+impl Count {
+    /// Whether both said yes to some and no to some, and often enough that the reads were too many.
+    fn is_mixed(self) -> bool {
+        self.yes > 0 && self.yes < self.asked && self.too_many_reads >= 20
+    }
 }
 
 /// A sweep over the damaged forms of one buffer.
@@ -27,7 +36,28 @@ struct Sweep<'q, 'r, 's, 'n> {
     engine: Engine<'s, 'n>,
     question: Question<'q, 'r>,
     ways: &'q [Way],
+    random: Random,
     count: Count,
+}
+
+/// Asks both of one buffer within a budget, which is at most one read more than the buffer takes without one.
+fn ask_within(
+    rt: &impl Abort,
+    sweep: &mut Sweep<'_, '_, '_, '_>,
+    bytes: &[u8],
+    reads: u128,
+) -> Result<(), AllocError> {
+    let reads = u32::try_from(reads).unwrap_or(0);
+    let budget = sweep.random.below(reads.saturating_add(2));
+    let question = Question {
+        reads: Some(u64::from(budget)),
+        ..sweep.question
+    };
+    let answer = sweep.engine.agrees(rt, sweep.alloc, &question, bytes)?;
+    if answer.is_err_and(|fault| fault.reason == Reason::TooManyReads) {
+        sweep.count.too_many_reads = sweep.count.too_many_reads.saturating_add(1);
+    }
+    Ok(())
 }
 
 /// Asks both of one buffer.
@@ -35,10 +65,14 @@ fn ask(rt: &impl Abort, sweep: &mut Sweep<'_, '_, '_, '_>, bytes: &[u8]) -> Resu
     let answer = sweep
         .engine
         .agrees(rt, sweep.alloc, &sweep.question, bytes)?;
+    let reads = reads_of(answered(&answer));
     sweep.count.asked = sweep.count.asked.saturating_add(1);
     if let Ok(verified) = answer {
         sweep.count.yes = sweep.count.yes.saturating_add(1);
         answers::agree(rt, &sweep.question, &verified, bytes, sweep.ways);
+    }
+    if sweep.random.once_in(8) {
+        ask_within(rt, sweep, bytes, reads)?;
     }
     Ok(())
 }
@@ -92,6 +126,7 @@ fn run_sweep(
         engine: Engine::new(alloc, &fixture.schema)?,
         question: fixture.question(checks),
         ways,
+        random: Random::new(15),
         count: Count::default(),
     };
     let mut bytes = fixture.bytes.as_slice().to_vec(alloc)?;
@@ -109,10 +144,7 @@ fn sweep_short(rt: &impl Abort, alloc: Global, swept: Swept) -> Result<(), Fail>
     let places = fixture.bytes.len();
     for checks in ALL_CHECKS {
         let count = run_sweep(rt, alloc, &fixture, &ways, checks, 0..places)?;
-        assert!(rt;
-            count.yes > 0 && count.yes < count.asked,
-            "{swept:?} {count:?}"
-        );
+        assert!(rt; count.is_mixed(), "{swept:?} {count:?}");
     }
     Ok(())
 }
@@ -135,7 +167,7 @@ fn sweep_schema_file(
     let fixture = Swept::SchemaFile.fixture(rt, alloc)?;
     let ways = ways(rt, alloc, &fixture)?;
     let count = run_sweep(rt, alloc, &fixture, &ways, checks, places)?;
-    assert!(rt; count.yes > 0 && count.yes < count.asked, "{count:?}");
+    assert!(rt; count.is_mixed(), "{count:?}");
     Ok(())
 }
 

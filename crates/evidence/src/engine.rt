@@ -30,6 +30,12 @@ pub const ALL_CHECKS: [Checks; 4] = [
     },
 ];
 
+/// How many reads past its budget a walk may make.
+const PAST_BUDGET: u128 = 7;
+
+/// The number of the reason for which a budget is too small.
+pub const TOO_MANY_READS: u8 = 13;
+
 /// The number in a reason's code.
 fn number(reason: Reason) -> u8 {
     match reason {
@@ -45,7 +51,7 @@ fn number(reason: Reason) -> u8 {
         Reason::NoTerminator => 10,
         Reason::LengthsDiffer => 11,
         Reason::PastTable => 12,
-        Reason::TooManyReads => 13,
+        Reason::TooManyReads => TOO_MANY_READS,
     }
 }
 
@@ -69,8 +75,16 @@ fn counted(report: Report) -> Verdict {
     }
 }
 
+/// What the engine answered, in the naive checker's words.
+pub fn answered(answer: &Result<Verified<'_, '_, '_>, Fault>) -> Verdict {
+    match answer {
+        Ok(verified) => counted(verified.report()),
+        Err(fault) => told(*fault),
+    }
+}
+
 /// The reads of a verdict.
-fn reads_of(verdict: Verdict) -> u128 {
+pub fn reads_of(verdict: Verdict) -> u128 {
     match verdict {
         Verdict::Yes { reads, .. } | Verdict::No { reads, .. } => reads,
         Verdict::TooLarge => 0,
@@ -128,7 +142,8 @@ impl<'s, 'n> Engine<'s, 'n> {
     }
 
     /// Asserts that the engine and the naive checker agree in every number, and that the reads are no more than was
-    /// said in advance; where the tree is too large for the naive checker, that alone. Answers what the engine does.
+    /// said in advance, and no more than the budget and 7; where the tree is too large for the naive checker, these two
+    /// alone. Answers what the engine does.
     pub fn agrees<'b>(
         &mut self,
         rt: &impl Abort,
@@ -137,23 +152,30 @@ impl<'s, 'n> Engine<'s, 'n> {
         bytes: &'b [u8],
     ) -> Result<Result<Verified<'b, 's, 'n>, Fault>, AllocError> {
         let answer = self.verified(rt, question, bytes);
-        let of_engine = match &answer {
-            Ok(verified) => counted(verified.report()),
-            Err(fault) => told(*fault),
-        };
+        let of_engine = answered(&answer);
         let naive = verdict(alloc, question, bytes)?;
         if naive != Verdict::TooLarge {
             assert_same(rt, question, bytes, of_engine, naive);
         }
+        let reads = reads_of(of_engine);
         let most = most_reads(self.schema, limits_of(rt, question), bytes.len() as u64);
-        assert!(rt; reads_of(of_engine) <= most, "{most} {bytes:?}");
+        assert!(rt; reads <= most, "{most} {bytes:?}");
+        if let Some(budget) = question.reads {
+            let most = u128::from(budget).saturating_add(PAST_BUDGET);
+            assert!(rt; reads <= most, "{reads} {budget} {bytes:?}");
+        }
         Ok(answer)
     }
 }
 
-fn limits_of(rt: &impl Abort, question: &Question<'_, '_>) -> Limits {
+/// The limits that a question has.
+pub fn limits_of(rt: &impl Abort, question: &Question<'_, '_>) -> Limits {
     let limits = Limits::new(question.depth, question.tables);
-    limits.ok().expect(rt, "a depth in range")
+    let limits = limits.ok().expect(rt, "a depth in range");
+    match question.reads {
+        Some(most) => limits.with_reads(most),
+        None => limits,
+    }
 }
 
 /// Asserts that both say the same; the message of a test that fails tells the question.
@@ -165,11 +187,11 @@ fn assert_same(
     naive: Verdict,
 ) {
     let (root, prefixed) = (question.root, question.prefixed);
-    let (depth, tables) = (question.depth, question.tables);
+    let (depth, tables, reads) = (question.depth, question.tables, question.reads);
     let (alignment, inline_size) = (question.alignment, question.inline_size);
     assert_eq!(rt;
         of_engine,
         naive,
-        "{root} {prefixed} {depth} {tables} {alignment} {inline_size} {bytes:?}"
+        "{root} {prefixed} {depth} {tables} {reads:?} {alignment} {inline_size} {bytes:?}"
     );
 }

@@ -108,6 +108,19 @@ pub const SHORT_ONES: [Swept; 8] = [
     Swept::SkewedLong,
 ];
 
+/// All of the swept buffers.
+pub const ALL: [Swept; 9] = [
+    Swept::Orc,
+    Swept::SharedNodes,
+    Swept::SizedLong,
+    Swept::UnionOfTable,
+    Swept::UnionOfStruct,
+    Swept::UnionsOfOtherLength,
+    Swept::Unions,
+    Swept::SkewedLong,
+    Swept::SchemaFile,
+];
+
 /// A buffer with its schema, as rows and as the engine has it.
 #[derive(Drop)]
 pub struct Fixture<'n> {
@@ -175,7 +188,8 @@ impl Swept {
 }
 
 impl<'n> Fixture<'n> {
-    /// Whether the buffer is well formed, with any identifier, under the published limits and these checks.
+    /// Whether the buffer is well formed, with any identifier, under the published limits and these checks, whatever
+    /// it costs.
     pub fn question(&self, checks: Checks) -> Question<'_, 'n> {
         Question {
             objects: &self.rows.objects,

@@ -5,6 +5,8 @@
 #[cfg(test)]
 mod answers;
 #[cfg(test)]
+mod budget_tests;
+#[cfg(test)]
 mod builder;
 #[cfg(test)]
 mod damage_tests;

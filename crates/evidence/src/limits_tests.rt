@@ -1,7 +1,8 @@
-//! Small limits and wanted identifiers: engine and naive checker agree on every buffer and on all its proper prefixes.
+//! Small limits and wanted identifiers, each with small budgets of reads too: engine and naive checker agree on every
+//! buffer and on all its proper prefixes.
 
 use crate::engine::{ALL_CHECKS, Engine};
-use crate::fixtures::{Fixture, SHORT_ONES, Swept};
+use crate::fixtures::{ALL, Fixture};
 use fb_verify::Checks;
 use naive::checker::Question;
 use std::alloc::Global;
@@ -36,6 +37,18 @@ const SMALL: [(u32, u32); 24] = [
     (3, 3),
 ];
 
+/// Budgets that end in a start, in a head, in a field and between fields, and none.
+const BUDGETS: [Option<u64>; 8] = [
+    None,
+    Some(0),
+    Some(1),
+    Some(2),
+    Some(3),
+    Some(5),
+    Some(8),
+    Some(12),
+];
+
 /// Asks both of a buffer and of all its proper prefixes. Answers to how many both said yes.
 fn yes_of_prefixes(
     rt: &impl Abort,
@@ -55,30 +68,29 @@ fn yes_of_prefixes(
     Ok(yes)
 }
 
-/// The sweep over one fixture with every pair of small limits.
+/// The sweep over one fixture with every pair of small limits and every small budget.
 fn small_limits(rt: &impl Abort, alloc: Global, fixture: &Fixture<'_>) -> Result<(), Fail> {
     for (depth, tables) in SMALL {
-        let question = Question {
-            depth,
-            tables,
-            ..fixture.question(Checks::published())
-        };
-        let yes = yes_of_prefixes(rt, alloc, fixture, &question)?;
-        assert!(rt; yes == 0 || depth > 0 && tables > 0, "{depth} {tables}");
+        for reads in BUDGETS {
+            let question = Question {
+                depth,
+                tables,
+                reads,
+                ..fixture.question(Checks::published())
+            };
+            let yes = yes_of_prefixes(rt, alloc, fixture, &question)?;
+            assert!(rt; yes == 0 || depth > 0 && tables > 0, "{depth} {tables}");
+        }
     }
     Ok(())
 }
 
 #[test]
 fn small_limits_are_kept_alike(rt: HostRuntime) -> Result<(), Fail> {
-    for swept in SHORT_ONES {
+    for swept in ALL {
         small_limits(&rt, rt.alloc(), &swept.fixture(&rt, rt.alloc())?)?;
     }
-    small_limits(
-        &rt,
-        rt.alloc(),
-        &Swept::SchemaFile.fixture(&rt, rt.alloc())?,
-    )
+    Ok(())
 }
 
 /// The four bytes after the root offset, none where there are fewer.
@@ -92,36 +104,39 @@ fn ident_of(fixture: &Fixture<'_>) -> Option<[u8; 4]> {
         .copied()
 }
 
-/// The sweep over one fixture with the identifier that it has, which changes no yes to a no, and with another.
+/// The sweep over one fixture with the identifier that it has, which changes no yes to a no where it may be read, and
+/// with another.
 fn wanted(rt: &impl Abort, alloc: Global, fixture: &Fixture<'_>) -> Result<(), Fail> {
     let right = ident_of(fixture).ok_or("a short buffer")?;
     let [first, second, third, fourth] = right;
     let wrong = [first, second, third, fourth ^ 1];
     for checks in ALL_CHECKS {
-        let any = fixture.question(checks);
-        let right = Question {
-            ident: Some(right),
-            ..any
-        };
-        let wrong = Question {
-            ident: Some(wrong),
-            ..any
-        };
-        let yes = yes_of_prefixes(rt, alloc, fixture, &any)?;
-        assert_eq!(rt; yes_of_prefixes(rt, alloc, fixture, &right)?, yes);
-        assert_eq!(rt; yes_of_prefixes(rt, alloc, fixture, &wrong)?, 0);
+        for reads in BUDGETS {
+            let any = Question {
+                reads,
+                ..fixture.question(checks)
+            };
+            let right = Question {
+                ident: Some(right),
+                reads: reads.map(|most| most.saturating_add(1)),
+                ..any
+            };
+            let wrong = Question {
+                ident: Some(wrong),
+                ..any
+            };
+            let yes = yes_of_prefixes(rt, alloc, fixture, &any)?;
+            assert_eq!(rt; yes_of_prefixes(rt, alloc, fixture, &right)?, yes);
+            assert_eq!(rt; yes_of_prefixes(rt, alloc, fixture, &wrong)?, 0);
+        }
     }
     Ok(())
 }
 
 #[test]
 fn identifiers_are_wanted_alike(rt: HostRuntime) -> Result<(), Fail> {
-    for swept in SHORT_ONES {
+    for swept in ALL {
         wanted(&rt, rt.alloc(), &swept.fixture(&rt, rt.alloc())?)?;
     }
-    wanted(
-        &rt,
-        rt.alloc(),
-        &Swept::SchemaFile.fixture(&rt, rt.alloc())?,
-    )
+    Ok(())
 }

@@ -1,13 +1,13 @@
 //! Damaged schema files through `load`: its fault, or the schema that it gives, beside what the naive checker, the
 //! naive test of rows and the naive reader of values say.
 
-use crate::engine::told;
+use crate::engine::{limits_of, told};
 use crate::file_rows::FileReader;
 use crate::fixtures::{Fixture, Swept};
 use crate::lookups;
 use crate::rows::{Rows, broken_by};
 use fb_bfbs::{LoadFault, Loaded, load};
-use fb_verify::{Checks, Limits};
+use fb_verify::Checks;
 use naive::checker::{Question, Verdict, verdict};
 use naive::rows::{Broken, first_broken};
 use std::alloc::{AllocError, Global};
@@ -76,6 +76,9 @@ fn is_expected(
     }
 }
 
+/// The reads of the schema file with its identifier.
+const COST: u64 = 91;
+
 /// How often each answer came.
 #[derive(Clone, Copy, Default, Debug)]
 struct Answers {
@@ -105,7 +108,7 @@ fn loads_as_expected(
     bytes: &[u8],
     answers: &mut Answers,
 ) -> Result<(), AllocError> {
-    let answer = load(alloc, bytes, Limits::published());
+    let answer = load(alloc, bytes, limits_of(rt, question));
     let expected = naive_answer(alloc, question, bytes)?;
     assert!(rt;
         is_expected(rt, &answer, &expected),
@@ -184,6 +187,25 @@ fn a_schema_file_cut_off_is_loaded_as_the_naive_ones_say(rt: HostRuntime) -> Res
         answers.not_well_formed > 0 && answers.loaded > 0,
         "{answers:?}"
     );
+    Ok(())
+}
+
+#[test]
+fn a_schema_file_is_loaded_within_a_budget_as_the_naive_ones_say(
+    rt: HostRuntime,
+) -> Result<(), Fail> {
+    let fixture = Swept::SchemaFile.fixture(&rt, rt.alloc())?;
+    let mut answers = Answers::default();
+    for budget in 0..=COST {
+        let question = Question {
+            reads: Some(budget),
+            ..question_of(&fixture)
+        };
+        let bytes = fixture.bytes.as_slice();
+        loads_as_expected(&rt, rt.alloc(), &question, bytes, &mut answers)?;
+    }
+    assert_eq!(rt; u64::from(answers.not_well_formed), COST);
+    assert_eq!(rt; answers.loaded, 1);
     Ok(())
 }
 

@@ -1,5 +1,5 @@
-//! Random buffers of random schemas, some of them damaged: engine and naive checker agree in every number, and where
-//! they say yes, in the values at the ends of some paths.
+//! Random buffers of random schemas, some of them damaged, some with a budget of reads: engine and naive checker agree
+//! in every number, and where they say yes, in the values at the ends of some paths.
 
 use crate::answers;
 use crate::builder::Builder;
@@ -20,7 +20,7 @@ struct Count {
     asked: u32,
     yes: u32,
     values: u32,
-    no: [u32; 13],
+    no: [u32; 14],
 }
 
 impl Count {
@@ -76,6 +76,11 @@ fn question<'f, 'n>(
         _ => None,
     };
     let small = random.once_in(4);
+    let reads = if random.once_in(4) {
+        Some(u64::from(random.below(64)))
+    } else {
+        None
+    };
     Question {
         prefixed: fixture.prefixed != random.once_in(30),
         ident: wanted,
@@ -89,6 +94,7 @@ fn question<'f, 'n>(
         } else {
             question.tables
         },
+        reads,
         ..question
     }
 }
