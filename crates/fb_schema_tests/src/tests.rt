@@ -3,5 +3,4 @@ mod cases;
 mod demands;
 mod lookups;
 mod member_demands;
-mod plain;
 mod worked;

@@ -3,14 +3,4 @@
 #![tactic(auto)]
 
 #[cfg(test)]
-mod budget_tests;
-#[cfg(test)]
-mod checker_tests;
-#[cfg(test)]
-mod common;
-#[cfg(test)]
-mod reflection;
-#[cfg(test)]
-mod rows_tests;
-#[cfg(test)]
-mod value_tests;
+mod tests;

@@ -1,18 +1,9 @@
-//! Look-ups by the index, beside plain walks over the rows.
+//! The live fields of a table with every kind, and where its required ones end. All look-ups stand beside plain walks
+//! over the rows in `evidence`.
 
-ghost use Rattle.std.specs.Prelude.{IsTrue};
-ghost use Rattle.fb_schema.specs.Rows.{is_table, is_union};
-
-use super::plain::PlainRows;
-use super::worked::UNIONS;
 use case_text::rows::Rows;
-use fb_schema::{FieldView, Schema};
-use std::alloc::Global;
-use std::process::Abort;
+use fb_schema::FieldView;
 use std::test::Fail;
-
-/// A number past those of all objects and enums here.
-const PAST_ALL: u32 = 10;
 
 /// A table with a live field of each kind, in no order of slots, and a deprecated one below the last; a struct, an
 /// empty table; an enum, and a union whose members stand in another order than their values.
@@ -76,131 +67,5 @@ fn required_fields_end_behind_the_last_that_is_live(rt: HostRuntime) -> Result<(
         assert!(rt; schema.is_table(n));
         assert_eq!(rt; schema.required_end(n), want, "table {n}");
     }
-    look_ups_of(&rt, alloc, REQUIRED)
-}
-
-/// Whether two views say the same.
-fn is_same_view(a: &FieldView, b: &FieldView) -> bool {
-    a.number == b.number
-        && a.slot == b.slot
-        && a.name == b.name
-        && a.kind == b.kind
-        && a.default == b.default
-        && a.required == b.required
-        && a.optional == b.optional
-        && a.size == b.size
-        && a.align == b.align
-        && a.companion == b.companion
-}
-
-/// Objects, by number and by name, are those of the rows.
-fn objects_agree(
-    rt: &impl Abort,
-    schema: &Schema,
-    rows: &PlainRows,
-    names: &[&[u8]],
-) -> Result<(), Fail> {
-    assert_eq!(rt; schema.object_count() as usize, rows.objects.len());
-    for n in 0..schema.object_count() {
-        let object = schema.object(n);
-        let row = rows.objects.get(n as usize).ok_or("no such object")?;
-        assert_eq!(rt; object.name, row.name);
-        assert_eq!(rt; object.is_struct, row.is_struct);
-        assert_eq!(rt; object.minalign, row.minalign);
-        assert_eq!(rt; object.bytesize, row.bytesize);
-    }
-    for name in names {
-        let place = schema.object_named(name).map(|n| n as usize);
-        assert_eq!(rt; place, rows.object_named(name));
-    }
     Ok(())
-}
-
-/// The fields of a table, by place and by name, are those of the rows.
-fn fields_agree(
-    rt: &impl Abort,
-    schema: &Schema,
-    rows: &PlainRows,
-    names: &[&[u8]],
-    n: u32,
-) -> Result<(), Fail>
-    requires { IsTrue (is_table schema.now n) }
-{
-    let views = schema.fields_of(n);
-    assert_eq!(rt; views.len(), rows.field_count(n));
-    assert_eq!(rt; schema.field_count(n) as usize, rows.field_count(n));
-    assert_eq!(rt; schema.required_end(n) as usize, rows.required_end(n));
-    for i in 0..schema.field_count(n) {
-        let view = schema.field_at(n, i);
-        let plain = rows.field_at(n, i as usize).ok_or("no such field")?;
-        assert!(rt; is_same_view(&view, &plain), "field {i} of table {n}");
-        let listed = views.get(i as usize).ok_or("not listed")?;
-        assert!(rt; is_same_view(listed, &plain), "field {i} of table {n}");
-    }
-    for name in names {
-        let place = schema.field_named(n, name).map(|i| i as usize);
-        assert_eq!(rt; place, rows.field_named(n, name));
-    }
-    Ok(())
-}
-
-/// The members of a union, by value and by name, are those of the rows.
-fn members_agree(rt: &impl Abort, schema: &Schema, rows: &PlainRows, names: &[&[u8]], e: u32)
-    requires { IsTrue (is_union schema.now e) }
-{
-    for value in 0..=255 {
-        assert_eq!(rt;
-            schema.member_of(e, value),
-            rows.member_of(e, value),
-            "of value {value}"
-        );
-    }
-    for name in names {
-        let value = schema.member_named(e, name).map(i64::from);
-        assert_eq!(rt; value, rows.member_named(e, name));
-    }
-}
-
-/// Every look-up answers as a plain walk over the rows does, also past the last number.
-fn look_ups_agree(
-    rt: &impl Abort,
-    alloc: Global,
-    schema: &Schema,
-    rows: &PlainRows,
-) -> Result<(), Fail> {
-    let names = rows.names(alloc)?;
-    objects_agree(rt, schema, rows, &names)?;
-    assert_eq!(rt; schema.widest() as usize, rows.widest());
-    for n in 0..PAST_ALL {
-        assert_eq!(rt; schema.is_table(n), rows.is_table(n));
-        if schema.is_table(n) {
-            fields_agree(rt, schema, rows, &names, n)?;
-        }
-        assert_eq!(rt; schema.is_union(n), rows.is_union(n));
-        if schema.is_union(n) {
-            members_agree(rt, schema, rows, &names, n);
-        }
-    }
-    Ok(())
-}
-
-/// Every look-up of the schema of these rows answers as a plain walk over them does.
-fn look_ups_of(rt: &impl Abort, alloc: Global, text: &str) -> Result<(), Fail> {
-    let schema = Rows::read(alloc, text)?.built(rt, alloc)?;
-    let Rows { objects, enums } = Rows::read(alloc, text)?;
-    let rows = PlainRows {
-        objects: &objects,
-        enums: &enums,
-    };
-    look_ups_agree(rt, alloc, &schema, &rows)
-}
-
-#[test]
-fn look_ups_of_every_kind_are_plain_walks(rt: HostRuntime) -> Result<(), Fail> {
-    look_ups_of(&rt, rt.alloc(), EVERY_KIND)
-}
-
-#[test]
-fn look_ups_of_unions_are_plain_walks(rt: HostRuntime) -> Result<(), Fail> {
-    look_ups_of(&rt, rt.alloc(), UNIONS)
 }

@@ -61,7 +61,7 @@ fn no_rows_are_a_schema(rt: HostRuntime) -> Result<(), Fail> {
 
 /// `table A { v: int; } struct W { x: long; } table R { u: U; } table Q { us: [U]; }
 /// union U { A = 1, W = 2, T: string = 3 }`
-pub const UNIONS: &str =
+const UNIONS: &str =
     "A table: v@4 int; W struct 8/8: x@0 long; R table: u_type@4 utype, u@6 union#0; \
     Q table: us_type@4 [utype], us@6 [union]#0; U union: A=1 obj#0, W=2 obj#1, T=3 string";
 

@@ -1,12 +1,12 @@
 //! The naive checker over worked examples, each worked out by hand from the format.
 
-use crate::common::{
+use super::common::{
     Asks, BARE, BLANK, HALF, INSIDE, LONG, LONG_TYPE, LONGS, NO_LONGS, ORC, PREFIXED, Q, R, SHARED,
     TWO_LISTS, UBYTE, UNALIGNED, UNION_PAIR, UNION_STRUCT, UNION_TABLE, UNION_UNKNOWN, at_slot,
     bytes_of, deprecated, half, judge, lists, longs, monster, no, one, one_table, pairs, plain,
     required, scalar, text, unions, yes,
 };
-use crate::reflection::{FILE_M, SCHEMA, reflection};
+use super::reflection::{FILE_M, SCHEMA, reflection};
 use naive::checker::verdict;
 use std::alloc::{AllocError, Global};
 use std::test::Fail;

@@ -1,8 +1,8 @@
 //! The built-in table of reflection.fbs beside the same tables typed anew: every field with its number, type and
 //! flags, also those that no buffer of the sweeps has.
 
-use crate::lookups;
-use crate::reflection_rows::reflection_rows;
+use super::lookups;
+use super::reflection_rows::reflection_rows;
 use fb_bfbs::reflection;
 use std::test::Fail;
 

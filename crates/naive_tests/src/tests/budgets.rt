@@ -3,12 +3,12 @@
 //! The budget is asked after the start, after each head, after each field by itself, and after each entry that leads to
 //! no table. What is read between two of these is told with the later one.
 
-use crate::common::{
+use super::common::{
     Asks, BARE, BLANK, INSIDE, LONG, LONG_TYPE, LONGS, ORC, PREFIXED, Q, R, SHARED, TWO_LISTS,
     UNALIGNED, UNION_PAIR, UNION_STRUCT, UNION_TABLE, UNION_UNKNOWN, judge, lists, longs, monster,
     no, one_table, pairs, required, scalar, text, unions, yes,
 };
-use crate::reflection::{FILE_M, SCHEMA, reflection};
+use super::reflection::{FILE_M, SCHEMA, reflection};
 use std::test::Fail;
 
 #[test]

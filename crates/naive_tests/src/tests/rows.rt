@@ -1,10 +1,10 @@
 //! The naive test of rows, each demand worked out by hand.
 
-use crate::common::{
+use super::common::{
     INT, OBJ, SHORT, STRING, UNION, VECTOR, at_slot, deprecated, field, list, many, member, one,
     one_table, plain, scalar, structure, table, to, union_of, unions,
 };
-use crate::reflection::reflection;
+use super::reflection::reflection;
 use fb_schema::{FieldRow, TypeRow};
 use naive::rows::{Broken, first_broken};
 use std::test::Fail;

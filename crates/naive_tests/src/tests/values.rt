@@ -1,6 +1,6 @@
 //! The naive reader of values over worked buffers.
 
-use crate::common::{
+use super::common::{
     BARE, BLANK, BOOL, BYTE, HALF, INT, LONG, LONG_TYPE, LONGS, NO_LONGS, ORC, PREFIXED, Q, R,
     Rows, TWO_LISTS, UBYTE, ULONG, UNALIGNED, UNION_PAIR, UNION_STRUCT, UNION_TABLE, UNION_UNKNOWN,
     USHORT, by_default, bytes_of, half, lists, longs, monster, one_table, scalar, unions,

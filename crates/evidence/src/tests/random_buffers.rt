@@ -1,13 +1,13 @@
 //! Random buffers of random schemas, some of them damaged, some with a budget of reads: engine and naive checker agree
 //! in every number, and where they say yes, in the values at the ends of some paths.
 
-use crate::answers;
-use crate::builder::Builder;
-use crate::engine::{ALL_CHECKS, Engine, told};
-use crate::fixtures::Fixture;
-use crate::paths::{Way, ways};
-use crate::random::Random;
-use crate::random_rows::Maker;
+use super::answers;
+use super::builder::Builder;
+use super::engine::{ALL_CHECKS, Engine, told};
+use super::fixtures::Fixture;
+use super::paths::{Way, ways};
+use super::random::Random;
+use super::random_rows::Maker;
 use fb_verify::Checks;
 use naive::checker::{Question, Verdict};
 use std::alloc::{AllocError, Global};

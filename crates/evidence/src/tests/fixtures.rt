@@ -1,8 +1,8 @@
 //! The swept buffers, each with its schema.
 
-use crate::reflection_rows::{SCHEMA, reflection_rows};
-use crate::rows::Rows;
-use crate::schemas::{ONE, SEVERAL, longs, members, monsters, nodes, vectors_of_longs};
+use super::reflection_rows::{SCHEMA, reflection_rows};
+use super::rows::Rows;
+use super::schemas::{ONE, SEVERAL, longs, members, monsters, nodes, vectors_of_longs};
 use fb_bfbs::reflection;
 use fb_schema::Schema;
 use fb_verify::Checks;

@@ -1,11 +1,11 @@
 //! Damaged schema files through `load`: its fault, or the schema that it gives, beside what the naive checker, the
 //! naive test of rows and the naive reader of values say.
 
-use crate::engine::{limits_of, told};
-use crate::file_rows::FileReader;
-use crate::fixtures::{Fixture, Swept};
-use crate::lookups;
-use crate::rows::{Rows, broken_by};
+use super::engine::{limits_of, told};
+use super::file_rows::FileReader;
+use super::fixtures::{Fixture, Swept};
+use super::lookups;
+use super::rows::{Rows, broken_by};
 use fb_bfbs::{LoadFault, Loaded, load};
 use fb_verify::Checks;
 use naive::checker::{Question, Verdict, verdict};

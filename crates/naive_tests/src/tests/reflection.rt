@@ -1,6 +1,6 @@
 //! The table of reflection.fbs, typed from its text, and a schema file.
 
-use crate::common::{
+use super::common::{
     BOOL, BYTE, INT, LONG_TYPE, Rows, UBYTE, ULONG, USHORT, by_default, deprecated, many, one,
     required, scalar, table, text, texts,
 };

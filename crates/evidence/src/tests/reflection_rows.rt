@@ -1,7 +1,7 @@
 //! The fixed table of reflection.fbs, typed anew: the tables of a schema file with their fields in the order of their
 //! numbers, and what a loader of schemas demands as required.
 
-use crate::rows::{Rows, field, table};
+use super::rows::{Rows, field, table};
 use fb_schema::base_type::{BOOL, BYTE, DOUBLE, INT, LONG, OBJ, STRING, ULONG, USHORT};
 use fb_schema::builders::{one, vector};
 use fb_schema::{FieldRow, ObjectRow};

@@ -1,6 +1,6 @@
 //! What the look-ups of a schema answer, beside plain walks over its rows.
 
-use crate::rows::Rows;
+use super::rows::Rows;
 use fb_schema::base_type::{OBJ, STRING, VECTOR};
 use fb_schema::{EnumRow, FieldRow, FieldView, Kind, ObjectRow, Scalar, Schema, TypeRow};
 use std::process::Abort;
@@ -127,6 +127,7 @@ fn fields_agree(
     let live = live_count(fields);
     assert_eq!(rt; schema.fields_of(number).len(), live);
     assert_eq!(rt; schema.field_count(number) as usize, live);
+    assert_eq!(rt; schema.required_end(number) as usize, required_end(fields));
     assert_eq!(rt; schema.field_named(number, b"nothing"), None);
     for field in fields.iter() {
         if field.deprecated {
@@ -135,6 +136,17 @@ fn fields_agree(
             field_agrees(rt, schema, rows, number, fields, field);
         }
     }
+}
+
+/// How many live fields there are up to and with the last required one.
+fn required_end(fields: &[FieldRow<'_>]) -> usize {
+    let mut end = 0;
+    for field in fields {
+        if field.required && !field.deprecated {
+            end = end.max(1 + live_below(fields, field.slot));
+        }
+    }
+    end
 }
 
 fn object_agrees(
@@ -152,7 +164,34 @@ fn object_agrees(
     assert_eq!(rt; schema.object_named(object.name), Some(number));
     if !object.is_struct {
         fields_agree(rt, schema, rows, number, &object.fields);
+        strange_names_agree(rt, schema, rows, number, &object.fields);
     }
+}
+
+/// Asserts that a table has fields of its own names alone, also where another object's field has the name.
+fn strange_names_agree(
+    rt: &impl Abort,
+    schema: &Schema<'_>,
+    rows: &Rows<'_>,
+    number: u32,
+    fields: &[FieldRow<'_>],
+) {
+    assert!(rt; schema.is_table(number));
+    for object in rows.objects.iter() {
+        let named = schema.field_named(number, object.name).is_some();
+        assert_eq!(rt; named, has_live(fields, object.name));
+        for field in object.fields.iter() {
+            let named = schema.field_named(number, field.name).is_some();
+            assert_eq!(rt; named, has_live(fields, field.name));
+        }
+    }
+}
+
+/// Whether a live field has this name.
+fn has_live(fields: &[FieldRow<'_>], name: &[u8]) -> bool {
+    fields
+        .iter()
+        .any(|field| !field.deprecated && field.name == name)
 }
 
 /// The kind of the member of a union with this value.
@@ -181,17 +220,27 @@ fn members_agree(
     }
 }
 
-/// Asserts what is told of the names of a union's members.
-fn names_agree(rt: &impl Abort, schema: &Schema<'_>, number: u32, row: &EnumRow<'_>) {
+/// The value of the member of a union that has a name.
+fn value_named(row: &EnumRow<'_>, name: &[u8]) -> Option<u8> {
+    let named = row.members.iter().find(|m| m.value != 0 && m.name == name)?;
+    u8::try_from(named.value).ok()
+}
+
+/// Asserts what is told of the names of a union's members, and of those of all others.
+fn names_agree(
+    rt: &impl Abort,
+    schema: &Schema<'_>,
+    rows: &Rows<'_>,
+    number: u32,
+    row: &EnumRow<'_>,
+) {
     assert!(rt; schema.is_union(number));
     assert_eq!(rt; schema.member_named(number, b"nothing"), None);
-    for member in row.members.iter() {
-        let named = row
-            .members
-            .iter()
-            .find(|m| m.value != 0 && m.name == member.name);
-        let value = named.and_then(|m| u8::try_from(m.value).ok());
-        assert_eq!(rt; schema.member_named(number, member.name), value);
+    for other in rows.enums.iter() {
+        for member in other.members.iter() {
+            let value = value_named(row, member.name);
+            assert_eq!(rt; schema.member_named(number, member.name), value);
+        }
     }
 }
 
@@ -200,7 +249,7 @@ fn enums_agree(rt: &impl Abort, schema: &Schema<'_>, rows: &Rows<'_>) {
         assert_eq!(rt; schema.is_union(number), row.is_union);
         if row.is_union {
             members_agree(rt, schema, rows, number, row);
-            names_agree(rt, schema, number, row);
+            names_agree(rt, schema, rows, number, row);
         }
     }
 }
@@ -226,7 +275,8 @@ pub fn agree(rt: &impl Abort, schema: &Schema<'_>, rows: &Rows<'_>) {
     assert_eq!(rt; schema.object_count() as usize, rows.objects.len());
     assert_eq!(rt; schema.widest() as usize, widest(rows));
     assert_eq!(rt; schema.object_named(b"nothing"), None);
-    assert!(rt; !schema.is_table(schema.object_count()));
+    assert!(rt; !schema.is_table(schema.object_count()) && !schema.is_table(u32::MAX));
+    assert!(rt; !schema.is_union(u32::MAX));
     for (number, object) in (0u32..).zip(rows.objects.iter()) {
         object_agrees(rt, schema, rows, number, object);
     }

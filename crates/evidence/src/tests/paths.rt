@@ -1,7 +1,7 @@
 //! Every short path over the names of a schema, resolved by the engine and by the naive reader.
 
-use crate::fixtures::Fixture;
-use crate::rows::Rows;
+use super::fixtures::Fixture;
+use super::rows::Rows;
 use fb_access::{Path, Step};
 use fb_schema::Schema;
 use fb_verify::Checks;

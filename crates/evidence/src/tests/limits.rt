@@ -1,8 +1,8 @@
 //! Small limits and wanted identifiers, each with small budgets of reads too: engine and naive checker agree on every
 //! buffer and on all its proper prefixes.
 
-use crate::engine::{ALL_CHECKS, Engine};
-use crate::fixtures::{ALL, Fixture};
+use super::engine::{ALL_CHECKS, Engine};
+use super::fixtures::{ALL, Fixture};
 use fb_verify::Checks;
 use naive::checker::Question;
 use std::alloc::Global;

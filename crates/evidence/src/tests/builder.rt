@@ -1,8 +1,8 @@
 //! Buffers at random that are mostly well formed by a schema.
 
-use crate::lookups::kind;
-use crate::random::Random;
-use crate::rows::Rows;
+use super::lookups::kind;
+use super::random::Random;
+use super::rows::Rows;
 use fb_schema::{FieldRow, Kind};
 use std::alloc::{AllocError, Global};
 

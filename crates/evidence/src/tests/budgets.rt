@@ -1,8 +1,8 @@
 //! Budgets of reads: engine and naive checker agree on every buffer under each budget from 0 up to one read more than
 //! the buffer takes, under every choice of the checks.
 
-use crate::engine::{ALL_CHECKS, Engine, TOO_MANY_READS, answered, reads_of};
-use crate::fixtures::{ALL, Fixture};
+use super::engine::{ALL_CHECKS, Engine, TOO_MANY_READS, answered, reads_of};
+use super::fixtures::{ALL, Fixture};
 use fb_verify::Checks;
 use naive::checker::{Question, Verdict};
 use std::alloc::Global;

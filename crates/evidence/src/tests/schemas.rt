@@ -1,6 +1,6 @@
 //! The rows of the swept schemas.
 
-use crate::rows::{Rows, field, table};
+use super::rows::{Rows, field, table};
 use fb_schema::base_type::{INT, LONG, OBJ, SHORT, STRING, UNION, UTYPE};
 use fb_schema::builders::{self, member, one, structure, union, vector};
 use fb_schema::{EnumRow, FieldRow};

@@ -1,7 +1,7 @@
 //! Paths over the names of a schema: the engine and the naive reader resolve the same, to the same steps.
 
-use crate::fixtures::{SHORT_ONES, Swept};
-use crate::paths::{all_resolve_alike, ways};
+use super::fixtures::{SHORT_ONES, Swept};
+use super::paths::{all_resolve_alike, ways};
 use std::alloc::Global;
 use std::process::Abort;
 use std::test::Fail;

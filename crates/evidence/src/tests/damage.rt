@@ -2,11 +2,11 @@
 //! every number, under every choice of the checks, and where they say yes, in the value at the end of every path of
 //! up to three steps. Now and then they are asked once more, with a budget of reads.
 
-use crate::answers;
-use crate::engine::{ALL_CHECKS, Engine, answered, reads_of};
-use crate::fixtures::{Fixture, SHORT_ONES, Swept};
-use crate::paths::{Way, ways};
-use crate::random::Random;
+use super::answers;
+use super::engine::{ALL_CHECKS, Engine, answered, reads_of};
+use super::fixtures::{Fixture, SHORT_ONES, Swept};
+use super::paths::{Way, ways};
+use super::random::Random;
 use fb_verify::{Checks, Reason};
 use naive::checker::Question;
 use std::alloc::{AllocError, Global};

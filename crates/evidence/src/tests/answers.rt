@@ -1,6 +1,6 @@
 //! The values at the ends of paths, by the engine and by the naive reader.
 
-use crate::paths::Way;
+use super::paths::Way;
 use fb_access::{Answer, at_root};
 use fb_verify::Verified;
 use naive::checker::Question;

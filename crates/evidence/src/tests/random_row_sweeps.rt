@@ -1,10 +1,10 @@
 //! Random rows: `build` takes those that the naive test of rows finds legal, refuses the others for the same demand,
 //! and the look-ups of a schema answer by its rows.
 
-use crate::lookups;
-use crate::random::Random;
-use crate::random_rows::Maker;
-use crate::rows::{Rows, broken_by};
+use super::lookups;
+use super::random::Random;
+use super::random_rows::Maker;
+use super::rows::{Rows, broken_by};
 use naive::rows::first_broken;
 use std::alloc::Global;
 use std::process::Abort;

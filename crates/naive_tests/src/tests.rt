@@ -1,0 +1,6 @@
+mod budgets;
+mod checker;
+mod common;
+mod reflection;
+mod rows;
+mod values;
