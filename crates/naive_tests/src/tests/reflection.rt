@@ -1,167 +1,25 @@
-//! The table of reflection.fbs, typed from its text, and a schema file.
-
-use super::common::{
-    BOOL, BYTE, INT, LONG_TYPE, Rows, UBYTE, ULONG, USHORT, by_default, deprecated, many, one,
-    required, scalar, table, text, texts,
-};
-use fb_schema::FieldRow;
-use std::alloc::{AllocError, Global};
-
-const DOUBLE: i8 = 12;
-
-const TYPE: i32 = 0;
-
-const KEY_VALUE: i32 = 1;
-
-const ENUM_VALUE: i32 = 2;
-
-const ENUM: i32 = 3;
-
-const FIELD: i32 = 4;
-
-const OBJECT: i32 = 5;
-
-const CALL: i32 = 6;
-
-const SERVICE: i32 = 7;
-
-const FILE: i32 = 8;
-
-/// The number of the table that a schema file begins with.
-pub const SCHEMA: u32 = 9;
-
-fn type_fields() -> [FieldRow<'static>; 4] {
-    [
-        scalar(b"base_type", 0, BYTE),
-        scalar(b"element", 1, BYTE),
-        by_default(scalar(b"index", 2, INT), -1),
-        scalar(b"fixed_length", 3, USHORT),
-    ]
-}
-
-fn key_value_fields() -> [FieldRow<'static>; 2] {
-    [text(b"key", 0), text(b"value", 1)]
-}
-
-fn enum_value_fields() -> [FieldRow<'static>; 6] {
-    [
-        required(text(b"name", 0)),
-        scalar(b"value", 1, LONG_TYPE),
-        deprecated(one(b"object", 2, OBJECT)),
-        one(b"union_type", 3, TYPE),
-        texts(b"documentation", 4),
-        many(b"attributes", 5, KEY_VALUE),
-    ]
-}
-
-fn enum_fields() -> [FieldRow<'static>; 7] {
-    [
-        required(text(b"name", 0)),
-        required(many(b"values", 1, ENUM_VALUE)),
-        scalar(b"is_union", 2, BOOL),
-        one(b"underlying_type", 3, TYPE),
-        many(b"attributes", 4, KEY_VALUE),
-        texts(b"documentation", 5),
-        text(b"declaration_file", 6),
-    ]
-}
-
-fn field_fields() -> [FieldRow<'static>; 14] {
-    [
-        required(text(b"name", 0)),
-        required(one(b"type", 1, TYPE)),
-        scalar(b"id", 2, USHORT),
-        scalar(b"offset", 3, USHORT),
-        scalar(b"default_integer", 4, LONG_TYPE),
-        scalar(b"default_real", 5, DOUBLE),
-        scalar(b"deprecated", 6, BOOL),
-        scalar(b"required", 7, BOOL),
-        scalar(b"key", 8, BOOL),
-        many(b"attributes", 9, KEY_VALUE),
-        texts(b"documentation", 10),
-        scalar(b"optional", 11, BOOL),
-        deprecated(scalar(b"padding", 12, USHORT)),
-        scalar(b"offset64", 13, BOOL),
-    ]
-}
-
-fn object_fields() -> [FieldRow<'static>; 8] {
-    [
-        required(text(b"name", 0)),
-        required(many(b"fields", 1, FIELD)),
-        scalar(b"is_struct", 2, BOOL),
-        scalar(b"minalign", 3, INT),
-        scalar(b"bytesize", 4, INT),
-        many(b"attributes", 5, KEY_VALUE),
-        texts(b"documentation", 6),
-        text(b"declaration_file", 7),
-    ]
-}
-
-fn call_fields() -> [FieldRow<'static>; 5] {
-    [
-        text(b"name", 0),
-        one(b"request", 1, OBJECT),
-        one(b"response", 2, OBJECT),
-        many(b"attributes", 3, KEY_VALUE),
-        texts(b"documentation", 4),
-    ]
-}
-
-fn service_fields() -> [FieldRow<'static>; 5] {
-    [
-        text(b"name", 0),
-        many(b"calls", 1, CALL),
-        many(b"attributes", 2, KEY_VALUE),
-        texts(b"documentation", 3),
-        text(b"declaration_file", 4),
-    ]
-}
-
-fn file_fields() -> [FieldRow<'static>; 2] {
-    [text(b"filename", 0), texts(b"included_filenames", 1)]
-}
-
-fn schema_fields() -> [FieldRow<'static>; 8] {
-    [
-        required(many(b"objects", 0, OBJECT)),
-        required(many(b"enums", 1, ENUM)),
-        text(b"file_ident", 2),
-        text(b"file_ext", 3),
-        one(b"root_table", 4, OBJECT),
-        many(b"services", 5, SERVICE),
-        scalar(b"advanced_features", 6, ULONG),
-        many(b"fbs_files", 7, FILE),
-    ]
-}
+//! The schema of schema files, typed from reflection.fbs.
 
 /// The tables of reflection.fbs, as far as a schema file is read.
-pub fn reflection(alloc: Global) -> Result<Rows, AllocError> {
-    let objects = vec![in alloc;
-        table(alloc, b"reflection.Type", type_fields().as_slice())?,
-        table(alloc, b"reflection.KeyValue", key_value_fields().as_slice())?,
-        table(alloc, b"reflection.EnumVal", enum_value_fields().as_slice())?,
-        table(alloc, b"reflection.Enum", enum_fields().as_slice())?,
-        table(alloc, b"reflection.Field", field_fields().as_slice())?,
-        table(alloc, b"reflection.Object", object_fields().as_slice())?,
-        table(alloc, b"reflection.RPCCall", call_fields().as_slice())?,
-        table(alloc, b"reflection.Service", service_fields().as_slice())?,
-        table(alloc, b"reflection.SchemaFile", file_fields().as_slice())?,
-        table(alloc, b"reflection.Schema", schema_fields().as_slice())?,
-    ]?;
-    Ok(Rows {
-        objects,
-        enums: Vec::new(alloc),
-    })
-}
-
-/// A schema file for `table M { hp: short = 100; name: string; } root_type M;`
-pub const FILE_M: &str = "18000000 42464253 0e00 1000 0400 0800 0000 0000 0c00 0000 \
-    10000000 10000000 08000000 18000000 00000000 01000000 0c000000 \
-    0800 0c00 0400 0800 08000000 08000000 0c000000 01000000 4d000000 \
-    02000000 1c000000 54000000 \
-    0e00 1800 0400 0800 0000 0c00 1000 000000000000 \
-    14000000 14000000 20000000 0400 0000 6400000000000000 02000000 68700000 \
-    0600 0800 0400 0000 08000000 05000000 \
-    0c00 1000 0400 0800 0c00 0e00 0c000000 0c000000 14000000 0100 0600 \
-    04000000 6e616d65 00000000 38000000 0d000000";
+pub const REFLECTION: &str = "\
+    reflection.Type table: base_type@4 byte, element@6 byte, index@8 int default=-1, fixed_length@10 ushort; \
+    reflection.KeyValue table: key@4 string, value@6 string; \
+    reflection.EnumVal table: name@4 string required, value@6 long, object@8 obj#5 gone, union_type@10 obj#0, \
+        documentation@12 [string], attributes@14 [obj]#1; \
+    reflection.Enum table: name@4 string required, values@6 [obj]#2 required, is_union@8 bool, \
+        underlying_type@10 obj#0, attributes@12 [obj]#1, documentation@14 [string], declaration_file@16 string; \
+    reflection.Field table: name@4 string required, type@6 obj#0 required, id@8 ushort, offset@10 ushort, \
+        default_integer@12 long, default_real@14 double, deprecated@16 bool, required@18 bool, key@20 bool, \
+        attributes@22 [obj]#1, documentation@24 [string], optional@26 bool, padding@28 ushort gone, \
+        offset64@30 bool; \
+    reflection.Object table: name@4 string required, fields@6 [obj]#4 required, is_struct@8 bool, minalign@10 int, \
+        bytesize@12 int, attributes@14 [obj]#1, documentation@16 [string], declaration_file@18 string; \
+    reflection.RPCCall table: name@4 string, request@6 obj#5, response@8 obj#5, attributes@10 [obj]#1, \
+        documentation@12 [string]; \
+    reflection.Service table: name@4 string, calls@6 [obj]#6, attributes@8 [obj]#1, documentation@10 [string], \
+        declaration_file@12 string; \
+    reflection.SchemaFile table: filename@4 string, included_filenames@6 [string]; \
+    reflection.Schema table: objects@4 [obj]#5 required, enums@6 [obj]#3 required, file_ident@8 string, \
+        file_ext@10 string, root_table@12 obj#5, services@14 [obj]#7, advanced_features@16 ulong, \
+        fbs_files@18 [obj]#8\
+";

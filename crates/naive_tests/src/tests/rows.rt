@@ -1,241 +1,93 @@
-//! The naive test of rows, each demand worked out by hand.
+//! The naive test of rows, each demand worked out by hand. A case has what it shows, its rows, and `ok` or the demand
+//! that they break first, with the owner and, behind a dot, the place of the field or member.
 
-use super::common::{
-    INT, OBJ, SHORT, STRING, UNION, VECTOR, at_slot, deprecated, field, list, many, member, one,
-    one_table, plain, scalar, structure, table, to, union_of, unions,
-};
-use super::reflection::reflection;
-use fb_schema::{FieldRow, TypeRow};
+use super::common::UNIONS;
+use super::reflection::REFLECTION;
+use case_text::rows::Rows;
 use naive::rows::{Broken, first_broken};
+use std::alloc::{AllocError, Global};
+use std::process::Abort;
 use std::test::Fail;
 
-const ARRAY: i8 = 17;
+fn told(alloc: Global, broken: Option<Broken>) -> Result<String, AllocError> {
+    let Some(Broken { code, owner, part }) = broken else {
+        return format!(in alloc; "ok");
+    };
+    match part {
+        Some(part) => format!(in alloc; "C{code} {owner}.{part}"),
+        None => format!(in alloc; "C{code} {owner}"),
+    }
+}
 
-fn broken(code: u8, owner: u32, part: Option<u32>) -> Option<Broken> {
-    Some(Broken { code, owner, part })
+/// Asserts what is told of the rows of each case.
+fn judged(rt: &impl Abort, alloc: Global, cases: &str) -> Result<(), Fail> {
+    for line in cases.lines() {
+        let (shows, rest) = line.split_once('|').ok_or("no case")?;
+        let (rows, want) = rest.split_once('|').ok_or("no answer")?;
+        let rows = Rows::read(alloc, rows.trim_ascii())?;
+        let found = told(alloc, first_broken(&rows.objects, &rows.enums))?;
+        assert_eq!(rt; found.as_str(), want.trim_ascii(), "{shows}");
+    }
+    Ok(())
 }
 
 #[test]
 fn rows_of_one_table(rt: HostRuntime) -> Result<(), Fail> {
-    let nested = list(VECTOR, 0);
-    let wide = FieldRow {
-        offset64: true,
-        ..scalar(b"a", 0, INT)
-    };
-    let first = scalar(b"a", 0, INT);
-    let odd = at_slot(b"a", 5, plain(INT));
-    let low = at_slot(b"a", 2, plain(INT));
-    let cases = [
-        (
-            "an object that isn't there",
-            vec![in rt.alloc(); one(b"a", 0, 1)]?,
-            broken(1, 0, Some(0)),
-        ),
-        (
-            "an object of negative number",
-            vec![in rt.alloc(); many(b"a", 0, -1)]?,
-            broken(1, 0, Some(0)),
-        ),
-        (
-            "a union that isn't there",
-            vec![in rt.alloc(); field(b"a", 0, to(UNION, 0))]?,
-            broken(2, 0, Some(0)),
-        ),
-        (
-            "a vector of vectors",
-            vec![in rt.alloc(); field(b"a", 0, nested)]?,
-            broken(3, 0, Some(0)),
-        ),
-        (
-            "the same, deprecated",
-            vec![in rt.alloc(); deprecated(field(b"a", 0, nested))]?,
-            None,
-        ),
-        (
-            "an array in a table",
-            vec![in rt.alloc(); field(b"a", 0, plain(ARRAY))]?,
-            broken(3, 0, Some(0)),
-        ),
-        (
-            "an offset of 64 bits",
-            vec![in rt.alloc(); wide]?,
-            broken(3, 0, Some(0)),
-        ),
-        (
-            "an odd slot",
-            vec![in rt.alloc(); odd]?,
-            broken(4, 0, Some(0)),
-        ),
-        (
-            "a slot below 4",
-            vec![in rt.alloc(); low]?,
-            broken(4, 0, Some(0)),
-        ),
-        (
-            "two fields at one slot",
-            vec![in rt.alloc(); first, scalar(b"b", 0, INT)]?,
-            broken(4, 0, Some(1)),
-        ),
-        (
-            "two fields of one name",
-            vec![in rt.alloc(); first, scalar(b"a", 1, INT)]?,
-            broken(8, 0, Some(1)),
-        ),
-        (
-            "the table itself",
-            vec![in rt.alloc(); one(b"a", 0, 0), many(b"b", 1, 0)]?,
-            None,
-        ),
-    ];
-    for (shows, fields, wanted) in &cases {
-        let rows = one_table(rt.alloc(), fields.as_slice())?;
-        let found = first_broken(rows.objects.as_slice(), rows.enums.as_slice());
-        assert_eq!(rt; found, *wanted, "{shows}");
-    }
-    assert_eq!(rt; first_broken(&[], &[]), None, "no rows at all");
-    Ok(())
+    let cases = "\
+        an object that isn't there   | One table: a@4 obj#1              | C1 0.0\n\
+        an object of negative number | One table: a@4 [obj]#-1           | C1 0.0\n\
+        a union that isn't there     | One table: a@4 union#0            | C2 0.0\n\
+        a vector of vectors          | One table: a@4 [vector]           | C3 0.0\n\
+        the same, deprecated         | One table: a@4 [vector] gone      | ok\n\
+        an array in a table          | One table: a@4 array              | C3 0.0\n\
+        an offset of 64 bits         | One table: a@4 int far            | C3 0.0\n\
+        an odd slot                  | One table: a@5 int                | C4 0.0\n\
+        a slot below 4               | One table: a@2 int                | C4 0.0\n\
+        two fields at one slot       | One table: a@4 int, b@4 int       | C4 0.1\n\
+        two fields of one name       | One table: a@4 int, a@6 int       | C8 0.1\n\
+        the table itself             | One table: a@4 obj#0, b@6 [obj]#0 | ok\n\
+        no rows at all               |                                   | ok\n\
+    ";
+    judged(&rt, rt.alloc(), cases)
 }
 
 #[test]
 fn rows_of_structs(rt: HostRuntime) -> Result<(), Fail> {
-    let array = |fixed_length| TypeRow {
-        base: ARRAY,
-        element: SHORT,
-        index: -1,
-        fixed_length,
-    };
-    let alloc = rt.alloc();
-    let cases = [
-        (
-            "no bytes",
-            structure(alloc, b"S", 0, 4, &[])?,
-            broken(6, 0, None),
-        ),
-        (
-            "an alignment of 3",
-            structure(alloc, b"S", 4, 3, &[])?,
-            broken(6, 0, None),
-        ),
-        (
-            "an alignment of 512",
-            structure(alloc, b"S", 4, 512, &[])?,
-            broken(6, 0, None),
-        ),
-        (
-            "an int at 1 of four bytes",
-            structure(alloc, b"S", 4, 4, [at_slot(b"x", 1, plain(INT))].as_slice())?,
-            broken(6, 0, Some(0)),
-        ),
-        (
-            "a text",
-            structure(
-                alloc,
-                b"S",
-                4,
-                4,
-                [at_slot(b"x", 0, plain(STRING))].as_slice(),
-            )?,
-            broken(6, 0, Some(0)),
-        ),
-        (
-            "an object that isn't there",
-            structure(alloc, b"S", 4, 4, [at_slot(b"x", 0, to(OBJ, 1))].as_slice())?,
-            broken(1, 0, Some(0)),
-        ),
-        (
-            "two shorts of four bytes",
-            structure(alloc, b"S", 4, 2, [at_slot(b"x", 0, array(2))].as_slice())?,
-            None,
-        ),
-        (
-            "three shorts of four bytes",
-            structure(alloc, b"S", 4, 2, [at_slot(b"x", 0, array(3))].as_slice())?,
-            broken(6, 0, Some(0)),
-        ),
-    ];
-    for (shows, object, wanted) in cases {
-        let objects = vec![in alloc; object]?;
-        assert_eq!(rt; first_broken(objects.as_slice(), &[]), wanted, "{shows}");
-    }
-    let twins = vec![in alloc; table(alloc, b"A", &[])?, table(alloc, b"A", &[])?]?;
-    assert_eq!(rt;
-        first_broken(twins.as_slice(), &[]),
-        broken(8, 1, None),
-        "two objects of one name"
-    );
-    let holder = structure(alloc, b"S", 4, 4, [at_slot(b"x", 0, to(OBJ, 1))].as_slice())?;
-    let objects = vec![in alloc; holder, table(alloc, b"A", &[])?]?;
-    assert_eq!(rt;
-        first_broken(objects.as_slice(), &[]),
-        broken(6, 0, Some(0)),
-        "a table in a struct"
-    );
-    Ok(())
+    let cases = "\
+        no bytes                   | S struct 0/4:                         | C6 0\n\
+        an alignment of 3          | S struct 4/3:                         | C6 0\n\
+        an alignment of 512        | S struct 4/512:                       | C6 0\n\
+        an int at 1 of four bytes  | S struct 4/4: x@1 int                 | C6 0.0\n\
+        a text                     | S struct 4/4: x@0 string              | C6 0.0\n\
+        an object that isn't there | S struct 4/4: x@0 obj#1               | C1 0.0\n\
+        two shorts of four bytes   | S struct 4/2: x@0 [short:2]           | ok\n\
+        three shorts of four bytes | S struct 4/2: x@0 [short:3]           | C6 0.0\n\
+        two objects of one name    | A table: ; A table:                   | C8 1\n\
+        a table in a struct        | S struct 4/4: x@0 obj#1; A table:     | C6 0.0\n\
+    ";
+    judged(&rt, rt.alloc(), cases)
 }
 
 #[test]
 fn rows_of_unions(rt: HostRuntime) -> Result<(), Fail> {
-    let alloc = rt.alloc();
-    let text = plain(STRING);
-    let cases = [
-        (
-            "a value of 256",
-            vec![in alloc; member(b"A", 256, text)]?,
-            broken(7, 0, Some(0)),
-        ),
-        (
-            "a value below 0",
-            vec![in alloc; member(b"A", -1, text)]?,
-            broken(7, 0, Some(0)),
-        ),
-        (
-            "an object that isn't there",
-            vec![in alloc; member(b"A", 1, to(OBJ, 5))]?,
-            broken(1, 0, Some(0)),
-        ),
-        (
-            "two members of value 0",
-            vec![in alloc; member(b"A", 0, text), member(b"B", 0, text)]?,
-            broken(7, 0, Some(1)),
-        ),
-        (
-            "a number as a member",
-            vec![in alloc; member(b"A", 1, plain(INT))]?,
-            broken(7, 0, Some(0)),
-        ),
-        (
-            "two members of one name",
-            vec![in alloc; member(b"A", 1, text), member(b"A", 2, text)]?,
-            broken(8, 0, Some(1)),
-        ),
-        (
-            "a member of the name that value 0 has",
-            vec![in alloc; member(b"A", 0, plain(0)), member(b"A", 2, text)]?,
-            None,
-        ),
-    ];
-    for (shows, members, wanted) in &cases {
-        let enums = vec![in alloc; union_of(alloc, b"U", members.as_slice())?]?;
-        assert_eq!(rt; first_broken(&[], enums.as_slice()), *wanted, "{shows}");
-    }
-    let lone = one_table(alloc, [field(b"u", 0, to(UNION, 0))].as_slice())?;
-    let enums = vec![in alloc; union_of(alloc, b"U", &[])?]?;
-    let found = first_broken(lone.objects.as_slice(), enums.as_slice());
-    assert_eq!(rt;
-        found,
-        broken(5, 0, Some(0)),
-        "a union without its type field"
-    );
-    let legal = unions(alloc)?;
-    let found = first_broken(legal.objects.as_slice(), legal.enums.as_slice());
-    assert_eq!(rt; found, None, "unions of tables, structs and strings");
-    Ok(())
+    let cases = "\
+        a value of 256                  | U union: A=256 string           | C7 0.0\n\
+        a value below 0                 | U union: A=-1 string            | C7 0.0\n\
+        an object that isn't there      | U union: A=1 obj#5              | C1 0.0\n\
+        two members of value 0          | U union: A=0 string, B=0 string | C7 0.1\n\
+        a number as a member            | U union: A=1 int                | C7 0.0\n\
+        two members of one name         | U union: A=1 string, A=2 string | C8 0.1\n\
+        the name that value 0 has       | U union: A=0 none, A=2 string   | ok\n\
+        a union without its type field  | One table: u@4 union#0; U union: | C5 0.0\n\
+    ";
+    judged(&rt, rt.alloc(), cases)
 }
 
 #[test]
-fn rows_of_reflection(rt: HostRuntime) -> Result<(), Fail> {
-    let rows = reflection(rt.alloc())?;
-    let found = first_broken(rows.objects.as_slice(), rows.enums.as_slice());
-    assert_eq!(rt; found, None);
+fn rows_of_good_schemas(rt: HostRuntime) -> Result<(), Fail> {
+    for rows in [UNIONS, REFLECTION] {
+        let rows = Rows::read(rt.alloc(), rows)?;
+        assert!(rt; first_broken(&rows.objects, &rows.enums).is_none());
+    }
     Ok(())
 }

@@ -1,199 +1,160 @@
-//! The naive reader of values over worked buffers.
+//! The naive reader of values over worked buffers. A case is a path, a buffer, and what stands there, as `{:?}` writes
+//! it, but a text as text; in a path, `[0]` is an element and `@A` a member.
 
-use super::common::{
-    BARE, BLANK, BOOL, BYTE, HALF, INT, LONG, LONG_TYPE, LONGS, NO_LONGS, ORC, PREFIXED, Q, R,
-    Rows, TWO_LISTS, UBYTE, ULONG, UNALIGNED, UNION_PAIR, UNION_STRUCT, UNION_TABLE, UNION_UNKNOWN,
-    USHORT, by_default, bytes_of, half, lists, longs, monster, one_table, scalar, unions,
-};
-use fb_schema::FieldRow;
-use naive::checker::Question;
-use naive::values::Part::{Index, Member, Name};
+use super::common::{FLOATS, LISTS, LONG_LISTS, MONSTER, UNIONS, buffer, question};
+use case_text::rows::Rows;
 use naive::values::{Part, Value, steps, value};
 use std::alloc::{AllocError, Global};
 use std::process::Abort;
 use std::test::Fail;
 
-/// A path, the buffer, and what stands there.
-type Case<'a> = (&'a [Part<'a>], &'a str, Value<'a>);
+/// The part of a path that a word is.
+fn part(word: &str) -> Option<Part<'_>> {
+    if let Some(name) = word.strip_prefix('@') {
+        return Some(Part::Member(name.as_bytes()));
+    }
+    let Some(number) = word.strip_prefix('[') else {
+        return Some(Part::Name(word.as_bytes()));
+    };
+    Some(Part::Index(number.strip_suffix(']')?.parse::<u32>().ok()?))
+}
 
-fn read(
-    rt: &impl Abort,
-    alloc: Global,
-    question: &Question<'_, '_>,
-    cases: &[Case<'_>],
-) -> Result<(), Fail> {
-    for (path, hex, wanted) in cases {
-        let bytes = bytes_of(alloc, hex)?;
-        let found = steps(alloc, question, path)?;
-        let Some(steps) = found else {
-            panic!(rt; "{path:?} doesn't fit");
-        };
-        let answer = value(question, bytes.as_slice(), steps.as_slice());
-        assert_eq!(rt; answer, Some(*wanted), "{path:?}");
+/// The path that these words are.
+fn path<'t>(alloc: Global, text: &'t str) -> Result<Vec<Part<'t>>, Fail> {
+    let mut parts = Vec::new(alloc);
+    for word in text.split_whitespace() {
+        parts.push(part(word).ok_or("no part")?)?;
+    }
+    Ok(parts)
+}
+
+fn told(alloc: Global, value: Value<'_>) -> Result<String, AllocError> {
+    if let Value::Text(bytes) = value
+        && let Ok(text) = str::from_utf8(bytes)
+    {
+        return format!(in alloc; "Text({text:?})");
+    }
+    format!(in alloc; "{value:?}")
+}
+
+/// Asserts that the path of each case leads to what it says, by these rows and asked as these words say.
+fn read(rt: &impl Abort, alloc: Global, rows: &str, words: &str, cases: &str) -> Result<(), Fail> {
+    let rows = Rows::read(alloc, rows)?;
+    let question = question(&rows, words).ok_or("no question")?;
+    for line in cases.lines() {
+        let (text, rest) = line.split_once('|').ok_or("no case")?;
+        let (bytes, want) = rest.split_once('|').ok_or("no value")?;
+        let bytes = buffer(alloc, bytes)?;
+        let steps = steps(alloc, &question, &path(alloc, text)?)?.ok_or("no such path")?;
+        let found = value(&question, &bytes, &steps).ok_or("no value there")?;
+        let found = told(alloc, found)?;
+        assert_eq!(rt; found.as_str(), want.trim_ascii(), "{text}");
     }
     Ok(())
 }
 
 #[test]
 fn values_of_plain_fields(rt: HostRuntime) -> Result<(), Fail> {
-    let alloc = rt.alloc();
-    let hp: &[Part<'_>] = &[Name(b"hp")];
-    let name: &[Part<'_>] = &[Name(b"name")];
-    let cases = [
-        (name, ORC, Value::Text(b"Orc")),
-        (hp, ORC, Value::Int(300)),
-        (hp, BLANK, Value::Int(100)),
-        (name, BLANK, Value::Absent),
-        ([].as_slice(), BLANK, Value::Table),
-    ];
-    read(&rt, alloc, &BARE.of(&monster(alloc)?), cases.as_slice())?;
-    let rows = one_table(alloc, [scalar(b"v", 0, LONG_TYPE)].as_slice())?;
-    let cases = [([Name(b"v")].as_slice(), LONG, Value::Int(7))];
-    read(&rt, alloc, &PREFIXED.of(&rows), cases.as_slice())?;
-    let path: &[Part<'_>] = &[Name(b"f")];
-    let cases = [
-        (path, HALF, Value::Float(&[0, 0, 0xc0, 0x3f])),
-        (path, BLANK, Value::Absent),
-    ];
-    read(&rt, alloc, &BARE.of(&half(alloc)?), cases.as_slice())?;
-    Ok(())
+    let cases = "\
+        name | ORC   | Text(\"Orc\")\n\
+        hp   | ORC   | Int(300)\n\
+        hp   | BLANK | Int(100)\n\
+        name | BLANK | Absent\n\
+             | BLANK | Table\n\
+    ";
+    read(&rt, rt.alloc(), MONSTER, "", cases)?;
+    read(
+        &rt,
+        rt.alloc(),
+        "One table: v@4 long",
+        "prefixed",
+        "v | LONG | Int(7)",
+    )?;
+    let cases = "\
+        f | HALF  | Float([0, 0, 192, 63])\n\
+        f | BLANK | Absent\n\
+    ";
+    read(&rt, rt.alloc(), FLOATS, "", cases)
 }
 
 /// One table whose every field is absent where the vtable is empty.
-fn defaults(alloc: Global) -> Result<Rows, AllocError> {
-    let optional = FieldRow {
-        optional: true,
-        ..by_default(scalar(b"maybe", 6, INT), 9)
-    };
-    let fields = [
-        by_default(scalar(b"even", 0, BOOL), 256),
-        by_default(scalar(b"odd", 1, BOOL), -1),
-        by_default(scalar(b"byte", 2, BYTE), 200),
-        by_default(scalar(b"ubyte", 3, UBYTE), -56),
-        by_default(scalar(b"ushort", 4, USHORT), -1),
-        by_default(scalar(b"ulong", 5, ULONG), -1),
-        optional,
-    ];
-    one_table(alloc, fields.as_slice())
-}
+const DEFAULTS: &str =
+    "One table: even@4 bool default=256, odd@6 bool default=-1, byte@8 byte default=200, ubyte@10 ubyte default=-56, \
+    ushort@12 ushort default=-1, ulong@14 ulong default=-1, maybe@16 int default=9 optional";
 
 #[test]
 fn defaults_are_the_low_bytes(rt: HostRuntime) -> Result<(), Fail> {
-    let alloc = rt.alloc();
-    let cases = [
-        ([Name(b"even")].as_slice(), BLANK, Value::Bool(false)),
-        ([Name(b"odd")].as_slice(), BLANK, Value::Bool(true)),
-        ([Name(b"byte")].as_slice(), BLANK, Value::Int(-56)),
-        ([Name(b"ubyte")].as_slice(), BLANK, Value::UInt(200)),
-        ([Name(b"ushort")].as_slice(), BLANK, Value::UInt(65535)),
-        ([Name(b"ulong")].as_slice(), BLANK, Value::UInt(u64::MAX)),
-        ([Name(b"maybe")].as_slice(), BLANK, Value::Absent),
-    ];
-    read(&rt, alloc, &BARE.of(&defaults(alloc)?), cases.as_slice())?;
-    Ok(())
+    let cases = "\
+        even   | BLANK | Bool(false)\n\
+        odd    | BLANK | Bool(true)\n\
+        byte   | BLANK | Int(-56)\n\
+        ubyte  | BLANK | UInt(200)\n\
+        ushort | BLANK | UInt(65535)\n\
+        ulong  | BLANK | UInt(18446744073709551615)\n\
+        maybe  | BLANK | Absent\n\
+    ";
+    read(&rt, rt.alloc(), DEFAULTS, "", cases)
 }
 
 #[test]
 fn values_of_vectors(rt: HostRuntime) -> Result<(), Fail> {
-    let alloc = rt.alloc();
-    let all: &[Part<'_>] = &[Name(b"l")];
-    let first: &[Part<'_>] = &[Name(b"l"), Index(0)];
-    let cases = [
-        (all, NO_LONGS, Value::Vector(0)),
-        (first, NO_LONGS, Value::NoElement),
-        (first, LONGS, Value::Int(1)),
-    ];
-    read(&rt, alloc, &UNALIGNED.of(&longs(alloc)?), cases.as_slice())?;
-    let second: &[Part<'_>] = &[Name(b"b"), Index(1)];
-    let cases = [(second, TWO_LISTS, Value::Text(b"hi"))];
-    read(&rt, alloc, &BARE.of(&lists(alloc)?), cases.as_slice())?;
-    Ok(())
+    let cases = "\
+        l     | NO_LONGS | Vector(0)\n\
+        l [0] | NO_LONGS | NoElement\n\
+        l [0] | LONGS    | Int(1)\n\
+    ";
+    read(&rt, rt.alloc(), LONG_LISTS, "anywhere", cases)?;
+    read(
+        &rt,
+        rt.alloc(),
+        LISTS,
+        "",
+        "b [1] | TWO_LISTS | Text(\"hi\")",
+    )
 }
 
 #[test]
 fn values_of_unions(rt: HostRuntime) -> Result<(), Fail> {
-    let alloc = rt.alloc();
-    let rows = unions(alloc)?;
-    let seven = [7, 0, 0, 0, 0, 0, 0, 0];
-    let whole: &[Part<'_>] = &[Name(b"u")];
-    let number: &[Part<'_>] = &[Name(b"u"), Member(b"A"), Name(b"v")];
-    let cases = [
-        (whole, UNION_TABLE, Value::Union(1)),
-        (number, UNION_TABLE, Value::Int(5)),
-        (
-            [Name(b"u"), Member(b"T")].as_slice(),
-            UNION_TABLE,
-            Value::OtherMember,
-        ),
-        (whole, UNION_UNKNOWN, Value::Union(9)),
-        (number, UNION_UNKNOWN, Value::OtherMember),
-        (
-            [Name(b"u"), Member(b"W")].as_slice(),
-            UNION_STRUCT,
-            Value::Struct(seven.as_slice()),
-        ),
-    ];
-    read(&rt, alloc, &BARE.from(R).of(&rows), cases.as_slice())?;
-    let cases = [
-        ([Name(b"us")].as_slice(), UNION_PAIR, Value::Vector(2)),
-        (
-            [Name(b"us"), Index(0)].as_slice(),
-            UNION_PAIR,
-            Value::Union(3),
-        ),
-        (
-            [Name(b"us"), Index(0), Member(b"T")].as_slice(),
-            UNION_PAIR,
-            Value::Text(b"hi"),
-        ),
-        (
-            [Name(b"us"), Index(1), Member(b"T")].as_slice(),
-            UNION_PAIR,
-            Value::OtherMember,
-        ),
-        (
-            [Name(b"us"), Index(2), Member(b"T")].as_slice(),
-            UNION_PAIR,
-            Value::NoElement,
-        ),
-        (
-            [Name(b"us_type"), Index(0)].as_slice(),
-            UNION_PAIR,
-            Value::UInt(3),
-        ),
-    ];
-    read(&rt, alloc, &BARE.from(Q).of(&rows), cases.as_slice())?;
-    Ok(())
+    let cases = "\
+        u      | UNION_TABLE   | Union(1)\n\
+        u @A v | UNION_TABLE   | Int(5)\n\
+        u @T   | UNION_TABLE   | OtherMember\n\
+        u      | UNION_UNKNOWN | Union(9)\n\
+        u @A v | UNION_UNKNOWN | OtherMember\n\
+        u @W   | UNION_STRUCT  | Struct([7, 0, 0, 0, 0, 0, 0, 0])\n\
+    ";
+    read(&rt, rt.alloc(), UNIONS, "root=R", cases)?;
+    let cases = "\
+        us          | UNION_PAIR | Vector(2)\n\
+        us [0]      | UNION_PAIR | Union(3)\n\
+        us [0] @T   | UNION_PAIR | Text(\"hi\")\n\
+        us [1] @T   | UNION_PAIR | OtherMember\n\
+        us [2] @T   | UNION_PAIR | NoElement\n\
+        us_type [0] | UNION_PAIR | UInt(3)\n\
+    ";
+    read(&rt, rt.alloc(), UNIONS, "root=Q", cases)
 }
+
+/// What each path shows, the root, and the path.
+const MISFITS: &str = "\
+    no such field           | root=R | x\n\
+    no vector               | root=R | u [0]\n\
+    no such member          | root=R | u @Z\n\
+    value 0 is no member    | root=R | u @NONE\n\
+    no table                | root=R | u v\n\
+    no table behind a text  | root=R | u @T v\n\
+    a vector is no union    | root=Q | us @A\n\
+";
 
 #[test]
 fn paths_that_do_not_fit(rt: HostRuntime) -> Result<(), Fail> {
-    let alloc = rt.alloc();
-    let rows = unions(alloc)?;
-    let cases = [
-        ("no such field", R, [Name(b"x")].as_slice()),
-        ("no vector", R, [Name(b"u"), Index(0)].as_slice()),
-        ("no such member", R, [Name(b"u"), Member(b"Z")].as_slice()),
-        (
-            "value 0 is no member",
-            R,
-            [Name(b"u"), Member(b"NONE")].as_slice(),
-        ),
-        ("no table", R, [Name(b"u"), Name(b"v")].as_slice()),
-        (
-            "no table behind a text",
-            R,
-            [Name(b"u"), Member(b"T"), Name(b"v")].as_slice(),
-        ),
-        (
-            "a vector is no union",
-            Q,
-            [Name(b"us"), Member(b"A")].as_slice(),
-        ),
-    ];
-    for (shows, root, path) in cases {
-        let question = BARE.from(root).of(&rows);
-        assert!(rt; steps(alloc, &question, path)?.is_none(), "{shows}");
+    let rows = Rows::read(rt.alloc(), UNIONS)?;
+    for line in MISFITS.lines() {
+        let (shows, rest) = line.split_once('|').ok_or("no case")?;
+        let (root, text) = rest.split_once('|').ok_or("no path")?;
+        let question = question(&rows, root).ok_or("no question")?;
+        let path = path(rt.alloc(), text)?;
+        assert!(rt; steps(rt.alloc(), &question, &path)?.is_none(), "{shows}");
     }
     Ok(())
 }
