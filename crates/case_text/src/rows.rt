@@ -12,7 +12,6 @@
 use fb_schema::builders::{array, field, member, one, plain_enum, structure, table, union, vector};
 use fb_schema::{EnumRow, FieldRow, MemberRow, ObjectRow, Schema, SchemaFault, TypeRow, are_few};
 use std::alloc::Global;
-use std::process::Abort;
 use std::test::Fail;
 
 /// The base types from number 0 on, by their names in reflection.fbs.
@@ -142,10 +141,17 @@ impl<'t> Rows<'t> {
         Ok(())
     }
 
-    /// What `build` answers of these rows.
-    pub fn built(self, rt: &impl Abort, alloc: Global) -> Result<Schema<'t>, SchemaFault> {
+    /// What `build` answers of these rows. An error comes where there are more than `build` takes.
+    pub fn built(self, alloc: Global) -> Result<Result<Schema<'t>, SchemaFault>, Fail> {
         let Rows { objects, enums } = self;
-        assert!(rt; are_few(&objects, &enums));
-        Schema::build(alloc, objects, enums)
+        if !are_few(&objects, &enums) {
+            return Err(Fail::from("too many rows"));
+        }
+        Ok(Schema::build(alloc, objects, enums))
     }
+}
+
+/// The schema of the rows that a text has. An error comes where the text has none, or `build` refuses them.
+pub fn schema_of<'t>(alloc: Global, text: &'t str) -> Result<Schema<'t>, Fail> {
+    Ok(Rows::read(alloc, text)?.built(alloc)??)
 }

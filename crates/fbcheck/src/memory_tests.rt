@@ -145,14 +145,8 @@ fn run_by<A: Allocator>(
 }
 
 /// A run by N with the path `v` over a stream in pieces of a given size, by a heap of so many bytes.
-fn run_in(
-    rt: &impl Abort,
-    alloc: Global,
-    room: usize,
-    stream: &[u8],
-    most: usize,
-) -> Result<Run, Fail> {
-    let schema = schema_n(rt, alloc)?;
+fn run_in(alloc: Global, room: usize, stream: &[u8], most: usize) -> Result<Run, Fail> {
+    let schema = schema_n(alloc)?;
     let heap = LocalHeap::new(alloc, room)?;
     run_by(alloc, &heap, &schema, stream_with_path(stream, most))
 }
@@ -160,7 +154,7 @@ fn run_in(
 #[test]
 fn a_run_without_memory_reads_nothing(rt: HostRuntime) -> Result<(), Fail> {
     for room in [64, PIECE - 64, PIECE, PIECE + 1024] {
-        let run = run_in(&rt, rt.alloc(), room, longer().as_slice(), 64)?;
+        let run = run_in(rt.alloc(), room, longer().as_slice(), 64)?;
         assert_eq!(rt; run.answer, Err(RunFault::OutOfMemory), "by {room} bytes");
         assert_eq!(rt; run.reads, 0, "by {room} bytes");
         assert!(rt; run.written.is_empty(), "by {room} bytes");
@@ -172,7 +166,7 @@ fn a_run_without_memory_reads_nothing(rt: HostRuntime) -> Result<(), Fail> {
 fn refused_memory_leaves_the_lines_of_the_first_messages(rt: HostRuntime) -> Result<(), Fail> {
     let mut seen = [false; 3];
     for room in (PIECE..PIECE + AMPLE).step_by(8) {
-        let run = run_in(&rt, rt.alloc(), room, longer().as_slice(), 1)?;
+        let run = run_in(rt.alloc(), room, longer().as_slice(), 1)?;
         let lines = run.written.iter().filter(|byte| **byte == b'\n').count();
         let front = TWO_LINES.as_bytes().get(..run.written.len());
         assert_eq!(rt; Some(run.written.as_slice()), front, "by {room} bytes");
@@ -192,9 +186,9 @@ fn a_refused_prefix_takes_no_memory(rt: HostRuntime) -> Result<(), Fail> {
     let mut stream = [255; 36];
     stream[..32].copy_from_slice(&SEVEN);
     for room in (PIECE..PIECE + AMPLE).step_by(8) {
-        let alone = run_in(&rt, rt.alloc(), room, SEVEN.as_slice(), 1)?;
+        let alone = run_in(rt.alloc(), room, SEVEN.as_slice(), 1)?;
         if alone.answer.is_ok() {
-            let run = run_in(&rt, rt.alloc(), room, stream.as_slice(), 1)?;
+            let run = run_in(rt.alloc(), room, stream.as_slice(), 1)?;
             let declared = u32::MAX;
             assert_eq!(rt;
                 run.answer,
@@ -264,7 +258,7 @@ fn refused_in_turn(
 
 #[test]
 fn each_request_of_a_run_over_a_stream_is_refused_in_turn(rt: HostRuntime) -> Result<(), Fail> {
-    let schema = schema_n(&rt, rt.alloc())?;
+    let schema = schema_n(rt.alloc())?;
     let (equal, longer) = (equal(), longer());
     for most in [1, 7, 32, 64, 96] {
         let plain = Input {
@@ -301,7 +295,7 @@ fn each_request_of_a_run_over_a_bare_buffer_is_refused_in_turn(
 
 #[test]
 fn a_refused_prefix_makes_no_request(rt: HostRuntime) -> Result<(), Fail> {
-    let schema = schema_n(&rt, rt.alloc())?;
+    let schema = schema_n(rt.alloc())?;
     let mut stream = [255; 36];
     stream[..32].copy_from_slice(&SEVEN);
     for most in [1, 31, 32, 33, 36] {

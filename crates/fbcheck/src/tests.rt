@@ -8,14 +8,13 @@ use crate::output::Tally;
 use crate::reading::MOST_TURNS;
 use crate::run::run_within;
 use crate::schema_files::all_told;
-use case_text::rows::Rows;
+use case_text::rows::schema_of;
 use fb_bytes::{Counted, Source, StreamFault};
 use fb_schema::Schema;
 use fb_verify::{Ident, Limits};
 use std::alloc::Global;
 use std::io;
 use std::io::{ErrorKind, Read, Write};
-use std::process::Abort;
 use std::test::Fail;
 
 /// By M: neither field is present.
@@ -38,14 +37,9 @@ fn twice() -> [u8; 64] {
     stream
 }
 
-/// The schema of these rows.
-fn schema_of<'t>(rt: &impl Abort, alloc: Global, rows: &'t str) -> Result<Schema<'t>, Fail> {
-    Ok(Rows::read(alloc, rows)?.built(rt, alloc)?)
-}
-
 /// `table N { v: long; }`.
-pub fn schema_n(rt: &impl Abort, alloc: Global) -> Result<Schema<'static>, Fail> {
-    schema_of(rt, alloc, "N table: v@4 long")
+pub fn schema_n(alloc: Global) -> Result<Schema<'static>, Fail> {
+    schema_of(alloc, "N table: v@4 long")
 }
 
 /// A stream of messages of at most so many bytes, under the published limits.
@@ -161,7 +155,7 @@ fn a_bare_buffer_gets_its_line(rt: HostRuntime) -> Result<(), Fail> {
 
 #[test]
 fn a_required_field_may_not_be_absent(rt: HostRuntime) -> Result<(), Fail> {
-    let schema = schema_of(&rt, rt.alloc(), "N table: v@4 string required")?;
+    let schema = schema_of(rt.alloc(), "N table: v@4 string required")?;
     assert!(rt; schema.is_table(0));
     let options = Options {
         bare: true,
@@ -187,7 +181,7 @@ fn a_required_field_may_not_be_absent(rt: HostRuntime) -> Result<(), Fail> {
 
 #[test]
 fn a_stream_is_told_however_it_is_cut(rt: HostRuntime) -> Result<(), Fail> {
-    let schema = schema_n(&rt, rt.alloc())?;
+    let schema = schema_n(rt.alloc())?;
     assert!(rt; schema.is_table(0));
     let options = stream_options(67_108_864);
     let stream = twice();
@@ -236,7 +230,7 @@ fn a_stream_ends_with_what_is_left(rt: HostRuntime) -> Result<(), Fail> {
 
 #[test]
 fn a_failing_reader_leaves_the_lines_before_it(rt: HostRuntime) -> Result<(), Fail> {
-    let schema = schema_n(&rt, rt.alloc())?;
+    let schema = schema_n(rt.alloc())?;
     assert!(rt; schema.is_table(0));
     let options = stream_options(64);
     let stream = twice();
@@ -269,7 +263,7 @@ fn a_failing_reader_leaves_the_lines_before_it(rt: HostRuntime) -> Result<(), Fa
 
 #[test]
 fn a_narrow_writer_is_told_by_what_it_took(rt: HostRuntime) -> Result<(), Fail> {
-    let schema = schema_n(&rt, rt.alloc())?;
+    let schema = schema_n(rt.alloc())?;
     assert!(rt; schema.is_table(0));
     let options = stream_options(64);
     let stream = twice();
@@ -320,7 +314,7 @@ fn a_narrow_writer_is_told_by_what_it_took(rt: HostRuntime) -> Result<(), Fail> 
 
 #[test]
 fn a_run_ends_after_its_turns(rt: HostRuntime) -> Result<(), Fail> {
-    let schema = schema_n(&rt, rt.alloc())?;
+    let schema = schema_n(rt.alloc())?;
     assert!(rt; schema.is_table(0));
     let two =
         "1 bad V2 OutOfBuffer at=4 object=0 field=- reads=1\n2 bad V2 OutOfBuffer at=4 object=0 field=- reads=1\n";

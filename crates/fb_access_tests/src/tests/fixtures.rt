@@ -1,6 +1,5 @@
 //! Schemas for the tests, and a way through a buffer.
 
-use case_text::rows::Rows;
 use fb_access::{Answer, Step, at_root};
 use fb_bytes::Meter;
 use fb_schema::Schema;
@@ -20,11 +19,6 @@ pub const UNIONS: &str =
     "A table: v@4 int; W struct 8/8: x@0 long; R table: u_type@4 utype default=1, u@6 union#0; \
     Q table: us_type@4 [utype], us@6 [union]#0; L table: ws@4 [obj]#1, tables@6 [obj]#0; \
     U union: A=1 obj#0, W=2 obj#1, T=3 string";
-
-/// The schema of these rows.
-pub fn schema_of<'t>(rt: &impl Abort, alloc: Global, rows: &'t str) -> Result<Schema<'t>, Fail> {
-    Ok(Rows::read(alloc, rows)?.built(rt, alloc)?)
-}
 
 /// How a buffer is verified before it is read.
 #[derive(Clone, Copy)]

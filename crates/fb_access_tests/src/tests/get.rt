@@ -1,6 +1,7 @@
 //! A path by names, from its text to its value.
 
-use super::fixtures::{MONSTERS, schema_of};
+use super::fixtures::MONSTERS;
+use case_text::rows::schema_of;
 use fb_access::{Answer, Path, get};
 use fb_bytes::Meter;
 use fb_verify::{Checks, Ident, Limits, Scratch, Start, verify};
@@ -14,7 +15,7 @@ const ORC: [u8; 32] = [
 
 #[test]
 fn a_path_by_names_has_its_value(rt: HostRuntime) -> Result<(), Fail> {
-    let schema = schema_of(&rt, rt.alloc(), MONSTERS)?;
+    let schema = schema_of(rt.alloc(), MONSTERS)?;
     let meter = Meter::new(&ORC).ok().ok_or("too long")?;
     let mut scratch = Scratch::new(rt.alloc(), 64).ok().ok_or("out of memory")?;
     assert!(rt; schema.is_table(0));

@@ -1,6 +1,6 @@
 //! The bytes beside each range of the grammar of paths, and numbers beside the greatest.
 
-use super::fixtures::schema_of;
+use case_text::rows::schema_of;
 use fb_access::{Path, PathFault, Step};
 use fb_schema::Schema;
 use std::alloc::Global;
@@ -18,7 +18,7 @@ fn fault(rt: &impl Abort, alloc: Global, schema: &Schema<'_>, text: &[u8]) -> Op
 
 #[test]
 fn a_name_begins_with_a_letter_or_a_low_line(rt: HostRuntime) -> Result<(), Fail> {
-    let schema = schema_of(&rt, rt.alloc(), LISTS)?;
+    let schema = schema_of(rt.alloc(), LISTS)?;
     let unknown = Some(PathFault::NoSuchField { step: 0 });
     for byte in b"AZ_az" {
         assert_eq!(rt;
@@ -36,7 +36,7 @@ fn a_name_begins_with_a_letter_or_a_low_line(rt: HostRuntime) -> Result<(), Fail
 
 #[test]
 fn a_name_goes_on_with_letters_digits_and_low_lines(rt: HostRuntime) -> Result<(), Fail> {
-    let schema = schema_of(&rt, rt.alloc(), LISTS)?;
+    let schema = schema_of(rt.alloc(), LISTS)?;
     let unknown = Some(PathFault::NoSuchField { step: 0 });
     for byte in b"AZ_az09" {
         assert_eq!(rt;
@@ -58,7 +58,7 @@ fn a_name_goes_on_with_letters_digits_and_low_lines(rt: HostRuntime) -> Result<(
 
 #[test]
 fn a_text_is_wrong_at_the_byte_that_can_not_go_on(rt: HostRuntime) -> Result<(), Fail> {
-    let schema = schema_of(&rt, rt.alloc(), LISTS)?;
+    let schema = schema_of(rt.alloc(), LISTS)?;
     for (text, at) in [
         (b"l.".as_slice(), 2),
         (b"l@", 2),
@@ -99,7 +99,7 @@ fn a_text_is_wrong_at_the_byte_that_can_not_go_on(rt: HostRuntime) -> Result<(),
 
 #[test]
 fn a_number_is_0_or_has_no_leading_0(rt: HostRuntime) -> Result<(), Fail> {
-    let schema = schema_of(&rt, rt.alloc(), LISTS)?;
+    let schema = schema_of(rt.alloc(), LISTS)?;
     for (text, number) in [
         (b"l[0]".as_slice(), 0),
         (b"l[7]", 7),

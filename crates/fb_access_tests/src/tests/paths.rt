@@ -1,6 +1,7 @@
 //! Worked paths: what they resolve to, and why others don't.
 
-use super::fixtures::{UNIONS, schema_of};
+use super::fixtures::UNIONS;
+use case_text::rows::schema_of;
 use fb_access::{Path, PathFault, Step};
 use fb_schema::Schema;
 use std::alloc::Global;
@@ -26,7 +27,7 @@ fn resolved(
 #[test]
 fn a_text_is_no_path_from_its_first_wrong_byte_on(rt: HostRuntime) -> Result<(), Fail> {
     let alloc = rt.alloc();
-    let schema = schema_of(&rt, alloc, UNIONS)?;
+    let schema = schema_of(alloc, UNIONS)?;
     let at = |root: u32, text: &[u8]| resolved(&rt, alloc, &schema, root, text).err();
     assert_eq!(rt; at(R, b""), Some(PathFault::BadText { at: 0 }));
     assert_eq!(rt; at(R, b"u..v"), Some(PathFault::BadText { at: 2 }));
@@ -41,7 +42,7 @@ fn a_text_is_no_path_from_its_first_wrong_byte_on(rt: HostRuntime) -> Result<(),
 #[test]
 fn a_path_is_refused_by_its_first_step_that_does_not_fit(rt: HostRuntime) -> Result<(), Fail> {
     let alloc = rt.alloc();
-    let schema = schema_of(&rt, alloc, UNIONS)?;
+    let schema = schema_of(alloc, UNIONS)?;
     let at = |root: u32, text: &[u8]| resolved(&rt, alloc, &schema, root, text).err();
     assert_eq!(rt; at(R, b"x"), Some(PathFault::NoSuchField { step: 0 }));
     assert_eq!(rt; at(R, b"u[0]"), Some(PathFault::NotIndexable { step: 1 }));
@@ -55,7 +56,7 @@ fn a_path_is_refused_by_its_first_step_that_does_not_fit(rt: HostRuntime) -> Res
 #[test]
 fn a_path_names_its_steps(rt: HostRuntime) -> Result<(), Fail> {
     let alloc = rt.alloc();
-    let schema = schema_of(&rt, alloc, UNIONS)?;
+    let schema = schema_of(alloc, UNIONS)?;
     let value = resolved(&rt, alloc, &schema, R, b"u@A.v")?;
     assert_eq!(rt;
         value.steps(),
@@ -77,7 +78,7 @@ fn a_path_names_its_steps(rt: HostRuntime) -> Result<(), Fail> {
 #[test]
 fn a_deprecated_field_can_not_be_named(rt: HostRuntime) -> Result<(), Fail> {
     let alloc = rt.alloc();
-    let schema = schema_of(&rt, alloc, "A table: gone@4 int gone, here@6 int")?;
+    let schema = schema_of(alloc, "A table: gone@4 int gone, here@6 int")?;
     assert_eq!(rt;
         resolved(&rt, alloc, &schema, 0, b"gone").err(),
         Some(PathFault::NoSuchField { step: 0 })
@@ -94,7 +95,7 @@ fn members_are_named_by_value_whatever_their_order(rt: HostRuntime) -> Result<()
         A table: v@4 int; W struct 8/8: x@0 long; R table: u_type@4 utype, u@6 union#0; \
         U union: T=3 string, NONE=0 none, A=1 obj#0\
     ";
-    let schema = schema_of(&rt, alloc, rows)?;
+    let schema = schema_of(alloc, rows)?;
     let text = resolved(&rt, alloc, &schema, R, b"u@T")?;
     assert_eq!(rt; text.steps(), [Step::Field(1), Step::Member(3)].as_slice());
     let value = resolved(&rt, alloc, &schema, R, b"u@A.v")?;

@@ -1,8 +1,9 @@
 //! Elements past the first, numbers of every width with their sign, and defaults that are wider than their scalar.
 
 use super::cases::all_answered;
-use super::fixtures::{self, answer_at, bare, schema_of};
+use super::fixtures::{self, answer_at, bare};
 use case_text::buffer::bytes_of;
+use case_text::rows::schema_of;
 use fb_access::Answer;
 use fb_access::step::Step::{Element, Field};
 use fb_schema::Schema;
@@ -68,7 +69,7 @@ fn an_element_of_every_scalar_stands_behind_those_before(rt: HostRuntime) -> Res
         let (second, third) = wanted.split_once('|').ok_or("no third")?;
         let name = name.trim_ascii();
         let rows = format!(in alloc; "A table: l@4 [{name}]")?;
-        let schema = schema_of(&rt, alloc, rows.as_str())?;
+        let schema = schema_of(alloc, rows.as_str())?;
         element_is(&rt, alloc, &schema, 1, second.trim_ascii())?;
         element_is(&rt, alloc, &schema, 2, third.trim_ascii())?;
         element_is(&rt, alloc, &schema, 3, "NoElement")?;
@@ -82,7 +83,7 @@ const FALSE: &str = "0c000000 06000800 04000000 08000000 04000000 03000000 80008
 #[test]
 fn a_bool_of_a_vector_is_false_where_its_byte_is_0(rt: HostRuntime) -> Result<(), Fail> {
     let alloc = rt.alloc();
-    let schema = schema_of(&rt, alloc, "A table: l@4 [bool]")?;
+    let schema = schema_of(alloc, "A table: l@4 [bool]")?;
     all_answered(&rt, alloc, FALSE, &schema, bare(0), ".0 [1] | Bool(false)")
 }
 
@@ -96,7 +97,7 @@ const BOXES: &str = "\
 #[test]
 fn structs_of_12_bytes_stand_12_bytes_apart(rt: HostRuntime) -> Result<(), Fail> {
     let alloc = rt.alloc();
-    let schema = schema_of(&rt, alloc, "Boxes table: l@4 [obj]#1; Box struct 12/4: ")?;
+    let schema = schema_of(alloc, "Boxes table: l@4 [obj]#1; Box struct 12/4: ")?;
     all_answered(&rt, alloc, THREE, &schema, bare(0), BOXES)
 }
 
@@ -121,7 +122,7 @@ const LISTED: &str = "\
 fn texts_and_tables_past_the_first_are_their_own(rt: HostRuntime) -> Result<(), Fail> {
     let alloc = rt.alloc();
     let rows = "L table: texts@4 [string], tables@6 [obj]#1; A table: v@4 int";
-    let schema = schema_of(&rt, alloc, rows)?;
+    let schema = schema_of(alloc, rows)?;
     all_answered(&rt, alloc, LISTS, &schema, bare(0), LISTED)
 }
 
@@ -146,7 +147,7 @@ const UNITED: &str = "\
 #[test]
 fn unions_past_the_first_have_types_of_their_own(rt: HostRuntime) -> Result<(), Fail> {
     let alloc = rt.alloc();
-    let schema = schema_of(&rt, alloc, fixtures::UNIONS)?;
+    let schema = schema_of(alloc, fixtures::UNIONS)?;
     all_answered(&rt, alloc, UNIONS, &schema, bare(3), UNITED)
 }
 
@@ -177,7 +178,7 @@ fn a_number_of_every_width_has_its_sign(rt: HostRuntime) -> Result<(), Fail> {
         let (name, want) = line.split_once('|').ok_or("no case")?;
         let name = name.trim_ascii();
         let rows = format!(in alloc; "A table: v@4 {name}")?;
-        let schema = schema_of(&rt, alloc, rows.as_str())?;
+        let schema = schema_of(alloc, rows.as_str())?;
         let answer = answer_at(&rt, alloc, &bytes, &schema, bare(0), &[Field(0)])?;
         let told = in_hex(alloc, answer)?;
         assert_eq!(rt; told.as_str(), want.trim_ascii(), "{name}");
@@ -227,7 +228,7 @@ fn an_absent_scalar_is_what_its_low_bytes_are(rt: HostRuntime) -> Result<(), Fai
         let (default, want) = case.split_once('|').ok_or("no answer")?;
         let (name, default) = (name.trim_ascii(), default.trim_ascii());
         let rows = format!(in alloc; "A table: v@4 {name} default={default}")?;
-        let schema = schema_of(&rt, alloc, rows.as_str())?;
+        let schema = schema_of(alloc, rows.as_str())?;
         let answer = answer_at(&rt, alloc, &bytes, &schema, bare(0), &[Field(0)])?;
         let told = format!(in alloc; "{answer:?}")?;
         assert_eq!(rt; told.as_str(), want.trim_ascii(), "{name}, {default}");

@@ -2,9 +2,10 @@
 
 use super::cases::{all_answered, steps_of};
 use super::fixtures::{
-    MONSTERS, Reading, UNIONS as TABLES_WITH_UNIONS, allowed_at, answer_at, bare, schema_of,
+    MONSTERS, Reading, UNIONS as TABLES_WITH_UNIONS, allowed_at, answer_at, bare,
 };
 use case_text::buffer::bytes_of;
+use case_text::rows::schema_of;
 use fb_access::Answer;
 use fb_access::step::Step::Field;
 use fb_schema::Schema;
@@ -35,14 +36,14 @@ const EMPTY_CASES: &str = "\
 
 #[test]
 fn a_monster_has_its_fields(rt: HostRuntime) -> Result<(), Fail> {
-    let schema = schema_of(&rt, rt.alloc(), MONSTERS)?;
+    let schema = schema_of(rt.alloc(), MONSTERS)?;
     all_answered(&rt, rt.alloc(), ORC, &schema, bare(0), ORC_CASES)?;
     all_answered(&rt, rt.alloc(), EMPTY, &schema, bare(0), EMPTY_CASES)
 }
 
 /// The name in these bytes: the schema, what was verified and each place are gone when it comes back.
 fn name_of<'b>(rt: &impl Abort, alloc: Global, bytes: &'b [u8]) -> Result<Answer<'b>, Fail> {
-    let schema = schema_of(rt, alloc, MONSTERS)?;
+    let schema = schema_of(alloc, MONSTERS)?;
     answer_at(rt, alloc, bytes, &schema, bare(0), &[Field(1)])
 }
 
@@ -61,7 +62,7 @@ const PREFIXED: &str = "
 
 #[test]
 fn a_prefixed_buffer_has_its_root_behind_the_prefix(rt: HostRuntime) -> Result<(), Fail> {
-    let schema = schema_of(&rt, rt.alloc(), "A table: v@4 long")?;
+    let schema = schema_of(rt.alloc(), "A table: v@4 long")?;
     let reading = Reading {
         root: 0,
         start: Start::Prefixed,
@@ -110,7 +111,7 @@ const UNTYPED_CASES: &str = "\
 
 #[test]
 fn a_union_leads_to_its_member(rt: HostRuntime) -> Result<(), Fail> {
-    let schema = schema_of(&rt, rt.alloc(), TABLES_WITH_UNIONS)?;
+    let schema = schema_of(rt.alloc(), TABLES_WITH_UNIONS)?;
     let root = bare(2);
     let alloc = rt.alloc();
     all_answered(&rt, alloc, ONE_MEMBER, &schema, root, ONE_MEMBER_CASES)?;
@@ -152,7 +153,7 @@ const UNIONS_CASES: &str = "\
 
 #[test]
 fn a_vector_of_unions_has_a_type_for_each_element(rt: HostRuntime) -> Result<(), Fail> {
-    let schema = schema_of(&rt, rt.alloc(), TABLES_WITH_UNIONS)?;
+    let schema = schema_of(rt.alloc(), TABLES_WITH_UNIONS)?;
     all_answered(&rt, rt.alloc(), UNIONS, &schema, bare(3), UNIONS_CASES)
 }
 
@@ -182,7 +183,7 @@ const NUMBERS_CASES: &str = "\
 
 #[test]
 fn a_number_has_the_sign_and_width_of_its_type(rt: HostRuntime) -> Result<(), Fail> {
-    let schema = schema_of(&rt, rt.alloc(), NUMBER_ROWS)?;
+    let schema = schema_of(rt.alloc(), NUMBER_ROWS)?;
     all_answered(&rt, rt.alloc(), NUMBERS, &schema, bare(0), NUMBERS_CASES)
 }
 
@@ -205,7 +206,7 @@ const DEFAULTS_CASES: &str = "\
 
 #[test]
 fn an_absent_scalar_has_the_low_bytes_of_its_default(rt: HostRuntime) -> Result<(), Fail> {
-    let schema = schema_of(&rt, rt.alloc(), DEFAULT_ROWS)?;
+    let schema = schema_of(rt.alloc(), DEFAULT_ROWS)?;
     all_answered(&rt, rt.alloc(), EMPTY, &schema, bare(0), DEFAULTS_CASES)
 }
 
@@ -214,7 +215,7 @@ const FLOAT_BYTES: &str = "0c000000 06000800 04000000 08000000 0000c03f";
 
 #[test]
 fn a_float_is_its_bytes(rt: HostRuntime) -> Result<(), Fail> {
-    let schema = schema_of(&rt, rt.alloc(), "A table: f@4 float")?;
+    let schema = schema_of(rt.alloc(), "A table: f@4 float")?;
     let present = ".0 | Float([0, 0, 192, 63])";
     all_answered(&rt, rt.alloc(), FLOAT_BYTES, &schema, bare(0), present)?;
     all_answered(&rt, rt.alloc(), EMPTY, &schema, bare(0), ".0 | Absent")
@@ -235,7 +236,7 @@ const NO_LONGS_CASES: &str = "\
 
 #[test]
 fn a_vector_of_longs_may_be_empty_or_crooked(rt: HostRuntime) -> Result<(), Fail> {
-    let schema = schema_of(&rt, rt.alloc(), "A table: l@4 [long]")?;
+    let schema = schema_of(rt.alloc(), "A table: l@4 [long]")?;
     all_answered(&rt, rt.alloc(), NO_LONGS, &schema, bare(0), NO_LONGS_CASES)?;
     let unaligned = Reading {
         alignment: false,
@@ -259,7 +260,7 @@ const SHARED: &str = "
 
 #[test]
 fn two_vectors_share_a_text(rt: HostRuntime) -> Result<(), Fail> {
-    let schema = schema_of(&rt, rt.alloc(), "A table: a@4 [string], b@6 [string]")?;
+    let schema = schema_of(rt.alloc(), "A table: a@4 [string], b@6 [string]")?;
     all_answered(
         &rt,
         rt.alloc(),
@@ -290,7 +291,7 @@ const LISTS_CASES: &str = "\
 fn elements_are_structs_in_place_and_tables_behind_offset_words(
     rt: HostRuntime,
 ) -> Result<(), Fail> {
-    let schema = schema_of(&rt, rt.alloc(), TABLES_WITH_UNIONS)?;
+    let schema = schema_of(rt.alloc(), TABLES_WITH_UNIONS)?;
     all_answered(&rt, rt.alloc(), LISTS, &schema, bare(4), LISTS_CASES)
 }
 
@@ -338,7 +339,7 @@ fn check_allowed(
 
 #[test]
 fn what_is_here_allows_its_own_steps_alone(rt: HostRuntime) -> Result<(), Fail> {
-    let schema = schema_of(&rt, rt.alloc(), TABLES_WITH_UNIONS)?;
+    let schema = schema_of(rt.alloc(), TABLES_WITH_UNIONS)?;
     check_allowed(&rt, rt.alloc(), ONE_MEMBER, &schema, 2, ONE_MEMBER_ALLOWS)?;
     check_allowed(&rt, rt.alloc(), UNIONS, &schema, 3, UNIONS_ALLOW)
 }

@@ -35,7 +35,7 @@ fn parts(line: &str) -> Option<(&str, &str, &str)> {
 fn answer(rt: &impl Abort, alloc: Global, before: &str, rows: &str) -> Result<String, Fail> {
     let text = format!(in alloc; "{before}{rows}")?;
     let rows = Rows::read(alloc, text.as_str())?;
-    Ok(told(alloc, rows.built(rt, alloc).err())?)
+    Ok(told(alloc, rows.built(alloc)?.err())?)
 }
 
 /// Asserts that the rows of each case, behind these rows, are answered as it says.

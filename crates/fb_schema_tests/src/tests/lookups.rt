@@ -1,7 +1,7 @@
 //! The live fields of a table with every kind, and where its required ones end. All look-ups stand beside plain walks
 //! over the rows in `evidence`.
 
-use case_text::rows::Rows;
+use case_text::rows::schema_of;
 use fb_schema::FieldView;
 use std::test::Fail;
 
@@ -33,7 +33,7 @@ const KINDS: &str = "\
 #[test]
 fn a_legal_table_has_each_kind_in_rising_slot(rt: HostRuntime) -> Result<(), Fail> {
     let alloc = rt.alloc();
-    let schema = Rows::read(alloc, EVERY_KIND)?.built(&rt, alloc)?;
+    let schema = schema_of(alloc, EVERY_KIND)?;
     assert!(rt; schema.is_table(0));
     assert_eq!(rt; schema.fields_of(0).len(), KINDS.lines().count());
     for (field, want) in schema.fields_of(0).iter().zip(KINDS.lines()) {
@@ -62,7 +62,7 @@ const REQUIRED: &str =
 #[test]
 fn required_fields_end_behind_the_last_that_is_live(rt: HostRuntime) -> Result<(), Fail> {
     let alloc = rt.alloc();
-    let schema = Rows::read(alloc, REQUIRED)?.built(&rt, alloc)?;
+    let schema = schema_of(alloc, REQUIRED)?;
     for (n, want) in (0u32..).zip([0, 0, 1, 3, 2, 0]) {
         assert!(rt; schema.is_table(n));
         assert_eq!(rt; schema.required_end(n), want, "table {n}");

@@ -1,10 +1,8 @@
 // Worked schemas: what is refused and how, and what look-ups answer.
 
 use super::cases::answered;
-use case_text::rows::Rows;
+use case_text::rows::schema_of;
 use fb_schema::*;
-use std::alloc::Global;
-use std::process::Abort;
 use std::test::Fail;
 
 #[test]
@@ -51,7 +49,7 @@ fn a_union_is_refused_by_its_first_bad_member(rt: HostRuntime) -> Result<(), Fai
 #[test]
 fn no_rows_are_a_schema(rt: HostRuntime) -> Result<(), Fail> {
     let alloc = rt.alloc();
-    let schema = Rows::read(alloc, "")?.built(&rt, alloc)?;
+    let schema = schema_of(alloc, "")?;
     assert_eq!(rt; schema.object_count(), 0);
     assert_eq!(rt; schema.widest(), 0);
     assert!(rt; !schema.is_table(0));
@@ -65,13 +63,9 @@ const UNIONS: &str =
     "A table: v@4 int; W struct 8/8: x@0 long; R table: u_type@4 utype, u@6 union#0; \
     Q table: us_type@4 [utype], us@6 [union]#0; U union: A=1 obj#0, W=2 obj#1, T=3 string";
 
-fn unions(rt: &impl Abort, alloc: Global) -> Result<Schema<'static>, Fail> {
-    Ok(Rows::read(alloc, UNIONS)?.built(rt, alloc)?)
-}
-
 #[test]
 fn a_schema_of_unions_is_looked_up(rt: HostRuntime) -> Result<(), Fail> {
-    let schema = unions(&rt, rt.alloc())?;
+    let schema = schema_of(rt.alloc(), UNIONS)?;
     assert_eq!(rt; schema.object_count(), 4);
     assert_eq!(rt; schema.widest(), 2);
     assert_eq!(rt; schema.object_named(b"R"), Some(2));
@@ -94,7 +88,7 @@ fn a_schema_of_unions_is_looked_up(rt: HostRuntime) -> Result<(), Fail> {
 
 #[test]
 fn members_are_found_by_value_and_by_name(rt: HostRuntime) -> Result<(), Fail> {
-    let schema = unions(&rt, rt.alloc())?;
+    let schema = schema_of(rt.alloc(), UNIONS)?;
     assert!(rt; schema.is_union(0));
     assert_eq!(rt; schema.member_of(0, 1), Some(Kind::Table(0)));
     assert_eq!(rt; schema.member_of(0, 2), Some(Kind::Struct(1)));

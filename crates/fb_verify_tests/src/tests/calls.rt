@@ -1,9 +1,10 @@
 //! Each public call once, where it succeeds and where it refuses.
 
-use super::question::{Question, schema_of};
+use super::question::Question;
 use super::samples::SAMPLES;
 use super::schemas::{MEMBERS, MONSTERS};
 use case_text::buffer::bytes_of;
+use case_text::rows::schema_of;
 use fb_bytes::Meter;
 use fb_verify::{
     Checks, Ident, Limits, Reason, Report, Scratch, ScratchFault, Start, most_reads, verify,
@@ -26,7 +27,7 @@ fn a_scratch_has_up_to_4096_levels(rt: HostRuntime) {
 #[test]
 fn the_price_is_known_in_advance(rt: HostRuntime) -> Result<(), Fail> {
     let alloc = rt.alloc();
-    let schema = schema_of(&rt, alloc, MONSTERS)?;
+    let schema = schema_of(alloc, MONSTERS)?;
     assert_eq!(rt; most_reads(&schema, Limits::published(), 32), 84_000_004);
     assert_eq!(rt; most_reads(&schema, Limits::new(64, 0)?, 32), 4);
     for (budget, most) in [
@@ -38,7 +39,7 @@ fn the_price_is_known_in_advance(rt: HostRuntime) -> Result<(), Fail> {
         let limits = Limits::published().with_reads(budget);
         assert_eq!(rt; most_reads(&schema, limits, 32), most);
     }
-    let nothing = schema_of(&rt, alloc, "")?;
+    let nothing = schema_of(alloc, "")?;
     for len in [0, 32, 0x7fff_ffff] {
         assert_eq!(rt; most_reads(&nothing, Limits::new(64, 7)?, len), 32);
     }
@@ -49,7 +50,7 @@ fn the_price_is_known_in_advance(rt: HostRuntime) -> Result<(), Fail> {
 fn what_was_verified_is_told(rt: HostRuntime) -> Result<(), Fail> {
     let alloc = rt.alloc();
     let bytes = bytes_of(alloc, &SAMPLES, "28000000 PICKED")?;
-    let schema = schema_of(&rt, alloc, MEMBERS)?;
+    let schema = schema_of(alloc, MEMBERS)?;
     let checks = Checks {
         alignment: true,
         inline_size: true,
@@ -84,10 +85,7 @@ fn what_was_verified_is_told(rt: HostRuntime) -> Result<(), Fail> {
 #[test]
 fn a_scratch_serves_another_schema_after_a_fault(rt: HostRuntime) -> Result<(), Fail> {
     let alloc = rt.alloc();
-    let (unions, monster) = (
-        schema_of(&rt, alloc, MEMBERS)?,
-        schema_of(&rt, alloc, MONSTERS)?,
-    );
+    let (unions, monster) = (schema_of(alloc, MEMBERS)?, schema_of(alloc, MONSTERS)?);
     let mut scratch = Scratch::new(alloc, 1)?;
     let (picked, orc) = (
         bytes_of(alloc, &SAMPLES, "PICKED")?,

@@ -15,7 +15,7 @@
 
 use super::samples::SAMPLES;
 use case_text::buffer::bytes_of;
-use case_text::rows::Rows;
+use case_text::rows::schema_of;
 use fb_bytes::Meter;
 use fb_schema::Schema;
 use fb_verify::{Checks, Fault, Ident, Limits, Report, Scratch, Start, walk};
@@ -141,11 +141,6 @@ fn parts(line: &str) -> Option<[&str; 4]> {
     Some([shows.trim_ascii(), buffer, asked, answer.trim_ascii()])
 }
 
-/// The schema of the rows that a text has.
-pub fn schema_of<'t>(rt: &impl Abort, alloc: Global, rows: &'t str) -> Result<Schema<'t>, Fail> {
-    Ok(Rows::read(alloc, rows)?.built(rt, alloc)?)
-}
-
 /// What `walk` answers of bytes by a schema, as cases have it.
 pub fn answer(
     rt: &impl Abort,
@@ -178,5 +173,5 @@ pub fn all_answered(
 
 /// Asserts that `walk` gives each case its answer by the schema of these rows.
 pub fn answered(rt: &impl Abort, alloc: Global, rows: &str, cases: &str) -> Result<(), Fail> {
-    all_answered(rt, alloc, &schema_of(rt, alloc, rows)?, cases)
+    all_answered(rt, alloc, &schema_of(alloc, rows)?, cases)
 }

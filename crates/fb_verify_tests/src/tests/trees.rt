@@ -1,7 +1,8 @@
 //! Tables below tables: what is counted of them, the limits, and the place that a fault names.
 
-use super::question::{answer, answered, schema_of};
+use super::question::{answer, answered};
 use super::schemas::{self, FAMILIES};
+use case_text::rows::schema_of;
 use fb_verify::Scratch;
 use std::alloc::{AllocError, Global};
 use std::test::Fail;
@@ -51,7 +52,7 @@ fn twenty_one_tables_are_visited_two_million_times(rt: HostRuntime) -> Result<()
     let alloc = rt.alloc();
     let chain = pairs(alloc, 20)?;
     assert_eq!(rt; chain.len(), 260);
-    let schema = schema_of(&rt, alloc, schemas::NODES)?;
+    let schema = schema_of(alloc, schemas::NODES)?;
     let mut scratch = Scratch::new(alloc, 64)?;
     for (asked, want) in [
         ("", "TooManyTables 256 0.1 4000001"),
@@ -67,7 +68,7 @@ fn twenty_one_tables_are_visited_two_million_times(rt: HostRuntime) -> Result<()
 #[test]
 fn a_scratch_of_4096_levels_serves_every_depth_in_every_order(rt: HostRuntime) -> Result<(), Fail> {
     let alloc = rt.alloc();
-    let schema = schema_of(&rt, alloc, schemas::LISTS)?;
+    let schema = schema_of(alloc, schemas::LISTS)?;
     let (deep, flat) = (list(alloc, 4095)?, list(alloc, 63)?);
     assert_eq!(rt; deep.len(), 32_780);
     let cases = [

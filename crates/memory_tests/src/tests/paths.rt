@@ -1,6 +1,7 @@
 //! Paths, with each request for memory refused in turn.
 
-use super::schemas::{NODES, UNIONS, built};
+use super::schemas::{NODES, UNIONS};
+use case_text::rows::schema_of;
 use fb_access::{Path, PathFault};
 use fb_schema::Schema;
 use scarce::{Plan, Refusing};
@@ -51,7 +52,7 @@ fn refused_in_turn(
 
 #[test]
 fn each_request_of_a_path_is_refused_in_turn(rt: HostRuntime) -> Result<(), Fail> {
-    let schema = built(&rt, rt.alloc(), UNIONS)?;
+    let schema = schema_of(rt.alloc(), UNIONS)?;
     for (text, steps) in [
         (b"us[0]@T".as_slice(), 3),
         (b"us_type[0]".as_slice(), 2),
@@ -64,7 +65,7 @@ fn each_request_of_a_path_is_refused_in_turn(rt: HostRuntime) -> Result<(), Fail
 
 #[test]
 fn each_growth_of_a_long_path_is_refused_in_turn(rt: HostRuntime) -> Result<(), Fail> {
-    let schema = built(&rt, rt.alloc(), NODES)?;
+    let schema = schema_of(rt.alloc(), NODES)?;
     let text = b"next.next.next.next.next.next.next.next.next".as_slice();
     refused_in_turn(&rt, rt.alloc(), &schema, 0, text, 9);
     let (_, asked) = resolved(&rt, rt.alloc(), &schema, 0, text, Plan::GrantAll);

@@ -1,10 +1,4 @@
-//! Schemas for the tests, and their rows.
-
-use case_text::rows::Rows;
-use fb_schema::Schema;
-use std::alloc::Global;
-use std::process::Abort;
-use std::test::Fail;
+//! Rows of the schemas of the tests.
 
 /// `table Node { next: Node; }`
 pub const NODES: &str = "Node table: next@4 obj#0";
@@ -14,8 +8,3 @@ pub const NODES: &str = "Node table: next@4 obj#0";
 pub const UNIONS: &str =
     "A table: v@4 int; W struct 8/8: x@0 long; R table: u_type@4 utype, u@6 union#0; \
     Q table: us_type@4 [utype], us@6 [union]#0; U union: A=1 obj#0, W=2 obj#1, T=3 string";
-
-/// The schema of these rows.
-pub fn built(rt: &impl Abort, alloc: Global, rows: &'static str) -> Result<Schema<'static>, Fail> {
-    Ok(Rows::read(alloc, rows)?.built(rt, alloc)?)
-}

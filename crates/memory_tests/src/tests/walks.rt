@@ -1,6 +1,7 @@
 //! A walk takes no memory: it serves where there is none left.
 
-use super::schemas::{NODES, built};
+use super::schemas::NODES;
+use case_text::rows::schema_of;
 use fb_bytes::Meter;
 use fb_schema::Schema;
 use fb_verify::{Checks, Fault, Ident, Limits, Reason, Report, Scratch, ScratchFault, Start, walk};
@@ -81,7 +82,7 @@ fn room_of_scratch(alloc: Global, depth: u32) -> Result<usize, Fail> {
 
 /// Asserts what is answered of lists within several limits, by one scratch of this heap, and that no walk takes of it.
 fn lists_are_answered(rt: &impl Abort, alloc: Global, heap: &LocalHeap) -> Result<(), Fail> {
-    let schema = built(rt, alloc, NODES)?;
+    let schema = schema_of(alloc, NODES)?;
     let (deep, flat) = (list(alloc, 4095)?, list(alloc, 63)?);
     let mut scratch = Scratch::new(heap, 4096)?;
     let used = heap.used();
