@@ -1,0 +1,19 @@
+# Completions of fbcheck for bash.
+
+_fbcheck() {
+    local word=${COMP_WORDS[COMP_CWORD]} before=${COMP_WORDS[COMP_CWORD - 1]}
+    COMPREPLY=()
+    case $before in
+    --schema)
+        compopt -o filenames 2>/dev/null
+        mapfile -t COMPREPLY < <(compgen -d -- "$word"; compgen -f -X '!*.bfbs' -- "$word")
+        ;;
+    --root | --ident | --path | --max-depth | --max-tables | --max-reads | --max-bytes) ;;
+    *)
+        mapfile -t COMPREPLY < <(compgen -W "--schema --root --ident --path --max-depth --max-tables --max-reads \
+            --max-bytes --bare --no-alignment --inline-size --help" -- "$word")
+        ;;
+    esac
+}
+
+complete -F _fbcheck fbcheck

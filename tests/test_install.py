@@ -1,0 +1,104 @@
+"""What ./install puts in place: the program, its manual page and its completions, which all know the same options."""
+
+import os
+import re
+import shutil
+import subprocess
+
+import outside
+
+TOP = outside.TOP
+PLACES = {
+    "bin/fbcheck": 0o755,
+    "share/man/man1/fbcheck.1": 0o644,
+    "share/bash-completion/completions/fbcheck": 0o644,
+    "share/zsh/site-functions/_fbcheck": 0o644,
+}
+PAGE = (TOP / "docs/fbcheck.1").read_text()
+
+
+def installed(*words, **environment):
+    """How ./install ends, with what it wrote. The launcher finds the program built."""
+    ran = subprocess.run([TOP / "install", *words], capture_output=True, text=True, timeout=60,
+                         env={"PATH": os.environ["PATH"], **environment})
+    return ran.returncode, ran.stdout.splitlines(), ran.stderr
+
+
+def options():
+    """The long options of the program, as its help has them."""
+    return re.findall(r"^ +(?:-h, )?(--[a-z-]+)", outside.run("--help").out.decode(), re.M)
+
+
+def reasons():
+    """The reasons with their codes, as the reference has them."""
+    return re.findall(r"V\d+ [A-Z]\w+", (TOP / "docs/REFERENCE.md").read_text().split("## Reasons")[1].split("\n## ")[0])
+
+
+def plain(page):
+    """A manual page without its marks."""
+    return re.sub(r"\\f[BIPR]", "", page.replace(r"\-", "-"))
+
+
+def what_is_put(cases):
+    if outside.PROGRAM != TOP / "crates/fbcheck/out/fbcheck":
+        return  # a program that was built elsewhere isn't what ./install takes
+    for name, environment, top in [
+        ("PREFIX", {"PREFIX": f"{outside.FOLDER}/local"}, outside.FOLDER / "local"),
+        ("DESTDIR", {"DESTDIR": f"{outside.FOLDER}/pkg", "PREFIX": "/usr"}, outside.FOLDER / "pkg/usr"),
+        ("neither PREFIX", {"DESTDIR": f"{outside.FOLDER}/own"}, outside.FOLDER / "own/usr/local"),
+    ]:
+        told = installed(**environment)
+        cases.same(f"{name}: each file is told", told, (0, [f"{top}/{place}" for place in PLACES], ""))
+        found = {place: (top / place).stat().st_mode & 0o777 for place in PLACES}
+        cases.same(f"{name}: each file is there with its mode", found, PLACES)
+    program = outside.FOLDER / "local/bin/fbcheck"
+    ran = subprocess.run([program, "--help"], capture_output=True, timeout=60)
+    cases.same("the program runs where it was put", (ran.returncode, ran.stdout), (0, outside.run("--help").out))
+
+
+def what_is_refused(cases):
+    status, out, err = installed("here")
+    cases.same("a word is refused, and nothing is put", (status, out), (2, []))
+    cases.holds("by the usage", err.startswith("usage: "), err)
+    if outside.PROGRAM == TOP / "crates/fbcheck/out/fbcheck":
+        status, out, err = installed(PREFIX="/dev/null/x")
+        cases.holds("a folder that can't be made is a fault", status != 0 and not out and err, (status, out, err))
+
+
+def the_page(cases):
+    told = PAGE.replace(r"\-", "-").split(".SH OPTIONS")[1].split(".SH LINES")[0]
+    known = re.findall(r"^\.TP\n\.B[IR]? (?:-h \", \" )?(--[a-z-]+)", told, re.M)
+    cases.same("the page has each option in the order of help", known, options())
+    page = plain(PAGE)
+    for reason in reasons():
+        cases.holds(f"the page has {reason}", f".B {reason}\n" in page)
+    cases.same("the page has each exit status", re.findall(r"^\.B (\d)$", page, re.M), ["0", "1", "2", "3"])
+    if shutil.which("groff"):
+        ran = subprocess.run(["groff", "-man", "-Tutf8", "-ww", "-z", TOP / "docs/fbcheck.1"], capture_output=True)
+        cases.same("groff has nothing to say of the page", (ran.returncode, ran.stderr), (0, b""))
+
+
+def completed(folder, *words):
+    """What bash offers for the last of these words."""
+    script = '. "$1"; shift; COMP_WORDS=("$@"); COMP_CWORD=$(($# - 1)); _fbcheck; printf "%s\\n" "${COMPREPLY[@]}"'
+    ran = subprocess.run(["bash", "-c", script, "bash", TOP / "completions/fbcheck.bash", "fbcheck", *words],
+                         capture_output=True, text=True, cwd=folder, timeout=60)
+    return sorted(ran.stdout.split())
+
+
+def completions(cases):
+    folder = outside.FOLDER / "files"
+    (folder / "more").mkdir(parents=True)
+    for name in ("a.bfbs", "b.bfbs", "a.fbs"):
+        (folder / name).write_bytes(b"")
+    cases.same("bash offers each option", completed(folder, ""), sorted(options()))
+    cases.same("or those that begin so", completed(folder, "--max-r"), ["--max-reads"])
+    cases.same("for a schema, files of schemas and folders", completed(folder, "--schema", ""),
+               ["a.bfbs", "b.bfbs", "more"])
+    cases.same("and nothing for a number", completed(folder, "--max-depth", ""), [])
+    zsh = (TOP / "completions/_fbcheck").read_text()
+    cases.same("zsh knows each option", re.findall(r"(--[a-z-]+)(?:\[|\})", zsh), options())
+
+
+if __name__ == "__main__":
+    outside.main(what_is_put, what_is_refused, the_page, completions)
