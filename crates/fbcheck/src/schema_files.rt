@@ -134,24 +134,24 @@ pub fn told_of(alloc: Global, schema: &str, words: &str, input: &[u8]) -> Result
 }
 
 /// What a case shows, its schema file, words and input, and what is to be told.
-fn parts(line: &str) -> Option<[&str; 5]> {
+fn parts(line: &str) -> Option<(&str, &str, &str, &str, &str)> {
     let (shows, rest) = line.split_once('|')?;
     let (schema, rest) = rest.split_once('|')?;
     let (words, rest) = rest.split_once('|')?;
     let (input, told) = rest.split_once('|')?;
-    Some([
+    Some((
         shows.trim_ascii(),
         schema.trim_ascii(),
         words,
         input,
         told.trim_ascii(),
-    ])
+    ))
 }
 
 /// Asserts that of each case is told what it says.
 pub fn all_told(rt: &impl Abort, alloc: Global, cases: &str) -> Result<(), Fail> {
     for line in cases.lines() {
-        let [shows, schema, words, input, want] = parts(line).ok_or("no case")?;
+        let (shows, schema, words, input, want) = parts(line).ok_or("no case")?;
         let input = spelled(alloc, input)?;
         let told = told_of(alloc, schema, words, &input)?;
         assert_eq!(rt; told.as_str(), want, "{shows}");

@@ -134,11 +134,11 @@ fn told(alloc: Global, answer: Result<Report, Fault>) -> Result<String, AllocErr
 }
 
 /// What a case shows, its buffer, what is asked, and the answer.
-fn parts(line: &str) -> Option<[&str; 4]> {
+fn parts(line: &str) -> Option<(&str, &str, &str, &str)> {
     let (shows, rest) = line.split_once('|')?;
     let (buffer, rest) = rest.split_once('|')?;
     let (asked, answer) = rest.split_once('|')?;
-    Some([shows.trim_ascii(), buffer, asked, answer.trim_ascii()])
+    Some((shows.trim_ascii(), buffer, asked, answer.trim_ascii()))
 }
 
 /// What `walk` answers of bytes by a schema, as cases have it.
@@ -163,7 +163,7 @@ pub fn all_answered(
 ) -> Result<(), Fail> {
     let mut scratch = Scratch::new(alloc, 64)?;
     for line in cases.lines() {
-        let [shows, buffer, asked, want] = parts(line).ok_or("no case")?;
+        let (shows, buffer, asked, want) = parts(line).ok_or("no case")?;
         let bytes = bytes_of(alloc, &SAMPLES, buffer)?;
         let answer = answer(rt, alloc, schema, &bytes, asked, &mut scratch)?;
         assert_eq!(rt; answer.as_str(), want, "{shows}");

@@ -72,13 +72,14 @@ fn a_scratch_of_4096_levels_serves_every_depth_in_every_order(rt: HostRuntime) -
     let (deep, flat) = (list(alloc, 4095)?, list(alloc, 63)?);
     assert_eq!(rt; deep.len(), 32_780);
     let cases = [
-        (&deep, "depth=4096", "yes 4096 4096 16383"),
-        (&deep, "depth=4095", "TooDeep 32776 0.0 16381"),
-        (&deep, "", "TooDeep 528 0.0 257"),
-        (&flat, "", "yes 64 64 255"),
+        (4096, "depth=4096", "yes 4096 4096 16383"),
+        (4096, "depth=4095", "TooDeep 32776 0.0 16381"),
+        (4096, "", "TooDeep 528 0.0 257"),
+        (64, "", "yes 64 64 255"),
     ];
     let mut scratch = Scratch::new(alloc, 4096)?;
-    for (bytes, asked, want) in cases.iter().chain(cases.iter().rev()) {
+    for (levels, asked, want) in cases.iter().chain(cases.iter().rev()) {
+        let bytes = if *levels == 64 { &flat } else { &deep };
         let answer = answer(&rt, alloc, &schema, bytes, asked, &mut scratch)?;
         assert_eq!(rt; answer.as_str(), *want, "{asked}");
     }

@@ -207,18 +207,18 @@ pub fn answer(alloc: Global, rows: &Rows<'_>, words: &str, bytes: &[u8]) -> Resu
 }
 
 /// What a case shows, its buffer, what is asked, and the verdict.
-fn parts(line: &str) -> Option<[&str; 4]> {
+fn parts(line: &str) -> Option<(&str, &str, &str, &str)> {
     let (shows, rest) = line.split_once('|')?;
     let (buffer, rest) = rest.split_once('|')?;
     let (asked, verdict) = rest.split_once('|')?;
-    Some([shows.trim_ascii(), buffer, asked, verdict.trim_ascii()])
+    Some((shows.trim_ascii(), buffer, asked, verdict.trim_ascii()))
 }
 
 /// Asserts the verdict of each case by these rows.
 pub fn judge(rt: &impl Abort, alloc: Global, rows: &str, cases: &str) -> Result<(), Fail> {
     let rows = Rows::read(alloc, rows)?;
     for line in cases.lines() {
-        let [shows, text, words, want] = parts(line).ok_or("no case")?;
+        let (shows, text, words, want) = parts(line).ok_or("no case")?;
         let answer = answer(alloc, &rows, words, &buffer(alloc, text)?)?;
         assert_eq!(rt; answer.as_str(), want, "{shows}");
     }
