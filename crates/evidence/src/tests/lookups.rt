@@ -143,7 +143,7 @@ fn required_end(fields: &[FieldRow<'_>]) -> usize {
     let mut end = 0;
     for field in fields {
         if field.required && !field.deprecated {
-            end = end.max(1 + live_below(fields, field.slot));
+            end = end.max(live_below(fields, field.slot).saturating_add(1));
         }
     }
     end
