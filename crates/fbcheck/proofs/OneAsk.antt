@@ -10,9 +10,8 @@ use Rattle.fb_bfbs.specs.declared.load_fault.LoadFault.{LoadFault}
 use Rattle.fb_bfbs.specs.declared.load_fault.LoadFault.TheVariants as load
 use Rattle.fb_bfbs.specs.LoadLaws.{Applies}
 use Rattle.fbcheck.specs.Job.{Job, job_of}
-use Rattle.fbcheck.specs.Asked.{IsAsked, IsPath, IsPathFault, HasPathFault, asked_root, options_of}
-use Rattle.fbcheck.specs.Checking.{IsSchema, IsNoSchema, schema_limits}
-use Rattle.fbcheck.specs.CheckLaws.{Asks, AsksBy}
+use Rattle.fbcheck.specs.Asked.{AsksBy, IsAsked, IsPath, IsPathFault, HasPathFault, asked_root, options_of}
+use Rattle.fbcheck.specs.Checking.{Asks, IsSchema, IsNoSchema, schema_limits}
 use Rattle.fbcheck.specs.declared.choices.Settings.{Settings}
 use Rattle.fbcheck.specs.declared.fault.RunFault.{RunFault}
 use Rattle.fbcheck.specs.declared.fault.RunFault.TheVariants.{Load, Path, NoRoot}

@@ -1,14 +1,16 @@
 -- A run over a stream: what was read and written, and then one piece more.
-use Rattle.std.proofs.Common.{◌≡◌, ℕ, ◌+◌, Bool, true, false, List, [], ◌++◌, Option, length, take, drop, refl, sym, ap, subst, ◌∙◌, arith, append-nil, append_assoc, length-append, length-take-le, take-append-drop}
+use Rattle.std.proofs.Common.{◌≡◌, ℕ, ◌+◌, Bool, true, false, List, [], ◌++◌, Option, length, take, drop, refl, sym, ap, subst, ◌∙◌, arith, append-nil, append_assoc, length-append, length-take-le, take-append-drop, Result, Ok, Err, IsErrAnd}
 use Rattle.std.specs.Io.KnownBytes.{Consumes, Appends}
-use Rattle.std.proofs.KnownBytes.{Consumes-nil, Consumes-trans, Appends-trans, Appends-nil, Keeps-refl}
-use Rattle.fbcheck.specs.Job.{Job}
-use Rattle.fbcheck.specs.Run.{Fails, Passes}
-use Rattle.fbcheck.specs.Bare.{FailsBare, PassesBare}
+use Rattle.std.proofs.KnownBytes.{Consumes-nil, Consumes-trans, Appends-trans, Appends-nil}
+use Rattle.fb_schema.specs.Rows.{Rows}
+use Rattle.fbcheck.specs.Job.{Job, job_of, start_of}
+use Rattle.fbcheck.specs.Run.{IsBareRun, IsRun, IsRunFrom, IsStreamRun}
 use Rattle.fbcheck.specs.Lines.{WritesFront}
-use Rattle.fbcheck.specs.Stream.{FailsStream, PassesStream, Gathers, Halts, Onward, Standing, Tells, TellsSome}
+use Rattle.fbcheck.specs.Stream.{FailsStream, Gathers, Halts, Onward, Standing, Tells, TellsSome}
 use Rattle.fbcheck.specs.declared.fault.RunFault.{RunFault}
 use Rattle.fbcheck.specs.declared.fault.RunFault.TheVariants as run
+use Rattle.fbcheck.specs.declared.options.Options.{Options}
+use Rattle.fbcheck.specs.declared.output.Tally.{Tally}
 use Rattle.fbcheck.proofs.StreamLemmas.{rests_memory, tells_nothing}
 
 -- what was read from the reader and written to the writer so far, where nothing waits
@@ -30,11 +32,6 @@ fails_empty job limit r s = record {
   wrote = Appends-nil s;
   rests = rests_memory job limit 0 0 [] [] [] [] (tells_nothing job limit);
 }
-
--- a run that found no memory to begin with has read and written nothing
-pub fails_before : (bare : Bool) (job : Job) (limit : ℕ) (r s : Option (List ℕ)) → Fails bare job limit r r s s run.OutOfMemory
-fails_before true job limit r s = ([], Consumes-nil r, (omega arith, Keeps-refl s))
-fails_before false job limit r s = fails_empty job limit r s
 
 -- with nothing that waits, what was told is all that was written
 told_empty : (job : Job) (stand : Standing) (bytes text : List ℕ) → stand.text ≡ [] → Tells job job.limit bytes text stand.good stand.bad stand.held
@@ -90,24 +87,18 @@ fails_write job before count count' n written piece slice waits r r' r'' s s' s'
       rests = (some.0, some.1, some.4, (omega (arith, front.written_is, length-append text (take front.taken waits), length-take-le front.taken waits front.within), (drop front.taken waits, some')));
     }
 
--- a run over one bare input passes, or comes to rest, as a run that is asked to
-pub passes_bare : (bare : Bool) (job job' : Job) (r r' s s' : Option (List ℕ)) (good bad : ℕ) → bare ≡ true → job ≡ job' → PassesBare job job.limit r r' s s' good bad
-    → Passes bare job' job'.limit r r' s s' good bad
-passes_bare bare job job' r r' s s' good bad is same passes =
-    subst (λ (b : Bool). Passes b job' job'.limit r r' s s' good bad) (sym is) (subst (λ (j : Job). PassesBare j j.limit r r' s s' good bad) same passes)
+module _ (rows : Rows) (options : Options) (job : Job) (r r' s s' : Option (List ℕ)) (answer : Result Tally RunFault) where
+  -- a run over one bare input is the run of options that say so
+  pub runs_bare : options.bare ≡ true → job ≡ job_of rows options → IsBareRun job r r' s s' answer → IsRun (job_of rows options) r r' s s' answer
+  runs_bare is same ran =
+      subst (λ (b : Bool). IsRunFrom (start_of b) (job_of rows options) r r' s s' answer) (sym is) (subst (λ (j : Job). IsBareRun j r r' s s' answer) same ran)
 
-pub fails_bare : (bare : Bool) (job job' : Job) (r r' s s' : Option (List ℕ)) (fault : RunFault) → bare ≡ true → job ≡ job' → FailsBare job job.limit r r' s s' fault
-    → Fails bare job' job'.limit r r' s s' fault
-fails_bare bare job job' r r' s s' fault is same fails =
-    subst (λ (b : Bool). Fails b job' job'.limit r r' s s' fault) (sym is) (subst (λ (j : Job). FailsBare j j.limit r r' s s' fault) same fails)
+  -- so is one over a stream
+  pub runs_stream : options.bare ≡ false → job ≡ job_of rows options → IsStreamRun job r r' s s' answer → IsRun (job_of rows options) r r' s s' answer
+  runs_stream is same ran =
+      subst (λ (b : Bool). IsRunFrom (start_of b) (job_of rows options) r r' s s' answer) (sym is) (subst (λ (j : Job). IsStreamRun j r r' s s' answer) same ran)
 
--- so does one over a stream
-pub passes_stream : (bare : Bool) (job job' : Job) (r r' s s' : Option (List ℕ)) (good bad : ℕ) → bare ≡ false → job ≡ job' → PassesStream job job.limit r r' s s' good bad
-    → Passes bare job' job'.limit r r' s s' good bad
-passes_stream bare job job' r r' s s' good bad is same passes =
-    subst (λ (b : Bool). Passes b job' job'.limit r r' s s' good bad) (sym is) (subst (λ (j : Job). PassesStream j j.limit r r' s s' good bad) same passes)
-
-pub fails_stream : (bare : Bool) (job job' : Job) (r r' s s' : Option (List ℕ)) (fault : RunFault) → bare ≡ false → job ≡ job' → FailsStream job job.limit r r' s s' fault
-    → Fails bare job' job'.limit r r' s s' fault
-fails_stream bare job job' r r' s s' fault is same fails =
-    subst (λ (b : Bool). Fails b job' job'.limit r r' s s' fault) (sym is) (subst (λ (j : Job). FailsStream j j.limit r r' s s' fault) same fails)
+-- the exit of a `?`
+pub err_exit : {A E : Type 0} (answer : Result A E) (x : E) (P : Result A E → Type 0) → IsErrAnd answer (λ e. e ≡ x) → P (Err x) → P answer
+err_exit (Ok a) x P h p = absurd h
+err_exit (Err e) x P h p = subst (λ e. P (Err e)) (sym h) p

@@ -11,7 +11,8 @@ use Rattle.fb_bytes.specs.declared.stream_fault.StreamFault.TheVariants as strea
 use Rattle.fb_bytes.proofs.MessageLemmas.{readings_some}
 use Rattle.fbcheck.specs.Job.{Job}
 use Rattle.fbcheck.specs.Lines.{IsLines, AddsLine}
-use Rattle.fbcheck.specs.Stream.{Gathers, Halts, IsFeedFault, Onward, Rests, Standing, Tells, TellsSome, feed_fault}
+use Rattle.fbcheck.specs.Stream.{Gathers, Halts, IsFeedFault, Onward, Rests, Standing, Tells, TellsSome}
+use Rattle.fbcheck.specs.Faults.{feed_fault}
 use Rattle.fbcheck.specs.declared.fault.RunFault.{RunFault}
 use Rattle.fbcheck.specs.declared.fault.RunFault.TheVariants as run
 use Rattle.fbcheck.proofs.LinesLemmas.{lines_more}

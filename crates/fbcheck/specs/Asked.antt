@@ -1,6 +1,5 @@
--- What the settings ask of a run by a schema that has a root table of its own, or none.
-use Rattle.std.specs.Prelude.{◌≡◌, ℕ, ◌⊎◌, List, Option, Some, None, option_map, string_bytes}
-use Rattle.std.specs.Io.KnownBytes.{Keeps}
+-- What the settings ask, by a schema that has a root table of its own, or none.
+use Rattle.std.specs.Prelude.{◌≡◌, ℕ, ◌<◌, ◌≤◌, ◌^◌, List, Option, Some, None, Result, Ok, Err, option_map, string_bytes}
 use Rattle.fb_schema.specs.Rows.{Rows}
 use Rattle.fb_bfbs.specs.Describes.{table_named}
 use Rattle.fb_access.specs.declared.step.Step.{Step}
@@ -9,11 +8,10 @@ use Rattle.fb_access.specs.Resolving.{Resolves, IsFault}
 use Rattle.fb_verify.specs.declared.start.Ident.{Ident}
 use Rattle.fb_verify.specs.declared.start.Ident.TheVariants.{Any, Want}
 use Rattle.fbcheck.specs.Job.{Job, job_of}
-use Rattle.fbcheck.specs.Run.{Fails, Passes}
 use Rattle.fbcheck.specs.declared.choices.Settings.{Settings}
 use Rattle.fbcheck.specs.declared.options.Options.{Options}
 use Rattle.fbcheck.specs.declared.fault.RunFault.{RunFault}
-use Rattle.fbcheck.specs.declared.fault.RunFault.TheVariants.{Load, Path, NoRoot, OutOfMemory}
+use Rattle.fbcheck.specs.declared.fault.RunFault.TheVariants.{Path, NoRoot, OutOfMemory}
 
 -- the root table: the listed one of the name that is asked for, or else the schema's own
 abbrev pub root_of : Rows → Option (List ℕ) → Option ℕ → Option ℕ
@@ -61,38 +59,26 @@ pub record IsAsked (rows : Rows) (own : Option ℕ) (settings : Settings) (job :
   pub steps_are : IsPath rows root (option_map string_bytes settings.path) steps
   pub job_is : job ≡ job_of rows (options_of settings root steps)
 
--- what was read and written where such a run came to its end, with so many yes and no
-abbrev pub PassesAsked : Rows → Option ℕ → Settings → Option (List ℕ) → Option (List ℕ) → Option (List ℕ) → Option (List ℕ) → ℕ → ℕ → Type 0
-PassesAsked rows own settings source source' sink sink' good bad =
-    (job : Job) × IsAsked rows own settings job × Passes settings.bare job settings.max_bytes source source' sink sink' good bad
-
 -- the path that the settings ask for has this fault from the root
 abbrev pub HasPathFault : Rows → Option ℕ → Settings → PathFault → Type 0
 HasPathFault rows own settings fault =
     (root : ℕ) × (asked_root rows own settings ≡ Some root) × IsPathFault rows root (option_map string_bytes settings.path) fault
 
--- a run that was under way came to rest with this fault
-abbrev pub RunFails : Rows → Option ℕ → Settings → Option (List ℕ) → Option (List ℕ) → Option (List ℕ) → Option (List ℕ) → RunFault → Type 0
-RunFails rows own settings source source' sink sink' fault =
-    (job : Job) × IsAsked rows own settings job × Fails settings.bare job settings.max_bytes source source' sink sink' fault
-
--- why such a run came to rest: there is no root, the path isn't one from there, memory was refused before it began, or it was under way
-abbrev pub FailsAsked : Rows → Option ℕ → Settings → Option (List ℕ) → Option (List ℕ) → Option (List ℕ) → Option (List ℕ) → RunFault → Type 0
-FailsAsked rows own settings source source' sink sink' NoRoot = asked_root rows own settings ≡ None
-FailsAsked rows own settings source source' sink sink' (Load fault) = ⊥
-FailsAsked rows own settings source source' sink sink' (Path fault) = HasPathFault rows own settings fault
-FailsAsked rows own settings source source' sink sink' OutOfMemory = (Keeps source source' × Keeps sink sink') ⊎ RunFails rows own settings source source' sink sink' OutOfMemory
-FailsAsked rows own settings source source' sink sink' fault = RunFails rows own settings source source' sink sink' fault
-
--- there was nothing to check the buffers by
-abbrev pub IsRefusal : RunFault → Type 0
-IsRefusal (Load fault) = Unit {0}
-IsRefusal NoRoot = Unit {0}
-IsRefusal (Path fault) = Unit {0}
-IsRefusal _ = ⊥
+-- by these rows and this own root, the settings ask that the buffers are checked by a job, or have nothing to check them by
+abbrev pub AsksBy : Rows → Option ℕ → Settings → Result Job RunFault → Type 0
+AsksBy rows own settings (Ok job) = IsAsked rows own settings job
+AsksBy rows own settings (Err NoRoot) = asked_root rows own settings ≡ None
+AsksBy rows own settings (Err (Path fault)) = HasPathFault rows own settings fault
+AsksBy rows own settings (Err _) = ⊥
 
 -- why a text gives no path
 abbrev pub PathFails : Rows → ℕ → Option (List ℕ) → RunFault → Type 0
 PathFails rows root text (Path fault) = IsPathFault rows root text fault
 PathFails rows root text OutOfMemory = Unit {0}
 PathFails rows root text _ = ⊥
+
+-- the settings' numbers are in their ranges
+pub record AreInRange (settings : Settings) : Type 0 where
+  pub depth : settings.depth ≤ 4096
+  pub least : 8 ≤ settings.max_bytes
+  pub most : settings.max_bytes < 2 ^ 31

@@ -1,5 +1,5 @@
 -- A run by the schema of a file, or without one by the fixed table of schema files.
-use Rattle.std.specs.Prelude.{◌≡◌, ℕ, ◌⊎◌, List, Option, Some, None}
+use Rattle.std.specs.Prelude.{◌≡◌, ℕ, ◌⊎◌, List, Option, Some, None, Result, Ok, Err}
 use Rattle.std.specs.Borrow.{Bor}
 use Rattle.std.specs.Io.KnownBytes.{Keeps}
 use Rattle.fb_schema.specs.Rows.{Rows}
@@ -9,10 +9,13 @@ use Rattle.fb_bfbs.specs.Loads.{IsLoaded, IsLoadFault, schema_number}
 use Rattle.fb_bfbs.specs.declared.loading.Loaded.{Loaded}
 use Rattle.fb_bfbs.specs.declared.load_fault.LoadFault.{LoadFault}
 use Rattle.fb_bfbs.specs.declared.load_fault.LoadFault.TheVariants as load
-use Rattle.fbcheck.specs.Asked.{FailsAsked, PassesAsked}
+use Rattle.fbcheck.specs.Asked.{AsksBy}
+use Rattle.fbcheck.specs.Job.{Job}
+use Rattle.fbcheck.specs.Run.{IsRun}
 use Rattle.fbcheck.specs.declared.choices.Settings.{Settings}
 use Rattle.fbcheck.specs.declared.fault.RunFault.{RunFault}
-use Rattle.fbcheck.specs.declared.fault.RunFault.TheVariants.{Load, OutOfMemory}
+use Rattle.fbcheck.specs.declared.fault.RunFault.TheVariants.{Load, NoRoot, OutOfMemory, Path}
+use Rattle.fbcheck.specs.declared.output.Tally.{Tally}
 
 -- the limits by which schema files are verified: the published ones, with a budget of reads
 abbrev pub schema_limits : Bounds
@@ -29,24 +32,37 @@ IsNoSchema None fault = ⊥
 IsNoSchema (Some bytes) load.OutOfMemory = ⊥
 IsNoSchema (Some bytes) fault = IsLoadFault bytes.now schema_limits fault
 
--- a fault of a load, as a run tells it
-abbrev pub load_fault : LoadFault → RunFault
-load_fault load.OutOfMemory = OutOfMemory
-load_fault fault = Load fault
+-- a schema file, or none, and the settings ask that the buffers are checked by a job; or there is nothing to check them by, and why
+abbrev pub Asks : Option (Bor (List ℕ)) → Settings → Result Job RunFault → Type 0
+Asks file settings (Err (Load fault)) = IsNoSchema file fault
+Asks file settings answer = (rows : Rows) × (own : Option ℕ) × IsSchema file rows own × AsksBy rows own settings answer
 
--- what was read and written where a run by that schema came to its end, with so many yes and no
-abbrev pub PassesChecked : Option (Bor (List ℕ)) → Settings → Option (List ℕ) → Option (List ℕ) → Option (List ℕ) → Option (List ℕ) → ℕ → ℕ → Type 0
-PassesChecked file settings source source' sink sink' good bad =
-    (rows : Rows) × (own : Option ℕ) × IsSchema file rows own × PassesAsked rows own settings source source' sink sink' good bad
+-- why there is no schema, where memory may be refused
+abbrev pub LacksSchema : Option (Bor (List ℕ)) → RunFault → Type 0
+LacksSchema file (Load fault) = IsNoSchema file fault
+LacksSchema file OutOfMemory = Unit {0}
+LacksSchema file _ = ⊥
 
--- there is no schema: the file gives none, or memory was refused
-abbrev pub LacksSchema : Option (Bor (List ℕ)) → Option (List ℕ) → Option (List ℕ) → Option (List ℕ) → Option (List ℕ) → RunFault → Type 0
-LacksSchema file source source' sink sink' (Load fault) = IsNoSchema file fault
-LacksSchema file source source' sink sink' OutOfMemory = Keeps source source' × Keeps sink sink'
-LacksSchema file source source' sink sink' _ = ⊥
+-- why there is no job, where memory may be refused
+abbrev pub LacksJob : Option (Bor (List ℕ)) → Settings → RunFault → Type 0
+LacksJob file settings OutOfMemory = Unit {0}
+LacksJob file settings fault = Asks file settings (Err fault)
 
--- why such a run came to rest: there is no schema, or by the schema this happened
-abbrev pub FailsChecked : Option (Bor (List ℕ)) → Settings → Option (List ℕ) → Option (List ℕ) → Option (List ℕ) → Option (List ℕ) → RunFault → Type 0
-FailsChecked file settings source source' sink sink' fault =
-    LacksSchema file source source' sink sink' fault
-    ⊎ ((rows : Rows) × (own : Option ℕ) × IsSchema file rows own × FailsAsked rows own settings source source' sink sink' fault)
+-- there was nothing to check the buffers by
+abbrev pub IsRefusal : RunFault → Type 0
+IsRefusal (Load fault) = Unit {0}
+IsRefusal NoRoot = Unit {0}
+IsRefusal (Path fault) = Unit {0}
+IsRefusal _ = ⊥
+
+-- what was read and written by a run that was asked for and answered this
+abbrev pub RunsAsAsked : Option (Bor (List ℕ)) → Settings → Option (List ℕ) → Option (List ℕ) → Option (List ℕ) → Option (List ℕ) → Result Tally RunFault → Type 0
+RunsAsAsked file settings source source' sink sink' answer = (job : Job) × Asks file settings (Ok job) × IsRun job source source' sink sink' answer
+
+-- the same where it may be that nothing was asked for, or that memory was refused before the run began
+abbrev pub IsChecked : Option (Bor (List ℕ)) → Settings → Option (List ℕ) → Option (List ℕ) → Option (List ℕ) → Option (List ℕ) → Result Tally RunFault → Type 0
+IsChecked file settings source source' sink sink' (Err (Load fault)) = Asks file settings (Err (Load fault))
+IsChecked file settings source source' sink sink' (Err NoRoot) = Asks file settings (Err NoRoot)
+IsChecked file settings source source' sink sink' (Err (Path fault)) = Asks file settings (Err (Path fault))
+IsChecked file settings source source' sink sink' (Err OutOfMemory) = (Keeps source source' × Keeps sink sink') ⊎ RunsAsAsked file settings source source' sink sink' (Err OutOfMemory)
+IsChecked file settings source source' sink sink' answer = RunsAsAsked file settings source source' sink sink' answer

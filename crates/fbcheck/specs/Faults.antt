@@ -1,9 +1,29 @@
--- The causes of faults, and the exit status.
+-- What a fault of a part is told as, the causes of faults, and the exit status.
 use Rattle.std.specs.Prelude.{◌≡◌, ℕ, ◌<◌, ◌==◌, Bool, true, if◌then◌else◌, Result, Ok, Err}
+use Rattle.fb_access.specs.declared.path_fault.PathFault.{PathFault}
+use Rattle.fb_access.specs.declared.path_fault.PathFault.TheVariants as path
+use Rattle.fb_bfbs.specs.declared.load_fault.LoadFault.{LoadFault}
+use Rattle.fb_bfbs.specs.declared.load_fault.LoadFault.TheVariants as load
+use Rattle.fb_bytes.specs.declared.stream_fault.StreamFault.{StreamFault}
 use Rattle.fb_bytes.specs.declared.stream_fault.StreamFault.TheVariants as stream
 use Rattle.fbcheck.specs.declared.fault.RunFault.{RunFault}
 use Rattle.fbcheck.specs.declared.fault.RunFault.TheVariants.{ReadFault, WriteFault, Stream, TooManyTurns, OutOfMemory, BareTooLong, Load, Path, NoRoot}
 use Rattle.fbcheck.specs.declared.output.Tally.{Tally}
+
+-- a fault of the framer
+abbrev pub feed_fault : StreamFault → RunFault
+feed_fault stream.OutOfMemory = OutOfMemory
+feed_fault cause = Stream cause
+
+-- of a load
+abbrev pub load_fault : LoadFault → RunFault
+load_fault load.OutOfMemory = OutOfMemory
+load_fault cause = Load cause
+
+-- of a path
+abbrev pub path_fault : PathFault → RunFault
+path_fault path.OutOfMemory = OutOfMemory
+path_fault cause = Path cause
 
 -- the cause of a fault, by the counts: the reader's and the writer's failures before and after, the reads that were left, and whether
 -- the input's end was told
@@ -18,6 +38,11 @@ IsCaused failures failures' refusals refusals' left ended (BareTooLong most) = U
 IsCaused failures failures' refusals refusals' left ended (Load fault) = Unit {0}
 IsCaused failures failures' refusals refusals' left ended (Path fault) = Unit {0}
 IsCaused failures failures' refusals refusals' left ended NoRoot = Unit {0}
+
+-- how a run ended, by the same counts: after its end was told, where no read and no write has failed, or by the cause of its fault
+abbrev pub EndsBy : ℕ → ℕ → ℕ → ℕ → ℕ → Bool → Result Tally RunFault → Type 0
+EndsBy failures failures' refusals refusals' left ended (Ok tally) = (ended ≡ true) × (failures' ≡ failures) × (refusals' ≡ refusals)
+EndsBy failures failures' refusals refusals' left ended (Err fault) = IsCaused failures failures' refusals refusals' left ended fault
 
 -- the exit status after a fault: 2 where there was nothing to check by, else 3
 abbrev pub fault_status : RunFault → ℕ

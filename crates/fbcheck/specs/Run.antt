@@ -1,16 +1,28 @@
 -- A run, over a stream or over one bare input.
-use Rattle.std.specs.Prelude.{ℕ, Bool, true, false, List, Option}
+use Rattle.std.specs.Prelude.{ℕ, List, Option, Result, Ok, Err}
+use Rattle.fb_verify.specs.declared.start.Start.{Start}
+use Rattle.fb_verify.specs.declared.start.Start.TheVariants as start
 use Rattle.fbcheck.specs.Job.{Job}
 use Rattle.fbcheck.specs.Bare.{PassesBare, FailsBare}
 use Rattle.fbcheck.specs.Stream.{PassesStream, FailsStream}
 use Rattle.fbcheck.specs.declared.fault.RunFault.{RunFault}
+use Rattle.fbcheck.specs.declared.output.Tally.{Tally}
 
--- what was read and written where a run came to its end, with so many yes and no
-abbrev pub Passes : Bool → Job → ℕ → Option (List ℕ) → Option (List ℕ) → Option (List ℕ) → Option (List ℕ) → ℕ → ℕ → Type 0
-Passes true job limit source source' sink sink' good bad = PassesBare job limit source source' sink sink' good bad
-Passes false job limit source source' sink sink' good bad = PassesStream job limit source source' sink sink' good bad
+-- what was read and written by a run over one bare input that answered this
+abbrev pub IsBareRun : Job → Option (List ℕ) → Option (List ℕ) → Option (List ℕ) → Option (List ℕ) → Result Tally RunFault → Type 0
+IsBareRun job source source' sink sink' (Ok tally) = PassesBare job job.limit source source' sink sink' tally.yes tally.no
+IsBareRun job source source' sink sink' (Err fault) = FailsBare job job.limit source source' sink sink' fault
 
--- and where it came to rest with a fault
-abbrev pub Fails : Bool → Job → ℕ → Option (List ℕ) → Option (List ℕ) → Option (List ℕ) → Option (List ℕ) → RunFault → Type 0
-Fails true job limit source source' sink sink' fault = FailsBare job limit source source' sink sink' fault
-Fails false job limit source source' sink sink' fault = FailsStream job limit source source' sink sink' fault
+-- and by one over a stream
+abbrev pub IsStreamRun : Job → Option (List ℕ) → Option (List ℕ) → Option (List ℕ) → Option (List ℕ) → Result Tally RunFault → Type 0
+IsStreamRun job source source' sink sink' (Ok tally) = PassesStream job job.limit source source' sink sink' tally.yes tally.no
+IsStreamRun job source source' sink sink' (Err fault) = FailsStream job job.limit source source' sink sink' fault
+
+-- the input is one bare buffer, or a stream of buffers with their sizes
+abbrev pub IsRunFrom : Start → Job → Option (List ℕ) → Option (List ℕ) → Option (List ℕ) → Option (List ℕ) → Result Tally RunFault → Type 0
+IsRunFrom start.Bare = IsBareRun
+IsRunFrom start.Prefixed = IsStreamRun
+
+-- what was read and written by a run that answered this
+abbrev pub IsRun : Job → Option (List ℕ) → Option (List ℕ) → Option (List ℕ) → Option (List ℕ) → Result Tally RunFault → Type 0
+IsRun job = IsRunFrom job.start job

@@ -3,7 +3,6 @@ use Rattle.std.specs.Prelude.{◌≡◌, ℕ, ◌<◌, ◌≤◌, ◌^◌, false
 use Rattle.std.specs.Io.KnownBytes.{Consumes, Appends}
 use Rattle.fb_bytes.specs.Framing.{Framing}
 use Rattle.fb_bytes.specs.Messages.{declared, IsPartial, IsOversize, Splits}
-use Rattle.fb_bytes.specs.declared.stream_fault.StreamFault.{StreamFault}
 use Rattle.fb_bytes.specs.declared.stream_fault.StreamFault.TheVariants as stream
 use Rattle.fbcheck.specs.Job.{Job}
 use Rattle.fbcheck.specs.Lines.{IsLines, AreLines}
@@ -96,11 +95,6 @@ Halts job before piece text fault =
 abbrev pub Gathers : Job → Standing → List ℕ → List ℕ → Type 0
 Gathers job before piece text =
     (bytes written : List ℕ) → Tells job job.limit bytes (written ++ before.text) before.good before.bad before.held → TellsSome job job.limit (bytes ++ piece) (written ++ text)
-
--- a fault of the framer, as the run tells it
-abbrev pub feed_fault : StreamFault → RunFault
-feed_fault stream.OutOfMemory = OutOfMemory
-feed_fault fault = Stream fault
 
 -- what may end the feeding of a piece
 abbrev pub IsFeedFault : RunFault → Type 0

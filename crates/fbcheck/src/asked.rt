@@ -1,23 +1,48 @@
-//! A run by the settings of the command line, over a schema.
+//! What a schema file, or none, and the settings of the command line ask of a run.
 
-ghost use Rattle.std.specs.Prelude.{IfOk, IfErr, IfSome, OnOk, IsTrue, ◌≡◌, ◌+◌, ◌-◌, ◌<◌, ◌≤◌, ◌^◌, option_map, string_bytes, true};
+ghost use Rattle.std.specs.Prelude.{IfOk, IfErr, IfSome, IsTrue, Ok, ◌≡◌, ◌≤◌, option_map, string_bytes};
 ghost use Rattle.fb_schema.specs.Rows.{is_table};
 ghost use Rattle.fb_bfbs.specs.Describes.{table_named};
-ghost use Rattle.fbcheck.specs.Asked.{FailsAsked, IsPath, IsRefusal, PassesAsked, PathFails, ident_of, options_of, root_of};
-ghost use Rattle.fbcheck.specs.Faults.{IsCaused};
-ghost use Rattle.fbcheck.specs.Job.{PathFits};
+ghost use Rattle.fbcheck.specs.Asked.{AreInRange, IsPath, PathFails, ident_of, options_of, root_of};
+ghost use Rattle.fbcheck.specs.Checking.{Asks, IsSchema, LacksJob, LacksSchema, schema_limits};
+ghost use Rattle.fbcheck.specs.Job.{PathFits, Serves, job_of};
 
 use crate::choices::Settings;
 use crate::fault::RunFault;
 use crate::options::Options;
-use crate::output::Tally;
-use crate::reading::MOST_TURNS;
-use crate::run::run;
-use fb_access::{Path, PathFault};
-use fb_bytes::{Sink, Source};
+use fb_access::Path;
+use fb_bfbs::{Loaded, load, reflection};
 use fb_schema::Schema;
 use fb_verify::{Ident, Limits};
 use std::alloc::Global;
+
+/// The number of the table `reflection.Schema` in the fixed table (reflection.fbs).
+const SCHEMA: u32 = 9;
+
+/// The limits by which schema files are verified, whatever the settings say: the published ones with a budget of
+/// 1,000,000,000 reads.
+fn schema_limits() -> Limits
+    ensures { result ≡ schema_limits }
+{
+    Limits::published().with_reads(1_000_000_000)
+}
+
+/// The schema of a schema file with its root table; without a file the fixed table, with its table `Schema`.
+#[tactic(auto, using(crate::proofs::AskedLemmas::schema_is_table))]
+fn schema_of(alloc: Global, schema_bytes: Option<&[u8]>) -> Result<Loaded<'_>, RunFault>
+    ensures schema { IfOk result (λ loaded. IsSchema schema_bytes.entry loaded.schema loaded.root) }
+    ensures table { IfOk result (λ loaded. IfSome loaded.root (λ n. IsTrue (is_table loaded.schema n))) }
+    ensures no { IfErr result (LacksSchema schema_bytes.entry) }
+{
+    match schema_bytes {
+        Some(bytes) => Ok(load(alloc, bytes, schema_limits())?),
+        None => Ok(Loaded {
+            schema: reflection(alloc)?,
+            root: Some(SCHEMA),
+            ident: None,
+        }),
+    }
+}
 
 /// The number of the listed table of this name.
 #[tactic(auto, unfolding(fb_bfbs::specs::Describes::table_named))]
@@ -56,11 +81,7 @@ fn find_path(
     ensures fault { IfErr result (PathFails schema.now root (option_map string_bytes text.now)) }
 {
     match text {
-        Some(text) => match Path::resolve(alloc, schema, root, text.as_bytes()) {
-            Ok(path) => Ok(Some(path)),
-            Err(PathFault::OutOfMemory) => Err(RunFault::OutOfMemory),
-            Err(fault) => Err(RunFault::Path(fault)),
-        },
+        Some(text) => Ok(Some(Path::resolve(alloc, schema, root, text.as_bytes())?)),
         None => Ok(None),
     }
 }
@@ -77,7 +98,7 @@ fn wanted(ident: Option<[u8; 4]>) -> Ident
 
 /// What the settings ask of each buffer, from this root and with this path.
 fn options(settings: &Settings, root: u32, path: Option<Path>) -> Options
-    requires depth { settings.now.depth ≤ 4096 }
+    requires { AreInRange settings.now }
     ensures { result ≡ options_of settings.now root path }
 {
     let Ok(limits) = Limits::new(settings.depth, settings.tables) else {
@@ -95,47 +116,33 @@ fn options(settings: &Settings, root: u32, path: Option<Path>) -> Options
     }
 }
 
-/// Checks the buffers of an input by a schema, as the settings ask. The root is the table of the settings' name, or else the schema's own.
+/// What a run is asked: a schema, and how buffers are checked by it.
+#[derive(Drop)]
+pub struct Asked<'b> {
+    pub schema: Schema<'b>,
+    pub options: Options,
+}
+
+/// What a schema file, or none, and the settings ask. The root is the table of the settings' name, or else that of the
+/// schema file, or `reflection.Schema` without one.
 ///
 /// # Errors
 ///
-/// `NoRoot` where there is no such table, and then `Path` where the path isn't one from there; both before anything is
-/// read. Then as `run`.
-pub fn run_asked<S: Source, K: Sink>(
+/// `Load` where the schema file gives no schema, then `NoRoot` where there is no root table, and then `Path` where the
+/// path isn't one from there; `OutOfMemory` in place of any where memory was refused.
+pub fn asked_of<'b>(
     alloc: Global,
-    schema: &Schema<'_>,
-    own: Option<u32>,
+    schema_bytes: Option<&'b [u8]>,
     settings: &Settings,
-    reader: &mut S,
-    writer: &mut K,
-) -> Result<Tally, RunFault>
-    requires own { IfSome own (λ n. IsTrue (is_table schema.now n)) }
-    requires depth { settings.now.depth ≤ 4096 }
-    requires least { 8 ≤ settings.now.max_bytes }
-    requires most { settings.now.max_bytes < 2 ^ 31 }
-    requires reads { S.calls reader.old < 2 ^ 64 }
-    requires writes { K.calls writer.old < 2 ^ 64 }
-
-    ensures ok { IfOk result (λ tally. PassesAsked schema.now own settings.now
-        (S.remaining reader.old) (S.remaining reader.new) (K.contents writer.old) (K.contents writer.new)
-        tally.yes tally.no) }
-    ensures end { OnOk result (S.ended reader.new ≡ true) }
-
-    ensures fault { IfErr result (FailsAsked schema.now own settings.now
-        (S.remaining reader.old) (S.remaining reader.new) (K.contents writer.old) (K.contents writer.new)) }
-    ensures unread { IfErr result (λ fault. IsRefusal fault → reader.new ≡ reader.old) }
-    ensures unwritten { IfErr result (λ fault. IsRefusal fault → writer.new ≡ writer.old) }
-    ensures cause { IfErr result (λ fault. IsCaused (S.failures reader.old) (S.failures reader.new)
-        (K.failures writer.old) (K.failures writer.new)
-        (S.calls reader.old + MOST_TURNS - S.calls reader.new) (S.ended reader.new) fault) }
+) -> Result<Asked<'b>, RunFault>
+    requires { AreInRange settings.now }
+    ensures job { IfOk result (λ asked. Asks schema_bytes.entry settings.now (Ok (job_of asked.schema asked.options))) }
+    ensures serves { IfOk result (λ asked. Serves asked.schema asked.options) }
+    ensures none { IfErr result (LacksJob schema_bytes.entry settings.now) }
 {
-    let Some(root) = find_root(schema, &settings.root, own) else {
-        return Err(RunFault::NoRoot);
-    };
-    let path = match find_path(alloc, schema, root, &settings.path) {
-        Ok(path) => path,
-        Err(fault) => return Err(fault),
-    };
+    let Loaded { schema, root, .. } = schema_of(alloc, schema_bytes)?;
+    let root = find_root(&schema, &settings.root, root).ok_or(RunFault::NoRoot)?;
+    let path = find_path(alloc, &schema, root, &settings.path)?;
     let options = options(settings, root, path);
-    run(alloc, reader, writer, schema, &options)
+    Ok(Asked { schema, options })
 }

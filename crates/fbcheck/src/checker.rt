@@ -1,16 +1,15 @@
 //! The verifier, with what a run hands it for every buffer.
 
-ghost use Rattle.std.specs.Prelude.{◌≡◌, ◌<◌, ◌≤◌, ◌^◌, IsTrue, length, option_map};
-ghost use Rattle.fb_schema.specs.Rows.{is_table};
+ghost use Rattle.std.specs.Prelude.{IfOk, ◌≡◌, ◌<◌, ◌≤◌, ◌^◌, length, option_map};
 ghost use Rattle.fb_access.specs.Denotes.{shown};
-ghost use Rattle.fbcheck.specs.Job.{IsAnswer, IsVerdict, PathFits, job_of, verdict_of};
+ghost use Rattle.fbcheck.specs.Job.{IsAnswer, IsVerdict, PathFits, Serves, job_of, verdict_of};
 
 use crate::options::Options;
 use fb_access::{Answer, Path, get};
 use fb_bytes::Meter;
 use fb_schema::Schema;
-use fb_verify::{Checks, Fault, Report, Scratch, Start, Verified, verify};
-use std::alloc::Allocator;
+use fb_verify::{Checks, Fault, Report, Scratch, ScratchFault, Start, Verified, verify};
+use std::alloc::{AllocError, Allocator};
 use std::marker::Model;
 
 /// What is found in a buffer that is well formed.
@@ -43,10 +42,7 @@ impl<'s, 'n> Model for Checker<'s, 'n> {
 impl<'s, 'n> Checker<'s, 'n> {
     /// The checker by this schema and these options.
     pub fn new(schema: &'s Schema<'n>, options: &'s Options) -> Checker<'s, 'n>
-        requires table { IsTrue (is_table schema.now options.now.root) }
-        requires path { PathFits schema.now options.now.root options.now.path }
-        requires least { 8 ≤ options.now.max_bytes }
-        requires most { options.now.max_bytes < 2 ^ 31 }
+        requires { Serves schema.now options.now }
         ensures { result ≡ job_of schema.now options.now }
     {
         Checker { schema, options }
@@ -61,11 +57,15 @@ impl<'s, 'n> Checker<'s, 'n> {
         self.options.max_bytes
     }
 
-    /// How many tables may be open at once.
-    pub fn depth(&self) -> u32
-        ensures { result ≡ self.now.limits.depth }
+    /// Room for as many open tables as the limits allow.
+    pub fn scratch<A: Allocator>(&self, alloc: A) -> Result<Scratch<A>, AllocError>
+        ensures { IfOk result (λ scratch. self.now.limits.depth ≤ scratch) }
     {
-        self.options.limits.depth()
+        match Scratch::new(alloc, self.options.limits.depth()) {
+            Ok(scratch) => Ok(scratch),
+            Err(ScratchFault::OutOfMemory) => Err(AllocError),
+            Err(ScratchFault::LimitOutOfRange) => unreachable!(),
+        }
     }
 
     /// The verdict on one buffer, with the value at the end of the path.
@@ -92,7 +92,7 @@ impl<'s, 'n> Checker<'s, 'n> {
             alignment: options.alignment,
             inline_size: options.inline_size,
         };
-        let verified = match verify(
+        let verified = verify(
             meter,
             self.schema,
             options.root,
@@ -101,10 +101,7 @@ impl<'s, 'n> Checker<'s, 'n> {
             options.limits,
             checks,
             scratch,
-        ) {
-            Ok(verified) => verified,
-            Err(fault) => return Err(fault),
-        };
+        )?;
         let report = verified.report();
         let answer = answer_in(&verified, &options.path);
         Ok(Found { report, answer })

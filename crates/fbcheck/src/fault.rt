@@ -1,12 +1,14 @@
 //! Why a run comes to rest before its end, and the program's exit status.
 
 ghost use Rattle.std.specs.Prelude.{◌≡◌};
-ghost use Rattle.fbcheck.specs.Faults.{status_of};
+ghost use Rattle.fbcheck.specs.Faults.{feed_fault, load_fault, path_fault, status_of};
+ghost use Rattle.fbcheck.specs.declared.fault.RunFault.TheVariants.{OutOfMemory, WriteFault};
 
-use crate::output::Tally;
+use crate::output::{Tally, Unwritten};
 use fb_access::PathFault;
 use fb_bfbs::LoadFault;
 use fb_bytes::StreamFault;
+use std::alloc::AllocError;
 use thiserror::Error;
 
 /// Why a run came to rest before its end.
@@ -39,6 +41,57 @@ pub enum RunFault {
     /// The schema has no table of the root's name, or no root was given and the schema file has none.
     #[error("no root table")]
     NoRoot,
+}
+
+impl From<AllocError> for RunFault {
+    ghost from_gives = { λ _ fault. fault ≡ OutOfMemory };
+
+    fn from(_: AllocError) -> Self {
+        Self::OutOfMemory
+    }
+}
+
+impl From<Unwritten> for RunFault {
+    ghost from_gives = { λ cause fault. fault ≡ WriteFault cause.written };
+
+    fn from(cause: Unwritten) -> Self {
+        Self::WriteFault {
+            written: cause.written,
+        }
+    }
+}
+
+impl From<StreamFault> for RunFault {
+    ghost from_gives = { λ cause fault. fault ≡ feed_fault cause };
+
+    fn from(cause: StreamFault) -> Self {
+        match cause {
+            StreamFault::OutOfMemory => Self::OutOfMemory,
+            _ => Self::Stream(cause),
+        }
+    }
+}
+
+impl From<LoadFault> for RunFault {
+    ghost from_gives = { λ cause fault. fault ≡ load_fault cause };
+
+    fn from(cause: LoadFault) -> Self {
+        match cause {
+            LoadFault::OutOfMemory => Self::OutOfMemory,
+            _ => Self::Load(cause),
+        }
+    }
+}
+
+impl From<PathFault> for RunFault {
+    ghost from_gives = { λ cause fault. fault ≡ path_fault cause };
+
+    fn from(cause: PathFault) -> Self {
+        match cause {
+            PathFault::OutOfMemory => Self::OutOfMemory,
+            _ => Self::Path(cause),
+        }
+    }
 }
 
 /// The program's exit status: 0 where every buffer had a yes, 1 where one had a no, 2 where there was nothing to check them by, 3 after

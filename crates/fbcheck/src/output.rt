@@ -24,6 +24,12 @@ pub struct Tally {
     pub no: u64,
 }
 
+/// A write failed or took nothing: the writer took so many bytes in all.
+#[derive(Clone, Copy, Debug, PartialEq, Eq)]
+pub struct Unwritten {
+    pub written: u128,
+}
+
 /// What a run has told so far: the verdicts, the lines that wait to be written, and the bytes that were.
 #[derive(Drop)]
 pub struct Output<A: Allocator> {
@@ -122,26 +128,28 @@ impl<A: Allocator> Output<A> {
         whole
     }
 
-    /// Writes the lines that wait. On `Err` the writer has failed, and `written` says how many bytes it took in all.
-    pub fn flush<K: Sink>(&mut self, sink: &mut K) -> Result<(), u128>
+    /// Writes the lines that wait.
+    pub fn flush<K: Sink>(&mut self, sink: &mut K) -> Result<(), Unwritten>
         requires calls { K.calls sink.old < 2 ^ 99 }
         requires little { self.old.written < 2 ^ 100 }
         ensures ok { OnOk result (Appends (K.contents sink.old) (K.contents sink.new) self.old.text.items) }
         ensures empty { OnOk result (self.new.text.items ≡ []) }
         ensures written { OnOk result (self.new.written ≡ self.old.written + length self.old.text.items) }
-        ensures err { IfErr result (λ written. WritesFront self.old.text.items (K.contents sink.old) (K.contents sink.new)
-            self.old.written written) }
+        ensures err { IfErr result (λ cause. WritesFront self.old.text.items (K.contents sink.old) (K.contents sink.new)
+            self.old.written cause.written) }
         ensures failed { OnErr result (K.failures sink.old < K.failures sink.new) }
+        ensures unfailed { OnOk result (K.failures sink.new ≡ K.failures sink.old) }
         ensures yes { self.new.yes ≡ self.old.yes }
         ensures no { self.new.no ≡ self.old.no }
         ensures little { self.new.written ≤ self.old.written + 2 ^ 64 }
         ensures calls { K.calls sink.new ≤ K.calls sink.old + 2 ^ 64 }
-        ensures failures { K.failures sink.old ≤ K.failures sink.new }
     {
         let taken = push_all(sink, self.text.as_slice());
         self.written += taken as u128;
         if taken < self.text.len() {
-            return Err(self.written);
+            return Err(Unwritten {
+                written: self.written,
+            });
         }
         self.text.clear();
         Ok(())

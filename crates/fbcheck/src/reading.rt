@@ -58,6 +58,7 @@ pub fn read_whole<A: Allocator, B: Allocator, S: Source>(
     ensures ok { IfOk result (λ whole. Consumes (S.remaining source.old) (S.remaining source.new) whole.items) }
     ensures within { IfOk result (λ whole. length whole.items ≤ limit) }
     ensures end { OnOk result (S.ended source.new ≡ true) }
+    ensures unfailed { OnOk result (S.failures source.new ≡ S.failures source.old) }
     ensures fault { IfErr result (λ fault. (job : Job) (sink : Option (List ℕ))
         → FailsBare job limit (S.remaining source.old) (S.remaining source.new) sink sink fault) }
     ensures cause { IfErr result (λ fault. (refusals : ℕ) → IsCaused (S.failures source.old) (S.failures source.new)

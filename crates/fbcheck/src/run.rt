@@ -1,10 +1,9 @@
 //! A run over an input, by a schema.
 
-ghost use Rattle.std.specs.Prelude.{IfOk, IfErr, OnOk, IsTrue, ◌≡◌, ◌+◌, ◌-◌, ◌<◌, ◌≤◌, ◌^◌, true};
-ghost use Rattle.fb_schema.specs.Rows.{is_table};
-ghost use Rattle.fbcheck.specs.Faults.{IsCaused};
-ghost use Rattle.fbcheck.specs.Job.{PathFits, job_of};
-ghost use Rattle.fbcheck.specs.Run.{Fails, Passes};
+ghost use Rattle.std.specs.Prelude.{◌+◌, ◌-◌, ◌<◌, ◌≤◌, ◌^◌};
+ghost use Rattle.fbcheck.specs.Faults.{EndsBy};
+ghost use Rattle.fbcheck.specs.Job.{Serves, job_of};
+ghost use Rattle.fbcheck.specs.Run.{IsRun};
 
 use crate::bare::run_bare;
 use crate::checker::Checker;
@@ -39,24 +38,15 @@ pub fn run_within<A: Allocator, S: Source, K: Sink>(
     options: &Options,
     turns: u64,
 ) -> Result<Tally, RunFault>
-    requires table { IsTrue (is_table schema.now options.now.root) }
-    requires path { PathFits schema.now options.now.root options.now.path }
-    requires least { 8 ≤ options.now.max_bytes }
-    requires most { options.now.max_bytes < 2 ^ 31 }
+    requires serves { Serves schema.now options.now }
     requires turns { turns ≤ MOST_TURNS }
     requires reads { S.calls reader.old < 2 ^ 64 }
     requires writes { K.calls writer.old < 2 ^ 64 }
 
-    ensures ok { IfOk result (λ tally. Passes options.now.bare (job_of schema.now options.now) options.now.max_bytes
-        (S.remaining reader.old) (S.remaining reader.new) (K.contents writer.old) (K.contents writer.new)
-        tally.yes tally.no) }
-    ensures end { OnOk result (S.ended reader.new ≡ true) }
-
-    ensures fault { IfErr result (λ fault. Fails options.now.bare (job_of schema.now options.now) options.now.max_bytes
-        (S.remaining reader.old) (S.remaining reader.new) (K.contents writer.old) (K.contents writer.new) fault) }
-    ensures cause { IfErr result (λ fault. IsCaused (S.failures reader.old) (S.failures reader.new)
-        (K.failures writer.old) (K.failures writer.new)
-        (S.calls reader.old + turns - S.calls reader.new) (S.ended reader.new) fault) }
+    ensures run { IsRun (job_of schema.now options.now)
+        (S.remaining reader.old) (S.remaining reader.new) (K.contents writer.old) (K.contents writer.new) result }
+    ensures end { EndsBy (S.failures reader.old) (S.failures reader.new) (K.failures writer.old) (K.failures writer.new)
+        (S.calls reader.old + turns - S.calls reader.new) (S.ended reader.new) result }
     ensures turns { S.calls reader.new ≤ S.calls reader.old + turns }
 {
     let checker = Checker::new(schema, options);
@@ -75,23 +65,14 @@ pub fn run<A: Allocator, S: Source, K: Sink>(
     schema: &Schema<'_>,
     options: &Options,
 ) -> Result<Tally, RunFault>
-    requires table { IsTrue (is_table schema.now options.now.root) }
-    requires path { PathFits schema.now options.now.root options.now.path }
-    requires least { 8 ≤ options.now.max_bytes }
-    requires most { options.now.max_bytes < 2 ^ 31 }
+    requires serves { Serves schema.now options.now }
     requires reads { S.calls reader.old < 2 ^ 64 }
     requires writes { K.calls writer.old < 2 ^ 64 }
 
-    ensures ok { IfOk result (λ tally. Passes options.now.bare (job_of schema.now options.now) options.now.max_bytes
-        (S.remaining reader.old) (S.remaining reader.new) (K.contents writer.old) (K.contents writer.new)
-        tally.yes tally.no) }
-    ensures end { OnOk result (S.ended reader.new ≡ true) }
-
-    ensures fault { IfErr result (λ fault. Fails options.now.bare (job_of schema.now options.now) options.now.max_bytes
-        (S.remaining reader.old) (S.remaining reader.new) (K.contents writer.old) (K.contents writer.new) fault) }
-    ensures cause { IfErr result (λ fault. IsCaused (S.failures reader.old) (S.failures reader.new)
-        (K.failures writer.old) (K.failures writer.new)
-        (S.calls reader.old + MOST_TURNS - S.calls reader.new) (S.ended reader.new) fault) }
+    ensures run { IsRun (job_of schema.now options.now)
+        (S.remaining reader.old) (S.remaining reader.new) (K.contents writer.old) (K.contents writer.new) result }
+    ensures end { EndsBy (S.failures reader.old) (S.failures reader.new) (K.failures writer.old) (K.failures writer.new)
+        (S.calls reader.old + MOST_TURNS - S.calls reader.new) (S.ended reader.new) result }
     ensures turns { S.calls reader.new ≤ S.calls reader.old + MOST_TURNS }
 {
     run_within(alloc, reader, writer, schema, options, MOST_TURNS)

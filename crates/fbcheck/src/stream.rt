@@ -1,27 +1,18 @@
 //! A run over a stream of size-prefixed buffers.
 
-ghost use Rattle.std.specs.Prelude.{IfOk, IfErr, OnOk, ◌≡◌, ◌+◌, ◌-◌, ◌<◌, ◌≤◌, ◌^◌, [], true, length, take};
-ghost use Rattle.fbcheck.specs.Faults.{IsCaused};
-ghost use Rattle.fbcheck.specs.Stream.{FailsStream, Gathers, Halts, IsFeedFault, IsReady, Onward, PassesStream, feed_fault, standing};
+ghost use Rattle.std.specs.Prelude.{IfOk, IfErr, OnOk, ◌≡◌, ◌+◌, ◌-◌, ◌<◌, ◌≤◌, ◌^◌, [], length, take};
+ghost use Rattle.fbcheck.specs.Faults.{EndsBy};
+ghost use Rattle.fbcheck.specs.Run.{IsStreamRun};
+ghost use Rattle.fbcheck.specs.Stream.{Gathers, Halts, IsFeedFault, IsReady, Onward, standing};
 
 use crate::checker::Checker;
 use crate::fault::RunFault;
 use crate::front::front_message;
 use crate::output::{Output, Tally};
 use crate::reading::{MOST_TURNS, PIECE, pull_piece, read_buffer};
-use fb_bytes::{Framer, Sink, Source, StreamFault};
-use fb_verify::{Scratch, ScratchFault};
-use std::alloc::Allocator;
-
-/// A fault of the framer, as the run tells it.
-fn fault_of(fault: StreamFault) -> RunFault
-    ensures { result ≡ feed_fault fault }
-{
-    match fault {
-        StreamFault::OutOfMemory => RunFault::OutOfMemory,
-        fault => RunFault::Stream(fault),
-    }
-}
+use fb_bytes::{Framer, Sink, Source};
+use fb_verify::Scratch;
+use std::alloc::{AllocError, Allocator};
 
 /// What a run over a stream carries from piece to piece.
 #[derive(Drop)]
@@ -33,12 +24,12 @@ struct Carried<A: Allocator> {
 
 impl<'a, A: Allocator> Carried<&'a A> {
     /// What is carried at first: nothing is told, and nothing is held.
-    fn new(alloc: &'a A, checker: &Checker<'_, '_>) -> Result<Self, ScratchFault>
+    fn new(alloc: &'a A, checker: &Checker<'_, '_>) -> Result<Self, AllocError>
         ensures ready { IfOk result (λ carried. IsReady checker.now carried.framer carried.scratch) }
         ensures empty { IfOk result (λ carried. standing carried ≡ record { text = []; good = 0; bad = 0; held = [] }) }
         ensures written { IfOk result (λ carried. carried.output.written ≡ 0) }
     {
-        let scratch = Scratch::new(alloc, checker.depth())?;
+        let scratch = checker.scratch(alloc)?;
         let Ok(framer) = Framer::new(alloc, checker.limit()) else {
             unreachable!()
         };
@@ -71,10 +62,8 @@ impl<A: Allocator> Carried<A> {
     {
         let mut rest = piece;
         while !rest.is_empty() {
-            match self.pass_some(checker, rest) {
-                Ok(used) => rest = &rest[used..],
-                Err(fault) => return Err(fault),
-            }
+            let used = self.pass_some(checker, rest)?;
+            rest = &rest[used..];
         }
         Ok(())
     }
@@ -101,9 +90,7 @@ impl<A: Allocator> Carried<A> {
     {
         if self.framer.held() == 0 {
             if let Some(message) = front_message(rest, checker.limit()) {
-                let Ok(()) = self.output.add_line(checker, &mut self.scratch, message) else {
-                    return Err(RunFault::OutOfMemory);
-                };
+                self.output.add_line(checker, &mut self.scratch, message)?;
                 return Ok(message.len());
             }
         }
@@ -129,16 +116,11 @@ impl<A: Allocator> Carried<A> {
 
         ensures written { self.new.output.written ≡ self.old.output.written }
     {
-        let taken = match self.framer.feed(rest) {
-            Ok(taken) => taken,
-            Err(fault) => return Err(fault_of(fault)),
-        };
+        let taken = self.framer.feed(rest)?;
         let Some(message) = self.framer.message() else {
             return Ok(taken.used);
         };
-        let Ok(()) = self.output.add_line(checker, &mut self.scratch, message) else {
-            return Err(RunFault::OutOfMemory);
-        };
+        self.output.add_line(checker, &mut self.scratch, message)?;
         self.framer.next();
         Ok(taken.used)
     }
@@ -160,45 +142,29 @@ pub fn run_stream<A: Allocator, S: Source, K: Sink>(
     requires turns { turns ≤ MOST_TURNS }
     requires reads { S.calls reader.old < 2 ^ 64 }
     requires writes { K.calls writer.old < 2 ^ 64 }
-    ensures ok { IfOk result (λ tally. PassesStream checker.now checker.now.limit (S.remaining reader.old) (S.remaining reader.new)
-        (K.contents writer.old) (K.contents writer.new) tally.yes tally.no) }
-    ensures end { OnOk result (S.ended reader.new ≡ true) }
-    ensures fault { IfErr result (λ fault. FailsStream checker.now checker.now.limit (S.remaining reader.old) (S.remaining reader.new)
-        (K.contents writer.old) (K.contents writer.new) fault) }
-    ensures cause { IfErr result (λ fault. IsCaused (S.failures reader.old) (S.failures reader.new)
-        (K.failures writer.old) (K.failures writer.new)
-        (S.calls reader.old + turns - S.calls reader.new) (S.ended reader.new) fault) }
+    ensures run { IsStreamRun checker.now
+        (S.remaining reader.old) (S.remaining reader.new) (K.contents writer.old) (K.contents writer.new) result }
+    ensures end { EndsBy (S.failures reader.old) (S.failures reader.new) (K.failures writer.old) (K.failures writer.new)
+        (S.calls reader.old + turns - S.calls reader.new) (S.ended reader.new) result }
     ensures turns { S.calls reader.new ≤ S.calls reader.old + turns }
 {
-    let Ok(mut piece) = read_buffer(&alloc) else {
-        return Err(RunFault::OutOfMemory);
-    };
-    let Ok(mut carried) = Carried::new(&alloc, checker) else {
-        return Err(RunFault::OutOfMemory);
-    };
+    let mut piece = read_buffer(&alloc)?;
+    let mut carried = Carried::new(&alloc, checker)?;
     let mut left = turns;
     while left > 0 {
         left -= 1;
         let read = match pull_piece(reader, &mut piece) {
             Ok(0) => {
-                return match carried.framer.finish() {
-                    Ok(()) => Ok(carried.output.tally()),
-                    Err(fault) => Err(fault_of(fault)),
-                };
+                carried.framer.finish()?;
+                return Ok(carried.output.tally());
             }
             Ok(read) => read,
             Err(_) => return Err(RunFault::ReadFault),
         };
         let piece = &piece.as_slice()[..read];
         let used = carried.use_up(checker, piece);
-        match carried.output.flush(writer) {
-            Ok(()) => {}
-            Err(written) => return Err(RunFault::WriteFault { written }),
-        }
-        match used {
-            Ok(()) => {}
-            Err(fault) => return Err(fault),
-        }
+        carried.output.flush(writer)?;
+        used?;
     }
     Err(RunFault::TooManyTurns)
 }

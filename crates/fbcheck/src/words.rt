@@ -1,6 +1,7 @@
 ghost use Rattle.std.specs.Prelude.{IfOk, IfErr, IfSome, OnOk, OnErr, ℕ, ◌≢◌, length, option_map, IsTrue, ◌≡◌, ◌≤◌, ◌↔◌, List, map, string_bytes, [], Some, codes, false};
 ghost use Rattle.clap.specs.Faults.{fault_of};
 ghost use Rattle.clap.specs.Words.{first_value, found_of, one_text};
+ghost use Rattle.fbcheck.specs.Asked.{AreInRange};
 ghost use Rattle.fbcheck.specs.CommandLine.{program};
 ghost use Rattle.fbcheck.specs.Values.{IsNumberOf, IsGiven, HoldsNumber, HoldsWideNumber, IsWrittenIn, text_of};
 ghost use Rattle.fbcheck.specs.Refusal.{Refuses};
@@ -31,6 +32,8 @@ pub fn settings(alloc: Global, words: &[String]) -> Result<Settings, SettingsFau
     ensures tables { IfOk result (λ s. IsNumberOf (codes "max-tables") 0 4294967295 (map string_bytes words.now) s.tables) }
     ensures reads { IfOk result (λ s. IsNumberOf (codes "max-reads") 0 18446744073709551615 (map string_bytes words.now) s.reads) }
     ensures bytes { IfOk result (λ s. IsNumberOf (codes "max-bytes") 8 2147483647 (map string_bytes words.now) s.max_bytes) }
+
+    ensures ranges { IfOk result AreInRange }
 
     ensures bare { IfOk result (λ s. IsTrue s.bare ↔ IsGiven (codes "bare") (map string_bytes words.now)) }
     ensures alignment { IfOk result (λ s. (s.alignment ≡ false) ↔ IsGiven (codes "no-alignment") (map string_bytes words.now)) }

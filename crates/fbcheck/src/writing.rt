@@ -1,6 +1,6 @@
 //! Writing a text to a sink that may take it in parts.
 
-ghost use Rattle.std.specs.Prelude.{◌+◌, ◌<◌, ◌≤◌, ◌^◌, length, take};
+ghost use Rattle.std.specs.Prelude.{◌≡◌, ◌+◌, ◌<◌, ◌≤◌, ◌^◌, length, take};
 ghost use Rattle.std.specs.Io.KnownBytes.{Appends};
 
 use fb_bytes::Sink;
@@ -12,7 +12,7 @@ pub fn push_all<K: Sink>(sink: &mut K, text: &[u8]) -> usize
     ensures within { result ≤ length text.now }
     ensures bytes { Appends (K.contents sink.old) (K.contents sink.new) (take result text.now) }
     ensures failed { result < length text.now → K.failures sink.old < K.failures sink.new }
-    ensures failures { K.failures sink.old ≤ K.failures sink.new }
+    ensures unfailed { result ≡ length text.now → K.failures sink.new ≡ K.failures sink.old }
     ensures calls { K.calls sink.new ≤ K.calls sink.old + length text.now }
 {
     let mut rest = text;

@@ -16,7 +16,7 @@ invariant-loop-left g l = record {
   little : l.carried.output.written + 2 ^ 64 * l.left ≤ 2 ^ 64 * l.initial.left;
   pushes : g.K.Sink.calls l.writer + 2 ^ 64 * l.left ≤ g.K.Sink.calls l.initial.writer + 2 ^ 64 * l.initial.left;
   failures : g.S.Source.failures l.reader ≡ g.S.Source.failures l.initial.reader;
-  refusals : g.K.Sink.failures l.initial.writer ≤ g.K.Sink.failures l.writer;
+  refusals : g.K.Sink.failures l.writer ≡ g.K.Sink.failures l.initial.writer;
 }
 
 abbrev pub decreases-loop-left : goal.decreases-loop-left

@@ -1,5 +1,7 @@
 use Rattle.std.proofs.Common.{rules}
 use Rattle.std.proofs.lemmas.List.{take_rest}
+use Rattle.fb_verify.proofs.Frames.{if_err_exit}
+use Rattle.fbcheck.specs.Stream.{Halts, standing}
 use Rattle.fbcheck.proofs.StreamLemmas.{gathers_halts, gathers_onward, halts_after, onward_all, passed_more, passed_none}
 use Rattle.fbcheck.proofs.stream.Carried.use_up.Goals as goal
 
@@ -9,20 +11,22 @@ loop-rest-init g c = record { ready = c.requires.ready; passed = passed_none _ _
 pub loop-rest-preserved : goal.loop-rest-preserved
 loop-rest-preserved g c =
     let before = c.loop-rest.invariant in
-    let some = c.in-Ok.ensures in
+    let some = c.in_ok-used.ensures in
     record {
       ready = some.ready;
-      passed = passed_more _ _ _ _ c.in-Ok.used _ c.loop-rest.rest.now _ (take_rest c.loop-rest.rest.now c.in-Ok.used) before.passed some.onward;
+      passed = passed_more _ _ _ _ c.in_ok-used.used _ c.loop-rest.rest.now _ (take_rest c.loop-rest.rest.now c.in_ok-used.used) before.passed some.onward;
       few = search rules;
       written = search rules;
     }
 
-pub returns-in-Err-clause-halts : goal.returns-in-Err-clause-halts
-returns-in-Err-clause-halts g c = halts_after _ _ _ _ c.loop-rest.rest.now _ c.in-Err.fault c.loop-rest.invariant.passed c.in-Err.ensures.halts
+pub returns-in_err-used-clause-halts : goal.returns-in_err-used-clause-halts
+returns-in_err-used-clause-halts g c =
+    if_err_exit c.from_residual.result _ (Halts _ (standing c.args.self.now) _ _) c.from_residual.ensures.1
+    (halts_after _ _ _ _ c.loop-rest.rest.now _ _ c.loop-rest.invariant.passed c.in_err-used.ensures.halts)
 
-pub returns-in-Err-clause-gathers : goal.returns-in-Err-clause-gathers
-returns-in-Err-clause-gathers g c =
-    gathers_halts _ _ _ _ c.in-Err.fault c.in-Err.ensures.kind (halts_after _ _ _ _ c.loop-rest.rest.now _ c.in-Err.fault c.loop-rest.invariant.passed c.in-Err.ensures.halts)
+pub returns-in_err-used-clause-gathers : goal.returns-in_err-used-clause-gathers
+returns-in_err-used-clause-gathers g c =
+    gathers_halts _ _ _ _ c.in_err-used.field-0.0 c.in_err-used.ensures.kind (halts_after _ _ _ _ c.loop-rest.rest.now _ _ c.loop-rest.invariant.passed c.in_err-used.ensures.halts)
 
 pub returns-clause-onward : goal.returns-clause-onward
 returns-clause-onward g c = onward_all _ _ _ _ c.loop-rest.rest.now (search rules) c.loop-rest.invariant.passed
