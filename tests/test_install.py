@@ -1,4 +1,5 @@
-"""What ./install puts in place: the program, its manual page and its completions, which all know the same options."""
+"""What ./install puts in place: the program, its manual page and its completions, which all know the same options, and
+the library for C."""
 
 import os
 import re
@@ -13,13 +14,18 @@ PLACES = {
     "share/man/man1/fbcheck.1": 0o644,
     "share/bash-completion/completions/fbcheck": 0o644,
     "share/zsh/site-functions/_fbcheck": 0o644,
+    "include/fbcheck.h": 0o644,
+    "lib/libfbcheck.a": 0o644,
+    "lib/libfbcheck.so.1": 0o755,
+    "lib/libfbcheck.so": 0o755,
+    "lib/pkgconfig/fbcheck.pc": 0o644,
 }
 PAGE = (TOP / "docs/fbcheck.1").read_text()
 
 
 def installed(*words, **environment):
-    """How ./install ends, with what it wrote. The launcher finds the program built."""
-    ran = subprocess.run([TOP / "install", *words], capture_output=True, text=True, timeout=60,
+    """How ./install ends, with what it wrote. It finds the program and the library built."""
+    ran = subprocess.run([TOP / "install", *words], capture_output=True, text=True, timeout=600,
                          env={"PATH": os.environ["PATH"], **environment})
     return ran.returncode, ran.stdout.splitlines(), ran.stderr
 
@@ -54,6 +60,25 @@ def what_is_put(cases):
     program = outside.FOLDER / "local/bin/fbcheck"
     ran = subprocess.run([program, "--help"], capture_output=True, timeout=60)
     cases.same("the program runs where it was put", (ran.returncode, ran.stdout), (0, outside.run("--help").out))
+    a_program_in_c(cases, outside.FOLDER / "local")
+    page = (outside.FOLDER / "pkg/usr/lib/pkgconfig/fbcheck.pc").read_text()
+    cases.holds("a package's file for pkg-config knows nothing of DESTDIR", "libdir=/usr/lib\n" in page, page)
+
+
+def a_program_in_c(cases, top):
+    """The example in C is built by what was put there."""
+    if not shutil.which("pkg-config"):
+        return
+    paths = {"PATH": os.environ["PATH"], "PKG_CONFIG_PATH": f"{top}/lib/pkgconfig"}
+    told = subprocess.run(["pkg-config", "--cflags", "--libs", "fbcheck"], capture_output=True, text=True, env=paths)
+    cases.same("pkg-config knows it", (told.returncode, told.stdout.split()),
+               (0, [f"-I{top}/include", f"-L{top}/lib", "-lfbcheck"]))
+    made = outside.FOLDER / "check"
+    ran = subprocess.run(["cc", TOP / "examples/c/check.c", *told.stdout.split(), "-o", made], capture_output=True)
+    cases.same("a program is built by it", (ran.returncode, ran.stderr), (0, b""))
+    ran = subprocess.run([made, TOP / "examples/deliveries.bfbs", TOP / "README.md"], capture_output=True,
+                         env={"LD_LIBRARY_PATH": f"{top}/lib"})
+    cases.holds("and runs", ran.returncode == 1 and ran.stdout.startswith(b"bad V2 "), ran)
 
 
 def what_is_refused(cases):

@@ -1,0 +1,7 @@
+-- What public contracts say, in reading order.
+pub mod Asked
+pub mod Told
+pub mod Answered
+pub mod AnswerLaws
+-- What a handle owns.
+pub mod Held

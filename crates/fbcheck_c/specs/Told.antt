@@ -1,0 +1,84 @@
+-- How an answer is told in numbers.
+use Rattle.std.specs.Prelude.{ℕ, min, Option, Some, None}
+use Rattle.fb_schema.specs.declared.fault.Code.{Code}
+use Rattle.fb_schema.specs.declared.fault.Code.TheVariants.{NoSuchObject, NoSuchEnum, Unsupported, BadSlot, NoTypeField, BadStruct, BadMember, NameTwice, OutOfMemory as NoMemory}
+use Rattle.fb_verify.specs.declared.fault.Fault.{Fault}
+use Rattle.fb_verify.specs.declared.fault.Reason.{Reason}
+use Rattle.fb_verify.specs.declared.fault.Reason.TheVariants.{WrongPrefix, OutOfBuffer, Misaligned, ZeroOffset, WrongIdentifier, TooDeep, TooManyTables, BadVtable, MissingRequired, NoTerminator, LengthsDiffer, PastTable, TooManyReads}
+use Rattle.fb_bfbs.specs.declared.load_fault.LoadFault.{LoadFault}
+use Rattle.fb_bfbs.specs.declared.load_fault.LoadFault.TheVariants as load
+use Rattle.fbcheck_c.specs.declared.answer.Answer.{Answer}
+use Rattle.fbcheck_c.specs.declared.answer.Answer.TheVariants.{Done, Good, Bad, UnknownOptions, OutOfRange, Empty, NoRoot, TooLong, NoSchema}
+use Rattle.fbcheck_c.specs.declared.answer.Verdict.{Verdict}
+
+-- a reason's number is that of its code
+abbrev pub reason_number : Reason → ℕ
+reason_number WrongPrefix = 1
+reason_number OutOfBuffer = 2
+reason_number Misaligned = 3
+reason_number ZeroOffset = 4
+reason_number WrongIdentifier = 5
+reason_number TooDeep = 6
+reason_number TooManyTables = 7
+reason_number BadVtable = 8
+reason_number MissingRequired = 9
+reason_number NoTerminator = 10
+reason_number LengthsDiffer = 11
+reason_number PastTable = 12
+reason_number TooManyReads = 13
+
+-- and so is that of what is wrong with rows
+abbrev pub code_number : Code → ℕ
+code_number NoSuchObject = 1
+code_number NoSuchEnum = 2
+code_number Unsupported = 3
+code_number BadSlot = 4
+code_number NoTypeField = 5
+code_number BadStruct = 6
+code_number BadMember = 7
+code_number NameTwice = 8
+code_number NoMemory = 9
+
+-- the number of no field, and of no part
+abbrev pub none_number : ℕ
+none_number = 4294967295
+
+abbrev pub field_number : Option ℕ → ℕ
+field_number (Some n) = n
+field_number None = none_number
+
+abbrev pub part_number : Option ℕ → ℕ
+part_number (Some n) = n
+part_number None = none_number
+
+-- so many reads, or the greatest number that there is room for
+abbrev pub low : ℕ → ℕ
+low reads = min reads 18446744073709551615
+
+-- a number, with nothing more to tell
+abbrev pub blank : ℕ → Verdict
+blank status = record { status = status; reason = 0; object = 0; field = none_number; tables = 0; depth = 0; at = 0; reads = 0 }
+
+-- a fault of the verifier
+abbrev pub fault_told : ℕ → Fault → Verdict
+fault_told status f = record (blank status) { reason = reason_number f.reason; object = f.object; field = field_number f.field; at = f.at; reads = low f.reads }
+
+-- why a schema file gives no schema
+abbrev pub load_told : LoadFault → Verdict
+load_told load.TooLong = blank 7
+load_told (load.NotWellFormed f) = fault_told 8 f
+load_told (load.BadSchema f) = record (blank 9) { reason = code_number f.code; object = f.owner; field = part_number f.part }
+load_told load.RootNotListed = blank 10
+load_told load.OutOfMemory = blank 11
+
+-- an answer in numbers
+abbrev pub told : Answer → Verdict
+told Done = blank 0
+told (Good r) = record (blank 0) { tables = r.tables; depth = r.depth; reads = low r.reads }
+told (Bad f) = fault_told 1 f
+told UnknownOptions = blank 3
+told OutOfRange = blank 4
+told Empty = blank 5
+told NoRoot = blank 6
+told TooLong = blank 7
+told (NoSchema fault) = load_told fault

@@ -1,0 +1,14 @@
+//! What follows from the definitions of answers alone. These functions have no body: their contracts are the theorems.
+
+ghost use Rattle.fbcheck_c.specs.AnswerLaws.{BadGetsNo, GoodGetsYes};
+
+/// Where the session and the options can serve a buffer, and some tree of it is well formed and within the limits, the
+/// answer is 0.
+pub fn a_good_buffer_gets_a_yes()
+    ensures { GoodGetsYes }
+{}
+
+/// Where they can, and none is, the answer is 1.
+pub fn a_bad_buffer_gets_a_no()
+    ensures { BadGetsNo }
+{}

@@ -1,0 +1,139 @@
+//! A loaded schema, by which buffers are checked.
+
+ghost use Rattle.std.specs.Prelude.{◌≡◌, IfOk, IfSome, IsTrue, MatchResult};
+ghost use Rattle.fb_bfbs.specs.Describes.{table_named};
+ghost use Rattle.fb_schema.specs.Rows.{is_table};
+ghost use Rattle.fbcheck_c.specs.Answered.{IsChecked, IsChosen, IsNotOpened, IsOpened, IsPriced, root_table};
+
+use crate::answer::{Answer, low};
+use crate::options::Options;
+use fb_bfbs::{LoadFault, Loaded, load};
+use fb_bytes::Meter;
+use fb_schema::Schema;
+use fb_verify::{Limits, Scratch, ScratchFault, most_reads, walk};
+use std::alloc::{AllocError, Global};
+
+/// The most levels that a session may have room for.
+const DEEPEST: u32 = 4096;
+
+/// A loaded schema with the root table that was chosen, if any, and room for the tables that a walk has open at once.
+#[derive(Drop)]
+pub struct Session {
+    pub loaded: Loaded<'static>,
+    pub root: Option<u32>,
+    pub scratch: Scratch,
+}
+
+/// The table of this name.
+#[tactic(auto, unfolding(fb_bfbs::specs::Describes::table_named))]
+fn table_named(schema: &Schema<'_>, name: &[u8]) -> Option<u32>
+    ensures { result ≡ table_named schema.now name.now }
+{
+    match schema.object_named(name) {
+        Some(n) if schema.is_table(n) => Some(n),
+        _ => None,
+    }
+}
+
+/// Room for as many open tables as the limits allow.
+fn scratch_of(alloc: Global, limits: Limits) -> Result<Scratch, AllocError>
+    ensures { IfOk result (λ s. s ≡ limits.depth) }
+{
+    match Scratch::new(alloc, limits.depth()) {
+        Ok(scratch) => Ok(scratch),
+        Err(ScratchFault::OutOfMemory) => Err(AllocError),
+        Err(ScratchFault::LimitOutOfRange) => unreachable!(),
+    }
+}
+
+impl Session {
+    /// Loads a schema file within the limits of the options, with room for as many levels as their depth. The root is the
+    /// file's own.
+    ///
+    /// # Errors
+    ///
+    /// As [`Options::limits`] has it for 4,096 levels; then `NoSchema`.
+    pub fn open(alloc: Global, file: &'static [u8], options: &Options) -> Result<Session, Answer>
+        ensures { MatchResult result (IsOpened file.now options.now) (IsNotOpened file.now options.now) }
+    {
+        let limits = options.limits(DEEPEST)?;
+        let loaded = match load(alloc, file, limits) {
+            Ok(loaded) => loaded,
+            Err(fault) => return Err(Answer::NoSchema(fault)),
+        };
+        let Ok(scratch) = scratch_of(alloc, limits) else {
+            return Err(Answer::NoSchema(LoadFault::OutOfMemory));
+        };
+        Ok(Session {
+            root: loaded.root,
+            loaded,
+            scratch,
+        })
+    }
+
+    /// The root table, if there is one.
+    fn root_table(&self) -> Option<u32>
+        ensures root { result ≡ root_table self.now }
+        ensures table { IfSome result (λ n. IsTrue (is_table self.now.loaded.schema n)) }
+    {
+        match self.root {
+            Some(n) if self.loaded.schema.is_table(n) => Some(n),
+            _ => None,
+        }
+    }
+
+    /// Chooses the root table by its name, with its namespace. Where there is none of this name, the root stays as it was.
+    pub fn choose_root(&mut self, name: &[u8]) -> Answer
+        ensures { IsChosen self.old name.now self.new result }
+    {
+        match table_named(&self.loaded.schema, name) {
+            Some(n) => {
+                self.root = Some(n);
+                Answer::Done
+            }
+            None => Answer::NoRoot,
+        }
+    }
+
+    /// Checks a buffer as the options ask.
+    pub fn check(&mut self, options: &Options, buffer: &[u8]) -> Answer
+        ensures answer { IsChecked self.old options.now buffer.now result }
+        ensures kept { self.new ≡ self.old }
+    {
+        let limits = match options.limits(self.scratch.depth()) {
+            Ok(limits) => limits,
+            Err(answer) => return answer,
+        };
+        let Some(root) = self.root_table() else {
+            return Answer::NoRoot;
+        };
+        let Ok(mut meter) = Meter::new(buffer) else {
+            return Answer::TooLong;
+        };
+        match walk(
+            &mut meter,
+            &self.loaded.schema,
+            root,
+            options.start(),
+            options.ident(),
+            limits,
+            options.checks(),
+            &mut self.scratch,
+        ) {
+            Ok(report) => Answer::Good(report),
+            Err(fault) => Answer::Bad(fault),
+        }
+    }
+
+    /// How many reads a check of so many bytes makes at most.
+    ///
+    /// # Errors
+    ///
+    /// As [`Options::limits`] has it for the levels of the session.
+    pub fn most_reads(&self, options: &Options, length: u64) -> Result<u64, Answer>
+        ensures { IsPriced self.now options.now length result }
+    {
+        let limits = options.limits(self.scratch.depth())?;
+        Ok(low(most_reads(&self.loaded.schema, limits, length)))
+    }
+}

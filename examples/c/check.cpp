@@ -1,0 +1,37 @@
+// Checks one buffer by a schema file: check SCHEMA.bfbs BUFFER [ROOT]
+//
+//     c++ -std=c++11 check.cpp $(pkg-config --cflags --libs fbcheck) -o check
+#include "fbcheck.hpp"
+
+#include <fstream>
+#include <iostream>
+#include <iterator>
+
+static std::vector<std::uint8_t> bytes_of(const char *path) {
+    std::ifstream file(path, std::ios::binary);
+    return {std::istreambuf_iterator<char>(file), std::istreambuf_iterator<char>()};
+}
+
+int main(int count, char **words) try {
+    if (count < 3 || count > 4) {
+        std::cerr << "usage: check SCHEMA.bfbs BUFFER [ROOT]\n";
+        return 2;
+    }
+    fbcheck::Verifier loaded(bytes_of(words[1]));
+    fbcheck::Verifier verifier(std::move(loaded));
+    if (count == 4 && !verifier.choose_root(words[3])) {
+        std::cerr << "check: no table " << words[3] << "\n";
+        return 2;
+    }
+    const std::vector<std::uint8_t> buffer = bytes_of(words[2]);
+    const fbcheck_verdict verdict = verifier.verify(buffer.data(), buffer.size());
+    if (verdict.status == FBCHECK_OK) {
+        std::cout << "ok tables=" << verdict.tables << " depth=" << verdict.depth << " reads=" << verdict.reads << "\n";
+    } else {
+        std::cout << "bad V" << verdict.reason << " at=" << verdict.at << "\n";
+    }
+    return static_cast<int>(verdict.status);
+} catch (const fbcheck::LoadError &error) {
+    std::cerr << error.what() << "\n";
+    return 2;
+}

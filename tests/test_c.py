@@ -1,0 +1,356 @@
+"""The library for C: what ./build_c makes, against the header, the program, and the examples that use it.
+
+The program is the other voice: a buffer must get the same verdict of the library. Everything is compiled here, against
+both libraries, and under the address sanitizer too.
+"""
+
+import ctypes
+import importlib.util
+import os
+import re
+import shutil
+import struct
+import subprocess
+
+import outside
+import schemas
+import test_beside_naive as bent
+from outside import FOLDER, TOP, buffer, file_of, prefixed, run, spelled
+from schemas import schema
+
+OUT = TOP / "out"
+HEADER = (TOP / "include/fbcheck.h").read_text()
+STRICT = ["-Wall", "-Wextra", "-Wpedantic", "-Werror", "-I", TOP / "include"]
+SANITIZED = ["-g", "-fsanitize=address,undefined", "-fno-sanitize-recover=all"]
+SHARED = [OUT / "libfbcheck.so", f"-Wl,-rpath,{OUT}"]
+STATIC = [OUT / "libfbcheck.a"]
+ORDERS = TOP / "examples/deliveries.bfbs"
+ALL = schema(bent.OBJECTS, [bent.UNION], root="All")
+
+# By schemas.M, the hit points 300 and the name "Orc": one table, and the reads 8.
+ORC = spelled("0c000000 08000c00 08000400 08000000 08000000 2c010000 03000000 4f726300")
+
+
+def ran(*words, given=None, seconds=120, **environment):
+    """How a process ends, and what it writes."""
+    words = [word if isinstance(word, bytes) else str(word) for word in words]
+    told = subprocess.run(words, input=given, stdin=None if given is not None else subprocess.DEVNULL,
+                          capture_output=True, timeout=seconds, env={**os.environ, **environment})
+    return told.returncode, told.stdout.decode(), told.stderr.decode()
+
+
+def compiled(cases, name, source, *words, compiler="cc", standard="-std=gnu99"):
+    """The program that a source is compiled to."""
+    made = FOLDER / name
+    told = ran(compiler, standard, "-O1", *STRICT, source, "-o", made, *words)
+    cases.same(f"{name} compiles without a warning", told, (0, "", ""))
+    return made
+
+
+def module():
+    """The example for Python, on the library that was built."""
+    os.environ["FBCHECK_LIBRARY"] = str(OUT / "libfbcheck.so.1")
+    spec = importlib.util.spec_from_file_location("fbcheck", TOP / "examples/c/fbcheck.py")
+    found = importlib.util.module_from_spec(spec)
+    spec.loader.exec_module(found)
+    return found
+
+
+def what_is_built(cases):
+    status, out, err = ran(TOP / "build_c", seconds=3600)
+    cases.same("./build_c builds", (status, out), (0, ""))
+    calls = sorted(re.findall(r"^(?:uint32_t|void) (fbcheck_\w+)\(", HEADER, re.M))
+    for library, words in [("libfbcheck.a", ["-g"]), ("libfbcheck.so.1", ["-D"])]:
+        _, symbols, _ = ran("nm", *words, "--defined-only", OUT / library)
+        found = sorted(line.split()[2] for line in symbols.splitlines() if len(line.split()) == 3)
+        cases.same(f"{library} defines the header's calls and nothing else", found, calls)
+        _, symbols, _ = ran("nm", *words, "--undefined-only", OUT / library)
+        wanted = {line.split()[1].partition("@")[0] for line in symbols.splitlines() if line.split()[:1] == ["U"]}
+        cases.holds(f"{library} needs the C library's heap and memory alone",
+                    wanted <= {"malloc", "free", "realloc", "memcpy", "memmove", "memset", "memcmp", "bcmp"}, wanted)
+    cases.same("a word is refused", ran(TOP / "build_c", "here")[0], 2)
+
+
+NUMBERS = r"""
+#include <fbcheck.h>
+#include <stdio.h>
+#include <string.h>
+#define FIELD(type, name) printf(#type " " #name " %zu\n", offsetof(type, name))
+int main(void)
+{
+    fbcheck_sizes sizes;
+    fbcheck_options first = FBCHECK_OPTIONS_INIT, second;
+    memset(&second, 255, sizeof second);
+    if (fbcheck_struct_sizes(&sizes) != FBCHECK_OK || fbcheck_options_init(&second) != FBCHECK_OK)
+        return 1;
+    printf("options %zu %zu\n", sizes.options, sizeof(fbcheck_options));
+    printf("verdict %zu %zu\n", sizes.verdict, sizeof(fbcheck_verdict));
+    printf("handle %zu %zu\n", sizes.handle, sizeof(fbcheck_handle));
+    printf("init %d\n", memcmp(&first, &second, sizeof first));
+@LINES@
+    return 0;
+}
+"""
+
+
+def the_header(cases):
+    """Its numbers are those of the reference and of the module for Python, and its structs those of the library."""
+    constants = re.findall(r"^    (FBCHECK_\w+) = (\d+)", HEADER, re.M)
+    python = module()
+    fields = {"fbcheck_options": python.Options, "fbcheck_verdict": python._Verdict, "fbcheck_handle": python._Handle}
+    lines = [f'    printf("{name} %d\\n", (int){name});' for name, _ in constants]
+    lines += [f"    FIELD({name}, {field});" for name, of in fields.items() for field, _ in of._fields_]
+    source = file_of("numbers.c", NUMBERS.replace("@LINES@", "\n".join(lines)).encode())
+    offsets = [f"{name} {field} {getattr(of, field).offset}" for name, of in fields.items() for field, _ in of._fields_]
+    want = ["options 64 64", "verdict 40 40", "handle 8 8", "init 0", *map(" ".join, constants), *offsets]
+    as_cpp = file_of("numbers.cpp", source.read_bytes())
+    for name, made in {
+        "C99": compiled(cases, "numbers_c", source, *STATIC, standard="-std=c99"),
+        "C++11": compiled(cases, "numbers_cpp", as_cpp, *STATIC, compiler="c++", standard="-std=c++11"),
+    }.items():
+        status, out, _ = ran(made)
+        cases.same(f"{name}: numbers, sizes and places", (status, out.splitlines()), (0, want))
+    cases.same("sizes of the structs of Python", [ctypes.sizeof(of) for of in fields.values()], [64, 40, 8])
+    told = {name.removeprefix("FBCHECK_"): int(number) for name, number in constants}
+    for names in (python.Status, python.Reason):
+        cases.same(f"{names.__name__} of Python", {one.name: told.get(one.name) for one in names},
+                   {one.name: int(one) for one in names})
+    page = (TOP / "docs/REFERENCE.md").read_text()
+    for code, name in re.findall(r"`V(\d+) (\w+)`", page.split("## Reasons")[1].split("\n## ")[0]):
+        cases.same(f"V{code}", told["_".join(re.findall(r"[A-Z][a-z]+", name)).upper()], int(code))
+
+
+def without_names(lines):
+    """The lines of the program without the names of reasons."""
+    return re.sub(rb"bad (V\d+) \w+", rb"bad \1", lines)
+
+
+def words_of(options):
+    return bent.words_of({"tables": 500, **options})
+
+
+def streams():
+    """Streams of good and damaged buffers, each with the words that ask for them."""
+    whole = file_of("all.bfbs", ALL)
+    for root in (bent.WHOLE, bent.LITTLE):
+        data = buffer(root, b"KIND", prefix=True)[4:]
+        given = b"".join(map(prefixed, bent.variants(data, [1, 2, 4, 16, 252])))
+        for options in bent.OPTIONS:
+            yield options, ["--schema", whole, *words_of(options)], given
+    rows = (TOP / "examples/deliveries.bin").read_bytes()
+    yield "deliveries", ["--schema", ORDERS], rows
+    yield "another root", ["--schema", ORDERS, "--root", "post.Person"], rows
+
+
+def verdicts(cases):
+    """Those of the program, on every buffer, by the shared library and by the static one under the sanitizers."""
+    tell = TOP / "tests/c/tell.c"
+    programs = [compiled(cases, "tell_shared", tell, *SHARED), compiled(cases, "tell_sane", tell, *SANITIZED, *STATIC)]
+    buffers = reasons = 0
+    seen = set()
+    for name, words, given in streams():
+        want = without_names(run(*words, given=given).out)
+        for program in programs:
+            status, out, err = ran(program, *words, given=given)
+            cases.same(f"{name}, {program.name}: it ends well", (status, err), (0, ""))
+            differing = [pair for pair in zip(out.encode().splitlines(), want.splitlines()) if pair[0] != pair[1]]
+            cases.same(f"{name}, {program.name}: lines that differ from the program's", differing[:5], [])
+            cases.same(f"{name}, {program.name}: their number", out.count("\n"), want.count(b"\n"))
+        buffers += want.count(b"\n")
+        seen |= set(re.findall(rb"bad (V\d+)", want))
+    cases.holds("there are more than 10,000 buffers", buffers > 10_000, buffers)
+    cases.same("with each reason but a wrong prefix", sorted(seen, key=lambda code: int(code[1:])),
+               [b"V%d" % number for number in range(2, 14)])
+
+
+def under_valgrind(cases):
+    """Where there is one: the messages of the example and some damaged ones, with nothing read that isn't there."""
+    if not shutil.which("valgrind"):
+        return
+    data = buffer(bent.LITTLE, b"KIND", prefix=True)[4:]
+    whole = file_of("all.bfbs", ALL)
+    given = b"".join(map(prefixed, bent.variants(data, [1])))
+    status, out, err = ran("valgrind", "-q", "--error-exitcode=9", "--leak-check=full", FOLDER / "tell_shared",
+                           "--schema", whole, given=given, seconds=600)
+    cases.same("valgrind has nothing to say", (status, err), (0, ""))
+    want = without_names(run("--schema", str(whole), given=given).out).decode()
+    cases.same("and the lines are the program's", out, want)
+
+
+def memory(cases):
+    """Loads and frees leave the heap as it was."""
+    bare = file_of("bare", buffer(bent.WHOLE))
+    whole = file_of("all.bfbs", ALL)
+    loads = compiled(cases, "loads", TOP / "tests/c/loads.c", *SHARED)
+    # Without the blocks that the heap keeps by for the next request, which are counted as in use.
+    tunables = {"GLIBC_TUNABLES": "glibc.malloc.tcache_count=0"}
+    cases.same("10,000 rounds", ran(loads, whole, bare, 10_000, **tunables), (0, "flat\n", ""))
+    sane = compiled(cases, "loads_sane", TOP / "tests/c/loads.c", *SANITIZED, *STATIC)
+    status, _, err = ran(sane, whole, bare, 2_000)
+    cases.same("and none under the sanitizers leaks", (status, err), (0, ""))
+
+
+def nulls(cases):
+    """Null pointers, handles that hold nothing, and options that can't be served are answered."""
+    python = module()
+    calls, status = python._library(), python.Status
+    handle, verdict, options = python._Handle(), python._Verdict(), python.Options()
+    file = ORDERS.read_bytes()
+    told = lambda: (verdict.status, verdict.reason, verdict.object, verdict.field, verdict.at, verdict.reads)
+    blank = lambda number: (number, 0, 0, python.NONE, 0, 0)
+    cases.same("no handle to load into", calls.fbcheck_load(None, file, len(file), options, verdict), status.NULL)
+    cases.same("and it is told", told(), blank(2))
+    cases.same("no file", calls.fbcheck_load(handle, None, 9, None, None), status.NULL)
+    cases.same("an empty file", calls.fbcheck_load(handle, None, 0, None, verdict), status.NOT_WELL_FORMED)
+    cases.same("no handle to check by", calls.fbcheck_verify(None, options, b"", 0, verdict), status.NULL)
+    cases.same("a handle that holds nothing", calls.fbcheck_verify(handle, options, b"", 0, verdict), status.EMPTY)
+    cases.same("and it is told", told(), blank(5))
+    cases.same("nor a root", calls.fbcheck_choose_root(handle, b"A", 1), status.EMPTY)
+    reads = ctypes.c_uint64(77)
+    cases.same("nor most reads", calls.fbcheck_most_reads(handle, None, 9, reads), status.EMPTY)
+    cases.same("which stay as they were", reads.value, 77)
+    calls.fbcheck_free(None)
+    calls.fbcheck_free(handle)
+    cases.same("a schema", calls.fbcheck_load(handle, file, len(file), None, verdict), status.OK)
+    cases.same("is told so", told(), blank(0))
+    cases.same("no buffer", calls.fbcheck_verify(handle, options, None, 9, verdict), status.NULL)
+    cases.same("an empty buffer", calls.fbcheck_verify(handle, None, None, 0, verdict), status.BAD)
+    cases.same("is out of buffer at 0, in the root's object", told()[:5], (1, 2, 1, python.NONE, 0))
+    cases.same("no root's name", calls.fbcheck_choose_root(handle, None, 3), status.NULL)
+    cases.same("an empty root's name", calls.fbcheck_choose_root(handle, None, 0), status.NO_ROOT)
+    cases.same("no place for reads", calls.fbcheck_most_reads(handle, None, 9, None), status.NULL)
+    for asked, answer in [
+        (python.Options(version=0), status.UNKNOWN_OPTIONS), (python.Options(version=2), status.UNKNOWN_OPTIONS),
+        (python.Options(max_depth=65), status.OUT_OF_RANGE), (python.Options(max_depth=64), status.BAD),
+    ]:
+        cases.same(f"options {asked.version}, {asked.max_depth}",
+                   calls.fbcheck_verify(handle, asked, b"", 0, verdict), answer)
+    deepest, deeper = python.Options(max_depth=4096), python.Options(max_depth=4097)
+    answer = calls.fbcheck_load(handle, file, len(file), deeper, None)
+    cases.same("a depth that no load has", answer, status.OUT_OF_RANGE)
+    cases.same("leaves the handle as it was", calls.fbcheck_verify(handle, None, b"", 0, None), status.BAD)
+    cases.same("the greatest depth", calls.fbcheck_load(handle, file, len(file), deepest, None), status.OK)
+    cases.same("serves up to it", calls.fbcheck_verify(handle, deepest, b"", 0, verdict), status.BAD)
+    cases.same("a buffer that is too long", calls.fbcheck_verify(handle, None, b"", 1 << 31, verdict), status.TOO_LONG)
+    cases.same("options to make", calls.fbcheck_options_init(None), status.NULL)
+    cases.same("sizes to tell", calls.fbcheck_struct_sizes(None), status.NULL)
+    calls.fbcheck_free(handle)
+    calls.fbcheck_free(handle)
+    cases.same("what was freed holds nothing", calls.fbcheck_verify(handle, None, b"", 0, None), status.EMPTY)
+    cases.same("and is null", handle.session, None)
+
+
+def loads(cases):
+    """Why a schema file gives no schema, as the program tells it."""
+    python = module()
+    file = ORDERS.read_bytes()
+    for name, given in {
+        "empty": b"", "cut off": file[:100], "no schema": b"hello, world",
+        "another identifier": file[:4] + b"BFBX" + file[8:],
+        "no such object": schema([bent.table("T", bent.field("o", bent.an_object(7), 4))]),
+        "a slot twice": schema([bent.table("T", bent.field("a", bent.INT, 4), bent.field("b", bent.INT, 4))]),
+        "a root that isn't listed": schema([bent.table("T")], root="S"),
+    }.items():
+        want = run("--schema", str(file_of("wrong.bfbs", given))).err.decode().removeprefix("fbcheck: schema: ").strip()
+        try:
+            python.Verifier(given)
+            got = "a schema"
+        except python.Error as error:
+            why = error.verdict
+            field = "-" if why.field is None else why.field
+            got = {
+                8: f"L1 V{why.reason} at={why.at} object={why.object} field={field} reads={why.reads}",
+                9: f"L2 C{why.reason} owner={why.object} part={field}",
+                10: "L3",
+            }.get(why.status, why)
+        cases.same(name, got, re.sub(r"(L3|[VC]\d+) \w+", r"\1", want))
+    for option, reason in [("max_reads", 13), ("max_tables", 7), ("max_depth", 6)]:
+        why = reason_of_load(python, file, python.Options(**{option: 2}))
+        cases.same(f"a file past its {option}", why, (8, reason))
+
+
+def reason_of_load(python, file, options):
+    try:
+        python.Verifier(file, options=options)
+        return None
+    except python.Error as error:
+        return error.verdict.status, error.verdict.reason
+
+
+def examples(cases):
+    """The programs of examples/c, and the module for Python, on the messages of the example."""
+    messages, rest = [], (TOP / "examples/deliveries.bin").read_bytes()
+    while rest:
+        size = 4 + struct.unpack_from("<I", rest)[0]
+        messages, rest = [*messages, rest[:size]], rest[size:]
+    words = SHARED
+    if shutil.which("pkg-config"):
+        words = ran("pkg-config", "--cflags", "--libs", "fbcheck", PKG_CONFIG_PATH=str(OUT))[1].split()
+    check = compiled(cases, "check_c", TOP / "examples/c/check.c", *words, *SHARED[1:])
+    check_cpp = compiled(cases, "check_cpp", TOP / "examples/c/check.cpp", *words, *SHARED[1:], compiler="c++",
+                         standard="-std=c++11")
+    compiled(cases, "check_sane", TOP / "examples/c/check.c", *SANITIZED, *STATIC)
+    python = module()
+    with python.Verifier(ORDERS.read_bytes()) as verifier:
+        for number, message in enumerate(messages):
+            want = run("--bare", "--no-alignment", "--schema", str(ORDERS), given=message[4:]).out.decode()
+            told = verifier.verify(message[4:], python.Options(no_alignment=1))
+            text = (f"ok tables={told.tables} depth={told.depth}" if told.ok else
+                    f"bad V{told.reason} at={told.at} object={told.object} field={told.field}") + f" reads={told.reads}"
+            cases.same(f"message {number + 1} by Python", f"1 {text}\n", without_names(want.encode()).decode())
+            cases.same(f"message {number + 1} by its prefix",
+                       verifier.verify(message, python.Options(prefixed=1)).status, int(number == 4))
+            cases.same(f"message {number + 1} with another prefix",
+                       verifier.verify(b"\0" + message[1:], python.Options(prefixed=1)).reason, 1)
+        for ident, reason in [(b"POST", 0), (b"PAST", 5)]:
+            told = verifier.verify(messages[0], python.Options(ident, prefixed=1))
+            cases.same(f"the identifier {ident}", told.reason, reason)
+        most = verifier.most_reads(len(messages[0]), python.Options(max_tables=2, max_reads=1000))
+        cases.same("the most reads are the budget and 7", most, 1007)
+        cases.same("or fewer", verifier.most_reads(10, python.Options(max_tables=0)), 4)
+        most = verifier.most_reads(2**64 - 1, python.Options(max_reads=2**64 - 1))
+        cases.same("or as many as there is room for", most, 2**64 - 1)
+        verifier.choose_root("post.Person")
+        cases.same("another root", verifier.verify(b"").object != 1, True)
+        try:
+            verifier.choose_root("post.Nobody")
+            cases.holds("a root that isn't there is refused", False)
+        except python.Error as error:
+            cases.same("a root that isn't there is refused", error.verdict.status, 6)
+    small, orc, torn = file_of("M.bfbs", schemas.M), file_of("orc", ORC), file_of("torn", ORC[:-1])
+    for name, words, wanted, line in [
+        ("good", [small, orc], 0, "ok tables=1 depth=1 reads=8"), ("with its root", [small, orc, "M"], 0, None),
+        ("torn", [small, torn], 1, None), ("no such table", [small, orc, "N"], 2, ""),
+        ("no schema", [orc, orc], 2, ""), ("no buffer", [small, FOLDER / "nowhere"], 2, ""), ("no words", [], 2, ""),
+    ]:
+        if line is None:
+            told = run("--bare", "--schema", small, given=words[1].read_bytes())
+            line = without_names(told.out).decode().removeprefix("1 ").strip()
+        for program in (check, FOLDER / "check_sane"):
+            status, out, err = ran(program, *words)
+            cases.same(f"{name}, {program.name}", (status, out.strip(), bool(err)), (wanted, line, wanted == 2))
+        if name != "no buffer":
+            status, out, err = ran(check_cpp, *words)
+            told = (status, line.startswith(out.strip()), bool(err))
+            cases.same(f"{name}, check_cpp", told, (wanted, True, wanted == 2))
+
+
+def text_of_the_reference(cases):
+    """The C that docs/REFERENCE.md shows works when it is pasted."""
+    page = (TOP / "docs/REFERENCE.md").read_text()
+    text = re.search(r"```c\n(.*?)```", page, re.S)[1]
+    source = file_of("pasted.c", text.encode())
+    program = compiled(cases, "pasted", source, *SHARED)
+    small = file_of("M.bfbs", schemas.M)
+    for name, given, want in [
+        ("a good buffer", ORC, (0, "good: 1 tables, 8 reads\n")),
+        ("one whose last text is torn", ORC[:-1], (1, "bad: V2 at 28\n")),
+    ]:
+        cases.same(name, ran(program, small, given=given)[:2], want)
+    cases.same("no schema", ran(program, FOLDER / "orc", given=ORC)[:2], (2, "no schema: 8\n"))
+
+
+if __name__ == "__main__":
+    outside.main(
+        what_is_built, the_header, verdicts, under_valgrind, memory, nulls, loads, examples, text_of_the_reference,
+    )
