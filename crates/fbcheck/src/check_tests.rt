@@ -5,8 +5,9 @@ use crate::fault::{RunFault, status};
 use crate::output::Tally;
 use crate::schema_files::{all_told, spelled, told_of};
 use crate::start_fault::StartFault;
-use crate::tests::{Full, Narrow, Slow};
+use crate::tests::{Full, Narrow, Slow, TWO_LINES, Told};
 use crate::words_tests::given;
+use case_text::chains::list;
 use fb_access::PathFault;
 use fb_bfbs::LoadFault;
 use fb_bytes::Counted;
@@ -20,11 +21,11 @@ fn a_value_stands_behind_a_yes(rt: HostRuntime) -> Result<(), Fail> {
         a text with escapes | M        | --bare --path name | ORC 28=225c7f | \
             0 1 ok tables=1 depth=1 reads=8 \"\\\"\\\\\\x7f\"\n\
         a number            | M        | --bare --path hp | ORC | 0 1 ok tables=1 depth=1 reads=8 300\n\
-        a default           | M        | --bare --path hp | BLANK | 0 1 ok tables=1 depth=1 reads=3 100\n\
-        no text             | M        | --bare --path name | BLANK | 0 1 ok tables=1 depth=1 reads=3 absent\n\
+        a default           | M        | --bare --path hp | EMPTY | 0 1 ok tables=1 depth=1 reads=3 100\n\
+        no text             | M        | --bare --path name | EMPTY | 0 1 ok tables=1 depth=1 reads=3 absent\n\
         a float             | N 156=0b | --bare --path v | 0c000000 06000800 04000000 08000000 0000c03f | \
             0 1 ok tables=1 depth=1 reads=4 float:0000c03f\n\
-        no float            | N 156=0b | --bare --path v | BLANK | 0 1 ok tables=1 depth=1 reads=3 absent\n\
+        no float            | N 156=0b | --bare --path v | EMPTY | 0 1 ok tables=1 depth=1 reads=3 absent\n\
     ";
     all_told(&rt, rt.alloc(), cases)
 }
@@ -46,14 +47,8 @@ fn a_stream_is_checked_by_a_schema_file(rt: HostRuntime) -> Result<(), Fail> {
     all_told(&rt, rt.alloc(), cases)
 }
 
-/// The lines of `SEVEN` twice.
-const TWO_LINES: &str = "1 ok tables=1 depth=1 reads=5\n2 ok tables=1 depth=1 reads=5\n";
-
-/// What is answered, and what a writer took.
-type Told = (Result<Tally, RunFault>, Vec<u8>);
-
-/// A run by the schema file of N over `SEVEN` twice, by a reader of pieces of a given size that fails at a given call, counted from 1,
-/// and a writer with so much room.
+/// A run by the schema file of N over `SEVEN` twice, by a reader of pieces of a given size that fails at a given call,
+/// counted from 1, and a writer with so much room.
 fn run_in_pieces(
     alloc: Global,
     most: usize,
@@ -67,24 +62,10 @@ fn run_in_pieces(
         return Err(Fail::from("range"));
     }
     let stream = spelled(alloc, "SEVEN SEVEN")?;
-    let mut reader = Counted::new(Slow {
-        rest: stream.as_slice(),
-        most,
-        calls: 0,
-        fails_at,
-    });
-    let mut writer = Counted::new(Narrow {
-        taken: Vec::new(alloc),
-        room,
-        full,
-    });
-    let answer = check(
-        alloc,
-        Some(file.as_slice()),
-        &settings,
-        &mut reader,
-        &mut writer,
-    );
+    let mut reader = Counted::new(Slow::new(stream.as_slice(), most, fails_at));
+    let mut writer = Counted::new(Narrow::new(alloc, room, full));
+    let file = Some(file.as_slice());
+    let answer = check(alloc, file, &settings, &mut reader, &mut writer);
     Ok((answer, writer.into_inner().taken))
 }
 
@@ -133,22 +114,9 @@ fn a_narrow_writer_takes_a_front_by_a_schema_file(rt: HostRuntime) -> Result<(),
     Ok(())
 }
 
-/// A chain of this many tables, each of which leads to the next, by L.
-fn chain(alloc: Global, tables: u32) -> Result<Vec<u8>, Fail> {
-    let mut bytes = spelled(alloc, "10000000 06000800 04000000 04000400")?;
-    for k in 0..tables.saturating_sub(1) {
-        let back = 12u32.saturating_add(k.saturating_mul(8));
-        bytes.extend_from_slice(back.to_le_bytes().as_slice())?;
-        bytes.extend_from_slice(4u32.to_le_bytes().as_slice())?;
-    }
-    let back = 4u32.saturating_add(tables.saturating_sub(1).saturating_mul(8));
-    bytes.extend_from_slice(back.to_le_bytes().as_slice())?;
-    Ok(bytes)
-}
-
 #[test]
 fn a_chain_is_as_deep_as_the_words_allow(rt: HostRuntime) -> Result<(), Fail> {
-    let deep = chain(rt.alloc(), 4096)?;
+    let deep = list(rt.alloc(), 4096)?;
     assert_eq!(rt; deep.len(), 32_780);
     for (words, want) in [
         (
@@ -176,10 +144,10 @@ fn a_chain_is_as_deep_as_the_words_allow(rt: HostRuntime) -> Result<(), Fail> {
 
 #[test]
 fn a_chain_of_64_is_as_deep_as_may_be_without_words(rt: HostRuntime) -> Result<(), Fail> {
-    let told = told_of(rt.alloc(), "L", "--bare", &chain(rt.alloc(), 64)?)?;
+    let told = told_of(rt.alloc(), "L", "--bare", &list(rt.alloc(), 64)?)?;
     assert_eq!(rt; told.as_str(), "0 1 ok tables=64 depth=64 reads=255");
     let words = "--bare --path next.next.next";
-    let told = told_of(rt.alloc(), "L", words, &chain(rt.alloc(), 3)?)?;
+    let told = told_of(rt.alloc(), "L", words, &list(rt.alloc(), 3)?)?;
     assert_eq!(rt; told.as_str(), "0 1 ok tables=3 depth=3 reads=11 absent");
     Ok(())
 }
@@ -212,10 +180,10 @@ fn a_schema_file_is_checked_by_the_fixed_table(rt: HostRuntime) -> Result<(), Fa
 #[test]
 fn alignment_alone_is_left_unchecked(rt: HostRuntime) -> Result<(), Fail> {
     let cases = "\
-        a table at 5 | M | --bare | BLANK 8=03 | 1 1 bad V3 Misaligned at=5 object=0 field=- reads=2\n\
-        the same     | M | --bare --no-alignment | BLANK 8=03 | \
+        a table at 5 | M | --bare | EMPTY 8=03 | 1 1 bad V3 Misaligned at=5 object=0 field=- reads=2\n\
+        the same     | M | --bare --no-alignment | EMPTY 8=03 | \
             1 1 bad V2 OutOfBuffer at=5 object=0 field=- reads=3\n\
-        an odd size  | M | --bare --no-alignment | BLANK 4=03 | 1 1 bad V8 BadVtable at=4 object=0 field=- reads=3\n\
+        an odd size  | M | --bare --no-alignment | EMPTY 4=03 | 1 1 bad V8 BadVtable at=4 object=0 field=- reads=3\n\
     ";
     all_told(&rt, rt.alloc(), cases)
 }

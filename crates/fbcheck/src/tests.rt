@@ -7,7 +7,7 @@ use crate::options::Options;
 use crate::output::Tally;
 use crate::reading::MOST_TURNS;
 use crate::run::run_within;
-use crate::schema_files::all_told;
+use crate::schema_files::{all_told, spelled};
 use case_text::rows::schema_of;
 use fb_bytes::{Counted, Source, StreamFault};
 use fb_schema::Schema;
@@ -17,9 +17,6 @@ use std::io;
 use std::io::{ErrorKind, Read, Write};
 use std::test::Fail;
 
-/// By M: neither field is present.
-static BLANK: [u8; 12] = [8, 0, 0, 0, 4, 0, 4, 0, 4, 0, 0, 0];
-
 /// By N, size-prefixed: `v` is 7.
 pub static SEVEN: [u8; 32] = [
     28, 0, 0, 0, 16, 0, 0, 0, 6, 0, 12, 0, 4, 0, 0, 0, 0, 0, 0, 0, 12, 0, 0, 0, 7, 0, 0, 0, 0, 0,
@@ -27,10 +24,10 @@ pub static SEVEN: [u8; 32] = [
 ];
 
 /// The lines of `SEVEN` twice.
-static TWO_LINES: &str = "1 ok tables=1 depth=1 reads=5\n2 ok tables=1 depth=1 reads=5\n";
+pub const TWO_LINES: &str = "1 ok tables=1 depth=1 reads=5\n2 ok tables=1 depth=1 reads=5\n";
 
 /// `SEVEN` twice.
-fn twice() -> [u8; 64] {
+pub fn twice() -> [u8; 64] {
     let mut stream = [0; 64];
     stream[..32].copy_from_slice(&SEVEN);
     stream[32..].copy_from_slice(&SEVEN);
@@ -60,13 +57,24 @@ pub fn stream_options(max_bytes: u32) -> Options
     }
 }
 
-/// A reader of pieces of a given size, which fails at a given call, counted from 1.
+/// A reader of pieces of a given size, which fails at a given call, counted from 1 (at 0: at none).
 #[derive(Drop)]
 pub struct Slow<'a> {
-    pub rest: &'a [u8],
-    pub most: usize,
-    pub calls: u64,
-    pub fails_at: u64,
+    rest: &'a [u8],
+    most: usize,
+    calls: u64,
+    fails_at: u64,
+}
+
+impl<'a> Slow<'a> {
+    pub fn new(rest: &'a [u8], most: usize, fails_at: u64) -> Slow<'a> {
+        Slow {
+            rest,
+            most,
+            calls: 0,
+            fails_at,
+        }
+    }
 }
 
 impl Read for Slow<'_> {
@@ -108,8 +116,18 @@ pub enum Full {
 #[derive(Drop)]
 pub struct Narrow {
     pub taken: Vec<u8>,
-    pub room: usize,
-    pub full: Full,
+    room: usize,
+    full: Full,
+}
+
+impl Narrow {
+    pub fn new(alloc: Global, room: usize, full: Full) -> Narrow {
+        Narrow {
+            taken: Vec::new(alloc),
+            room,
+            full,
+        }
+    }
 }
 
 impl Write for Narrow {
@@ -136,7 +154,7 @@ impl Write for Narrow {
 fn a_bare_buffer_gets_its_line(rt: HostRuntime) -> Result<(), Fail> {
     let cases = "\
         a monster      | M | --bare | ORC | 0 1 ok tables=1 depth=1 reads=8\n\
-        without fields | M | --bare | BLANK | 0 1 ok tables=1 depth=1 reads=3\n\
+        without fields | M | --bare | EMPTY | 0 1 ok tables=1 depth=1 reads=3\n\
         nothing        | M | --bare |  | 1 1 bad V2 OutOfBuffer at=0 object=0 field=- reads=0\n\
         no terminator  | M | --bare | ORC 31=01 | 1 1 bad V10 NoTerminator at=31 object=0 field=1 reads=8\n\
         cut            | M | --bare | ORC ..31 | 1 1 bad V2 OutOfBuffer at=28 object=0 field=1 reads=7\n\
@@ -155,22 +173,17 @@ fn a_bare_buffer_gets_its_line(rt: HostRuntime) -> Result<(), Fail> {
 
 #[test]
 fn a_required_field_may_not_be_absent(rt: HostRuntime) -> Result<(), Fail> {
-    let schema = schema_of(rt.alloc(), "N table: v@4 string required")?;
+    let alloc = rt.alloc();
+    let schema = schema_of(alloc, "N table: v@4 string required")?;
     assert!(rt; schema.is_table(0));
     let options = Options {
         bare: true,
         ..stream_options(64)
     };
-    let mut reader = Counted::new(BLANK.as_slice());
-    let mut writer = Counted::new(Vec::new(rt.alloc()));
-    let answer = run_within(
-        rt.alloc(),
-        &mut reader,
-        &mut writer,
-        &schema,
-        &options,
-        MOST_TURNS,
-    );
+    let empty = spelled(alloc, "EMPTY")?;
+    let mut reader = Counted::new(empty.as_slice());
+    let mut writer = Counted::new(Vec::new(alloc));
+    let answer = run_within(alloc, &mut reader, &mut writer, &schema, &options, MOST_TURNS);
     assert_eq!(rt; answer, Ok(Tally { yes: 0, no: 1 }));
     assert_eq!(rt;
         writer.get_ref().as_slice(),
@@ -179,34 +192,35 @@ fn a_required_field_may_not_be_absent(rt: HostRuntime) -> Result<(), Fail> {
     Ok(())
 }
 
+/// What is answered, and what a writer took.
+pub type Told = (Result<Tally, RunFault>, Vec<u8>);
+
+/// A run by N over `SEVEN` twice, by a reader of pieces of a given size that fails at a given call, counted from 1, and
+/// a writer with so much room.
+fn run_twice(
+    alloc: Global,
+    most: usize,
+    fails_at: u64,
+    room: usize,
+    full: Full,
+) -> Result<Told, Fail> {
+    let schema = schema_n(alloc)?;
+    if !schema.is_table(0) {
+        return Err(Fail::from("table"));
+    }
+    let (options, stream) = (stream_options(64), twice());
+    let mut reader = Counted::new(Slow::new(stream.as_slice(), most, fails_at));
+    let mut writer = Counted::new(Narrow::new(alloc, room, full));
+    let answer = run_within(alloc, &mut reader, &mut writer, &schema, &options, MOST_TURNS);
+    Ok((answer, writer.into_inner().taken))
+}
+
 #[test]
 fn a_stream_is_told_however_it_is_cut(rt: HostRuntime) -> Result<(), Fail> {
-    let schema = schema_n(rt.alloc())?;
-    assert!(rt; schema.is_table(0));
-    let options = stream_options(67_108_864);
-    let stream = twice();
     for most in 1..=64 {
-        let mut reader = Counted::new(Slow {
-            rest: &stream,
-            most,
-            calls: 0,
-            fails_at: 0,
-        });
-        let mut writer = Counted::new(Vec::new(rt.alloc()));
-        let answer = run_within(
-            rt.alloc(),
-            &mut reader,
-            &mut writer,
-            &schema,
-            &options,
-            MOST_TURNS,
-        );
+        let (answer, taken) = run_twice(rt.alloc(), most, 0, 60, Full::Fails)?;
         assert_eq!(rt; answer, Ok(Tally { yes: 2, no: 0 }), "in pieces of {most}");
-        assert_eq!(rt;
-            writer.get_ref().as_slice(),
-            TWO_LINES.as_bytes(),
-            "in pieces of {most}"
-        );
+        assert_eq!(rt; taken.as_slice(), TWO_LINES.as_bytes(), "in pieces of {most}");
     }
     Ok(())
 }
@@ -230,43 +244,17 @@ fn a_stream_ends_with_what_is_left(rt: HostRuntime) -> Result<(), Fail> {
 
 #[test]
 fn a_failing_reader_leaves_the_lines_before_it(rt: HostRuntime) -> Result<(), Fail> {
-    let schema = schema_n(rt.alloc())?;
-    assert!(rt; schema.is_table(0));
-    let options = stream_options(64);
-    let stream = twice();
     for (fails_at, lines) in [(1, 0), (32, 0), (33, 30), (64, 30), (65, 60)] {
-        let mut reader = Counted::new(Slow {
-            rest: &stream,
-            most: 1,
-            calls: 0,
-            fails_at,
-        });
-        let mut writer = Counted::new(Narrow {
-            taken: Vec::new(rt.alloc()),
-            room: 60,
-            full: Full::Fails,
-        });
-        let answer = run_within(
-            rt.alloc(),
-            &mut reader,
-            &mut writer,
-            &schema,
-            &options,
-            MOST_TURNS,
-        );
+        let (answer, taken) = run_twice(rt.alloc(), 1, fails_at, 60, Full::Fails)?;
         assert_eq!(rt; answer, Err(RunFault::ReadFault), "at {fails_at}");
         let front = TWO_LINES.as_bytes().get(..lines).ok_or("lines")?;
-        assert_eq!(rt; writer.get_ref().taken.as_slice(), front, "at {fails_at}");
+        assert_eq!(rt; taken.as_slice(), front, "at {fails_at}");
     }
     Ok(())
 }
 
 #[test]
 fn a_narrow_writer_is_told_by_what_it_took(rt: HostRuntime) -> Result<(), Fail> {
-    let schema = schema_n(rt.alloc())?;
-    assert!(rt; schema.is_table(0));
-    let options = stream_options(64);
-    let stream = twice();
     for (full, most) in [
         (Full::TakesNothing, 64),
         (Full::Fails, 64),
@@ -274,39 +262,16 @@ fn a_narrow_writer_is_told_by_what_it_took(rt: HostRuntime) -> Result<(), Fail> 
         (Full::Fails, 1),
     ] {
         for room in 0..61usize {
-            let mut reader = Counted::new(Slow {
-                rest: &stream,
-                most,
-                calls: 0,
-                fails_at: 0,
-            });
-            let mut writer = Counted::new(Narrow {
-                taken: Vec::new(rt.alloc()),
-                room,
-                full,
-            });
-            let answer = run_within(
-                rt.alloc(),
-                &mut reader,
-                &mut writer,
-                &schema,
-                &options,
-                MOST_TURNS,
-            );
+            let (answer, taken) = run_twice(rt.alloc(), most, 0, room, full)?;
+            let written = room as u128;
             let want = if room < 60 {
-                Err(RunFault::WriteFault {
-                    written: room as u128,
-                })
+                Err(RunFault::WriteFault { written })
             } else {
                 Ok(Tally { yes: 2, no: 0 })
             };
             assert_eq!(rt; answer, want, "{full:?} at {room}");
             let front = TWO_LINES.as_bytes().get(..room).ok_or("room")?;
-            assert_eq!(rt;
-                writer.get_ref().taken.as_slice(),
-                front,
-                "{full:?} at {room}"
-            );
+            assert_eq!(rt; taken.as_slice(), front, "{full:?} at {room}");
         }
     }
     Ok(())
@@ -314,7 +279,8 @@ fn a_narrow_writer_is_told_by_what_it_took(rt: HostRuntime) -> Result<(), Fail> 
 
 #[test]
 fn a_run_ends_after_its_turns(rt: HostRuntime) -> Result<(), Fail> {
-    let schema = schema_n(rt.alloc())?;
+    let alloc = rt.alloc();
+    let schema = schema_n(alloc)?;
     assert!(rt; schema.is_table(0));
     let two =
         "1 bad V2 OutOfBuffer at=4 object=0 field=- reads=1\n2 bad V2 OutOfBuffer at=4 object=0 field=- reads=1\n";
@@ -330,21 +296,11 @@ fn a_run_ends_after_its_turns(rt: HostRuntime) -> Result<(), Fail> {
             ..stream_options(max_bytes)
         };
         let mut reader = Counted::new(Zeros);
-        let mut writer = Counted::new(Vec::new(rt.alloc()));
-        let answer = run_within(
-            rt.alloc(),
-            &mut reader,
-            &mut writer,
-            &schema,
-            &options,
-            turns,
-        );
+        let mut writer = Counted::new(Vec::new(alloc));
+        let answer = run_within(alloc, &mut reader, &mut writer, &schema, &options, turns);
         assert_eq!(rt; answer, Err(want), "{turns} turns");
-        assert_eq!(rt;
-            writer.get_ref().as_slice(),
-            lines.as_bytes(),
-            "{turns} turns"
-        );
+        let written = writer.get_ref().as_slice();
+        assert_eq!(rt; written, lines.as_bytes(), "{turns} turns");
         assert_eq!(rt; reader.calls(), reads, "{turns} turns");
     }
     Ok(())

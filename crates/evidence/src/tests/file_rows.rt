@@ -1,6 +1,6 @@
 //! The rows that a schema file describes, read by the naive reader, and what `load` must answer by them.
 
-use super::rows::Rows;
+use case_text::rows::Rows;
 use fb_schema::{EnumRow, FieldRow, MemberRow, ObjectRow, TypeRow};
 use naive::checker::Question;
 use naive::values::{Step, Value, value};
