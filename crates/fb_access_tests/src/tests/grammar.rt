@@ -47,53 +47,35 @@ fn a_name_goes_on_with_letters_digits_and_low_lines(rt: HostRuntime) -> Result<(
     each_refused(&rt, alloc, b"l", b"^`{/:$-] \x7f\x80\xc3\xff\x00", wrong)
 }
 
+/// Texts that are no path, by the place of their first byte that can't go on.
+const WRONG: [(u64, &str); 6] = [
+    (2, "l. l@ l[ l.9 l@9 l.$ l.@A l[] l[/] l[:] l[-1] l[a]"),
+    (3, "l@A$ l.a-b l.a` l[1 l[1/ l[1: l[1a] l[00] l[01] l[0"),
+    (4, "l[0]l l[0]]"),
+    (5, "l[0]["),
+    (11, "l[4294967296] l[4294967300] l[9999999999]"),
+    (12, "l[42949672950] l[18446744073709551616]"),
+];
+
 #[test]
 fn a_text_is_wrong_at_the_byte_that_can_not_go_on(rt: HostRuntime) -> Result<(), Fail> {
-    let cases = "\
-        A | l.                      | P1 BadText at=2\n\
-        A | l@                      | P1 BadText at=2\n\
-        A | l[                      | P1 BadText at=2\n\
-        A | l.9                     | P1 BadText at=2\n\
-        A | l@9                     | P1 BadText at=2\n\
-        A | l.$                     | P1 BadText at=2\n\
-        A | l@A$                    | P1 BadText at=3\n\
-        A | l.a-b                   | P1 BadText at=3\n\
-        A | l.a`                    | P1 BadText at=3\n\
-        A | l.@A                    | P1 BadText at=2\n\
-        A | l[]                     | P1 BadText at=2\n\
-        A | l[/]                    | P1 BadText at=2\n\
-        A | l[:]                    | P1 BadText at=2\n\
-        A | l[-1]                   | P1 BadText at=2\n\
-        A | l[a]                    | P1 BadText at=2\n\
-        A | l[1                     | P1 BadText at=3\n\
-        A | l[1/                    | P1 BadText at=3\n\
-        A | l[1:                    | P1 BadText at=3\n\
-        A | l[1a]                   | P1 BadText at=3\n\
-        A | l[00]                   | P1 BadText at=3\n\
-        A | l[01]                   | P1 BadText at=3\n\
-        A | l[0                     | P1 BadText at=3\n\
-        A | l[0]l                   | P1 BadText at=4\n\
-        A | l[0]]                   | P1 BadText at=4\n\
-        A | l[0][                   | P1 BadText at=5\n\
-        A | l[4294967296]           | P1 BadText at=11\n\
-        A | l[4294967300]           | P1 BadText at=11\n\
-        A | l[9999999999]           | P1 BadText at=11\n\
-        A | l[42949672950]          | P1 BadText at=12\n\
-        A | l[18446744073709551616] | P1 BadText at=12\n\
-    ";
-    all_resolved(&rt, rt.alloc(), LISTS, cases)
+    let schema = schema_of(rt.alloc(), LISTS)?;
+    assert!(rt; schema.is_table(0));
+    for (at, texts) in WRONG {
+        for text in texts.split(' ') {
+            let fault = Path::resolve(rt.alloc(), &schema, 0, text.as_bytes()).err();
+            assert_eq!(rt; fault, Some(PathFault::BadText { at }), "{text}");
+        }
+    }
+    Ok(())
 }
 
 #[test]
 fn a_number_is_0_or_has_no_leading_0(rt: HostRuntime) -> Result<(), Fail> {
-    let cases = "\
-        A | l[0]          | .0 [0]\n\
-        A | l[7]          | .0 [7]\n\
-        A | l[10]         | .0 [10]\n\
-        A | l[90]         | .0 [90]\n\
-        A | l[1000000000] | .0 [1000000000]\n\
-        A | l[4294967289] | .0 [4294967289]\n\
-        A | l[4294967295] | .0 [4294967295]\n\
-    ";
-    all_resolved(&rt, rt.alloc(), LISTS, cases)
+    let alloc = rt.alloc();
+    for number in "0 7 10 90 1000000000 4294967289 4294967295".split(' ') {
+        let case = format!(in alloc; "A | l[{number}] | .0 [{number}]")?;
+        all_resolved(&rt, alloc, LISTS, &case)?;
+    }
+    Ok(())
 }
