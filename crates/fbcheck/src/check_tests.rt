@@ -1,17 +1,11 @@
 //! Whole runs by schema files, and without one.
 
-use crate::check::check;
-use crate::fault::{RunFault, status};
-use crate::output::Tally;
+use crate::fault::RunFault;
 use crate::schema_files::{all_told, spelled, told_of};
 use crate::start_fault::StartFault;
-use crate::tests::{Full, Narrow, Slow, TWO_LINES, Told};
-use crate::words_tests::given;
 use case_text::chains::list;
 use fb_access::PathFault;
 use fb_bfbs::LoadFault;
-use fb_bytes::Counted;
-use std::alloc::Global;
 use std::test::Fail;
 
 #[test]
@@ -45,73 +39,6 @@ fn a_stream_is_checked_by_a_schema_file(rt: HostRuntime) -> Result<(), Fail> {
         two | N | --path v | SEVEN SEVEN | 0 1 ok tables=1 depth=1 reads=5 7 / 2 ok tables=1 depth=1 reads=5 7\n\
     ";
     all_told(&rt, rt.alloc(), cases)
-}
-
-/// A run by the schema file of N over `SEVEN` twice, by a reader of pieces of a given size that fails at a given call,
-/// counted from 1, and a writer with so much room.
-fn run_in_pieces(
-    alloc: Global,
-    most: usize,
-    fails_at: u64,
-    room: usize,
-    full: Full,
-) -> Result<Told, Fail> {
-    let file = spelled(alloc, "N")?;
-    let settings = given(alloc, [].as_slice()).ok().ok_or("words")?;
-    if settings.depth != 64 || settings.max_bytes != 67_108_864 {
-        return Err(Fail::from("range"));
-    }
-    let stream = spelled(alloc, "SEVEN SEVEN")?;
-    let mut reader = Counted::new(Slow::new(stream.as_slice(), most, fails_at));
-    let mut writer = Counted::new(Narrow::new(alloc, room, full));
-    let file = Some(file.as_slice());
-    let answer = check(alloc, file, &settings, &mut reader, &mut writer);
-    Ok((answer, writer.into_inner().taken))
-}
-
-#[test]
-fn a_stream_is_told_by_a_schema_file_however_it_is_cut(rt: HostRuntime) -> Result<(), Fail> {
-    for most in [1, 34, 64] {
-        let (answer, taken) = run_in_pieces(rt.alloc(), most, 0, 60, Full::Fails)?;
-        assert_eq!(rt; answer, Ok(Tally { yes: 2, no: 0 }), "in pieces of {most}");
-        assert_eq!(rt;
-            taken.as_slice(),
-            TWO_LINES.as_bytes(),
-            "in pieces of {most}"
-        );
-    }
-    Ok(())
-}
-
-#[test]
-fn a_failing_reader_leaves_the_lines_before_it_by_a_schema_file(
-    rt: HostRuntime,
-) -> Result<(), Fail> {
-    for (fails_at, lines) in [(1, 0), (32, 0), (33, 30), (64, 30), (65, 60)] {
-        let (answer, taken) = run_in_pieces(rt.alloc(), 1, fails_at, 60, Full::Fails)?;
-        assert_eq!(rt; answer, Err(RunFault::ReadFault), "at {fails_at}");
-        let front = TWO_LINES.as_bytes().get(..lines).ok_or("lines")?;
-        assert_eq!(rt; taken.as_slice(), front, "at {fails_at}");
-    }
-    Ok(())
-}
-
-#[test]
-fn a_narrow_writer_takes_a_front_by_a_schema_file(rt: HostRuntime) -> Result<(), Fail> {
-    for full in [Full::TakesNothing, Full::Fails] {
-        for room in 0..60usize {
-            let (answer, taken) = run_in_pieces(rt.alloc(), 1, 0, room, full)?;
-            let written = room as u128;
-            assert_eq!(rt;
-                answer,
-                Err(RunFault::WriteFault { written }),
-                "{full:?} at {room}"
-            );
-            let front = TWO_LINES.as_bytes().get(..room).ok_or("room")?;
-            assert_eq!(rt; taken.as_slice(), front, "{full:?} at {room}");
-        }
-    }
-    Ok(())
 }
 
 #[test]

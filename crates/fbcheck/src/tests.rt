@@ -2,12 +2,14 @@
 
 ghost use Rattle.std.specs.Prelude.{◌≡◌, None};
 
+use crate::check::check;
 use crate::fault::{RunFault, status};
 use crate::options::Options;
 use crate::output::Tally;
 use crate::reading::MOST_TURNS;
 use crate::run::run_within;
 use crate::schema_files::{all_told, spelled};
+use crate::words_tests::given;
 use case_text::rows::schema_of;
 use fb_bytes::{Counted, Source, StreamFault};
 use fb_schema::Schema;
@@ -15,6 +17,7 @@ use fb_verify::{Ident, Limits};
 use std::alloc::Global;
 use std::io;
 use std::io::{ErrorKind, Read, Write};
+use std::process::Abort;
 use std::test::Fail;
 
 /// By N, size-prefixed: `v` is 7.
@@ -192,35 +195,56 @@ fn a_required_field_may_not_be_absent(rt: HostRuntime) -> Result<(), Fail> {
     Ok(())
 }
 
-/// What is answered, and what a writer took.
-pub type Told = (Result<Tally, RunFault>, Vec<u8>);
+/// By what a run is made: by a schema, or by its schema file.
+#[derive(Clone, Copy, Debug)]
+enum By {
+    Schema,
+    File,
+}
 
 /// A run by N over `SEVEN` twice, by a reader of pieces of a given size that fails at a given call, counted from 1, and
-/// a writer with so much room.
+/// a writer with so much room: what is answered, and what the writer took.
 fn run_twice(
+    by: By,
     alloc: Global,
     most: usize,
     fails_at: u64,
     room: usize,
     full: Full,
-) -> Result<Told, Fail> {
-    let schema = schema_n(alloc)?;
-    if !schema.is_table(0) {
-        return Err(Fail::from("table"));
-    }
-    let (options, stream) = (stream_options(64), twice());
+) -> Result<(Result<Tally, RunFault>, Vec<u8>), Fail> {
+    let stream = twice();
     let mut reader = Counted::new(Slow::new(stream.as_slice(), most, fails_at));
     let mut writer = Counted::new(Narrow::new(alloc, room, full));
-    let answer = run_within(alloc, &mut reader, &mut writer, &schema, &options, MOST_TURNS);
+    let answer = match by {
+        By::Schema => {
+            let schema = schema_n(alloc)?;
+            if !schema.is_table(0) {
+                return Err(Fail::from("table"));
+            }
+            let options = stream_options(64);
+            run_within(alloc, &mut reader, &mut writer, &schema, &options, MOST_TURNS)
+        }
+        By::File => {
+            let file = spelled(alloc, "N")?;
+            let settings = given(alloc, [].as_slice()).ok().ok_or("words")?;
+            if settings.depth != 64 || settings.max_bytes != 67_108_864 {
+                return Err(Fail::from("range"));
+            }
+            let file = Some(file.as_slice());
+            check(alloc, file, &settings, &mut reader, &mut writer)
+        }
+    };
     Ok((answer, writer.into_inner().taken))
 }
 
 #[test]
 fn a_stream_is_told_however_it_is_cut(rt: HostRuntime) -> Result<(), Fail> {
-    for most in 1..=64 {
-        let (answer, taken) = run_twice(rt.alloc(), most, 0, 60, Full::Fails)?;
-        assert_eq!(rt; answer, Ok(Tally { yes: 2, no: 0 }), "in pieces of {most}");
-        assert_eq!(rt; taken.as_slice(), TWO_LINES.as_bytes(), "in pieces of {most}");
+    for by in [By::Schema, By::File] {
+        for most in 1..=64 {
+            let (answer, taken) = run_twice(by, rt.alloc(), most, 0, 60, Full::Fails)?;
+            assert_eq!(rt; answer, Ok(Tally { yes: 2, no: 0 }), "{by:?} by {most}");
+            assert_eq!(rt; taken.as_slice(), TWO_LINES.as_bytes(), "{by:?} by {most}");
+        }
     }
     Ok(())
 }
@@ -244,34 +268,45 @@ fn a_stream_ends_with_what_is_left(rt: HostRuntime) -> Result<(), Fail> {
 
 #[test]
 fn a_failing_reader_leaves_the_lines_before_it(rt: HostRuntime) -> Result<(), Fail> {
-    for (fails_at, lines) in [(1, 0), (32, 0), (33, 30), (64, 30), (65, 60)] {
-        let (answer, taken) = run_twice(rt.alloc(), 1, fails_at, 60, Full::Fails)?;
-        assert_eq!(rt; answer, Err(RunFault::ReadFault), "at {fails_at}");
-        let front = TWO_LINES.as_bytes().get(..lines).ok_or("lines")?;
-        assert_eq!(rt; taken.as_slice(), front, "at {fails_at}");
+    for by in [By::Schema, By::File] {
+        for (fails_at, lines) in [(1, 0), (32, 0), (33, 30), (64, 30), (65, 60)] {
+            let (answer, taken) = run_twice(by, rt.alloc(), 1, fails_at, 60, Full::Fails)?;
+            assert_eq!(rt; answer, Err(RunFault::ReadFault), "{by:?} at {fails_at}");
+            let front = TWO_LINES.as_bytes().get(..lines).ok_or("lines")?;
+            assert_eq!(rt; taken.as_slice(), front, "{by:?} at {fails_at}");
+        }
     }
+    Ok(())
+}
+
+/// Asserts what is told of a writer that has so much room.
+fn narrow_is_told(
+    rt: &impl Abort,
+    alloc: Global,
+    by: By,
+    most: usize,
+    full: Full,
+    room: usize,
+) -> Result<(), Fail> {
+    let (answer, taken) = run_twice(by, alloc, most, 0, room, full)?;
+    let written = room as u128;
+    let want = if room < 60 {
+        Err(RunFault::WriteFault { written })
+    } else {
+        Ok(Tally { yes: 2, no: 0 })
+    };
+    assert_eq!(rt; answer, want, "{by:?} {full:?} at {room}");
+    let front = TWO_LINES.as_bytes().get(..room).ok_or("room")?;
+    assert_eq!(rt; taken.as_slice(), front, "{by:?} {full:?} at {room}");
     Ok(())
 }
 
 #[test]
 fn a_narrow_writer_is_told_by_what_it_took(rt: HostRuntime) -> Result<(), Fail> {
-    for (full, most) in [
-        (Full::TakesNothing, 64),
-        (Full::Fails, 64),
-        (Full::TakesNothing, 1),
-        (Full::Fails, 1),
-    ] {
+    for (by, most) in [(By::Schema, 64), (By::Schema, 1), (By::File, 1)] {
         for room in 0..61usize {
-            let (answer, taken) = run_twice(rt.alloc(), most, 0, room, full)?;
-            let written = room as u128;
-            let want = if room < 60 {
-                Err(RunFault::WriteFault { written })
-            } else {
-                Ok(Tally { yes: 2, no: 0 })
-            };
-            assert_eq!(rt; answer, want, "{full:?} at {room}");
-            let front = TWO_LINES.as_bytes().get(..room).ok_or("room")?;
-            assert_eq!(rt; taken.as_slice(), front, "{full:?} at {room}");
+            narrow_is_told(&rt, rt.alloc(), by, most, Full::TakesNothing, room)?;
+            narrow_is_told(&rt, rt.alloc(), by, most, Full::Fails, room)?;
         }
     }
     Ok(())

@@ -7,6 +7,7 @@ use fb_bfbs::{LoadFault, load};
 use fb_schema::{Code, Kind, Scalar, SchemaFault};
 use fb_verify::{Fault, Limits, Reason};
 use std::alloc::Global;
+use std::process::Abort;
 use std::test::Fail;
 
 /// A schema file by text.
@@ -159,22 +160,27 @@ fn a_budget_of_reads_is_that_of_the_caller(rt: HostRuntime) -> Result<(), Fail> 
     Ok(())
 }
 
+/// Asserts the text of a fault.
+fn is_told(rt: &impl Abort, alloc: Global, fault: LoadFault, want: &str) -> Result<(), Fail> {
+    assert_eq!(rt; fault.to_string(alloc)?.as_str(), want);
+    Ok(())
+}
+
 #[test]
-fn texts_of_the_other_faults(rt: HostRuntime) {
-    let fault = LoadFault::BadSchema(SchemaFault {
+fn texts_of_the_other_faults(rt: HostRuntime) -> Result<(), Fail> {
+    let twice = LoadFault::BadSchema(SchemaFault {
         code: Code::NameTwice,
         owner: 3,
         part: None,
     });
-    let text = |fault: LoadFault| fault.to_string(rt.alloc()).expect(&rt, "memory");
-    assert_eq!(rt; text(fault).as_str(), "L2 C8 NameTwice owner=3 part=-");
-    assert_eq!(rt; text(LoadFault::TooLong).as_str(), "L5 TooLong");
-    assert_eq!(rt; text(LoadFault::OutOfMemory).as_str(), "L4 OutOfMemory");
+    is_told(&rt, rt.alloc(), twice, "L2 C8 NameTwice owner=3 part=-")?;
+    is_told(&rt, rt.alloc(), LoadFault::TooLong, "L5 TooLong")?;
+    is_told(&rt, rt.alloc(), LoadFault::OutOfMemory, "L4 OutOfMemory")
 }
 
 #[test]
 fn each_reason_of_the_verifier_has_its_text(rt: HostRuntime) -> Result<(), Fail> {
-    let reasons = [
+    for (reason, name) in [
         (Reason::WrongPrefix, "V1 WrongPrefix"),
         (Reason::OutOfBuffer, "V2 OutOfBuffer"),
         (Reason::Misaligned, "V3 Misaligned"),
@@ -188,25 +194,23 @@ fn each_reason_of_the_verifier_has_its_text(rt: HostRuntime) -> Result<(), Fail>
         (Reason::LengthsDiffer, "V11 LengthsDiffer"),
         (Reason::PastTable, "V12 PastTable"),
         (Reason::TooManyReads, "V13 TooManyReads"),
-    ];
-    for (reason, name) in &reasons {
-        let fault = LoadFault::NotWellFormed(Fault {
+    ] {
+        let fault = Fault {
             at: 31,
             object: 4,
             field: Some(1),
-            reason: *reason,
+            reason,
             reads: 8,
-        });
-        let text = fault.to_string(rt.alloc())?;
-        let expected = format!(in rt.alloc(); "L1 {name} at=31 object=4 field=1 reads=8")?;
-        assert_eq!(rt; text.as_str(), expected.as_str());
+        };
+        let want = format!(in rt.alloc(); "L1 {name} at=31 object=4 field=1 reads=8")?;
+        is_told(&rt, rt.alloc(), LoadFault::NotWellFormed(fault), &want)?;
     }
     Ok(())
 }
 
 #[test]
 fn each_fault_of_rows_has_its_text(rt: HostRuntime) -> Result<(), Fail> {
-    let codes = [
+    for (code, name) in [
         (Code::NoSuchObject, "C1 NoSuchObject"),
         (Code::NoSuchEnum, "C2 NoSuchEnum"),
         (Code::Unsupported, "C3 Unsupported"),
@@ -215,16 +219,14 @@ fn each_fault_of_rows_has_its_text(rt: HostRuntime) -> Result<(), Fail> {
         (Code::BadStruct, "C6 BadStruct"),
         (Code::BadMember, "C7 BadMember"),
         (Code::NameTwice, "C8 NameTwice"),
-    ];
-    for (code, name) in &codes {
-        let fault = LoadFault::BadSchema(SchemaFault {
-            code: *code,
+    ] {
+        let fault = SchemaFault {
+            code,
             owner: 3,
             part: Some(2),
-        });
-        let text = fault.to_string(rt.alloc())?;
-        let expected = format!(in rt.alloc(); "L2 {name} owner=3 part=2")?;
-        assert_eq!(rt; text.as_str(), expected.as_str());
+        };
+        let want = format!(in rt.alloc(); "L2 {name} owner=3 part=2")?;
+        is_told(&rt, rt.alloc(), LoadFault::BadSchema(fault), &want)?;
     }
     Ok(())
 }
