@@ -67,7 +67,7 @@ fn values_of_plain_fields(rt: HostRuntime) -> Result<(), Fail> {
         rt.alloc(),
         "One table: v@4 long",
         "prefixed",
-        "v | LONG | Int(7)",
+        "v | SEVEN | Int(7)",
     )?;
     let cases = "\
         f | HALF  | Float([0, 0, 192, 63])\n\
@@ -108,7 +108,7 @@ fn values_of_vectors(rt: HostRuntime) -> Result<(), Fail> {
         rt.alloc(),
         LISTS,
         "",
-        "b [1] | TWO_LISTS | Text(\"hi\")",
+        "b [1] | TWICE | Text(\"hi\")",
     )
 }
 
