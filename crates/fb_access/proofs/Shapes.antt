@@ -134,26 +134,21 @@ module _ (b : List ℕ) (S : Rows) (p : Spot) (a : Answer) (e : shown a ≡ valu
   pub answers_vector : (kind onward : Kind) → IsHere p kind → element_kind kind ≡ Some onward → ((x : ℕ) → a ≡ answer.Vector x → ⊥) → ⊥
   answers_vector kind onward h i other = let v = vector_value b S p kind onward h i in let f = form_of (vector v.0) v.1 in other f.0 f.1
 
+  -- a scalar that is here answers by its number
+  of_number : (s : Scalar) → has_default s ≡ true → IsHere p (AScalar s) → (n : ℕ) × Form (number s n) a
+  of_number s i h = let n = scalar_number b S p s i h in (n.0, form_of (number s n.0) n.1)
+
   pub answers_truth : (s : Scalar) → IsTruth s → IsHere p (AScalar s) → ((x : Bool) → a ≡ answer.Bool x → ⊥) → ⊥
   answers_truth s i h other =
-      let n = scalar_number b S p s (truth_is_number s i) h in
-      let v = truth_shown s n.0 i in
-      let f = form_of (truth v.0) (n.1 ∙ v.1) in
-      other f.0 f.1
+      let n = of_number s (truth_is_number s i) h in let v = truth_shown s n.0 i in let f = subst (λ x. Form x a) v.1 n.1 in other f.0 f.1
 
   pub answers_signed : (s : Scalar) → IsSigned s → IsHere p (AScalar s) → ((x : ℤ) → a ≡ answer.Int x → ⊥) → ⊥
   answers_signed s i h other =
-      let n = scalar_number b S p s (signed_is_number s i) h in
-      let v = signed_shown s n.0 i in
-      let f = form_of (signed v.0) (n.1 ∙ v.1) in
-      other f.0 f.1
+      let n = of_number s (signed_is_number s i) h in let v = signed_shown s n.0 i in let f = subst (λ x. Form x a) v.1 n.1 in other f.0 f.1
 
   pub answers_unsigned : (s : Scalar) → IsUnsigned s → IsHere p (AScalar s) → ((x : ℕ) → a ≡ answer.UInt x → ⊥) → ⊥
   answers_unsigned s i h other =
-      let n = scalar_number b S p s (unsigned_is_number s i) h in
-      let v = unsigned_shown s n.0 i in
-      let f = form_of (unsigned v.0) (n.1 ∙ v.1) in
-      other f.0 f.1
+      let n = of_number s (unsigned_is_number s i) h in let v = unsigned_shown s n.0 i in let f = subst (λ x. Form x a) v.1 n.1 in other f.0 f.1
 
 -- a field that may be here shows nothing, or is here
 module _ (b : List ℕ) (S : Rows) (p : Spot) (kind : Kind) where

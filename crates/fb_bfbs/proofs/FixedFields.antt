@@ -64,13 +64,7 @@ pub record ObjectFields (p : Placed) : Type 0 where
 
 pub object_fields : (p : Placed) → IsAt p (Table 5) → ObjectFields p
 unfolding fixed sure_kind live_fields kind_of shape_of base_types
-object_fields p at = record {
-  name = always at refl;
-  fields = always at refl;
-  is_struct = always at refl;
-  minalign = always at refl;
-  bytesize = always at refl;
-}
+object_fields p at = record { name = always at refl; fields = always at refl; is_struct = always at refl; minalign = always at refl; bytesize = always at refl }
 
 -- of an EnumVal
 pub record MemberFields (p : Placed) : Type 0 where

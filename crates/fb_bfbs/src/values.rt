@@ -13,18 +13,6 @@ ghost use Rattle.fb_bfbs.specs.Seen.{seen, HasField, HasSigned, IsVector, MayHav
 use fb_access::{Answer, Place, Step};
 use fb_schema::Kind;
 
-/// A text, which is lent by the bytes.
-pub fn text_in<'b>(place: &Place<'_, 'b, '_, '_>, number: u16) -> &'b [u8]
-    requires { HasField place.now number Kind.Text }
-    ensures { seen place.now (ToField number ∷ []) (text result.now) }
-{
-    let field = place.go(Step::Field(number));
-    match field.answer() {
-        Answer::Text(text) => text,
-        _ => unreachable!(),
-    }
-}
-
 /// A Bool.
 pub fn bool_in(place: &Place, number: u16) -> bool
     requires { HasField place.now number (Kind.Scalar scalar.Bool) }
@@ -33,6 +21,18 @@ pub fn bool_in(place: &Place, number: u16) -> bool
     let field = place.go(Step::Field(number));
     match field.answer() {
         Answer::Bool(value) => value,
+        _ => unreachable!(),
+    }
+}
+
+/// A UShort.
+pub fn ushort_in(place: &Place, number: u16) -> u16
+    requires { HasField place.now number (Kind.Scalar scalar.UShort) }
+    ensures { seen place.now (ToField number ∷ []) (unsigned result) }
+{
+    let field = place.go(Step::Field(number));
+    match field.answer() {
+        Answer::UInt(value) => value as u16,
         _ => unreachable!(),
     }
 }
@@ -50,14 +50,14 @@ pub fn int_in(place: &Place, number: u16) -> i64
     }
 }
 
-/// A UShort.
-pub fn ushort_in(place: &Place, number: u16) -> u16
-    requires { HasField place.now number (Kind.Scalar scalar.UShort) }
-    ensures { seen place.now (ToField number ∷ []) (unsigned result) }
+/// A text, which is lent by the bytes.
+pub fn text_in<'b>(place: &Place<'_, 'b, '_, '_>, number: u16) -> &'b [u8]
+    requires { HasField place.now number Kind.Text }
+    ensures { seen place.now (ToField number ∷ []) (text result.now) }
 {
     let field = place.go(Step::Field(number));
     match field.answer() {
-        Answer::UInt(value) => value as u16,
+        Answer::Text(text) => text,
         _ => unreachable!(),
     }
 }

@@ -10,19 +10,26 @@ use std::test::Fail;
 /// `table A { l: [long]; }`
 const LISTS: &str = "A table: l@4 [long]";
 
-/// Asserts why this text, with each of these bytes behind it, is no path of `LISTS`.
-fn each_refused(
+/// Asserts that behind this text each of these letters goes on with a name, though none of `LISTS`, and none of the
+/// other bytes does.
+fn goes_on(
     rt: &impl Abort,
     alloc: Global,
-    front: &[u8],
-    bytes: &[u8],
-    want: PathFault,
+    front: &str,
+    letters: &[u8],
+    others: &[u8],
 ) -> Result<(), Fail> {
     let schema = schema_of(alloc, LISTS)?;
     assert!(rt; schema.is_table(0));
-    for byte in bytes {
-        let mut text = front.to_vec(alloc)?;
+    for byte in letters.iter().chain(others) {
+        let mut text = front.as_bytes().to_vec(alloc)?;
         text.push(*byte)?;
+        let want = if letters.contains(byte) {
+            PathFault::NoSuchField { step: 0 }
+        } else {
+            let at = front.len() as u64;
+            PathFault::BadText { at }
+        };
         let fault = Path::resolve(alloc, &schema, 0, &text).err();
         assert_eq!(rt; fault, Some(want), "{byte}");
     }
@@ -31,20 +38,14 @@ fn each_refused(
 
 #[test]
 fn a_name_begins_with_a_letter_or_a_low_line(rt: HostRuntime) -> Result<(), Fail> {
-    let alloc = rt.alloc();
-    let unknown = PathFault::NoSuchField { step: 0 };
-    each_refused(&rt, alloc, b"", b"AZ_az", unknown)?;
-    let wrong = PathFault::BadText { at: 0 };
-    each_refused(&rt, alloc, b"", b"@[^`{/:09$-.] \x7f\x80\xc3\xff\x00", wrong)
+    let others = b"@[^`{/:09$-.] \x7f\x80\xc3\xff\x00";
+    goes_on(&rt, rt.alloc(), "", b"AZ_az", others)
 }
 
 #[test]
 fn a_name_goes_on_with_letters_digits_and_low_lines(rt: HostRuntime) -> Result<(), Fail> {
-    let alloc = rt.alloc();
-    let unknown = PathFault::NoSuchField { step: 0 };
-    each_refused(&rt, alloc, b"l", b"AZ_az09", unknown)?;
-    let wrong = PathFault::BadText { at: 1 };
-    each_refused(&rt, alloc, b"l", b"^`{/:$-] \x7f\x80\xc3\xff\x00", wrong)
+    let others = b"^`{/:$-] \x7f\x80\xc3\xff\x00";
+    goes_on(&rt, rt.alloc(), "l", b"AZ_az09", others)
 }
 
 /// Texts that are no path, by the place of their first byte that can't go on.

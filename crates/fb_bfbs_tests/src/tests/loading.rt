@@ -180,7 +180,7 @@ fn texts_of_the_other_faults(rt: HostRuntime) -> Result<(), Fail> {
 
 #[test]
 fn each_reason_of_the_verifier_has_its_text(rt: HostRuntime) -> Result<(), Fail> {
-    for (reason, name) in [
+    let reasons = [
         (Reason::WrongPrefix, "V1 WrongPrefix"),
         (Reason::OutOfBuffer, "V2 OutOfBuffer"),
         (Reason::Misaligned, "V3 Misaligned"),
@@ -194,7 +194,8 @@ fn each_reason_of_the_verifier_has_its_text(rt: HostRuntime) -> Result<(), Fail>
         (Reason::LengthsDiffer, "V11 LengthsDiffer"),
         (Reason::PastTable, "V12 PastTable"),
         (Reason::TooManyReads, "V13 TooManyReads"),
-    ] {
+    ];
+    for (reason, name) in reasons {
         let fault = Fault {
             at: 31,
             object: 4,
@@ -210,7 +211,7 @@ fn each_reason_of_the_verifier_has_its_text(rt: HostRuntime) -> Result<(), Fail>
 
 #[test]
 fn each_fault_of_rows_has_its_text(rt: HostRuntime) -> Result<(), Fail> {
-    for (code, name) in [
+    let codes = [
         (Code::NoSuchObject, "C1 NoSuchObject"),
         (Code::NoSuchEnum, "C2 NoSuchEnum"),
         (Code::Unsupported, "C3 Unsupported"),
@@ -219,7 +220,8 @@ fn each_fault_of_rows_has_its_text(rt: HostRuntime) -> Result<(), Fail> {
         (Code::BadStruct, "C6 BadStruct"),
         (Code::BadMember, "C7 BadMember"),
         (Code::NameTwice, "C8 NameTwice"),
-    ] {
+    ];
+    for (code, name) in codes {
         let fault = SchemaFault {
             code,
             owner: 3,

@@ -102,37 +102,16 @@ fn a_scalar_stands_at_a_multiple_of_its_size(rt: HostRuntime) -> Result<(), Fail
 }
 
 /// Alignments, with places where a struct is asked: in a field, and as the value of a union.
-const PLACES: [(u32, u32); 14] = [
-    (1, 29),
-    (1, 30),
-    (2, 29),
-    (2, 30),
-    (4, 30),
-    (4, 28),
-    (8, 28),
-    (8, 32),
-    (16, 40),
-    (16, 32),
-    (128, 64),
-    (128, 128),
-    (256, 128),
-    (256, 256),
-];
+const PLACES: &str = "1@29 1@30 2@29 2@30 4@30 4@28 8@28 8@32 16@40 16@32 128@64 128@128 256@128 256@256";
 
 /// Alignments, with places where the first struct of a vector is asked.
-const FIRST_ELEMENTS: [(u32, u32); 11] = [
-    (1, 24),
-    (2, 24),
-    (4, 24),
-    (8, 28),
-    (8, 24),
-    (16, 24),
-    (16, 32),
-    (128, 64),
-    (128, 128),
-    (256, 128),
-    (256, 256),
-];
+const FIRST_ELEMENTS: &str = "1@24 2@24 4@24 8@28 8@24 16@24 16@32 128@64 128@128 256@128 256@256";
+
+/// An alignment and a place.
+fn placed(word: &str) -> Option<(u32, u32)> {
+    let (alignment, at) = word.split_once('@')?;
+    Some((alignment.parse::<u32>().ok()?, at.parse::<u32>().ok()?))
+}
 
 /// The rows of a struct of 12 bytes with this alignment: alone, in a vector and in a union.
 fn boxes(alloc: Global, alignment: u32) -> Result<String, AllocError> {
@@ -156,7 +135,8 @@ fn judged(alloc: Global, alignment: u32, at: u32, field: &str, reads: u32) -> Re
 #[test]
 fn a_struct_stands_at_a_multiple_of_its_alignment(rt: HostRuntime) -> Result<(), Fail> {
     let alloc = rt.alloc();
-    for (alignment, at) in PLACES {
+    for word in PLACES.split(' ') {
+        let (alignment, at) = placed(word).ok_or("no place")?;
         let (slot, offset) = (at.saturating_sub(12), at.saturating_sub(16));
         let alone = judged(alloc, alignment, at, "1.0", 4)?;
         let united = judged(alloc, alignment, at, "3.1", 8)?;
@@ -169,7 +149,8 @@ fn a_struct_stands_at_a_multiple_of_its_alignment(rt: HostRuntime) -> Result<(),
         )?;
         answered(&rt, alloc, &boxes(alloc, alignment)?, &cases)?;
     }
-    for (alignment, at) in FIRST_ELEMENTS {
+    for word in FIRST_ELEMENTS.split(' ') {
+        let (alignment, at) = placed(word).ok_or("no place")?;
         let (count, offset) = (at.saturating_sub(4), at.saturating_sub(20));
         let listed = judged(alloc, alignment, at, "2.0", 6)?;
         let case = format!(in alloc;
