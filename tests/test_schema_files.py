@@ -16,21 +16,11 @@ from probes import TOP, Tally, program
 
 FOLDER = TOP / "tests" / "schema_files"
 
-# What a base type holds one of, by its number, and its bytes.
-SCALARS = {
-    1: ("UType", 1),
-    2: ("Bool", 1),
-    3: ("Byte", 1),
-    4: ("UByte", 1),
-    5: ("Short", 2),
-    6: ("UShort", 2),
-    7: ("Int", 4),
-    8: ("UInt", 4),
-    9: ("Long", 8),
-    10: ("ULong", 8),
-    11: ("Float", 4),
-    12: ("Double", 8),
-}
+# What a base type holds one of, from number 1 on, and its bytes.
+SCALARS = dict(enumerate([
+    ("UType", 1), ("Bool", 1), ("Byte", 1), ("UByte", 1), ("Short", 2), ("UShort", 2),
+    ("Int", 4), ("UInt", 4), ("Long", 8), ("ULong", 8), ("Float", 4), ("Double", 8),
+], 1))
 TEXT, VECTOR, OBJECT, UNION = 13, 14, 15, 16
 
 

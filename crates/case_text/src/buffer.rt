@@ -7,10 +7,11 @@
 //! ..24                   as many bytes as this: cut off, or zeros behind them
 //! ```
 
+use crate::samples::SHARED;
 use std::alloc::Global;
 use std::test::Fail;
 
-/// A name, and the bytes that it stands for as text, in which no other name stands.
+/// A name, and the bytes that it stands for as text. The names of `SHARED` may stand in it, but no other.
 pub type Sample = (&'static str, &'static str);
 
 /// Writes bytes over those from a place on.
@@ -36,21 +37,27 @@ fn add_word(alloc: Global, bytes: &mut Vec<u8>, word: &str) -> Result<(), Fail> 
     Ok(bytes.extend_from_slice(&added)?)
 }
 
-/// Does what a text says that has no sample's name.
-fn add_plain(alloc: Global, bytes: &mut Vec<u8>, text: &str) -> Result<(), Fail> {
+/// What a word stands for: a sample by its name, or else itself.
+fn meaning<'t>(samples: &[Sample], word: &'t str) -> &'t str {
+    let sample = samples.iter().find(|(name, _)| *name == word);
+    sample.map_or(word, |(_, text)| *text)
+}
+
+/// Does what a text says in which no name stands but those of `SHARED`.
+fn add_text(alloc: Global, bytes: &mut Vec<u8>, text: &str) -> Result<(), Fail> {
     for word in text.split_whitespace() {
-        add_word(alloc, bytes, word)?;
+        for plain in meaning(&SHARED, word).split_whitespace() {
+            add_word(alloc, bytes, plain)?;
+        }
     }
     Ok(())
 }
 
-/// The bytes that a text stands for, whose names are those of the samples.
+/// The bytes that a text stands for, whose names are those of these samples and of `SHARED`.
 pub fn bytes_of(alloc: Global, samples: &[Sample], text: &str) -> Result<Vec<u8>, Fail> {
     let mut bytes = Vec::new(alloc);
     for word in text.split_whitespace() {
-        let sample = samples.iter().find(|(name, _)| *name == word);
-        let text = sample.map_or(word, |(_, text)| *text);
-        add_plain(alloc, &mut bytes, text)?;
+        add_text(alloc, &mut bytes, meaning(samples, word))?;
     }
     Ok(bytes)
 }

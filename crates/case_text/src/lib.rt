@@ -3,4 +3,9 @@
 #![tactic(auto)]
 
 pub mod buffer;
+pub mod chains;
+pub mod columns;
+pub mod reflection;
 pub mod rows;
+pub mod samples;
+pub mod told;

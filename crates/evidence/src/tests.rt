@@ -15,7 +15,6 @@ mod random;
 mod random_buffers;
 mod random_row_sweeps;
 mod random_rows;
-mod reflection_rows;
 mod rows;
 mod schemas;
 mod worked_rows;

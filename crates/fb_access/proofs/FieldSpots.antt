@@ -3,7 +3,7 @@ use Rattle.std.proofs.Common.{◌≡◌, ℕ, zero, suc, ◌+◌, ◌≤◌, ◌
 use Rattle.std.specs.Prelude.{slice_get, IfSome}
 use Rattle.fb_bytes.specs.Word.{word}
 use Rattle.fb_schema.specs.declared.kinds.Scalar.{Scalar}
-use Rattle.fb_schema.specs.declared.kinds.Scalar.TheVariants.{UType, Bool as AsBool, Byte, UByte, Short, UShort, Int, UInt, Long, ULong, Float, Double}
+use Rattle.fb_schema.specs.declared.kinds.Scalar.TheVariants.{Float, Double}
 use Rattle.fb_schema.specs.declared.kinds.Kind.{Kind}
 use Rattle.fb_schema.specs.declared.kinds.Kind.TheVariants.{Scalar as AScalar, Text, Struct, Table, Union, Scalars, Texts, Structs, Tables, Unions}
 use Rattle.fb_schema.specs.Rows.{Rows, Object}
@@ -75,32 +75,15 @@ module _ (c : Checks) (b : List ℕ) (S : Rows) (t : ℕ) (f : Live) (p : ℕ) w
 module _ (b : List ℕ) (S : Rows) where
   default_holds : (d : ℤ) (s : Scalar) → IsSpot b S (default_spot d s)
   unfolding IsSpot default_spot
-  default_holds d UType = tt
-  default_holds d AsBool = tt
-  default_holds d Byte = tt
-  default_holds d UByte = tt
-  default_holds d Short = tt
-  default_holds d UShort = tt
-  default_holds d Int = tt
-  default_holds d UInt = tt
-  default_holds d Long = tt
-  default_holds d ULong = tt
   default_holds d Float = tt
   default_holds d Double = tt
+  default_holds d s = tt
 
   absent_holds : (optional : Bool) (d : ℤ) (kind : Kind) → IsSpot b S (absent_spot optional d kind)
   unfolding IsSpot absent_spot
   absent_holds true d kind = tt
   absent_holds false d (AScalar s) = default_holds d s
-  absent_holds false d Text = tt
-  absent_holds false d (Struct o) = tt
-  absent_holds false d (Table o) = tt
-  absent_holds false d (Union e) = tt
-  absent_holds false d (Scalars s) = tt
-  absent_holds false d Texts = tt
-  absent_holds false d (Structs o) = tt
-  absent_holds false d (Tables o) = tt
-  absent_holds false d (Unions e) = tt
+  absent_holds false d kind = tt
 
   module _ (c : Checks) (t : ℕ) (f : Live) where
     spot_holds : (place : Option ℕ) (ys : Elements) → IsPresentOrAbsent c b S t f place → ElementsUnfold ys c b S (entries_at b S t f place) → KindHolds S f f.kind → f.size ≡ kind_size S f.kind → f.align ≡ kind_align S f.kind → IsTyped b t f.slot f.kind → IsSpot b S (spot_at b t f place)

@@ -22,18 +22,17 @@ use Rattle.fb_access.proofs.MemberKinds.{IsMemberKind, member_there}
 use Rattle.fb_access.proofs.NumberedFields.{found_by_number}
 
 -- a table without the field
-pub no_field : (S : Rows) (kind : Kind) (k : ℕ) (name : List ℕ) → kind ≡ Table k → field_named S k name ≡ None → Err NoSuchField ≡ field_step S kind name
-no_field S kind k name is e = sym (ap (λ x. field_step S x name) is ∙ ap to_field (none_found (λ (f : Live). bytes_eq f.name name) (live_fields S k) e))
+pub no_field : (S : Rows) (k : ℕ) (name : List ℕ) → field_named S k name ≡ None → Err NoSuchField ≡ field_step S (Table k) name
+no_field S k name e = sym (ap to_field (none_found (λ (f : Live). bytes_eq f.name name) (live_fields S k) e))
 
 -- and one with it
-pub a_field : (S : Rows) (kind : Kind) (k i : ℕ) (name : List ℕ) (f : FieldView) → kind ≡ Table k → field_named S k name ≡ Some i → slice_get (live_fields S k) i ≡ Some (live_of_view f) → Ok (record { step = Field f.number; kind = f.kind }) ≡ field_step S kind name
-a_field S kind k i name f is e at = sym (ap (λ x. field_step S x name) is ∙ ap to_field (found_at (λ (f : Live). bytes_eq f.name name) (live_fields S k) i e ∙ at))
+pub a_field : (S : Rows) (k i : ℕ) (name : List ℕ) (f : FieldView) → field_named S k name ≡ Some i → slice_get (live_fields S k) i ≡ Some (live_of_view f) → Ok (record { step = Field f.number; kind = f.kind }) ≡ field_step S (Table k) name
+a_field S k i name f e at = sym (ap to_field (found_at (λ (f : Live). bytes_eq f.name name) (live_fields S k) i e ∙ at))
 
 -- a member that is named has a kind
-pub has_kind : (S : Rows) (kind : Kind) (e v : ℕ) (name : List ℕ) → IsLegal S → IsThere S kind → kind ≡ Union e → member_named S e name ≡ Some v → IsSome (member_of S e v)
-has_kind S kind e v name legal there is named =
-    let h : IsTrue (is_union S e) = subst (IsThere S) is there in
-    let k = member_there S e v name legal h named in
+pub has_kind : (S : Rows) (e v : ℕ) (name : List ℕ) → IsLegal S → IsTrue (is_union S e) → member_named S e name ≡ Some v → IsSome (member_of S e v)
+has_kind S e v name legal there named =
+    let k = member_there S e v name legal there named in
     subst IsSome (sym k.1) refl
 
 -- Where a step leads.

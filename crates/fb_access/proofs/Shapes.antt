@@ -1,7 +1,7 @@
 -- For who reads by a schema that they know: which answer comes where a kind is here.
-use Rattle.std.proofs.Common.{◌≡◌, ℕ, ℤ, Bool, List, refl, ◌∙◌, Some, inl, inr, Bor}
+use Rattle.std.proofs.Common.{◌≡◌, ℕ, ℤ, Bool, true, List, refl, ◌∙◌, subst, Some, inl, inr, Bor}
 use Rattle.fb_schema.specs.declared.kinds.Scalar.{Scalar}
-use Rattle.fb_schema.specs.declared.kinds.Scalar.TheVariants.{UType, Bool as AsBool, Byte, UByte, Short, UShort, Int as AsInt, UInt as AsUInt, Long, ULong}
+use Rattle.fb_schema.specs.declared.kinds.Scalar.TheVariants.{UType, Bool as AsBool, Byte, UByte, Short, UShort, Int as AsInt, UInt as AsUInt, Long, ULong, Float as AsFloat, Double}
 use Rattle.fb_schema.specs.declared.kinds.Kind.{Kind}
 use Rattle.fb_schema.specs.declared.kinds.Kind.TheVariants.{Scalar as AScalar, Text as AText, Table as ATable}
 use Rattle.fb_schema.specs.Rows.{Rows}
@@ -10,20 +10,13 @@ use Rattle.fb_access.specs.declared.spot.Spot.TheVariants.{AtTable, AtInline, At
 use Rattle.fb_access.specs.declared.answer.Answer.{Answer}
 use Rattle.fb_access.specs.declared.answer.Answer.TheVariants as answer
 use Rattle.fb_access.specs.Fitting.{element_kind}
-use Rattle.fb_access.specs.Denotes.{nothing, truth, signed, unsigned, text, vector, table, shown, number, inline_value, default_value, value}
-use Rattle.fb_access.specs.Here.{IsHere, MayBeHere}
+use Rattle.fb_access.specs.Denotes.{Shown, nothing, truth, signed, unsigned, text, vector, table, shown, number, inline_value, default_value, value}
+use Rattle.fb_access.specs.Here.{IsHere, MayBeHere, has_default, IsSigned}
 
--- a scalar that is shown as a truth value, as a signed number, as an unsigned one
+-- a scalar that is shown as a truth value, and one that is as an unsigned number
 abbrev pub IsTruth : Scalar → Type 0
 IsTruth AsBool = Unit {0}
 IsTruth _ = ⊥
-
-abbrev pub IsSigned : Scalar → Type 0
-IsSigned Byte = Unit {0}
-IsSigned Short = Unit {0}
-IsSigned AsInt = Unit {0}
-IsSigned Long = Unit {0}
-IsSigned _ = ⊥
 
 abbrev pub IsUnsigned : Scalar → Type 0
 IsUnsigned UType = Unit {0}
@@ -53,112 +46,109 @@ module _ (b : List ℕ) (S : Rows) where
   vector_value (AtUnions u q c) kind onward h e = (_, refl)
   vector_value p kind onward h e = absurd cc
 
-  -- a scalar that is here shows a truth value, a signed or an unsigned number
-  truth_inline : (p : ℕ) (s : Scalar) → IsTruth s → (v : Bool) × (inline_value b p s ≡ truth v)
-  unfolding inline_value number
-  truth_inline p AsBool h = (_, refl)
-  truth_inline p s h = absurd h
+  -- a scalar that is no float is shown by its number
+  inline_number : (p : ℕ) (s : Scalar) → has_default s ≡ true → (n : ℕ) × (inline_value b p s ≡ number s n)
+  unfolding inline_value
+  inline_number p AsFloat h = absurd cc
+  inline_number p Double h = absurd cc
+  inline_number p s h = (_, refl)
 
-  truth_default : (d : ℤ) (s : Scalar) → IsTruth s → (v : Bool) × (default_value s d ≡ truth v)
-  unfolding default_value number
-  truth_default d AsBool h = (_, refl)
-  truth_default d s h = absurd h
+  default_number : (d : ℤ) (s : Scalar) → (n : ℕ) × (default_value s d ≡ number s n)
+  unfolding default_value
+  default_number d s = (_, refl)
 
-  truth_value : (p : Spot) (s : Scalar) → IsTruth s → IsHere p (AScalar s) → (v : Bool) × (value b S p ≡ truth v)
+  scalar_number : (p : Spot) (s : Scalar) → has_default s ≡ true → IsHere p (AScalar s) → (n : ℕ) × (value b S p ≡ number s n)
   unfolding value
-  truth_value (AtInline r p) s h i = let e : s ≡ r = cc in truth_inline p r (rw e at h)
-  truth_value (AtDefault r d) s h i = let e : s ≡ r = cc in truth_default d r (rw e at h)
-  truth_value p s h i = absurd cc
+  scalar_number (AtInline r p) s h i = let e : s ≡ r = cc in rw e (inline_number p r (rw e at h))
+  scalar_number (AtDefault r d) s h i = let e : s ≡ r = cc in rw e (default_number d r)
+  scalar_number p s h i = absurd cc
 
-  signed_inline : (p : ℕ) (s : Scalar) → IsSigned s → (z : ℤ) × (inline_value b p s ≡ signed z)
-  unfolding inline_value number
-  signed_inline p Byte h = (_, refl)
-  signed_inline p Short h = (_, refl)
-  signed_inline p AsInt h = (_, refl)
-  signed_inline p Long h = (_, refl)
-  signed_inline p s h = absurd h
+-- a number is shown as its scalar is
+truth_shown : (s : Scalar) (n : ℕ) → IsTruth s → (v : Bool) × (number s n ≡ truth v)
+unfolding number
+truth_shown AsBool n h = (_, refl)
+truth_shown s n h = absurd h
 
-  signed_default : (d : ℤ) (s : Scalar) → IsSigned s → (z : ℤ) × (default_value s d ≡ signed z)
-  unfolding default_value number
-  signed_default d Byte h = (_, refl)
-  signed_default d Short h = (_, refl)
-  signed_default d AsInt h = (_, refl)
-  signed_default d Long h = (_, refl)
-  signed_default d s h = absurd h
+signed_shown : (s : Scalar) (n : ℕ) → IsSigned s → (z : ℤ) × (number s n ≡ signed z)
+unfolding number
+signed_shown Byte n h = (_, refl)
+signed_shown Short n h = (_, refl)
+signed_shown AsInt n h = (_, refl)
+signed_shown Long n h = (_, refl)
+signed_shown s n h = absurd h
 
-  signed_value : (p : Spot) (s : Scalar) → IsSigned s → IsHere p (AScalar s) → (z : ℤ) × (value b S p ≡ signed z)
-  unfolding value
-  signed_value (AtInline r p) s h i = let e : s ≡ r = cc in signed_inline p r (rw e at h)
-  signed_value (AtDefault r d) s h i = let e : s ≡ r = cc in signed_default d r (rw e at h)
-  signed_value p s h i = absurd cc
+unsigned_shown : (s : Scalar) (n : ℕ) → IsUnsigned s → (m : ℕ) × (number s n ≡ unsigned m)
+unfolding number
+unsigned_shown UType n h = (_, refl)
+unsigned_shown UByte n h = (_, refl)
+unsigned_shown UShort n h = (_, refl)
+unsigned_shown AsUInt n h = (_, refl)
+unsigned_shown ULong n h = (_, refl)
+unsigned_shown s n h = absurd h
 
-  unsigned_inline : (p : ℕ) (s : Scalar) → IsUnsigned s → (n : ℕ) × (inline_value b p s ≡ unsigned n)
-  unfolding inline_value number
-  unsigned_inline p UType h = (_, refl)
-  unsigned_inline p UByte h = (_, refl)
-  unsigned_inline p UShort h = (_, refl)
-  unsigned_inline p AsUInt h = (_, refl)
-  unsigned_inline p ULong h = (_, refl)
-  unsigned_inline p s h = absurd h
+-- none of these scalars is a float
+truth_is_number : (s : Scalar) → IsTruth s → has_default s ≡ true
+truth_is_number AsBool h = refl
+truth_is_number s h = absurd h
 
-  unsigned_default : (d : ℤ) (s : Scalar) → IsUnsigned s → (n : ℕ) × (default_value s d ≡ unsigned n)
-  unfolding default_value number
-  unsigned_default d UType h = (_, refl)
-  unsigned_default d UByte h = (_, refl)
-  unsigned_default d UShort h = (_, refl)
-  unsigned_default d AsUInt h = (_, refl)
-  unsigned_default d ULong h = (_, refl)
-  unsigned_default d s h = absurd h
+signed_is_number : (s : Scalar) → IsSigned s → has_default s ≡ true
+signed_is_number AsFloat h = absurd h
+signed_is_number Double h = absurd h
+signed_is_number s h = refl
 
-  unsigned_value : (p : Spot) (s : Scalar) → IsUnsigned s → IsHere p (AScalar s) → (n : ℕ) × (value b S p ≡ unsigned n)
-  unfolding value
-  unsigned_value (AtInline r p) s h i = let e : s ≡ r = cc in unsigned_inline p r (rw e at h)
-  unsigned_value (AtDefault r d) s h i = let e : s ≡ r = cc in unsigned_default d r (rw e at h)
-  unsigned_value p s h i = absurd cc
+unsigned_is_number : (s : Scalar) → IsUnsigned s → has_default s ≡ true
+unsigned_is_number AsFloat h = absurd h
+unsigned_is_number Double h = absurd h
+unsigned_is_number s h = refl
 
-is_text : (a : Answer) (t : List ℕ) → shown a ≡ text t → ((x : Bor (List ℕ)) → a ≡ answer.Text x → ⊥) → ⊥
-is_text (answer.Text x) t e no_text = no_text x refl
-is_text a t e no_text = absurd cc
+-- what an answer is that shows this
+abbrev pub Form : Shown → Answer → Type 0
+Form (truth v) a = (x : Bool) × (a ≡ answer.Bool x)
+Form (signed z) a = (x : ℤ) × (a ≡ answer.Int x)
+Form (unsigned n) a = (x : ℕ) × (a ≡ answer.UInt x)
+Form (text t) a = (x : Bor (List ℕ)) × (a ≡ answer.Text x)
+Form (vector n) a = (x : ℕ) × (a ≡ answer.Vector x)
+Form table a = a ≡ answer.Table
+Form _ a = Unit {0}
 
-is_table : (a : Answer) → shown a ≡ table → (a ≡ answer.Table → ⊥) → ⊥
-is_table answer.Table e no_table = no_table refl
-is_table a e no_table = absurd cc
-
-is_vector : (a : Answer) (n : ℕ) → shown a ≡ vector n → ((x : ℕ) → a ≡ answer.Vector x → ⊥) → ⊥
-is_vector (answer.Vector x) n e no_vector = no_vector x refl
-is_vector a n e no_vector = absurd cc
-
-is_truth : (a : Answer) (v : Bool) → shown a ≡ truth v → ((x : Bool) → a ≡ answer.Bool x → ⊥) → ⊥
-is_truth (answer.Bool x) v e no_truth = no_truth x refl
-is_truth a v e no_truth = absurd cc
-
-is_signed : (a : Answer) (z : ℤ) → shown a ≡ signed z → ((x : ℤ) → a ≡ answer.Int x → ⊥) → ⊥
-is_signed (answer.Int x) z e no_number = no_number x refl
-is_signed a z e no_number = absurd cc
-
-is_unsigned : (a : Answer) (n : ℕ) → shown a ≡ unsigned n → ((x : ℕ) → a ≡ answer.UInt x → ⊥) → ⊥
-is_unsigned (answer.UInt x) n e no_number = no_number x refl
-is_unsigned a n e no_number = absurd cc
+form : (a : Answer) → Form (shown a) a
+form (answer.Bool x) = (x, refl)
+form (answer.Int x) = (x, refl)
+form (answer.UInt x) = (x, refl)
+form (answer.Text x) = (x, refl)
+form (answer.Vector x) = (x, refl)
+form answer.Table = refl
+form a = tt
 
 -- where a kind is here, no other answer comes
 module _ (b : List ℕ) (S : Rows) (p : Spot) (a : Answer) (e : shown a ≡ value b S p) where
+  form_of : (x : Shown) → value b S p ≡ x → Form x a
+  form_of x v = subst (λ y. Form y a) (e ∙ v) (form a)
+
   pub answers_text : IsHere p AText → ((x : Bor (List ℕ)) → a ≡ answer.Text x → ⊥) → ⊥
-  answers_text h other = let v = text_value b S p h in is_text a v.0 (e ∙ v.1) other
+  answers_text h other = let v = text_value b S p h in let f = form_of (text v.0) v.1 in other f.0 f.1
 
   pub answers_table : (k : ℕ) → IsHere p (ATable k) → (a ≡ answer.Table → ⊥) → ⊥
-  answers_table k h other = is_table a (e ∙ table_value b S p k h) other
+  answers_table k h other = other (form_of table (table_value b S p k h))
 
   pub answers_vector : (kind onward : Kind) → IsHere p kind → element_kind kind ≡ Some onward → ((x : ℕ) → a ≡ answer.Vector x → ⊥) → ⊥
-  answers_vector kind onward h i other = let v = vector_value b S p kind onward h i in is_vector a v.0 (e ∙ v.1) other
+  answers_vector kind onward h i other = let v = vector_value b S p kind onward h i in let f = form_of (vector v.0) v.1 in other f.0 f.1
+
+  -- a scalar that is here answers by its number
+  of_number : (s : Scalar) → has_default s ≡ true → IsHere p (AScalar s) → (n : ℕ) × Form (number s n) a
+  of_number s i h = let n = scalar_number b S p s i h in (n.0, form_of (number s n.0) n.1)
 
   pub answers_truth : (s : Scalar) → IsTruth s → IsHere p (AScalar s) → ((x : Bool) → a ≡ answer.Bool x → ⊥) → ⊥
-  answers_truth s i h other = let v = truth_value b S p s i h in is_truth a v.0 (e ∙ v.1) other
+  answers_truth s i h other =
+      let n = of_number s (truth_is_number s i) h in let v = truth_shown s n.0 i in let f = subst (λ x. Form x a) v.1 n.1 in other f.0 f.1
 
   pub answers_signed : (s : Scalar) → IsSigned s → IsHere p (AScalar s) → ((x : ℤ) → a ≡ answer.Int x → ⊥) → ⊥
-  answers_signed s i h other = let v = signed_value b S p s i h in is_signed a v.0 (e ∙ v.1) other
+  answers_signed s i h other =
+      let n = of_number s (signed_is_number s i) h in let v = signed_shown s n.0 i in let f = subst (λ x. Form x a) v.1 n.1 in other f.0 f.1
 
   pub answers_unsigned : (s : Scalar) → IsUnsigned s → IsHere p (AScalar s) → ((x : ℕ) → a ≡ answer.UInt x → ⊥) → ⊥
-  answers_unsigned s i h other = let v = unsigned_value b S p s i h in is_unsigned a v.0 (e ∙ v.1) other
+  answers_unsigned s i h other =
+      let n = of_number s (unsigned_is_number s i) h in let v = unsigned_shown s n.0 i in let f = subst (λ x. Form x a) v.1 n.1 in other f.0 f.1
 
 -- a field that may be here shows nothing, or is here
 module _ (b : List ℕ) (S : Rows) (p : Spot) (kind : Kind) where

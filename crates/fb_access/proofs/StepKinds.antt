@@ -3,7 +3,7 @@ use Rattle.std.proofs.Common.{◌≡◌, ℕ, ◌+◌, ◌*◌, ◌==◌, nat_lt
 use Rattle.std.specs.Prelude.{option_map}
 use Rattle.fb_bytes.specs.Word.{word}
 use Rattle.fb_schema.specs.declared.kinds.Scalar.{Scalar}
-use Rattle.fb_schema.specs.declared.kinds.Scalar.TheVariants.{UType, Bool as AsBool, Byte, UByte, Short, UShort, Int, UInt, Long, ULong, Float, Double}
+use Rattle.fb_schema.specs.declared.kinds.Scalar.TheVariants.{Float, Double}
 use Rattle.fb_schema.specs.declared.kinds.Kind.{Kind}
 use Rattle.fb_schema.specs.declared.kinds.Kind.TheVariants.{Scalar as AScalar, Text, Struct, Table, Union, Scalars, Texts, Structs, Tables, Unions}
 use Rattle.fb_schema.specs.Rows.{Rows}
@@ -59,32 +59,15 @@ module _ (b : List ℕ) (t o : ℕ) where
 
 default_kind : (d : ℤ) (s : Scalar) → MayBeHere (default_spot d s) (AScalar s)
 unfolding default_spot
-default_kind d UType = inl refl
-default_kind d AsBool = inl refl
-default_kind d Byte = inl refl
-default_kind d UByte = inl refl
-default_kind d Short = inl refl
-default_kind d UShort = inl refl
-default_kind d Int = inl refl
-default_kind d UInt = inl refl
-default_kind d Long = inl refl
-default_kind d ULong = inl refl
 default_kind d Float = inr refl
 default_kind d Double = inr refl
+default_kind d s = inl refl
 
 absent_kind : (optional : Bool) (d : ℤ) (kind : Kind) → MayBeHere (absent_spot optional d kind) kind
 unfolding absent_spot
 absent_kind true d kind = inr refl
 absent_kind false d (AScalar s) = default_kind d s
-absent_kind false d Text = inr refl
-absent_kind false d (Struct k) = inr refl
-absent_kind false d (Table k) = inr refl
-absent_kind false d (Union e) = inr refl
-absent_kind false d (Scalars s) = inr refl
-absent_kind false d Texts = inr refl
-absent_kind false d (Structs k) = inr refl
-absent_kind false d (Tables k) = inr refl
-absent_kind false d (Unions e) = inr refl
+absent_kind false d kind = inr refl
 
 place_kind : (b : List ℕ) (t : ℕ) (f : Live) (place : Option ℕ) → MayBeHere (spot_at b t f place) f.kind
 place_kind b t f None = absent_kind f.optional f.default f.kind
@@ -104,16 +87,10 @@ if_kind false p kind h = inr refl
 
 member_kind : (b : List ℕ) (p : ℕ) (kind : Kind) → IsOfKind (member_spot b p kind) kind
 unfolding member_spot
-member_kind b p (AScalar s) = inr refl
 member_kind b p Text = inl refl
 member_kind b p (Struct k) = inl refl
 member_kind b p (Table k) = inl refl
-member_kind b p (Union e) = inr refl
-member_kind b p (Scalars s) = inr refl
-member_kind b p Texts = inr refl
-member_kind b p (Structs k) = inr refl
-member_kind b p (Tables k) = inr refl
-member_kind b p (Unions e) = inr refl
+member_kind b p kind = inr refl
 
 if_member : (b : List ℕ) (p : ℕ) (kind : Kind) (v : Bool) → IsOfKind (if v then member_spot b p kind else AtOtherMember) kind
 if_member b p kind true = member_kind b p kind

@@ -3,7 +3,7 @@ use Rattle.std.specs.Prelude.{◌≡◌, ℕ, ◌<◌, ◌^◌, Bool, true, fals
 use Rattle.std.specs.Int.{Width, w8, w16, w32, w64}
 use Rattle.std.specs.Int.RustNames.{FitsSigned}
 use Rattle.fb_schema.specs.declared.kinds.Scalar.{Scalar}
-use Rattle.fb_schema.specs.declared.kinds.Scalar.TheVariants.{Byte, Short, Int as AsInt, Float as AsFloat, Double}
+use Rattle.fb_schema.specs.declared.kinds.Scalar.TheVariants.{Byte, Short, Int as AsInt, Long, Float as AsFloat, Double}
 use Rattle.fb_schema.specs.declared.kinds.Kind.{Kind}
 use Rattle.fb_schema.specs.declared.kinds.Kind.TheVariants.{Scalar as AScalar, Table}
 use Rattle.fb_schema.specs.Rows.{Rows}
@@ -65,6 +65,14 @@ sure_kind S kind (Member m) = None
 -- from where something is, such a step leads to where something is
 abbrev pub HereGoesOn : Rows → Spot → Step → Spot → Type 0
 HereGoesOn S p s q = (kind next : Kind) → IsHere p kind → sure_kind S kind s ≡ Some next → IsHere q next
+
+-- a scalar that is shown as a signed number
+abbrev pub IsSigned : Scalar → Type 0
+IsSigned Byte = Unit {0}
+IsSigned Short = Unit {0}
+IsSigned AsInt = Unit {0}
+IsSigned Long = Unit {0}
+IsSigned _ = ⊥
 
 -- the width of a signed scalar
 abbrev pub width_of : Scalar → Width

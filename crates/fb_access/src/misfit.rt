@@ -1,6 +1,7 @@
 // The steps that the parts of a path are at a kind.
 
-ghost use Rattle.std.specs.Prelude.{◌≡◌};
+ghost use Rattle.std.specs.Prelude.{◌≡◌, IsTrue};
+ghost use Rattle.fb_schema.specs.Rows.{is_table, is_union};
 ghost use Rattle.fb_access.specs.Grammar.{Part};
 ghost use Rattle.fb_access.specs.Cutting.{IsPieceOf};
 ghost use Rattle.fb_access.specs.Fitting.{element_kind};
@@ -33,13 +34,10 @@ pub struct Fitted {
     pub kind: Kind,
 }
 
-fn field_step(schema: &Schema<'_>, kind: Kind, name: &[u8]) -> Result<Fitted, Misfit>
-    requires { IsThere schema.now kind }
-    ensures { result ≡ field_step schema.now kind name.now }
+fn field_step(schema: &Schema<'_>, table: u32, name: &[u8]) -> Result<Fitted, Misfit>
+    requires { IsTrue (is_table schema.now table) }
+    ensures { result ≡ field_step schema.now (Kind.Table table) name.now }
 {
-    let Kind::Table(table) = kind else {
-        return Err(Misfit::NotATable);
-    };
     let Some(place) = schema.field_named(table, name) else {
         return Err(Misfit::NoSuchField);
     };
@@ -75,13 +73,10 @@ fn element_step(kind: Kind, number: u32) -> Result<Fitted, Misfit>
     }
 }
 
-fn member_step(schema: &Schema<'_>, kind: Kind, name: &[u8]) -> Result<Fitted, Misfit>
-    requires { IsThere schema.now kind }
-    ensures { result ≡ member_step schema.now kind name.now }
+fn member_step(schema: &Schema<'_>, union: u32, name: &[u8]) -> Result<Fitted, Misfit>
+    requires { IsTrue (is_union schema.now union) }
+    ensures { result ≡ member_step schema.now (Kind.Union union) name.now }
 {
-    let Kind::Union(union) = kind else {
-        return Err(Misfit::NotAUnion);
-    };
     let Some(value) = schema.member_named(union, name) else {
         return Err(Misfit::NoSuchMember);
     };
@@ -102,8 +97,14 @@ pub fn fit(schema: &Schema<'_>, kind: Kind, piece: Piece<'_>) -> Result<Fitted, 
     ensures { (part : Part) → IsPieceOf part piece.entry → result ≡ fitting schema.now kind part }
 {
     match piece {
-        Piece::Field(name) => field_step(schema, kind, name),
+        Piece::Field(name) => match kind {
+            Kind::Table(table) => field_step(schema, table, name),
+            _ => Err(Misfit::NotATable),
+        },
         Piece::Element(number) => element_step(kind, number),
-        Piece::Member(name) => member_step(schema, kind, name),
+        Piece::Member(name) => match kind {
+            Kind::Union(union) => member_step(schema, union, name),
+            _ => Err(Misfit::NotAUnion),
+        },
     }
 }

@@ -27,15 +27,16 @@ pub enum PathFault {
 
 impl fmt::Display for PathFault {
     fn fmt<W: fmt::Write>(&self, f: &mut fmt::Formatter<W>) -> fmt::Result {
-        match self {
-            PathFault::BadText { at } => write!(f, "P1 BadText at={at}"),
-            PathFault::NoSuchField { step } => write!(f, "P2 NoSuchField step={step}"),
-            PathFault::NotIndexable { step } => write!(f, "P3 NotIndexable step={step}"),
-            PathFault::NotAUnion { step } => write!(f, "P4 NotAUnion step={step}"),
-            PathFault::NoSuchMember { step } => write!(f, "P5 NoSuchMember step={step}"),
-            PathFault::NotATable { step } => write!(f, "P6 NotATable step={step}"),
-            PathFault::OutOfMemory => write!(f, "P7 OutOfMemory"),
-        }
+        let (name, step) = match self {
+            PathFault::BadText { at } => return write!(f, "P1 BadText at={at}"),
+            PathFault::NoSuchField { step } => ("P2 NoSuchField", *step),
+            PathFault::NotIndexable { step } => ("P3 NotIndexable", *step),
+            PathFault::NotAUnion { step } => ("P4 NotAUnion", *step),
+            PathFault::NoSuchMember { step } => ("P5 NoSuchMember", *step),
+            PathFault::NotATable { step } => ("P6 NotATable", *step),
+            PathFault::OutOfMemory => return write!(f, "P7 OutOfMemory"),
+        };
+        write!(f, "{name} step={step}")
     }
 }
 

@@ -8,12 +8,8 @@ use Rattle.fb_access.specs.declared.step.Step.TheVariants.{Field as ToField, Ele
 use Rattle.fb_access.specs.Held.{Placed}
 use Rattle.fb_access.specs.Denotes.{Shown, vector, Leads, value}
 use Rattle.fb_bfbs.specs.Says.{Says, after, AreRows}
-use Rattle.fb_bfbs.specs.Seen.{seen, IsRowAt}
+use Rattle.fb_bfbs.specs.Seen.{seen, Within, behind, IsRowAt}
 use Rattle.fb_bfbs.specs.Describes.{IsTypeRow, IsFieldRow, IsObjectRow, IsTypeOrNone, IsMemberRow, IsEnumRow}
-
--- whatever the first says, the second says
-abbrev pub Within : Says → Says → Type 0
-Within D E = (steps : List Step) (x : Shown) → D steps x → E steps x
 
 -- what such rows say is kept by what says more
 abbrev pub Carries : {R : Type 0} → (Says → R → Type 0) → Type 1
@@ -83,9 +79,13 @@ enum_within D E r h a = record {
   is_union = h _ _ a.is_union;
 }
 
--- what is seen of a row from its table is said of it from wherever a step leads there
-pub row_before : {R : Type 0} (Is : Says → R → Type 0) → Carries Is → (number : ℕ) (q : Placed) (row : R) → Is (seen q) row → IsRowAt Is number q row
-row_before Is carries number q row here = λ p s on. carries (seen q) (after (seen p) s) row (seen_after p q s on.same on.leads) here
+-- what is seen of a row from its table is said of it by whoever says what is seen
+pub row_here : {R : Type 0} (Is : Says → R → Type 0) → Carries Is → (q : Placed) (row : R) → Is (seen q) row → IsRowAt Is q row
+row_here Is carries q row here = λ p way more. carries (seen q) (behind (seen p) way) row more here
+
+-- who says what is seen from a place says what is seen one step on
+pub said_after : (D : Says) (p r : Placed) (s : Step) → Within (seen p) D → r.sealed ≡ p.sealed → Leads (p.sealed).bytes (p.sealed).schema p.spot s r.spot → Within (seen r) (after D s)
+said_after D p r s more same leads = λ steps x h. more (s ∷ steps) x (seen_after p r s same leads steps x h)
 
 -- the rows so far
 pub record AreRowsSoFar {R : Type 0} (Is : Says → R → Type 0) (D : Says) (rows : List R) : Type 0 where

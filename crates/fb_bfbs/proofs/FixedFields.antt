@@ -1,14 +1,23 @@
 -- The fields of the fixed table that are copied.
-use Rattle.std.proofs.Common.{refl}
+use Rattle.std.proofs.Common.{◌≡◌, ℕ, refl, Some}
+use Rattle.fb_schema.specs.declared.kinds.Kind.{Kind}
 use Rattle.fb_schema.specs.declared.kinds.Kind.TheVariants.{Scalar, Text, Table, Tables}
 use Rattle.fb_schema.specs.declared.kinds.Scalar.TheVariants as scalar
 use Rattle.fb_schema.specs.Kinds.{base_types, shape_of, kind_of}
 use Rattle.fb_schema.specs.Live.{live_fields}
+use Rattle.fb_access.specs.declared.step.Step.TheVariants.{Field as ToField}
 use Rattle.fb_access.specs.Held.{Placed}
 use Rattle.fb_access.specs.Fitting.{next_kind}
 use Rattle.fb_access.specs.Here.{sure_kind}
 use Rattle.fb_bfbs.specs.Fixed.{fixed}
 use Rattle.fb_bfbs.specs.Seen.{IsAt, HasField, MayHaveField}
+
+-- a field of this table that is always there, and one that may be absent
+always : {p : Placed} {k n : ℕ} {kind : Kind} → IsAt p (Table k) → sure_kind fixed (Table k) (ToField n) ≡ Some kind → HasField p n kind
+always {p} {k} {n} {kind} at e = record { object = k; at = at; sure = e }
+
+maybe : {p : Placed} {k n : ℕ} {kind : Kind} → IsAt p (Table k) → next_kind fixed (Table k) (ToField n) ≡ Some kind → MayHaveField p n kind
+maybe {p} {k} {n} {kind} at e = record { object = k; at = at; field = e }
 
 -- of a Type
 pub record TypeFields (p : Placed) : Type 0 where
@@ -19,12 +28,7 @@ pub record TypeFields (p : Placed) : Type 0 where
 
 pub type_fields : (p : Placed) → IsAt p (Table 0) → TypeFields p
 unfolding fixed sure_kind live_fields kind_of shape_of base_types
-type_fields p at = record {
-  base = record { object = 0; at = at; sure = refl };
-  element = record { object = 0; at = at; sure = refl };
-  index = record { object = 0; at = at; sure = refl };
-  fixed_length = record { object = 0; at = at; sure = refl };
-}
+type_fields p at = record { base = always at refl; element = always at refl; index = always at refl; fixed_length = always at refl }
 
 -- of a Field
 pub record FieldFields (p : Placed) : Type 0 where
@@ -40,14 +44,14 @@ pub record FieldFields (p : Placed) : Type 0 where
 pub field_fields : (p : Placed) → IsAt p (Table 4) → FieldFields p
 unfolding fixed sure_kind live_fields kind_of shape_of base_types
 field_fields p at = record {
-  name = record { object = 4; at = at; sure = refl };
-  ty = record { object = 4; at = at; sure = refl };
-  slot = record { object = 4; at = at; sure = refl };
-  default = record { object = 4; at = at; sure = refl };
-  deprecated = record { object = 4; at = at; sure = refl };
-  required = record { object = 4; at = at; sure = refl };
-  optional = record { object = 4; at = at; sure = refl };
-  offset64 = record { object = 4; at = at; sure = refl };
+  name = always at refl;
+  ty = always at refl;
+  slot = always at refl;
+  default = always at refl;
+  deprecated = always at refl;
+  required = always at refl;
+  optional = always at refl;
+  offset64 = always at refl;
 }
 
 -- of an Object
@@ -60,13 +64,7 @@ pub record ObjectFields (p : Placed) : Type 0 where
 
 pub object_fields : (p : Placed) → IsAt p (Table 5) → ObjectFields p
 unfolding fixed sure_kind live_fields kind_of shape_of base_types
-object_fields p at = record {
-  name = record { object = 5; at = at; sure = refl };
-  fields = record { object = 5; at = at; sure = refl };
-  is_struct = record { object = 5; at = at; sure = refl };
-  minalign = record { object = 5; at = at; sure = refl };
-  bytesize = record { object = 5; at = at; sure = refl };
-}
+object_fields p at = record { name = always at refl; fields = always at refl; is_struct = always at refl; minalign = always at refl; bytesize = always at refl }
 
 -- of an EnumVal
 pub record MemberFields (p : Placed) : Type 0 where
@@ -76,11 +74,7 @@ pub record MemberFields (p : Placed) : Type 0 where
 
 pub member_fields : (p : Placed) → IsAt p (Table 2) → MemberFields p
 unfolding fixed sure_kind next_kind live_fields kind_of shape_of base_types
-member_fields p at = record {
-  name = record { object = 2; at = at; sure = refl };
-  value = record { object = 2; at = at; sure = refl };
-  ty = record { object = 2; at = at; field = refl };
-}
+member_fields p at = record { name = always at refl; value = always at refl; ty = maybe at refl }
 
 -- of an Enum
 pub record EnumFields (p : Placed) : Type 0 where
@@ -90,11 +84,7 @@ pub record EnumFields (p : Placed) : Type 0 where
 
 pub enum_fields : (p : Placed) → IsAt p (Table 3) → EnumFields p
 unfolding fixed sure_kind live_fields kind_of shape_of base_types
-enum_fields p at = record {
-  name = record { object = 3; at = at; sure = refl };
-  members = record { object = 3; at = at; sure = refl };
-  is_union = record { object = 3; at = at; sure = refl };
-}
+enum_fields p at = record { name = always at refl; members = always at refl; is_union = always at refl }
 
 -- of a Schema
 pub record SchemaFields (p : Placed) : Type 0 where
@@ -105,9 +95,4 @@ pub record SchemaFields (p : Placed) : Type 0 where
 
 pub schema_fields : (p : Placed) → IsAt p (Table 9) → SchemaFields p
 unfolding fixed sure_kind next_kind live_fields kind_of shape_of base_types
-schema_fields p at = record {
-  objects = record { object = 9; at = at; sure = refl };
-  enums = record { object = 9; at = at; sure = refl };
-  ident = record { object = 9; at = at; field = refl };
-  root = record { object = 9; at = at; field = refl };
-}
+schema_fields p at = record { objects = always at refl; enums = always at refl; ident = maybe at refl; root = maybe at refl }

@@ -1,28 +1,32 @@
 -- Numbers that fit a narrower scalar are themselves in its bits.
-use Rattle.std.proofs.Common.{ℤ, sym, subst, arith, to_z, of_z, w8, w32, w64}
+use Rattle.std.proofs.Common.{ℤ, sym, subst, arith, to_z, of_z, w8, w16, w32, w64}
+use Rattle.std.specs.Int.{Width}
 use Rattle.std.specs.Int.RustNames.{FitsSigned}
 use Rattle.std.proofs.lemmas.Int.{ints, to_z-of_z}
+use Rattle.fb_schema.specs.declared.kinds.Scalar.{Scalar}
+use Rattle.fb_schema.specs.declared.kinds.Scalar.TheVariants.{Byte, Short, Int as AsInt}
+use Rattle.fb_access.specs.Here.{width_of}
 
-byte_fits_long : (z : ℤ) → FitsSigned w8 z → FitsSigned w64 z
-byte_fits_long z h = omega (arith, ints)
+byte_fits : (z : ℤ) → FitsSigned w8 z → FitsSigned w64 z
+byte_fits z h = omega (arith, ints)
 
-int_fits_long : (z : ℤ) → FitsSigned w32 z → FitsSigned w64 z
-int_fits_long z h = omega (arith, ints)
+short_fits : (z : ℤ) → FitsSigned w16 z → FitsSigned w64 z
+short_fits z h = omega (arith, ints)
 
-pub long_back : (P : ℤ → Type 0) (z : ℤ) → FitsSigned w64 z → P z → P (to_z w64 (of_z w64 z))
-long_back P z h x = subst P (sym (to_z-of_z w64 z h)) x
+int_fits : (z : ℤ) → FitsSigned w32 z → FitsSigned w64 z
+int_fits z h = omega (arith, ints)
 
-pub byte_from_long : (P : ℤ → Type 0) (z : ℤ) → FitsSigned w8 z → P z → P (to_z w64 (of_z w64 z))
-byte_from_long P z h x = long_back P z (byte_fits_long z h) x
+-- a number that fits a scalar fits 64 bits
+pub fits_long : (s : Scalar) (z : ℤ) → FitsSigned (width_of s) z → FitsSigned w64 z
+fits_long Byte z h = byte_fits z h
+fits_long Short z h = short_fits z h
+fits_long AsInt z h = int_fits z h
+fits_long s z h = h
 
-pub int_from_long : (P : ℤ → Type 0) (z : ℤ) → FitsSigned w32 z → P z → P (to_z w64 (of_z w64 z))
-int_from_long P z h x = long_back P z (int_fits_long z h) x
+-- a number that fits so many bits is what these bits are
+pub kept : (w : Width) (P : ℤ → Type 0) (z : ℤ) → FitsSigned w z → P z → P (to_z w (of_z w z))
+kept w P z h x = subst P (sym (to_z-of_z w z h)) x
 
-pub byte_back : (P : ℤ → Type 0) (z : ℤ) → FitsSigned w8 z → P z → P (to_z w8 (of_z w8 (to_z w64 (of_z w64 z))))
-byte_back P z h x = byte_from_long (λ y. P (to_z w8 (of_z w8 y))) z h (subst P (sym (to_z-of_z w8 z h)) x)
-
-pub int_back : (P : ℤ → Type 0) (z : ℤ) → FitsSigned w32 z → P z → P (to_z w32 (of_z w32 (to_z w64 (of_z w64 z))))
-int_back P z h x = int_from_long (λ y. P (to_z w32 (of_z w32 y))) z h (subst P (sym (to_z-of_z w32 z h)) x)
-
-pub int_kept : (P : ℤ → Type 0) (z : ℤ) → FitsSigned w32 z → P z → P (to_z w32 (of_z w32 z))
-int_kept P z h x = subst P (sym (to_z-of_z w32 z h)) x
+-- and so it is in as many bits of 64
+pub narrowed : (w : Width) (P : ℤ → Type 0) (z : ℤ) → FitsSigned w z → FitsSigned w64 z → P z → P (to_z w (of_z w (to_z w64 (of_z w64 z))))
+narrowed w P z h wide x = kept w64 (λ y. P (to_z w (of_z w y))) z wide (kept w P z h x)

@@ -1,15 +1,16 @@
 -- What is seen from a place in a schema file.
-use Rattle.std.specs.Prelude.{◌≡◌, ℕ, Some}
+use Rattle.std.specs.Prelude.{◌≡◌, ℕ, List, [], ◌∷◌, Some}
 use Rattle.fb_schema.specs.declared.kinds.Kind.{Kind}
-use Rattle.fb_schema.specs.declared.kinds.Kind.TheVariants.{Table, Tables}
+use Rattle.fb_schema.specs.declared.kinds.Kind.TheVariants.{Scalar as AScalar, Table, Tables}
+use Rattle.fb_schema.specs.declared.kinds.Scalar.{Scalar}
 use Rattle.fb_access.specs.declared.step.Step.{Step}
 use Rattle.fb_access.specs.declared.step.Step.TheVariants.{Field as ToField}
 use Rattle.fb_access.specs.Fitting.{next_kind}
-use Rattle.fb_access.specs.Denotes.{Leads}
+use Rattle.fb_access.specs.Denotes.{Leads, Shown}
 use Rattle.fb_access.specs.Held.{Placed}
-use Rattle.fb_access.specs.Here.{IsHere, sure_kind, Shows}
+use Rattle.fb_access.specs.Here.{IsHere, sure_kind, IsSigned, Shows}
 use Rattle.fb_bfbs.specs.Fixed.{fixed}
-use Rattle.fb_bfbs.specs.Says.{Says, after}
+use Rattle.fb_bfbs.specs.Says.{Says, after, AreRows}
 
 -- which steps lead from here to which value
 abbrev pub seen : Placed → Says
@@ -25,6 +26,10 @@ pub record HasField (p : Placed) (number : ℕ) (kind : Kind) : Type 0 where
   pub object : ℕ
   pub at : IsAt p (Table object)
   pub sure : sure_kind fixed (Table object) (ToField number) ≡ Some kind
+
+-- a table is here whose field of this number is a number with a sign, and always there
+abbrev pub HasSigned : Placed → ℕ → Type 0
+HasSigned p number = (s : Scalar) × IsSigned s × HasField p number (AScalar s)
 
 -- a table is here whose field of this number is of this kind, and may be absent
 pub record MayHaveField (p : Placed) (number : ℕ) (kind : Kind) : Type 0 where
@@ -46,6 +51,19 @@ pub record IsOneOn (p : Placed) (s : Step) (r : Placed) (kind : Kind) : Type 0 w
   pub same : r.sealed ≡ p.sealed
   pub leads : Leads (p.sealed).bytes (p.sealed).schema p.spot s r.spot
 
--- a table that is read as this row is here: from wherever a step leads here, the file says such a row behind that step
-abbrev pub IsRowAt : {R : Type 0} → (Says → R → Type 0) → ℕ → Placed → R → Type 0
-IsRowAt Is number q row = (p : Placed) (s : Step) → IsOneOn p s q (Table number) → Is (after (seen p) s) row
+-- whatever the first says, the second says
+abbrev pub Within : Says → Says → Type 0
+Within D E = (steps : List Step) (x : Shown) → D steps x → E steps x
+
+-- what is said after these steps, of which the last stands first
+abbrev pub behind : Says → List Step → Says
+behind D [] = D
+behind D (s ∷ way) = after (behind D way) s
+
+-- a table that is read as this row is here: from wherever steps lead here, the file says such a row behind them
+abbrev pub IsRowAt : {R : Type 0} → (Says → R → Type 0) → Placed → R → Type 0
+IsRowAt Is q row = (p : Placed) (way : List Step) → Within (seen q) (behind (seen p) way) → Is (behind (seen p) way) row
+
+-- the tables that are read as these rows are the elements of a vector that is here
+abbrev pub AreRowsAt : {R : Type 0} → (Says → R → Type 0) → Placed → List R → Type 0
+AreRowsAt Is q rows = (p : Placed) (way : List Step) → Within (seen q) (behind (seen p) way) → AreRows Is (behind (seen p) way) rows

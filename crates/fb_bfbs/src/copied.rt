@@ -7,8 +7,8 @@ ghost use Rattle.fb_bfbs.specs.Says.{after};
 ghost use Rattle.fb_bfbs.specs.Seen.{seen, IsAt};
 ghost use Rattle.fb_bfbs.specs.Describes.{IsTypeRow, IsTypeOrNone, IsFieldRow, IsObjectRow, IsMemberRow, IsEnumRow};
 
-use crate::lists::{FromTable, rows_at};
-use crate::values::{bool_in, byte_in, int_in, long_in, table_or_none, text_in, ushort_in};
+use crate::lists::{FromTable, rows_in};
+use crate::values::{bool_in, int_in, table_or_none, text_in, ushort_in};
 use fb_access::{Place, Step};
 use fb_schema::{EnumRow, FieldRow, Kind, MemberRow, ObjectRow, TypeRow};
 use std::alloc::{AllocError, Global};
@@ -19,9 +19,9 @@ fn type_row(place: &Place) -> TypeRow
     ensures { IsTypeRow (seen place.now) result }
 {
     TypeRow {
-        base: byte_in(place, 0),
-        element: byte_in(place, 1),
-        index: int_in(place, 2),
+        base: int_in(place, 0) as i8,
+        element: int_in(place, 1) as i8,
+        index: int_in(place, 2) as i32,
         fixed_length: ushort_in(place, 3),
     }
 }
@@ -50,16 +50,13 @@ impl<'b> FromTable<'b> for FieldRow<'b> {
 
     ghost listed = { λ row. 0 };
 
-    fn from_table(
-        _alloc: Global,
-        place: &Place<'_, 'b, '_, '_>,
-    ) -> Result<FieldRow<'b>, AllocError> {
+    fn from_table(_alloc: Global, place: &Place<'_, 'b, '_, '_>) -> Result<Self, AllocError> {
         let ty = place.go(Step::Field(1));
         Ok(FieldRow {
             name: text_in(place, 0),
             ty: type_row(&ty),
             slot: ushort_in(place, 3),
-            default: long_in(place, 4),
+            default: int_in(place, 4),
             deprecated: bool_in(place, 6),
             required: bool_in(place, 7),
             optional: bool_in(place, 11),
@@ -76,18 +73,14 @@ impl<'b> FromTable<'b> for ObjectRow<'b> {
 
     ghost listed = { λ row. vec_len row.fields };
 
-    fn from_table(
-        alloc: Global,
-        place: &Place<'_, 'b, '_, '_>,
-    ) -> Result<ObjectRow<'b>, AllocError> {
-        let list = place.go(Step::Field(1));
-        let fields = rows_at(alloc, &list)?;
+    fn from_table(alloc: Global, place: &Place<'_, 'b, '_, '_>) -> Result<Self, AllocError> {
+        let fields = rows_in(alloc, place, 1)?;
         Ok(ObjectRow {
             name: text_in(place, 0),
             fields,
             is_struct: bool_in(place, 2),
-            minalign: int_in(place, 3),
-            bytesize: int_in(place, 4),
+            minalign: int_in(place, 3) as i32,
+            bytesize: int_in(place, 4) as i32,
         })
     }
 }
@@ -100,13 +93,10 @@ impl<'b> FromTable<'b> for MemberRow<'b> {
 
     ghost listed = { λ row. 0 };
 
-    fn from_table(
-        _alloc: Global,
-        place: &Place<'_, 'b, '_, '_>,
-    ) -> Result<MemberRow<'b>, AllocError> {
+    fn from_table(_alloc: Global, place: &Place<'_, 'b, '_, '_>) -> Result<Self, AllocError> {
         Ok(MemberRow {
             name: text_in(place, 0),
-            value: long_in(place, 1),
+            value: int_in(place, 1),
             ty: union_type(place),
         })
     }
@@ -120,9 +110,8 @@ impl<'b> FromTable<'b> for EnumRow<'b> {
 
     ghost listed = { λ row. vec_len row.members };
 
-    fn from_table(alloc: Global, place: &Place<'_, 'b, '_, '_>) -> Result<EnumRow<'b>, AllocError> {
-        let list = place.go(Step::Field(1));
-        let members = rows_at(alloc, &list)?;
+    fn from_table(alloc: Global, place: &Place<'_, 'b, '_, '_>) -> Result<Self, AllocError> {
+        let members = rows_in(alloc, place, 1)?;
         Ok(EnumRow {
             name: text_in(place, 0),
             members,

@@ -10,9 +10,9 @@ ghost use Rattle.fb_bfbs.specs.Seen.{seen, IsAt};
 ghost use Rattle.fb_bfbs.specs.Describes.{Describes, IsRootName};
 ghost use Rattle.fb_bfbs.specs.FileRows.{IsTold};
 
-use crate::lists::rows_at;
+use crate::lists::rows_in;
 use crate::values::{table_or_none, text_in, text_or_none};
-use fb_access::{Place, Step, at_root};
+use fb_access::{Place, at_root};
 use fb_schema::{EnumRow, Kind, ObjectRow};
 use fb_verify::Verified;
 use std::alloc::{AllocError, Global};
@@ -44,10 +44,8 @@ fn schema_rows<'b>(alloc: Global, place: &Place<'_, 'b, '_, '_>) -> Result<FileR
     ensures told { IfOk result (λ f. IsTold (seen place.now) f) }
     ensures few { IfOk result (λ f. AreFew f.objects.items f.enums.items) }
 {
-    let list = place.go(Step::Field(0));
-    let objects = rows_at(alloc, &list)?;
-    let list = place.go(Step::Field(1));
-    let enums = rows_at(alloc, &list)?;
+    let objects = rows_in(alloc, place, 0)?;
+    let enums = rows_in(alloc, place, 1)?;
     Ok(FileRows {
         objects,
         enums,

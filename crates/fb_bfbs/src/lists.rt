@@ -1,8 +1,9 @@
 // The lists of a schema file: one reader for all of them.
 
 ghost use Rattle.std.specs.Prelude.{ℕ, ◌≤◌, ◌*◌, length, All, vec_len, IfOk};
-ghost use Rattle.fb_bfbs.specs.Says.{Says, AreRows};
-ghost use Rattle.fb_bfbs.specs.Seen.{seen, IsAt, IsRowAt};
+ghost use Rattle.fb_access.specs.declared.step.Step.TheVariants.{Field as ToField};
+ghost use Rattle.fb_bfbs.specs.Says.{Says, after, AreRows};
+ghost use Rattle.fb_bfbs.specs.Seen.{seen, IsAt, HasField, IsRowAt, AreRowsAt};
 
 use crate::values::count_at;
 use fb_access::{Place, Step};
@@ -23,17 +24,17 @@ pub trait FromTable<'b>: Drop {
     /// Reads the table that is here.
     fn from_table(alloc: Global, place: &Place<'_, 'b, '_, '_>) -> Result<Self, AllocError>
         requires { IsAt place.now (Kind.Table number) }
-        ensures row { IfOk result (λ r. IsRowAt is_row number place.now r) }
+        ensures row { IfOk result (λ r. IsRowAt is_row place.now r) }
         ensures few { IfOk result (λ r. 4 * listed r ≤ length ((place.now).sealed).bytes) };
 }
 
 /// The rows in a vector of tables, one after another.
-pub fn rows_at<'b, R: FromTable<'b>>(
+fn rows_at<'b, R: FromTable<'b>>(
     alloc: Global,
     place: &Place<'_, 'b, '_, '_>,
 ) -> Result<Vec<R>, AllocError>
     requires { IsAt place.now (Kind.Tables R.number) }
-    ensures rows { IfOk result (λ v. AreRows R.is_row (seen place.now) v.items) }
+    ensures rows { IfOk result (λ v. AreRowsAt R.is_row place.now v.items) }
     ensures few { IfOk result (λ v. 4 * vec_len v ≤ length ((place.now).sealed).bytes) }
     ensures few_listed { IfOk result (λ v. All (λ r. 4 * R.listed r ≤ length ((place.now).sealed).bytes) v.items) }
 {
@@ -44,5 +45,21 @@ pub fn rows_at<'b, R: FromTable<'b>>(
         let row = R::from_table(alloc, &element)?;
         rows.push(row)?;
     }
+    Ok(rows)
+}
+
+/// The rows in a field that is a vector of tables and always there.
+pub fn rows_in<'b, R: FromTable<'b>>(
+    alloc: Global,
+    place: &Place<'_, 'b, '_, '_>,
+    number: u16,
+) -> Result<Vec<R>, AllocError>
+    requires { HasField place.now number (Kind.Tables R.number) }
+    ensures rows { IfOk result (λ v. AreRows R.is_row (after (seen place.now) (ToField number)) v.items) }
+    ensures few { IfOk result (λ v. 4 * vec_len v ≤ length ((place.now).sealed).bytes) }
+    ensures few_listed { IfOk result (λ v. All (λ r. 4 * R.listed r ≤ length ((place.now).sealed).bytes) v.items) }
+{
+    let list = place.go(Step::Field(number));
+    let rows = rows_at(alloc, &list)?;
     Ok(rows)
 }

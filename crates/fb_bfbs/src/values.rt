@@ -1,26 +1,17 @@
 // The values in fields of a table that are always there, each as its row holds it.
 
 ghost use Rattle.std.specs.Prelude.{◌≡◌, ℕ, ◌*◌, ◌≤◌, [], ◌∷◌, length, IfSome, IfNone};
+ghost use Rattle.std.specs.Int.RustNames.{FitsSigned};
+ghost use Rattle.fb_schema.specs.declared.kinds.Scalar.{Scalar};
 ghost use Rattle.fb_schema.specs.declared.kinds.Scalar.TheVariants as scalar;
 ghost use Rattle.fb_access.specs.declared.step.Step.TheVariants.{Field as ToField};
 ghost use Rattle.fb_access.specs.Denotes.{nothing, text, truth, signed, unsigned, vector, value};
+ghost use Rattle.fb_access.specs.Here.{width_of};
 ghost use Rattle.fb_bfbs.specs.Says.{text_or_nothing};
-ghost use Rattle.fb_bfbs.specs.Seen.{seen, HasField, IsVector, MayHaveField, MayHaveTable, IsOneOn};
+ghost use Rattle.fb_bfbs.specs.Seen.{seen, HasField, HasSigned, IsVector, MayHaveField, MayHaveTable, IsOneOn};
 
 use fb_access::{Answer, Place, Step};
 use fb_schema::Kind;
-
-/// A text, which is lent by the bytes.
-pub fn text_in<'b>(place: &Place<'_, 'b, '_, '_>, number: u16) -> &'b [u8]
-    requires { HasField place.now number Kind.Text }
-    ensures { seen place.now (ToField number ∷ []) (text result.now) }
-{
-    let field = place.go(Step::Field(number));
-    match field.answer() {
-        Answer::Text(text) => text,
-        _ => unreachable!(),
-    }
-}
 
 /// A Bool.
 pub fn bool_in(place: &Place, number: u16) -> bool
@@ -34,42 +25,6 @@ pub fn bool_in(place: &Place, number: u16) -> bool
     }
 }
 
-/// A Byte.
-pub fn byte_in(place: &Place, number: u16) -> i8
-    requires { HasField place.now number (Kind.Scalar scalar.Byte) }
-    ensures { seen place.now (ToField number ∷ []) (signed result) }
-{
-    let field = place.go(Step::Field(number));
-    match field.answer() {
-        Answer::Int(value) => value as i8,
-        _ => unreachable!(),
-    }
-}
-
-/// An Int.
-pub fn int_in(place: &Place, number: u16) -> i32
-    requires { HasField place.now number (Kind.Scalar scalar.Int) }
-    ensures { seen place.now (ToField number ∷ []) (signed result) }
-{
-    let field = place.go(Step::Field(number));
-    match field.answer() {
-        Answer::Int(value) => value as i32,
-        _ => unreachable!(),
-    }
-}
-
-/// A Long.
-pub fn long_in(place: &Place, number: u16) -> i64
-    requires { HasField place.now number (Kind.Scalar scalar.Long) }
-    ensures { seen place.now (ToField number ∷ []) (signed result) }
-{
-    let field = place.go(Step::Field(number));
-    match field.answer() {
-        Answer::Int(value) => value,
-        _ => unreachable!(),
-    }
-}
-
 /// A UShort.
 pub fn ushort_in(place: &Place, number: u16) -> u16
     requires { HasField place.now number (Kind.Scalar scalar.UShort) }
@@ -78,6 +33,31 @@ pub fn ushort_in(place: &Place, number: u16) -> u16
     let field = place.go(Step::Field(number));
     match field.answer() {
         Answer::UInt(value) => value as u16,
+        _ => unreachable!(),
+    }
+}
+
+/// A number with a sign, which fits the field's scalar.
+pub fn int_in(place: &Place, number: u16) -> i64
+    requires { HasSigned place.now number }
+    ensures value { seen place.now (ToField number ∷ []) (signed result) }
+    ensures narrow { (s : Scalar) → HasField place.now number (Kind.Scalar s) → FitsSigned (width_of s) result }
+{
+    let field = place.go(Step::Field(number));
+    match field.answer() {
+        Answer::Int(value) => value,
+        _ => unreachable!(),
+    }
+}
+
+/// A text, which is lent by the bytes.
+pub fn text_in<'b>(place: &Place<'_, 'b, '_, '_>, number: u16) -> &'b [u8]
+    requires { HasField place.now number Kind.Text }
+    ensures { seen place.now (ToField number ∷ []) (text result.now) }
+{
+    let field = place.go(Step::Field(number));
+    match field.answer() {
+        Answer::Text(text) => text,
         _ => unreachable!(),
     }
 }

@@ -1,16 +1,11 @@
 //! Whole runs by schema files, and without one.
 
-use crate::check::check;
-use crate::fault::{RunFault, status};
-use crate::output::Tally;
+use crate::fault::RunFault;
 use crate::schema_files::{all_told, spelled, told_of};
 use crate::start_fault::StartFault;
-use crate::tests::{Full, Narrow, Slow};
-use crate::words_tests::given;
+use case_text::chains::list;
 use fb_access::PathFault;
 use fb_bfbs::LoadFault;
-use fb_bytes::Counted;
-use std::alloc::Global;
 use std::test::Fail;
 
 #[test]
@@ -20,11 +15,11 @@ fn a_value_stands_behind_a_yes(rt: HostRuntime) -> Result<(), Fail> {
         a text with escapes | M        | --bare --path name | ORC 28=225c7f | \
             0 1 ok tables=1 depth=1 reads=8 \"\\\"\\\\\\x7f\"\n\
         a number            | M        | --bare --path hp | ORC | 0 1 ok tables=1 depth=1 reads=8 300\n\
-        a default           | M        | --bare --path hp | BLANK | 0 1 ok tables=1 depth=1 reads=3 100\n\
-        no text             | M        | --bare --path name | BLANK | 0 1 ok tables=1 depth=1 reads=3 absent\n\
+        a default           | M        | --bare --path hp | EMPTY | 0 1 ok tables=1 depth=1 reads=3 100\n\
+        no text             | M        | --bare --path name | EMPTY | 0 1 ok tables=1 depth=1 reads=3 absent\n\
         a float             | N 156=0b | --bare --path v | 0c000000 06000800 04000000 08000000 0000c03f | \
             0 1 ok tables=1 depth=1 reads=4 float:0000c03f\n\
-        no float            | N 156=0b | --bare --path v | BLANK | 0 1 ok tables=1 depth=1 reads=3 absent\n\
+        no float            | N 156=0b | --bare --path v | EMPTY | 0 1 ok tables=1 depth=1 reads=3 absent\n\
     ";
     all_told(&rt, rt.alloc(), cases)
 }
@@ -46,109 +41,9 @@ fn a_stream_is_checked_by_a_schema_file(rt: HostRuntime) -> Result<(), Fail> {
     all_told(&rt, rt.alloc(), cases)
 }
 
-/// The lines of `SEVEN` twice.
-const TWO_LINES: &str = "1 ok tables=1 depth=1 reads=5\n2 ok tables=1 depth=1 reads=5\n";
-
-/// What is answered, and what a writer took.
-type Told = (Result<Tally, RunFault>, Vec<u8>);
-
-/// A run by the schema file of N over `SEVEN` twice, by a reader of pieces of a given size that fails at a given call, counted from 1,
-/// and a writer with so much room.
-fn run_in_pieces(
-    alloc: Global,
-    most: usize,
-    fails_at: u64,
-    room: usize,
-    full: Full,
-) -> Result<Told, Fail> {
-    let file = spelled(alloc, "N")?;
-    let settings = given(alloc, [].as_slice()).ok().ok_or("words")?;
-    if settings.depth != 64 || settings.max_bytes != 67_108_864 {
-        return Err(Fail::from("range"));
-    }
-    let stream = spelled(alloc, "SEVEN SEVEN")?;
-    let mut reader = Counted::new(Slow {
-        rest: stream.as_slice(),
-        most,
-        calls: 0,
-        fails_at,
-    });
-    let mut writer = Counted::new(Narrow {
-        taken: Vec::new(alloc),
-        room,
-        full,
-    });
-    let answer = check(
-        alloc,
-        Some(file.as_slice()),
-        &settings,
-        &mut reader,
-        &mut writer,
-    );
-    Ok((answer, writer.into_inner().taken))
-}
-
-#[test]
-fn a_stream_is_told_by_a_schema_file_however_it_is_cut(rt: HostRuntime) -> Result<(), Fail> {
-    for most in [1, 34, 64] {
-        let (answer, taken) = run_in_pieces(rt.alloc(), most, 0, 60, Full::Fails)?;
-        assert_eq!(rt; answer, Ok(Tally { yes: 2, no: 0 }), "in pieces of {most}");
-        assert_eq!(rt;
-            taken.as_slice(),
-            TWO_LINES.as_bytes(),
-            "in pieces of {most}"
-        );
-    }
-    Ok(())
-}
-
-#[test]
-fn a_failing_reader_leaves_the_lines_before_it_by_a_schema_file(
-    rt: HostRuntime,
-) -> Result<(), Fail> {
-    for (fails_at, lines) in [(1, 0), (32, 0), (33, 30), (64, 30), (65, 60)] {
-        let (answer, taken) = run_in_pieces(rt.alloc(), 1, fails_at, 60, Full::Fails)?;
-        assert_eq!(rt; answer, Err(RunFault::ReadFault), "at {fails_at}");
-        let front = TWO_LINES.as_bytes().get(..lines).ok_or("lines")?;
-        assert_eq!(rt; taken.as_slice(), front, "at {fails_at}");
-    }
-    Ok(())
-}
-
-#[test]
-fn a_narrow_writer_takes_a_front_by_a_schema_file(rt: HostRuntime) -> Result<(), Fail> {
-    for full in [Full::TakesNothing, Full::Fails] {
-        for room in 0..60usize {
-            let (answer, taken) = run_in_pieces(rt.alloc(), 1, 0, room, full)?;
-            let written = room as u128;
-            assert_eq!(rt;
-                answer,
-                Err(RunFault::WriteFault { written }),
-                "{full:?} at {room}"
-            );
-            let front = TWO_LINES.as_bytes().get(..room).ok_or("room")?;
-            assert_eq!(rt; taken.as_slice(), front, "{full:?} at {room}");
-        }
-    }
-    Ok(())
-}
-
-/// A chain of this many tables, each of which leads to the next, by L.
-fn chain(alloc: Global, tables: u32) -> Result<Vec<u8>, Fail> {
-    let mut bytes = spelled(alloc, "10000000 06000800 04000000 04000400")?;
-    for k in 0..tables.saturating_sub(1) {
-        let back = 12u32.saturating_add(k.saturating_mul(8));
-        bytes.extend_from_slice(back.to_le_bytes().as_slice())?;
-        bytes.extend_from_slice(4u32.to_le_bytes().as_slice())?;
-    }
-    let back = 4u32.saturating_add(tables.saturating_sub(1).saturating_mul(8));
-    bytes.extend_from_slice(back.to_le_bytes().as_slice())?;
-    Ok(bytes)
-}
-
 #[test]
 fn a_chain_is_as_deep_as_the_words_allow(rt: HostRuntime) -> Result<(), Fail> {
-    let deep = chain(rt.alloc(), 4096)?;
+    let deep = list(rt.alloc(), 4096)?;
     assert_eq!(rt; deep.len(), 32_780);
     for (words, want) in [
         (
@@ -176,10 +71,10 @@ fn a_chain_is_as_deep_as_the_words_allow(rt: HostRuntime) -> Result<(), Fail> {
 
 #[test]
 fn a_chain_of_64_is_as_deep_as_may_be_without_words(rt: HostRuntime) -> Result<(), Fail> {
-    let told = told_of(rt.alloc(), "L", "--bare", &chain(rt.alloc(), 64)?)?;
+    let told = told_of(rt.alloc(), "L", "--bare", &list(rt.alloc(), 64)?)?;
     assert_eq!(rt; told.as_str(), "0 1 ok tables=64 depth=64 reads=255");
     let words = "--bare --path next.next.next";
-    let told = told_of(rt.alloc(), "L", words, &chain(rt.alloc(), 3)?)?;
+    let told = told_of(rt.alloc(), "L", words, &list(rt.alloc(), 3)?)?;
     assert_eq!(rt; told.as_str(), "0 1 ok tables=3 depth=3 reads=11 absent");
     Ok(())
 }
@@ -212,10 +107,10 @@ fn a_schema_file_is_checked_by_the_fixed_table(rt: HostRuntime) -> Result<(), Fa
 #[test]
 fn alignment_alone_is_left_unchecked(rt: HostRuntime) -> Result<(), Fail> {
     let cases = "\
-        a table at 5 | M | --bare | BLANK 8=03 | 1 1 bad V3 Misaligned at=5 object=0 field=- reads=2\n\
-        the same     | M | --bare --no-alignment | BLANK 8=03 | \
+        a table at 5 | M | --bare | EMPTY 8=03 | 1 1 bad V3 Misaligned at=5 object=0 field=- reads=2\n\
+        the same     | M | --bare --no-alignment | EMPTY 8=03 | \
             1 1 bad V2 OutOfBuffer at=5 object=0 field=- reads=3\n\
-        an odd size  | M | --bare --no-alignment | BLANK 4=03 | 1 1 bad V8 BadVtable at=4 object=0 field=- reads=3\n\
+        an odd size  | M | --bare --no-alignment | EMPTY 4=03 | 1 1 bad V8 BadVtable at=4 object=0 field=- reads=3\n\
     ";
     all_told(&rt, rt.alloc(), cases)
 }

@@ -6,27 +6,24 @@ use crate::options::Options;
 use crate::output::Tally;
 use crate::reading::{MOST_TURNS, PIECE};
 use crate::run::run_within;
-use crate::tests::{SEVEN, Slow, schema_n, stream_options};
+use crate::tests::{
+    SEVEN, Slow, TWO_LINES as PLAIN_LINES, schema_n, stream_options, twice,
+};
+use case_text::rows::schema_of;
 use fb_access::Path;
 use fb_bytes::{Counted, Source, StreamFault};
-use fb_schema::{FieldRow, ObjectRow, Schema, TypeRow};
+use fb_schema::Schema;
 use linked_list_allocator::LocalHeap;
 use scarce::{Plan, Refusing};
 use std::alloc::{Allocator, Global};
 use std::process::Abort;
 use std::test::Fail;
 
-/// The base type of a float in reflection.fbs.
-const FLOAT: i8 = 11;
-
 /// More bytes than a run over two short messages takes beside its read buffer.
 const AMPLE: usize = 8192;
 
 /// The lines of `SEVEN` and a longer message, with the value at `v`.
 const TWO_LINES: &str = "1 ok tables=1 depth=1 reads=5 7\n2 ok tables=1 depth=1 reads=5 7\n";
-
-/// The same lines without a value.
-const PLAIN_LINES: &str = "1 ok tables=1 depth=1 reads=5\n2 ok tables=1 depth=1 reads=5\n";
 
 /// By `table G { f: float; }`: `f` is 1.5.
 const ONE_AND_A_HALF: [u8; 20] = [
@@ -45,41 +42,9 @@ fn longer() -> [u8; 96] {
     stream
 }
 
-/// `SEVEN` twice.
-fn equal() -> [u8; 64] {
-    let mut stream = [0; 64];
-    stream[..32].copy_from_slice(&SEVEN);
-    stream[32..].copy_from_slice(&SEVEN);
-    stream
-}
-
 /// `table G { f: float; }`
 fn schema_g(alloc: Global) -> Result<Schema<'static>, Fail> {
-    let mut fields = Vec::new(alloc);
-    fields.push(FieldRow {
-        name: b"f",
-        ty: TypeRow {
-            base: FLOAT,
-            element: 0,
-            index: -1,
-            fixed_length: 0,
-        },
-        slot: 4,
-        default: 0,
-        deprecated: false,
-        required: false,
-        optional: false,
-        offset64: false,
-    })?;
-    let mut objects = Vec::new(alloc);
-    objects.push(ObjectRow {
-        name: b"G",
-        fields,
-        is_struct: false,
-        minalign: 4,
-        bytesize: 0,
-    })?;
-    Ok(Schema::build(alloc, objects, Vec::new(alloc))?)
+    schema_of(alloc, "G table: f@4 float")
 }
 
 /// What is run over: bytes, of which one read gives at most so many, and the path that is asked for.
@@ -128,12 +93,7 @@ fn run_by<A: Allocator>(
         bare: input.bare,
         ..stream_options(64)
     };
-    let mut reader = Counted::new(Slow {
-        rest: input.bytes,
-        most: input.most,
-        calls: 0,
-        fails_at: 0,
-    });
+    let mut reader = Counted::new(Slow::new(input.bytes, input.most, 0));
     let mut writer = Counted::new(Vec::new(alloc));
     let answer = run_within(heap, &mut reader, &mut writer, schema, &options, MOST_TURNS);
     let reads = reader.calls();
@@ -259,7 +219,7 @@ fn refused_in_turn(
 #[test]
 fn each_request_of_a_run_over_a_stream_is_refused_in_turn(rt: HostRuntime) -> Result<(), Fail> {
     let schema = schema_n(rt.alloc())?;
-    let (equal, longer) = (equal(), longer());
+    let (equal, longer) = (twice(), longer());
     for most in [1, 7, 32, 64, 96] {
         let plain = Input {
             path: None,

@@ -15,36 +15,21 @@ use crate::fault::{RunFault, status};
 use crate::output::Tally;
 use crate::words_tests::given;
 use case_text::buffer::{Sample, bytes_of};
+use case_text::columns;
 use fb_bytes::{Counted, Source};
 use std::alloc::Global;
 use std::process::Abort;
 use std::test::Fail;
 
-/// The schema files and buffers by their names.
+/// The schema files by their names; buffers are those that `case_text` has for all: by M `ORC`, by N `SEVEN`, and by
+/// both `EMPTY`, in which no field is there.
 ///
 /// - `M`: the schema file of `table M { hp: short = 100; name: string; } root_type M;`
-/// - `N`: that of `table N { v: long; } root_type N;`
+/// - `N`: that of `table N { v: long; } root_type N;`, which is the same but for its names, types and default
 /// - `L`: what flatc 2.0.8 writes for `table L { next: L; } root_type L;`
-/// - `ORC`: by M, the hit points 300 and the name "Orc"
-/// - `BLANK`: by M and by N, no field is there
-/// - `SEVEN`: by N, behind its size, `v` is 7
-pub const SAMPLES: [Sample; 6] = [
-    (
-        "M",
-        "18000000 42464253 0e001000 04000800 00000000 0c000000 10000000 10000000 08000000 18000000 00000000 \
-        01000000 0c000000 08000c00 04000800 08000000 08000000 0c000000 01000000 4d000000 02000000 1c000000 \
-        54000000 0e001800 04000800 00000c00 10000000 00000000 14000000 14000000 20000000 04000000 64000000 \
-        00000000 02000000 68700000 06000800 04000000 08000000 05000000 0c001000 04000800 0c000e00 0c000000 \
-        0c000000 14000000 01000600 04000000 6e616d65 00000000 38000000 0d000000",
-    ),
-    (
-        "N",
-        "18000000 42464253 0e001000 04000800 00000000 0c000000 10000000 10000000 08000000 18000000 00000000 \
-        01000000 0c000000 08000c00 04000800 08000000 08000000 0c000000 01000000 4e000000 01000000 1c000000 \
-        54000000 0e001800 04000800 00000c00 10000000 00000000 14000000 14000000 20000000 04000000 00000000 \
-        00000000 01000000 76000000 06000800 04000000 08000000 09000000 0c001000 04000800 0c000e00 0c000000 \
-        0c000000 14000000 01000600 04000000 6e616d65 00000000 38000000 0d000000",
-    ),
+pub const SAMPLES: [Sample; 3] = [
+    ("M", "FILE"),
+    ("N", "FILE 76=4e 80=01 128=00 136=01 140=7600 156=09"),
     (
         "L",
         "18000000 42464253 10001c00 04000800 0c001000 14001800 10000000 30000000 28000000 1c000000 10000000 \
@@ -53,15 +38,6 @@ pub const SAMPLES: [Sample; 6] = [
         01000000 28000000 01000000 4c000000 1c001000 08000c00 00000600 00000000 00000000 00000000 00000500 \
         1c000000 00010400 28000000 14000000 10001000 07000000 08000000 00000c00 10000000 0000000f 00000000 \
         01000000 04000000 6e657874 00000000",
-    ),
-    (
-        "ORC",
-        "0c000000 08000c00 08000400 08000000 08000000 2c010000 03000000 4f726300",
-    ),
-    ("BLANK", "08000000 04000400 04000000"),
-    (
-        "SEVEN",
-        "1c000000 10000000 06000c00 04000000 00000000 0c000000 07000000 00000000",
     ),
 ];
 
@@ -133,25 +109,10 @@ pub fn told_of(alloc: Global, schema: &str, words: &str, input: &[u8]) -> Result
     told(alloc, &run_by(alloc, file, &given, input)?)
 }
 
-/// What a case shows, its schema file, words and input, and what is to be told.
-fn parts(line: &str) -> Option<(&str, &str, &str, &str, &str)> {
-    let (shows, rest) = line.split_once('|')?;
-    let (schema, rest) = rest.split_once('|')?;
-    let (words, rest) = rest.split_once('|')?;
-    let (input, told) = rest.split_once('|')?;
-    Some((
-        shows.trim_ascii(),
-        schema.trim_ascii(),
-        words,
-        input,
-        told.trim_ascii(),
-    ))
-}
-
 /// Asserts that of each case is told what it says.
 pub fn all_told(rt: &impl Abort, alloc: Global, cases: &str) -> Result<(), Fail> {
     for line in cases.lines() {
-        let (shows, schema, words, input, want) = parts(line).ok_or("no case")?;
+        let (shows, schema, words, input, want) = columns::five(line)?;
         let input = spelled(alloc, input)?;
         let told = told_of(alloc, schema, words, &input)?;
         assert_eq!(rt; told.as_str(), want, "{shows}");

@@ -2,12 +2,14 @@
 
 ghost use Rattle.std.specs.Prelude.{◌≡◌, None};
 
+use crate::check::check;
 use crate::fault::{RunFault, status};
 use crate::options::Options;
 use crate::output::Tally;
 use crate::reading::MOST_TURNS;
 use crate::run::run_within;
-use crate::schema_files::all_told;
+use crate::schema_files::{all_told, spelled};
+use crate::words_tests::given;
 use case_text::rows::schema_of;
 use fb_bytes::{Counted, Source, StreamFault};
 use fb_schema::Schema;
@@ -15,10 +17,8 @@ use fb_verify::{Ident, Limits};
 use std::alloc::Global;
 use std::io;
 use std::io::{ErrorKind, Read, Write};
+use std::process::Abort;
 use std::test::Fail;
-
-/// By M: neither field is present.
-static BLANK: [u8; 12] = [8, 0, 0, 0, 4, 0, 4, 0, 4, 0, 0, 0];
 
 /// By N, size-prefixed: `v` is 7.
 pub static SEVEN: [u8; 32] = [
@@ -27,10 +27,10 @@ pub static SEVEN: [u8; 32] = [
 ];
 
 /// The lines of `SEVEN` twice.
-static TWO_LINES: &str = "1 ok tables=1 depth=1 reads=5\n2 ok tables=1 depth=1 reads=5\n";
+pub const TWO_LINES: &str = "1 ok tables=1 depth=1 reads=5\n2 ok tables=1 depth=1 reads=5\n";
 
 /// `SEVEN` twice.
-fn twice() -> [u8; 64] {
+pub fn twice() -> [u8; 64] {
     let mut stream = [0; 64];
     stream[..32].copy_from_slice(&SEVEN);
     stream[32..].copy_from_slice(&SEVEN);
@@ -60,13 +60,24 @@ pub fn stream_options(max_bytes: u32) -> Options
     }
 }
 
-/// A reader of pieces of a given size, which fails at a given call, counted from 1.
+/// A reader of pieces of a given size, which fails at a given call, counted from 1 (at 0: at none).
 #[derive(Drop)]
 pub struct Slow<'a> {
-    pub rest: &'a [u8],
-    pub most: usize,
-    pub calls: u64,
-    pub fails_at: u64,
+    rest: &'a [u8],
+    most: usize,
+    calls: u64,
+    fails_at: u64,
+}
+
+impl<'a> Slow<'a> {
+    pub fn new(rest: &'a [u8], most: usize, fails_at: u64) -> Slow<'a> {
+        Slow {
+            rest,
+            most,
+            calls: 0,
+            fails_at,
+        }
+    }
 }
 
 impl Read for Slow<'_> {
@@ -108,8 +119,18 @@ pub enum Full {
 #[derive(Drop)]
 pub struct Narrow {
     pub taken: Vec<u8>,
-    pub room: usize,
-    pub full: Full,
+    room: usize,
+    full: Full,
+}
+
+impl Narrow {
+    pub fn new(alloc: Global, room: usize, full: Full) -> Narrow {
+        Narrow {
+            taken: Vec::new(alloc),
+            room,
+            full,
+        }
+    }
 }
 
 impl Write for Narrow {
@@ -136,7 +157,7 @@ impl Write for Narrow {
 fn a_bare_buffer_gets_its_line(rt: HostRuntime) -> Result<(), Fail> {
     let cases = "\
         a monster      | M | --bare | ORC | 0 1 ok tables=1 depth=1 reads=8\n\
-        without fields | M | --bare | BLANK | 0 1 ok tables=1 depth=1 reads=3\n\
+        without fields | M | --bare | EMPTY | 0 1 ok tables=1 depth=1 reads=3\n\
         nothing        | M | --bare |  | 1 1 bad V2 OutOfBuffer at=0 object=0 field=- reads=0\n\
         no terminator  | M | --bare | ORC 31=01 | 1 1 bad V10 NoTerminator at=31 object=0 field=1 reads=8\n\
         cut            | M | --bare | ORC ..31 | 1 1 bad V2 OutOfBuffer at=28 object=0 field=1 reads=7\n\
@@ -155,22 +176,17 @@ fn a_bare_buffer_gets_its_line(rt: HostRuntime) -> Result<(), Fail> {
 
 #[test]
 fn a_required_field_may_not_be_absent(rt: HostRuntime) -> Result<(), Fail> {
-    let schema = schema_of(rt.alloc(), "N table: v@4 string required")?;
+    let alloc = rt.alloc();
+    let schema = schema_of(alloc, "N table: v@4 string required")?;
     assert!(rt; schema.is_table(0));
     let options = Options {
         bare: true,
         ..stream_options(64)
     };
-    let mut reader = Counted::new(BLANK.as_slice());
-    let mut writer = Counted::new(Vec::new(rt.alloc()));
-    let answer = run_within(
-        rt.alloc(),
-        &mut reader,
-        &mut writer,
-        &schema,
-        &options,
-        MOST_TURNS,
-    );
+    let empty = spelled(alloc, "EMPTY")?;
+    let mut reader = Counted::new(empty.as_slice());
+    let mut writer = Counted::new(Vec::new(alloc));
+    let answer = run_within(alloc, &mut reader, &mut writer, &schema, &options, MOST_TURNS);
     assert_eq!(rt; answer, Ok(Tally { yes: 0, no: 1 }));
     assert_eq!(rt;
         writer.get_ref().as_slice(),
@@ -179,34 +195,56 @@ fn a_required_field_may_not_be_absent(rt: HostRuntime) -> Result<(), Fail> {
     Ok(())
 }
 
+/// By what a run is made: by a schema, or by its schema file.
+#[derive(Clone, Copy, Debug)]
+enum By {
+    Schema,
+    File,
+}
+
+/// A run by N over `SEVEN` twice, by a reader of pieces of a given size that fails at a given call, counted from 1, and
+/// a writer with so much room: what is answered, and what the writer took.
+fn run_twice(
+    by: By,
+    alloc: Global,
+    most: usize,
+    fails_at: u64,
+    room: usize,
+    full: Full,
+) -> Result<(Result<Tally, RunFault>, Vec<u8>), Fail> {
+    let stream = twice();
+    let mut reader = Counted::new(Slow::new(stream.as_slice(), most, fails_at));
+    let mut writer = Counted::new(Narrow::new(alloc, room, full));
+    let answer = match by {
+        By::Schema => {
+            let schema = schema_n(alloc)?;
+            if !schema.is_table(0) {
+                return Err(Fail::from("table"));
+            }
+            let options = stream_options(64);
+            run_within(alloc, &mut reader, &mut writer, &schema, &options, MOST_TURNS)
+        }
+        By::File => {
+            let file = spelled(alloc, "N")?;
+            let settings = given(alloc, [].as_slice()).ok().ok_or("words")?;
+            if settings.depth != 64 || settings.max_bytes != 67_108_864 {
+                return Err(Fail::from("range"));
+            }
+            let file = Some(file.as_slice());
+            check(alloc, file, &settings, &mut reader, &mut writer)
+        }
+    };
+    Ok((answer, writer.into_inner().taken))
+}
+
 #[test]
 fn a_stream_is_told_however_it_is_cut(rt: HostRuntime) -> Result<(), Fail> {
-    let schema = schema_n(rt.alloc())?;
-    assert!(rt; schema.is_table(0));
-    let options = stream_options(67_108_864);
-    let stream = twice();
-    for most in 1..=64 {
-        let mut reader = Counted::new(Slow {
-            rest: &stream,
-            most,
-            calls: 0,
-            fails_at: 0,
-        });
-        let mut writer = Counted::new(Vec::new(rt.alloc()));
-        let answer = run_within(
-            rt.alloc(),
-            &mut reader,
-            &mut writer,
-            &schema,
-            &options,
-            MOST_TURNS,
-        );
-        assert_eq!(rt; answer, Ok(Tally { yes: 2, no: 0 }), "in pieces of {most}");
-        assert_eq!(rt;
-            writer.get_ref().as_slice(),
-            TWO_LINES.as_bytes(),
-            "in pieces of {most}"
-        );
+    for by in [By::Schema, By::File] {
+        for most in 1..=64 {
+            let (answer, taken) = run_twice(by, rt.alloc(), most, 0, 60, Full::Fails)?;
+            assert_eq!(rt; answer, Ok(Tally { yes: 2, no: 0 }), "{by:?} by {most}");
+            assert_eq!(rt; taken.as_slice(), TWO_LINES.as_bytes(), "{by:?} by {most}");
+        }
     }
     Ok(())
 }
@@ -230,83 +268,45 @@ fn a_stream_ends_with_what_is_left(rt: HostRuntime) -> Result<(), Fail> {
 
 #[test]
 fn a_failing_reader_leaves_the_lines_before_it(rt: HostRuntime) -> Result<(), Fail> {
-    let schema = schema_n(rt.alloc())?;
-    assert!(rt; schema.is_table(0));
-    let options = stream_options(64);
-    let stream = twice();
-    for (fails_at, lines) in [(1, 0), (32, 0), (33, 30), (64, 30), (65, 60)] {
-        let mut reader = Counted::new(Slow {
-            rest: &stream,
-            most: 1,
-            calls: 0,
-            fails_at,
-        });
-        let mut writer = Counted::new(Narrow {
-            taken: Vec::new(rt.alloc()),
-            room: 60,
-            full: Full::Fails,
-        });
-        let answer = run_within(
-            rt.alloc(),
-            &mut reader,
-            &mut writer,
-            &schema,
-            &options,
-            MOST_TURNS,
-        );
-        assert_eq!(rt; answer, Err(RunFault::ReadFault), "at {fails_at}");
-        let front = TWO_LINES.as_bytes().get(..lines).ok_or("lines")?;
-        assert_eq!(rt; writer.get_ref().taken.as_slice(), front, "at {fails_at}");
+    for by in [By::Schema, By::File] {
+        for (fails_at, lines) in [(1, 0), (32, 0), (33, 30), (64, 30), (65, 60)] {
+            let (answer, taken) = run_twice(by, rt.alloc(), 1, fails_at, 60, Full::Fails)?;
+            assert_eq!(rt; answer, Err(RunFault::ReadFault), "{by:?} at {fails_at}");
+            let front = TWO_LINES.as_bytes().get(..lines).ok_or("lines")?;
+            assert_eq!(rt; taken.as_slice(), front, "{by:?} at {fails_at}");
+        }
     }
+    Ok(())
+}
+
+/// Asserts what is told of a writer that has so much room.
+fn narrow_is_told(
+    rt: &impl Abort,
+    alloc: Global,
+    by: By,
+    most: usize,
+    full: Full,
+    room: usize,
+) -> Result<(), Fail> {
+    let (answer, taken) = run_twice(by, alloc, most, 0, room, full)?;
+    let written = room as u128;
+    let want = if room < 60 {
+        Err(RunFault::WriteFault { written })
+    } else {
+        Ok(Tally { yes: 2, no: 0 })
+    };
+    assert_eq!(rt; answer, want, "{by:?} {full:?} at {room}");
+    let front = TWO_LINES.as_bytes().get(..room).ok_or("room")?;
+    assert_eq!(rt; taken.as_slice(), front, "{by:?} {full:?} at {room}");
     Ok(())
 }
 
 #[test]
 fn a_narrow_writer_is_told_by_what_it_took(rt: HostRuntime) -> Result<(), Fail> {
-    let schema = schema_n(rt.alloc())?;
-    assert!(rt; schema.is_table(0));
-    let options = stream_options(64);
-    let stream = twice();
-    for (full, most) in [
-        (Full::TakesNothing, 64),
-        (Full::Fails, 64),
-        (Full::TakesNothing, 1),
-        (Full::Fails, 1),
-    ] {
+    for (by, most) in [(By::Schema, 64), (By::Schema, 1), (By::File, 1)] {
         for room in 0..61usize {
-            let mut reader = Counted::new(Slow {
-                rest: &stream,
-                most,
-                calls: 0,
-                fails_at: 0,
-            });
-            let mut writer = Counted::new(Narrow {
-                taken: Vec::new(rt.alloc()),
-                room,
-                full,
-            });
-            let answer = run_within(
-                rt.alloc(),
-                &mut reader,
-                &mut writer,
-                &schema,
-                &options,
-                MOST_TURNS,
-            );
-            let want = if room < 60 {
-                Err(RunFault::WriteFault {
-                    written: room as u128,
-                })
-            } else {
-                Ok(Tally { yes: 2, no: 0 })
-            };
-            assert_eq!(rt; answer, want, "{full:?} at {room}");
-            let front = TWO_LINES.as_bytes().get(..room).ok_or("room")?;
-            assert_eq!(rt;
-                writer.get_ref().taken.as_slice(),
-                front,
-                "{full:?} at {room}"
-            );
+            narrow_is_told(&rt, rt.alloc(), by, most, Full::TakesNothing, room)?;
+            narrow_is_told(&rt, rt.alloc(), by, most, Full::Fails, room)?;
         }
     }
     Ok(())
@@ -314,7 +314,8 @@ fn a_narrow_writer_is_told_by_what_it_took(rt: HostRuntime) -> Result<(), Fail> 
 
 #[test]
 fn a_run_ends_after_its_turns(rt: HostRuntime) -> Result<(), Fail> {
-    let schema = schema_n(rt.alloc())?;
+    let alloc = rt.alloc();
+    let schema = schema_n(alloc)?;
     assert!(rt; schema.is_table(0));
     let two =
         "1 bad V2 OutOfBuffer at=4 object=0 field=- reads=1\n2 bad V2 OutOfBuffer at=4 object=0 field=- reads=1\n";
@@ -330,21 +331,11 @@ fn a_run_ends_after_its_turns(rt: HostRuntime) -> Result<(), Fail> {
             ..stream_options(max_bytes)
         };
         let mut reader = Counted::new(Zeros);
-        let mut writer = Counted::new(Vec::new(rt.alloc()));
-        let answer = run_within(
-            rt.alloc(),
-            &mut reader,
-            &mut writer,
-            &schema,
-            &options,
-            turns,
-        );
+        let mut writer = Counted::new(Vec::new(alloc));
+        let answer = run_within(alloc, &mut reader, &mut writer, &schema, &options, turns);
         assert_eq!(rt; answer, Err(want), "{turns} turns");
-        assert_eq!(rt;
-            writer.get_ref().as_slice(),
-            lines.as_bytes(),
-            "{turns} turns"
-        );
+        let written = writer.get_ref().as_slice();
+        assert_eq!(rt; written, lines.as_bytes(), "{turns} turns");
         assert_eq!(rt; reader.calls(), reads, "{turns} turns");
     }
     Ok(())

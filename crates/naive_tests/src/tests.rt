@@ -1,6 +1,5 @@
 mod budgets;
 mod checker;
 mod common;
-mod reflection;
 mod rows;
 mod values;

@@ -51,7 +51,7 @@ fn each_budget(
 #[test]
 fn budgets_are_kept_alike(rt: HostRuntime) -> Result<(), Fail> {
     for swept in ALL {
-        let fixture = swept.fixture(&rt, rt.alloc())?;
+        let fixture = swept.fixture(rt.alloc())?;
         for checks in ALL_CHECKS {
             each_budget(&rt, rt.alloc(), &fixture, checks)?;
         }

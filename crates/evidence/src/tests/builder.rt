@@ -2,7 +2,7 @@
 
 use super::lookups::kind;
 use super::random::Random;
-use super::rows::Rows;
+use case_text::rows::Rows;
 use fb_schema::{FieldRow, Kind};
 use std::alloc::{AllocError, Global};
 

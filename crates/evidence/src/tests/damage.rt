@@ -4,7 +4,7 @@
 
 use super::answers;
 use super::engine::{ALL_CHECKS, Engine, answered, reads_of};
-use super::fixtures::{Fixture, SHORT_ONES, Swept};
+use super::fixtures::{ALL, Fixture, Swept};
 use super::paths::{Way, ways};
 use super::random::Random;
 use fb_verify::{Checks, Reason};
@@ -139,7 +139,7 @@ fn run_sweep(
 
 /// The sweep over one buffer under every choice of the checks.
 fn sweep_short(rt: &impl Abort, alloc: Global, swept: Swept) -> Result<(), Fail> {
-    let fixture = swept.fixture(rt, alloc)?;
+    let fixture = swept.fixture(alloc)?;
     let ways = ways(rt, alloc, &fixture)?;
     let places = fixture.bytes.len();
     for checks in ALL_CHECKS {
@@ -151,8 +151,10 @@ fn sweep_short(rt: &impl Abort, alloc: Global, swept: Swept) -> Result<(), Fail>
 
 #[test]
 fn short_buffers_that_are_damaged_are_answered_alike(rt: HostRuntime) -> Result<(), Fail> {
-    for swept in SHORT_ONES {
-        sweep_short(&rt, rt.alloc(), swept)?;
+    for swept in ALL {
+        if swept.is_short() {
+            sweep_short(&rt, rt.alloc(), swept)?;
+        }
     }
     Ok(())
 }
@@ -164,7 +166,7 @@ fn sweep_schema_file(
     checks: Checks,
     places: Range<usize>,
 ) -> Result<(), Fail> {
-    let fixture = Swept::SchemaFile.fixture(rt, alloc)?;
+    let fixture = Swept::SchemaFile.fixture(alloc)?;
     let ways = ways(rt, alloc, &fixture)?;
     let count = run_sweep(rt, alloc, &fixture, &ways, checks, places)?;
     assert!(rt; count.is_mixed(), "{count:?}");

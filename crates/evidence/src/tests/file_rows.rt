@@ -1,6 +1,6 @@
 //! The rows that a schema file describes, read by the naive reader, and what `load` must answer by them.
 
-use super::rows::Rows;
+use case_text::rows::Rows;
 use fb_schema::{EnumRow, FieldRow, MemberRow, ObjectRow, TypeRow};
 use naive::checker::Question;
 use naive::values::{Step, Value, value};
@@ -47,6 +47,11 @@ impl<'q, 'r, 'n, 'b> TableSpot<'q, 'r, 'n, 'b> {
             Value::Text(text) => Some(text),
             _ => None,
         }
+    }
+
+    /// The name, which stands first in every table that has one.
+    fn name(self) -> &'b [u8] {
+        self.text(0).unwrap_or(b"")
     }
 
     /// A whole number, 0 where none stands there.
@@ -97,7 +102,7 @@ impl<'q, 'r, 'n, 'b> TableSpot<'q, 'r, 'n, 'b> {
     /// A table Field.
     fn field(self) -> FieldRow<'b> {
         FieldRow {
-            name: self.text(0).unwrap_or(b""),
+            name: self.name(),
             ty: self.ty(1),
             slot: u16::try_from(self.number(3)).unwrap_or(0),
             default: self.number(4),
@@ -112,7 +117,7 @@ impl<'q, 'r, 'n, 'b> TableSpot<'q, 'r, 'n, 'b> {
     fn object(self, alloc: Global) -> Result<ObjectRow<'b>, AllocError> {
         let fields = (0..self.count(1)).map(|number| self.element(1, number).field());
         Ok(ObjectRow {
-            name: self.text(0).unwrap_or(b""),
+            name: self.name(),
             fields: fields.collect(alloc)?,
             is_struct: self.flag(2),
             minalign: i32::try_from(self.number(3)).unwrap_or(0),
@@ -123,7 +128,7 @@ impl<'q, 'r, 'n, 'b> TableSpot<'q, 'r, 'n, 'b> {
     /// A table EnumVal.
     fn member(self) -> MemberRow<'b> {
         MemberRow {
-            name: self.text(0).unwrap_or(b""),
+            name: self.name(),
             value: self.number(1),
             ty: self.ty(3),
         }
@@ -133,7 +138,7 @@ impl<'q, 'r, 'n, 'b> TableSpot<'q, 'r, 'n, 'b> {
     fn row_of_enum(self, alloc: Global) -> Result<EnumRow<'b>, AllocError> {
         let members = (0..self.count(1)).map(|number| self.element(1, number).member());
         Ok(EnumRow {
-            name: self.text(0).unwrap_or(b""),
+            name: self.name(),
             members: members.collect(alloc)?,
             is_union: self.flag(2),
         })
@@ -149,30 +154,20 @@ impl<'q, 'r, 'n, 'b> FileReader<'q, 'r, 'n, 'b> {
         }
     }
 
-    fn objects(self, alloc: Global) -> Result<Vec<ObjectRow<'b>>, AllocError> {
-        let root = self.root();
-        let mut objects = Vec::new(alloc);
-        for number in 0..root.count(0) {
-            objects.push(root.element(0, number).object(alloc)?)?;
-        }
-        Ok(objects)
-    }
-
-    fn enums(self, alloc: Global) -> Result<Vec<EnumRow<'b>>, AllocError> {
-        let root = self.root();
-        let mut enums = Vec::new(alloc);
-        for number in 0..root.count(1) {
-            enums.push(root.element(1, number).row_of_enum(alloc)?)?;
-        }
-        Ok(enums)
-    }
-
     /// The rows, in the order of the file.
     pub fn rows(self, alloc: Global) -> Result<Rows<'b>, AllocError> {
-        Ok(Rows {
-            objects: self.objects(alloc)?,
-            enums: self.enums(alloc)?,
-        })
+        let root = self.root();
+        let mut rows = Rows {
+            objects: Vec::new(alloc),
+            enums: Vec::new(alloc),
+        };
+        for number in 0..root.count(0) {
+            rows.objects.push(root.element(0, number).object(alloc)?)?;
+        }
+        for number in 0..root.count(1) {
+            rows.enums.push(root.element(1, number).row_of_enum(alloc)?)?;
+        }
+        Ok(rows)
     }
 
     /// The name of the root table.

@@ -88,7 +88,7 @@ fn small_limits(rt: &impl Abort, alloc: Global, fixture: &Fixture<'_>) -> Result
 #[test]
 fn small_limits_are_kept_alike(rt: HostRuntime) -> Result<(), Fail> {
     for swept in ALL {
-        small_limits(&rt, rt.alloc(), &swept.fixture(&rt, rt.alloc())?)?;
+        small_limits(&rt, rt.alloc(), &swept.fixture(rt.alloc())?)?;
     }
     Ok(())
 }
@@ -136,7 +136,7 @@ fn wanted(rt: &impl Abort, alloc: Global, fixture: &Fixture<'_>) -> Result<(), F
 #[test]
 fn identifiers_are_wanted_alike(rt: HostRuntime) -> Result<(), Fail> {
     for swept in ALL {
-        wanted(&rt, rt.alloc(), &swept.fixture(&rt, rt.alloc())?)?;
+        wanted(&rt, rt.alloc(), &swept.fixture(rt.alloc())?)?;
     }
     Ok(())
 }

@@ -5,7 +5,8 @@ use super::engine::{limits_of, told};
 use super::file_rows::FileReader;
 use super::fixtures::{Fixture, Swept};
 use super::lookups;
-use super::rows::{Rows, broken_by};
+use super::rows::broken_by;
+use case_text::rows::Rows;
 use fb_bfbs::{LoadFault, Loaded, load};
 use fb_verify::Checks;
 use naive::checker::{Question, Verdict, verdict};
@@ -158,7 +159,7 @@ fn changes_between(
     from: usize,
     to: usize,
 ) -> Result<Answers, Fail> {
-    let fixture = Swept::SchemaFile.fixture(rt, alloc)?;
+    let fixture = Swept::SchemaFile.fixture(alloc)?;
     let question = question_of(&fixture);
     let mut bytes = fixture.bytes.as_slice().to_vec(alloc)?;
     let mut answers = Answers::default();
@@ -175,7 +176,7 @@ fn changes_between(
 
 #[test]
 fn a_schema_file_cut_off_is_loaded_as_the_naive_ones_say(rt: HostRuntime) -> Result<(), Fail> {
-    let fixture = Swept::SchemaFile.fixture(&rt, rt.alloc())?;
+    let fixture = Swept::SchemaFile.fixture(rt.alloc())?;
     let question = question_of(&fixture);
     let mut answers = Answers::default();
     let bytes = fixture.bytes.as_slice();
@@ -194,7 +195,7 @@ fn a_schema_file_cut_off_is_loaded_as_the_naive_ones_say(rt: HostRuntime) -> Res
 fn a_schema_file_is_loaded_within_a_budget_as_the_naive_ones_say(
     rt: HostRuntime,
 ) -> Result<(), Fail> {
-    let fixture = Swept::SchemaFile.fixture(&rt, rt.alloc())?;
+    let fixture = Swept::SchemaFile.fixture(rt.alloc())?;
     let mut answers = Answers::default();
     for budget in 0..=COST {
         let question = Question {

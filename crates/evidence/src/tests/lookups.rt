@@ -1,6 +1,6 @@
 //! What the look-ups of a schema answer, beside plain walks over its rows.
 
-use super::rows::Rows;
+use case_text::rows::Rows;
 use fb_schema::base_type::{OBJ, STRING, VECTOR};
 use fb_schema::{EnumRow, FieldRow, FieldView, Kind, ObjectRow, Scalar, Schema, TypeRow};
 use std::process::Abort;
@@ -94,48 +94,9 @@ fn is_view_of(
     placed && flags && shape && beside && view.name == row.name && view.default == row.default
 }
 
-/// Asserts what is told of one live field of a table.
-fn field_agrees(
-    rt: &impl Abort,
-    schema: &Schema<'_>,
-    rows: &Rows<'_>,
-    number: u32,
-    fields: &[FieldRow<'_>],
-    row: &FieldRow<'_>,
-) {
-    assert!(rt; schema.is_table(number));
-    let place = live_below(fields, row.slot);
-    let Some(view) = schema.fields_of(number).get(place) else {
-        panic!(rt; "no field at {place} of {number}");
-    };
-    assert!(rt; is_view_of(rows, fields, row, view), "{view:?} of {row:?}");
-    let i = u32::try_from(place).ok().expect(rt, "few fields");
-    assert_eq!(rt; schema.field_named(number, row.name), Some(i));
-    assert!(rt; i < schema.field_count(number));
-    assert_eq!(rt; schema.field_at(number, i).slot, row.slot);
-}
-
-/// Asserts what is told of the live fields of a table.
-fn fields_agree(
-    rt: &impl Abort,
-    schema: &Schema<'_>,
-    rows: &Rows<'_>,
-    number: u32,
-    fields: &[FieldRow<'_>],
-) {
-    assert!(rt; schema.is_table(number));
-    let live = live_count(fields);
-    assert_eq!(rt; schema.fields_of(number).len(), live);
-    assert_eq!(rt; schema.field_count(number) as usize, live);
-    assert_eq!(rt; schema.required_end(number) as usize, required_end(fields));
-    assert_eq!(rt; schema.field_named(number, b"nothing"), None);
-    for field in fields.iter() {
-        if field.deprecated {
-            assert_eq!(rt; schema.field_named(number, field.name), None);
-        } else {
-            field_agrees(rt, schema, rows, number, fields, field);
-        }
-    }
+/// How many fields are live.
+fn live_count(fields: &[FieldRow<'_>]) -> usize {
+    fields.iter().filter(|field| !field.deprecated).count()
 }
 
 /// How many live fields there are up to and with the last required one.
@@ -149,114 +110,11 @@ fn required_end(fields: &[FieldRow<'_>]) -> usize {
     end
 }
 
-fn object_agrees(
-    rt: &impl Abort,
-    schema: &Schema<'_>,
-    rows: &Rows<'_>,
-    number: u32,
-    object: &ObjectRow<'_>,
-) {
-    assert!(rt; number < schema.object_count());
-    let view = schema.object(number);
-    assert!(rt; view.name == object.name && view.is_struct == object.is_struct);
-    assert!(rt; view.minalign == object.minalign && view.bytesize == object.bytesize);
-    assert_eq!(rt; schema.is_table(number), !object.is_struct);
-    assert_eq!(rt; schema.object_named(object.name), Some(number));
-    if !object.is_struct {
-        fields_agree(rt, schema, rows, number, &object.fields);
-        strange_names_agree(rt, schema, rows, number, &object.fields);
-    }
-}
-
-/// Asserts that a table has fields of its own names alone, also where another object's field has the name.
-fn strange_names_agree(
-    rt: &impl Abort,
-    schema: &Schema<'_>,
-    rows: &Rows<'_>,
-    number: u32,
-    fields: &[FieldRow<'_>],
-) {
-    assert!(rt; schema.is_table(number));
-    for object in rows.objects.iter() {
-        let named = schema.field_named(number, object.name).is_some();
-        assert_eq!(rt; named, has_live(fields, object.name));
-        for field in object.fields.iter() {
-            let named = schema.field_named(number, field.name).is_some();
-            assert_eq!(rt; named, has_live(fields, field.name));
-        }
-    }
-}
-
 /// Whether a live field has this name.
 fn has_live(fields: &[FieldRow<'_>], name: &[u8]) -> bool {
     fields
         .iter()
         .any(|field| !field.deprecated && field.name == name)
-}
-
-/// The kind of the member of a union with this value.
-fn member_kind(rows: &Rows<'_>, row: &EnumRow<'_>, value: u8) -> Option<Kind> {
-    if value == 0 {
-        return None;
-    }
-    let value = i64::from(value);
-    let member = row.members.iter().find(|member| member.value == value)?;
-    let (kind, _, _) = kind(rows, member.ty)?;
-    Some(kind)
-}
-
-/// Asserts what is told of the member of a union with each value.
-fn members_agree(
-    rt: &impl Abort,
-    schema: &Schema<'_>,
-    rows: &Rows<'_>,
-    number: u32,
-    row: &EnumRow<'_>,
-) {
-    assert!(rt; schema.is_union(number));
-    for value in 0..=255u8 {
-        let told = schema.member_of(number, value);
-        assert_eq!(rt; told, member_kind(rows, row, value), "{value}");
-    }
-}
-
-/// The value of the member of a union that has a name.
-fn value_named(row: &EnumRow<'_>, name: &[u8]) -> Option<u8> {
-    let named = row.members.iter().find(|m| m.value != 0 && m.name == name)?;
-    u8::try_from(named.value).ok()
-}
-
-/// Asserts what is told of the names of a union's members, and of those of all others.
-fn names_agree(
-    rt: &impl Abort,
-    schema: &Schema<'_>,
-    rows: &Rows<'_>,
-    number: u32,
-    row: &EnumRow<'_>,
-) {
-    assert!(rt; schema.is_union(number));
-    assert_eq!(rt; schema.member_named(number, b"nothing"), None);
-    for other in rows.enums.iter() {
-        for member in other.members.iter() {
-            let value = value_named(row, member.name);
-            assert_eq!(rt; schema.member_named(number, member.name), value);
-        }
-    }
-}
-
-fn enums_agree(rt: &impl Abort, schema: &Schema<'_>, rows: &Rows<'_>) {
-    for (number, row) in (0u32..).zip(rows.enums.iter()) {
-        assert_eq!(rt; schema.is_union(number), row.is_union);
-        if row.is_union {
-            members_agree(rt, schema, rows, number, row);
-            names_agree(rt, schema, rows, number, row);
-        }
-    }
-}
-
-/// How many fields are live.
-fn live_count(fields: &[FieldRow<'_>]) -> usize {
-    fields.iter().filter(|field| !field.deprecated).count()
 }
 
 /// The greatest number of live fields of a table.
@@ -270,6 +128,129 @@ fn widest(rows: &Rows<'_>) -> usize {
     widest
 }
 
+/// The kind of the member of a union with this value.
+fn member_kind(rows: &Rows<'_>, row: &EnumRow<'_>, value: u8) -> Option<Kind> {
+    if value == 0 {
+        return None;
+    }
+    let value = i64::from(value);
+    let member = row.members.iter().find(|member| member.value == value)?;
+    let (kind, _, _) = kind(rows, member.ty)?;
+    Some(kind)
+}
+
+/// The value of the member of a union that has a name.
+fn value_named(row: &EnumRow<'_>, name: &[u8]) -> Option<u8> {
+    let named = row.members.iter().find(|m| m.value != 0 && m.name == name)?;
+    u8::try_from(named.value).ok()
+}
+
+/// A schema beside the rows by which its look-ups should answer.
+#[derive(Clone, Copy)]
+struct Beside<'s, 'n> {
+    schema: &'s Schema<'n>,
+    rows: &'s Rows<'n>,
+}
+
+impl<'s, 'n> Beside<'s, 'n> {
+    /// Asserts what is told of one live field of a table.
+    fn field(self, rt: &impl Abort, number: u32, fields: &[FieldRow<'_>], row: &FieldRow<'_>) {
+        let Beside { schema, rows } = self;
+        assert!(rt; schema.is_table(number));
+        let place = live_below(fields, row.slot);
+        let Some(view) = schema.fields_of(number).get(place) else {
+            panic!(rt; "no field at {place} of {number}");
+        };
+        assert!(rt; is_view_of(rows, fields, row, view), "{view:?} of {row:?}");
+        let i = u32::try_from(place).ok().expect(rt, "few fields");
+        assert_eq!(rt; schema.field_named(number, row.name), Some(i));
+        assert!(rt; i < schema.field_count(number));
+        assert_eq!(rt; schema.field_at(number, i).slot, row.slot);
+    }
+
+    /// Asserts what is told of the live fields of a table.
+    fn fields(self, rt: &impl Abort, number: u32, fields: &[FieldRow<'_>]) {
+        let schema = self.schema;
+        assert!(rt; schema.is_table(number));
+        let live = live_count(fields);
+        assert_eq!(rt; schema.fields_of(number).len(), live);
+        assert_eq!(rt; schema.field_count(number) as usize, live);
+        assert_eq!(rt; schema.required_end(number) as usize, required_end(fields));
+        assert_eq!(rt; schema.field_named(number, b"nothing"), None);
+        for field in fields.iter() {
+            if field.deprecated {
+                assert_eq!(rt; schema.field_named(number, field.name), None);
+            } else {
+                self.field(rt, number, fields, field);
+            }
+        }
+    }
+
+    /// Asserts that a table has fields of its own names alone, also where another object's field has the name.
+    fn strange_names(self, rt: &impl Abort, number: u32, fields: &[FieldRow<'_>]) {
+        let Beside { schema, rows } = self;
+        assert!(rt; schema.is_table(number));
+        for object in rows.objects.iter() {
+            let named = schema.field_named(number, object.name).is_some();
+            assert_eq!(rt; named, has_live(fields, object.name));
+            for field in object.fields.iter() {
+                let named = schema.field_named(number, field.name).is_some();
+                assert_eq!(rt; named, has_live(fields, field.name));
+            }
+        }
+    }
+
+    /// Asserts what is told of an object.
+    fn object(self, rt: &impl Abort, number: u32, object: &ObjectRow<'_>) {
+        let schema = self.schema;
+        assert!(rt; number < schema.object_count());
+        let view = schema.object(number);
+        assert!(rt; view.name == object.name && view.is_struct == object.is_struct);
+        assert!(rt; view.minalign == object.minalign && view.bytesize == object.bytesize);
+        assert_eq!(rt; schema.is_table(number), !object.is_struct);
+        assert_eq!(rt; schema.object_named(object.name), Some(number));
+        if !object.is_struct {
+            self.fields(rt, number, &object.fields);
+            self.strange_names(rt, number, &object.fields);
+        }
+    }
+
+    /// Asserts what is told of the member of a union with each value.
+    fn members(self, rt: &impl Abort, number: u32, row: &EnumRow<'_>) {
+        let Beside { schema, rows } = self;
+        assert!(rt; schema.is_union(number));
+        for value in 0..=255u8 {
+            let told = schema.member_of(number, value);
+            assert_eq!(rt; told, member_kind(rows, row, value), "{value}");
+        }
+    }
+
+    /// Asserts what is told of the names of a union's members, and of those of all others.
+    fn member_names(self, rt: &impl Abort, number: u32, row: &EnumRow<'_>) {
+        let Beside { schema, rows } = self;
+        assert!(rt; schema.is_union(number));
+        assert_eq!(rt; schema.member_named(number, b"nothing"), None);
+        for other in rows.enums.iter() {
+            for member in other.members.iter() {
+                let value = value_named(row, member.name);
+                assert_eq!(rt; schema.member_named(number, member.name), value);
+            }
+        }
+    }
+
+    /// Asserts what is told of the enums.
+    fn enums(self, rt: &impl Abort) {
+        let Beside { schema, rows } = self;
+        for (number, row) in (0u32..).zip(rows.enums.iter()) {
+            assert_eq!(rt; schema.is_union(number), row.is_union);
+            if row.is_union {
+                self.members(rt, number, row);
+                self.member_names(rt, number, row);
+            }
+        }
+    }
+}
+
 /// Asserts that every look-up answers by the rows.
 pub fn agree(rt: &impl Abort, schema: &Schema<'_>, rows: &Rows<'_>) {
     assert_eq!(rt; schema.object_count() as usize, rows.objects.len());
@@ -277,8 +258,9 @@ pub fn agree(rt: &impl Abort, schema: &Schema<'_>, rows: &Rows<'_>) {
     assert_eq!(rt; schema.object_named(b"nothing"), None);
     assert!(rt; !schema.is_table(schema.object_count()) && !schema.is_table(u32::MAX));
     assert!(rt; !schema.is_union(u32::MAX));
+    let beside = Beside { schema, rows };
     for (number, object) in (0u32..).zip(rows.objects.iter()) {
-        object_agrees(rt, schema, rows, number, object);
+        beside.object(rt, number, object);
     }
-    enums_agree(rt, schema, rows);
+    beside.enums(rt);
 }

@@ -1,7 +1,7 @@
 //! Every short path over the names of a schema, resolved by the engine and by the naive reader.
 
 use super::fixtures::Fixture;
-use super::rows::Rows;
+use case_text::rows::Rows;
 use fb_access::{Path, Step};
 use fb_schema::Schema;
 use fb_verify::Checks;
@@ -131,39 +131,35 @@ struct Found<'n> {
     way: Way,
 }
 
-/// Those paths that resolve among the extensions of one by each piece.
-fn extended<'n>(
-    rt: &impl Abort,
-    alloc: Global,
-    fixture: &Fixture<'n>,
-    before: &[Piece<'n>],
-    choices: &[Piece<'n>],
-    found: &mut Vec<Found<'n>>,
-) -> Result<(), AllocError> {
-    let question = fixture.question(Checks::published());
-    for choice in choices {
-        let mut pieces = before.to_vec(alloc)?;
-        pieces.push(*choice)?;
-        if let Some(way) = resolved(rt, alloc, &fixture.schema, &question, &pieces)? {
-            found.push(Found { pieces, way })?;
-        }
-    }
-    Ok(())
-}
-
 /// Those paths that resolve among the extensions of these by each piece.
-fn all_extended<'n>(
+fn extended<'n>(
     rt: &impl Abort,
     alloc: Global,
     fixture: &Fixture<'n>,
     before: &[Found<'n>],
     choices: &[Piece<'n>],
 ) -> Result<Vec<Found<'n>>, AllocError> {
+    let question = fixture.question(Checks::published());
     let mut found = Vec::new(alloc);
     for path in before {
-        extended(rt, alloc, fixture, &path.pieces, choices, &mut found)?;
+        for choice in choices {
+            let mut pieces = path.pieces.as_slice().to_vec(alloc)?;
+            pieces.push(*choice)?;
+            if let Some(way) = resolved(rt, alloc, &fixture.schema, &question, &pieces)? {
+                found.push(Found { pieces, way })?;
+            }
+        }
     }
     Ok(found)
+}
+
+/// The path of no steps, which is where the others begin.
+fn nowhere<'n>(alloc: Global) -> Found<'n> {
+    let (steps, naive) = (Vec::new(alloc), Vec::new(alloc));
+    Found {
+        pieces: Vec::new(alloc),
+        way: Way { steps, naive },
+    }
 }
 
 fn push_ways(ways: &mut Vec<Way>, found: Vec<Found<'_>>) -> Result<(), AllocError> {
@@ -178,10 +174,9 @@ pub fn ways(rt: &impl Abort, alloc: Global, fixture: &Fixture<'_>) -> Result<Vec
     let names = names(alloc, &fixture.rows)?;
     let choices = pieces(alloc, &names)?;
     let firsts = choices.get(..names.len()).unwrap_or(&[]);
-    let mut one = Vec::new(alloc);
-    extended(rt, alloc, fixture, &[], firsts, &mut one)?;
-    let two = all_extended(rt, alloc, fixture, &one, &choices)?;
-    let three = all_extended(rt, alloc, fixture, &two, &choices)?;
+    let one = extended(rt, alloc, fixture, &[nowhere(alloc)], firsts)?;
+    let two = extended(rt, alloc, fixture, &one, &choices)?;
+    let three = extended(rt, alloc, fixture, &two, &choices)?;
     let mut ways = Vec::new(alloc);
     push_ways(&mut ways, one)?;
     push_ways(&mut ways, two)?;

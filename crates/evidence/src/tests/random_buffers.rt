@@ -8,6 +8,7 @@ use super::fixtures::Fixture;
 use super::paths::{Way, ways};
 use super::random::Random;
 use super::random_rows::Maker;
+use super::rows::built;
 use fb_verify::Checks;
 use naive::checker::{Question, Verdict};
 use std::alloc::{AllocError, Global};
@@ -155,7 +156,7 @@ fn fixture(
     let mut maker = Maker::new(*random, 0);
     let rows = maker.rows(alloc)?;
     *random = maker.random;
-    let schema = rows.built(rt, alloc)?.ok().ok_or("rows that are refused")?;
+    let schema = built(alloc, &rows)??;
     let root = random.below(schema.object_count());
     if !schema.is_table(root) {
         return Ok(None);

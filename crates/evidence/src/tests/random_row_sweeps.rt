@@ -4,7 +4,8 @@
 use super::lookups;
 use super::random::Random;
 use super::random_rows::Maker;
-use super::rows::{Rows, broken_by};
+use super::rows::{broken_by, built};
+use case_text::rows::Rows;
 use naive::rows::first_broken;
 use std::alloc::Global;
 use std::process::Abort;
@@ -38,7 +39,7 @@ fn answered_alike(
     count: &mut Count,
 ) -> Result<(), Fail> {
     let naive = first_broken(&rows.objects, &rows.enums);
-    match rows.built(rt, alloc)? {
+    match built(alloc, rows)? {
         Ok(schema) => {
             assert_eq!(rt; naive, None, "{:?} {:?}", rows.objects, rows.enums);
             lookups::agree(rt, &schema, rows);

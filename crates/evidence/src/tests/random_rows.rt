@@ -1,7 +1,7 @@
 //! Rows of schemas at random: mostly legal, with now and then what a schema may not have.
 
 use super::random::Random;
-use super::rows::Rows;
+use case_text::rows::Rows;
 use fb_schema::base_type::{ARRAY, NONE, OBJ, STRING, UBYTE, UNION, UTYPE, VECTOR, VECTOR64};
 use fb_schema::builders::{array, one, vector};
 use fb_schema::{EnumRow, FieldRow, MemberRow, ObjectRow, TypeRow};

@@ -1,80 +1,29 @@
-//! Rows of schemas, in few words.
+//! Rows once more: what `build` answers of them, and its faults in the words of the naive test.
 
-use fb_schema::{
-    Code, EnumRow, FieldRow, ObjectRow, Schema, SchemaFault, TypeRow, are_few, builders,
-};
+use case_text::rows::Rows;
+use fb_schema::{Code, EnumRow, ObjectRow, Schema, SchemaFault};
 use naive::rows::Broken;
-use std::alloc::{AllocError, Global};
-use std::process::Abort;
+use std::alloc::Global;
+use std::test::Fail;
 
-/// A live field that may be absent, which its table puts in its slot.
-pub fn field<'n>(name: &'n [u8], ty: TypeRow) -> FieldRow<'n> {
-    builders::field(name, 4, ty)
-}
-
-/// A table of these fields, in the slots from 4 on.
-pub fn table<'n>(
+/// What `build` answers of copies of these rows.
+pub fn built<'n>(
     alloc: Global,
-    name: &'n [u8],
-    fields: &[FieldRow<'n>],
-) -> Result<ObjectRow<'n>, AllocError> {
-    let mut placed = Vec::new(alloc);
-    let mut slot = 4u16;
-    for field in fields {
-        placed.push(FieldRow { slot, ..*field })?;
-        slot = slot.saturating_add(2);
+    rows: &Rows<'n>,
+) -> Result<Result<Schema<'n>, SchemaFault>, Fail> {
+    let mut copies = Rows {
+        objects: Vec::new(alloc),
+        enums: Vec::new(alloc),
+    };
+    for row in &rows.objects {
+        let fields = row.fields.as_slice().to_vec(alloc)?;
+        copies.objects.push(ObjectRow { fields, ..*row })?;
     }
-    builders::table(alloc, name, &placed)
-}
-
-/// The rows of a schema.
-#[derive(Drop)]
-pub struct Rows<'n> {
-    pub objects: Vec<ObjectRow<'n>>,
-    pub enums: Vec<EnumRow<'n>>,
-}
-
-fn copied_objects<'n>(
-    alloc: Global,
-    objects: &[ObjectRow<'n>],
-) -> Result<Vec<ObjectRow<'n>>, AllocError> {
-    let mut copies = Vec::new(alloc);
-    for row in objects {
-        copies.push(ObjectRow {
-            name: row.name,
-            fields: row.fields.as_slice().to_vec(alloc)?,
-            is_struct: row.is_struct,
-            minalign: row.minalign,
-            bytesize: row.bytesize,
-        })?;
+    for row in &rows.enums {
+        let members = row.members.as_slice().to_vec(alloc)?;
+        copies.enums.push(EnumRow { members, ..*row })?;
     }
-    Ok(copies)
-}
-
-fn copied_enums<'n>(alloc: Global, enums: &[EnumRow<'n>]) -> Result<Vec<EnumRow<'n>>, AllocError> {
-    let mut copies = Vec::new(alloc);
-    for row in enums {
-        copies.push(EnumRow {
-            name: row.name,
-            members: row.members.as_slice().to_vec(alloc)?,
-            is_union: row.is_union,
-        })?;
-    }
-    Ok(copies)
-}
-
-impl<'n> Rows<'n> {
-    /// What `build` answers of copies of these rows.
-    pub fn built(
-        &self,
-        rt: &impl Abort,
-        alloc: Global,
-    ) -> Result<Result<Schema<'n>, SchemaFault>, AllocError> {
-        let objects = copied_objects(alloc, &self.objects)?;
-        let enums = copied_enums(alloc, &self.enums)?;
-        assert!(rt; are_few(&objects, &enums));
-        Ok(Schema::build(alloc, objects, enums))
-    }
+    copies.built(alloc)
 }
 
 /// A fault of rows in the words of the naive test.

@@ -1,8 +1,9 @@
 //! The look-ups of worked schemas beside plain walks over their rows.
 
 use super::lookups;
-use super::rows::Rows;
-use case_text::rows;
+use super::rows::built;
+use super::schemas::UNIONS;
+use case_text::rows::Rows;
 use std::alloc::Global;
 use std::process::Abort;
 use std::test::Fail;
@@ -15,17 +16,10 @@ const EVERY_KIND: &str =
     union_type@12 utype, texts@18 [string], table@10 obj#2, unions_type@24 [utype], tables@22 [obj]#2; \
     S struct 12/4: x@0 long; T table: ; E enum: ; U union: S=200 obj#1, NONE=0 none, Text=2 string, T=1 obj#2";
 
-/// `table A { v: int; } struct W { x: long; } table R { u: U; } table Q { us: [U]; }
-/// union U { A = 1, W = 2, T: string = 3 }`
-const UNIONS: &str =
-    "A table: v@4 int; W struct 8/8: x@0 long; R table: u_type@4 utype, u@6 union#0; \
-    Q table: us_type@4 [utype], us@6 [union]#0; U union: A=1 obj#0, W=2 obj#1, T=3 string";
-
 /// Every look-up of the schema of these rows answers as a plain walk over them does.
 fn look_ups_of(rt: &impl Abort, alloc: Global, text: &str) -> Result<(), Fail> {
-    let rows::Rows { objects, enums } = rows::Rows::read(alloc, text)?;
-    let rows = Rows { objects, enums };
-    let schema = rows.built(rt, alloc)??;
+    let rows = Rows::read(alloc, text)?;
+    let schema = built(alloc, &rows)??;
     lookups::agree(rt, &schema, &rows);
     Ok(())
 }

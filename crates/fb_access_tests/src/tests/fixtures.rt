@@ -65,7 +65,7 @@ fn verified_as<'b, 's, 'n>(
     Ok(verified.ok().ok_or("a no")?)
 }
 
-/// What the steps lead to, each of which is to be allowed.
+/// What the steps lead to; none where one of them isn't allowed.
 pub fn answer_at<'b>(
     rt: &impl Abort,
     alloc: Global,
@@ -73,31 +73,14 @@ pub fn answer_at<'b>(
     schema: &Schema,
     reading: Reading,
     steps: &[Step],
-) -> Result<Answer<'b>, Fail> {
+) -> Result<Option<Answer<'b>>, Fail> {
     let verified = verified_as(rt, alloc, bytes, schema, reading)?;
     let mut place = at_root(&verified);
     for step in steps {
-        assert!(rt; place.allows(*step));
+        if !place.allows(*step) {
+            return Ok(None);
+        }
         place = place.go(*step);
     }
-    Ok(place.answer())
-}
-
-/// Whether the last step is allowed where the others lead.
-pub fn allowed_at(
-    rt: &impl Abort,
-    alloc: Global,
-    bytes: &[u8],
-    schema: &Schema,
-    reading: Reading,
-    steps: &[Step],
-    last: Step,
-) -> Result<bool, Fail> {
-    let verified = verified_as(rt, alloc, bytes, schema, reading)?;
-    let mut place = at_root(&verified);
-    for step in steps {
-        assert!(rt; place.allows(*step));
-        place = place.go(*step);
-    }
-    Ok(place.allows(last))
+    Ok(Some(place.answer()))
 }

@@ -1,22 +1,18 @@
 //! A path by names, from its text to its value.
 
 use super::fixtures::MONSTERS;
+use case_text::buffer::bytes_of;
 use case_text::rows::schema_of;
 use fb_access::{Answer, Path, get};
 use fb_bytes::Meter;
 use fb_verify::{Checks, Ident, Limits, Scratch, Start, verify};
 use std::test::Fail;
 
-/// The hit points 300, and the name "Orc".
-const ORC: [u8; 32] = [
-    12, 0, 0, 0, 8, 0, 12, 0, 8, 0, 4, 0, 8, 0, 0, 0, 8, 0, 0, 0, 0x2c, 1, 0, 0, 3, 0, 0, 0, 0x4f,
-    0x72, 0x63, 0,
-];
-
 #[test]
 fn a_path_by_names_has_its_value(rt: HostRuntime) -> Result<(), Fail> {
     let schema = schema_of(rt.alloc(), MONSTERS)?;
-    let meter = Meter::new(&ORC).ok().ok_or("too long")?;
+    let orc = bytes_of(rt.alloc(), &[], "ORC")?;
+    let meter = Meter::new(&orc).ok().ok_or("too long")?;
     let mut scratch = Scratch::new(rt.alloc(), 64).ok().ok_or("out of memory")?;
     assert!(rt; schema.is_table(0));
     let Ok(verified) = verify(

@@ -1,8 +1,8 @@
 //! The bytes beside each range of the grammar of paths, and numbers beside the greatest.
 
+use super::cases::all_resolved;
 use case_text::rows::schema_of;
-use fb_access::{Path, PathFault, Step};
-use fb_schema::Schema;
+use fb_access::{Path, PathFault};
 use std::alloc::Global;
 use std::process::Abort;
 use std::test::Fail;
@@ -10,111 +10,73 @@ use std::test::Fail;
 /// `table A { l: [long]; }`
 const LISTS: &str = "A table: l@4 [long]";
 
-/// Why a text is no path of `LISTS`.
-fn fault(rt: &impl Abort, alloc: Global, schema: &Schema<'_>, text: &[u8]) -> Option<PathFault> {
+/// Asserts that behind this text each of these letters goes on with a name, though none of `LISTS`, and none of the
+/// other bytes does.
+fn goes_on(
+    rt: &impl Abort,
+    alloc: Global,
+    front: &str,
+    letters: &[u8],
+    others: &[u8],
+) -> Result<(), Fail> {
+    let schema = schema_of(alloc, LISTS)?;
     assert!(rt; schema.is_table(0));
-    Path::resolve(alloc, schema, 0, text).err()
+    for byte in letters.iter().chain(others) {
+        let mut text = front.as_bytes().to_vec(alloc)?;
+        text.push(*byte)?;
+        let want = if letters.contains(byte) {
+            PathFault::NoSuchField { step: 0 }
+        } else {
+            let at = front.len() as u64;
+            PathFault::BadText { at }
+        };
+        let fault = Path::resolve(alloc, &schema, 0, &text).err();
+        assert_eq!(rt; fault, Some(want), "{byte}");
+    }
+    Ok(())
 }
 
 #[test]
 fn a_name_begins_with_a_letter_or_a_low_line(rt: HostRuntime) -> Result<(), Fail> {
-    let schema = schema_of(rt.alloc(), LISTS)?;
-    let unknown = Some(PathFault::NoSuchField { step: 0 });
-    for byte in b"AZ_az" {
-        assert_eq!(rt;
-            fault(&rt, rt.alloc(), &schema, &[*byte]),
-            unknown,
-            "{byte}"
-        );
-    }
-    let wrong = Some(PathFault::BadText { at: 0 });
-    for byte in b"@[^`{/:09$-.] \x7f\x80\xc3\xff\x00" {
-        assert_eq!(rt; fault(&rt, rt.alloc(), &schema, &[*byte]), wrong, "{byte}");
-    }
-    Ok(())
+    let others = b"@[^`{/:09$-.] \x7f\x80\xc3\xff\x00";
+    goes_on(&rt, rt.alloc(), "", b"AZ_az", others)
 }
 
 #[test]
 fn a_name_goes_on_with_letters_digits_and_low_lines(rt: HostRuntime) -> Result<(), Fail> {
-    let schema = schema_of(rt.alloc(), LISTS)?;
-    let unknown = Some(PathFault::NoSuchField { step: 0 });
-    for byte in b"AZ_az09" {
-        assert_eq!(rt;
-            fault(&rt, rt.alloc(), &schema, &[b'l', *byte]),
-            unknown,
-            "{byte}"
-        );
-    }
-    let wrong = Some(PathFault::BadText { at: 1 });
-    for byte in b"^`{/:$-] \x7f\x80\xc3\xff\x00" {
-        assert_eq!(rt;
-            fault(&rt, rt.alloc(), &schema, &[b'l', *byte]),
-            wrong,
-            "{byte}"
-        );
-    }
-    Ok(())
+    let others = b"^`{/:$-] \x7f\x80\xc3\xff\x00";
+    goes_on(&rt, rt.alloc(), "l", b"AZ_az09", others)
 }
+
+/// Texts that are no path, by the place of their first byte that can't go on.
+const WRONG: [(u64, &str); 6] = [
+    (2, "l. l@ l[ l.9 l@9 l.$ l.@A l[] l[/] l[:] l[-1] l[a]"),
+    (3, "l@A$ l.a-b l.a` l[1 l[1/ l[1: l[1a] l[00] l[01] l[0"),
+    (4, "l[0]l l[0]]"),
+    (5, "l[0]["),
+    (11, "l[4294967296] l[4294967300] l[9999999999]"),
+    (12, "l[42949672950] l[18446744073709551616]"),
+];
 
 #[test]
 fn a_text_is_wrong_at_the_byte_that_can_not_go_on(rt: HostRuntime) -> Result<(), Fail> {
     let schema = schema_of(rt.alloc(), LISTS)?;
-    for (text, at) in [
-        (b"l.".as_slice(), 2),
-        (b"l@", 2),
-        (b"l[", 2),
-        (b"l.9", 2),
-        (b"l@9", 2),
-        (b"l.$", 2),
-        (b"l@A$", 3),
-        (b"l.a-b", 3),
-        (b"l.a`", 3),
-        (b"l.@A", 2),
-        (b"l[]", 2),
-        (b"l[/]", 2),
-        (b"l[:]", 2),
-        (b"l[-1]", 2),
-        (b"l[a]", 2),
-        (b"l[1", 3),
-        (b"l[1/", 3),
-        (b"l[1:", 3),
-        (b"l[1a]", 3),
-        (b"l[00]", 3),
-        (b"l[01]", 3),
-        (b"l[0", 3),
-        (b"l[0]l", 4),
-        (b"l[0]]", 4),
-        (b"l[0][", 5),
-        (b"l[4294967296]", 11),
-        (b"l[4294967300]", 11),
-        (b"l[9999999999]", 11),
-        (b"l[42949672950]", 12),
-        (b"l[18446744073709551616]", 12),
-    ] {
-        let wrong = Some(PathFault::BadText { at });
-        assert_eq!(rt; fault(&rt, rt.alloc(), &schema, text), wrong, "{at}");
+    assert!(rt; schema.is_table(0));
+    for (at, texts) in WRONG {
+        for text in texts.split(' ') {
+            let fault = Path::resolve(rt.alloc(), &schema, 0, text.as_bytes()).err();
+            assert_eq!(rt; fault, Some(PathFault::BadText { at }), "{text}");
+        }
     }
     Ok(())
 }
 
 #[test]
 fn a_number_is_0_or_has_no_leading_0(rt: HostRuntime) -> Result<(), Fail> {
-    let schema = schema_of(rt.alloc(), LISTS)?;
-    for (text, number) in [
-        (b"l[0]".as_slice(), 0),
-        (b"l[7]", 7),
-        (b"l[10]", 10),
-        (b"l[90]", 90),
-        (b"l[1000000000]", 1_000_000_000),
-        (b"l[4294967289]", 4_294_967_289),
-        (b"l[4294967295]", 4_294_967_295),
-    ] {
-        assert!(rt; schema.is_table(0));
-        let path = Path::resolve(rt.alloc(), &schema, 0, text)
-            .ok()
-            .ok_or("no path")?;
-        let steps = [Step::Field(0), Step::Element(number)];
-        assert_eq!(rt; path.steps(), steps.as_slice(), "{number}");
+    let alloc = rt.alloc();
+    for number in "0 7 10 90 1000000000 4294967289 4294967295".split(' ') {
+        let case = format!(in alloc; "A | l[{number}] | .0 [{number}]")?;
+        all_resolved(&rt, alloc, LISTS, &case)?;
     }
     Ok(())
 }

@@ -3,10 +3,10 @@
 use super::cases::all_answered;
 use super::fixtures::{self, answer_at, bare};
 use case_text::buffer::bytes_of;
+use case_text::columns;
 use case_text::rows::schema_of;
-use fb_access::Answer;
 use fb_access::step::Step::{Element, Field};
-use fb_schema::Schema;
+use fb_access::{Answer, Step};
 use std::alloc::{AllocError, Global};
 use std::process::Abort;
 use std::test::Fail;
@@ -45,34 +45,30 @@ fn in_hex(alloc: Global, answer: Answer<'_>) -> Result<String, AllocError> {
     }
 }
 
-/// Asserts that this element of a vector of this base type is this.
-fn element_is(
+/// What steps lead to in a buffer of the first of these tables, with its number in hexadecimal.
+fn hex_at(
     rt: &impl Abort,
     alloc: Global,
-    schema: &Schema,
-    element: u32,
-    want: &str,
-) -> Result<(), Fail> {
-    let bytes = bytes_of(alloc, &[], THREE)?;
-    let steps = [Field(0), Element(element)];
-    let answer = answer_at(rt, alloc, &bytes, schema, bare(0), &steps)?;
-    let told = in_hex(alloc, answer)?;
-    assert_eq!(rt; told.as_str(), want, "element {element}");
-    Ok(())
+    rows: &str,
+    buffer: &str,
+    steps: &[Step],
+) -> Result<String, Fail> {
+    let schema = schema_of(alloc, rows)?;
+    let bytes = bytes_of(alloc, &[], buffer)?;
+    let answer = answer_at(rt, alloc, &bytes, &schema, bare(0), steps)?;
+    Ok(in_hex(alloc, answer.ok_or("not allowed")?)?)
 }
 
 #[test]
 fn an_element_of_every_scalar_stands_behind_those_before(rt: HostRuntime) -> Result<(), Fail> {
     let alloc = rt.alloc();
     for line in ELEMENTS.lines() {
-        let (name, wanted) = line.split_once('|').ok_or("no case")?;
-        let (second, third) = wanted.split_once('|').ok_or("no third")?;
-        let name = name.trim_ascii();
-        let rows = format!(in alloc; "A table: l@4 [{name}]")?;
-        let schema = schema_of(alloc, rows.as_str())?;
-        element_is(&rt, alloc, &schema, 1, second.trim_ascii())?;
-        element_is(&rt, alloc, &schema, 2, third.trim_ascii())?;
-        element_is(&rt, alloc, &schema, 3, "NoElement")?;
+        let (scalar, second, third) = columns::three(line)?;
+        let rows = format!(in alloc; "A table: l@4 [{scalar}]")?;
+        for (element, want) in [(1, second), (2, third), (3, "NoElement")] {
+            let told = hex_at(&rt, alloc, &rows, THREE, &[Field(0), Element(element)])?;
+            assert_eq!(rt; told.as_str(), want, "element {element} of {scalar}");
+        }
     }
     Ok(())
 }
@@ -170,68 +166,54 @@ const WIDTHS: &str = "\
     ulong  | UInt(0x8786858483828180)\n\
 ";
 
-#[test]
-fn a_number_of_every_width_has_its_sign(rt: HostRuntime) -> Result<(), Fail> {
-    let alloc = rt.alloc();
-    let bytes = bytes_of(alloc, &[], ONE)?;
-    for line in WIDTHS.lines() {
-        let (name, want) = line.split_once('|').ok_or("no case")?;
-        let name = name.trim_ascii();
-        let rows = format!(in alloc; "A table: v@4 {name}")?;
-        let schema = schema_of(alloc, rows.as_str())?;
-        let answer = answer_at(&rt, alloc, &bytes, &schema, bare(0), &[Field(0)])?;
-        let told = in_hex(alloc, answer)?;
-        assert_eq!(rt; told.as_str(), want.trim_ascii(), "{name}");
+/// Asserts what the one field of a table is in a buffer. A case has the field's type, and the answer with its number in
+/// hexadecimal.
+fn fields_are(rt: &impl Abort, alloc: Global, buffer: &str, cases: &str) -> Result<(), Fail> {
+    for line in cases.lines() {
+        let (field, want) = columns::two(line)?;
+        let rows = format!(in alloc; "A table: v@4 {field}")?;
+        let told = hex_at(rt, alloc, &rows, buffer, &[Field(0)])?;
+        assert_eq!(rt; told.as_str(), want, "{field}");
     }
     Ok(())
 }
 
-/// A table without fields.
-const EMPTY: &str = "08000000 04000400 04000000";
+#[test]
+fn a_number_of_every_width_has_its_sign(rt: HostRuntime) -> Result<(), Fail> {
+    fields_are(&rt, rt.alloc(), ONE, WIDTHS)
+}
 
-/// Scalar base types, a default, and the answer where the field is absent.
+/// Scalar base types with a default, and the answer where the field is absent. Its number is in hexadecimal.
 const DEFAULTS: &str = "\
-    utype  | 257        | UInt(1)\n\
-    utype  | -1         | UInt(255)\n\
-    bool   | 256        | Bool(false)\n\
-    bool   | 258        | Bool(true)\n\
-    bool   | -256       | Bool(false)\n\
-    byte   | 128        | Int(-128)\n\
-    byte   | 255        | Int(-1)\n\
-    byte   | 256        | Int(0)\n\
-    byte   | -129       | Int(127)\n\
-    ubyte  | -1         | UInt(255)\n\
-    ubyte  | 256        | UInt(0)\n\
-    short  | 32768      | Int(-32768)\n\
-    short  | 65537      | Int(1)\n\
-    short  | -32769     | Int(32767)\n\
-    ushort | -1         | UInt(65535)\n\
-    ushort | 65536      | UInt(0)\n\
-    int    | 2147483648 | Int(-2147483648)\n\
-    int    | 4294967295 | Int(-1)\n\
-    int    | 4294967296 | Int(0)\n\
-    uint   | -1         | UInt(4294967295)\n\
-    uint   | 4294967297 | UInt(1)\n\
-    long   | -1         | Int(-1)\n\
-    ulong  | -1         | UInt(18446744073709551615)\n\
-    ulong  | -2         | UInt(18446744073709551614)\n\
-    float  | 1          | Absent\n\
-    double | 1          | Absent\n\
+    utype default=257       | UInt(0x1)\n\
+    utype default=-1        | UInt(0xff)\n\
+    bool default=256        | Bool(false)\n\
+    bool default=258        | Bool(true)\n\
+    bool default=-256       | Bool(false)\n\
+    byte default=128        | Int(-0x80)\n\
+    byte default=255        | Int(-0x1)\n\
+    byte default=256        | Int(0)\n\
+    byte default=-129       | Int(127)\n\
+    ubyte default=-1        | UInt(0xff)\n\
+    ubyte default=256       | UInt(0x0)\n\
+    short default=32768     | Int(-0x8000)\n\
+    short default=65537     | Int(1)\n\
+    short default=-32769    | Int(32767)\n\
+    ushort default=-1       | UInt(0xffff)\n\
+    ushort default=65536    | UInt(0x0)\n\
+    int default=2147483648  | Int(-0x80000000)\n\
+    int default=4294967295  | Int(-0x1)\n\
+    int default=4294967296  | Int(0)\n\
+    uint default=-1         | UInt(0xffffffff)\n\
+    uint default=4294967297 | UInt(0x1)\n\
+    long default=-1         | Int(-0x1)\n\
+    ulong default=-1        | UInt(0xffffffffffffffff)\n\
+    ulong default=-2        | UInt(0xfffffffffffffffe)\n\
+    float default=1         | Absent\n\
+    double default=1        | Absent\n\
 ";
 
 #[test]
 fn an_absent_scalar_is_what_its_low_bytes_are(rt: HostRuntime) -> Result<(), Fail> {
-    let alloc = rt.alloc();
-    let bytes = bytes_of(alloc, &[], EMPTY)?;
-    for line in DEFAULTS.lines() {
-        let (name, case) = line.split_once('|').ok_or("no case")?;
-        let (default, want) = case.split_once('|').ok_or("no answer")?;
-        let (name, default) = (name.trim_ascii(), default.trim_ascii());
-        let rows = format!(in alloc; "A table: v@4 {name} default={default}")?;
-        let schema = schema_of(alloc, rows.as_str())?;
-        let answer = answer_at(&rt, alloc, &bytes, &schema, bare(0), &[Field(0)])?;
-        let told = format!(in alloc; "{answer:?}")?;
-        assert_eq!(rt; told.as_str(), want.trim_ascii(), "{name}, {default}");
-    }
-    Ok(())
+    fields_are(&rt, rt.alloc(), "EMPTY", DEFAULTS)
 }

@@ -1,32 +1,21 @@
 // Worked buffers: what stands at the end of a path.
 
-use super::cases::{all_answered, steps_of};
-use super::fixtures::{
-    MONSTERS, Reading, UNIONS as TABLES_WITH_UNIONS, allowed_at, answer_at, bare,
-};
+use super::cases::all_answered;
+use super::fixtures::{MONSTERS, Reading, UNIONS as TABLES_WITH_UNIONS, answer_at, bare};
 use case_text::buffer::bytes_of;
 use case_text::rows::schema_of;
 use fb_access::Answer;
 use fb_access::step::Step::Field;
-use fb_schema::Schema;
 use fb_verify::Start;
 use std::alloc::Global;
 use std::process::Abort;
 use std::test::Fail;
-
-/// The hit points 300, and the name "Orc".
-const ORC: &str = "
-    0c000000 08000c00 08000400 08000000 08000000 2c010000 03000000 4f726300
-";
 
 const ORC_CASES: &str = "\
        | Table\n\
     .0 | Int(300)\n\
     .1 | Text(\"Orc\")\n\
 ";
-
-/// A table without fields.
-const EMPTY: &str = "08000000 04000400 04000000";
 
 const EMPTY_CASES: &str = "\
     .0           | Int(100)\n\
@@ -37,28 +26,24 @@ const EMPTY_CASES: &str = "\
 #[test]
 fn a_monster_has_its_fields(rt: HostRuntime) -> Result<(), Fail> {
     let schema = schema_of(rt.alloc(), MONSTERS)?;
-    all_answered(&rt, rt.alloc(), ORC, &schema, bare(0), ORC_CASES)?;
-    all_answered(&rt, rt.alloc(), EMPTY, &schema, bare(0), EMPTY_CASES)
+    all_answered(&rt, rt.alloc(), "ORC", &schema, bare(0), ORC_CASES)?;
+    all_answered(&rt, rt.alloc(), "EMPTY", &schema, bare(0), EMPTY_CASES)
 }
 
 /// The name in these bytes: the schema, what was verified and each place are gone when it comes back.
 fn name_of<'b>(rt: &impl Abort, alloc: Global, bytes: &'b [u8]) -> Result<Answer<'b>, Fail> {
     let schema = schema_of(alloc, MONSTERS)?;
-    answer_at(rt, alloc, bytes, &schema, bare(0), &[Field(1)])
+    let name = answer_at(rt, alloc, bytes, &schema, bare(0), &[Field(1)])?;
+    Ok(name.ok_or("not allowed")?)
 }
 
 #[test]
 fn a_text_outlives_all_but_the_bytes(rt: HostRuntime) -> Result<(), Fail> {
-    let bytes = bytes_of(rt.alloc(), &[], ORC)?;
+    let bytes = bytes_of(rt.alloc(), &[], "ORC")?;
     let name = name_of(&rt, rt.alloc(), &bytes)?;
     assert_eq!(rt; name, Answer::Text(b"Orc"));
     Ok(())
 }
-
-/// The long 7, behind a prefix.
-const PREFIXED: &str = "
-    1c000000 10000000 06000c00 04000000 00000000 0c000000 07000000 00000000
-";
 
 #[test]
 fn a_prefixed_buffer_has_its_root_behind_the_prefix(rt: HostRuntime) -> Result<(), Fail> {
@@ -68,13 +53,8 @@ fn a_prefixed_buffer_has_its_root_behind_the_prefix(rt: HostRuntime) -> Result<(
         start: Start::Prefixed,
         alignment: true,
     };
-    all_answered(&rt, rt.alloc(), PREFIXED, &schema, reading, ".0 | Int(7)")
+    all_answered(&rt, rt.alloc(), "SEVEN", &schema, reading, ".0 | Int(7)")
 }
-
-/// A union of type 1, and its table A with v 5.
-const ONE_MEMBER: &str = "
-    0c000000 08000c00 08000400 08000000 10000000 01000000 06000800 04000000 08000000 05000000
-";
 
 const ONE_MEMBER_CASES: &str = "\
     .1       | Union(1)\n\
@@ -83,19 +63,9 @@ const ONE_MEMBER_CASES: &str = "\
     .1 @3    | OtherMember\n\
 ";
 
-/// The same with the type 9, which no member has.
-const UNKNOWN_MEMBER: &str = "
-    0c000000 08000c00 08000400 08000000 10000000 09000000 06000800 04000000 08000000 05000000
-";
-
 const UNKNOWN_MEMBER_CASES: &str = "\
     .1       | Union(9)\n\
     .1 @1 .0 | OtherMember\n\
-";
-
-/// A union of type 2, and its struct W.
-const STRUCT_MEMBER: &str = "
-    0c000000 08000c00 08000400 08000000 08000000 02000000 07000000 00000000
 ";
 
 const STRUCT_MEMBER_CASES: &str = ".1 @2 | Struct([7, 0, 0, 0, 0, 0, 0, 0])";
@@ -114,32 +84,13 @@ fn a_union_leads_to_its_member(rt: HostRuntime) -> Result<(), Fail> {
     let schema = schema_of(rt.alloc(), TABLES_WITH_UNIONS)?;
     let root = bare(2);
     let alloc = rt.alloc();
-    all_answered(&rt, alloc, ONE_MEMBER, &schema, root, ONE_MEMBER_CASES)?;
-    all_answered(
-        &rt,
-        alloc,
-        UNKNOWN_MEMBER,
-        &schema,
-        root,
-        UNKNOWN_MEMBER_CASES,
-    )?;
-    all_answered(
-        &rt,
-        alloc,
-        STRUCT_MEMBER,
-        &schema,
-        root,
-        STRUCT_MEMBER_CASES,
-    )?;
+    all_answered(&rt, alloc, "PICKED", &schema, root, ONE_MEMBER_CASES)?;
+    let unknown = "PICKED 20=09";
+    all_answered(&rt, alloc, unknown, &schema, root, UNKNOWN_MEMBER_CASES)?;
+    all_answered(&rt, alloc, "BOXED", &schema, root, STRUCT_MEMBER_CASES)?;
     all_answered(&rt, alloc, UNTYPED, &schema, root, UNTYPED_CASES)?;
-    all_answered(&rt, alloc, EMPTY, &schema, root, ".1 @1 | Absent")
+    all_answered(&rt, alloc, "EMPTY", &schema, root, ".1 @1 | Absent")
 }
-
-/// Two unions: of type 3 with a string, and of type 0.
-const UNIONS: &str = "
-    0c000000 08000c00 04000800 08000000 08000000 0c000000 02000000 03000000 02000000 08000000
-    00000000 02000000 68690000
-";
 
 const UNIONS_CASES: &str = "\
     .1              | Vector(2)\n\
@@ -154,7 +105,7 @@ const UNIONS_CASES: &str = "\
 #[test]
 fn a_vector_of_unions_has_a_type_for_each_element(rt: HostRuntime) -> Result<(), Fail> {
     let schema = schema_of(rt.alloc(), TABLES_WITH_UNIONS)?;
-    all_answered(&rt, rt.alloc(), UNIONS, &schema, bare(3), UNIONS_CASES)
+    all_answered(&rt, rt.alloc(), "HI", &schema, bare(3), UNIONS_CASES)
 }
 
 /// A field of each scalar type but floats.
@@ -207,7 +158,7 @@ const DEFAULTS_CASES: &str = "\
 #[test]
 fn an_absent_scalar_has_the_low_bytes_of_its_default(rt: HostRuntime) -> Result<(), Fail> {
     let schema = schema_of(rt.alloc(), DEFAULT_ROWS)?;
-    all_answered(&rt, rt.alloc(), EMPTY, &schema, bare(0), DEFAULTS_CASES)
+    all_answered(&rt, rt.alloc(), "EMPTY", &schema, bare(0), DEFAULTS_CASES)
 }
 
 /// The float 1.5.
@@ -218,16 +169,8 @@ fn a_float_is_its_bytes(rt: HostRuntime) -> Result<(), Fail> {
     let schema = schema_of(rt.alloc(), "A table: f@4 float")?;
     let present = ".0 | Float([0, 0, 192, 63])";
     all_answered(&rt, rt.alloc(), FLOAT_BYTES, &schema, bare(0), present)?;
-    all_answered(&rt, rt.alloc(), EMPTY, &schema, bare(0), ".0 | Absent")
+    all_answered(&rt, rt.alloc(), "EMPTY", &schema, bare(0), ".0 | Absent")
 }
-
-/// A vector of one long, at a position that is no multiple of 8.
-const CROOKED: &str = "
-    0c000000 06000800 04000000 08000000 08000000 00000000 01000000 01000000 00000000
-";
-
-/// The same without the long, and with the length 0.
-const NO_LONGS: &str = "0c000000 06000800 04000000 08000000 08000000 00000000 00000000";
 
 const NO_LONGS_CASES: &str = "\
     .0     | Vector(0)\n\
@@ -237,38 +180,21 @@ const NO_LONGS_CASES: &str = "\
 #[test]
 fn a_vector_of_longs_may_be_empty_or_crooked(rt: HostRuntime) -> Result<(), Fail> {
     let schema = schema_of(rt.alloc(), "A table: l@4 [long]")?;
-    all_answered(&rt, rt.alloc(), NO_LONGS, &schema, bare(0), NO_LONGS_CASES)?;
+    let none = "LONGS 24=00 ..28";
+    all_answered(&rt, rt.alloc(), none, &schema, bare(0), NO_LONGS_CASES)?;
     let unaligned = Reading {
         alignment: false,
         ..bare(0)
     };
-    all_answered(
-        &rt,
-        rt.alloc(),
-        CROOKED,
-        &schema,
-        unaligned,
-        ".0 [0] | Int(1)",
-    )
+    let case = ".0 [0] | Int(1)";
+    all_answered(&rt, rt.alloc(), "LONGS", &schema, unaligned, case)
 }
-
-/// Two fields that lead to one vector of two offset words to one string.
-const SHARED: &str = "
-    0c000000 08000c00 04000800 08000000 08000000 04000000 02000000 08000000 04000000 02000000
-    68690000
-";
 
 #[test]
 fn two_vectors_share_a_text(rt: HostRuntime) -> Result<(), Fail> {
     let schema = schema_of(rt.alloc(), "A table: a@4 [string], b@6 [string]")?;
-    all_answered(
-        &rt,
-        rt.alloc(),
-        SHARED,
-        &schema,
-        bare(0),
-        ".1 [1] | Text(\"hi\")",
-    )
+    let case = ".1 [1] | Text(\"hi\")";
+    all_answered(&rt, rt.alloc(), "TWICE", &schema, bare(0), case)
 }
 
 /// Two structs W, 1 and 2, and one table A with v 5.
@@ -295,51 +221,30 @@ fn elements_are_structs_in_place_and_tables_behind_offset_words(
     all_answered(&rt, rt.alloc(), LISTS, &schema, bare(4), LISTS_CASES)
 }
 
-/// Steps from the root, a further step, and whether it is to be allowed.
 const ONE_MEMBER_ALLOWS: &str = "\
-          | .1  | true\n\
-          | .2  | false\n\
-          | [0] | false\n\
-          | @1  | false\n\
-    .1    | @3  | true\n\
-    .1    | @0  | false\n\
-    .1    | @9  | false\n\
-    .1    | .0  | false\n\
-    .0    | [0] | false\n\
-    .1 @3 | .9  | true\n\
+    .1       | Union(1)\n\
+    .2       | not allowed\n\
+    [0]      | not allowed\n\
+    @1       | not allowed\n\
+    .1 @3    | OtherMember\n\
+    .1 @0    | not allowed\n\
+    .1 @9    | not allowed\n\
+    .1 .0    | not allowed\n\
+    .0       | UInt(1)\n\
+    .0 [0]   | not allowed\n\
+    .1 @3 .9 | OtherMember\n\
 ";
 
 const UNIONS_ALLOW: &str = "\
-    .1        | [4294967295] | true\n\
-    .1        | @1           | false\n\
-    .1 [0] @3 | [0]          | false\n\
+    .1 [4294967295] | NoElement\n\
+    .1 @1           | not allowed\n\
+    .1 [0] @3       | Text(\"hi\")\n\
+    .1 [0] @3 [0]   | not allowed\n\
 ";
-
-/// Asserts that the last step of each case is allowed where it says so.
-fn check_allowed(
-    rt: &impl Abort,
-    alloc: Global,
-    hex: &str,
-    schema: &Schema,
-    root: u32,
-    cases: &str,
-) -> Result<(), Fail> {
-    let bytes = bytes_of(alloc, &[], hex)?;
-    for line in cases.lines() {
-        let (steps, rest) = line.split_once('|').ok_or("no case")?;
-        let (last, want) = rest.split_once('|').ok_or("no answer")?;
-        let path = steps_of(alloc, steps)?;
-        let last_steps = steps_of(alloc, last)?;
-        let last_step = last_steps.as_slice().first().ok_or("no last step")?;
-        let allowed = allowed_at(rt, alloc, &bytes, schema, bare(root), &path, *last_step)?;
-        assert_eq!(rt; allowed, want.trim_ascii() == "true", "{steps} and {last}");
-    }
-    Ok(())
-}
 
 #[test]
 fn what_is_here_allows_its_own_steps_alone(rt: HostRuntime) -> Result<(), Fail> {
     let schema = schema_of(rt.alloc(), TABLES_WITH_UNIONS)?;
-    check_allowed(&rt, rt.alloc(), ONE_MEMBER, &schema, 2, ONE_MEMBER_ALLOWS)?;
-    check_allowed(&rt, rt.alloc(), UNIONS, &schema, 3, UNIONS_ALLOW)
+    all_answered(&rt, rt.alloc(), "PICKED", &schema, bare(2), ONE_MEMBER_ALLOWS)?;
+    all_answered(&rt, rt.alloc(), "HI", &schema, bare(3), UNIONS_ALLOW)
 }

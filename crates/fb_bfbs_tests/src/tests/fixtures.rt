@@ -2,21 +2,8 @@
 
 use case_text::buffer::Sample;
 
-/// The schema files by their names.
-pub const SAMPLES: [Sample; 2] = [("PLAIN", PLAIN), ("OF_FLATC", OF_FLATC)];
-
-/// `table M { hp: short = 100; name: string; } root_type M;`, laid out by hand.
-const PLAIN: &str = "
-    18000000 42464253 0e00 1000 0400 0800 0000 0000 0c00 0000
-    10000000 10000000 08000000 18000000 00000000 01000000 0c000000
-    0800 0c00 0400 0800 08000000 08000000 0c000000 01000000 4d000000
-    02000000 1c000000 54000000
-    0e00 1800 0400 0800 0000 0c00 1000 000000000000
-    14000000 14000000 20000000 0400 0000 6400000000000000 02000000 68700000
-    0600 0800 0400 0000 08000000 05000000
-    0c00 1000 0400 0800 0c00 0e00 0c000000 0c000000 14000000 0100 0600
-    04000000 6e616d65 00000000 38000000 0d000000
-";
+/// A schema file of these tests alone, beside the one that `case_text` has for all.
+pub const SAMPLES: [Sample; 1] = [("OF_FLATC", OF_FLATC)];
 
 /// What flatc 2.0.8 writes for this schema:
 ///

@@ -2,10 +2,12 @@
 
 use super::fixtures::SAMPLES;
 use case_text::buffer::bytes_of;
+use case_text::columns;
 use fb_bfbs::{LoadFault, load};
 use fb_schema::{Code, Kind, Scalar, SchemaFault};
 use fb_verify::{Fault, Limits, Reason};
 use std::alloc::Global;
+use std::process::Abort;
 use std::test::Fail;
 
 /// A schema file by text.
@@ -15,7 +17,7 @@ fn file(alloc: Global, text: &str) -> Result<Vec<u8>, Fail> {
 
 #[test]
 fn a_table_with_a_default_is_loaded(rt: HostRuntime) -> Result<(), Fail> {
-    let bytes = file(rt.alloc(), "PLAIN")?;
+    let bytes = file(rt.alloc(), "FILE")?;
     let loaded = load(rt.alloc(), &bytes, Limits::published())?;
     assert_eq!(rt; loaded.root, Some(0));
     assert!(rt; loaded.ident.is_none());
@@ -38,24 +40,32 @@ fn a_table_with_a_default_is_loaded(rt: HostRuntime) -> Result<(), Fail> {
     Ok(())
 }
 
+// The numbers of the objects and of the union in `OF_FLATC`.
+const A: u32 = 0;
+
+const Q: u32 = 1;
+
+const W: u32 = 2;
+
+const U: u32 = 1;
+
 #[test]
 fn what_flatc_writes_is_loaded(rt: HostRuntime) -> Result<(), Fail> {
     let bytes = file(rt.alloc(), "OF_FLATC")?;
     let loaded = load(rt.alloc(), &bytes, Limits::published())?;
+    assert_eq!(rt; loaded.root, Some(Q));
+    assert!(rt; loaded.ident.ok_or("no identifier")? == b"TEST".as_slice());
     let schema = &loaded.schema;
     assert_eq!(rt; schema.object_count(), 3);
-    let a = schema.object_named(b"A").ok_or("no A")?;
-    let q = schema.object_named(b"Q").ok_or("no Q")?;
-    let w = schema.object_named(b"W").ok_or("no W")?;
-    assert_eq!(rt; loaded.root, Some(q));
-    assert!(rt; loaded.ident.ok_or("no identifier")? == b"TEST".as_slice());
-    assert!(rt; schema.is_table(a));
-    assert!(rt; !schema.is_table(w) && w < schema.object_count());
-    assert_eq!(rt; schema.object(w).bytesize, 8);
-    assert_eq!(rt; schema.object(w).minalign, 8);
-    assert!(rt; schema.is_table(q));
+    assert_eq!(rt; schema.object_named(b"A"), Some(A));
+    assert_eq!(rt; schema.object_named(b"Q"), Some(Q));
+    assert_eq!(rt; schema.object_named(b"W"), Some(W));
+    assert!(rt; schema.is_table(A) && schema.is_table(Q) && !schema.is_table(W));
+    assert!(rt; W < schema.object_count());
+    assert_eq!(rt; schema.object(W).bytesize, 8);
+    assert_eq!(rt; schema.object(W).minalign, 8);
     // us_type, us, e, n and o; d is deprecated
-    let fields = schema.fields_of(q);
+    let fields = schema.fields_of(Q);
     assert_eq!(rt; fields.len(), 5);
     let us = fields.get(1).ok_or("no us")?;
     assert!(rt; us.name == b"us".as_slice());
@@ -71,48 +81,40 @@ fn what_flatc_writes_is_loaded(rt: HostRuntime) -> Result<(), Fail> {
 #[test]
 fn a_union_of_flatc_has_its_members(rt: HostRuntime) -> Result<(), Fail> {
     let bytes = file(rt.alloc(), "OF_FLATC")?;
-    let loaded = load(rt.alloc(), &bytes, Limits::published())?;
-    let schema = &loaded.schema;
-    let a = schema.object_named(b"A").ok_or("no A")?;
-    let w = schema.object_named(b"W").ok_or("no W")?;
-    let q = schema.object_named(b"Q").ok_or("no Q")?;
-    assert!(rt; schema.is_table(q));
-    let us = schema.fields_of(q).get(1).ok_or("no us")?;
-    let Kind::Unions(u) = us.kind else {
-        return Err("no unions".into());
-    };
-    assert!(rt; schema.is_union(u));
-    assert_eq!(rt; schema.member_named(u, b"A"), Some(1));
-    assert_eq!(rt; schema.member_of(u, 1), Some(Kind::Table(a)));
-    assert_eq!(rt; schema.member_of(u, 2), Some(Kind::Struct(w)));
-    assert_eq!(rt; schema.member_of(u, 3), Some(Kind::Text));
-    assert_eq!(rt; schema.member_of(u, 4), None);
+    let schema = load(rt.alloc(), &bytes, Limits::published())?.schema;
+    assert!(rt; schema.is_table(Q) && schema.is_union(U));
+    let us = schema.fields_of(Q).get(1).ok_or("no us")?;
+    assert_eq!(rt; us.kind, Kind::Unions(U));
+    assert_eq!(rt; schema.member_named(U, b"A"), Some(1));
+    assert_eq!(rt; schema.member_of(U, 1), Some(Kind::Table(A)));
+    assert_eq!(rt; schema.member_of(U, 2), Some(Kind::Struct(W)));
+    assert_eq!(rt; schema.member_of(U, 3), Some(Kind::Text));
+    assert_eq!(rt; schema.member_of(U, 4), None);
     Ok(())
 }
 
 /// What each file shows, the file, and why it isn't loaded.
 const REFUSED: &str = "\
-    another identifier       | PLAIN 4=58   | L1 V5 WrongIdentifier at=4 object=9 field=- reads=1\n\
-    rows that are no schema  | PLAIN 156=12 | L2 C3 Unsupported owner=0 part=0\n\
-    a root that isn't listed | PLAIN 44=00  | L3 RootNotListed\n\
+    another identifier       | FILE 4=58   | L1 V5 WrongIdentifier at=4 object=9 field=- reads=1\n\
+    rows that are no schema  | FILE 156=12 | L2 C3 Unsupported owner=0 part=0\n\
+    a root that isn't listed | FILE 44=00  | L3 RootNotListed\n\
 ";
 
 #[test]
 fn a_file_that_is_no_schema_is_refused(rt: HostRuntime) -> Result<(), Fail> {
     for line in REFUSED.lines() {
-        let (shows, rest) = line.split_once('|').ok_or("no case")?;
-        let (text, want) = rest.split_once('|').ok_or("no answer")?;
+        let (shows, text, want) = columns::three(line)?;
         let bytes = file(rt.alloc(), text)?;
         let fault = load(rt.alloc(), &bytes, Limits::published()).err();
         let told = fault.ok_or("loaded")?.to_string(rt.alloc())?;
-        assert_eq!(rt; told.as_str(), want.trim_ascii(), "{shows}");
+        assert_eq!(rt; told.as_str(), want, "{shows}");
     }
     Ok(())
 }
 
 #[test]
 fn a_schema_may_have_no_root(rt: HostRuntime) -> Result<(), Fail> {
-    let bytes = file(rt.alloc(), "PLAIN 20=0000")?;
+    let bytes = file(rt.alloc(), "FILE 20=0000")?;
     let loaded = load(rt.alloc(), &bytes, Limits::published())?;
     assert_eq!(rt; loaded.root, None);
     assert_eq!(rt; loaded.schema.object_count(), 1);
@@ -121,7 +123,7 @@ fn a_schema_may_have_no_root(rt: HostRuntime) -> Result<(), Fail> {
 
 /// Why the verifier refuses a schema file within these limits; none where it is loaded.
 fn refusal(alloc: Global, depth: u32, tables: u32) -> Result<Option<Reason>, Fail> {
-    let bytes = file(alloc, "PLAIN")?;
+    let bytes = file(alloc, "FILE")?;
     let limits = Limits::new(depth, tables)?;
     match load(alloc, &bytes, limits) {
         Ok(_) => Ok(None),
@@ -142,7 +144,7 @@ fn limits_are_those_of_the_caller(rt: HostRuntime) -> Result<(), Fail> {
 
 #[test]
 fn a_budget_of_reads_is_that_of_the_caller(rt: HostRuntime) -> Result<(), Fail> {
-    let bytes = file(rt.alloc(), "PLAIN")?;
+    let bytes = file(rt.alloc(), "FILE")?;
     assert!(rt; load(rt.alloc(), &bytes, Limits::published().with_reads(91)).is_ok());
     let fault = load(rt.alloc(), &bytes, Limits::published().with_reads(90)).err();
     assert_eq!(rt;
@@ -158,17 +160,22 @@ fn a_budget_of_reads_is_that_of_the_caller(rt: HostRuntime) -> Result<(), Fail> 
     Ok(())
 }
 
+/// Asserts the text of a fault.
+fn is_told(rt: &impl Abort, alloc: Global, fault: LoadFault, want: &str) -> Result<(), Fail> {
+    assert_eq!(rt; fault.to_string(alloc)?.as_str(), want);
+    Ok(())
+}
+
 #[test]
-fn texts_of_the_other_faults(rt: HostRuntime) {
-    let fault = LoadFault::BadSchema(SchemaFault {
+fn texts_of_the_other_faults(rt: HostRuntime) -> Result<(), Fail> {
+    let twice = LoadFault::BadSchema(SchemaFault {
         code: Code::NameTwice,
         owner: 3,
         part: None,
     });
-    let text = |fault: LoadFault| fault.to_string(rt.alloc()).expect(&rt, "memory");
-    assert_eq!(rt; text(fault).as_str(), "L2 C8 NameTwice owner=3 part=-");
-    assert_eq!(rt; text(LoadFault::TooLong).as_str(), "L5 TooLong");
-    assert_eq!(rt; text(LoadFault::OutOfMemory).as_str(), "L4 OutOfMemory");
+    is_told(&rt, rt.alloc(), twice, "L2 C8 NameTwice owner=3 part=-")?;
+    is_told(&rt, rt.alloc(), LoadFault::TooLong, "L5 TooLong")?;
+    is_told(&rt, rt.alloc(), LoadFault::OutOfMemory, "L4 OutOfMemory")
 }
 
 #[test]
@@ -188,17 +195,16 @@ fn each_reason_of_the_verifier_has_its_text(rt: HostRuntime) -> Result<(), Fail>
         (Reason::PastTable, "V12 PastTable"),
         (Reason::TooManyReads, "V13 TooManyReads"),
     ];
-    for (reason, name) in &reasons {
-        let fault = LoadFault::NotWellFormed(Fault {
+    for (reason, name) in reasons {
+        let fault = Fault {
             at: 31,
             object: 4,
             field: Some(1),
-            reason: *reason,
+            reason,
             reads: 8,
-        });
-        let text = fault.to_string(rt.alloc())?;
-        let expected = format!(in rt.alloc(); "L1 {name} at=31 object=4 field=1 reads=8")?;
-        assert_eq!(rt; text.as_str(), expected.as_str());
+        };
+        let want = format!(in rt.alloc(); "L1 {name} at=31 object=4 field=1 reads=8")?;
+        is_told(&rt, rt.alloc(), LoadFault::NotWellFormed(fault), &want)?;
     }
     Ok(())
 }
@@ -215,15 +221,14 @@ fn each_fault_of_rows_has_its_text(rt: HostRuntime) -> Result<(), Fail> {
         (Code::BadMember, "C7 BadMember"),
         (Code::NameTwice, "C8 NameTwice"),
     ];
-    for (code, name) in &codes {
-        let fault = LoadFault::BadSchema(SchemaFault {
-            code: *code,
+    for (code, name) in codes {
+        let fault = SchemaFault {
+            code,
             owner: 3,
             part: Some(2),
-        });
-        let text = fault.to_string(rt.alloc())?;
-        let expected = format!(in rt.alloc(); "L2 {name} owner=3 part=2")?;
-        assert_eq!(rt; text.as_str(), expected.as_str());
+        };
+        let want = format!(in rt.alloc(); "L2 {name} owner=3 part=2")?;
+        is_told(&rt, rt.alloc(), LoadFault::BadSchema(fault), &want)?;
     }
     Ok(())
 }

@@ -7,7 +7,9 @@
 //!
 //! An answer is `ok`, or a code with the owner and, behind a dot, the place of the field or member.
 
+use case_text::columns;
 use case_text::rows::Rows;
+use case_text::told::dotted;
 use fb_schema::SchemaFault;
 use std::alloc::{AllocError, Global};
 use std::process::Abort;
@@ -18,17 +20,8 @@ fn told(alloc: Global, fault: Option<SchemaFault>) -> Result<String, AllocError>
     let Some(SchemaFault { code, owner, part }) = fault else {
         return format!(in alloc; "ok");
     };
-    match part {
-        Some(place) => format!(in alloc; "{code:?} {owner}.{place}"),
-        None => format!(in alloc; "{code:?} {owner}"),
-    }
-}
-
-/// What a case shows, its rows, and what is to be answered.
-fn parts(line: &str) -> Option<(&str, &str, &str)> {
-    let (shows, rest) = line.split_once('|')?;
-    let (rows, answer) = rest.split_once('|')?;
-    Some((shows.trim_ascii(), rows.trim_ascii(), answer.trim_ascii()))
+    let place = dotted(alloc, owner, part)?;
+    format!(in alloc; "{code:?} {place}")
 }
 
 /// What `build` answers of these rows behind others.
@@ -41,7 +34,7 @@ fn answer(rt: &impl Abort, alloc: Global, before: &str, rows: &str) -> Result<St
 /// Asserts that the rows of each case, behind these rows, are answered as it says.
 pub fn answered(rt: &impl Abort, alloc: Global, before: &str, cases: &str) -> Result<(), Fail> {
     for line in cases.lines() {
-        let (shows, rows, want) = parts(line).ok_or("no case")?;
+        let (shows, rows, want) = columns::three(line)?;
         let answer = answer(rt, alloc, before, rows)?;
         assert_eq!(rt; answer.as_str(), want, "{shows}: {rows}");
     }
@@ -51,7 +44,7 @@ pub fn answered(rt: &impl Abort, alloc: Global, before: &str, cases: &str) -> Re
 /// Asserts that the rows of each case are good behind these rows, whatever the case says.
 pub fn all_good(rt: &impl Abort, alloc: Global, before: &str, cases: &str) -> Result<(), Fail> {
     for line in cases.lines() {
-        let (shows, rows, _) = parts(line).ok_or("no case")?;
+        let (shows, rows, _) = columns::three(line)?;
         let answer = answer(rt, alloc, before, rows)?;
         assert_eq!(rt; answer.as_str(), "ok", "{shows}: {rows}");
     }

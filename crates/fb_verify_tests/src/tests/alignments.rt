@@ -1,8 +1,7 @@
 //! Scalars and structs of every width: their ranges to the byte, and the multiples at which they may stand.
 
 use super::question::answered;
-use std::alloc::Global;
-use std::process::Abort;
+use std::alloc::{AllocError, Global};
 use std::test::Fail;
 
 /// A table for each scalar type, with one field of it.
@@ -102,106 +101,62 @@ fn a_scalar_stands_at_a_multiple_of_its_size(rt: HostRuntime) -> Result<(), Fail
     answered(&rt, rt.alloc(), SCALARS, cases)
 }
 
-/// Alignments of a struct, and where it may stand: in a field, in a union and in a vector.
-const BOXES: [(u32, &str); 7] = [
-    (
-        1,
-        "\
-        1 at 29             | TABLE 8=11 ..268                   | root=Holder | yes 1 1 4\n\
-        1 of a union at 29  | TABLE 8=08 10=04 0d000000 01 ..268 | root=Pick   | yes 1 1 8\n\
-        1 at 30             | TABLE 8=12 ..268                   | root=Holder | yes 1 1 4\n\
-        1 of a union at 30  | TABLE 8=08 10=04 0e000000 01 ..268 | root=Pick   | yes 1 1 8\n\
-        1 of a vector at 24 | TABLE 04000000 ..20 01 ..268       | root=Boxes  | yes 1 1 6\n\
-    ",
-    ),
-    (
-        2,
-        "\
-        2 at 29             | TABLE 8=11 ..268                   | root=Holder          | Misaligned 29 1.0 4\n\
-        2 at 29, unasked    | TABLE 8=11 ..268                   | root=Holder anywhere | yes 1 1 4\n\
-        2 of a union at 29  | TABLE 8=08 10=04 0d000000 01 ..268 | root=Pick            | Misaligned 29 3.1 8\n\
-        2 at 30             | TABLE 8=12 ..268                   | root=Holder          | yes 1 1 4\n\
-        2 of a union at 30  | TABLE 8=08 10=04 0e000000 01 ..268 | root=Pick            | yes 1 1 8\n\
-        2 of a vector at 24 | TABLE 04000000 ..20 01 ..268       | root=Boxes           | yes 1 1 6\n\
-    ",
-    ),
-    (
-        4,
-        "\
-        4 at 30             | TABLE 8=12 ..268                   | root=Holder          | Misaligned 30 1.0 4\n\
-        4 at 30, unasked    | TABLE 8=12 ..268                   | root=Holder anywhere | yes 1 1 4\n\
-        4 of a union at 30  | TABLE 8=08 10=04 0e000000 01 ..268 | root=Pick            | Misaligned 30 3.1 8\n\
-        4 at 28             | TABLE 8=10 ..268                   | root=Holder          | yes 1 1 4\n\
-        4 of a union at 28  | TABLE 8=08 10=04 0c000000 01 ..268 | root=Pick            | yes 1 1 8\n\
-        4 of a vector at 24 | TABLE 04000000 ..20 01 ..268       | root=Boxes           | yes 1 1 6\n\
-    ",
-    ),
-    (
-        8,
-        "\
-        8 at 28             | TABLE 8=10 ..268                   | root=Holder          | Misaligned 28 1.0 4\n\
-        8 at 28, unasked    | TABLE 8=10 ..268                   | root=Holder anywhere | yes 1 1 4\n\
-        8 of a union at 28  | TABLE 8=08 10=04 0c000000 01 ..268 | root=Pick            | Misaligned 28 3.1 8\n\
-        8 at 32             | TABLE 8=14 ..268                   | root=Holder          | yes 1 1 4\n\
-        8 of a union at 32  | TABLE 8=08 10=04 10000000 01 ..268 | root=Pick            | yes 1 1 8\n\
-        8 of a vector at 28 | TABLE 08000000 ..24 01 ..268       | root=Boxes           | Misaligned 28 2.0 6\n\
-        8 of a vector at 24 | TABLE 04000000 ..20 01 ..268       | root=Boxes           | yes 1 1 6\n\
-    ",
-    ),
-    (
-        16,
-        "\
-        16 at 40             | TABLE 8=1c ..268                   | root=Holder          | Misaligned 40 1.0 4\n\
-        16 at 40, unasked    | TABLE 8=1c ..268                   | root=Holder anywhere | yes 1 1 4\n\
-        16 of a union at 40  | TABLE 8=08 10=04 18000000 01 ..268 | root=Pick            | Misaligned 40 3.1 8\n\
-        16 at 32             | TABLE 8=14 ..268                   | root=Holder          | yes 1 1 4\n\
-        16 of a union at 32  | TABLE 8=08 10=04 10000000 01 ..268 | root=Pick            | yes 1 1 8\n\
-        16 of a vector at 24 | TABLE 04000000 ..20 01 ..268       | root=Boxes           | Misaligned 24 2.0 6\n\
-        16 of a vector at 32 | TABLE 0c000000 ..28 01 ..268       | root=Boxes           | yes 1 1 6\n\
-    ",
-    ),
-    (
-        128,
-        "\
-        128 at 64              | TABLE 8=34 ..268                   | root=Holder          | Misaligned 64 1.0 4\n\
-        128 at 64, unasked     | TABLE 8=34 ..268                   | root=Holder anywhere | yes 1 1 4\n\
-        128 of a union at 64   | TABLE 8=08 10=04 30000000 01 ..268 | root=Pick            | Misaligned 64 3.1 8\n\
-        128 at 128             | TABLE 8=74 ..268                   | root=Holder          | yes 1 1 4\n\
-        128 of a union at 128  | TABLE 8=08 10=04 70000000 01 ..268 | root=Pick            | yes 1 1 8\n\
-        128 of a vector at 64  | TABLE 2c000000 ..60 01 ..268       | root=Boxes           | Misaligned 64 2.0 6\n\
-        128 of a vector at 128 | TABLE 6c000000 ..124 01 ..268      | root=Boxes           | yes 1 1 6\n\
-    ",
-    ),
-    (
-        256,
-        "\
-        256 at 128             | TABLE 8=74 ..268                   | root=Holder          | Misaligned 128 1.0 4\n\
-        256 at 128, unasked    | TABLE 8=74 ..268                   | root=Holder anywhere | yes 1 1 4\n\
-        256 of a union at 128  | TABLE 8=08 10=04 70000000 01 ..268 | root=Pick            | Misaligned 128 3.1 8\n\
-        256 at 256             | TABLE 8=f4 ..268                   | root=Holder          | yes 1 1 4\n\
-        256 of a union at 256  | TABLE 8=08 10=04 f0000000 01 ..268 | root=Pick            | yes 1 1 8\n\
-        256 of a vector at 128 | TABLE 6c000000 ..124 01 ..268      | root=Boxes           | Misaligned 128 2.0 6\n\
-        256 of a vector at 256 | TABLE ec000000 ..252 01 ..268      | root=Boxes           | yes 1 1 6\n\
-    ",
-    ),
-];
+/// Alignments, with places where a struct is asked: in a field, and as the value of a union.
+const PLACES: &str = "1@29 1@30 2@29 2@30 4@30 4@28 8@28 8@32 16@40 16@32 128@64 128@128 256@128 256@256";
 
-/// Asserts the answers of cases by a schema with a struct of 12 bytes and this alignment: alone, in a vector and in a
-/// union, which may stand at any place but for it.
-fn boxes(rt: &impl Abort, alloc: Global, alignment: u32, cases: &str) -> Result<(), Fail> {
-    let rows = format!(in alloc;
+/// Alignments, with places where the first struct of a vector is asked.
+const FIRST_ELEMENTS: &str = "1@24 2@24 4@24 8@28 8@24 16@24 16@32 128@64 128@128 256@128 256@256";
+
+/// An alignment and a place.
+fn placed(word: &str) -> Option<(u32, u32)> {
+    let (alignment, at) = word.split_once('@')?;
+    Some((alignment.parse::<u32>().ok()?, at.parse::<u32>().ok()?))
+}
+
+/// The rows of a struct of 12 bytes with this alignment: alone, in a vector and in a union.
+fn boxes(alloc: Global, alignment: u32) -> Result<String, AllocError> {
+    format!(in alloc;
         "\
         Box struct 12/{alignment}: ; Holder table: v@4 obj#0; Boxes table: v@4 [obj]#0; \
         Pick table: v_type@4 utype, v@6 union#0; Any union: Box=1 obj#0\
     "
-    )?;
-    answered(rt, alloc, rows.as_str(), cases)
+    )
+}
+
+/// What is answered of a struct at a place, whose field is this one, after so many reads.
+fn judged(alloc: Global, alignment: u32, at: u32, field: &str, reads: u32) -> Result<String, AllocError> {
+    if at.checked_rem(alignment) == Some(0) {
+        format!(in alloc; "yes 1 1 {reads}")
+    } else {
+        format!(in alloc; "Misaligned {at} {field} {reads}")
+    }
 }
 
 #[test]
 fn a_struct_stands_at_a_multiple_of_its_alignment(rt: HostRuntime) -> Result<(), Fail> {
-    for (alignment, cases) in BOXES {
-        boxes(&rt, rt.alloc(), alignment, cases)?;
+    let alloc = rt.alloc();
+    for word in PLACES.split(' ') {
+        let (alignment, at) = placed(word).ok_or("no place")?;
+        let (slot, offset) = (at.saturating_sub(12), at.saturating_sub(16));
+        let alone = judged(alloc, alignment, at, "1.0", 4)?;
+        let united = judged(alloc, alignment, at, "3.1", 8)?;
+        let cases = format!(in alloc;
+            "\
+            {alignment} at {at}            | TABLE 8={slot:02x} ..268                      | root=Holder          | {alone}\n\
+            {alignment} at {at}, unasked   | TABLE 8={slot:02x} ..268                      | root=Holder anywhere | yes 1 1 4\n\
+            {alignment} of a union at {at} | TABLE 8=08 10=04 {offset:02x}000000 01 ..268  | root=Pick            | {united}\n\
+        "
+        )?;
+        answered(&rt, alloc, &boxes(alloc, alignment)?, &cases)?;
+    }
+    for word in FIRST_ELEMENTS.split(' ') {
+        let (alignment, at) = placed(word).ok_or("no place")?;
+        let (count, offset) = (at.saturating_sub(4), at.saturating_sub(20));
+        let listed = judged(alloc, alignment, at, "2.0", 6)?;
+        let case = format!(in alloc;
+            "{alignment} of a vector at {at} | TABLE {offset:02x}000000 ..{count} 01 ..268 | root=Boxes | {listed}"
+        )?;
+        answered(&rt, alloc, &boxes(alloc, alignment)?, &case)?;
     }
     Ok(())
 }

@@ -15,7 +15,9 @@
 
 use super::samples::SAMPLES;
 use case_text::buffer::bytes_of;
+use case_text::columns;
 use case_text::rows::schema_of;
+use case_text::told::dotted;
 use fb_bytes::Meter;
 use fb_schema::Schema;
 use fb_verify::{Checks, Fault, Ident, Limits, Report, Scratch, Start, walk};
@@ -125,20 +127,10 @@ fn told(alloc: Global, answer: Result<Report, Fault>) -> Result<String, AllocErr
                 reason,
                 reads,
             } = fault;
-            match field {
-                Some(field) => format!(in alloc; "{reason:?} {at} {object}.{field} {reads}"),
-                None => format!(in alloc; "{reason:?} {at} {object} {reads}"),
-            }
+            let site = dotted(alloc, object, field.map(u32::from))?;
+            format!(in alloc; "{reason:?} {at} {site} {reads}")
         }
     }
-}
-
-/// What a case shows, its buffer, what is asked, and the answer.
-fn parts(line: &str) -> Option<(&str, &str, &str, &str)> {
-    let (shows, rest) = line.split_once('|')?;
-    let (buffer, rest) = rest.split_once('|')?;
-    let (asked, answer) = rest.split_once('|')?;
-    Some((shows.trim_ascii(), buffer, asked, answer.trim_ascii()))
 }
 
 /// What `walk` answers of bytes by a schema, as cases have it.
@@ -163,7 +155,7 @@ pub fn all_answered(
 ) -> Result<(), Fail> {
     let mut scratch = Scratch::new(alloc, 64)?;
     for line in cases.lines() {
-        let (shows, buffer, asked, want) = parts(line).ok_or("no case")?;
+        let (shows, buffer, asked, want) = columns::four(line)?;
         let bytes = bytes_of(alloc, &SAMPLES, buffer)?;
         let answer = answer(rt, alloc, schema, &bytes, asked, &mut scratch)?;
         assert_eq!(rt; answer.as_str(), want, "{shows}");

@@ -1,76 +1,19 @@
-//! Buffers that several tests share, in hexadecimal.
+//! Buffers of these tests alone, beside those that `case_text` has for all.
 
 use case_text::buffer::Sample;
 
 /// The samples by their names.
 ///
-/// - `ORC`: a monster with 300 hit points and the name `Orc`
-/// - `EMPTY`: a table whose vtable has no slot
-/// - `SEVEN`: behind its size, a table at 20 whose long at 24 is 7
-/// - `LONGS`: a vector of one long, whose element stands at 28
-/// - `PICKED`: a union of the table `A`: its type byte at 20, its offset word at 16, the table at 32
-/// - `UNPICKED`: the same with the type 0 and an offset word that leads far out of the buffer
-/// - `BOXED`: a union of the struct `W`, which stands at 24
-/// - `HI`: a vector of the text `hi` and of nothing: the types' vector at 24, the values' at 32
-/// - `THREE`: a vector of three unions at 32 beside two types at 24
-/// - `NONE`: a vector of no unions at 20, and no types
-/// - `TWICE`: two vectors that are one, of two texts that are one
+/// - `UNPICKED`: `PICKED` with the type 0 and an offset word that leads far out of the buffer
 /// - `CUT`: a union with the type 9 in a table of 5 bytes, of which the value stands at 20
-/// - `NODES`: a node that leads twice to a second, which leads twice to a third: seven visits
 /// - `THIRD`: a table with the text `x` in its third slot, where its vtable ends, and none in the two before
 /// - `TWO_SLOTS`: a table whose vtable has two slots, both empty
 /// - `CHILDLESS`: a table whose one slot leads to a table, whose vtable has no slot
 /// - `FAMILY`: a parent whose child stands at 32, and whose string has the offset 0
 /// - `TWINS`: a vector at 20 of two tables, at 32 and at 40
 /// - `TABLE`: the start of a table at 12 with two slots, of which the first leads to 16
-/// - `FILE`: the schema file of `table M { hp: short = 100; name: string; } root_type M;`
-pub const SAMPLES: [Sample; 20] = [
-    (
-        "ORC",
-        "0c000000 08000c00 08000400 08000000 08000000 2c010000 03000000 4f726300",
-    ),
-    ("EMPTY", "08000000 04000400 04000000"),
-    (
-        "SEVEN",
-        "1c000000 10000000 06000c00 04000000 00000000 0c000000 07000000 00000000",
-    ),
-    (
-        "LONGS",
-        "0c000000 06000800 04000000 08000000 08000000 00000000 01000000 01000000 00000000",
-    ),
-    (
-        "PICKED",
-        "0c000000 08000c00 08000400 08000000 10000000 01000000 06000800 04000000 08000000 05000000",
-    ),
-    (
-        "UNPICKED",
-        "0c000000 08000c00 08000400 08000000 ffffffff 00000000 06000800 04000000 08000000 05000000",
-    ),
-    (
-        "BOXED",
-        "0c000000 08000c00 08000400 08000000 08000000 02000000 07000000 00000000",
-    ),
-    (
-        "HI",
-        "0c000000 08000c00 04000800 08000000 08000000 0c000000 02000000 03000000 02000000 08000000 00000000 \
-        02000000 68690000",
-    ),
-    (
-        "THREE",
-        "0c000000 08000c00 04000800 08000000 08000000 0c000000 02000000 00000000 03000000 ..48",
-    ),
-    (
-        "NODES",
-        "10000000 08000c00 04000800 04000400 0c000000 08000000 04000000 18000000 08000000 04000000 1c000000",
-    ),
-    (
-        "NONE",
-        "0c000000 08000800 00000400 08000000 04000000 00000000",
-    ),
-    (
-        "TWICE",
-        "0c000000 08000c00 04000800 08000000 08000000 04000000 02000000 08000000 04000000 02000000 68690000",
-    ),
+pub const SAMPLES: [Sample; 8] = [
+    ("UNPICKED", "PICKED 16=ffffffff 20=00"),
     (
         "CUT",
         "0c000000 08000500 04000800 08000000 09000000 ffffffff",
@@ -94,12 +37,4 @@ pub const SAMPLES: [Sample; 20] = [
         07000000",
     ),
     ("TABLE", "0c000000 08000c00 04000000 08000000"),
-    (
-        "FILE",
-        "18000000 42464253 0e001000 04000800 00000000 0c000000 10000000 10000000 08000000 18000000 00000000 \
-        01000000 0c000000 08000c00 04000800 08000000 08000000 0c000000 01000000 4d000000 02000000 1c000000 \
-        54000000 0e001800 04000800 00000c00 10000000 00000000 14000000 14000000 20000000 04000000 64000000 \
-        00000000 02000000 68700000 06000800 04000000 08000000 05000000 0c001000 04000800 0c000e00 0c000000 \
-        0c000000 14000000 01000600 04000000 6e616d65 00000000 38000000 0d000000",
-    ),
 ];

@@ -2,39 +2,10 @@
 
 use super::question::{answer, answered};
 use super::schemas::{self, FAMILIES};
+use case_text::chains::{list, pairs};
 use case_text::rows::schema_of;
 use fb_verify::Scratch;
-use std::alloc::{AllocError, Global};
 use std::test::Fail;
-
-fn push(bytes: &mut Vec<u8>, word: u32) -> Result<(), AllocError> {
-    bytes.extend_from_slice(&word.to_le_bytes())
-}
-
-/// A node that leads by both its fields to the next, which does the same, and so on, so many times.
-fn pairs(alloc: Global, links: u8) -> Result<Vec<u8>, AllocError> {
-    let start = [16, 0, 0, 0, 8, 0, 12, 0, 4, 0, 8, 0, 4, 0, 4, 0];
-    let mut bytes = Vec::from_slice(alloc, start.as_slice())?;
-    for link in 0..links {
-        push(&mut bytes, 12 + 12 * u32::from(link))?;
-        push(&mut bytes, 8)?;
-        push(&mut bytes, 4)?;
-    }
-    push(&mut bytes, 4 + 12 * u32::from(links))?;
-    Ok(bytes)
-}
-
-/// A node that leads to the next, and so on, so many times.
-fn list(alloc: Global, links: u16) -> Result<Vec<u8>, AllocError> {
-    let start = [16, 0, 0, 0, 6, 0, 8, 0, 4, 0, 0, 0, 4, 0, 4, 0];
-    let mut bytes = Vec::from_slice(alloc, start.as_slice())?;
-    for link in 0..links {
-        push(&mut bytes, 12 + 8 * u32::from(link))?;
-        push(&mut bytes, 4)?;
-    }
-    push(&mut bytes, 4 + 8 * u32::from(links))?;
-    Ok(bytes)
-}
 
 #[test]
 fn each_visit_of_a_shared_table_counts(rt: HostRuntime) -> Result<(), Fail> {
@@ -50,7 +21,7 @@ fn each_visit_of_a_shared_table_counts(rt: HostRuntime) -> Result<(), Fail> {
 #[test]
 fn twenty_one_tables_are_visited_two_million_times(rt: HostRuntime) -> Result<(), Fail> {
     let alloc = rt.alloc();
-    let chain = pairs(alloc, 20)?;
+    let chain = pairs(alloc, 21)?;
     assert_eq!(rt; chain.len(), 260);
     let schema = schema_of(alloc, schemas::NODES)?;
     let mut scratch = Scratch::new(alloc, 64)?;
@@ -69,7 +40,7 @@ fn twenty_one_tables_are_visited_two_million_times(rt: HostRuntime) -> Result<()
 fn a_scratch_of_4096_levels_serves_every_depth_in_every_order(rt: HostRuntime) -> Result<(), Fail> {
     let alloc = rt.alloc();
     let schema = schema_of(alloc, schemas::LISTS)?;
-    let (deep, flat) = (list(alloc, 4095)?, list(alloc, 63)?);
+    let (deep, flat) = (list(alloc, 4096)?, list(alloc, 64)?);
     assert_eq!(rt; deep.len(), 32_780);
     let cases = [
         (4096, "depth=4096", "yes 4096 4096 16383"),

@@ -12,6 +12,10 @@ fn message() -> [u8; 32] {
     bytes
 }
 
+fn taken(used: usize, whole: bool) -> Result<Taken, StreamFault> {
+    Ok(Taken { used, whole })
+}
+
 #[test]
 fn memory_is_asked_for_with_the_first_byte_of_a_body(rt: HostRuntime) -> Result<(), Fail> {
     let heap = LocalHeap::new(rt.alloc(), 4096)?;
@@ -47,21 +51,10 @@ fn a_prefix_past_the_limit_takes_no_memory(rt: HostRuntime) -> Result<(), Fail> 
 fn refused_memory_fails_the_framer(rt: HostRuntime) -> Result<(), Fail> {
     let heap = LocalHeap::new(rt.alloc(), 48)?;
     let mut framer = Framer::new(&heap, 64)?;
-    assert_eq!(rt;
-        framer.feed(message().as_slice()),
-        Ok(Taken {
-            used: 32,
-            whole: true
-        })
-    );
+    assert_eq!(rt; framer.feed(message().as_slice()), taken(32, true));
     framer.next();
-    assert_eq!(rt;
-        framer.feed([60, 0, 0, 0].as_slice()),
-        Ok(Taken {
-            used: 4,
-            whole: false
-        })
-    );
+    let prefix = [60, 0, 0, 0];
+    assert_eq!(rt; framer.feed(prefix.as_slice()), taken(4, false));
     assert_eq!(rt; framer.feed([1].as_slice()), Err(StreamFault::OutOfMemory));
     assert_eq!(rt; framer.held(), 4);
     assert!(rt; framer.message().is_none());

@@ -9,15 +9,22 @@ use std::alloc::Global;
 use std::process::Abort;
 use std::test::Fail;
 
-/// How many steps a text has from a root by a schema, resolved under a plan, and how many requests that took.
+/// What is resolved: a text, from a root by a schema.
+#[derive(Clone, Copy)]
+struct Asked<'s, 'n> {
+    schema: &'s Schema<'n>,
+    root: u32,
+    text: &'s [u8],
+}
+
+/// How many steps a path under a plan has, and how many requests it took.
 fn resolved(
     rt: &impl Abort,
     alloc: Global,
-    schema: &Schema<'_>,
-    root: u32,
-    text: &[u8],
+    asked: Asked<'_, '_>,
     plan: Plan,
 ) -> (Result<usize, PathFault>, u64) {
+    let Asked { schema, root, text } = asked;
     assert!(rt; schema.is_table(root));
     let heap = Refusing::new(alloc, plan);
     let path = Path::resolve(&heap, schema, root, text);
@@ -25,20 +32,13 @@ fn resolved(
 }
 
 /// Asserts that each refused request is told as P7 and is the last one, and that nothing changes where none is.
-fn refused_in_turn(
-    rt: &impl Abort,
-    alloc: Global,
-    schema: &Schema<'_>,
-    root: u32,
-    text: &[u8],
-    steps: usize,
-) {
-    let (granted, asked) = resolved(rt, alloc, schema, root, text, Plan::GrantAll);
+fn refused_in_turn(rt: &impl Abort, alloc: Global, asked: Asked<'_, '_>, steps: usize) {
+    let (granted, requests) = resolved(rt, alloc, asked, Plan::GrantAll);
     assert_eq!(rt; granted, Ok(steps));
-    assert!(rt; asked > 0);
-    for turn in 0..asked {
+    assert!(rt; requests > 0);
+    for turn in 0..requests {
         for plan in Plan::refusing(turn) {
-            let refused = resolved(rt, alloc, schema, root, text, plan);
+            let refused = resolved(rt, alloc, asked, plan);
             assert_eq!(rt;
                 refused,
                 (Err(PathFault::OutOfMemory), turn + 1),
@@ -46,8 +46,8 @@ fn refused_in_turn(
             );
         }
     }
-    let unhurt = resolved(rt, alloc, schema, root, text, Plan::RefuseFrom(asked));
-    assert_eq!(rt; unhurt, (granted, asked));
+    let unhurt = resolved(rt, alloc, asked, Plan::RefuseFrom(requests));
+    assert_eq!(rt; unhurt, (granted, requests));
 }
 
 #[test]
@@ -58,7 +58,12 @@ fn each_request_of_a_path_is_refused_in_turn(rt: HostRuntime) -> Result<(), Fail
         (b"us_type[0]".as_slice(), 2),
         (b"us".as_slice(), 1),
     ] {
-        refused_in_turn(&rt, rt.alloc(), &schema, 3, text, steps);
+        let asked = Asked {
+            schema: &schema,
+            root: 3,
+            text,
+        };
+        refused_in_turn(&rt, rt.alloc(), asked, steps);
     }
     Ok(())
 }
@@ -66,9 +71,13 @@ fn each_request_of_a_path_is_refused_in_turn(rt: HostRuntime) -> Result<(), Fail
 #[test]
 fn each_growth_of_a_long_path_is_refused_in_turn(rt: HostRuntime) -> Result<(), Fail> {
     let schema = schema_of(rt.alloc(), NODES)?;
-    let text = b"next.next.next.next.next.next.next.next.next".as_slice();
-    refused_in_turn(&rt, rt.alloc(), &schema, 0, text, 9);
-    let (_, asked) = resolved(&rt, rt.alloc(), &schema, 0, text, Plan::GrantAll);
-    assert!(rt; asked > 1, "a path that grows");
+    let asked = Asked {
+        schema: &schema,
+        root: 0,
+        text: b"next.next.next.next.next.next.next.next.next".as_slice(),
+    };
+    refused_in_turn(&rt, rt.alloc(), asked, 9);
+    let (_, requests) = resolved(&rt, rt.alloc(), asked, Plan::GrantAll);
+    assert!(rt; requests > 1, "a path that grows");
     Ok(())
 }

@@ -1,34 +1,19 @@
 //! A walk takes no memory: it serves where there is none left.
 
 use super::schemas::NODES;
+use case_text::chains::list;
 use case_text::rows::schema_of;
 use fb_bytes::Meter;
 use fb_schema::Schema;
 use fb_verify::{Checks, Fault, Ident, Limits, Reason, Report, Scratch, ScratchFault, Start, walk};
 use linked_list_allocator::LocalHeap;
 use scarce::{Plan, Refusing};
-use std::alloc::{AllocError, Allocator, Global};
+use std::alloc::{Allocator, Global};
 use std::process::Abort;
 use std::test::Fail;
 
 /// The size of a heap that holds many of the greatest scratches.
 const AMPLE: usize = 0x100_0000;
-
-fn push(bytes: &mut Vec<u8>, word: u32) -> Result<(), AllocError> {
-    bytes.extend_from_slice(&word.to_le_bytes())
-}
-
-/// A node that leads to the next, and so on, so many times.
-fn list(alloc: Global, links: u16) -> Result<Vec<u8>, AllocError> {
-    let start = [16, 0, 0, 0, 6, 0, 8, 0, 4, 0, 0, 0, 4, 0, 4, 0];
-    let mut bytes = Vec::from_slice(alloc, start.as_slice())?;
-    for link in 0..links {
-        push(&mut bytes, 12 + 8 * u32::from(link))?;
-        push(&mut bytes, 4)?;
-    }
-    push(&mut bytes, 4 + 8 * u32::from(links))?;
-    Ok(bytes)
-}
 
 /// What `walk` answers of a bare list under the published checks.
 fn answer<A: Allocator>(
@@ -83,7 +68,7 @@ fn room_of_scratch(alloc: Global, depth: u32) -> Result<usize, Fail> {
 /// Asserts what is answered of lists within several limits, by one scratch of this heap, and that no walk takes of it.
 fn lists_are_answered(rt: &impl Abort, alloc: Global, heap: &LocalHeap) -> Result<(), Fail> {
     let schema = schema_of(alloc, NODES)?;
-    let (deep, flat) = (list(alloc, 4095)?, list(alloc, 63)?);
+    let (deep, flat) = (list(alloc, 4096)?, list(alloc, 64)?);
     let mut scratch = Scratch::new(heap, 4096)?;
     let used = heap.used();
     let cases = [

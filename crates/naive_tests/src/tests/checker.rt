@@ -1,16 +1,16 @@
 //! The naive checker over worked examples, each worked out by hand from the format.
 
-use super::common::{FLOATS, LISTS, LONG_LISTS, MONSTER, PAIRS, UNIONS, answer, buffer, judge};
-use super::reflection::REFLECTION;
+use super::common::{FLOATS, LISTS, LONG_LISTS, MONSTER, PAIRS, UNIONS, answer, judge};
+use case_text::chains::{list, pairs};
+use case_text::reflection::REFLECTION;
 use case_text::rows::Rows;
-use std::alloc::Global;
 use std::test::Fail;
 
 #[test]
 fn a_table_of_a_number_and_a_string(rt: HostRuntime) -> Result<(), Fail> {
     let cases = "\
         both fields are there                  | ORC               |                  | yes 1 1 8\n\
-        slots past the vtable aren't read      | BLANK             |                  | yes 1 1 3\n\
+        slots past the vtable aren't read      | EMPTY             |                  | yes 1 1 3\n\
         an empty buffer has no root offset     |                   |                  | V2 0 0 0\n\
         a string's last byte isn't zero        | ORC 31=01         |                  | V10 31 0.1 8\n\
         a string's last byte is missing        | ORC ..31          |                  | V2 28 0.1 7\n\
@@ -63,10 +63,10 @@ fn fields_past_the_inline_size(rt: HostRuntime) -> Result<(), Fail> {
 #[test]
 fn shared_tables_count_at_each_visit(rt: HostRuntime) -> Result<(), Fail> {
     let cases = "\
-        three tables, seven visits      | SHARED | tables=7         | yes 7 3 27\n\
-        the seventh visit is too many   | SHARED | tables=6         | V7 40 0.1 25\n\
-        the third level is too deep     | SHARED | depth=2 tables=7 | V6 40 0.0 9\n\
-        both limits are reached at once | SHARED | depth=2 tables=2 | V6 40 0.0 9\n\
+        three tables, seven visits      | NODES | tables=7         | yes 7 3 27\n\
+        the seventh visit is too many   | NODES | tables=6         | V7 40 0.1 25\n\
+        the third level is too deep     | NODES | depth=2 tables=7 | V6 40 0.0 9\n\
+        both limits are reached at once | NODES | depth=2 tables=2 | V6 40 0.0 9\n\
     ";
     judge(&rt, rt.alloc(), PAIRS, cases)
 }
@@ -74,9 +74,9 @@ fn shared_tables_count_at_each_visit(rt: HostRuntime) -> Result<(), Fail> {
 #[test]
 fn a_prefix_and_an_identifier(rt: HostRuntime) -> Result<(), Fail> {
     let cases = "\
-        a multiple of 8 from the prefix            | LONG | prefixed | yes 1 1 5\n\
-        a prefix of one too many                   | LONG 0=1d | prefixed | V1 0 0 1\n\
-        another identifier                         | LONG | prefixed want=ABCD | V5 8 0 2\n\
+        a multiple of 8 from the prefix            | SEVEN | prefixed | yes 1 1 5\n\
+        a prefix of one too many                   | SEVEN 0=1d | prefixed | V1 0 0 1\n\
+        another identifier                         | SEVEN | prefixed want=ABCD | V5 8 0 2\n\
         a message of four bytes has no root offset | 00000000 | prefixed | V2 4 0 1\n\
         half a prefix                              | 0000 | prefixed | V2 0 0 0\n\
         the wanted identifier is there             | 0c000000 41424344 04000400 04000000 | want=ABCD | yes 1 1 4\n\
@@ -89,17 +89,17 @@ fn a_prefix_and_an_identifier(rt: HostRuntime) -> Result<(), Fail> {
 #[test]
 fn unions_by_their_type(rt: HostRuntime) -> Result<(), Fail> {
     let cases = "\
-        a table                                                           | UNION_TABLE | root=R | yes 2 2 11\n\
-        an unknown type isn't examined                                    | UNION_UNKNOWN | root=R | yes 1 1 7\n\
+        a table                        | PICKED | root=R | yes 2 2 11\n\
+        an unknown type isn't examined | UNKNOWN | root=R | yes 1 1 7\n\
         no type, so the wild offset isn't examined | \
             ORC 16=ffffffff0000 ..24 | root=R | yes 1 1 7\n\
         the wild offset of a table; the table was opened and names itself | \
             ORC 16=ffffffff0100 ..24 | root=R | V2 4294967311 0 8\n\
-        a struct                                                          | UNION_STRUCT | root=R | yes 1 1 8\n\
+        a struct | BOXED | root=R | yes 1 1 8\n\
         a struct of alignment 8 at a multiple of 4 | \
             0c000000 08000c00 08000400 08000000 0c000000 02000000 00000000 07000000 00000000 | root=R | V3 28 2.1 8\n\
         a table that is too deep is named by the union's field | \
-            UNION_TABLE | root=R depth=1 tables=7 | V6 32 2.1 8\n\
+            PICKED | root=R depth=1 tables=7 | V6 32 2.1 8\n\
     ";
     judge(&rt, rt.alloc(), UNIONS, cases)
 }
@@ -107,11 +107,11 @@ fn unions_by_their_type(rt: HostRuntime) -> Result<(), Fail> {
 #[test]
 fn vectors_of_unions(rt: HostRuntime) -> Result<(), Fail> {
     let cases = "\
-        two types, three values | LENGTHS | root=Q | V11 32 3.1 12\n\
-        two types, two values, neither examined | LENGTHS 32=02 ..44 | root=Q | yes 1 1 14\n\
+        two types, three values | THREE | root=Q | V11 32 3.1 12\n\
+        two types, two values, neither examined | THREE 32=02 ..44 | root=Q | yes 1 1 14\n\
         no types, no values | \
             0c000000 08000800 00000400 08000000 04000000 00000000 | root=Q | yes 1 1 8\n\
-        a string and nothing                    | UNION_PAIR | root=Q | yes 1 1 17\n\
+        a string and nothing | HI | root=Q | yes 1 1 17\n\
     ";
     judge(&rt, rt.alloc(), UNIONS, cases)
 }
@@ -127,11 +127,11 @@ fn vectors_and_single_fields(rt: HostRuntime) -> Result<(), Fail> {
     judge(&rt, rt.alloc(), LONG_LISTS, cases)?;
     let cases = "\
         a float         | HALF  |  | yes 1 1 4\n\
-        an absent float | BLANK |  | yes 1 1 3\n\
+        an absent float | EMPTY |  | yes 1 1 3\n\
     ";
     judge(&rt, rt.alloc(), FLOATS, cases)?;
     let cases = "\
-        a required field is absent | BLANK |  | V9 8 0.0 3\n\
+        a required field is absent | EMPTY |  | V9 8 0.0 3\n\
     ";
     judge(&rt, rt.alloc(), "One table: s@4 string required", cases)?;
     let cases = "\
@@ -139,7 +139,7 @@ fn vectors_and_single_fields(rt: HostRuntime) -> Result<(), Fail> {
     ";
     judge(&rt, rt.alloc(), "One table: s@4 string gone", cases)?;
     let cases = "\
-        both lists name one string twice | TWO_LISTS |  | yes 1 1 21\n\
+        both lists name one string twice | TWICE |  | yes 1 1 21\n\
     ";
     judge(&rt, rt.alloc(), LISTS, cases)
 }
@@ -147,9 +147,9 @@ fn vectors_and_single_fields(rt: HostRuntime) -> Result<(), Fail> {
 #[test]
 fn schema_files(rt: HostRuntime) -> Result<(), Fail> {
     let cases = "\
-        eleven visits, the table of the root twice | FILE_M | root=reflection.Schema | yes 11 4 90\n\
-        its identifier is read                     | FILE_M | root=reflection.Schema want=BFBS | yes 11 4 91\n\
-        another identifier                         | FILE_M | root=reflection.Schema want=XFBS | V5 4 9 1\n\
+        eleven visits, the table of the root twice | FILE | root=reflection.Schema | yes 11 4 90\n\
+        its identifier is read                     | FILE | root=reflection.Schema want=BFBS | yes 11 4 91\n\
+        another identifier                         | FILE | root=reflection.Schema want=XFBS | V5 4 9 1\n\
         two lists share one empty vector | SHARED_LIST | root=reflection.Schema prefixed | yes 1 1 10\n\
     ";
     judge(&rt, rt.alloc(), REFLECTION, cases)
@@ -158,38 +158,16 @@ fn schema_files(rt: HostRuntime) -> Result<(), Fail> {
 #[test]
 fn a_schema_file_behind_a_prefix(rt: HostRuntime) -> Result<(), Fail> {
     let cases = "\
-        a long is no more at a multiple of 8 | d0000000 FILE_M | root=reflection.Schema prefixed | V3 132 4.4 32\n\
-        it may stand there | d0000000 FILE_M | root=reflection.Schema prefixed anywhere | yes 11 4 91\n\
+        a long is no more at a multiple of 8 | d0000000 FILE | root=reflection.Schema prefixed | V3 132 4.4 32\n\
+        it may stand there | d0000000 FILE | root=reflection.Schema prefixed anywhere | yes 11 4 91\n\
     ";
     judge(&rt, rt.alloc(), REFLECTION, cases)
 }
 
-/// A chain of tables behind one root: each but the last has these words for its fields.
-fn chain(alloc: Global, head: &str, links: u32, words: &[u32]) -> Result<Vec<u8>, Fail> {
-    let step = if words.len() == 2 { 12 } else { 8 };
-    let mut bytes = buffer(alloc, head)?;
-    for link in 0..links {
-        let back = link.saturating_mul(step).saturating_add(12);
-        bytes.extend_from_slice(back.to_le_bytes().as_slice())?;
-        for word in words {
-            bytes.extend_from_slice(word.to_le_bytes().as_slice())?;
-        }
-    }
-    let back = links.saturating_mul(step).saturating_add(4);
-    bytes.extend_from_slice(back.to_le_bytes().as_slice())?;
-    Ok(bytes)
-}
-
-/// The root offset and two vtables: one of two fields, one of none.
-const TWO_FIELDS: &str = "10000000 08000c00 04000800 04000400";
-
-/// The same, where the first has one field.
-const ONE_FIELD: &str = "10000000 06000800 04000000 04000400";
-
 #[test]
 fn a_chain_of_pairs_doubles_its_visits(rt: HostRuntime) -> Result<(), Fail> {
     let rows = Rows::read(rt.alloc(), PAIRS)?;
-    let bytes = chain(rt.alloc(), TWO_FIELDS, 10, [8, 4].as_slice())?;
+    let bytes = pairs(rt.alloc(), 11)?;
     for (words, want) in [
         ("tables=2047", "yes 2047 11 8187"),
         ("tables=2046", "V7 136 0.1 8185"),
@@ -203,10 +181,10 @@ fn a_chain_of_pairs_doubles_its_visits(rt: HostRuntime) -> Result<(), Fail> {
 #[test]
 fn a_chain_reaches_the_depth_limit(rt: HostRuntime) -> Result<(), Fail> {
     let rows = Rows::read(rt.alloc(), "One table: next@4 obj#0")?;
-    for (links, want) in [(63, "yes 64 64 255"), (99, "V6 528 0.0 257")] {
-        let bytes = chain(rt.alloc(), ONE_FIELD, links, [4].as_slice())?;
+    for (tables, want) in [(64, "yes 64 64 255"), (100, "V6 528 0.0 257")] {
+        let bytes = list(rt.alloc(), tables)?;
         let answer = answer(rt.alloc(), &rows, "", &bytes)?;
-        assert_eq!(rt; answer.as_str(), want, "{links} links");
+        assert_eq!(rt; answer.as_str(), want, "{tables} tables");
     }
     Ok(())
 }

@@ -2,8 +2,10 @@
 //! that they break first, with the owner and, behind a dot, the place of the field or member.
 
 use super::common::UNIONS;
-use super::reflection::REFLECTION;
+use case_text::columns;
+use case_text::reflection::REFLECTION;
 use case_text::rows::Rows;
+use case_text::told::dotted;
 use naive::rows::{Broken, first_broken};
 use std::alloc::{AllocError, Global};
 use std::process::Abort;
@@ -13,20 +15,17 @@ fn told(alloc: Global, broken: Option<Broken>) -> Result<String, AllocError> {
     let Some(Broken { code, owner, part }) = broken else {
         return format!(in alloc; "ok");
     };
-    match part {
-        Some(part) => format!(in alloc; "C{code} {owner}.{part}"),
-        None => format!(in alloc; "C{code} {owner}"),
-    }
+    let place = dotted(alloc, owner, part)?;
+    format!(in alloc; "C{code} {place}")
 }
 
 /// Asserts what is told of the rows of each case.
 fn judged(rt: &impl Abort, alloc: Global, cases: &str) -> Result<(), Fail> {
     for line in cases.lines() {
-        let (shows, rest) = line.split_once('|').ok_or("no case")?;
-        let (rows, want) = rest.split_once('|').ok_or("no answer")?;
-        let rows = Rows::read(alloc, rows.trim_ascii())?;
+        let (shows, rows, want) = columns::three(line)?;
+        let rows = Rows::read(alloc, rows)?;
         let found = told(alloc, first_broken(&rows.objects, &rows.enums))?;
-        assert_eq!(rt; found.as_str(), want.trim_ascii(), "{shows}");
+        assert_eq!(rt; found.as_str(), want, "{shows}");
     }
     Ok(())
 }

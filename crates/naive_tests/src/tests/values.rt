@@ -2,7 +2,9 @@
 //! it, but a text as text; in a path, `[0]` is an element and `@A` a member.
 
 use super::common::{FLOATS, LISTS, LONG_LISTS, MONSTER, UNIONS, buffer, question};
+use case_text::columns;
 use case_text::rows::Rows;
+use case_text::told::quoted;
 use naive::values::{Part, Value, steps, value};
 use std::alloc::{AllocError, Global};
 use std::process::Abort;
@@ -29,12 +31,10 @@ fn path<'t>(alloc: Global, text: &'t str) -> Result<Vec<Part<'t>>, Fail> {
 }
 
 fn told(alloc: Global, value: Value<'_>) -> Result<String, AllocError> {
-    if let Value::Text(bytes) = value
-        && let Ok(text) = str::from_utf8(bytes)
-    {
-        return format!(in alloc; "Text({text:?})");
+    match value {
+        Value::Text(bytes) => quoted(alloc, bytes),
+        _ => format!(in alloc; "{value:?}"),
     }
-    format!(in alloc; "{value:?}")
 }
 
 /// Asserts that the path of each case leads to what it says, by these rows and asked as these words say.
@@ -42,13 +42,12 @@ fn read(rt: &impl Abort, alloc: Global, rows: &str, words: &str, cases: &str) ->
     let rows = Rows::read(alloc, rows)?;
     let question = question(&rows, words).ok_or("no question")?;
     for line in cases.lines() {
-        let (text, rest) = line.split_once('|').ok_or("no case")?;
-        let (bytes, want) = rest.split_once('|').ok_or("no value")?;
+        let (text, bytes, want) = columns::three(line)?;
         let bytes = buffer(alloc, bytes)?;
         let steps = steps(alloc, &question, &path(alloc, text)?)?.ok_or("no such path")?;
         let found = value(&question, &bytes, &steps).ok_or("no value there")?;
         let found = told(alloc, found)?;
-        assert_eq!(rt; found.as_str(), want.trim_ascii(), "{text}");
+        assert_eq!(rt; found.as_str(), want, "{text}");
     }
     Ok(())
 }
@@ -58,9 +57,9 @@ fn values_of_plain_fields(rt: HostRuntime) -> Result<(), Fail> {
     let cases = "\
         name | ORC   | Text(\"Orc\")\n\
         hp   | ORC   | Int(300)\n\
-        hp   | BLANK | Int(100)\n\
-        name | BLANK | Absent\n\
-             | BLANK | Table\n\
+        hp   | EMPTY | Int(100)\n\
+        name | EMPTY | Absent\n\
+             | EMPTY | Table\n\
     ";
     read(&rt, rt.alloc(), MONSTER, "", cases)?;
     read(
@@ -68,11 +67,11 @@ fn values_of_plain_fields(rt: HostRuntime) -> Result<(), Fail> {
         rt.alloc(),
         "One table: v@4 long",
         "prefixed",
-        "v | LONG | Int(7)",
+        "v | SEVEN | Int(7)",
     )?;
     let cases = "\
         f | HALF  | Float([0, 0, 192, 63])\n\
-        f | BLANK | Absent\n\
+        f | EMPTY | Absent\n\
     ";
     read(&rt, rt.alloc(), FLOATS, "", cases)
 }
@@ -85,13 +84,13 @@ const DEFAULTS: &str =
 #[test]
 fn defaults_are_the_low_bytes(rt: HostRuntime) -> Result<(), Fail> {
     let cases = "\
-        even   | BLANK | Bool(false)\n\
-        odd    | BLANK | Bool(true)\n\
-        byte   | BLANK | Int(-56)\n\
-        ubyte  | BLANK | UInt(200)\n\
-        ushort | BLANK | UInt(65535)\n\
-        ulong  | BLANK | UInt(18446744073709551615)\n\
-        maybe  | BLANK | Absent\n\
+        even   | EMPTY | Bool(false)\n\
+        odd    | EMPTY | Bool(true)\n\
+        byte   | EMPTY | Int(-56)\n\
+        ubyte  | EMPTY | UInt(200)\n\
+        ushort | EMPTY | UInt(65535)\n\
+        ulong  | EMPTY | UInt(18446744073709551615)\n\
+        maybe  | EMPTY | Absent\n\
     ";
     read(&rt, rt.alloc(), DEFAULTS, "", cases)
 }
@@ -109,28 +108,28 @@ fn values_of_vectors(rt: HostRuntime) -> Result<(), Fail> {
         rt.alloc(),
         LISTS,
         "",
-        "b [1] | TWO_LISTS | Text(\"hi\")",
+        "b [1] | TWICE | Text(\"hi\")",
     )
 }
 
 #[test]
 fn values_of_unions(rt: HostRuntime) -> Result<(), Fail> {
     let cases = "\
-        u      | UNION_TABLE   | Union(1)\n\
-        u @A v | UNION_TABLE   | Int(5)\n\
-        u @T   | UNION_TABLE   | OtherMember\n\
-        u      | UNION_UNKNOWN | Union(9)\n\
-        u @A v | UNION_UNKNOWN | OtherMember\n\
-        u @W   | UNION_STRUCT  | Struct([7, 0, 0, 0, 0, 0, 0, 0])\n\
+        u      | PICKED  | Union(1)\n\
+        u @A v | PICKED  | Int(5)\n\
+        u @T   | PICKED  | OtherMember\n\
+        u      | UNKNOWN | Union(9)\n\
+        u @A v | UNKNOWN | OtherMember\n\
+        u @W   | BOXED   | Struct([7, 0, 0, 0, 0, 0, 0, 0])\n\
     ";
     read(&rt, rt.alloc(), UNIONS, "root=R", cases)?;
     let cases = "\
-        us          | UNION_PAIR | Vector(2)\n\
-        us [0]      | UNION_PAIR | Union(3)\n\
-        us [0] @T   | UNION_PAIR | Text(\"hi\")\n\
-        us [1] @T   | UNION_PAIR | OtherMember\n\
-        us [2] @T   | UNION_PAIR | NoElement\n\
-        us_type [0] | UNION_PAIR | UInt(3)\n\
+        us          | HI | Vector(2)\n\
+        us [0]      | HI | Union(3)\n\
+        us [0] @T   | HI | Text(\"hi\")\n\
+        us [1] @T   | HI | OtherMember\n\
+        us [2] @T   | HI | NoElement\n\
+        us_type [0] | HI | UInt(3)\n\
     ";
     read(&rt, rt.alloc(), UNIONS, "root=Q", cases)
 }
@@ -150,8 +149,7 @@ const MISFITS: &str = "\
 fn paths_that_do_not_fit(rt: HostRuntime) -> Result<(), Fail> {
     let rows = Rows::read(rt.alloc(), UNIONS)?;
     for line in MISFITS.lines() {
-        let (shows, rest) = line.split_once('|').ok_or("no case")?;
-        let (root, text) = rest.split_once('|').ok_or("no path")?;
+        let (shows, root, text) = columns::three(line)?;
         let question = question(&rows, root).ok_or("no question")?;
         let path = path(rt.alloc(), text)?;
         assert!(rt; steps(rt.alloc(), &question, &path)?.is_none(), "{shows}");

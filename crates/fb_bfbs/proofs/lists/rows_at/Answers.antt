@@ -1,8 +1,8 @@
-use Rattle.std.proofs.Common.{refl, arith, rules}
+use Rattle.std.proofs.Common.{◌∷◌, refl, arith, rules}
 use Rattle.fb_access.specs.declared.step.Step.TheVariants.{Element}
-use Rattle.fb_bfbs.specs.Seen.{seen}
+use Rattle.fb_bfbs.specs.Seen.{seen, behind}
 use Rattle.fb_bfbs.proofs.Sure.{element_allowed, at_element}
-use Rattle.fb_bfbs.proofs.Composed.{no_rows, one_row_more, all_rows, seen_count, one_more_few}
+use Rattle.fb_bfbs.proofs.Composed.{said_after, no_rows, one_row_more, all_rows, seen_count, one_more_few}
 use Rattle.fb_bfbs.proofs.lists.rows_at.Goals as goal
 
 pub count_at-count-requires : goal.count_at-count-requires
@@ -19,7 +19,7 @@ loop-j-init g c = record {
   place = refl;
   count = search rules;
   within = omega arith;
-  rows = rw c.new-rows.ensures.items (no_rows g.R.FromTable.is_row (seen c.args.place.now));
+  rows = λ p way more. rw c.new-rows.ensures.items (no_rows g.R.FromTable.is_row (behind (seen p) way));
   few = rw c.new-rows.ensures.items (λ k d lt. absurd (omega arith));
 }
 
@@ -28,12 +28,12 @@ loop-j-preserved g c = record {
   place = refl;
   count = search rules;
   within = omega arith;
-  rows = one_row_more g.R.FromTable.is_row (seen c.args.place.now) c.loop-j.rows.items c.in_ok-row.row _ c.loop-j.j (search rules) c.loop-j.invariant.count c.loop-j.invariant.rows (c.in_ok-row.ensures.row c.args.place.now (Element c.loop-j.j) (record { at = at_element _ _ g.R.FromTable.number _ _ c.requires c.count_at-count.ensures.count (omega arith) c.go-element.ensures.same c.go-element.ensures.leads; same = c.go-element.ensures.same; leads = c.go-element.ensures.leads }));
+  rows = λ p way more. one_row_more g.R.FromTable.is_row (behind (seen p) way) c.loop-j.rows.items c.in_ok-row.row _ c.loop-j.j (search rules) c.loop-j.invariant.count (c.loop-j.invariant.rows p way more) (c.in_ok-row.ensures.row p (Element c.loop-j.j ∷ way) (said_after (behind (seen p) way) c.args.place.now c.go-element.result (Element c.loop-j.j) more c.go-element.ensures.same c.go-element.ensures.leads));
   few = one_more_few g.R.FromTable.listed c.loop-j.rows.items c.in_ok-row.row _ (search rules) c.loop-j.invariant.few (rw c.go-element.ensures.same at c.in_ok-row.ensures.few);
 }
 
 pub returns-clause-rows : goal.returns-clause-rows
-returns-clause-rows g c = all_rows g.R.FromTable.is_row (seen c.args.place.now) c.loop-j.rows.items c.count_at-count.result (seen_count c.args.place.now _ c.count_at-count.ensures.count) (omega arith) c.loop-j.invariant.rows
+returns-clause-rows g c = λ p way more. all_rows g.R.FromTable.is_row (behind (seen p) way) c.loop-j.rows.items c.count_at-count.result (more _ _ (seen_count c.args.place.now _ c.count_at-count.ensures.count)) (omega arith) (c.loop-j.invariant.rows p way more)
 
 pub returns-clause-few : goal.returns-clause-few
 returns-clause-few g c = let all = c.loop-j.rows.ok.0 in omega (arith, c.count_at-count.ensures.few)

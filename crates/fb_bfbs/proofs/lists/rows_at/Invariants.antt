@@ -1,5 +1,7 @@
-use Rattle.std.proofs.Common.{◌≡◌, ◌≤◌, length, ◌*◌, All}
-use Rattle.fb_bfbs.specs.Seen.{seen}
+use Rattle.std.proofs.Common.{◌≡◌, ◌≤◌, List, length, ◌*◌, All}
+use Rattle.fb_access.specs.declared.step.Step.{Step}
+use Rattle.fb_access.specs.Held.{Placed}
+use Rattle.fb_bfbs.specs.Seen.{seen, Within, behind}
 use Rattle.fb_bfbs.proofs.Composed.{AreRowsSoFar}
 use Rattle.fb_bfbs.proofs.lists.rows_at.Given as goal
 
@@ -9,6 +11,6 @@ invariant-loop-j g l = record {
   place : l.place ≡ l.fn.place;
   count : length l.rows.items ≡ l.j;
   within : l.j ≤ l.count;
-  rows : AreRowsSoFar g.R.FromTable.is_row (seen l.place) l.rows.items;
+  rows : (p : Placed) (way : List Step) → Within (seen l.place) (behind (seen p) way) → AreRowsSoFar g.R.FromTable.is_row (behind (seen p) way) l.rows.items;
   few : All (λ r. 4 * g.R.FromTable.listed r ≤ length (l.place.sealed).bytes) l.rows.items;
 }

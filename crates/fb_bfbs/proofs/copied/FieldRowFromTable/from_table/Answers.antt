@@ -1,12 +1,13 @@
-use Rattle.std.proofs.Common.{[], ◌∷◌, rules}
+use Rattle.std.proofs.Common.{[], ◌∷◌, rules, w64}
+use Rattle.fb_schema.specs.declared.kinds.Scalar.TheVariants as scalar
 use Rattle.fb_bfbs.specs.Describes.{IsFieldRow}
 use Rattle.fb_access.specs.Denotes.{signed}
 use Rattle.fb_access.specs.declared.step.Step.TheVariants.{Field as ToField}
 use Rattle.fb_bfbs.specs.Seen.{seen}
-use Rattle.fb_bfbs.proofs.Narrow.{long_back}
+use Rattle.fb_bfbs.proofs.Narrow.{kept}
 use Rattle.fb_bfbs.proofs.Sure.{field_allowed, at_field}
 use Rattle.fb_bfbs.proofs.FixedFields.{field_fields}
-use Rattle.fb_bfbs.proofs.Composed.{seen_after, type_within, field_within, row_before}
+use Rattle.fb_bfbs.proofs.Composed.{seen_after, type_within, field_within, row_here}
 use Rattle.fb_bfbs.proofs.copied.FieldRowFromTable.from_table.Goals as goal
 
 pub go-ty-requires : goal.go-ty-requires
@@ -21,8 +22,8 @@ type_row-requires c = at_field _ _ _ _ (field_fields _ c.requires).ty c.go-ty.en
 pub ushort_in-requires : goal.ushort_in-requires
 ushort_in-requires c = (field_fields _ c.requires).slot
 
-pub long_in-requires : goal.long_in-requires
-long_in-requires c = (field_fields _ c.requires).default
+pub int_in-requires : goal.int_in-requires
+int_in-requires c = (scalar.Long, tt, (field_fields _ c.requires).default)
 
 pub bool_in-requires : goal.bool_in-requires
 bool_in-requires c = (field_fields _ c.requires).deprecated
@@ -37,11 +38,11 @@ pub bool_in-requires-4 : goal.bool_in-requires-4
 bool_in-requires-4 c = (field_fields _ c.requires).offset64
 
 pub returns-clause-row : goal.returns-clause-row
-returns-clause-row c = row_before IsFieldRow field_within 4 c.args.place.now _ (record {
+returns-clause-row c = row_here IsFieldRow field_within c.args.place.now _ (record {
   name = c.text_in.ensures;
   ty = type_within _ _ _ (seen_after _ _ (ToField 1) c.go-ty.ensures.same c.go-ty.ensures.leads) c.type_row.ensures;
   slot = c.ushort_in.ensures;
-  default = long_back (λ z. seen c.args.place.now (ToField 4 ∷ []) (signed z)) c.long_in.result (search rules) c.long_in.ensures;
+  default = kept w64 (λ z. seen c.args.place.now (ToField 4 ∷ []) (signed z)) c.int_in.result (search rules) c.int_in.ensures.value;
   deprecated = c.bool_in.ensures;
   required = c.bool_in-2.ensures;
   optional = c.bool_in-3.ensures;

@@ -1,4 +1,4 @@
-//! The schema of schema files, typed from reflection.fbs.
+//! The schema of schema files, typed from reflection.fbs: no copy of the product's table, but a second voice beside it.
 
 /// The tables of reflection.fbs, as far as a schema file is read.
 pub const REFLECTION: &str = "\
