@@ -21,5 +21,8 @@ pub mod Standings
 pub mod Verdicts
 pub mod Prices
 pub mod Shown
+pub mod ShownTests
+pub mod TrueReasons
+pub mod TrueFaults
 pub mod Walking
 pub mod Absent

@@ -15,8 +15,10 @@ pub mod MostReads
 pub mod Verdict
 pub mod Sealed
 pub mod Laws
+pub mod TrueReasons
 pub mod Samples
 pub mod Examples
+pub mod Tests
 -- What proofs alone need.
 pub mod OffsetRows
 pub mod Stack
