@@ -24,5 +24,6 @@ pub mod Shown
 pub mod ShownTests
 pub mod TrueReasons
 pub mod TrueFaults
+pub mod OneVerdict
 pub mod Walking
 pub mod Absent

@@ -16,6 +16,7 @@ pub mod Verdict
 pub mod Sealed
 pub mod Laws
 pub mod TrueReasons
+pub mod Answers
 pub mod Samples
 pub mod Examples
 pub mod Tests

@@ -1,6 +1,7 @@
 //! Laws of the definitions: each is the contract of a function that does nothing.
 
 ghost use Rattle.fb_verify.specs.Laws.{StartLaw, HeadLaw, OffsetLaw, StringLaw, VectorLaw, InlineLaw, FieldLaw, ElementLaw, IdentifierLaw, HasOneTree, StopsOnlyAtLimits, StopsOnce, StopsNowhereWithin, CostIsBounded, ReadsAreBounded};
+ghost use Rattle.fb_verify.specs.Answers.{HasOneVerdict};
 ghost use Rattle.fb_verify.specs.TrueReasons.{StopsTruly, TablesRunOut};
 
 /// The chain of an offset word's tests finds nothing exactly where the facts of one hold.
@@ -88,6 +89,13 @@ pub fn cost_is_bounded()
 /// The first fault comes after at most `most_reads` reads.
 pub fn reads_are_bounded()
     ensures { ReadsAreBounded }
+{}
+
+/// At most one answer applies to a question: one report, or one fault, and never one of each. So `walk`, whose answers apply, gives
+/// what `verify` gives.
+#[tactic(auto, using(crate::proofs::OneVerdict::one_verdict))]
+pub fn one_answer_applies()
+    ensures { HasOneVerdict }
 {}
 
 /// Where a buffer stops, the reason is true: what it says is false is false at the position that the fault names, and that is
