@@ -23,3 +23,6 @@ pub mod Following
 pub mod OneReading
 pub mod OneAnswer
 pub mod SomeAnswer
+pub mod StepLaws
+pub mod Shown
+pub mod ShownTree

@@ -36,7 +36,7 @@ pub record IsSized (S : Rows) (f : Live) : Type 0 where
   pub size_is : f.size ≡ kind_size S f.kind
   pub align_is : f.align ≡ kind_align S f.kind
 
-field_sized : (S : Rows) (k i : ℕ) (f : Live) → slice_get (live_fields S k) i ≡ Some f → IsSized S f
+pub field_sized : (S : Rows) (k i : ℕ) (f : Live) → slice_get (live_fields S k) i ≡ Some f → IsSized S f
 field_sized S k i f e = let r = row_of S k i f e in rw r.3 (record { size_is = refl; align_is = refl })
 
 module _ (c : Checks) (b : List ℕ) (S : Rows) (t : ℕ) where

@@ -4,6 +4,9 @@ pub mod Spots
 pub mod Denotes
 pub mod Here
 pub mod PlaceLaws
+pub mod StepLaws
+pub mod Samples
+pub mod Examples
 pub mod Grammar
 pub mod Resolving
 -- What proofs alone need.

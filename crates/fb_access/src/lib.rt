@@ -2,6 +2,7 @@
 #![tactic(auto)]
 
 mod answer;
+pub mod examples;
 mod field;
 mod misfit;
 mod next;
@@ -14,6 +15,7 @@ pub mod place_laws;
 mod scan;
 mod spot;
 pub mod step;
+pub mod step_laws;
 mod value;
 
 pub use answer::Answer;

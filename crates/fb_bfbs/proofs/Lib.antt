@@ -7,3 +7,5 @@ pub mod FixedFields
 pub mod Outcomes
 pub mod OneFile
 pub mod OneLoad
+pub mod Shown
+pub mod ShownFiles

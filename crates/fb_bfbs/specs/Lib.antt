@@ -5,5 +5,7 @@ pub mod Describes
 pub mod FileRows
 pub mod Loads
 pub mod LoadLaws
+pub mod Samples
+pub mod Examples
 -- What proofs alone need.
 pub mod Seen

@@ -2,6 +2,7 @@
 #![tactic(auto)]
 
 mod copied;
+pub mod examples;
 mod file;
 mod fixed;
 mod lists;

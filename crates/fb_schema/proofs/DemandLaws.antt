@@ -80,26 +80,26 @@ first_illegal rows level n place code levels owners clear h =
     }
 
 -- how many levels there are, how many owners a level has, and how many places an owner
-levels_end : ℕ
+unfoldable pub levels_end : ℕ
 levels_end = 2
 
-owners_end : Rows → ℕ → ℕ
+unfoldable pub owners_end : Rows → ℕ → ℕ
 owners_end rows zero = length rows.objects
 owners_end rows (suc level) = length rows.enums
 
-object_end : Option Object → ℕ
+unfoldable pub object_end : Option Object → ℕ
 object_end None = 0
 object_end (Some o) = suc (length o.fields)
 
-enum_end : Option Enum → ℕ
+unfoldable pub enum_end : Option Enum → ℕ
 enum_end None = 0
 enum_end (Some e) = suc (length e.members)
 
-places_end : Rows → ℕ → ℕ → ℕ
+unfoldable pub places_end : Rows → ℕ → ℕ → ℕ
 places_end rows zero n = object_end (slice_get rows.objects n)
 places_end rows (suc level) n = enum_end (slice_get rows.enums n)
 
-past_levels : (rows : Rows) (level n place : ℕ) → levels_end ≤ level → IsClear rows level n place
+pub past_levels : (rows : Rows) (level n place : ℕ) → levels_end ≤ level → IsClear rows level n place
 unfolding levels_end
 past_levels rows zero n place h = absurd (omega arith)
 past_levels rows (suc zero) n place h = absurd (omega arith)
@@ -111,7 +111,7 @@ past_objects rows n place h = ap (λ o. first_code (demands_of_object rows n pla
 pub past_enums : (rows : Rows) (n place : ℕ) → length rows.enums ≤ n → IsClear rows 1 n place
 past_enums rows n place h = ap (λ e. first_code (demands_of_enum rows place e)) (slice_get_past rows.enums n h)
 
-past_owners : (rows : Rows) (level n place : ℕ) → owners_end rows level ≤ n → IsClear rows level n place
+pub past_owners : (rows : Rows) (level n place : ℕ) → owners_end rows level ≤ n → IsClear rows level n place
 unfolding owners_end
 past_owners rows zero n place h = past_objects rows n place h
 past_owners rows (suc zero) n place h = past_enums rows n place h
@@ -137,7 +137,7 @@ past_members rows place None h = refl
 past_members rows zero (Some e) h = refl
 past_members rows (suc p) (Some e) h = nothing_asked e.is_union _ (ap (λ m. first_code (demands_of_member rows e.members p m)) (slice_get_past e.members p (omega arith)))
 
-past_places : (rows : Rows) (level n place : ℕ) → places_end rows level n ≤ place → IsClear rows level n place
+pub past_places : (rows : Rows) (level n place : ℕ) → places_end rows level n ≤ place → IsClear rows level n place
 unfolding places_end
 past_places rows zero n place h = past_fields rows n place (slice_get rows.objects n) h
 past_places rows (suc zero) n place h = past_members rows place (slice_get rows.enums n) h

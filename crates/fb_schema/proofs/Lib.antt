@@ -1,5 +1,7 @@
 pub mod Numbers
 pub mod DemandLaws
+pub mod Judged
+pub mod Shown
 pub mod OrderLemmas
 pub mod KeyLemmas
 pub mod Blank

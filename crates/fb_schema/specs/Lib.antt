@@ -6,6 +6,8 @@ pub mod Live
 pub mod Members
 pub mod Served
 pub mod Builders
+pub mod Examples
+pub mod LookUps
 -- What proofs alone need.
 pub mod Flat
 pub mod FlatLists

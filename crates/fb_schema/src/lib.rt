@@ -4,6 +4,7 @@
 pub mod base_type;
 pub mod builders;
 mod demands;
+pub mod examples;
 mod fault;
 mod few;
 mod first_fault;

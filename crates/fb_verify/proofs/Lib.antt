@@ -21,5 +21,9 @@ pub mod Standings
 pub mod Verdicts
 pub mod Prices
 pub mod Shown
+pub mod ShownTests
+pub mod TrueReasons
+pub mod TrueFaults
+pub mod OneVerdict
 pub mod Walking
 pub mod Absent

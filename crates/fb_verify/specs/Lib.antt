@@ -15,8 +15,11 @@ pub mod MostReads
 pub mod Verdict
 pub mod Sealed
 pub mod Laws
+pub mod TrueReasons
+pub mod Answers
 pub mod Samples
 pub mod Examples
+pub mod Tests
 -- What proofs alone need.
 pub mod OffsetRows
 pub mod Stack

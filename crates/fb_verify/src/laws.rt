@@ -1,6 +1,8 @@
 //! Laws of the definitions: each is the contract of a function that does nothing.
 
 ghost use Rattle.fb_verify.specs.Laws.{StartLaw, HeadLaw, OffsetLaw, StringLaw, VectorLaw, InlineLaw, FieldLaw, ElementLaw, IdentifierLaw, HasOneTree, StopsOnlyAtLimits, StopsOnce, StopsNowhereWithin, CostIsBounded, ReadsAreBounded};
+ghost use Rattle.fb_verify.specs.Answers.{HasOneVerdict};
+ghost use Rattle.fb_verify.specs.TrueReasons.{StopsTruly, TablesRunOut};
 
 /// The chain of an offset word's tests finds nothing exactly where the facts of one hold.
 #[tactic(auto, using(crate::proofs::Chains::offset_none))]
@@ -87,4 +89,24 @@ pub fn cost_is_bounded()
 /// The first fault comes after at most `most_reads` reads.
 pub fn reads_are_bounded()
     ensures { ReadsAreBounded }
+{}
+
+/// At most one answer applies to a question: one report, or one fault, and never one of each. So `walk`, whose answers apply, gives
+/// what `verify` gives.
+#[tactic(auto, using(crate::proofs::OneVerdict::one_verdict))]
+pub fn one_answer_applies()
+    ensures { HasOneVerdict }
+{}
+
+/// Where a buffer stops, the reason is true: what it says is false is false at the position that the fault names, and that is
+/// where something is asked at the start, or at a table that is reached from the root.
+#[tactic(auto, using(crate::proofs::TrueFaults::stops_truly))]
+pub fn stops_truly()
+    ensures { StopsTruly }
+{}
+
+/// Where it stops since too many tables were opened, as many as are allowed were opened before.
+#[tactic(auto, using(crate::proofs::TrueFaults::tables_run_out))]
+pub fn tables_run_out()
+    ensures { TablesRunOut }
 {}

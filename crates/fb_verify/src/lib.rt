@@ -17,6 +17,7 @@ mod scratch;
 mod site;
 mod stack;
 pub mod start;
+pub mod tested;
 mod values;
 mod verdict;
 mod verified;

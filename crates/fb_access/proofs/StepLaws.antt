@@ -1,0 +1,312 @@
+-- Where steps lead, by the verifier's words.
+use Rattle.std.proofs.Common.{◌≡◌, ◌≢◌, ℕ, zero, suc, ◌+◌, ◌*◌, ◌<◌, ◌≤◌, ◌⊎◌, inl, inr, ◌==◌, nat_lt, if◌then◌else◌, ℤ, Bool, true, false, List, [], ◌∷◌, refl, sym, ◌∙◌, ap, subst, arith, Option, Some, None}
+use Rattle.std.specs.Prelude.{slice_get, option_map}
+use Rattle.std.specs.List.{position_or_len}
+use Rattle.std.proofs.lemmas.Bool.Decides.{nat_tests}
+use Rattle.std.proofs.lemmas.List.Folds.{find_at}
+use Rattle.fb_bytes.specs.Word.{word}
+use Rattle.fb_schema.specs.declared.kinds.Scalar.{Scalar}
+use Rattle.fb_schema.specs.declared.kinds.Scalar.TheVariants.{UType, Bool as AsBool, Byte, UByte, Short, UShort, Int, UInt, Long, ULong, Float, Double}
+use Rattle.fb_schema.specs.declared.kinds.Kind.{Kind}
+use Rattle.fb_schema.specs.declared.kinds.Kind.TheVariants.{Scalar as AScalar, Text, Struct, Table, Union, Scalars, Texts, Structs, Tables, Unions}
+use Rattle.fb_schema.specs.Rows.{Rows}
+use Rattle.fb_schema.specs.Kinds.{scalar_size, struct_size, kind_size}
+use Rattle.fb_schema.specs.Live.{Live, live_fields}
+use Rattle.fb_schema.specs.Members.{member_of}
+use Rattle.fb_verify.specs.Places.{target, field_place}
+use Rattle.fb_verify.specs.Fields.{type_place, union_type, types_begin, Lead, to_table, to_string, lead_of, Entry, entry, row, union_row, union_entry, entries_of, entries_at, entries}
+use Rattle.fb_access.specs.declared.step.Step.TheVariants.{Field, Element}
+use Rattle.fb_access.specs.declared.spot.Spot.{Spot}
+use Rattle.fb_access.specs.declared.spot.Spot.TheVariants.{AtTable, AtInline, AtStruct, AtText, AtTexts, AtTables, AtUnions, AtUnion, AtAbsent, AtNoElement, AtOtherMember}
+use Rattle.fb_access.specs.Fitting.{numbered}
+use Rattle.fb_access.specs.Spots.{kind_at, present_spot, default_spot, absent_spot, spot_at, field_spot, if_element, spot_of_element, member_spot}
+use Rattle.fb_access.specs.Denotes.{next_spot, Leads, Reaches}
+use Rattle.fb_access.specs.StepLaws.{position_of, value_place, IsFieldOf, FieldsStandInPlace, IsLedTo, IsOfEntry, steps_on, StepsFollowEntries, AreOffsets, NoOtherElements, MembersFollowLeads, AreInline, ElementsStandInRow}
+use Rattle.fb_access.proofs.TableFields.{field_sized}
+
+some_same : {A : Type 0} {x y : A} → Some x ≡ Some y → x ≡ y
+some_same h = cc
+
+-- Fields.
+
+module _ (b : List ℕ) (S : Rows) (k t n : ℕ) (f : Live) (e : numbered S k n ≡ Some f) where
+  -- the field step
+  field_step : Leads b S (AtTable k t) (Field n) (field_spot b t f)
+  unfolding next_spot
+  field_step = ap (option_map (field_spot b t)) e
+
+  one_step : (q : Spot) → Leads b S (AtTable k t) (Field n) q → field_spot b t f ≡ q
+  one_step q l = some_same (sym field_step ∙ l)
+
+present_in_place : (b : List ℕ) (t o p : ℕ) (kind : Kind) → (kind_at (present_spot b t o p kind) ≡ Some kind) × (position_of (present_spot b t o p kind) ≡ Some (value_place b p kind))
+unfolding present_spot
+present_in_place b t o p (AScalar s) = (refl, refl)
+present_in_place b t o p Text = (refl, refl)
+present_in_place b t o p (Struct k) = (refl, refl)
+present_in_place b t o p (Table k) = (refl, refl)
+present_in_place b t o p (Union e) = (refl, refl)
+present_in_place b t o p (Scalars s) = (refl, refl)
+present_in_place b t o p Texts = (refl, refl)
+present_in_place b t o p (Structs k) = (refl, refl)
+present_in_place b t o p (Tables k) = (refl, refl)
+present_in_place b t o p (Unions e) = (refl, refl)
+
+default_nowhere : (d : ℤ) (s : Scalar) → position_of (default_spot d s) ≡ None
+unfolding default_spot
+default_nowhere d UType = refl
+default_nowhere d AsBool = refl
+default_nowhere d Byte = refl
+default_nowhere d UByte = refl
+default_nowhere d Short = refl
+default_nowhere d UShort = refl
+default_nowhere d Int = refl
+default_nowhere d UInt = refl
+default_nowhere d Long = refl
+default_nowhere d ULong = refl
+default_nowhere d Float = refl
+default_nowhere d Double = refl
+
+absent_nowhere : (optional : Bool) (d : ℤ) (kind : Kind) → position_of (absent_spot optional d kind) ≡ None
+unfolding absent_spot
+absent_nowhere true d kind = refl
+absent_nowhere false d (AScalar s) = default_nowhere d s
+absent_nowhere false d Text = refl
+absent_nowhere false d (Struct k) = refl
+absent_nowhere false d (Table k) = refl
+absent_nowhere false d (Union e) = refl
+absent_nowhere false d (Scalars s) = refl
+absent_nowhere false d Texts = refl
+absent_nowhere false d (Structs k) = refl
+absent_nowhere false d (Tables k) = refl
+absent_nowhere false d (Unions e) = refl
+
+field_in_place : (b : List ℕ) (t : ℕ) (f : Live) → IsFieldOf b t f (field_spot b t f)
+field_in_place b t f = record {
+  kind = λ p e. subst (λ place. kind_at (spot_at b t f place) ≡ Some f.kind) (sym e) (present_in_place b t f.slot p f.kind).0;
+  present = λ p e. subst (λ place. position_of (spot_at b t f place) ≡ Some (value_place b p f.kind)) (sym e) (present_in_place b t f.slot p f.kind).1;
+  absent = λ e. subst (λ place. position_of (spot_at b t f place) ≡ None) (sym e) (absent_nowhere f.optional f.default f.kind);
+}
+
+pub fields_stand_in_place : FieldsStandInPlace
+fields_stand_in_place b S k t n f q e l = subst (IsFieldOf b t f) (one_step b S k t n f e q l) (field_in_place b t f)
+
+-- Offset words.
+
+one_entry : (y x : Entry) (j : ℕ) → slice_get (y ∷ []) j ≡ Some x → y ≡ x
+one_entry y x zero h = some_same h
+one_entry y x (suc j) h = absurd cc
+
+-- the j-th of n offset words
+row_get : (lead : Lead) (p n j : ℕ) (x : Entry) → slice_get (row lead p n) j ≡ Some x → (j < n) × (entry lead (p + 4 * j) 0 ≡ x)
+unfolding row
+row_get lead p zero j x h = absurd cc
+row_get lead p (suc n) zero x h = let e : p + 4 * 0 ≡ p = omega arith in (omega arith, rw e (some_same h))
+row_get lead p (suc n) (suc j) x h =
+    let r = row_get lead (p + 4) n j x h in
+    let e : p + 4 + 4 * j ≡ p + 4 * suc j = omega arith in
+    (omega (arith, r.0), rw e at r.1)
+
+row_end : (lead : Lead) (p n j : ℕ) → slice_get (row lead p n) j ≡ None → n ≤ j
+unfolding row
+row_end lead p zero j h = omega arith
+row_end lead p (suc n) zero h = absurd cc
+row_end lead p (suc n) (suc j) h = let r = row_end lead (p + 4) n j h in omega (arith, r)
+
+union_row_get : (b : List ℕ) (S : Rows) (e q p n j : ℕ) (x : Entry) → slice_get (union_row b S e q p n) j ≡ Some x → (j < n) × (entry (lead_of S (member_of S e (word b (q + j) 1))) (p + 4 * j) 1 ≡ x)
+unfolding union_row
+union_row_get b S e q p zero j x h = absurd cc
+union_row_get b S e q p (suc n) zero x h =
+    let i : p + 4 * 0 ≡ p = omega arith in
+    let k : q + 0 ≡ q = omega arith in
+    (omega arith, rw (i, k) (some_same h))
+union_row_get b S e q p (suc n) (suc j) x h =
+    let r = union_row_get b S e (q + 1) (p + 4) n j x h in
+    let i : p + 4 + 4 * j ≡ p + 4 * suc j = omega arith in
+    let k : q + 1 + j ≡ q + suc j = omega arith in
+    (omega (arith, r.0), rw (i, k) at r.1)
+
+union_row_end : (b : List ℕ) (S : Rows) (e q p n j : ℕ) → slice_get (union_row b S e q p n) j ≡ None → n ≤ j
+unfolding union_row
+union_row_end b S e q p zero j h = omega arith
+union_row_end b S e q p (suc n) zero h = absurd cc
+union_row_end b S e q p (suc n) (suc j) h = let r = union_row_end b S e (q + 1) (p + 4) n j h in omega (arith, r)
+
+-- an element below the count, and one past it
+element_there : (b : List ℕ) (c j : ℕ) (spot : Spot) → j < word b c 4 → if_element b c j spot ≡ spot
+element_there b c j spot lt = let t : nat_lt j (word b c 4) ≡ true = grind (arith, nat_tests) in rw t refl
+
+element_past : (b : List ℕ) (c j : ℕ) (spot : Spot) → word b c 4 ≤ j → if_element b c j spot ≡ AtNoElement
+element_past b c j spot le = let t : nat_lt j (word b c 4) ≡ false = grind (arith, nat_tests) in rw t refl
+
+module _ (b : List ℕ) (S : Rows) (t o p j : ℕ) where
+  -- past a present field of this kind the steps lead to the j-th offset word
+  abbrev Follows : Kind → Entry → Type 0
+  Follows kind x = (q : Spot) × Reaches b S (present_spot b t o p kind) (steps_on j kind) q × IsOfEntry b S x q
+
+  in_union : (e y : ℕ) (member : Option Kind) (x : Entry) → member_of S e y ≡ member → slice_get (union_entry S p member) j ≡ Some x → IsOfEntry b S x (AtUnion e y p)
+  in_union e y None x m h = absurd cc
+  in_union e y (Some kind) x m h = subst (λ z. IsOfEntry b S z (AtUnion e y p)) (one_entry (entry (lead_of S (Some kind)) p 0) x j h) (refl, ap (lead_of S) m)
+
+  text_element : (x : Entry) (c : ℕ) → (j < word b c 4) × (entry to_string (c + 4 + 4 * j) 0 ≡ x) → (q : Spot) × Reaches b S (AtTexts c) (Element j ∷ []) q × IsOfEntry b S x q
+  unfolding next_spot spot_of_element
+  text_element x c h =
+      let q = AtText (target b (c + 4 + 4 * j)) in
+      subst (λ z. (q : Spot) × Reaches b S (AtTexts c) (Element j ∷ []) q × IsOfEntry b S z q) h.1 (q, (q, ap Some (element_there b c j q h.0), refl), refl)
+
+  table_element : (x : Entry) (k c : ℕ) → (j < word b c 4) × (entry (to_table k) (c + 4 + 4 * j) 0 ≡ x) → (q : Spot) × Reaches b S (AtTables k c) (Element j ∷ []) q × IsOfEntry b S x q
+  unfolding next_spot spot_of_element
+  table_element x k c h =
+      let q = AtTable k (target b (c + 4 + 4 * j)) in
+      subst (λ z. (q : Spot) × Reaches b S (AtTables k c) (Element j ∷ []) q × IsOfEntry b S z q) h.1 (q, (q, ap Some (element_there b c j q h.0), refl), refl)
+
+  union_element : (x : Entry) (e y c : ℕ) → (j < word b c 4) × (entry (lead_of S (member_of S e (word b (y + j) 1))) (c + 4 + 4 * j) 1 ≡ x) → (q : Spot) × Reaches b S (AtUnions e y c) (Element j ∷ []) q × IsOfEntry b S x q
+  unfolding next_spot spot_of_element
+  union_element x e y c h =
+      let q = AtUnion e (word b (y + j) 1) (c + 4 + 4 * j) in
+      subst (λ z. (q : Spot) × Reaches b S (AtUnions e y c) (Element j ∷ []) q × IsOfEntry b S z q) h.1 (q, (q, ap Some (element_there b c j q h.0), refl), (refl, refl))
+
+  follows : (f : Live) (kind : Kind) (x : Entry) → f.slot ≡ o → slice_get (entries_of b S t f p kind) j ≡ Some x → Follows kind x
+  unfolding present_spot
+  follows f (AScalar s) x s_is h = absurd cc
+  follows f (Struct k) x s_is h = absurd cc
+  follows f Text x s_is h = subst (Follows Text) (one_entry (entry to_string p 0) x j h) (AtText (target b p), refl, refl)
+  follows f (Table k) x s_is h = subst (Follows (Table k)) (one_entry (entry (to_table k) p 0) x j h) (AtTable k (target b p), refl, refl)
+  follows f (Union e) x s_is h =
+      let y = union_type b (type_place b t o) in
+      (AtUnion e y p, refl, in_union e y (member_of S e y) x refl (rw s_is at h))
+  follows f (Scalars s) x s_is h = absurd cc
+  follows f (Structs k) x s_is h = absurd cc
+  follows f Texts x s_is h = text_element x (target b p) (row_get to_string (target b p + 4) (word b (target b p) 4) j x h)
+  follows f (Tables k) x s_is h = table_element x k (target b p) (row_get (to_table k) (target b p + 4) (word b (target b p) 4) j x h)
+  follows f (Unions e) x s_is h =
+      let y = types_begin b (type_place b t o) in
+      union_element x e y (target b p) (union_row_get b S e y (target b p + 4) (word b (target b p) 4) j x (rw s_is at h))
+
+  -- an element step from a vector of offset words that has no such word
+  no_element : (f : Live) (kind : Kind) (q : Spot) → AreOffsets kind → slice_get (entries_of b S t f p kind) j ≡ None → Reaches b S (present_spot b t o p kind) (Element j ∷ []) q → position_of q ≡ None
+  unfolding present_spot next_spot spot_of_element
+  no_element f Texts q v h r =
+      let c = target b p in
+      let past = row_end to_string (c + 4) (word b c 4) j h in
+      let e : AtNoElement ≡ r.0 = some_same (sym (ap Some (element_past b c j (AtText (target b (c + 4 + 4 * j))) past)) ∙ r.1) in
+      subst (λ z. position_of z ≡ None) (e ∙ r.2) refl
+  no_element f (Tables k) q v h r =
+      let c = target b p in
+      let past = row_end (to_table k) (c + 4) (word b c 4) j h in
+      let e : AtNoElement ≡ r.0 = some_same (sym (ap Some (element_past b c j (AtTable k (target b (c + 4 + 4 * j))) past)) ∙ r.1) in
+      subst (λ z. position_of z ≡ None) (e ∙ r.2) refl
+  no_element f (Unions u) q v h r =
+      let c = target b p in
+      let y = types_begin b (type_place b t o) in
+      let past = union_row_end b S u (types_begin b (type_place b t f.slot)) (c + 4) (word b c 4) j h in
+      let e : AtNoElement ≡ r.0 = some_same (sym (ap Some (element_past b c j (AtUnion u (word b (y + j) 1) (c + 4 + 4 * j)) past)) ∙ r.1) in
+      subst (λ z. position_of z ≡ None) (e ∙ r.2) refl
+  no_element f (AScalar s) q v h r = absurd v
+  no_element f Text q v h r = absurd v
+  no_element f (Struct k) q v h r = absurd v
+  no_element f (Table k) q v h r = absurd v
+  no_element f (Union e) q v h r = absurd v
+  no_element f (Scalars s) q v h r = absurd v
+  no_element f (Structs k) q v h r = absurd v
+
+module _ (b : List ℕ) (S : Rows) (t j : ℕ) (f : Live) where
+  follows_at : (place : Option ℕ) (x : Entry) → slice_get (entries_at b S t f place) j ≡ Some x → (q : Spot) × Reaches b S (spot_at b t f place) (steps_on j f.kind) q × IsOfEntry b S x q
+  follows_at None x h = absurd cc
+  follows_at (Some p) x h = follows b S t f.slot p j f f.kind x refl h
+
+  -- an absent vector of offset words has no element
+  absent_element : (optional : Bool) (d : ℤ) (kind : Kind) (q : Spot) → AreOffsets kind → Reaches b S (absent_spot optional d kind) (Element j ∷ []) q → position_of q ≡ None
+  unfolding absent_spot next_spot
+  absent_element true d kind q v r = let e : AtAbsent ≡ r.0 = some_same r.1 in subst (λ z. position_of z ≡ None) (e ∙ r.2) refl
+  absent_element false d Texts q v r = let e : AtAbsent ≡ r.0 = some_same r.1 in subst (λ z. position_of z ≡ None) (e ∙ r.2) refl
+  absent_element false d (Tables k) q v r = let e : AtAbsent ≡ r.0 = some_same r.1 in subst (λ z. position_of z ≡ None) (e ∙ r.2) refl
+  absent_element false d (Unions u) q v r = let e : AtAbsent ≡ r.0 = some_same r.1 in subst (λ z. position_of z ≡ None) (e ∙ r.2) refl
+  absent_element false d (AScalar s) q v r = absurd v
+  absent_element false d Text q v r = absurd v
+  absent_element false d (Struct k) q v r = absurd v
+  absent_element false d (Table k) q v r = absurd v
+  absent_element false d (Union u) q v r = absurd v
+  absent_element false d (Scalars s) q v r = absurd v
+  absent_element false d (Structs k) q v r = absurd v
+
+  no_element_at : (place : Option ℕ) (q : Spot) → AreOffsets f.kind → slice_get (entries_at b S t f place) j ≡ None → Reaches b S (spot_at b t f place) (Element j ∷ []) q → position_of q ≡ None
+  no_element_at None q v h r = absent_element f.optional f.default f.kind q v r
+  no_element_at (Some p) q v h r = no_element b S t f.slot p j f f.kind q v h r
+
+pub steps_follow_entries : StepsFollowEntries
+unfolding entries
+steps_follow_entries b S k t n j f x e h =
+    let r = follows_at b S t j f (field_place b t f.slot) x h in
+    (r.0, (field_spot b t f, field_step b S k t n f e, r.1), r.2)
+
+pub no_other_elements : NoOtherElements
+unfolding entries
+no_other_elements b S k t n j f q e v h r =
+    no_element_at b S t j f (field_place b t f.slot) q v h (subst (λ m. Reaches b S m (Element j ∷ []) q) (sym (one_step b S k t n f e r.0 r.1)) r.2)
+
+-- Members.
+
+member_led : (b : List ℕ) (S : Rows) (p : ℕ) (kind : Kind) → IsLedTo b S p (lead_of S (Some kind)) (member_spot b p kind)
+unfolding member_spot
+member_led b S p (Table k) = refl
+member_led b S p (Struct k) = (k, refl, refl, refl)
+member_led b S p Text = refl
+member_led b S p (AScalar s) = refl
+member_led b S p (Union e) = refl
+member_led b S p (Scalars s) = refl
+member_led b S p Texts = refl
+member_led b S p (Structs k) = refl
+member_led b S p (Tables k) = refl
+member_led b S p (Unions e) = refl
+
+module _ (b : List ℕ) (S : Rows) (e y p m : ℕ) (q : Spot) where
+  abbrev IsFollowed : Type 0
+  IsFollowed = ((y ≡ m) × IsLedTo b S p (lead_of S (member_of S e y)) q) ⊎ ((y ≢ m) × (q ≡ AtOtherMember))
+
+  by_type : (kind : Kind) (same : Bool) → member_of S e m ≡ Some kind → (y == m) ≡ same → (if same then member_spot b p kind else AtOtherMember) ≡ q → IsFollowed
+  by_type kind true h s i =
+      let type_is : y ≡ m = grind (arith, nat_tests) in
+      let lead_is : lead_of S (Some kind) ≡ lead_of S (member_of S e y) = ap (lead_of S) (sym (ap (member_of S e) type_is ∙ h)) in
+      inl (type_is, subst (λ lead. IsLedTo b S p lead q) lead_is (subst (IsLedTo b S p (lead_of S (Some kind))) i (member_led b S p kind)))
+  by_type kind false h s i = inr ((λ type_is. absurd (grind (arith, nat_tests, type_is))), sym i)
+
+  of_member : (member : Option Kind) → member_of S e m ≡ member → option_map (λ kind. if y == m then member_spot b p kind else AtOtherMember) member ≡ Some q → IsFollowed
+  of_member None h l = absurd cc
+  of_member (Some kind) h l = by_type kind (y == m) h refl (some_same l)
+
+pub members_follow_leads : MembersFollowLeads
+unfolding next_spot
+members_follow_leads b S e y p m q l = of_member b S e y p m q (member_of S e m) refl l
+
+-- Elements in place.
+
+numbered_size : (S : Rows) (k n : ℕ) (f : Live) → numbered S k n ≡ Some f → f.size ≡ kind_size S f.kind
+numbered_size S k n f e = (field_sized S k (position_or_len (λ g. g.number == n) (live_fields S k)) f (sym (find_at (λ g. g.number == n) (live_fields S k)) ∙ e)).size_is
+
+module _ (b : List ℕ) (S : Rows) (t o p j : ℕ) (lt : j < word b (target b p) 4) where
+  in_row : (size : ℕ) (kind : Kind) (q : Spot) → size ≡ kind_size S kind → AreInline kind → Reaches b S (present_spot b t o p kind) (Element j ∷ []) q → position_of q ≡ Some (target b p + 4 + size * j)
+  unfolding present_spot next_spot spot_of_element
+  in_row size (Scalars s) q is v r =
+      let c = target b p in
+      let x = AtInline s (c + 4 + scalar_size s * j) in
+      let e : x ≡ r.0 = some_same (sym (ap Some (element_there b c j x lt)) ∙ r.1) in
+      rw is (subst (λ z. position_of z ≡ Some (c + 4 + scalar_size s * j)) (e ∙ r.2) refl)
+  in_row size (Structs k) q is v r =
+      let c = target b p in
+      let x = AtStruct k (c + 4 + struct_size S k * j) in
+      let e : x ≡ r.0 = some_same (sym (ap Some (element_there b c j x lt)) ∙ r.1) in
+      rw is (subst (λ z. position_of z ≡ Some (c + 4 + struct_size S k * j)) (e ∙ r.2) refl)
+  in_row size (AScalar s) q is v r = absurd v
+  in_row size Text q is v r = absurd v
+  in_row size (Struct k) q is v r = absurd v
+  in_row size (Table k) q is v r = absurd v
+  in_row size (Union e) q is v r = absurd v
+  in_row size Texts q is v r = absurd v
+  in_row size (Tables k) q is v r = absurd v
+  in_row size (Unions e) q is v r = absurd v
+
+pub elements_stand_in_row : ElementsStandInRow
+elements_stand_in_row b S k t n j p f q e v place lt r =
+    let from_field : Reaches b S (field_spot b t f) (Element j ∷ []) q = subst (λ m. Reaches b S m (Element j ∷ []) q) (sym (one_step b S k t n f e r.0 r.1)) r.2 in
+    let here : Reaches b S (present_spot b t f.slot p f.kind) (Element j ∷ []) q = subst (λ x. Reaches b S (spot_at b t f x) (Element j ∷ []) q) place from_field in
+    in_row b S t f.slot p j lt f.size f.kind q (numbered_size S k n f e) v here

@@ -1,0 +1,22 @@
+//! Examples of the definitions: each is a clause of a function that does nothing.
+
+ghost use Rattle.fb_access.specs.Examples.{SampleUnfolds, FieldValues, ElementValues, MemberValues, ScalarValues, DefaultValues, StayingValues, LackingFields, PrefixedValues};
+
+/// A buffer with a field of each kind is good, and what paths denote in it.
+#[tactic(auto, using(crate::proofs::Shown::field_values, crate::proofs::Shown::element_values, crate::proofs::Shown::member_values, crate::proofs::Shown::scalar_values, crate::proofs::Shown::default_values, crate::proofs::Shown::staying_values, crate::proofs::Shown::lacking_fields, crate::proofs::ShownTree::sample_unfolds))]
+pub fn values()
+    ensures good { SampleUnfolds }
+    ensures fields { FieldValues }
+    ensures elements { ElementValues }
+    ensures members { MemberValues }
+    ensures scalars { ScalarValues }
+    ensures defaults { DefaultValues }
+    ensures nothing_stays { StayingValues }
+    ensures no_such_fields { LackingFields }
+{}
+
+/// What paths denote behind a prefix.
+#[tactic(auto, using(crate::proofs::Shown::prefixed_values))]
+pub fn values_behind_a_prefix()
+    ensures { PrefixedValues }
+{}

@@ -1,0 +1,221 @@
+-- The files of the examples describe their rows, table by table.
+use Rattle.std.proofs.Common.{◌≡◌, ℕ, zero, suc, List, [], ◌∷◌, refl, subst, Some, inl, inr}
+use Rattle.std.specs.Prelude.{slice_get}
+use Rattle.fb_bytes.specs.Word.{word}
+use Rattle.fb_schema.specs.Kinds.{shape_of, kind_of, base_types}
+use Rattle.fb_schema.specs.Live.{live_fields}
+use Rattle.fb_verify.specs.Places.{has_vtable, vtable, field_place}
+use Rattle.fb_access.specs.declared.step.Step.{Step}
+use Rattle.fb_access.specs.declared.step.Step.TheVariants.{Field as ToField, Element}
+use Rattle.fb_access.specs.declared.spot.Spot.{Spot}
+use Rattle.fb_access.specs.declared.spot.Spot.TheVariants.{AtTable, AtTables}
+use Rattle.fb_access.specs.Spots.{present_spot, default_spot, absent_spot, spot_of_element, member_spot}
+use Rattle.fb_access.specs.Denotes.{Leads, next_spot, number, inline_value, default_value, value}
+use Rattle.fb_access.specs.Here.{Shows}
+use Rattle.fb_bfbs.specs.Fixed.{fixed}
+use Rattle.fb_bfbs.specs.Says.{Says, after, AreRows}
+use Rattle.fb_bfbs.specs.Describes.{IsTypeRow, IsFieldRow, IsObjectRow, IsMemberRow, IsEnumRow, Describes}
+use Rattle.fb_bfbs.specs.Loads.{told}
+use Rattle.fb_bfbs.specs.Samples.{plain, hp_field, name_field, monster_object, plain_rows, detailed, old_field, far_field, struct_object, no_member, one_member, a_union, an_enum, detailed_rows}
+use Rattle.fb_bfbs.specs.Examples.{DetailedFile}
+use Rattle.fb_bfbs.proofs.Composed.{Carries, type_within, field_within, object_within, member_within, enum_within, rows_within}
+
+-- all that is computed
+computing : ℕ
+unfolding fixed word live_fields shape_of kind_of base_types has_vtable vtable field_place present_spot default_spot absent_spot spot_of_element member_spot next_spot number inline_value default_value value
+computing = 0
+
+-- what is said from a spot on
+abbrev pub From : List ℕ → Spot → Says
+From b p = λ steps x. Shows b fixed p steps x
+
+-- what is said from the next spot on is said from here, one step further on
+onward : {Row : Type 0} (Is : Says → Row → Type 0) → Carries Is → (b : List ℕ) (p q : Spot) (s : Step) (r : Row) → Leads b fixed p s q → Is (From b q) r → Is (after (From b p) s) r
+onward Is carries b p q s r l h = carries (From b q) (after (From b p) s) r (λ steps x i. (i.0, (q, l, i.1), i.2)) h
+
+-- something holds of each row of a list at its place
+abbrev AllAt : {Row : Type 0} → (ℕ → Row → Type 0) → List Row → Type 0
+AllAt P [] = Unit {0}
+AllAt P (r ∷ rows) = P 0 r × AllAt (λ j. P (suc j)) rows
+
+some_same : {A : Type 0} {x y : A} → Some x ≡ Some y → x ≡ y
+some_same h = cc
+
+each_of : {Row : Type 0} (P : ℕ → Row → Type 0) (rows : List Row) → AllAt P rows → (j : ℕ) (r : Row) → slice_get rows j ≡ Some r → P j r
+each_of P [] a j r e = absurd cc
+each_of P (x ∷ xs) a zero r e = subst (P 0) (some_same e) a.0
+each_of P (x ∷ xs) a (suc j) r e = each_of (λ k. P (suc k)) xs a.1 j r e
+
+-- The plain file.
+
+hp_type : IsTypeRow (From plain (AtTable 0 152)) hp_field.ty
+unfolding computing
+hp_type = record { base = (_, (_, refl, refl), refl); element = (_, (_, refl, refl), refl); index = (_, (_, refl, refl), refl); fixed_length = (_, (_, refl, refl), refl) }
+
+name_type : IsTypeRow (From plain (AtTable 0 200)) name_field.ty
+unfolding computing
+name_type = record { base = (_, (_, refl, refl), refl); element = (_, (_, refl, refl), refl); index = (_, (_, refl, refl), refl); fixed_length = (_, (_, refl, refl), refl) }
+
+hp_row : IsFieldRow (From plain (AtTable 4 112)) hp_field
+unfolding computing
+hp_row = record {
+  name = (_, (_, refl, refl), refl);
+  ty = onward IsTypeRow type_within plain (AtTable 4 112) (AtTable 0 152) (ToField 1) hp_field.ty refl hp_type;
+  slot = (_, (_, refl, refl), refl);
+  default = (_, (_, refl, refl), refl);
+  deprecated = (_, (_, refl, refl), refl);
+  required = (_, (_, refl, refl), refl);
+  optional = (_, (_, refl, refl), refl);
+  offset64 = (_, (_, refl, refl), refl);
+}
+
+name_row : IsFieldRow (From plain (AtTable 4 172)) name_field
+unfolding computing
+name_row = record {
+  name = (_, (_, refl, refl), refl);
+  ty = onward IsTypeRow type_within plain (AtTable 4 172) (AtTable 0 200) (ToField 1) name_field.ty refl name_type;
+  slot = (_, (_, refl, refl), refl);
+  default = (_, (_, refl, refl), refl);
+  deprecated = (_, (_, refl, refl), refl);
+  required = (_, (_, refl, refl), refl);
+  optional = (_, (_, refl, refl), refl);
+  offset64 = (_, (_, refl, refl), refl);
+}
+
+monster_fields : AreRows IsFieldRow (From plain (AtTables 4 80)) (hp_field ∷ name_field ∷ [])
+unfolding computing
+monster_fields = record { count = (_, refl, refl); each = each_of (λ j r. IsFieldRow (after (From plain (AtTables 4 80)) (Element j)) r) (hp_field ∷ name_field ∷ []) (onward IsFieldRow field_within plain (AtTables 4 80) (AtTable 4 112) (Element 0) hp_field refl hp_row, (onward IsFieldRow field_within plain (AtTables 4 80) (AtTable 4 172) (Element 1) name_field refl name_row, tt)) }
+
+monster_row : IsObjectRow (From plain (AtTable 5 60)) monster_object
+unfolding computing
+monster_row = record {
+  name = (_, (_, refl, refl), refl);
+  fields = onward (AreRows IsFieldRow) (rows_within IsFieldRow field_within) plain (AtTable 5 60) (AtTables 4 80) (ToField 1) monster_object.fields refl monster_fields;
+  is_struct = (_, (_, refl, refl), refl);
+  minalign = (_, (_, refl, refl), refl);
+  bytesize = (_, (_, refl, refl), refl);
+}
+
+plain_objects : AreRows IsObjectRow (From plain (AtTables 5 44)) (monster_object ∷ [])
+unfolding computing
+plain_objects = record { count = (_, refl, refl); each = each_of (λ j r. IsObjectRow (after (From plain (AtTables 5 44)) (Element j)) r) (monster_object ∷ []) (onward IsObjectRow object_within plain (AtTables 5 44) (AtTable 5 60) (Element 0) monster_object refl monster_row, tt) }
+
+plain_enums : AreRows IsEnumRow (From plain (AtTables 3 40)) []
+unfolding computing
+plain_enums = record { count = (_, refl, refl); each = each_of (λ j r. IsEnumRow (after (From plain (AtTables 3 40)) (Element j)) r) [] tt }
+
+pub plain_described : Describes (told plain) plain_rows
+unfolding computing
+plain_described = record {
+  objects = onward (AreRows IsObjectRow) (rows_within IsObjectRow object_within) plain (AtTable 9 24) (AtTables 5 44) (ToField 0) plain_rows.objects refl plain_objects;
+  enums = onward (AreRows IsEnumRow) (rows_within IsEnumRow enum_within) plain (AtTable 9 24) (AtTables 3 40) (ToField 1) plain_rows.enums refl plain_enums;
+}
+
+-- The detailed file.
+
+old_type : IsTypeRow (From detailed (AtTable 0 216)) old_field.ty
+unfolding computing
+old_type = record { base = (_, (_, refl, refl), refl); element = (_, (_, refl, refl), refl); index = (_, (_, refl, refl), refl); fixed_length = (_, (_, refl, refl), refl) }
+
+far_type : IsTypeRow (From detailed (AtTable 0 296)) far_field.ty
+unfolding computing
+far_type = record { base = (_, (_, refl, refl), refl); element = (_, (_, refl, refl), refl); index = (_, (_, refl, refl), refl); fixed_length = (_, (_, refl, refl), refl) }
+
+member_type : IsTypeRow (From detailed (AtTable 0 432)) one_member.ty
+unfolding computing
+member_type = record { base = (_, (_, refl, refl), refl); element = (_, (_, refl, refl), refl); index = (_, (_, refl, refl), refl); fixed_length = (_, (_, refl, refl), refl) }
+
+old_row : IsFieldRow (From detailed (AtTable 4 160)) old_field
+unfolding computing
+old_row = record {
+  name = (_, (_, refl, refl), refl);
+  ty = onward IsTypeRow type_within detailed (AtTable 4 160) (AtTable 0 216) (ToField 1) old_field.ty refl old_type;
+  slot = (_, (_, refl, refl), refl);
+  default = (_, (_, refl, refl), refl);
+  deprecated = (_, (_, refl, refl), refl);
+  required = (_, (_, refl, refl), refl);
+  optional = (_, (_, refl, refl), refl);
+  offset64 = (_, (_, refl, refl), refl);
+}
+
+far_row : IsFieldRow (From detailed (AtTable 4 260)) far_field
+unfolding computing
+far_row = record {
+  name = (_, (_, refl, refl), refl);
+  ty = onward IsTypeRow type_within detailed (AtTable 4 260) (AtTable 0 296) (ToField 1) far_field.ty refl far_type;
+  slot = (_, (_, refl, refl), refl);
+  default = (_, (_, refl, refl), refl);
+  deprecated = (_, (_, refl, refl), refl);
+  required = (_, (_, refl, refl), refl);
+  optional = (_, (_, refl, refl), refl);
+  offset64 = (_, (_, refl, refl), refl);
+}
+
+struct_fields : AreRows IsFieldRow (From detailed (AtTables 4 116)) (old_field ∷ far_field ∷ [])
+unfolding computing
+struct_fields = record { count = (_, refl, refl); each = each_of (λ j r. IsFieldRow (after (From detailed (AtTables 4 116)) (Element j)) r) (old_field ∷ far_field ∷ []) (onward IsFieldRow field_within detailed (AtTables 4 116) (AtTable 4 160) (Element 0) old_field refl old_row, (onward IsFieldRow field_within detailed (AtTables 4 116) (AtTable 4 260) (Element 1) far_field refl far_row, tt)) }
+
+struct_row : IsObjectRow (From detailed (AtTable 5 84)) struct_object
+unfolding computing
+struct_row = record {
+  name = (_, (_, refl, refl), refl);
+  fields = onward (AreRows IsFieldRow) (rows_within IsFieldRow field_within) detailed (AtTable 5 84) (AtTables 4 116) (ToField 1) struct_object.fields refl struct_fields;
+  is_struct = (_, (_, refl, refl), refl);
+  minalign = (_, (_, refl, refl), refl);
+  bytesize = (_, (_, refl, refl), refl);
+}
+
+detailed_objects : AreRows IsObjectRow (From detailed (AtTables 5 36)) (struct_object ∷ [])
+unfolding computing
+detailed_objects = record { count = (_, refl, refl); each = each_of (λ j r. IsObjectRow (after (From detailed (AtTables 5 36)) (Element j)) r) (struct_object ∷ []) (onward IsObjectRow object_within detailed (AtTables 5 36) (AtTable 5 84) (Element 0) struct_object refl struct_row, tt) }
+
+no_member_row : IsMemberRow (From detailed (AtTable 2 360)) no_member
+unfolding computing
+no_member_row = record { name = (_, (_, refl, refl), refl); value = (_, (_, refl, refl), refl); ty = inr ((_, (_, refl, refl), refl), refl) }
+
+one_member_row : IsMemberRow (From detailed (AtTable 2 392)) one_member
+unfolding computing
+one_member_row = record {
+  name = (_, (_, refl, refl), refl);
+  value = (_, (_, refl, refl), refl);
+  ty = inl ((_, (_, refl, refl), refl), onward IsTypeRow type_within detailed (AtTable 2 392) (AtTable 0 432) (ToField 3) one_member.ty refl member_type);
+}
+
+union_members : AreRows IsMemberRow (From detailed (AtTables 2 340)) (no_member ∷ one_member ∷ [])
+unfolding computing
+union_members = record { count = (_, refl, refl); each = each_of (λ j r. IsMemberRow (after (From detailed (AtTables 2 340)) (Element j)) r) (no_member ∷ one_member ∷ []) (onward IsMemberRow member_within detailed (AtTables 2 340) (AtTable 2 360) (Element 0) no_member refl no_member_row, (onward IsMemberRow member_within detailed (AtTables 2 340) (AtTable 2 392) (Element 1) one_member refl one_member_row, tt)) }
+
+enum_members : AreRows IsMemberRow (From detailed (AtTables 2 472)) []
+unfolding computing
+enum_members = record { count = (_, refl, refl); each = each_of (λ j r. IsMemberRow (after (From detailed (AtTables 2 472)) (Element j)) r) [] tt }
+
+union_enum : IsEnumRow (From detailed (AtTable 3 316)) a_union
+unfolding computing
+union_enum = record {
+  name = (_, (_, refl, refl), refl);
+  members = onward (AreRows IsMemberRow) (rows_within IsMemberRow member_within) detailed (AtTable 3 316) (AtTables 2 340) (ToField 1) a_union.members refl union_members;
+  is_union = (_, (_, refl, refl), refl);
+}
+
+plain_enum : IsEnumRow (From detailed (AtTable 3 452)) an_enum
+unfolding computing
+plain_enum = record {
+  name = (_, (_, refl, refl), refl);
+  members = onward (AreRows IsMemberRow) (rows_within IsMemberRow member_within) detailed (AtTable 3 452) (AtTables 2 472) (ToField 1) an_enum.members refl enum_members;
+  is_union = (_, (_, refl, refl), refl);
+}
+
+detailed_enums : AreRows IsEnumRow (From detailed (AtTables 3 44)) (a_union ∷ an_enum ∷ [])
+unfolding computing
+detailed_enums = record { count = (_, refl, refl); each = each_of (λ j r. IsEnumRow (after (From detailed (AtTables 3 44)) (Element j)) r) (a_union ∷ an_enum ∷ []) (onward IsEnumRow enum_within detailed (AtTables 3 44) (AtTable 3 316) (Element 0) a_union refl union_enum, (onward IsEnumRow enum_within detailed (AtTables 3 44) (AtTable 3 452) (Element 1) an_enum refl plain_enum, tt)) }
+
+pub detailed_described : Describes (told detailed) detailed_rows
+unfolding computing
+detailed_described = record {
+  objects = onward (AreRows IsObjectRow) (rows_within IsObjectRow object_within) detailed (AtTable 9 20) (AtTables 5 36) (ToField 0) detailed_rows.objects refl detailed_objects;
+  enums = onward (AreRows IsEnumRow) (rows_within IsEnumRow enum_within) detailed (AtTable 9 20) (AtTables 3 44) (ToField 1) detailed_rows.enums refl detailed_enums;
+}
+
+pub detailed_file : DetailedFile
+unfolding computing
+detailed_file = record { rows = detailed_described; root = (_, (_, refl, refl), refl); ident = (_, (_, refl, refl), refl) }

@@ -1,0 +1,50 @@
+//! Examples of the definitions: each is a clause of a function that does nothing.
+
+ghost use Rattle.fb_schema.specs.Examples.{StructHeads, ObjectNames, StructFieldNames, StructFieldTypes, StructFieldObjects, StructFieldEnds, Slots, TableFieldTypes, TableFieldObjects, TypeFields, MemberValues, MemberTypes, Firsts};
+ghost use Rattle.fb_schema.specs.LookUps.{ScalarFields, KindFields, UnionMembers};
+
+/// Objects that are legal, and others that aren't.
+#[tactic(auto, using(crate::proofs::Shown::struct_heads, crate::proofs::Shown::object_names))]
+pub fn objects()
+    ensures bytes_and_alignments { StructHeads }
+    ensures names { ObjectNames }
+{}
+
+/// Fields of structs.
+#[tactic(auto, using(crate::proofs::Shown::struct_field_names, crate::proofs::Shown::struct_field_types, crate::proofs::Shown::struct_field_objects, crate::proofs::Shown::struct_field_ends))]
+pub fn fields_of_structs()
+    ensures names { StructFieldNames }
+    ensures types { StructFieldTypes }
+    ensures objects { StructFieldObjects }
+    ensures ends { StructFieldEnds }
+{}
+
+/// Fields of tables.
+#[tactic(auto, using(crate::proofs::Shown::slots, crate::proofs::Shown::table_field_types, crate::proofs::Shown::table_field_objects, crate::proofs::Shown::type_fields))]
+pub fn fields_of_tables()
+    ensures names_and_slots { Slots }
+    ensures types { TableFieldTypes }
+    ensures objects_and_unions { TableFieldObjects }
+    ensures type_fields { TypeFields }
+{}
+
+/// Members of unions.
+#[tactic(auto, using(crate::proofs::Shown::member_values, crate::proofs::Shown::member_types))]
+pub fn members()
+    ensures values { MemberValues }
+    ensures names_and_types { MemberTypes }
+{}
+
+/// Rows that break two demands, in two places: the first of both.
+#[tactic(auto, using(crate::proofs::Shown::firsts))]
+pub fn order()
+    ensures { Firsts }
+{}
+
+/// What is looked up in rows: live fields, and members.
+#[tactic(auto, using(crate::proofs::Shown::scalar_fields, crate::proofs::Shown::kind_fields, crate::proofs::Shown::union_members))]
+pub fn look_ups()
+    ensures scalars { ScalarFields }
+    ensures kinds { KindFields }
+    ensures members { UnionMembers }
+{}

@@ -1,0 +1,236 @@
+-- What is false where a buffer stops, by the reason of the fault and its position, said without an order of tests.
+use Rattle.std.specs.Prelude.{◌≡◌, ◌≢◌, ℕ, suc, ◌+◌, ◌*◌, ◌%◌, ◌<◌, ◌≤◌, ◌⊎◌, IsTrue, IsFalse, List, length, slice_get, Option, Some, None}
+use Rattle.fb_bytes.specs.Word.{word}
+use Rattle.fb_schema.specs.declared.kinds.Kind.{Kind}
+use Rattle.fb_schema.specs.declared.kinds.Kind.TheVariants.{Scalar, Text, Struct, Table, Union, Scalars, Texts, Structs, Tables, Unions}
+use Rattle.fb_schema.specs.Rows.{Rows}
+use Rattle.fb_schema.specs.Live.{Live, live_fields}
+use Rattle.fb_verify.specs.declared.checks.Checks.{Checks}
+use Rattle.fb_verify.specs.declared.start.Start.{Start}
+use Rattle.fb_verify.specs.declared.start.Start.TheVariants.{Prefixed}
+use Rattle.fb_verify.specs.declared.start.Ident.{Ident}
+use Rattle.fb_verify.specs.declared.start.Ident.TheVariants.{Want}
+use Rattle.fb_verify.specs.declared.fault.Fault.{Fault}
+use Rattle.fb_verify.specs.declared.fault.Reason.{Reason}
+use Rattle.fb_verify.specs.declared.fault.Reason.TheVariants.{WrongPrefix, OutOfBuffer, Misaligned, ZeroOffset, WrongIdentifier, TooDeep, TooManyTables, BadVtable, MissingRequired, NoTerminator, LengthsDiffer, PastTable, TooManyReads}
+use Rattle.fb_verify.specs.Bounds.{Bounds, AreTooMany}
+use Rattle.fb_verify.specs.Places.{target, has_vtable, vtable, vtable_size, inline_size, field_place}
+use Rattle.fb_verify.specs.Facts.{IsTable, IsOffset}
+use Rattle.fb_verify.specs.Fields.{IsField, type_place, type_count, Lead, to_table, to_struct, to_string, to_nothing, Entry, entries}
+use Rattle.fb_verify.specs.Tree.{kids_size, elements_size}
+use Rattle.fb_verify.specs.WellFormed.{base, IsStart}
+use Rattle.fb_verify.specs.Way.{way_to_root}
+use Rattle.fb_verify.specs.Stops.{Trail, at_head, at_field, FieldTrail, at_own, at_element, ElementTrail, at_lead, through, IsTrail, Stops}
+
+-- The parts of a buffer: what is false of each, by the reason and the position that are told.
+
+-- n bytes at p are in the buffer, or not
+abbrev pub AreIn : List ℕ → ℕ → ℕ → Type 0
+AreIn b p n = p + n ≤ length b
+
+abbrev pub AreOut : List ℕ → ℕ → ℕ → Type 0
+AreOut b p n = length b < p + n
+
+-- alignment is checked, and p is no multiple of it
+abbrev pub IsMisaligned : Checks → ℕ → ℕ → Type 0
+IsMisaligned c p align = IsTrue c.alignment × (p % align ≢ 0)
+
+-- of a prefix
+abbrev pub PrefixIsFalse : List ℕ → Start → Reason → ℕ → Type 0
+PrefixIsFalse b Prefixed OutOfBuffer at = (at ≡ 0) × AreOut b 0 4
+PrefixIsFalse b Prefixed WrongPrefix at = (at ≡ 0) × AreIn b 0 4 × (word b 0 4 + 4 ≢ length b)
+PrefixIsFalse b _ _ at = ⊥
+
+-- of the identifier at p
+abbrev pub IdentIsFalse : List ℕ → ℕ → Ident → Reason → ℕ → Type 0
+IdentIsFalse b p (Want name) OutOfBuffer at = (at ≡ p) × AreOut b p 4
+IdentIsFalse b p (Want name) WrongIdentifier at = (at ≡ p) × AreIn b p 4 × (word b p 4 ≢ word name 0 4)
+IdentIsFalse b p _ _ at = ⊥
+
+-- of an offset word at p
+abbrev pub OffsetIsFalse : Checks → List ℕ → ℕ → Reason → ℕ → Type 0
+OffsetIsFalse c b p OutOfBuffer at = (at ≡ p) × AreOut b p 4
+OffsetIsFalse c b p Misaligned at = (at ≡ p) × AreIn b p 4 × IsMisaligned c p 4
+OffsetIsFalse c b p ZeroOffset at = (at ≡ p) × AreIn b p 4 × (word b p 4 ≡ 0)
+OffsetIsFalse c b p _ at = ⊥
+
+-- of the head of a table at t, whose vtable is out of the buffer, where this is told at the table, or doesn't end in it
+abbrev pub HeadIsFalse : Checks → List ℕ → ℕ → Reason → ℕ → Type 0
+HeadIsFalse c b t OutOfBuffer at =
+    ((at ≡ t) × AreOut b t 4)
+    ⊎ (((at ≡ t) × AreIn b t 4 × (IsFalse (has_vtable b t) ⊎ AreOut b (vtable b t) 2)) ⊎ ((at ≡ vtable b t) × AreOut b (vtable b t) (vtable_size b t)))
+HeadIsFalse c b t Misaligned at = ((at ≡ t) × AreIn b t 4 × IsMisaligned c t 4) ⊎ ((at ≡ vtable b t) × AreIn b (vtable b t) 2 × IsMisaligned c (vtable b t) 2)
+HeadIsFalse c b t BadVtable at = (at ≡ vtable b t) × AreIn b (vtable b t) 2 × ((vtable_size b t % 2 ≢ 0) ⊎ (vtable_size b t < 4))
+HeadIsFalse c b t _ at = ⊥
+
+-- of a string at s: its count, or its bytes with the terminator
+abbrev pub StringIsFalse : Checks → List ℕ → ℕ → Reason → ℕ → Type 0
+StringIsFalse c b s OutOfBuffer at = ((at ≡ s) × AreOut b s 4) ⊎ ((at ≡ s + 4) × AreOut b (s + 4) (word b s 4 + 1))
+StringIsFalse c b s Misaligned at = (at ≡ s) × AreIn b s 4 × IsMisaligned c s 4
+StringIsFalse c b s NoTerminator at = (at ≡ s + 4 + word b s 4) × AreIn b (s + 4) (word b s 4 + 1) × (word b (s + 4 + word b s 4) 1 ≢ 0)
+StringIsFalse c b s _ at = ⊥
+
+-- of a vector at v of elements of this size and alignment: its count, or its elements
+abbrev pub VectorIsFalse : Checks → List ℕ → ℕ → ℕ → ℕ → Reason → ℕ → Type 0
+VectorIsFalse c b v size align OutOfBuffer at = ((at ≡ v) × AreOut b v 4) ⊎ ((at ≡ v + 4) × AreOut b (v + 4) (word b v 4 * size))
+VectorIsFalse c b v size align Misaligned at =
+    ((at ≡ v) × AreIn b v 4 × IsMisaligned c v 4) ⊎ ((at ≡ v + 4) × AreIn b (v + 4) (word b v 4 * size) × (0 < word b v 4) × IsMisaligned c (v + 4) align)
+VectorIsFalse c b v size align _ at = ⊥
+
+-- of a scalar or struct at p
+abbrev pub InlineIsFalse : Checks → List ℕ → ℕ → ℕ → ℕ → Reason → ℕ → Type 0
+InlineIsFalse c b p size align OutOfBuffer at = (at ≡ p) × AreOut b p size
+InlineIsFalse c b p size align Misaligned at = (at ≡ p) × AreIn b p size × IsMisaligned c p align
+InlineIsFalse c b p size align _ at = ⊥
+
+-- n bytes at p don't end within the table at t, and inline sizes are checked
+abbrev pub PastIsFalse : Checks → List ℕ → ℕ → ℕ → ℕ → Reason → ℕ → Type 0
+PastIsFalse c b t p n PastTable at = (at ≡ p) × IsTrue c.inline_size × (t + inline_size b t < p + n)
+PastIsFalse c b t p n _ at = ⊥
+
+-- Fields by themselves, and elements.
+
+-- of a scalar or struct field at p
+abbrev pub InlineFieldIsFalse : Checks → List ℕ → ℕ → ℕ → ℕ → ℕ → Reason → ℕ → Type 0
+InlineFieldIsFalse c b t p size align reason at = PastIsFalse c b t p size reason at ⊎ InlineIsFalse c b p size align reason at
+
+-- of a field at p that holds an offset word to a vector
+abbrev pub VectorFieldIsFalse : Checks → List ℕ → ℕ → ℕ → ℕ → ℕ → Reason → ℕ → Type 0
+VectorFieldIsFalse c b t p size align reason at =
+    PastIsFalse c b t p 4 reason at ⊎ (OffsetIsFalse c b p reason at ⊎ (IsOffset c b p × VectorIsFalse c b (target b p) size align reason at))
+
+-- of the count of a vector of unions, whose types' field is at this place
+abbrev pub CountIsFalse : List ℕ → ℕ → Option ℕ → Reason → ℕ → Type 0
+CountIsFalse b p types LengthsDiffer at = (at ≡ target b p) × (word b (target b p) 4 ≢ type_count b types)
+CountIsFalse b p types _ at = ⊥
+
+-- of a field at p of this kind
+abbrev pub PresentIsFalse : Checks → List ℕ → ℕ → Live → ℕ → Kind → Reason → ℕ → Type 0
+PresentIsFalse c b t g p (Scalar s) reason at = InlineFieldIsFalse c b t p g.size g.align reason at
+PresentIsFalse c b t g p (Struct k) reason at = InlineFieldIsFalse c b t p g.size g.align reason at
+PresentIsFalse c b t g p Text reason at = PastIsFalse c b t p 4 reason at
+PresentIsFalse c b t g p (Table k) reason at = PastIsFalse c b t p 4 reason at
+PresentIsFalse c b t g p (Union e) reason at = PastIsFalse c b t p 4 reason at
+PresentIsFalse c b t g p (Scalars s) reason at = VectorFieldIsFalse c b t p g.size g.align reason at
+PresentIsFalse c b t g p (Structs k) reason at = VectorFieldIsFalse c b t p g.size g.align reason at
+PresentIsFalse c b t g p Texts reason at = VectorFieldIsFalse c b t p 4 4 reason at
+PresentIsFalse c b t g p (Tables k) reason at = VectorFieldIsFalse c b t p 4 4 reason at
+PresentIsFalse c b t g p (Unions e) reason at = VectorFieldIsFalse c b t p 4 4 reason at ⊎ CountIsFalse b p (type_place b t g.slot) reason at
+
+-- of a field that is absent from the table at t
+abbrev pub AbsentIsFalse : ℕ → Live → Reason → ℕ → Type 0
+AbsentIsFalse t g MissingRequired at = (at ≡ t) × IsTrue g.required
+AbsentIsFalse t g _ at = ⊥
+
+-- of a field with this place, if it has one
+abbrev pub PlacedIsFalse : Checks → List ℕ → ℕ → Live → Option ℕ → Reason → ℕ → Type 0
+PlacedIsFalse c b t g None reason at = AbsentIsFalse t g reason at
+PlacedIsFalse c b t g (Some p) reason at = PresentIsFalse c b t g p g.kind reason at
+
+-- of an offset word at p, or of what it leads to, but for a table
+abbrev pub LeadIsFalse : Checks → List ℕ → ℕ → Lead → Reason → ℕ → Type 0
+LeadIsFalse c b p (to_table k) reason at = OffsetIsFalse c b p reason at
+LeadIsFalse c b p (to_struct size align) reason at = OffsetIsFalse c b p reason at ⊎ (IsOffset c b p × InlineIsFalse c b (target b p) size align reason at)
+LeadIsFalse c b p to_string reason at = OffsetIsFalse c b p reason at ⊎ (IsOffset c b p × StringIsFalse c b (target b p) reason at)
+LeadIsFalse c b p to_nothing reason at = ⊥
+
+-- Where it is false.
+
+-- the reads that the fault tells are more than the budget, which is told at p
+pub record IsOverBudget (L : Bounds) (p : ℕ) (f : Fault) : Type 0 where
+  pub reason : f.reason ≡ TooManyReads
+  pub at : f.at ≡ p
+  pub reads : AreTooMany L.reads f.reads
+
+-- the table at t, of the object k, leads on to the table at u, of the object j
+pub record LeadsOn (c : Checks) (b : List ℕ) (S : Rows) (k t j u : ℕ) : Type 0 where
+  pub head : IsTable c b t
+  pub field : Live
+  pub place : ℕ
+  pub is_live : slice_get (live_fields S k) place ≡ Some field
+  pub own : IsField c b S t field
+  pub entry : Entry
+  pub entry_place : ℕ
+  pub is_entry : slice_get (entries b S t field) entry_place ≡ Some entry
+  pub lead : entry.lead ≡ to_table j
+  pub offset : IsOffset c b entry.place
+  pub is_target : u ≡ target b entry.place
+
+-- The tables to which a buffer leads from the table at `begin`, of the object `root`: each with the number of tables above it.
+pub data IsReached (c : Checks) (b : List ℕ) (S : Rows) (root begin : ℕ) : ℕ → ℕ → ℕ → Type 0 where
+  as_root : IsReached c b S root begin root begin 0
+  from_above : (k t above j u : ℕ) → IsReached c b S root begin k t above → LeadsOn c b S k t j u → IsReached c b S root begin j u (suc above)
+
+-- at the start
+pub record FailsAtStart (c : Checks) (b : List ℕ) (root : ℕ) (start : Start) (ident : Ident) (L : Bounds) (f : Fault) : Type 0 where
+  pub object : f.object ≡ root
+  pub field : f.field ≡ None
+  pub because : PrefixIsFalse b start f.reason f.at ⊎ (IdentIsFalse b (base start + 4) ident f.reason f.at ⊎ (OffsetIsFalse c b (base start) f.reason f.at ⊎ IsOverBudget L (base start) f))
+
+-- before the head of the table at t, with so many tables above it: as many are open, or were opened, as is allowed
+abbrev pub LimitIsReached : Bounds → ℕ → ℕ → Reason → ℕ → Type 0
+LimitIsReached L t above TooDeep at = (at ≡ t) × (L.depth ≤ above)
+LimitIsReached L t above TooManyTables at = at ≡ t
+LimitIsReached L t above _ at = ⊥
+
+-- in the head of the table at t, of the object k
+pub record FailsInHead (c : Checks) (b : List ℕ) (k t : ℕ) (L : Bounds) (f : Fault) : Type 0 where
+  pub object : f.object ≡ k
+  pub field : f.field ≡ None
+  pub because : HeadIsFalse c b t f.reason f.at ⊎ IsOverBudget L t f
+
+-- in a field of that table by itself
+pub record FailsInField (c : Checks) (b : List ℕ) (S : Rows) (k t : ℕ) (L : Bounds) (f : Fault) : Type 0 where
+  pub head : IsTable c b t
+  pub at_fault : Live
+  pub place : ℕ
+  pub is_live : slice_get (live_fields S k) place ≡ Some at_fault
+  pub object : f.object ≡ k
+  pub field : f.field ≡ Some at_fault.number
+  pub because : PlacedIsFalse c b t at_fault (field_place b t at_fault.slot) f.reason f.at ⊎ IsOverBudget L t f
+
+-- in an element of a field of that table
+pub record FailsInElement (c : Checks) (b : List ℕ) (S : Rows) (k t : ℕ) (L : Bounds) (f : Fault) : Type 0 where
+  pub head : IsTable c b t
+  pub at_fault : Live
+  pub place : ℕ
+  pub is_live : slice_get (live_fields S k) place ≡ Some at_fault
+  pub own : IsField c b S t at_fault
+  pub entry : Entry
+  pub entry_place : ℕ
+  pub is_entry : slice_get (entries b S t at_fault) entry_place ≡ Some entry
+  pub object : f.object ≡ k
+  pub field : f.field ≡ Some at_fault.number
+  pub because : LeadIsFalse c b entry.place entry.lead f.reason f.at ⊎ IsOverBudget L entry.place f
+
+-- at a table that is reached: before or in its head, in a field, or in an element of one
+pub record FailsAtTable (c : Checks) (b : List ℕ) (S : Rows) (root begin : ℕ) (L : Bounds) (f : Fault) : Type 0 where
+  pub object_reached : ℕ
+  pub table : ℕ
+  pub above : ℕ
+  pub reached : IsReached c b S root begin object_reached table above
+  pub because : LimitIsReached L table above f.reason f.at ⊎ (FailsInHead c b object_reached table L f ⊎ (FailsInField c b S object_reached table L f ⊎ FailsInElement c b S object_reached table L f))
+
+-- where a buffer stops, the reason is true: at the start, or past it at a table that is reached
+abbrev pub StopsTruly : Type 0
+StopsTruly =
+    (c : Checks) (b : List ℕ) (S : Rows) (root : ℕ) (start : Start) (ident : Ident) (L : Bounds) (f : Fault) → Stops c b S root start ident L f → FailsAtStart c b root start ident L f ⊎ (IsStart c b start ident × FailsAtTable c b S root (target b (base start)) L f)
+
+-- how many tables a trail opens: those that are open at its end, and the nodes of all trees that it passes
+unfoldable mutual
+  pub opened_on : Trail → ℕ
+  opened_on at_head = 0
+  opened_on (at_field earlier s) = 1 + kids_size earlier + opened_on_field s
+
+  pub opened_on_field : FieldTrail → ℕ
+  opened_on_field at_own = 0
+  opened_on_field (at_element before s) = elements_size before + opened_on_element s
+
+  pub opened_on_element : ElementTrail → ℕ
+  opened_on_element at_lead = 0
+  opened_on_element (through s) = opened_on s
+
+-- where a trail stops since too many tables were opened, it opens as many as are allowed
+abbrev pub TablesRunOut : Type 0
+TablesRunOut =
+    (c : Checks) (b : List ℕ) (S : Rows) (root : ℕ) (start : Start) (ident : Ident) (L : Bounds) (s : Trail) (f : Fault) → IsTrail s c b S L root (target b (base start)) (way_to_root root start ident) f → f.reason ≡ TooManyTables → L.tables ≤ opened_on s
