@@ -188,6 +188,16 @@ def memory(cases):
     sane = compiled(cases, "loads_sane", TOP / "tests/c/loads.c", *SANITIZED, *STATIC)
     status, _, err = ran(sane, whole, bare, 2_000)
     cases.same("and none under the sanitizers leaks", (status, err), (0, ""))
+    refuse = FOLDER / "refuse_c.so"
+    made = ran("cc", "-O1", "-shared", "-fPIC", TOP / "tests/memory/refuse.c", "-o", refuse)
+    cases.same("refuse.c compiles", made, (0, "", ""))
+    starved = compiled(cases, "starved", TOP / "tests/c/starved.c", *SHARED)
+    statuses = []
+    while statuses[-1:] != [0] and len(statuses) < 1000:
+        told = ran(starved, whole, bare, LD_PRELOAD=str(refuse), REFUSE_FIRST=str(len(statuses) + 1))
+        statuses.append(told[0])
+    cases.same("each request of a load that is refused", statuses, [11] * (len(statuses) - 1) + [0])
+    cases.holds("of which there are some", len(statuses) > 10, len(statuses))
 
 
 def nulls(cases):
