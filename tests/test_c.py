@@ -24,6 +24,9 @@ STRICT = ["-Wall", "-Wextra", "-Wpedantic", "-Werror", "-I", TOP / "include"]
 SANITIZED = ["-g", "-fsanitize=address,undefined", "-fno-sanitize-recover=all"]
 SHARED = [OUT / "libfbcheck.so", f"-Wl,-rpath,{OUT}"]
 STATIC = [OUT / "libfbcheck.a"]
+
+# How C++ is compiled, where there is a compiler for it.
+CPP = {"compiler": "c++", "standard": "-std=c++11"} if shutil.which("c++") else None
 ORDERS = TOP / "examples/deliveries.bfbs"
 ALL = schema(bent.OBJECTS, [bent.UNION], root="All")
 
@@ -103,11 +106,11 @@ def the_header(cases):
     source = file_of("numbers.c", NUMBERS.replace("@LINES@", "\n".join(lines)).encode())
     offsets = [f"{name} {field} {getattr(of, field).offset}" for name, of in fields.items() for field, _ in of._fields_]
     want = ["options 64 64", "verdict 40 40", "handle 8 8", "init 0", *map(" ".join, constants), *offsets]
-    as_cpp = file_of("numbers.cpp", source.read_bytes())
-    for name, made in {
-        "C99": compiled(cases, "numbers_c", source, *STATIC, standard="-std=c99"),
-        "C++11": compiled(cases, "numbers_cpp", as_cpp, *STATIC, compiler="c++", standard="-std=c++11"),
-    }.items():
+    programs = {"C99": compiled(cases, "numbers_c", source, *STATIC, standard="-std=c99")}
+    if CPP:
+        as_cpp = file_of("numbers.cpp", source.read_bytes())
+        programs["C++11"] = compiled(cases, "numbers_cpp", as_cpp, *STATIC, **CPP)
+    for name, made in programs.items():
         status, out, _ = ran(made)
         cases.same(f"{name}: numbers, sizes and places", (status, out.splitlines()), (0, want))
     cases.same("sizes of the structs of Python", [ctypes.sizeof(of) for of in fields.values()], [64, 40, 8])
@@ -325,8 +328,8 @@ def examples(cases):
     if shutil.which("pkg-config"):
         words = ran("pkg-config", "--cflags", "--libs", "fbcheck", PKG_CONFIG_PATH=str(OUT))[1].split()
     check = compiled(cases, "check_c", TOP / "examples/c/check.c", *words, *SHARED[1:])
-    check_cpp = compiled(cases, "check_cpp", TOP / "examples/c/check.cpp", *words, *SHARED[1:], compiler="c++",
-                         standard="-std=c++11")
+    if CPP:
+        check_cpp = compiled(cases, "check_cpp", TOP / "examples/c/check.cpp", *words, *SHARED[1:], **CPP)
     compiled(cases, "check_sane", TOP / "examples/c/check.c", *SANITIZED, *STATIC)
     python = module()
     with python.Verifier(ORDERS.read_bytes()) as verifier:
@@ -368,7 +371,7 @@ def examples(cases):
         for program in (check, FOLDER / "check_sane"):
             status, out, err = ran(program, *words)
             cases.same(f"{name}, {program.name}", (status, out.strip(), bool(err)), (wanted, line, wanted == 2))
-        if name != "no buffer":
+        if CPP and name != "no buffer":
             status, out, err = ran(check_cpp, *words)
             shown = without_names(line.encode()).decode()
             told = (status, shown.startswith(out.strip()), bool(err))
