@@ -14,6 +14,9 @@ uint32_t fbcheck_verify_proved(fbcheck_handle *handle, const fbcheck_options *op
                                size_t length, fbcheck_verdict *verdict);
 uint32_t fbcheck_most_reads_proved(fbcheck_handle *handle, const fbcheck_options *options, uint64_t length,
                                    uint64_t *reads);
+size_t fbcheck_reason_name_proved(uint32_t reason, uint8_t *text, size_t room);
+size_t fbcheck_object_name_proved(fbcheck_handle *handle, uint32_t object, uint8_t *text, size_t room);
+size_t fbcheck_field_name_proved(fbcheck_handle *handle, uint32_t object, uint32_t field, uint8_t *text, size_t room);
 void fbcheck_free_proved(fbcheck_handle *handle);
 
 static const fbcheck_options published = FBCHECK_OPTIONS_INIT;
@@ -60,6 +63,30 @@ uint32_t fbcheck_most_reads(fbcheck_handle *handle, const fbcheck_options *optio
     if (handle == NULL || reads == NULL)
         return FBCHECK_NULL;
     return fbcheck_most_reads_proved(handle, options != NULL ? options : &published, length, reads);
+}
+
+size_t fbcheck_reason_name(uint32_t reason, char *text, size_t room)
+{
+    uint8_t none[1];
+    if (text == NULL && room != 0)
+        return 0;
+    return fbcheck_reason_name_proved(reason, text != NULL ? (uint8_t *)text : none, room);
+}
+
+size_t fbcheck_object_name(fbcheck_handle *handle, uint32_t object, char *text, size_t room)
+{
+    uint8_t none[1];
+    if (handle == NULL || (text == NULL && room != 0))
+        return 0;
+    return fbcheck_object_name_proved(handle, object, text != NULL ? (uint8_t *)text : none, room);
+}
+
+size_t fbcheck_field_name(fbcheck_handle *handle, uint32_t object, uint32_t field, char *text, size_t room)
+{
+    uint8_t none[1];
+    if (handle == NULL || (text == NULL && room != 0))
+        return 0;
+    return fbcheck_field_name_proved(handle, object, field, text != NULL ? (uint8_t *)text : none, room);
 }
 
 void fbcheck_free(fbcheck_handle *handle)

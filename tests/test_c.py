@@ -24,6 +24,9 @@ STRICT = ["-Wall", "-Wextra", "-Wpedantic", "-Werror", "-I", TOP / "include"]
 SANITIZED = ["-g", "-fsanitize=address,undefined", "-fno-sanitize-recover=all"]
 SHARED = [OUT / "libfbcheck.so", f"-Wl,-rpath,{OUT}"]
 STATIC = [OUT / "libfbcheck.a"]
+
+# How C++ is compiled, where there is a compiler for it.
+CPP = {"compiler": "c++", "standard": "-std=c++11"} if shutil.which("c++") else None
 ORDERS = TOP / "examples/deliveries.bfbs"
 ALL = schema(bent.OBJECTS, [bent.UNION], root="All")
 
@@ -59,7 +62,7 @@ def module():
 def what_is_built(cases):
     status, out, err = ran(TOP / "build_c", seconds=3600)
     cases.same("./build_c builds", (status, out), (0, ""))
-    calls = sorted(re.findall(r"^(?:uint32_t|void) (fbcheck_\w+)\(", HEADER, re.M))
+    calls = sorted(re.findall(r"^(?:uint32_t|size_t|void) (fbcheck_\w+)\(", HEADER, re.M))
     for library, words in [("libfbcheck.a", ["-g"]), ("libfbcheck.so.1", ["-D"])]:
         _, symbols, _ = ran("nm", *words, "--defined-only", OUT / library)
         found = sorted(line.split()[2] for line in symbols.splitlines() if len(line.split()) == 3)
@@ -103,11 +106,11 @@ def the_header(cases):
     source = file_of("numbers.c", NUMBERS.replace("@LINES@", "\n".join(lines)).encode())
     offsets = [f"{name} {field} {getattr(of, field).offset}" for name, of in fields.items() for field, _ in of._fields_]
     want = ["options 64 64", "verdict 40 40", "handle 8 8", "init 0", *map(" ".join, constants), *offsets]
-    as_cpp = file_of("numbers.cpp", source.read_bytes())
-    for name, made in {
-        "C99": compiled(cases, "numbers_c", source, *STATIC, standard="-std=c99"),
-        "C++11": compiled(cases, "numbers_cpp", as_cpp, *STATIC, compiler="c++", standard="-std=c++11"),
-    }.items():
+    programs = {"C99": compiled(cases, "numbers_c", source, *STATIC, standard="-std=c99")}
+    if CPP:
+        as_cpp = file_of("numbers.cpp", source.read_bytes())
+        programs["C++11"] = compiled(cases, "numbers_cpp", as_cpp, *STATIC, **CPP)
+    for name, made in programs.items():
         status, out, _ = ran(made)
         cases.same(f"{name}: numbers, sizes and places", (status, out.splitlines()), (0, want))
     cases.same("sizes of the structs of Python", [ctypes.sizeof(of) for of in fields.values()], [64, 40, 8])
@@ -188,6 +191,16 @@ def memory(cases):
     sane = compiled(cases, "loads_sane", TOP / "tests/c/loads.c", *SANITIZED, *STATIC)
     status, _, err = ran(sane, whole, bare, 2_000)
     cases.same("and none under the sanitizers leaks", (status, err), (0, ""))
+    refuse = FOLDER / "refuse_c.so"
+    made = ran("cc", "-O1", "-shared", "-fPIC", TOP / "tests/memory/refuse.c", "-o", refuse)
+    cases.same("refuse.c compiles", made, (0, "", ""))
+    starved = compiled(cases, "starved", TOP / "tests/c/starved.c", *SHARED)
+    statuses = []
+    while statuses[-1:] != [0] and len(statuses) < 1000:
+        told = ran(starved, whole, bare, LD_PRELOAD=str(refuse), REFUSE_FIRST=str(len(statuses) + 1))
+        statuses.append(told[0])
+    cases.same("each request of a load that is refused", statuses, [11] * (len(statuses) - 1) + [0])
+    cases.holds("of which there are some", len(statuses) > 10, len(statuses))
 
 
 def nulls(cases):
@@ -240,6 +253,34 @@ def nulls(cases):
     cases.same("and is null", handle.session, None)
 
 
+def names(cases):
+    """Names by their numbers, as the schema and the reference have them."""
+    python = module()
+    page = (TOP / "docs/REFERENCE.md").read_text()
+    reasons = re.findall(r"V\d+ [A-Z]\w+", page.split("## Reasons")[1].split("\n## ")[0])
+    rows = [table.split() for table in ["A v", "W", "R u_type u", "Q us_type us"]]
+    with python.Verifier(schemas.X) as verifier:
+        cases.same("reasons", [verifier.reason_name(n) for n in range(15)], [None, *reasons, None])
+        for number, (table, *fields) in enumerate(rows):
+            cases.same(f"object {number}", verifier.object_name(number), table)
+            told = [verifier.field_name(number, n) for n in range(len(fields) + 1)]
+            cases.same(f"fields of {table}", told, [*fields, None])
+        numbers = (4, 65536, 2**32 - 1)
+        cases.same("no such object", [verifier.object_name(n) for n in numbers], [None] * 3)
+        cases.same("no such table", [verifier.field_name(n, 0) for n in numbers], [None] * 3)
+        cases.same("no such field", [verifier.field_name(2, n) for n in numbers], [None] * 3)
+        calls, handle, text = verifier._calls, verifier._handle, ctypes.create_string_buffer(b"?" * 8, 8)
+        cases.same("too little room", (calls.fbcheck_field_name(handle, 3, 0, text, 6), text.raw), (7, b"?" * 8))
+        cases.same("just enough", (calls.fbcheck_field_name(handle, 3, 0, text, 7), text.raw), (7, b"us_type?"))
+        cases.same("no room", (calls.fbcheck_field_name(handle, 3, 0, None, 9), calls.fbcheck_reason_name(1, None, 9),
+                               calls.fbcheck_object_name(handle, 0, None, 9)), (0, 0, 0))
+        cases.same("no handle", (calls.fbcheck_object_name(None, 0, text, 8),
+                                 calls.fbcheck_field_name(None, 0, 0, text, 8)), (0, 0))
+        verifier.close()
+        cases.same("of a handle that holds nothing", (verifier.object_name(0), verifier.field_name(0, 0)), (None, None))
+        cases.same("a reason has its name still", verifier.reason_name(13), "V13 TooManyReads")
+
+
 def loads(cases):
     """Why a schema file gives no schema, as the program tells it."""
     python = module()
@@ -287,8 +328,8 @@ def examples(cases):
     if shutil.which("pkg-config"):
         words = ran("pkg-config", "--cflags", "--libs", "fbcheck", PKG_CONFIG_PATH=str(OUT))[1].split()
     check = compiled(cases, "check_c", TOP / "examples/c/check.c", *words, *SHARED[1:])
-    check_cpp = compiled(cases, "check_cpp", TOP / "examples/c/check.cpp", *words, *SHARED[1:], compiler="c++",
-                         standard="-std=c++11")
+    if CPP:
+        check_cpp = compiled(cases, "check_cpp", TOP / "examples/c/check.cpp", *words, *SHARED[1:], **CPP)
     compiled(cases, "check_sane", TOP / "examples/c/check.c", *SANITIZED, *STATIC)
     python = module()
     with python.Verifier(ORDERS.read_bytes()) as verifier:
@@ -320,18 +361,20 @@ def examples(cases):
     small, orc, torn = file_of("M.bfbs", schemas.M), file_of("orc", ORC), file_of("torn", ORC[:-1])
     for name, words, wanted, line in [
         ("good", [small, orc], 0, "ok tables=1 depth=1 reads=8"), ("with its root", [small, orc, "M"], 0, None),
-        ("torn", [small, torn], 1, None), ("no such table", [small, orc, "N"], 2, ""),
+        ("torn", [small, torn], 1, "bad V2 OutOfBuffer at=28 object=0 field=1 reads=7\nin M.name"),
+        ("no such table", [small, orc, "N"], 2, ""),
         ("no schema", [orc, orc], 2, ""), ("no buffer", [small, FOLDER / "nowhere"], 2, ""), ("no words", [], 2, ""),
     ]:
         if line is None:
             told = run("--bare", "--schema", small, given=words[1].read_bytes())
-            line = without_names(told.out).decode().removeprefix("1 ").strip()
+            line = told.out.decode().removeprefix("1 ").strip()
         for program in (check, FOLDER / "check_sane"):
             status, out, err = ran(program, *words)
             cases.same(f"{name}, {program.name}", (status, out.strip(), bool(err)), (wanted, line, wanted == 2))
-        if name != "no buffer":
+        if CPP and name != "no buffer":
             status, out, err = ran(check_cpp, *words)
-            told = (status, line.startswith(out.strip()), bool(err))
+            shown = without_names(line.encode()).decode()
+            told = (status, shown.startswith(out.strip()), bool(err))
             cases.same(f"{name}, check_cpp", told, (wanted, True, wanted == 2))
 
 
@@ -352,5 +395,6 @@ def text_of_the_reference(cases):
 
 if __name__ == "__main__":
     outside.main(
-        what_is_built, the_header, verdicts, under_valgrind, memory, nulls, loads, examples, text_of_the_reference,
+        what_is_built, the_header, verdicts, under_valgrind, memory, nulls, names, loads, examples,
+        text_of_the_reference,
     )

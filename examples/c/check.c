@@ -36,13 +36,16 @@ static uint8_t *bytes_of(const char *path, size_t *length)
     return bytes;
 }
 
-/* Tells a verdict as the program fbcheck does. */
-static void tell(const fbcheck_verdict *verdict)
+/* Tells a verdict as the program fbcheck does, and by name where the fault is. */
+static void tell(fbcheck_handle *handle, const fbcheck_verdict *verdict)
 {
+    char reason[20], table[256], field[256];
+    size_t lengths[3];
     if (verdict->status == FBCHECK_OK) {
         printf("ok tables=%" PRIu32 " depth=%" PRIu32, verdict->tables, verdict->depth);
     } else {
-        printf("bad V%" PRIu32 " at=%" PRIu64 " object=%" PRIu32 " field=", verdict->reason, verdict->at,
+        lengths[0] = fbcheck_reason_name(verdict->reason, reason, sizeof reason);
+        printf("bad %.*s at=%" PRIu64 " object=%" PRIu32 " field=", (int)lengths[0], reason, verdict->at,
                verdict->object);
         if (verdict->field == FBCHECK_NONE)
             printf("-");
@@ -50,6 +53,10 @@ static void tell(const fbcheck_verdict *verdict)
             printf("%" PRIu32, verdict->field);
     }
     printf(" reads=%" PRIu64 "\n", verdict->reads);
+    lengths[1] = fbcheck_object_name(handle, verdict->object, table, sizeof table);
+    lengths[2] = fbcheck_field_name(handle, verdict->object, verdict->field, field, sizeof field);
+    if (verdict->status == FBCHECK_BAD && lengths[1] <= sizeof table && lengths[2] <= sizeof field)
+        printf("in %.*s.%.*s\n", (int)lengths[1], table, (int)lengths[2], field);
 }
 
 /* Checks the buffer of a file by the schema that the handle holds. */
@@ -68,7 +75,7 @@ static int check(fbcheck_handle *handle, const char *path)
         fprintf(stderr, "check: nothing was checked: %" PRIu32 "\n", verdict.status);
         return 2;
     }
-    tell(&verdict);
+    tell(handle, &verdict);
     return (int)verdict.status;
 }
 

@@ -5,8 +5,8 @@
         verdict = verifier.verify(message)
         if verdict.ok: ...
 
-libfbcheck.so.1 is looked for where the variable FBCHECK_LIBRARY says, and else where the system looks. A Verifier belongs
-to the thread that made it.
+libfbcheck.so.1 is looked for where the variable FBCHECK_LIBRARY says, and else where the system looks. A Verifier
+belongs to the thread that made it.
 """
 
 import ctypes
@@ -72,7 +72,7 @@ class Options(ctypes.Structure):
     def __init__(self, ident: bytes | None = None, **words):
         super().__init__(version=VERSION, max_depth=64, max_reads=1_000_000_000, max_tables=1_000_000)
         for name, value in words.items():
-            if name not in ("version", "max_depth", "max_reads", "max_tables", "prefixed", "no_alignment", "inline_size"):
+            if name not in dict(self._fields_) or name in ("ident", "has_ident", "reserved"):
                 raise TypeError(f"no option {name}")
             setattr(self, name, value)
         if ident is not None:
@@ -138,9 +138,25 @@ def _library():
     }.items():
         getattr(found, name).argtypes = words
         getattr(found, name).restype = ctypes.c_uint32
+    number, text, room = ctypes.c_uint32, ctypes.c_char_p, ctypes.c_size_t
+    for name, words in {
+        "fbcheck_reason_name": [number, text, room],
+        "fbcheck_object_name": [handle, number, text, room],
+        "fbcheck_field_name": [handle, number, number, text, room],
+    }.items():
+        getattr(found, name).argtypes = words
+        getattr(found, name).restype = ctypes.c_size_t
     found.fbcheck_free.argtypes = [handle]
     found.fbcheck_free.restype = None
     return found
+
+
+def _name(call, *words) -> str | None:
+    """The name that a call tells."""
+    length = call(*words, None, 0)
+    text = ctypes.create_string_buffer(length)
+    call(*words, text, length)
+    return text.raw.decode() if length else None
 
 
 class Verifier:
@@ -178,6 +194,18 @@ class Verifier:
         if status != Status.OK:
             raise Error(Verdict(status, 0, 0, None, 0, 0, 0, 0))
         return reads.value
+
+    def reason_name(self, reason: int) -> str | None:
+        """The code and name of a reason, as "V10 NoTerminator"."""
+        return _name(self._calls.fbcheck_reason_name, reason)
+
+    def object_name(self, number: int) -> str | None:
+        """The name of an object by its number."""
+        return _name(self._calls.fbcheck_object_name, self._handle, number)
+
+    def field_name(self, table: int, number: int) -> str | None:
+        """The name of a field by its number and that of its table."""
+        return _name(self._calls.fbcheck_field_name, self._handle, table, number)
 
     def close(self):
         """Frees the schema."""

@@ -3,5 +3,6 @@ pub mod Asked
 pub mod Told
 pub mod Answered
 pub mod AnswerLaws
+pub mod Names
 -- What a handle owns.
 pub mod Held

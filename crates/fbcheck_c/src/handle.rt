@@ -3,10 +3,12 @@
 ghost use Rattle.std.specs.Prelude.{◌≡◌, None, Option, Some, option_map};
 ghost use Rattle.std.specs.Ptr.{null_ptr};
 ghost use Rattle.fbcheck_c.specs.Answered.{IfHeld, IsChecked, IsChosenIn, IsPricedIn, IsTaken};
+ghost use Rattle.fbcheck_c.specs.Names.{IsNameTold, field_name, held_name, object_name};
 ghost use Rattle.fbcheck_c.specs.declared.session.Session.{Session};
 
 use crate::answer::Answer;
 use crate::detached::Detached;
+use crate::names::{field_name, object_name, told};
 use crate::options::Options;
 use crate::session::Session;
 use fb_bfbs::LoadFault;
@@ -172,6 +174,32 @@ impl Handle {
         let most = session.most_reads(options, length);
         self.put(session);
         most
+    }
+
+    /// Copies the name of the object with this number. Its length, 0 where there is none.
+    pub fn object_name(&mut self, alloc: Global, object: u32, room: &mut [u8]) -> usize
+        ensures name { IsNameTold (held_name self.old.session (λ rows. object_name rows object)) room.old room.new result }
+        ensures kept { self.new.session ≡ self.old.session }
+    {
+        let Some(session) = self.take(alloc) else {
+            return 0;
+        };
+        let name = object_name(&session.loaded.schema, object);
+        self.put(session);
+        told(name, room)
+    }
+
+    /// Copies the name of the live field with this number, of the table with that one. Its length, 0 where there is none.
+    pub fn field_name(&mut self, alloc: Global, object: u32, number: u32, room: &mut [u8]) -> usize
+        ensures name { IsNameTold (held_name self.old.session (λ rows. field_name rows object number)) room.old room.new result }
+        ensures kept { self.new.session ≡ self.old.session }
+    {
+        let Some(session) = self.take(alloc) else {
+            return 0;
+        };
+        let name = field_name(&session.loaded.schema, object, number);
+        self.put(session);
+        told(name, room)
     }
 
     /// Frees what is held, and leaves nothing.

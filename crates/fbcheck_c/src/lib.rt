@@ -4,9 +4,10 @@
 //! null, and then calls these, whose names end in `_proved`.
 #![tactic(auto)]
 
-ghost use Rattle.std.specs.Prelude.{◌≡◌, None};
+ghost use Rattle.std.specs.Prelude.{◌≡◌, ℕ, List, None, Option};
 ghost use Rattle.fbcheck_c.specs.Answered.{IfHeld, IsChecked, IsChosenIn, IsPriceTold, IsTaken};
 ghost use Rattle.fbcheck_c.specs.Asked.{published};
+ghost use Rattle.fbcheck_c.specs.Names.{IsNameTold, IsReasonName, field_name, held_name, object_name};
 ghost use Rattle.fbcheck_c.specs.Told.{told};
 ghost use Rattle.fbcheck_c.specs.declared.answer.Answer.{Answer};
 
@@ -14,11 +15,13 @@ mod answer;
 mod detached;
 mod handle;
 mod laws;
+mod names;
 mod options;
 mod session;
 
 use answer::Verdict;
 use handle::Handle;
+use names::reason_told;
 use options::Options;
 use std::alloc::Global;
 
@@ -130,4 +133,41 @@ pub extern "C" fn fbcheck_free_proved(alloc: Global, handle: &mut Handle)
     ensures { handle.new.session ≡ None }
 {
     handle.free(alloc);
+}
+
+/// Copies the code and name of a reason by its number.
+#[unsafe(no_mangle)]
+pub extern "C" fn fbcheck_reason_name_proved(number: u32, room: &mut [u8]) -> usize
+    ensures { (name : Option (List ℕ)) × IsReasonName number name × IsNameTold name room.old room.new result }
+{
+    reason_told(number, room)
+}
+
+/// Copies the name of an object by its number.
+#[unsafe(no_mangle)]
+pub extern "C" fn fbcheck_object_name_proved(
+    alloc: Global,
+    handle: &mut Handle,
+    object: u32,
+    room: &mut [u8],
+) -> usize
+    ensures name { IsNameTold (held_name handle.old.session (λ rows. object_name rows object)) room.old room.new result }
+    ensures kept { handle.new.session ≡ handle.old.session }
+{
+    handle.object_name(alloc, object, room)
+}
+
+/// Copies the name of a live field by its number and that of its table.
+#[unsafe(no_mangle)]
+pub extern "C" fn fbcheck_field_name_proved(
+    alloc: Global,
+    handle: &mut Handle,
+    object: u32,
+    number: u32,
+    room: &mut [u8],
+) -> usize
+    ensures name { IsNameTold (held_name handle.old.session (λ rows. field_name rows object number)) room.old room.new result }
+    ensures kept { handle.new.session ≡ handle.old.session }
+{
+    handle.field_name(alloc, object, number, room)
 }

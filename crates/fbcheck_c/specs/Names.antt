@@ -1,0 +1,37 @@
+-- Names by their numbers, and how they are copied.
+use Rattle.std.specs.Prelude.{◌≡◌, ℕ, ◌==◌, nat_le, List, ◌++◌, drop, find, length, slice_get, Option, Some, None, option_and_then, option_map, if◌then◌else◌}
+use Rattle.fb_schema.specs.Live.{live_fields}
+use Rattle.fb_schema.specs.Rows.{Rows, is_table}
+use Rattle.fb_verify.specs.Reasons.{reason_text}
+use Rattle.fb_verify.specs.declared.fault.Reason.{Reason}
+use Rattle.fbcheck_c.specs.declared.session.Session.{Session}
+use Rattle.fbcheck_c.specs.Told.{reason_number}
+
+-- no reason has this number
+abbrev pub NumbersNothing : ℕ → Type 0
+NumbersNothing n = (r : Reason) → reason_number r ≡ n → ⊥
+
+abbrev pub object_name : Rows → ℕ → Option (List ℕ)
+object_name rows n = option_map (λ o. o.name) (slice_get rows.objects n)
+
+-- the name of a live field of a table, by its number
+abbrev pub field_name : Rows → ℕ → ℕ → Option (List ℕ)
+field_name rows n number = if is_table rows n then option_map (λ f. f.name) (find (λ f. f.number == number) (live_fields rows n)) else None
+
+-- room after a text was copied to its front, or as it was where the text has more bytes
+abbrev pub filled : List ℕ → List ℕ → List ℕ
+filled text room = if nat_le (length text) (length room) then text ++ drop (length text) room else room
+
+-- what is told of a name: its length, and it is copied where there is room; or 0, and nothing is
+abbrev pub IsNameTold : Option (List ℕ) → List ℕ → List ℕ → ℕ → Type 0
+IsNameTold (Some name) room room' told = (told ≡ length name) × (room' ≡ filled name room)
+IsNameTold None room room' told = (told ≡ 0) × (room' ≡ room)
+
+-- a name by what a handle holds, none where it holds nothing
+abbrev pub held_name : Option Session → (Rows → Option (List ℕ)) → Option (List ℕ)
+held_name held name = option_and_then (λ s. name s.loaded.schema) held
+
+-- the name of the reason with this number, or that there is none
+abbrev pub IsReasonName : ℕ → Option (List ℕ) → Type 0
+IsReasonName n (Some text) = (r : Reason) × (reason_number r ≡ n) × (text ≡ reason_text r)
+IsReasonName n None = NumbersNothing n

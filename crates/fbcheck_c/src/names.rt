@@ -1,0 +1,89 @@
+//! Names by their numbers, copied into room that a caller gives.
+
+ghost use Rattle.std.specs.Prelude.{◌≡◌, ℕ, List, MatchOption, Option, length, option_map};
+ghost use Rattle.fbcheck_c.specs.Names.{IsNameTold, IsReasonName, NumbersNothing, field_name, filled, object_name};
+ghost use Rattle.fbcheck_c.specs.Told.{reason_number};
+
+use fb_schema::Schema;
+use fb_verify::Reason;
+
+/// The reason of this number.
+pub fn reason_of(number: u32) -> Option<Reason>
+    ensures { MatchOption result (NumbersNothing number) (λ r. reason_number r ≡ number) }
+{
+    match number {
+        1 => Some(Reason::WrongPrefix),
+        2 => Some(Reason::OutOfBuffer),
+        3 => Some(Reason::Misaligned),
+        4 => Some(Reason::ZeroOffset),
+        5 => Some(Reason::WrongIdentifier),
+        6 => Some(Reason::TooDeep),
+        7 => Some(Reason::TooManyTables),
+        8 => Some(Reason::BadVtable),
+        9 => Some(Reason::MissingRequired),
+        10 => Some(Reason::NoTerminator),
+        11 => Some(Reason::LengthsDiffer),
+        12 => Some(Reason::PastTable),
+        13 => Some(Reason::TooManyReads),
+        _ => None,
+    }
+}
+
+/// The name of the object with this number.
+#[tactic(auto, using(crate::proofs::NameLemmas::named_by_view, std::proofs::lemmas::Option::slice_get_past))]
+pub fn object_name<'n>(schema: &Schema<'n>, object: u32) -> Option<&'n [u8]>
+    ensures { option_map (λ s. s.now) result ≡ object_name schema.now object }
+{
+    if object < schema.object_count() {
+        Some(schema.object(object).name)
+    } else {
+        None
+    }
+}
+
+/// The name of the live field with this number, of the table with that one.
+pub fn field_name<'n>(schema: &Schema<'n>, object: u32, number: u32) -> Option<&'n [u8]>
+    ensures { option_map (λ s. s.now) result ≡ field_name schema.now object number }
+{
+    if !schema.is_table(object) {
+        return None;
+    }
+    for field in schema.fields_of(object) {
+        if u32::from(field.number) == number {
+            return Some(field.name);
+        }
+    }
+    None
+}
+
+/// Copies a text where there is room for all of it, and tells its length whether or not there is.
+fn copied(text: &[u8], room: &mut [u8]) -> usize
+    ensures length { result ≡ length text.now }
+    ensures room { room.new ≡ filled text.now room.old }
+{
+    let n = text.len();
+    if n <= room.len() {
+        room[..n].copy_from_slice(text);
+    }
+    n
+}
+
+/// Copies a name, if there is one. Its length, 0 for none.
+pub fn told(name: Option<&[u8]>, room: &mut [u8]) -> usize
+    ensures { IsNameTold (option_map (λ s. s.now) name.entry) room.old room.new result }
+{
+    match name {
+        Some(name) => copied(name, room),
+        None => 0,
+    }
+}
+
+/// Copies the code and name of the reason with this number, if there is one. Their length, 0 for none.
+pub fn reason_told(number: u32, room: &mut [u8]) -> usize
+    ensures { (name : Option (List ℕ)) × IsReasonName number name × IsNameTold name room.old room.new result }
+{
+    match reason_of(number) {
+        Some(reason) => copied(reason.text().as_bytes(), room),
+        None => 0,
+    }
+}
