@@ -6,9 +6,7 @@ use crate::options::Options;
 use crate::output::Tally;
 use crate::reading::{MOST_TURNS, PIECE};
 use crate::run::run_within;
-use crate::tests::{
-    SEVEN, Slow, TWO_LINES as PLAIN_LINES, schema_n, stream_options, twice,
-};
+use crate::tests::{SEVEN, Slow, TWO_LINES as PLAIN_LINES, schema_n, stream_options, twice};
 use case_text::rows::schema_of;
 use fb_access::Path;
 use fb_bytes::{Counted, Source, StreamFault};

@@ -186,7 +186,14 @@ fn a_required_field_may_not_be_absent(rt: HostRuntime) -> Result<(), Fail> {
     let empty = spelled(alloc, "EMPTY")?;
     let mut reader = Counted::new(empty.as_slice());
     let mut writer = Counted::new(Vec::new(alloc));
-    let answer = run_within(alloc, &mut reader, &mut writer, &schema, &options, MOST_TURNS);
+    let answer = run_within(
+        alloc,
+        &mut reader,
+        &mut writer,
+        &schema,
+        &options,
+        MOST_TURNS,
+    );
     assert_eq!(rt; answer, Ok(Tally { yes: 0, no: 1 }));
     assert_eq!(rt;
         writer.get_ref().as_slice(),
@@ -222,7 +229,14 @@ fn run_twice(
                 return Err(Fail::from("table"));
             }
             let options = stream_options(64);
-            run_within(alloc, &mut reader, &mut writer, &schema, &options, MOST_TURNS)
+            run_within(
+                alloc,
+                &mut reader,
+                &mut writer,
+                &schema,
+                &options,
+                MOST_TURNS,
+            )
         }
         By::File => {
             let file = spelled(alloc, "N")?;

@@ -165,7 +165,8 @@ impl<'q, 'r, 'n, 'b> FileReader<'q, 'r, 'n, 'b> {
             rows.objects.push(root.element(0, number).object(alloc)?)?;
         }
         for number in 0..root.count(1) {
-            rows.enums.push(root.element(1, number).row_of_enum(alloc)?)?;
+            rows.enums
+                .push(root.element(1, number).row_of_enum(alloc)?)?;
         }
         Ok(rows)
     }

@@ -7,10 +7,7 @@ use std::alloc::Global;
 use std::test::Fail;
 
 /// What `build` answers of copies of these rows.
-pub fn built<'n>(
-    alloc: Global,
-    rows: &Rows<'n>,
-) -> Result<Result<Schema<'n>, SchemaFault>, Fail> {
+pub fn built<'n>(alloc: Global, rows: &Rows<'n>) -> Result<Result<Schema<'n>, SchemaFault>, Fail> {
     let mut copies = Rows {
         objects: Vec::new(alloc),
         enums: Vec::new(alloc),

@@ -245,6 +245,13 @@ const UNIONS_ALLOW: &str = "\
 #[test]
 fn what_is_here_allows_its_own_steps_alone(rt: HostRuntime) -> Result<(), Fail> {
     let schema = schema_of(rt.alloc(), TABLES_WITH_UNIONS)?;
-    all_answered(&rt, rt.alloc(), "PICKED", &schema, bare(2), ONE_MEMBER_ALLOWS)?;
+    all_answered(
+        &rt,
+        rt.alloc(),
+        "PICKED",
+        &schema,
+        bare(2),
+        ONE_MEMBER_ALLOWS,
+    )?;
     all_answered(&rt, rt.alloc(), "HI", &schema, bare(3), UNIONS_ALLOW)
 }

@@ -102,7 +102,8 @@ fn a_scalar_stands_at_a_multiple_of_its_size(rt: HostRuntime) -> Result<(), Fail
 }
 
 /// Alignments, with places where a struct is asked: in a field, and as the value of a union.
-const PLACES: &str = "1@29 1@30 2@29 2@30 4@30 4@28 8@28 8@32 16@40 16@32 128@64 128@128 256@128 256@256";
+const PLACES: &str =
+    "1@29 1@30 2@29 2@30 4@30 4@28 8@28 8@32 16@40 16@32 128@64 128@128 256@128 256@256";
 
 /// Alignments, with places where the first struct of a vector is asked.
 const FIRST_ELEMENTS: &str = "1@24 2@24 4@24 8@28 8@24 16@24 16@32 128@64 128@128 256@128 256@256";
@@ -124,7 +125,13 @@ fn boxes(alloc: Global, alignment: u32) -> Result<String, AllocError> {
 }
 
 /// What is answered of a struct at a place, whose field is this one, after so many reads.
-fn judged(alloc: Global, alignment: u32, at: u32, field: &str, reads: u32) -> Result<String, AllocError> {
+fn judged(
+    alloc: Global,
+    alignment: u32,
+    at: u32,
+    field: &str,
+    reads: u32,
+) -> Result<String, AllocError> {
     if at.checked_rem(alignment) == Some(0) {
         format!(in alloc; "yes 1 1 {reads}")
     } else {

@@ -103,13 +103,7 @@ fn values_of_vectors(rt: HostRuntime) -> Result<(), Fail> {
         l [0] | LONGS    | Int(1)\n\
     ";
     read(&rt, rt.alloc(), LONG_LISTS, "anywhere", cases)?;
-    read(
-        &rt,
-        rt.alloc(),
-        LISTS,
-        "",
-        "b [1] | TWICE | Text(\"hi\")",
-    )
+    read(&rt, rt.alloc(), LISTS, "", "b [1] | TWICE | Text(\"hi\")")
 }
 
 #[test]
