@@ -22,3 +22,4 @@ pub mod NameLemmas
 pub mod MemberNames
 pub mod KindLemmas
 pub mod TypedLemmas
+pub mod Kinded

@@ -3,9 +3,9 @@ use Rattle.std.specs.Prelude.{◌≡◌, ℕ, ◌+◌, ◌<◌, ◌≤◌, List,
 use Rattle.fb_schema.specs.declared.kinds.Kind.{Kind}
 use Rattle.fb_schema.specs.declared.kinds.Kind.TheVariants.{Scalar, Text, Struct, Table, Union, Scalars, Texts, Structs, Tables, Unions}
 use Rattle.fb_schema.specs.declared.kinds.Scalar.TheVariants.{UType}
-use Rattle.fb_schema.specs.Rows.{Rows, is_table, is_union}
-use Rattle.fb_schema.specs.Kinds.{struct_align}
-use Rattle.fb_schema.specs.Live.{Live, live_fields}
+use Rattle.fb_schema.specs.Rows.{Rows, Field, Object, is_table, is_union}
+use Rattle.fb_schema.specs.Kinds.{kind_of, struct_align}
+use Rattle.fb_schema.specs.Live.{Live, live_fields, live_rows, field_kind}
 use Rattle.fb_schema.specs.Members.{member_of}
 
 -- what a field's kind names is there, and what stands in place has an alignment
@@ -50,3 +50,7 @@ pub record IsServed (rows : Rows) : Type 0 where
   pub typed : (k i : ℕ) (f : Live) → slice_get (live_fields rows k) i ≡ Some f → IsTyped (live_fields rows k) i f.slot f.kind
   pub rising : (k i j : ℕ) (f g : Live) → slice_get (live_fields rows k) i ≡ Some f → slice_get (live_fields rows k) j ≡ Some g → i < j → f.slot < g.slot
   pub members : (e value : ℕ) → MemberHolds rows (member_of rows e value)
+
+-- each live field has a kind: that of its type, and never the one that stands where a type has none
+pub record HaveKinds (rows : Rows) : Type 0 where
+  pub at : (k i : ℕ) (o : Object) (f : Field) → slice_get rows.objects k ≡ Some o → slice_get (live_rows o) i ≡ Some f → kind_of rows f.ty ≡ Some (field_kind rows f)

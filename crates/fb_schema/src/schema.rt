@@ -8,7 +8,7 @@ ghost use Rattle.fb_schema.specs.Heads.{head_of, head_of_view};
 ghost use Rattle.fb_schema.specs.Live.{live_fields, live_of_view, field_named, required_end, widest};
 ghost use Rattle.fb_schema.specs.Members.{member_of, member_named};
 ghost use Rattle.fb_schema.specs.Demands.{IsLegal, Refuses};
-ghost use Rattle.fb_schema.specs.Served.{IsServed};
+ghost use Rattle.fb_schema.specs.Served.{IsServed, HaveKinds};
 
 use crate::fault::SchemaFault;
 use crate::index::{LiveIndex, MemberIndex};
@@ -76,11 +76,12 @@ impl<'n, A: Allocator + Copy> Schema<'n, A> {
         })
     }
 
-    /// The rows of a schema are legal, and serve a reader of buffers: what kinds name is there, and a union's type field stands
-    /// before it. The call does nothing: its contract is what it is for.
+    /// The rows of a schema are legal, and serve a reader of buffers: each live field has a kind, what kinds name is there, and a
+    /// union's type field stands before it. The call does nothing: its contract is what it is for.
     pub fn lawful(&self)
         ensures legal { IsLegal self.now }
         ensures served { IsServed self.now }
+        ensures kinds { HaveKinds self.now }
     {
         let _objects = &self.objects;
     }

@@ -22,7 +22,7 @@ use Rattle.fb_verify.specs.WellFormed.{base, start_reads}
 use Rattle.fb_verify.specs.Order.{Failure, check, ◌▷◌, start_failure, head_failure, own_failure, element_failure}
 use Rattle.fb_verify.specs.Way.{Way, way_to_start, way_to_root, way_to_field, way_to_element, way_to_table}
 use Rattle.fb_verify.specs.Stops.{in_start, in_head, fault_of, budget_failure, reads_failure, lead_reads_failure, fault_at, IsFalseAt, Trail, at_head, at_field, FieldTrail, at_own, at_element, ElementTrail, at_lead, through, IsTrail, IsFieldTrail, IsElementTrail}
-use Rattle.fb_verify.specs.TrueReasons.{PrefixIsFalse, IdentIsFalse, OffsetIsFalse, HeadIsFalse, PlacedIsFalse, LeadIsFalse, IsOverBudget, LeadsOn, IsReached, as_root, from_above, FailsAtStart, LimitIsReached, FailsAtTable, StopsTruly, PresentIsFalse, opened_on, opened_on_field, opened_on_element, TablesRunOut}
+use Rattle.fb_verify.specs.TrueReasons.{FailsAtLimit, PrefixIsFalse, IdentIsFalse, OffsetIsFalse, HeadIsFalse, PlacedIsFalse, LeadIsFalse, IsOverBudget, LeadsOn, IsReached, as_root, from_above, FailsAtStart, LimitIsReached, FailsAtTable, StopsTruly, PresentIsFalse, opened_on, opened_on_field, opened_on_element, TablesRunOut}
 use Rattle.fb_verify.proofs.Budgets.{are_too_many}
 use Rattle.fb_verify.proofs.TrueReasons.{some_same, by_check, by_last, start_false, head_false, own_false, element_false}
 
@@ -81,23 +81,27 @@ module _ (L : Bounds) (w : Way) where
   first_fault None y f h = inr h
   first_fault (Some e) y f h = inl h
 
-  pub limit_fault : (t : ℕ) (f : Fault) → fault_of w (budget_failure L w t) ≡ Some f → LimitIsReached L t w.links f.reason f.at
-  limit_fault t f h = let r = failure_of w (budget_failure L w t) f h in subst (λ (g : Fault). LimitIsReached L t w.links g.reason g.at) r.2 (limit_told t r.0 r.1)
+  pub limit_fault : (t : ℕ) (f : Fault) → fault_of w (budget_failure L w t) ≡ Some f → FailsAtLimit t w.links w.object w.field L f
+  limit_fault t f h =
+      let r = failure_of w (budget_failure L w t) f h in
+      subst (FailsAtLimit t w.links w.object w.field L) r.2 (record { object_is = refl; field_is = refl; because = limit_told t r.0 r.1 })
 
 module _ (c : Checks) (b : List ℕ) (S : Rows) (L : Bounds) where
   -- Along a trail.
   module _ (root begin : ℕ) where
-    head_fails : (k t above : ℕ) (w : Way) (f : Fault) → IsReached c b S root begin k t above → w.links ≡ above → IsFalseAt c b S L (in_head k t) w f → FailsAtTable c b S root begin L f
+    head_fails : (k t above object : ℕ) (field : Option ℕ) (w : Way) (f : Fault) → IsReached c b S root begin k t above object field → w.object ≡ object → w.field ≡ field → w.links ≡ above → IsFalseAt c b S L (in_head k t) w f → FailsAtTable c b S root begin L f
     unfolding fault_at
-    head_fails k t above w f reached links h =
+    head_fails k t above object field w f reached object_is field_is links h =
         let v : Way = record w { object = k; field = None } in
         record {
-          object_reached = k;
+          object = k;
           table = t;
           above = above;
+          leading_object = object;
+          leading_field = field;
           reached = reached;
           because = elim (first_fault L w (budget_failure L w t) (fault_of v (head_failure c b t ▷ reads_failure L v.paid (head_reads c) t)) f h.first) [
-            | inl i ↦ inl (subst (λ n. LimitIsReached L t n f.reason f.at) links (limit_fault L w t f i))
+            | inl i ↦ (let r = limit_fault L w t f i in inl (record { object_is = r.object_is ∙ object_is; field_is = r.field_is ∙ field_is; because = subst (λ n. LimitIsReached L t n f.reason f.at) links r.because }))
             | inr i ↦ (let r = place_fault L v (HeadIsFalse c b t) (head_failure c b t) (head_reads c) t f (head_false c b t) i in inr (inl (record { object = r.0; field = r.1; because = r.2 })))
           ];
         }
@@ -105,32 +109,36 @@ module _ (c : Checks) (b : List ℕ) (S : Rows) (L : Bounds) where
     mutual
       unfolding IsTrail IsFieldTrail IsElementTrail fault_at
 
-      trail_fails : (s : Trail) (k t above : ℕ) (w : Way) (f : Fault) → IsReached c b S root begin k t above → w.links ≡ above → IsTrail s c b S L k t w f → FailsAtTable c b S root begin L f
-      trail_fails at_head k t above w f reached links h = head_fails k t above w f reached links h
-      trail_fails (at_field earlier s) k t above w f reached links h =
-          field_fails s k t above (kids_length earlier) h.0 (way_to_field c b S k t earlier h.0 w) f reached h.1.head h.1.next refl refl (omega (arith, links)) h.2
+      trail_fails : (s : Trail) (k t above object : ℕ) (field : Option ℕ) (w : Way) (f : Fault) → IsReached c b S root begin k t above object field → w.object ≡ object → w.field ≡ field → w.links ≡ above → IsTrail s c b S L k t w f → FailsAtTable c b S root begin L f
+      trail_fails at_head k t above object field w f reached object_is field_is links h = head_fails k t above object field w f reached object_is field_is links h
+      trail_fails (at_field earlier s) k t above object field w f reached object_is field_is links h =
+          field_fails s k t above object field (kids_length earlier) h.0 (way_to_field c b S k t earlier h.0 w) f reached h.1.head h.1.next refl refl (omega (arith, links)) h.2
 
-      field_fails : (s : FieldTrail) (k t above i : ℕ) (g : Live) (w : Way) (f : Fault) → IsReached c b S root begin k t above → IsTable c b t → slice_get (live_fields S k) i ≡ Some g → w.object ≡ k → w.field ≡ Some g.number → w.links ≡ suc above → IsFieldTrail s c b S L t g w f → FailsAtTable c b S root begin L f
-      field_fails at_own k t above i g w f reached head live object field links h =
+      field_fails : (s : FieldTrail) (k t above object : ℕ) (field : Option ℕ) (i : ℕ) (g : Live) (w : Way) (f : Fault) → IsReached c b S root begin k t above object field → IsTable c b t → slice_get (live_fields S k) i ≡ Some g → w.object ≡ k → w.field ≡ Some g.number → w.links ≡ suc above → IsFieldTrail s c b S L t g w f → FailsAtTable c b S root begin L f
+      field_fails at_own k t above object field i g w f reached head live object_is field_is links h =
           let r = place_fault L w (PlacedIsFalse c b t g (field_place b t g.slot)) (own_failure c b S t g) (own_reads b t g) t f (own_false c b S t g) h.first in
           record {
-            object_reached = k;
+            object = k;
             table = t;
             above = above;
+            leading_object = object;
+            leading_field = field;
             reached = reached;
-            because = inr (inr (inl (record { head = head; at_fault = g; place = i; is_live = live; object = r.0 ∙ object; field = r.1 ∙ field; because = r.2 })));
+            because = inr (inr (inl (record { head = head; at_fault = g; place = i; is_live = live; object = r.0 ∙ object_is; field = r.1 ∙ field_is; because = r.2 })));
           }
-      field_fails (at_element before s) k t above i g w f reached head live object field links h =
-          element_fails s k t above i (elements_length before) g h.0 (way_to_element c b S t g before w) f reached head live h.1.own h.1.next object field links h.2
+      field_fails (at_element before s) k t above object field i g w f reached head live object_is field_is links h =
+          element_fails s k t above object field i (elements_length before) g h.0 (way_to_element c b S t g before w) f reached head live h.1.own h.1.next object_is field_is links h.2
 
-      element_fails : (s : ElementTrail) (k t above i j : ℕ) (g : Live) (x : Entry) (w : Way) (f : Fault) → IsReached c b S root begin k t above → IsTable c b t → slice_get (live_fields S k) i ≡ Some g → IsField c b S t g → slice_get (entries b S t g) j ≡ Some x
+      element_fails : (s : ElementTrail) (k t above object : ℕ) (field : Option ℕ) (i j : ℕ) (g : Live) (x : Entry) (w : Way) (f : Fault) → IsReached c b S root begin k t above object field → IsTable c b t → slice_get (live_fields S k) i ≡ Some g → IsField c b S t g → slice_get (entries b S t g) j ≡ Some x
           → w.object ≡ k → w.field ≡ Some g.number → w.links ≡ suc above → IsElementTrail s c b S L x w f → FailsAtTable c b S root begin L f
-      element_fails at_lead k t above i j g x w f reached head live own entry object field links h =
+      element_fails at_lead k t above object field i j g x w f reached head live own entry object_is field_is links h =
           let r = lead_fault L w (LeadIsFalse c b x.place x.lead) x x.lead (element_failure c b x) f (element_false c b x) h.first in
           record {
-            object_reached = k;
+            object = k;
             table = t;
             above = above;
+            leading_object = object;
+            leading_field = field;
             reached = reached;
             because = inr (inr (inr (record {
               head = head;
@@ -141,15 +149,15 @@ module _ (c : Checks) (b : List ℕ) (S : Rows) (L : Bounds) where
               entry = x;
               entry_place = j;
               is_entry = entry;
-              object = r.0 ∙ object;
-              field = r.1 ∙ field;
+              object = r.0 ∙ object_is;
+              field = r.1 ∙ field_is;
               because = r.2;
             })));
           }
-      element_fails (through s) k t above i j g x w f reached head live own entry object field links h =
+      element_fails (through s) k t above object field i j g x w f reached head live own entry object_is field_is links h =
           let on : LeadsOn c b S k t h.0 (target b x.place) =
           record { head = head; field = g; place = i; is_live = live; own = own; entry = x; entry_place = j; is_entry = entry; lead = h.1; offset = h.2; is_target = refl } in
-          trail_fails s h.0 (target b x.place) (suc above) (way_to_table x w) f (from_above k t above h.0 (target b x.place) reached on) links h.3
+          trail_fails s h.0 (target b x.place) (suc above) k (Some g.number) (way_to_table x w) f (from_above k t above object field h.0 (target b x.place) reached on) object_is field_is links h.3
 
   start_fails : (root : ℕ) (start : Start) (ident : Ident) (f : Fault) → IsFalseAt c b S L (in_start start ident) (way_to_start root) f → FailsAtStart c b root start ident L f
   unfolding fault_at
@@ -166,7 +174,7 @@ module _ (c : Checks) (b : List ℕ) (S : Rows) (L : Bounds) where
 pub stops_truly : StopsTruly
 stops_truly c b S root start ident L f (inl h) = inl (start_fails c b S L root start ident f h)
 stops_truly c b S root start ident L f (inr h) =
-    inr (h.0, trail_fails c b S L root (target b (base start)) h.1.0 root (target b (base start)) 0 (way_to_root root start ident) f as_root refl h.1.1)
+    inr (h.0, trail_fails c b S L root (target b (base start)) h.1.0 root (target b (base start)) 0 root None (way_to_root root start ident) f as_root refl refl refl h.1.1)
 
 -- The limit of tables.
 

@@ -156,10 +156,11 @@ pub record LeadsOn (c : Checks) (b : List ℕ) (S : Rows) (k t j u : ℕ) : Type
   pub offset : IsOffset c b entry.place
   pub is_target : u ≡ target b entry.place
 
--- The tables to which a buffer leads from the table at `begin`, of the object `root`: each with the number of tables above it.
-pub data IsReached (c : Checks) (b : List ℕ) (S : Rows) (root begin : ℕ) : ℕ → ℕ → ℕ → Type 0 where
-  as_root : IsReached c b S root begin root begin 0
-  from_above : (k t above j u : ℕ) → IsReached c b S root begin k t above → LeadsOn c b S k t j u → IsReached c b S root begin j u (suc above)
+-- The tables to which a buffer leads from the table at `begin`, of the object `root`: each with the number of tables above it, and the object and field
+-- that lead to it, which are the root's and none for that table itself.
+pub data IsReached (c : Checks) (b : List ℕ) (S : Rows) (root begin : ℕ) : ℕ → ℕ → ℕ → ℕ → Option ℕ → Type 0 where
+  as_root : IsReached c b S root begin root begin 0 root None
+  from_above : (k t above object : ℕ) (field : Option ℕ) (j u : ℕ) → IsReached c b S root begin k t above object field → (on : LeadsOn c b S k t j u) → IsReached c b S root begin j u (suc above) k (Some (on.field).number)
 
 -- at the start
 pub record FailsAtStart (c : Checks) (b : List ℕ) (root : ℕ) (start : Start) (ident : Ident) (L : Bounds) (f : Fault) : Type 0 where
@@ -167,11 +168,17 @@ pub record FailsAtStart (c : Checks) (b : List ℕ) (root : ℕ) (start : Start)
   pub field : f.field ≡ None
   pub because : PrefixIsFalse b start f.reason f.at ⊎ (IdentIsFalse b (base start + 4) ident f.reason f.at ⊎ (OffsetIsFalse c b (base start) f.reason f.at ⊎ IsOverBudget L (base start) f))
 
--- before the head of the table at t, with so many tables above it: as many are open, or were opened, as is allowed
+-- with so many tables above the one at t: as many are open, or were opened, as is allowed
 abbrev pub LimitIsReached : Bounds → ℕ → ℕ → Reason → ℕ → Type 0
 LimitIsReached L t above TooDeep at = (at ≡ t) × (L.depth ≤ above)
 LimitIsReached L t above TooManyTables at = at ≡ t
 LimitIsReached L t above _ at = ⊥
+
+-- before the head of that table, which is told of the object and field that lead to it
+pub record FailsAtLimit (t above object : ℕ) (field : Option ℕ) (L : Bounds) (f : Fault) : Type 0 where
+  pub object_is : f.object ≡ object
+  pub field_is : f.field ≡ field
+  pub because : LimitIsReached L t above f.reason f.at
 
 -- in the head of the table at t, of the object k
 pub record FailsInHead (c : Checks) (b : List ℕ) (k t : ℕ) (L : Bounds) (f : Fault) : Type 0 where
@@ -205,11 +212,13 @@ pub record FailsInElement (c : Checks) (b : List ℕ) (S : Rows) (k t : ℕ) (L 
 
 -- at a table that is reached: before or in its head, in a field, or in an element of one
 pub record FailsAtTable (c : Checks) (b : List ℕ) (S : Rows) (root begin : ℕ) (L : Bounds) (f : Fault) : Type 0 where
-  pub object_reached : ℕ
+  pub object : ℕ
   pub table : ℕ
   pub above : ℕ
-  pub reached : IsReached c b S root begin object_reached table above
-  pub because : LimitIsReached L table above f.reason f.at ⊎ (FailsInHead c b object_reached table L f ⊎ (FailsInField c b S object_reached table L f ⊎ FailsInElement c b S object_reached table L f))
+  pub leading_object : ℕ
+  pub leading_field : Option ℕ
+  pub reached : IsReached c b S root begin object table above leading_object leading_field
+  pub because : FailsAtLimit table above leading_object leading_field L f ⊎ (FailsInHead c b object table L f ⊎ (FailsInField c b S object table L f ⊎ FailsInElement c b S object table L f))
 
 -- where a buffer stops, the reason is true: at the start, or past it at a table that is reached
 abbrev pub StopsTruly : Type 0
