@@ -23,3 +23,5 @@ pub mod Prices
 pub mod Shown
 pub mod Walking
 pub mod Absent
+pub mod Plains
+pub mod Passing

@@ -19,6 +19,7 @@ pub mod Samples
 pub mod Examples
 -- What proofs alone need.
 pub mod OffsetRows
+pub mod Plain
 pub mod Stack
 pub mod Told
 pub mod Walked
