@@ -1,10 +1,12 @@
 //! A buffer whose reads are counted.
 
-ghost use Rattle.std.specs.Prelude.{◌≡◌, ◌+◌, ◌^◌, ◌<◌, ◌≤◌, length, IfOk, IsErr, IsTrue, ◌↔◌};
+ghost use Rattle.std.specs.Prelude.{◌≡◌, ◌+◌, ◌^◌, ◌<◌, ◌≤◌, [], length, IfOk, IsErr, IsTrue, ◌↔◌};
 ghost use Rattle.fb_bytes.specs.Word.{word, signed_word};
 
+use crate::reads::Reads;
 use crate::window::Window;
 use std::marker::Model;
+use std::mem;
 
 /// The buffer has 2^31 bytes or more, so that positions in it are no FlatBuffers offsets.
 #[derive(Clone, Copy, Debug, PartialEq, Eq)]
@@ -113,6 +115,27 @@ impl<'a> Meter<'a> {
     {
         self.count += 1;
         self.window.i32_at(at)
+    }
+
+    /// Lends the bytes to be read under a count of their own. Until [`Meter::settle`] takes them back, the meter has
+    /// no bytes, and its count stands.
+    #[inline(always)]
+    pub fn lend(&mut self) -> Reads<'a>
+        ensures lent { result ≡ record { bytes = self.old.bytes; count = 0 } }
+        ensures bare { self.new ≡ record self.old { bytes = [] } }
+    {
+        Reads::over(mem::replace(&mut self.window, Window::over(&[])))
+    }
+
+    /// Takes bytes back, and counts the reads that were made of them.
+    #[inline(always)]
+    pub fn settle(&mut self, reads: Reads<'a>)
+        requires few { self.old.count < 2 ^ 100 }
+        ensures { self.new ≡ record { bytes = reads.entry.bytes; count = self.old.count + reads.entry.count } }
+    {
+        let (window, count) = reads.into_parts();
+        self.window = window;
+        self.count += u128::from(count);
     }
 
     /// The same bytes behind a [`Window`], whose reads aren't counted. Nothing makes a meter of a window.

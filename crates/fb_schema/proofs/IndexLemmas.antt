@@ -138,6 +138,11 @@ kept_read f xs i x lt is = mapped_at f xs i x (slice_get-get_or xs i x lt ∙ ap
 pub mapped_read : {X Y : Type 0} (f : X → Y) (xs : List X) (i : ℕ) (x : X) → i < length xs → x ≡ get_or xs i x → f x ≡ get_or (map f xs) i (f x)
 mapped_read f xs i x lt is = ap f is ∙ sym (get_or-map f xs i x (f x) lt)
 
+-- one map after another
+pub mapped_twice : {X Y Z : Type 0} (g : Y → Z) (f : X → Y) (xs : List X) → map (λ x. g (f x)) xs ≡ map g (map f xs)
+mapped_twice g f [] = refl
+mapped_twice g f (x ∷ xs) = ap (λ zs. g (f x) ∷ zs) (mapped_twice g f xs)
+
 -- a step of the loop over live rows
 pub views_step : {X Y Z W : Type 0} (f : X → Y) (g : Y → Z) (v : W → Z) (xs : List X) (i : ℕ) (d : X) (old new : List W) (w : W) → i < length xs → map v old ≡ map g (map f (take i xs)) → new ≡ old ++ w ∷ [] → v w ≡ g (f (get_or xs i d)) → map v new ≡ map g (map f (take (i + 1) xs))
 views_step f g v xs i d old new w lt h e r =

@@ -1,8 +1,10 @@
 -- What the look-ups read.
 use Rattle.std.proofs.Common.{◌≡◌, ℕ, zero, suc, ◌≤◌, List, [], ◌∷◌, length, get_or, slice_get, map, Some, None, IsTrue, sym, ◌∙◌, ap, arith}
 use Rattle.std.proofs.lemmas.List.{length-map}
+use Rattle.fb_schema.specs.declared.views.Step.{Step}
 use Rattle.fb_schema.specs.Live.{Live, live_in, live_rows, live_fields, required_end, required_end_of, widest, widest_of}
 use Rattle.fb_schema.specs.Rows.{Rows, Object, is_table, is_some_table}
+use Rattle.fb_schema.specs.Steps.{step_of}
 
 read_list : (rows : Rows) (objects : List Object) (n : ℕ) (y : List Live) → slice_get (map (λ o. live_in rows (Some o)) objects) n ≡ Some y → y ≡ live_in rows (slice_get objects n)
 read_list rows [] n y e = absurd (let w : None ≡ Some y = e in cc)
@@ -11,6 +13,16 @@ read_list rows (o ∷ os) (suc n) y e = read_list rows os n y e
 
 pub live_read : (rows : Rows) (objects : List Object) (lists : List (List Live)) (n : ℕ) (y : List Live) → lists ≡ map (λ o. live_in rows (Some o)) objects → slice_get lists n ≡ Some y → y ≡ live_in rows (slice_get objects n)
 live_read rows objects lists n y e at = read_list rows objects n y (ap (λ ls. slice_get ls n) (sym e) ∙ at)
+
+read_steps : (rows : Rows) (objects : List Object) (n : ℕ) (y : List Step) → slice_get (map (λ o. map step_of (live_in rows (Some o))) objects) n ≡ Some y → y ≡ map step_of (live_in rows (slice_get objects n))
+read_steps rows [] n y e = absurd (let w : None ≡ Some y = e in cc)
+read_steps rows (o ∷ os) zero y e = let w : map step_of (live_in rows (Some o)) ≡ y = cc in sym w
+read_steps rows (o ∷ os) (suc n) y e = read_steps rows os n y e
+
+-- the steps of a table's live fields
+pub steps_read : (rows : Rows) (lists : List (List Step)) (n : ℕ) (y : List Step) → lists ≡ map (λ o. map step_of (live_in rows (Some o))) rows.objects → slice_get lists n ≡ Some y → y ≡ map step_of (live_fields rows n)
+unfolding live_fields
+steps_read rows lists n y e at = read_steps rows rows.objects n y (ap (λ ls. slice_get ls n) (sym e) ∙ at)
 
 read_end : (rows : Rows) (objects : List Object) (n e : ℕ) → IsTrue (is_some_table (slice_get objects n)) → e ≡ get_or (map (λ o. required_end_of (live_in rows (Some o))) objects) n e → e ≡ required_end_of (live_in rows (slice_get objects n))
 read_end rows [] n e t h = absurd cc

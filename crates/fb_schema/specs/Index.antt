@@ -12,17 +12,19 @@ use Rattle.fb_schema.specs.FlatLists.{lists_of}
 use Rattle.fb_schema.specs.Kinds.{kind_of}
 use Rattle.fb_schema.specs.Live.{live_of_view, live_in, required_end_of, widest_of}
 use Rattle.fb_schema.specs.Matched.{AreMatched}
+use Rattle.fb_schema.specs.Steps.{step_of}
 use Rattle.fb_schema.specs.Sorting.{IsOrderOf, name_cmp, member_cmp, member_value, member_key}
 use Rattle.fb_schema.specs.Rows.{Rows, Object, Member, member_of_row}
 
 abbrev pub view_name : FieldView → Bor (List ℕ)
 view_name f = f.name
 
--- the live fields of these objects among the rows, each list with the order of its names and the end of what is
--- required, and the longest
+-- the live fields of these objects among the rows, each list with the order of its names, its steps and the end of what
+-- is required, and the longest
 pub record IsLiveIndex {A : Type 0} (rows : Rows) (objects : List Object) (index : LiveIndex A) : Type 0 where
   pub live : map (map live_of_view) (lists_of index.fields) ≡ map (λ o. live_in rows (Some o)) objects
   pub names : AreMatched (λ fields order. IsOrderOf name_cmp (map view_name fields) order) (lists_of index.fields) (lists_of index.names)
+  pub steps : lists_of index.steps ≡ map (λ o. map step_of (live_in rows (Some o))) objects
   pub required : index.required.items ≡ map (λ o. required_end_of (live_in rows (Some o))) objects
   pub widest : index.widest ≡ widest_of objects
   pub few : index.widest ≤ 32766

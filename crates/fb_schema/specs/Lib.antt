@@ -5,6 +5,7 @@ pub mod Demands
 pub mod Live
 pub mod Members
 pub mod Served
+pub mod Steps
 pub mod Builders
 pub mod Examples
 pub mod LookUps

@@ -2,15 +2,16 @@
 
 use crate::kinds::Kind;
 use crate::lists::Lists;
-use crate::views::FieldView;
+use crate::views::{FieldView, Step};
 use std::alloc::Allocator;
 
-/// The live fields of each object in rising slot, the order of their names, how many there are up to and with the last
-/// required one, and the length of the longest list.
+/// The live fields of each object in rising slot, the order of their names, their steps, how many there are up to and
+/// with the last required one, and the length of the longest list.
 #[derive(Drop)]
 pub struct LiveIndex<'n, A: Allocator> {
     pub fields: Lists<FieldView<'n>, A>,
     pub names: Lists<(&'n [u8], u32), A>,
+    pub steps: Lists<Step, A>,
     pub required: Vec<u32, A>,
     pub widest: u32,
 }

@@ -14,6 +14,7 @@ use crate::lists::Lists;
 use crate::live::table_views;
 use crate::rows::MemberRow;
 use crate::sorting::put_in_order;
+use crate::steps::field_steps;
 use crate::types::RowLists;
 use crate::views::FieldView;
 use std::alloc::{AllocError, Allocator};
@@ -75,15 +76,18 @@ pub fn live_index<'n, A: Allocator + Copy>(
     let mut index = LiveIndex {
         fields: Lists::new(alloc),
         names: Lists::new(alloc),
+        steps: Lists::new(alloc),
         required: Vec::new(alloc),
         widest: 0,
     };
     for object in rows.objects {
         let fields = table_views(alloc, rows, object)?;
         let names = view_names(alloc, &fields)?;
+        let steps = field_steps(alloc, &fields)?;
         index.widest = index.widest.max(fields.len() as u32);
         index.fields.push(&fields)?;
         index.names.push(&names)?;
+        index.steps.push(&steps)?;
         index.required.push(required_end(&fields))?;
     }
     Ok(index)

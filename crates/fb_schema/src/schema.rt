@@ -9,6 +9,7 @@ ghost use Rattle.fb_schema.specs.Live.{live_fields, live_of_view, field_named, r
 ghost use Rattle.fb_schema.specs.Members.{member_of, member_named};
 ghost use Rattle.fb_schema.specs.Demands.{IsLegal, Refuses};
 ghost use Rattle.fb_schema.specs.Served.{IsServed, HaveKinds};
+ghost use Rattle.fb_schema.specs.Steps.{step_of};
 
 use crate::fault::SchemaFault;
 use crate::index::{LiveIndex, MemberIndex};
@@ -19,7 +20,7 @@ use crate::legal::legal;
 use crate::rows::{EnumRow, ObjectRow};
 use crate::sorting::place_of;
 use crate::types::RowLists;
-use crate::views::{FieldView, ObjectView};
+use crate::views::{FieldView, ObjectView, Step};
 use std::alloc::{Allocator, Global};
 use std::marker::Model;
 
@@ -135,6 +136,16 @@ impl<'n, A: Allocator + Copy> Schema<'n, A> {
         ensures few { length result.now < 2 ^ 32 }
     {
         self.live.fields.get(n as usize)
+    }
+
+    /// The steps of a table's live fields: one for each, in rising slot.
+    #[inline(always)]
+    pub fn steps_of(&self, n: u32) -> &[Step]
+        requires { IsTrue (is_table self.now n) }
+        ensures value { result.now ≡ map step_of (live_fields self.now n) }
+        ensures few { length result.now < 2 ^ 32 }
+    {
+        self.live.steps.get(n as usize)
     }
 
     /// The object of this name.

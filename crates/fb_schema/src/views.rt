@@ -29,3 +29,34 @@ pub struct FieldView<'n> {
     pub align: u32,
     pub companion: Option<u32>,
 }
+
+/// What a reader of buffers does at a field that is there.
+///
+/// A scalar or struct of one, two, four or eight bytes that is aligned to as many has an act of its own, so that
+/// whoever goes by it has both as constants.
+#[derive(Clone, Copy, Debug, PartialEq, Eq)]
+pub enum Act {
+    One,
+    Two,
+    Four,
+    Eight,
+    /// A scalar or struct of any other size and alignment.
+    Inline,
+    /// An offset word to a string.
+    Text,
+    /// An offset word to a vector of scalars or structs.
+    Vector,
+    /// A field that leads to tables, or to more than one string.
+    Other,
+}
+
+/// A live field of a table in a few bytes: what a reader passes it by. `slot`, `size`, `align` and `required` are those
+/// of its [`FieldView`].
+#[derive(Clone, Copy, Debug, PartialEq, Eq)]
+pub struct Step {
+    pub act: Act,
+    pub required: bool,
+    pub slot: u16,
+    pub size: u32,
+    pub align: u32,
+}

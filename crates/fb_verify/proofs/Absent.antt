@@ -53,9 +53,6 @@ module _ (c : Checks) (b : List ℕ) (S : Rows) (t : ℕ) (f : Live) (past : has
 no_slot : (size o : ℕ) → size < o + 2 → nat_le (o + 2) size ≡ false
 no_slot size o h = grind (arith, nat_tests)
 
-pub ends_below : (size o : ℕ) (x : Bool) → x ≡ nat_lt size (o + 2) → x ≡ true → size < o + 2
-ends_below size o x e h = let w : nat_lt size (o + 2) ≡ true = sym e ∙ h in grind (arith, nat_tests, w)
-
 module _ (c : Checks) (b : List ℕ) (S : Rows) (L : Bounds) (s : Origin) (below : List Frame) (top : Frame) (n d r : ℕ) (h : IsUnderWay c b S L s below top n d r) where
   abbrev fields : List Live
   fields = live_fields S (top.table).object

@@ -67,7 +67,7 @@ at_few : (b : List ℕ) (t : ℕ) (f : Live) (place : Option ℕ) → reads_at b
 at_few b t f None = omega arith
 at_few b t f (Some p) = present_few b t f.slot f.kind
 
-slot_few : (b : List ℕ) (t o : ℕ) → slot_reads b t o ≤ 1
+pub slot_few : (b : List ℕ) (t o : ℕ) → slot_reads b t o ≤ 1
 slot_few b t o = grind arith
 
 pub own_few : (b : List ℕ) (t : ℕ) (f : Live) → own_reads b t f ≤ 6

@@ -27,3 +27,5 @@ pub mod TrueFaults
 pub mod OneVerdict
 pub mod Walking
 pub mod Absent
+pub mod Plains
+pub mod Passing

@@ -50,7 +50,7 @@ module _ (c : Checks) (b : List ℕ) (S : Rows) where
   table_lead p lead k e h = subst (λ x. IsLead c b p x) e h
 
   -- nothing is left of the field, or something is
-  at_rest : (fr : Frame) (w : Way) (n d r : ℕ) → (fr.row).left ≡ 0 → Resting c b S fr w n d r ⊎ Middle c b S fr w n d r → Resting c b S fr w n d r
+  pub at_rest : (fr : Frame) (w : Way) (n d r : ℕ) → (fr.row).left ≡ 0 → Resting c b S fr w n d r ⊎ Middle c b S fr w n d r → Resting c b S fr w n d r
   at_rest fr w n d r e (inl h) = h
   at_rest fr w n d r e (inr h) =
       let v = reached w (fr.table).object (Some fr.number) n d r in

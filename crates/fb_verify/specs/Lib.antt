@@ -22,6 +22,7 @@ pub mod Examples
 pub mod Tests
 -- What proofs alone need.
 pub mod OffsetRows
+pub mod Plain
 pub mod Stack
 pub mod Told
 pub mod Walked

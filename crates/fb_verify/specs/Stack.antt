@@ -1,8 +1,8 @@
 -- The frames of a walk: what they say of the walk so far, and the work that is left to it.
-use Rattle.std.specs.Prelude.{◌≡◌, ℕ, ◌+◌, ◌-◌, ◌*◌, ◌^◌, ◌<◌, ◌≤◌, ◌⊎◌, IsTrue, List, [], ◌∷◌, length, Option, Some, None}
+use Rattle.std.specs.Prelude.{◌≡◌, ℕ, ◌+◌, ◌-◌, ◌*◌, ◌^◌, ◌<◌, ◌≤◌, ◌⊎◌, IsTrue, List, [], ◌∷◌, length, Option, Some, None, slice_get}
 use Rattle.std.specs.List.{All, sum_by}
 use Rattle.fb_schema.specs.Rows.{Rows, is_table}
-use Rattle.fb_schema.specs.Live.{live_fields}
+use Rattle.fb_schema.specs.Live.{Live, live_fields}
 use Rattle.fb_schema.specs.Served.{IsServed}
 use Rattle.fb_bytes.specs.Word.{Metered}
 use Rattle.fb_verify.specs.declared.checks.Checks.{Checks}
@@ -13,6 +13,7 @@ use Rattle.fb_verify.specs.declared.scratch.Frame.{Frame}
 use Rattle.fb_verify.specs.declared.field.Table.{Table}
 use Rattle.fb_verify.specs.declared.stack.Walk.{Walk}
 use Rattle.fb_verify.specs.Bounds.{Bounds, AreAllowed}
+use Rattle.fb_verify.specs.Places.{has_slot, field_place}
 use Rattle.fb_verify.specs.Way.{Way}
 use Rattle.fb_verify.specs.Told.{IsHead}
 use Rattle.fb_verify.specs.OffsetRows.{words_of, IsRow}
@@ -98,6 +99,19 @@ pub record IsUnderWay (c : Checks) (b : List ℕ) (S : Rows) (L : Bounds) (s : O
 -- the same of what a walk carries and of the buffer that it reads
 abbrev pub IsWalking : Walk → Metered → Origin → List Frame → Frame → Type 0
 IsWalking w m s below top = IsUnderWay w.checks m.bytes w.schema.now w.limits s below top w.tables w.deepest m.count
+
+-- the same while the meter, which counted so many, has lent its bytes
+abbrev pub IsWalkingBy : Walk → ℕ → Metered → Origin → List Frame → Frame → Type 0
+IsWalkingBy w counted m s below top = IsUnderWay w.checks m.bytes w.schema.now w.limits s below top w.tables w.deepest (counted + m.count)
+
+-- the same where the last read was the slot of the top's next field, which tells that this stands at a place
+pub record IsAtField (w : Walk) (counted : ℕ) (m : Metered) (s : Origin) (below : List Frame) (top : Frame) (place : ℕ) : Type 0 where
+  pub before : ℕ
+  pub count : counted + m.count ≡ before + 1
+  pub walking : IsUnderWay w.checks m.bytes w.schema.now w.limits s below top w.tables w.deepest before
+  pub within : top.next < length (live_fields w.schema.now (top.table).object)
+  pub present : (f : Live) → slice_get (live_fields w.schema.now (top.table).object) top.next ≡ Some f → (field_place m.bytes (top.table).at f.slot ≡ Some place) × IsTrue (has_slot m.bytes (top.table).at f.slot)
+  pub near : place < 2 ^ 34
 
 -- the walk is over: the table where it began was walked
 abbrev pub IsOver : Walk → Metered → Origin → Type 0

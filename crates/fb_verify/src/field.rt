@@ -303,6 +303,54 @@ fn check_vector_or_union(
     }
 }
 
+/// Checks a field of a table by itself that stands at this place, and answers whether it leads on, and then by which
+/// offset words.
+#[inline(always)]
+#[tactic(auto, using(crate::proofs::Words::row_none), unfolding(crate::specs::Order::own_failure, crate::specs::Cost::own_reads, crate::specs::Fields::entries, crate::specs::Fields::row, crate::specs::Fields::union_row))]
+fn check_present(
+    meter: &mut Meter<'_>,
+    schema: &Schema<'_>,
+    checks: Checks,
+    spot: FieldSpot,
+    field: &FieldView<'_>,
+    row: &mut Row,
+) -> Result<bool, Refusal>
+    requires served { IsServed schema.now }
+    requires kind { KindHolds schema.now (live_of_view field.now) (field.now).kind }
+    requires typed { IsTyped meter.old.bytes spot.at (field.now).slot (field.now).kind }
+    requires present { IsTrue (has_slot meter.old.bytes spot.at (field.now).slot) }
+    requires few { meter.old.count < 2 ^ 97 }
+    requires near { spot.at < 2 ^ 33 }
+    requires near_place { spot.place < 2 ^ 34 }
+    requires head { IsHead checks meter.old.bytes spot.at spot.head }
+    ensures ok { IfOk result (λ _. present_failure checks meter.old.bytes schema.now spot.at (live_of_view field.now) spot.place (field.now).kind ≡ None) }
+    ensures none { IfOk result (λ more. more ≡ false → (entries_of meter.old.bytes schema.now spot.at (live_of_view field.now) spot.place (field.now).kind ≡ []) × (row.new ≡ row.old)) }
+    ensures entries { IfOk result (λ more. more ≡ true → entries_of meter.old.bytes schema.now spot.at (live_of_view field.now) spot.place (field.now).kind ≡ words_of meter.old.bytes schema.now row.new) }
+    ensures row { IfOk result (λ more. more ≡ true → IsRow meter.old.bytes schema.now row.new × (0 < (row.new).left)) }
+    ensures counted { IfOk result (λ _. meter.new ≡ record meter.old { count = meter.old.count + present_reads meter.old.bytes spot.at (field.now).slot (field.now).kind }) }
+    ensures err { IfErr result (λ e. after meter.old.count (present_failure checks meter.old.bytes schema.now spot.at (live_of_view field.now) spot.place (field.now).kind) ≡ Some (refused e meter.new.count)) }
+    ensures bytes { meter.new.bytes ≡ meter.old.bytes }
+{
+    match field.kind {
+        Kind::Scalar(_) | Kind::Struct(_) => {
+            check_end(meter, checks, spot.at, spot.head, spot.place, field.size)?;
+            check_inline(meter, checks, spot.place, field.size, field.align)?;
+            Ok(false)
+        }
+        Kind::Text => {
+            check_end(meter, checks, spot.at, spot.head, spot.place, 4)?;
+            *row = Row::one(Referent::Text, spot.place);
+            Ok(true)
+        }
+        Kind::Table(object) => {
+            check_end(meter, checks, spot.at, spot.head, spot.place, 4)?;
+            *row = Row::one(Referent::Table(object), spot.place);
+            Ok(true)
+        }
+        _ => Ok(check_vector_or_union(meter, schema, checks, spot, field)?.put_into(row)),
+    }
+}
+
 /// Checks a field of a table by itself, and answers whether it leads on, and then by which offset words.
 #[inline(always)]
 #[tactic(auto, using(crate::proofs::Words::row_none), unfolding(crate::specs::Order::own_failure, crate::specs::Cost::own_reads, crate::specs::Fields::entries, crate::specs::Fields::row, crate::specs::Fields::union_row))]
@@ -334,31 +382,12 @@ fn check_field(
         }
         return Ok(false);
     };
-    match field.kind {
-        Kind::Scalar(_) | Kind::Struct(_) => {
-            check_end(meter, checks, table.at, table.head, place, field.size)?;
-            check_inline(meter, checks, place, field.size, field.align)?;
-            Ok(false)
-        }
-        Kind::Text => {
-            check_end(meter, checks, table.at, table.head, place, 4)?;
-            *row = Row::one(Referent::Text, place);
-            Ok(true)
-        }
-        Kind::Table(object) => {
-            check_end(meter, checks, table.at, table.head, place, 4)?;
-            *row = Row::one(Referent::Table(object), place);
-            Ok(true)
-        }
-        _ => {
-            let spot = FieldSpot {
-                at: table.at,
-                head: table.head,
-                place,
-            };
-            Ok(check_vector_or_union(meter, schema, checks, spot, field)?.put_into(row))
-        }
-    }
+    let spot = FieldSpot {
+        at: table.at,
+        head: table.head,
+        place,
+    };
+    check_present(meter, schema, checks, spot, field, row)
 }
 
 /// Checks a field of a table by itself, asks the budget, and answers whether the field leads on, and then by which offset words.
@@ -396,6 +425,57 @@ pub fn pass_field(
     match check_field(meter, schema, checks, table, field, row) {
         Ok(more) => {
             ask_reads(meter, limits, site, table.at)?;
+            Ok(more)
+        }
+        Err(refusal) => Err(Stop { site, refusal }),
+    }
+}
+
+/// Goes on with a field of a table that stands at this place, whose slot was the last read: checks it by itself, asks
+/// the budget, and answers whether the field leads on, and then by which offset words. What fails does so at this field.
+#[inline(always)]
+#[tactic(auto, using(crate::proofs::Refusals::told_after), unfolding(crate::specs::Order::own_failure, crate::specs::Cost::own_reads, crate::specs::Fields::entries))]
+pub fn pass_present(
+    meter: &mut Meter<'_>,
+    schema: &Schema<'_>,
+    limits: Limits,
+    checks: Checks,
+    table: Table,
+    place: u64,
+    field: &FieldView<'_>,
+    row: &mut Row,
+) -> Result<bool, Stop>
+    requires served { IsServed schema.now }
+    requires kind { KindHolds schema.now (live_of_view field.now) (field.now).kind }
+    requires typed { IsTyped meter.old.bytes table.at (field.now).slot (field.now).kind }
+    requires present { field_place meter.old.bytes table.at (field.now).slot ≡ Some place }
+    requires slot { IsTrue (has_slot meter.old.bytes table.at (field.now).slot) }
+    requires counted { 1 ≤ meter.old.count }
+    requires few { meter.old.count < 2 ^ 96 + 2 ^ 95 }
+    requires near { table.at < 2 ^ 33 }
+    requires near_place { place < 2 ^ 34 }
+    requires head { IsHead checks meter.old.bytes table.at table.head }
+    ensures ok { IfOk result (λ _. own_failure checks meter.old.bytes schema.now table.at (live_of_view field.now) ≡ None) }
+    ensures none { IfOk result (λ more. more ≡ false → (entries meter.old.bytes schema.now table.at (live_of_view field.now) ≡ []) × (row.new ≡ row.old)) }
+    ensures entries { IfOk result (λ more. more ≡ true → entries meter.old.bytes schema.now table.at (live_of_view field.now) ≡ words_of meter.old.bytes schema.now row.new) }
+    ensures row { IfOk result (λ more. more ≡ true → IsRow meter.old.bytes schema.now row.new × (0 < (row.new).left)) }
+    ensures counted { IfOk result (λ _. meter.new ≡ record meter.old { count = meter.old.count - 1 + own_reads meter.old.bytes table.at (live_of_view field.now) }) }
+    ensures reads { IfOk result (λ _. AreAllowed limits.reads meter.new.count) }
+    ensures err { IfErr result (λ s. told (record { object = table.object; field = Some (field.now).number }) (meter.old.count - 1) (own_failure checks meter.old.bytes schema.now table.at (live_of_view field.now) ▷ reads_failure limits (meter.old.count - 1) (own_reads meter.old.bytes table.at (live_of_view field.now)) table.at) ≡ Some (stopped s meter.new.count)) }
+    ensures bytes { meter.new.bytes ≡ meter.old.bytes }
+{
+    let site = Site {
+        object: table.object,
+        field: Some(field.number),
+    };
+    let spot = FieldSpot {
+        at: table.at,
+        head: table.head,
+        place,
+    };
+    match check_present(meter, schema, checks, spot, field, row) {
+        Ok(more) => {
+            ask_reads(meter, limits, site, spot.at)?;
             Ok(more)
         }
         Err(refusal) => Err(Stop { site, refusal }),

@@ -13,6 +13,7 @@ pub mod laws;
 pub mod limits;
 mod most;
 mod offset_row;
+mod plain;
 mod scratch;
 mod site;
 mod stack;

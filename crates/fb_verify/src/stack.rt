@@ -1,8 +1,8 @@
 // The walk: a loop over the frames of the open tables.
 
-ghost use Rattle.std.specs.Prelude.{◌≡◌, ◌+◌, ◌-◌, ◌*◌, ◌^◌, ◌<◌, ◌≤◌, max, length, List, take, slice_index_or, [], ◌∷◌, ◌++◌, IfOk, IfErr, IfSome, MatchOption, IsTrue, Some, None, true, false};
+ghost use Rattle.std.specs.Prelude.{◌≡◌, ◌+◌, ◌-◌, ◌*◌, ◌^◌, ◌<◌, ◌≤◌, max, length, List, take, slice_get, slice_index_or, [], ◌∷◌, ◌++◌, IfOk, IfErr, IfSome, MatchOption, IsTrue, Some, None, true, false};
 ghost use Rattle.fb_schema.specs.Rows.{is_table};
-ghost use Rattle.fb_schema.specs.Live.{live_fields};
+ghost use Rattle.fb_schema.specs.Live.{Live, live_fields, required_end};
 ghost use Rattle.fb_schema.specs.Served.{IsServed};
 ghost use Rattle.fb_verify.specs.Bounds.{AreAllowed};
 ghost use Rattle.fb_verify.specs.Cost.{head_reads};
@@ -10,17 +10,18 @@ ghost use Rattle.fb_verify.specs.Order.{◌▷◌, head_failure};
 ghost use Rattle.fb_verify.specs.Stops.{budget_failure, reads_failure, StopsFrom};
 ghost use Rattle.fb_verify.specs.Told.{told, stopped, way_at, IsHead};
 ghost use Rattle.fb_verify.specs.Walked.{TableWalked, ended};
-ghost use Rattle.fb_verify.specs.Stack.{blank, Origin, Waiting, frame_work, work, opened, IsWalking, IsOver, IsStopped};
+ghost use Rattle.fb_verify.specs.Stack.{blank, Origin, Waiting, frame_work, work, opened, IsWalking, IsWalkingBy, IsAtField, IsOver, IsStopped};
 
 use crate::checks::Checks;
 use crate::element::{Child, pass_element};
 use crate::fault::Reason;
-use crate::field::{Table, pass_field};
+use crate::field::{Table, pass_field, pass_present};
 use crate::head::read_head;
 use crate::limits::Limits;
+use crate::plain::{leads_on, slot_at, test_at};
 use crate::scratch::Frame;
-use crate::site::{Site, Stop, refuse};
-use fb_bytes::Meter;
+use crate::site::{Refusal, Site, Stop, refuse};
+use fb_bytes::{Meter, Reads};
 use fb_schema::Schema;
 
 /// What a walk carries: what it is asked, the tables that it opened, and the greatest number of them that were open at once.
@@ -75,6 +76,170 @@ impl<'s, 'n> Walk<'s, 'n> {
         })
     }
 
+    /// Whether a table's next field, which has this slot, and all those after it are absent, and none of them is
+    /// required: slots rise, so no later one lies in a vtable that ends before this one.
+    #[inline(always)]
+    fn others_are_absent(&self, table: Table, next: u32, slot: u16) -> bool
+        requires table { IsTrue (is_table self.now.schema.now table.object) }
+        ensures past { result ≡ true → (table.head).size < slot + 2 }
+        ensures free { result ≡ true → required_end self.now.schema.now table.object ≤ next }
+    {
+        table.head.ends_before(slot) && self.schema.required_end(table.object) <= next
+    }
+
+    /// Passes fields of the top table one by one until one leads on, and answers whether one does. It serves where the
+    /// budget may end in this table, since it asks the budget after each field.
+    #[cold]
+    #[inline(never)]
+    fn pass_each(&self, meter: &mut Meter<'_>, top: &mut Frame) -> Result<bool, Stop>
+        ghost under: { Waiting }
+        requires walking { IsWalking self.now meter.old under.start under.frames top.old }
+        requires rests { (top.old.row).left ≡ 0 }
+        requires few { meter.old.count < 2 ^ 96 }
+        ensures walking { IfOk result (λ _. IsWalking self.now meter.new under.start under.frames top.new) }
+        ensures leads { IfOk result (λ more. more ≡ true → 0 < (top.new.row).left) }
+        ensures rests { IfOk result (λ more. more ≡ false → (top.new.row).left ≡ 0) }
+        ensures all { IfOk result (λ more. more ≡ false → length (live_fields self.now.schema.now (top.new.table).object) ≤ top.new.next) }
+        ensures falls { IfOk result (λ _. meter.new.count + frame_work self.now.schema.now top.new ≤ meter.old.count + frame_work self.now.schema.now top.old) }
+        ensures grows { IfOk result (λ _. meter.old.count ≤ meter.new.count) }
+        ensures bytes { meter.new.bytes ≡ meter.old.bytes }
+        ensures err { IfErr result (λ s. IsStopped self.now meter.old under.start (stopped s meter.new.count)) }
+    {
+        let fields = self.schema.fields_of(top.table.object);
+        while let Some(field) = fields.get(top.next as usize) {
+            if self.others_are_absent(top.table, top.next, field.slot) {
+                top.next = fields.len() as u32;
+                return Ok(false);
+            }
+            top.next += 1;
+            if pass_field(
+                meter,
+                self.schema,
+                self.limits,
+                self.checks,
+                top.table,
+                field,
+                &mut top.row,
+            )? {
+                top.number = field.number;
+                return Ok(true);
+            }
+        }
+        Ok(false)
+    }
+
+    /// Whether the budget allows whatever the other fields of the top table may cost by themselves, with the strings
+    /// that they may lead to: six reads each.
+    #[inline(always)]
+    fn has_room(&self, meter: &Meter<'_>, top: &Frame) -> bool
+        requires table { IsTrue (is_table self.now.schema.now (top.now.table).object) }
+        requires next { top.now.next ≤ length (live_fields self.now.schema.now (top.now.table).object) }
+        requires few { meter.now.count < 2 ^ 96 }
+        ensures { result ≡ true → AreAllowed (self.now.limits).reads (meter.now.count + 6 * (length (live_fields self.now.schema.now (top.now.table).object) - top.now.next)) }
+    {
+        let left = self.schema.field_count(top.table.object) - top.next;
+        self.limits
+            .allows(meter.reads() + u128::from(6 * u64::from(left)))
+    }
+
+    /// Where the walk stops at the next field of the top table.
+    #[cold]
+    #[inline(never)]
+    fn stop_at(&self, top: &Frame, at: u64, reason: Reason) -> Stop
+        requires table { IsTrue (is_table self.now.schema.now (top.now.table).object) }
+        requires next { top.now.next < length (live_fields self.now.schema.now (top.now.table).object) }
+        ensures refusal { result.refusal ≡ record { at = at; reason = reason } }
+        ensures object { (result.site).object ≡ (top.now.table).object }
+        ensures field { (f : Live) → slice_get (live_fields self.now.schema.now (top.now.table).object) top.now.next ≡ Some f → (result.site).field ≡ Some f.number }
+    {
+        let field = self.schema.field_at(top.table.object, top.next);
+        Stop {
+            refusal: Refusal { at, reason },
+            site: Site {
+                object: top.table.object,
+                field: Some(field.number),
+            },
+        }
+    }
+
+    /// Passes fields of the top table until one is there that may lead to a table, and answers where it stands; none
+    /// where no field is left. The budget allows whatever they cost. Only the contract speaks of the meter that lent
+    /// the bytes.
+    #[inline(always)]
+    fn pass_plain(
+        &self,
+        lender: &Meter<'_>,
+        reads: &mut Reads<'_>,
+        top: &mut Frame,
+    ) -> Result<Option<u64>, Stop>
+        ghost under: { Waiting }
+        requires walking { IsWalkingBy self.now lender.now.count reads.old under.start under.frames top.old }
+        requires rests { (top.old.row).left ≡ 0 }
+        requires room { AreAllowed (self.now.limits).reads (lender.now.count + reads.old.count + 6 * (length (live_fields self.now.schema.now (top.old.table).object) - top.old.next)) }
+        requires few { reads.old.count < 2 ^ 40 }
+        ensures walking { IfOk result (λ o. o ≡ None → IsWalkingBy self.now lender.now.count reads.new under.start under.frames top.new) }
+        ensures field { IfOk result (λ o. IfSome o (λ place. IsAtField self.now lender.now.count reads.new under.start under.frames top.new place)) }
+        ensures top { IfOk result (λ _. top.new ≡ record top.old { next = top.new.next }) }
+        ensures forth { IfOk result (λ _. top.old.next ≤ top.new.next) }
+        ensures within { IfOk result (λ _. top.new.next ≤ length (live_fields self.now.schema.now (top.old.table).object)) }
+        ensures all { IfOk result (λ o. o ≡ None → length (live_fields self.now.schema.now (top.old.table).object) ≤ top.new.next) }
+        ensures ends { IfOk result (λ o. o ≡ None → reads.new.count + 6 * (length (live_fields self.now.schema.now (top.old.table).object) - top.new.next) ≤ reads.old.count + 6 * (length (live_fields self.now.schema.now (top.old.table).object) - top.old.next)) }
+        ensures paid { IfOk result (λ _. reads.new.count + 6 * (length (live_fields self.now.schema.now (top.old.table).object) - top.new.next) ≤ reads.old.count + 6 * (length (live_fields self.now.schema.now (top.old.table).object) - top.old.next) + 1) }
+        ensures bytes { reads.new.bytes ≡ reads.old.bytes }
+        ensures err { IfErr result (λ s. StopsFrom self.now.checks reads.old.bytes self.now.schema.now self.now.limits (under.start).object (under.start).position (under.start).way (stopped s (lender.now.count + reads.new.count))) }
+    {
+        let _lender = lender;
+        let table = top.table;
+        let checks = self.checks;
+        let steps = self.schema.steps_of(table.object);
+        let mut next = top.next;
+        while let Some(step) = steps.get(next as usize) {
+            if self.others_are_absent(table, next, step.slot) {
+                top.next = steps.len() as u32;
+                return Ok(None);
+            }
+            let place = slot_at(reads, table.at, table.head, step.slot);
+            let answer = test_at(reads, checks, table, place, step);
+            if let Some(reason) = answer.failed {
+                top.next = next;
+                return Err(self.stop_at(top, answer.at, reason));
+            }
+            if leads_on(step, place) {
+                top.next = next;
+                return Ok(place);
+            }
+            next += 1;
+        }
+        top.next = next;
+        Ok(None)
+    }
+
+    /// The same by the meter: it lends its bytes meanwhile, and takes them back with the reads that were made.
+    #[inline(always)]
+    fn pass_on(&self, meter: &mut Meter<'_>, top: &mut Frame) -> Result<Option<u64>, Stop>
+        ghost under: { Waiting }
+        requires walking { IsWalking self.now meter.old under.start under.frames top.old }
+        requires rests { (top.old.row).left ≡ 0 }
+        requires room { AreAllowed (self.now.limits).reads (meter.old.count + 6 * (length (live_fields self.now.schema.now (top.old.table).object) - top.old.next)) }
+        requires few { meter.old.count < 2 ^ 98 }
+        ensures walking { IfOk result (λ o. o ≡ None → IsWalking self.now meter.new under.start under.frames top.new) }
+        ensures field { IfOk result (λ o. IfSome o (λ place. IsAtField self.now 0 meter.new under.start under.frames top.new place)) }
+        ensures top { IfOk result (λ _. top.new ≡ record top.old { next = top.new.next }) }
+        ensures forth { IfOk result (λ _. top.old.next ≤ top.new.next) }
+        ensures within { IfOk result (λ _. top.new.next ≤ length (live_fields self.now.schema.now (top.old.table).object)) }
+        ensures all { IfOk result (λ o. o ≡ None → length (live_fields self.now.schema.now (top.new.table).object) ≤ top.new.next) }
+        ensures falls { IfOk result (λ o. o ≡ None → meter.new.count + frame_work self.now.schema.now top.new ≤ meter.old.count + frame_work self.now.schema.now top.old) }
+        ensures paid { IfOk result (λ _. meter.new.count + 6 * (length (live_fields self.now.schema.now (top.old.table).object) - top.new.next) ≤ meter.old.count + 6 * (length (live_fields self.now.schema.now (top.old.table).object) - top.old.next) + 1) }
+        ensures grows { meter.old.count ≤ meter.new.count }
+        ensures bytes { meter.new.bytes ≡ meter.old.bytes }
+        ensures err { IfErr result (λ s. IsStopped self.now meter.old under.start (stopped s meter.new.count)) }
+    {
+        let mut reads = meter.lend();
+        let answer = self.pass_plain(meter, &mut reads, top);
+        meter.settle(reads);
+        answer
+    }
+
     /// Passes fields of the top table until one leads on, and answers whether one does.
     #[inline(always)]
     fn pass_fields(&self, meter: &mut Meter<'_>, top: &mut Frame) -> Result<bool, Stop>
@@ -91,22 +256,22 @@ impl<'s, 'n> Walk<'s, 'n> {
         ensures bytes { meter.new.bytes ≡ meter.old.bytes }
         ensures err { IfErr result (λ s. IsStopped self.now meter.old under.start (stopped s meter.new.count)) }
     {
+        if !self.has_room(meter, top) {
+            return self.pass_each(meter, top);
+        }
         let fields = self.schema.fields_of(top.table.object);
-        while let Some(field) = fields.get(top.next as usize) {
-            if top.table.head.ends_before(field.slot)
-                && self.schema.required_end(top.table.object) <= top.next
-            {
-                // This field and those after it are absent, and none of them is required.
-                top.next = fields.len() as u32;
+        while let Some(place) = self.pass_on(meter, top)? {
+            let Some(field) = fields.get(top.next as usize) else {
                 return Ok(false);
-            }
+            };
             top.next += 1;
-            if pass_field(
+            if pass_present(
                 meter,
                 self.schema,
                 self.limits,
                 self.checks,
                 top.table,
+                place,
                 field,
                 &mut top.row,
             )? {

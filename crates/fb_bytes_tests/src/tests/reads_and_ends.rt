@@ -82,6 +82,34 @@ fn a_range_fits_or_not_whatever_its_sum(rt: HostRuntime) -> Result<(), Fail> {
 }
 
 #[test]
+fn what_is_lent_is_read_and_settled(rt: HostRuntime) -> Result<(), Fail> {
+    let bytes = [0x01u8, 0x02, 0x03, 0x84, 0xff, 0xff, 0xff, 0xff];
+    let Ok(mut meter) = Meter::new(&bytes) else {
+        return Err(Fail::from("too long"));
+    };
+    assert_eq!(rt; meter.u8_at(0), 0x01);
+    let mut reads = meter.lend();
+    // Of what is lent out nothing is left to read.
+    assert_eq!(rt;
+        (meter.len(), meter.fits(0, 1), meter.reads()),
+        (0, false, 1)
+    );
+    assert_eq!(rt;
+        (reads.len(), reads.fits(4, 4), reads.fits(5, 4)),
+        (8, true, false)
+    );
+    assert_eq!(rt; reads.u8_at(3), 0x84);
+    assert_eq!(rt; reads.u16_at(1), 0x0302);
+    assert_eq!(rt; reads.u32_at(0), 0x8403_0201);
+    assert_eq!(rt; reads.i32_at(0), -2_080_177_663);
+    meter.settle(reads);
+    assert_eq!(rt; (meter.len(), meter.reads()), (8, 5));
+    assert_eq!(rt; meter.i32_at(4), -1);
+    assert_eq!(rt; meter.reads(), 6);
+    Ok(())
+}
+
+#[test]
 fn a_window_lends_what_its_meter_read(rt: HostRuntime) -> Result<(), Fail> {
     assert_eq!(rt; name_of(&ORC), Some(b"Orc".as_slice()));
     let Ok(meter) = Meter::new(&ORC) else {

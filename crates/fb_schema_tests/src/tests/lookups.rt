@@ -2,7 +2,7 @@
 //! over the rows in `evidence`.
 
 use case_text::rows::schema_of;
-use fb_schema::FieldView;
+use fb_schema::{FieldView, Step};
 use std::test::Fail;
 
 /// A table with a live field of each kind, in no order of slots, and a deprecated one below the last; a struct, an
@@ -49,6 +49,47 @@ fn a_legal_table_has_each_kind_in_rising_slot(rt: HostRuntime) -> Result<(), Fai
         assert_eq!(rt; is.as_str(), want);
     }
     assert_eq!(rt; schema.field_named(0, b"gone"), None);
+    Ok(())
+}
+
+/// Structs of four and eight bytes, and a table with a live field of each act, two of them required.
+const ACTS: &str = "P struct 4/2: x@0 short; W struct 8/8: x@0 long; \
+    T table: a@4 bool, b@6 short, c@8 float, d@10 double, e@12 obj#0, f@14 obj#1, g@16 string required, \
+    h@18 [ubyte], i@20 [obj]#1 required, j@22 [string], k@24 obj#2, l@26 [obj]#2, m@28 int gone";
+
+/// The steps of that table: slot, act, size, alignment, and whether the field is required.
+const STEPS: &str = "\
+    4 One 1 1 false\n\
+    6 Two 2 2 false\n\
+    8 Four 4 4 false\n\
+    10 Eight 8 8 false\n\
+    12 Inline 4 2 false\n\
+    14 Eight 8 8 false\n\
+    16 Text 4 4 true\n\
+    18 Vector 1 1 false\n\
+    20 Vector 8 8 true\n\
+    22 Other 4 4 false\n\
+    24 Other 4 4 false\n\
+    26 Other 4 4 false\n\
+";
+
+#[test]
+fn each_live_field_has_its_step(rt: HostRuntime) -> Result<(), Fail> {
+    let alloc = rt.alloc();
+    let schema = schema_of(alloc, ACTS)?;
+    assert!(rt; schema.is_table(2));
+    assert_eq!(rt; schema.steps_of(2).len(), STEPS.lines().count());
+    for (step, want) in schema.steps_of(2).iter().zip(STEPS.lines()) {
+        let Step {
+            act,
+            required,
+            slot,
+            size,
+            align,
+        } = *step;
+        let is = format!(in alloc; "{slot} {act:?} {size} {align} {required}")?;
+        assert_eq!(rt; is.as_str(), want);
+    }
     Ok(())
 }
 

@@ -5,7 +5,8 @@ use Rattle.fb_schema.specs.FlatLists.{lists_of}
 use Rattle.fb_schema.specs.Live.{required_end_of, live_in, live_of, live_of_view, live_rows, by_slot, is_live, AreSpaced}
 use Rattle.fb_schema.specs.Sorting.{IsOrderOf, name_cmp}
 use Rattle.fb_schema.specs.Rows.{borrowed_rows, object_of}
-use Rattle.fb_schema.proofs.IndexLemmas.{legal_slots, matched_pushed, lists_step, value_step, widest_step, same_length, kept_read, mapped_read}
+use Rattle.fb_schema.specs.Steps.{step_of}
+use Rattle.fb_schema.proofs.IndexLemmas.{legal_slots, matched_pushed, lists_step, value_step, widest_step, same_length, kept_read, mapped_read, mapped_twice}
 use Rattle.fb_schema.proofs.TypedLemmas.{rows_spaced}
 use Rattle.fb_schema.proofs.indexing.live_index.Goals as goal
 
@@ -39,12 +40,15 @@ loop-object-preserved g c =
     let low : i < length (map object_of objects) = rw length-map lt in
     let views = c.in_ok-fields.fields.items in
     record {
-      live = lists_step (map live_of_view) (λ o. live_in rows (Some o)) (map object_of objects) i o (lists_of c.loop-object.index.fields) _ c.deref-in-loop-object.result.now low is c.loop-object.invariant.live c.in_ok-push.ensures
-          (ap (map live_of_view) c.deref-in-loop-object.ensures.value ∙ c.in_ok-fields.ensures.value);
-      names = matched_pushed (λ fields order. IsOrderOf name_cmp (map view_name fields) order) (lists_of c.loop-object.index.fields) _ (lists_of c.loop-object.index.names) _ c.deref-in-loop-object.result.now c.deref-in-loop-object-2.result.now c.loop-object.invariant.names c.in_ok-push.ensures c.in_ok-push-2.ensures
-          (subst (λ fields. IsOrderOf name_cmp (map view_name fields) c.deref-in-loop-object-2.result.now) (c.deref.ensures.value ∙ sym c.deref-in-loop-object.ensures.value) (subst (λ order. IsOrderOf name_cmp (map view_name c.deref.result.now) order) (sym c.deref-in-loop-object-2.ensures.value) c.in_ok-names.ensures));
-      required = value_step (λ o. required_end_of (live_in rows (Some o))) (map object_of objects) i o c.loop-object.index.required.items _ c.required_end.result low is c.loop-object.invariant.required c.in_ok-push-3.ensures.items
-          (c.required_end.ensures ∙ ap (λ fields. required_end_of (map live_of_view fields)) c.deref-in-loop-object-3.ensures.value ∙ ap required_end_of c.in_ok-fields.ensures.value);
+      live = lists_step (map live_of_view) (λ o. live_in rows (Some o)) (map object_of objects) i o (lists_of c.loop-object.index.fields) _ c.deref-in-loop-object-2.result.now low is c.loop-object.invariant.live c.in_ok-push.ensures
+          (ap (map live_of_view) c.deref-in-loop-object-2.ensures.value ∙ c.in_ok-fields.ensures.value);
+      names = matched_pushed (λ fields order. IsOrderOf name_cmp (map view_name fields) order) (lists_of c.loop-object.index.fields) _ (lists_of c.loop-object.index.names) _ c.deref-in-loop-object-2.result.now c.deref-in-loop-object-3.result.now c.loop-object.invariant.names c.in_ok-push.ensures c.in_ok-push-2.ensures
+          (subst (λ fields. IsOrderOf name_cmp (map view_name fields) c.deref-in-loop-object-3.result.now) (c.deref.ensures.value ∙ sym c.deref-in-loop-object-2.ensures.value) (subst (λ order. IsOrderOf name_cmp (map view_name c.deref.result.now) order) (sym c.deref-in-loop-object-3.ensures.value) c.in_ok-names.ensures));
+      steps = value_step (λ o. map step_of (live_in rows (Some o))) (map object_of objects) i o (lists_of c.loop-object.index.steps) _ c.deref-in-loop-object-4.result.now low is c.loop-object.invariant.steps c.in_ok-push-3.ensures
+          (c.deref-in-loop-object-4.ensures.value ∙ c.in_ok-steps.ensures ∙ mapped_twice step_of live_of_view c.deref-in-loop-object.result.now
+          ∙ ap (λ fields. map step_of (map live_of_view fields)) c.deref-in-loop-object.ensures.value ∙ ap (map step_of) c.in_ok-fields.ensures.value);
+      required = value_step (λ o. required_end_of (live_in rows (Some o))) (map object_of objects) i o c.loop-object.index.required.items _ c.required_end.result low is c.loop-object.invariant.required c.in_ok-push-4.ensures.items
+          (c.required_end.ensures ∙ ap (λ fields. required_end_of (map live_of_view fields)) c.deref-in-loop-object-5.ensures.value ∙ ap required_end_of c.in_ok-fields.ensures.value);
       widest = widest_step (map object_of objects) i o c.loop-object.index.widest c.max.result c.len.result low is c.loop-object.invariant.widest c.max.ensures
           (c.len.ensures ∙ c.in_ok-fields.fields.ok.0 ∙ same_length live_of_view (live_of rows (live_rows o)) views (live_rows o) c.in_ok-fields.ensures.value);
       few = omega (arith, c.max.ensures, c.loop-object.invariant.few, c.in_ok-fields.ensures.few, c.len.ensures, c.in_ok-fields.fields.ok.0);

@@ -1,97 +1,206 @@
-use Rattle.std.proofs.Common.{◌≡◌, ◌+◌, ◌<◌, ◌≤◌, length, refl, sym, ◌∙◌, ap, arith}
-use Rattle.fb_schema.specs.Live.{live_fields, live_of_view, required_end}
-use Rattle.fb_verify.specs.Places.{vtable_size}
-use Rattle.fb_verify.specs.Stack.{blank}
-use Rattle.fb_verify.proofs.Absent.{ends_below, others_absent}
+use Rattle.std.proofs.Common.{None, ◌≡◌, ◌+◌, ◌-◌, ◌≤◌, length, refl, sym, ◌∙◌, ap, arith}
+use Rattle.fb_schema.specs.Live.{live_fields, live_of_view}
+use Rattle.fb_verify.specs.Cost.{own_reads}
+use Rattle.fb_verify.specs.Stack.{blank, frame_work}
+use Rattle.fb_verify.proofs.Budgets.{fewer_reads}
 use Rattle.fb_verify.proofs.Words.{row_none}
-use Rattle.fb_verify.proofs.Frames.{if_err_exit, item_some, field_at, length_map, no_row}
+use Rattle.fb_verify.proofs.Frames.{if_err_exit, item_some, item_none, field_at, length_map, no_row, own_few}
+use Rattle.fb_verify.proofs.Passing.{own_least}
 use Rattle.fb_verify.proofs.Standings.{stop_at_field, next_typed}
 use Rattle.fb_verify.proofs.Walking.{field_passed, field_work, field_skipped, skip_work}
 use Rattle.fb_verify.proofs.stack.Walk.pass_fields.Goals as goal
+use Rattle.fb_verify.proofs.stack.Walk.pass_fields.Goals.{After-get}
 
-pub pass_field-requires-clause-kind : goal.pass_field-requires-clause-kind
-pass_field-requires-clause-kind g c =
-    let i = c.loop-field.invariant in
-    let here = field_at live_of_view c.fields_of-fields.result.now _ _ _ c.fields_of-fields.ensures.value (item_some _ _ _ _ c.get.ensures.lookup c.in-Some.is) in
+-- a field that stands somewhere is there
+there : (g : _) (c : After-get g) → c.get.result ≡ None → ⊥
+there g c none =
+    let i = c.loop-place.invariant in
+    let p = c.in_ok-place.ensures in
+    let o = rw c.in-Some.is at p.field in
+    let S = c.args.self.now.schema.now in
+    let fields = c.fields_of-fields.result.now in
+    let past = item_none _ _ _ c.get.ensures.lookup none in
+    let long = ap (λ x. length (live_fields S x.object)) (ap (λ x. x.table) p.top ∙ i.table) in
+    omega (arith, past, o.within, ap length c.fields_of-fields.ensures.value, length_map live_of_view fields, long)
+
+pub returns-in_default-get-clause-walking : goal.returns-in_default-get-clause-walking
+returns-in_default-get-clause-walking g c = absurd (there g (goal.at.returns-in_default-get-clause-walking g c).After-get c.in_default-get.is)
+
+pub returns-in_default-get-clause-falls : goal.returns-in_default-get-clause-falls
+returns-in_default-get-clause-falls g c = absurd (there g (goal.at.returns-in_default-get-clause-falls g c).After-get c.in_default-get.is)
+
+pub pass_present-requires-clause-kind : goal.pass_present-requires-clause-kind
+pass_present-requires-clause-kind g c =
+    let i = c.loop-place.invariant in
+    let here = field_at live_of_view c.fields_of-fields.result.now _ _ _ c.fields_of-fields.ensures.value (item_some _ _ _ _ c.get.ensures.lookup c.in-Some-get.is) in
     ((i.walking).served).kinds _ _ _ here
 
-pub pass_field-requires-clause-typed : goal.pass_field-requires-clause-typed
-pass_field-requires-clause-typed g c =
-    let i = c.loop-field.invariant in
-    let h = i.walking in
-    let e = sym i.table in
-    let here = rw e at (field_at live_of_view c.fields_of-fields.result.now _ _ _ c.fields_of-fields.ensures.value (item_some _ _ _ _ c.get.ensures.lookup c.in-Some.is)) in
-    next_typed c.args.self.now.checks c.loop-field.meter.bytes c.args.self.now.schema.now c.args.self.now.limits (g.under).start (g.under).frames c.loop-field.top c.args.self.now.tables c.args.self.now.deepest c.loop-field.meter.count h.standing _ h.served i.rests here
+pub pass_present-requires-clause-typed : goal.pass_present-requires-clause-typed
+pass_present-requires-clause-typed g c =
+    let i = c.loop-place.invariant in
+    let p = c.in_ok-place.ensures in
+    let o = rw c.in-Some.is at p.field in
+    let h = o.walking in
+    let w = c.args.self.now in
+    let S = w.schema.now in
+    let top = c.pass_on.new.top in
+    let b = c.pass_on.new.meter.bytes in
+    let rests : (top.row).left ≡ 0 = ap (λ x. (x.row).left) p.top ∙ i.rests in
+    let e = sym (ap (λ x. x.table) p.top ∙ i.table) in
+    let field = live_of_view c.in-Some-get.field.now in
+    let here = rw e at (field_at live_of_view c.fields_of-fields.result.now _ _ _ c.fields_of-fields.ensures.value (item_some _ _ _ _ c.get.ensures.lookup c.in-Some-get.is)) in
+    let before : c.pass_on.new.meter.count - 1 ≡ o.before = omega (arith, o.count) in
+    next_typed w.checks b S w.limits (g.under).start (g.under).frames top w.tables w.deepest o.before h.standing field h.served rests here
 
-pub returns-in_err-pass_field-clause-err : goal.returns-in_err-pass_field-clause-err
-returns-in_err-pass_field-clause-err g c =
-    let i = c.loop-field.invariant in
-    let h = i.walking in
-    let e = sym i.table in
-    let here = rw e at (field_at live_of_view c.fields_of-fields.result.now _ _ _ c.fields_of-fields.ensures.value (item_some _ _ _ _ c.get.ensures.lookup c.in-Some.is)) in
-    if_err_exit _ _ _ c.from_residual.ensures.1
-    (rw i.bytes at
-    (stop_at_field c.args.self.now.checks c.loop-field.meter.bytes c.args.self.now.schema.now c.args.self.now.limits (g.under).start (g.under).frames c.loop-field.top c.args.self.now.tables c.args.self.now.deepest c.loop-field.meter.count h.standing
-    h.tables h.deepest h.reads _ _ i.rests here c.in_err-pass_field.ensures.err))
+pub pass_present-requires-clause-present : goal.pass_present-requires-clause-present
+pass_present-requires-clause-present g c =
+    let i = c.loop-place.invariant in
+    let p = c.in_ok-place.ensures in
+    let o = rw c.in-Some.is at p.field in
+    let h = o.walking in
+    let w = c.args.self.now in
+    let S = w.schema.now in
+    let top = c.pass_on.new.top in
+    let b = c.pass_on.new.meter.bytes in
+    let rests : (top.row).left ≡ 0 = ap (λ x. (x.row).left) p.top ∙ i.rests in
+    let e = sym (ap (λ x. x.table) p.top ∙ i.table) in
+    let field = live_of_view c.in-Some-get.field.now in
+    let here = rw e at (field_at live_of_view c.fields_of-fields.result.now _ _ _ c.fields_of-fields.ensures.value (item_some _ _ _ _ c.get.ensures.lookup c.in-Some-get.is)) in
+    let before : c.pass_on.new.meter.count - 1 ≡ o.before = omega (arith, o.count) in
+    (o.present field here).0
 
-pub returns-then-required_end-top-clause-walking : goal.returns-then-required_end-top-clause-walking
-returns-then-required_end-top-clause-walking g c =
-    let i = c.loop-field.invariant in
-    let h = i.walking in
-    let e = sym i.table in
-    let b = c.loop-field.meter.bytes in
-    let S = c.args.self.now.schema.now in
-    let top = c.loop-field.top in
-    let fields = c.fields_of-fields.result.now in
-    let here = rw e at (field_at live_of_view fields _ _ _ c.fields_of-fields.ensures.value (item_some _ _ _ _ c.get.ensures.lookup c.in-Some.is)) in
-    let all = rw e at (ap length c.fields_of-fields.ensures.value) in
-    let long : length fields ≡ length (live_fields S (top.table).object) = omega (arith, length_map live_of_view fields, all) in
-    let past : vtable_size b (top.table).at < (c.in-Some.field.now).slot + 2 = omega (arith, ends_below _ _ _ c.ends_before.ensures c.if-ends_before.true, (((h.frame).head).vtable).size) in
-    let free : required_end S (top.table).object ≤ top.next = omega (arith, c.required_end.ensures, c.if-required_end-top.true) in
-    rw long (others_absent c.args.self.now.checks b S c.args.self.now.limits (g.under).start (g.under).frames top c.args.self.now.tables c.args.self.now.deepest c.loop-field.meter.count h i.rests _ here past free)
+pub pass_present-requires-clause-slot : goal.pass_present-requires-clause-slot
+pass_present-requires-clause-slot g c =
+    let i = c.loop-place.invariant in
+    let p = c.in_ok-place.ensures in
+    let o = rw c.in-Some.is at p.field in
+    let h = o.walking in
+    let w = c.args.self.now in
+    let S = w.schema.now in
+    let top = c.pass_on.new.top in
+    let b = c.pass_on.new.meter.bytes in
+    let rests : (top.row).left ≡ 0 = ap (λ x. (x.row).left) p.top ∙ i.rests in
+    let e = sym (ap (λ x. x.table) p.top ∙ i.table) in
+    let field = live_of_view c.in-Some-get.field.now in
+    let here = rw e at (field_at live_of_view c.fields_of-fields.result.now _ _ _ c.fields_of-fields.ensures.value (item_some _ _ _ _ c.get.ensures.lookup c.in-Some-get.is)) in
+    let before : c.pass_on.new.meter.count - 1 ≡ o.before = omega (arith, o.count) in
+    (o.present field here).1
+
+pub returns-in_err-pass_present-clause-err : goal.returns-in_err-pass_present-clause-err
+returns-in_err-pass_present-clause-err g c =
+    let i = c.loop-place.invariant in
+    let p = c.in_ok-place.ensures in
+    let o = rw c.in-Some.is at p.field in
+    let h = o.walking in
+    let w = c.args.self.now in
+    let S = w.schema.now in
+    let top = c.pass_on.new.top in
+    let b = c.pass_on.new.meter.bytes in
+    let rests : (top.row).left ≡ 0 = ap (λ x. (x.row).left) p.top ∙ i.rests in
+    let e = sym (ap (λ x. x.table) p.top ∙ i.table) in
+    let field = live_of_view c.in-Some-get.field.now in
+    let here = rw e at (field_at live_of_view c.fields_of-fields.result.now _ _ _ c.fields_of-fields.ensures.value (item_some _ _ _ _ c.get.ensures.lookup c.in-Some-get.is)) in
+    let before : c.pass_on.new.meter.count - 1 ≡ o.before = omega (arith, o.count) in
+    if_err_exit _ _ _ c.from_residual-in_err-pass_present.ensures.1
+    (rw (p.bytes ∙ i.bytes) at
+    (stop_at_field w.checks b S w.limits (g.under).start (g.under).frames top w.tables w.deepest o.before h.standing h.tables h.deepest h.reads _ field rests here (rw before at c.in_err-pass_present.ensures.err)))
 
 pub returns-then-branch-clause-walking : goal.returns-then-branch-clause-walking
 returns-then-branch-clause-walking g c =
-    let i = c.loop-field.invariant in
-    let e = sym i.table in
-    let here = rw e at (field_at live_of_view c.fields_of-fields.result.now _ _ _ c.fields_of-fields.ensures.value (item_some _ _ _ _ c.get.ensures.lookup c.in-Some.is)) in
-    let row = c.in_ok-pass_field.ensures.row c.if-branch.true in
-    let entries = c.in_ok-pass_field.ensures.entries c.if-branch.true in
-    let cheap = rw c.in_ok-pass_field.ensures.counted at c.in_ok-pass_field.ensures.reads in
-    rw c.in_ok-pass_field.ensures.counted
-    (field_passed c.args.self.now.checks c.loop-field.meter.bytes c.args.self.now.schema.now c.args.self.now.limits (g.under).start (g.under).frames c.loop-field.top c.args.self.now.tables c.args.self.now.deepest c.loop-field.meter.count i.walking
-    _ c.pass_field.new.row _ _ i.rests here refl row.0 cheap refl c.in_ok-pass_field.ensures.ok entries)
+    let i = c.loop-place.invariant in
+    let p = c.in_ok-place.ensures in
+    let o = rw c.in-Some.is at p.field in
+    let h = o.walking in
+    let w = c.args.self.now in
+    let S = w.schema.now in
+    let top = c.pass_on.new.top in
+    let b = c.pass_on.new.meter.bytes in
+    let rests : (top.row).left ≡ 0 = ap (λ x. (x.row).left) p.top ∙ i.rests in
+    let e = sym (ap (λ x. x.table) p.top ∙ i.table) in
+    let field = live_of_view c.in-Some-get.field.now in
+    let here = rw e at (field_at live_of_view c.fields_of-fields.result.now _ _ _ c.fields_of-fields.ensures.value (item_some _ _ _ _ c.get.ensures.lookup c.in-Some-get.is)) in
+    let before : c.pass_on.new.meter.count - 1 ≡ o.before = omega (arith, o.count) in
+    let row = c.in_ok-pass_present.ensures.row c.if-branch.true in
+    let entries = c.in_ok-pass_present.ensures.entries c.if-branch.true in
+    let cheap = rw c.in_ok-pass_present.ensures.counted at c.in_ok-pass_present.ensures.reads in
+    rw c.in_ok-pass_present.ensures.counted
+    (field_passed w.checks b S w.limits (g.under).start (g.under).frames top w.tables w.deepest o.before h field c.pass_present.new.row _ _ rests here (ap (λ n. n + own_reads b (top.table).at field) before) row.0 cheap refl c.in_ok-pass_present.ensures.ok entries)
 
 pub returns-then-branch-clause-falls : goal.returns-then-branch-clause-falls
 returns-then-branch-clause-falls g c =
-    let i = c.loop-field.invariant in
-    let e = sym i.table in
-    let here = rw e at (field_at live_of_view c.fields_of-fields.result.now _ _ _ c.fields_of-fields.ensures.value (item_some _ _ _ _ c.get.ensures.lookup c.in-Some.is)) in
-    let row = c.in_ok-pass_field.ensures.row c.if-branch.true in
-    let less = field_work c.args.self.now.checks c.loop-field.meter.bytes c.args.self.now.schema.now c.args.self.now.limits (g.under).start (g.under).frames c.loop-field.top c.args.self.now.tables c.args.self.now.deepest c.loop-field.meter.count i.walking
-    _ c.pass_field.new.row c.in-Some.field.now.number _ i.rests here refl row.0 in
-    omega (arith, less, i.budget, ap (λ m. m.count) c.in_ok-pass_field.ensures.counted)
+    let i = c.loop-place.invariant in
+    let p = c.in_ok-place.ensures in
+    let o = rw c.in-Some.is at p.field in
+    let h = o.walking in
+    let w = c.args.self.now in
+    let S = w.schema.now in
+    let top = c.pass_on.new.top in
+    let b = c.pass_on.new.meter.bytes in
+    let rests : (top.row).left ≡ 0 = ap (λ x. (x.row).left) p.top ∙ i.rests in
+    let e = sym (ap (λ x. x.table) p.top ∙ i.table) in
+    let field = live_of_view c.in-Some-get.field.now in
+    let here = rw e at (field_at live_of_view c.fields_of-fields.result.now _ _ _ c.fields_of-fields.ensures.value (item_some _ _ _ _ c.get.ensures.lookup c.in-Some-get.is)) in
+    let before : c.pass_on.new.meter.count - 1 ≡ o.before = omega (arith, o.count) in
+    let long = ap (λ x. length (live_fields S (x.table).object)) p.top in
+    let left = ap (λ x. (x.row).left) p.top in
+    let mid : o.before + frame_work S top ≤ c.loop-place.meter.count + frame_work S c.loop-place.top = omega (arith, p.paid, p.forth, p.within, o.count, long, left) in
+    let row = c.in_ok-pass_present.ensures.row c.if-branch.true in
+    let less = field_work w.checks b S w.limits (g.under).start (g.under).frames top w.tables w.deepest o.before h field c.pass_present.new.row field.number (c.pass_on.new.meter.count - 1 + own_reads b (top.table).at field) rests here (ap (λ n. n + own_reads b (top.table).at field) before) row.0 in
+    omega (arith, less, mid, i.budget, ap (λ m. m.count) c.in_ok-pass_present.ensures.counted)
 
-pub loop-field-preserved : goal.loop-field-preserved
-loop-field-preserved g c =
-    let i = c.loop-field.invariant in
-    let e = sym i.table in
-    let here = rw e at (field_at live_of_view c.fields_of-fields.result.now _ _ _ c.fields_of-fields.ensures.value (item_some _ _ _ _ c.get.ensures.lookup c.in-Some.is)) in
-    let none = c.in_ok-pass_field.ensures.none c.if-branch.false in
-    let b = c.loop-field.meter.bytes in
-    let S = c.args.self.now.schema.now in
-    let less = skip_work c.args.self.now.checks b S c.args.self.now.limits (g.under).start (g.under).frames c.loop-field.top c.args.self.now.tables c.args.self.now.deepest c.loop-field.meter.count i.walking
-    _ blank.row c.in-Some.field.now.number _ i.rests here refl (no_row c.args.self.now.checks b S) in
-    let count = ap (λ m. m.count) c.in_ok-pass_field.ensures.counted in
-    let cheap = rw c.in_ok-pass_field.ensures.counted at c.in_ok-pass_field.ensures.reads in
+pub returns-then-branch-clause-grows : goal.returns-then-branch-clause-grows
+returns-then-branch-clause-grows g c =
+    let i = c.loop-place.invariant in
+    let p = c.in_ok-place.ensures in
+    let o = rw c.in-Some.is at p.field in
+    let h = o.walking in
+    let w = c.args.self.now in
+    let S = w.schema.now in
+    let top = c.pass_on.new.top in
+    let b = c.pass_on.new.meter.bytes in
+    let rests : (top.row).left ≡ 0 = ap (λ x. (x.row).left) p.top ∙ i.rests in
+    let e = sym (ap (λ x. x.table) p.top ∙ i.table) in
+    let field = live_of_view c.in-Some-get.field.now in
+    let here = rw e at (field_at live_of_view c.fields_of-fields.result.now _ _ _ c.fields_of-fields.ensures.value (item_some _ _ _ _ c.get.ensures.lookup c.in-Some-get.is)) in
+    let before : c.pass_on.new.meter.count - 1 ≡ o.before = omega (arith, o.count) in
+    let least = own_least b (top.table).at field (o.present field here).1 in
+    omega (arith, i.grows, p.grows, least, ap (λ m. m.count) c.in_ok-pass_present.ensures.counted)
+
+pub loop-place-preserved : goal.loop-place-preserved
+loop-place-preserved g c =
+    let i = c.loop-place.invariant in
+    let p = c.in_ok-place.ensures in
+    let o = rw c.in-Some.is at p.field in
+    let h = o.walking in
+    let w = c.args.self.now in
+    let S = w.schema.now in
+    let top = c.pass_on.new.top in
+    let b = c.pass_on.new.meter.bytes in
+    let rests : (top.row).left ≡ 0 = ap (λ x. (x.row).left) p.top ∙ i.rests in
+    let e = sym (ap (λ x. x.table) p.top ∙ i.table) in
+    let field = live_of_view c.in-Some-get.field.now in
+    let here = rw e at (field_at live_of_view c.fields_of-fields.result.now _ _ _ c.fields_of-fields.ensures.value (item_some _ _ _ _ c.get.ensures.lookup c.in-Some-get.is)) in
+    let before : c.pass_on.new.meter.count - 1 ≡ o.before = omega (arith, o.count) in
+    let long = ap (λ x. length (live_fields S (x.table).object)) p.top in
+    let left = ap (λ x. (x.row).left) p.top in
+    let mid : o.before + frame_work S top ≤ c.loop-place.meter.count + frame_work S c.loop-place.top = omega (arith, p.paid, p.forth, p.within, o.count, long, left) in
+    let own = own_reads b (top.table).at field in
+    let counted = c.in_ok-pass_present.ensures.counted in
+    let count = ap (λ m. m.count) counted in
+    let none = c.in_ok-pass_present.ensures.none c.if-branch.false in
+    let z = ap (λ n. n + own) before in
+    let less = skip_work w.checks b S w.limits (g.under).start (g.under).frames top w.tables w.deepest o.before h field blank.row field.number (c.pass_on.new.meter.count - 1 + own) rests here z (no_row w.checks b S) in
+    let cheap = rw counted at c.in_ok-pass_present.ensures.reads in
+    let least = own_least b (top.table).at field (o.present field here).1 in
+    let few = own_few b (top.table).at field in
     record {
-      bytes = ap (λ m. m.bytes) c.in_ok-pass_field.ensures.counted ∙ i.bytes;
-      table = i.table;
-      rests = rw none.1 i.rests;
+      bytes = ap (λ m. m.bytes) counted ∙ p.bytes ∙ i.bytes;
+      table = ap (λ x. x.table) p.top ∙ i.table;
+      rests = rw none.1 rests;
       walking =
-          rw (c.in_ok-pass_field.ensures.counted, none.1)
-          (field_skipped c.args.self.now.checks b S c.args.self.now.limits (g.under).start (g.under).frames c.loop-field.top c.args.self.now.tables c.args.self.now.deepest c.loop-field.meter.count i.walking
-          _ blank.row c.in-Some.field.now.number _ i.rests here refl (no_row c.args.self.now.checks b S) cheap refl c.in_ok-pass_field.ensures.ok (none.0 ∙ sym (row_none b S blank.row refl)));
-      budget = rw none.1 (omega (arith, less, i.budget, count));
-      grows = omega (arith, i.grows, count);
+          rw (counted, none.1)
+          (field_skipped w.checks b S w.limits (g.under).start (g.under).frames top w.tables w.deepest o.before h field blank.row field.number _ rests here z (no_row w.checks b S) cheap refl c.in_ok-pass_present.ensures.ok (none.0 ∙ sym (row_none b S blank.row refl)));
+      room = fewer_reads (w.limits).reads _ _ (omega (arith, p.paid, count, few, o.within, o.count, long)) i.room;
+      budget = rw none.1 (omega (arith, less, mid, i.budget, count));
+      grows = omega (arith, i.grows, p.grows, least, count);
     }

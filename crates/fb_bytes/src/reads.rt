@@ -1,0 +1,112 @@
+//! A meter's bytes, lent out to be read under a short count.
+
+ghost use Rattle.std.specs.Prelude.{◌≡◌, ◌+◌, ◌^◌, ◌<◌, ◌≤◌, length, IsTrue, ◌↔◌};
+ghost use Rattle.fb_bytes.specs.Word.{word, signed_word};
+
+use crate::window::Window;
+use std::marker::Model;
+
+/// The bytes of a [`crate::Meter`], and the number of reads made of them since it lent them.
+///
+/// A contract sees it as a meter: as its bytes and its count. Reads count as they do there, but in 64 bits, which a
+/// loop keeps in a register; so whoever holds one settles it before 2^63 reads. There is no way to the bytes but by a
+/// counted read: nothing of them is lent on, and nothing seals them. [`crate::Meter::lend`] makes one, and
+/// [`crate::Meter::settle`] takes it back.
+#[derive(Drop)]
+pub struct Reads<'a> {
+    window: Window<'a>,
+    count: u64,
+}
+
+impl<'a> Model for Reads<'a> {
+    ghost use Rattle.fb_bytes.specs.Word.{Metered};
+
+    ghost Value = { Metered };
+
+    ghost view = { λ r. record { bytes = r.window; count = r.count } };
+}
+
+impl<'a> Reads<'a> {
+    /// A window of which no read was made.
+    #[inline(always)]
+    pub(crate) fn over(window: Window<'a>) -> Self
+        ensures { result ≡ record { bytes = window.entry; count = 0 } }
+    {
+        Reads { window, count: 0 }
+    }
+
+    /// The window, and the reads made of it.
+    #[inline(always)]
+    pub(crate) fn into_parts(self) -> (Window<'a>, u64)
+        ensures window { result.0 ≡ self.entry.bytes }
+        ensures count { result.1 ≡ self.entry.count }
+    {
+        (self.window, self.count)
+    }
+
+    /// How many bytes there are.
+    #[inline(always)]
+    pub fn len(&self) -> u64
+        ensures len { result ≡ length self.now.bytes }
+        ensures short { length self.now.bytes < 2 ^ 31 }
+    {
+        self.window.len()
+    }
+
+    /// Whether the `n` bytes at `at` are in the buffer, for every `at` and `n`.
+    #[inline(always)]
+    pub fn fits(&self, at: u64, n: u64) -> bool
+        ensures fits { IsTrue result ↔ at + n ≤ length self.now.bytes }
+        ensures short { length self.now.bytes < 2 ^ 31 }
+    {
+        self.window.fits(at, n)
+    }
+
+    /// Reads the byte at `at`.
+    #[inline(always)]
+    pub fn u8_at(&mut self, at: u64) -> u8
+        requires fits { at + 1 ≤ length self.old.bytes }
+        requires few { self.old.count < 2 ^ 63 }
+        ensures number { result ≡ word self.old.bytes at 1 }
+        ensures counted { self.new ≡ record self.old { count = self.old.count + 1 } }
+    {
+        self.count += 1;
+        self.window.u8_at(at)
+    }
+
+    /// Reads the two bytes at `at`, as a `voffset` or a vtable's size is read.
+    #[inline(always)]
+    pub fn u16_at(&mut self, at: u64) -> u16
+        requires fits { at + 2 ≤ length self.old.bytes }
+        requires few { self.old.count < 2 ^ 63 }
+        ensures number { result ≡ word self.old.bytes at 2 }
+        ensures counted { self.new ≡ record self.old { count = self.old.count + 1 } }
+    {
+        self.count += 1;
+        self.window.u16_at(at)
+    }
+
+    /// Reads the four bytes at `at`, as a `uoffset` or a count is read.
+    #[inline(always)]
+    pub fn u32_at(&mut self, at: u64) -> u32
+        requires fits { at + 4 ≤ length self.old.bytes }
+        requires few { self.old.count < 2 ^ 63 }
+        ensures number { result ≡ word self.old.bytes at 4 }
+        ensures counted { self.new ≡ record self.old { count = self.old.count + 1 } }
+    {
+        self.count += 1;
+        self.window.u32_at(at)
+    }
+
+    /// Reads the four bytes at `at` in two's complement, as an `soffset` is read.
+    #[inline(always)]
+    pub fn i32_at(&mut self, at: u64) -> i32
+        requires fits { at + 4 ≤ length self.old.bytes }
+        requires few { self.old.count < 2 ^ 63 }
+        ensures number { result ≡ signed_word self.old.bytes at }
+        ensures counted { self.new ≡ record self.old { count = self.old.count + 1 } }
+    {
+        self.count += 1;
+        self.window.i32_at(at)
+    }
+}

@@ -1,0 +1,32 @@
+use Rattle.std.proofs.Common.{◌≡◌, length, map, ◌∙◌, ap, arith}
+use Rattle.std.proofs.lemmas.List.{length-map}
+use Rattle.fb_schema.specs.FlatLists.{lists_of}
+use Rattle.fb_schema.specs.Live.{live_fields, widest}
+use Rattle.fb_schema.specs.Rows.{rows_of}
+use Rattle.fb_schema.specs.Steps.{step_of}
+use Rattle.fb_schema.proofs.LookLemmas.{steps_read, within_widest}
+use Rattle.fb_schema.proofs.schema.Schema.steps_of.Goals as goal
+use Rattle.fb_schema.proofs.schema.Schema.steps_of.Goals.{After-get}
+
+value : (g : _) (c : After-get g) → c.get.result.now ≡ map step_of (live_fields c.args.self.now c.args.n)
+value g c =
+    let s = c.self.inside in
+    steps_read (rows_of s.objects.items s.enums.items) (lists_of s.live.steps) c.args.n c.get.result.now c.self.invariant.fields.steps c.get.ensures
+    ∙ ap (λ r. map step_of (live_fields r c.args.n)) c.self.view_is
+
+pub returns-clause-value : goal.returns-clause-value
+returns-clause-value g c = value g (goal.at.returns-clause-value g c).After-get
+
+widest_read : (g : _) (c : After-get g) → c.self.inside.live.widest ≡ widest c.args.self.now
+unfolding widest
+widest_read g c = c.self.invariant.fields.widest ∙ ap widest c.self.view_is
+
+pub returns-clause-few : goal.returns-clause-few
+returns-clause-few g c =
+    let d = (goal.at.returns-clause-few g c).After-get in
+    let few = c.self.invariant.fields.few in
+    let a = ap length (value g d) in
+    let l = length-map (live_fields c.args.self.now c.args.n) step_of in
+    let w = within_widest c.args.self.now c.args.n in
+    let b = widest_read g d in
+    omega arith

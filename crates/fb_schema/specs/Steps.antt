@@ -1,0 +1,33 @@
+-- What a reader of buffers does at each live field of a table.
+use Rattle.std.specs.Prelude.{ℕ, ◌==◌, ◌&&◌, if◌then◌else◌}
+use Rattle.fb_schema.specs.declared.kinds.Kind.{Kind}
+use Rattle.fb_schema.specs.declared.kinds.Kind.TheVariants.{Scalar, Text, Struct, Table, Union, Scalars, Texts, Structs, Tables, Unions}
+use Rattle.fb_schema.specs.declared.views.Act.{Act}
+use Rattle.fb_schema.specs.declared.views.Act.TheVariants.{One, Two, Four, Eight, Inline, Text as AText, Vector, Other}
+use Rattle.fb_schema.specs.declared.views.Step.{Step}
+use Rattle.fb_schema.specs.Live.{Live}
+
+-- at a scalar or struct of this size and alignment
+abbrev pub inline_act : ℕ → ℕ → Act
+inline_act size align =
+    if size == 1 && align == 1 then One
+    else (if size == 2 && align == 2 then Two
+    else (if size == 4 && align == 4 then Four
+    else (if size == 8 && align == 8 then Eight else Inline)))
+
+-- at a field of this kind
+abbrev pub act_of : Live → Kind → Act
+act_of f (Scalar s) = inline_act f.size f.align
+act_of f (Struct k) = inline_act f.size f.align
+act_of f Text = AText
+act_of f (Table k) = Other
+act_of f (Union e) = Other
+act_of f (Scalars s) = Vector
+act_of f (Structs k) = Vector
+act_of f Texts = Other
+act_of f (Tables k) = Other
+act_of f (Unions e) = Other
+
+-- the step of a field
+abbrev pub step_of : Live → Step
+step_of f = record { act = act_of f f.kind; required = f.required; slot = f.slot; size = f.size; align = f.align }

@@ -1,0 +1,65 @@
+// The live fields of a table in one flat row, for a reader that passes many of them.
+
+ghost use Rattle.std.specs.Prelude.{◌≡◌, map, IfOk};
+ghost use Rattle.fb_schema.specs.Live.{live_of_view};
+ghost use Rattle.fb_schema.specs.Steps.{inline_act, act_of, step_of};
+
+use crate::kinds::Kind;
+use crate::views::{Act, FieldView, Step};
+use std::alloc::{AllocError, Allocator};
+
+/// What to do at a scalar or struct of this size and alignment.
+fn inline_act(size: u32, align: u32) -> Act
+    ensures { result ≡ inline_act size align }
+{
+    if size == 1 && align == 1 {
+        Act::One
+    } else if size == 2 && align == 2 {
+        Act::Two
+    } else if size == 4 && align == 4 {
+        Act::Four
+    } else if size == 8 && align == 8 {
+        Act::Eight
+    } else {
+        Act::Inline
+    }
+}
+
+/// What to do at a field.
+fn act_of(field: &FieldView<'_>) -> Act
+    ensures { result ≡ act_of (live_of_view field.now) (field.now).kind }
+{
+    match field.kind {
+        Kind::Scalar(_) | Kind::Struct(_) => inline_act(field.size, field.align),
+        Kind::Text => Act::Text,
+        Kind::Scalars(_) | Kind::Structs(_) => Act::Vector,
+        _ => Act::Other,
+    }
+}
+
+/// The step of a field.
+fn step_of(field: &FieldView<'_>) -> Step
+    ensures { result ≡ step_of (live_of_view field.now) }
+{
+    Step {
+        act: act_of(field),
+        required: field.required,
+        slot: field.slot,
+        size: field.size,
+        align: field.align,
+    }
+}
+
+/// The steps of these fields.
+pub fn field_steps<A: Allocator>(
+    alloc: A,
+    fields: &[FieldView<'_>],
+) -> Result<Vec<Step, A>, AllocError>
+    ensures { IfOk result (λ steps. steps.items ≡ map (λ f. step_of (live_of_view f)) fields.now) }
+{
+    let mut steps = Vec::new(alloc);
+    for field in fields {
+        steps.push(step_of(field))?;
+    }
+    Ok(steps)
+}

@@ -1,0 +1,223 @@
+-- A walk goes on past fields that lead to no table, or stops at one.
+use Rattle.std.proofs.Common.{◌≡◌, ℕ, ◌+◌, ◌^◌, ◌<◌, ◌≤◌, inl, inr, Bool, true, false, IsTrue, IfSome, if◌then◌else◌, List, map, length, refl, sym, ◌∙◌, ap, subst, arith, Option, Some, None}
+use Rattle.std.specs.Prelude.{slice_get}
+use Rattle.std.proofs.lemmas.List.{length-map}
+use Rattle.fb_bytes.specs.Word.{Metered}
+use Rattle.fb_schema.specs.declared.views.Act.TheVariants.{Other}
+use Rattle.fb_schema.specs.declared.views.Step.{Step}
+use Rattle.fb_schema.specs.Rows.{Rows}
+use Rattle.fb_schema.specs.Live.{Live, live_fields, required_end}
+use Rattle.fb_schema.specs.Steps.{act_of, step_of}
+use Rattle.fb_verify.specs.declared.checks.Checks.{Checks}
+use Rattle.fb_verify.specs.declared.fault.Fault.{Fault}
+use Rattle.fb_verify.specs.declared.fault.Reason.{Reason}
+use Rattle.fb_verify.specs.declared.offset_row.Row.{Row}
+use Rattle.fb_verify.specs.declared.offset_row.Referent.TheVariants.{Text as AText}
+use Rattle.fb_verify.specs.declared.offset_row.Leads.TheVariants.{All}
+use Rattle.fb_verify.specs.declared.scratch.Frame.{Frame}
+use Rattle.fb_verify.specs.declared.site.Refusal.{Refusal}
+use Rattle.fb_verify.specs.declared.site.Site.{Site}
+use Rattle.fb_verify.specs.declared.site.Stop.{Stop}
+use Rattle.fb_verify.specs.declared.stack.Walk.{Walk}
+use Rattle.fb_verify.specs.Bounds.{Bounds, AreAllowed}
+use Rattle.fb_verify.specs.Places.{vtable_size, has_slot, field_place}
+use Rattle.fb_verify.specs.Fields.{to_string, entries, row}
+use Rattle.fb_verify.specs.Cost.{slot_reads, own_reads}
+use Rattle.fb_verify.specs.Order.{Failure, after, ◌▷◌, lead_failure, own_failure, element_failure}
+use Rattle.fb_verify.specs.OffsetRows.{words_of, first_word, past_first}
+use Rattle.fb_verify.specs.Plain.{step_reads, step_reads_at, tested_by, plain_failure, plain_reads}
+use Rattle.fb_verify.specs.Stack.{blank, Origin, IsUnderWay, IsWalkingBy, IsAtField, Standing}
+use Rattle.fb_verify.specs.Stops.{StopsFrom, reads_failure, lead_reads_failure}
+use Rattle.fb_verify.specs.Told.{told, refused, stopped}
+use Rattle.fb_verify.proofs.Absent.{others_absent}
+use Rattle.fb_verify.proofs.Budgets.{fewer_reads}
+use Rattle.fb_verify.proofs.Chains.{after_none, both_none}
+use Rattle.fb_verify.proofs.Frames.{field_within, frame_next, no_row, own_few}
+use Rattle.fb_verify.proofs.Plains.{LeadsTo, step_at, comes, after_twice}
+use Rattle.fb_verify.proofs.Refusals.{told_after, told_first}
+use Rattle.fb_verify.proofs.Standings.{at_rest, pass_more, pass_leaf, stop_at_field, stop_at_element}
+use Rattle.fb_verify.proofs.Walking.{field_skipped}
+use Rattle.fb_verify.proofs.Words.{row_none}
+
+-- a failure that a test tells is told after the reads before it
+failed_after : (k m q : ℕ) (e : Refusal) (x : Option Failure) → after m x ≡ Some (refused e q) → after (k + m) x ≡ Some (refused e (k + q))
+failed_after k m q e x h = sym (after_twice k m x) ∙ ap (after k) h
+
+-- a stop is its parts
+stop_is : (s : Stop) (e : Refusal) (object number reads : ℕ) → s.refusal ≡ e → (s.site).object ≡ object → (s.site).field ≡ Some number
+    → stopped (record { refusal = e; site = record { object = object; field = Some number } }) reads ≡ stopped s reads
+stop_is s e object number reads a b c = rw (a, b, c) refl
+
+-- A field that leads to no table.
+module _ (c : Checks) (b : List ℕ) (S : Rows) (L : Bounds) (s : Origin) (below : List Frame) (top : Frame) (n d r : ℕ) (h : IsUnderWay c b S L s below top n d r)
+    (rests : (top.row).left ≡ 0) (f : Live) (here : slice_get (live_fields S (top.table).object) top.next ≡ Some f) (plain : act_of f f.kind ≡ Other → field_place b (top.table).at f.slot ≡ None) where
+  abbrev t : ℕ
+  t = (top.table).at
+
+  -- the top, past this field
+  abbrev top_over : Frame
+  top_over = record { table = top.table; next = top.next + 1; number = top.number; row = top.row }
+
+  -- the row of a string's offset word
+  abbrev one_word : ℕ → Row
+  one_word p = record { leads = All AText; place = p; left = 1 }
+
+  -- the field under check, with that row
+  abbrev at_word : ℕ → Frame
+  at_word p = record { table = top.table; next = top.next + 1; number = f.number; row = one_word p }
+
+  module _ (p : ℕ) (to : LeadsTo c b S t f p) where
+    word_is : entries b S t f ≡ words_of b S (one_word p)
+    unfolding row
+    word_is = to.one
+
+    -- the field holds by itself
+    entered : own_failure c b S t f ≡ None → Standing c b S s below (at_word p) n d (r + own_reads b t f)
+    entered own = pass_more c b S L s below top n d r h.standing f (one_word p) f.number (r + own_reads b t f) rests here refl own word_is refl
+
+    -- the string is passed
+    string_passed : (q : ℕ) → q ≡ r + plain_reads b t (step_of f) → plain_failure c b t (step_of f) ≡ None → Standing c b S s below top_over n d q
+    unfolding element_failure
+    string_passed q z ok =
+        let parts = (both_none (own_failure c b S t f) (after (own_reads b t f) (lead_failure c b p to_string))).0 (sym to.chain ∙ ok) in
+        let lead = (after_none (own_reads b t f) (lead_failure c b p to_string)).0 parts.1 in
+        let count : q ≡ r + own_reads b t f + 0 + 3 = omega (arith, z, to.reads) in
+        let none : (past_first (one_word p)).left ≡ 0 = omega arith in
+        let on = pass_leaf c b S L s below (at_word p) n d (r + own_reads b t f) (entered parts.0) (past_first (one_word p)) q refl (omega arith) (ap (after 0) lead) tt count in
+        let past : Frame = record { table = top.table; next = top.next + 1; number = f.number; row = past_first (one_word p) } in
+        record { v = on.v; root = on.root; under = on.under; at = inl (record { none = rests; inside = (at_rest c b S past on.v n d q none on.at).inside }) }
+
+  -- a field that holds is passed
+  pub plain_passed : (q : ℕ) → q ≡ r + plain_reads b t (step_of f) → AreAllowed L.reads q → plain_failure c b t (step_of f) ≡ None → IsUnderWay c b S L s below top_over n d q
+  plain_passed q z cheap ok = elim (comes c b S t f plain) [
+    | inl to ↦ field_skipped c b S L s below top n d r h f blank.row top.number q rests here (z ∙ ap (λ m. r + m) to.reads) (no_row c b S) cheap refl (sym to.chain ∙ ok) (to.none ∙ sym (row_none b S blank.row refl))
+    | inr x ↦ record {
+      served = h.served;
+      tables = h.tables;
+      deepest = h.deepest;
+      reads = cheap;
+      links = h.links;
+      low = h.low;
+      frames = h.frames;
+      frame = frame_next c b S top (field_within _ _ _ here) h.frame;
+      standing = string_passed x.0 x.1 q z ok;
+    }
+  ]
+
+  -- Where it fails.
+  module _ (cheap : AreAllowed L.reads (r + own_reads b t f)) (e : Refusal) (q : ℕ) where
+    abbrev site : Site
+    site = record { object = (top.table).object; field = Some f.number }
+
+    abbrev fault : Fault
+    fault = stopped (record { site = site; refusal = e }) q
+
+    abbrev Stopped : Type 0
+    Stopped = StopsFrom c b S L s.object s.position s.way fault
+
+    own_stops : after r (own_failure c b S t f) ≡ Some (refused e q) → Stopped
+    own_stops x =
+        let own = own_failure c b S t f in
+        stop_at_field c b S L s below top n d r h.standing h.tables h.deepest h.reads fault f rests here
+        (told_first site r own (reads_failure L r (own_reads b t f) t) fault (told_after site r q own e x))
+
+    string_stops : (p : ℕ) → LeadsTo c b S t f p → own_failure c b S t f ≡ None → after (r + own_reads b t f) (lead_failure c b p to_string) ≡ Some (refused e q) → Stopped
+    unfolding element_failure
+    string_stops p to own x =
+        let m = r + own_reads b t f in
+        let word = first_word b S (one_word p) in
+        let y : after m (after 0 (lead_failure c b p to_string)) ≡ Some (refused e q) = after_twice m 0 (lead_failure c b p to_string) ∙ ap (λ k. after k (lead_failure c b p to_string)) (let w : m + 0 ≡ m = omega arith in w) ∙ x in
+        stop_at_element c b S L s below (at_word p) n d m (entered p to own) h.tables h.deepest cheap fault (omega arith)
+        (told_first site m (element_failure c b word) (lead_reads_failure L m word word.lead) fault (told_after site m q (element_failure c b word) e y))
+
+    text_stops : (p : ℕ) → LeadsTo c b S t f p → (own : Option Failure) → own_failure c b S t f ≡ own → after r (own ▷ after (own_reads b t f) (lead_failure c b p to_string)) ≡ Some (refused e q) → Stopped
+    text_stops p to None is x = string_stops p to is (sym (after_twice r (own_reads b t f) (lead_failure c b p to_string)) ∙ x)
+    text_stops p to (Some y) is x = own_stops (ap (after r) is ∙ x)
+
+    pub plain_stops : after r (plain_failure c b t (step_of f)) ≡ Some (refused e q) → Stopped
+    plain_stops x = elim (comes c b S t f plain) [
+      | inl to ↦ own_stops (ap (after r) (sym to.chain) ∙ x)
+      | inr y ↦ text_stops y.0 y.1 (own_failure c b S t f) refl (ap (after r) (sym (y.1).chain) ∙ x)
+    ]
+
+-- A step of the loop over steps.
+module _ (c : Checks) (b : List ℕ) (S : Rows) (L : Bounds) (s : Origin) (below : List Frame) (top : Frame) (n d r : ℕ) (h : IsUnderWay c b S L s below top n d r)
+    (rests : (top.row).left ≡ 0) (steps : List Step) (all : steps ≡ map step_of (live_fields S (top.table).object)) (step : Step) (got : slice_get steps top.next ≡ Some step) where
+  -- its field
+  abbrev found : (f : Live) × (slice_get (live_fields S (top.table).object) top.next ≡ Some f) × (step ≡ step_of f)
+  found = step_at (live_fields S (top.table).object) top.next step (ap (λ xs. slice_get xs top.next) (sym all) ∙ got)
+
+  pub next_within : top.next + 1 ≤ length (live_fields S (top.table).object)
+  next_within = field_within _ _ _ found.1
+
+  pub long : length steps ≡ length (live_fields S (top.table).object)
+  long = ap length all ∙ length-map (live_fields S (top.table).object) step_of
+
+  -- where it stands is where its field does
+  pub same_slot : (f : Live) → slice_get (live_fields S (top.table).object) top.next ≡ Some f → step.slot ≡ f.slot
+  same_slot f here = let w : Some found.0 ≡ Some f = sym found.1 ∙ here in let v : found.0 ≡ f = cc in ap (λ (z : Step). z.slot) found.2 ∙ ap (λ (z : Live). z.slot) v
+
+  -- it and those after it are absent
+  pub rest_passed : vtable_size b (top.table).at < step.slot + 2 → required_end S (top.table).object ≤ top.next → IsUnderWay c b S L s below (record { table = top.table; next = length steps; number = top.number; row = top.row }) n d r
+  rest_passed past free =
+      let slot = ap (λ (z : Step). z.slot) found.2 in
+      rw long (others_absent c b S L s below top n d r h rests found.0 found.1 (omega (arith, past, slot)) free)
+
+  module _ (plain : step.act ≡ Other → field_place b (top.table).at step.slot ≡ None) (at m new : ℕ) (failed : Option Reason) (told : tested_by at new failed ≡ after m (plain_failure c b (top.table).at step)) where
+    abbrev plain_field : act_of found.0 (found.0).kind ≡ Other → field_place b (top.table).at (found.0).slot ≡ None
+    plain_field = λ e. ap (λ (z : Step). field_place b (top.table).at z.slot) (sym found.2) ∙ plain (ap (λ (z : Step). z.act) found.2 ∙ e)
+
+    chain_is : plain_failure c b (top.table).at step ≡ plain_failure c b (top.table).at (step_of found.0)
+    chain_is = ap (plain_failure c b (top.table).at) found.2
+
+    -- its test holds
+    pub step_passed : failed ≡ None → (q : ℕ) → q ≡ r + plain_reads b (top.table).at step → AreAllowed L.reads q → IsUnderWay c b S L s below (record { table = top.table; next = top.next + 1; number = top.number; row = top.row }) n d q
+    step_passed e q z cheap =
+        let none = (after_none m (plain_failure c b (top.table).at step)).0 (sym told ∙ ap (tested_by at new) e) in
+        plain_passed c b S L s below top n d r h rests found.0 found.1 plain_field q (z ∙ ap (λ x. r + plain_reads b (top.table).at x) found.2) cheap (sym chain_is ∙ none)
+
+    -- or fails, and the walk stops there
+    pub step_stops : (reason : Reason) → failed ≡ Some reason → (k : ℕ) → r ≡ k + m → AreAllowed L.reads (r + 6) → (stop : Stop) → stop.refusal ≡ record { at = at; reason = reason } → (stop.site).object ≡ (top.table).object
+        → ((f : Live) → slice_get (live_fields S (top.table).object) top.next ≡ Some f → (stop.site).field ≡ Some f.number) → StopsFrom c b S L s.object s.position s.way (stopped stop (k + new))
+    step_stops reason e k z room stop refusal object field =
+        let by : Refusal = record { at = at; reason = reason } in
+        let here = sym told ∙ ap (tested_by at new) e in
+        let x = failed_after k m new by (plain_failure c b (top.table).at (step_of found.0)) (ap (after m) (sym chain_is) ∙ here) in
+        let cheap = fewer_reads L.reads (r + own_reads b (top.table).at found.0) (r + 6) (omega (arith, own_few b (top.table).at found.0)) room in
+        subst (λ f. StopsFrom c b S L s.object s.position s.way f) (stop_is stop by (top.table).object (found.0).number (k + new) refusal object (field found.0 found.1))
+        (plain_stops c b S L s below top n d r h rests found.0 found.1 plain_field cheap by (k + new) (ap (λ w. after w (plain_failure c b (top.table).at (step_of found.0))) z ∙ x))
+
+-- The slot of a field was read that stands there and may lead to a table.
+slot_is_one : (b : List ℕ) (at o : ℕ) → IsTrue (has_slot b at o) → slot_reads b at o ≡ 1
+slot_is_one b at o h = go (has_slot b at o) h where
+  go : (x : Bool) → IsTrue x → ◌≡◌ {A = ℕ} (if x then 1 else 0) 1
+  go true h = refl
+  go false h = absurd cc
+
+-- which the field's reads count
+pub own_least : (b : List ℕ) (at : ℕ) (f : Live) → IsTrue (has_slot b at f.slot) → 1 ≤ own_reads b at f
+unfolding own_reads
+own_least b at f h = omega (arith, slot_is_one b at f.slot h)
+
+module _ (w : Walk) (k : ℕ) (m new : Metered) (s : Origin) (below : List Frame) (top : Frame) (h : IsWalkingBy w k m s below top)
+    (rests : (top.row).left ≡ 0) (steps : List Step) (all : steps ≡ map step_of (live_fields w.schema.now (top.table).object)) (step : Step) (got : slice_get steps top.next ≡ Some step) where
+  abbrev is_slot : (f : Live) → slice_get (live_fields w.schema.now (top.table).object) top.next ≡ Some f → step.slot ≡ f.slot
+  is_slot = same_slot w.checks m.bytes w.schema.now w.limits s below top w.tables w.deepest (k + m.count) h rests steps all step got
+
+  pub at_field : (place : Option ℕ) → place ≡ field_place m.bytes (top.table).at step.slot → IfSome place (λ _. IsTrue (has_slot m.bytes (top.table).at step.slot)) → IfSome place (λ p. p < 2 ^ 34) → new.bytes ≡ m.bytes
+      → new.count ≡ m.count + slot_reads m.bytes (top.table).at step.slot + step_reads_at step place → step.act ≡ Other → IfSome place (λ p. IsAtField w k new s below top p)
+  at_field None here slot near bytes count other = tt
+  at_field (Some p) here slot near bytes count other =
+      let one = slot_is_one m.bytes (top.table).at step.slot slot in
+      let none : step_reads step.act ≡ 0 = ap step_reads other in
+      record {
+        before = k + m.count;
+        count = omega (arith, count, one, none);
+        walking = rw bytes h;
+        within = omega (arith, next_within w.checks m.bytes w.schema.now w.limits s below top w.tables w.deepest (k + m.count) h rests steps all step got);
+        present = λ f here'. (
+          ap (λ z. field_place z (top.table).at f.slot) bytes ∙ ap (λ o. field_place m.bytes (top.table).at o) (sym (is_slot f here')) ∙ sym here,
+          subst (λ z. IsTrue (has_slot z (top.table).at f.slot)) (sym bytes) (subst (λ o. IsTrue (has_slot m.bytes (top.table).at o)) (is_slot f here') slot),
+        );
+        near = near;
+      }

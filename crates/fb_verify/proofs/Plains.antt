@@ -1,0 +1,240 @@
+-- Fields that lead to no table are passed by their steps.
+use Rattle.std.proofs.Common.{◌≡◌, ℕ, zero, suc, ◌+◌, ◌<◌, ◌≤◌, ◌==◌, ◌%◌, ◌&&◌, ◌||◌, ◌⊎◌, inl, inr, Bool, true, false, not, List, [], ◌∷◌, map, refl, sym, ◌∙◌, ap, subst, arith, Option, Some, None, if◌then◌else◌}
+use Rattle.std.specs.Prelude.{slice_get}
+use Rattle.std.proofs.lemmas.Bool.Decides.{Decides-eqb}
+use Rattle.fb_schema.specs.declared.kinds.Kind.{Kind}
+use Rattle.fb_schema.specs.declared.kinds.Kind.TheVariants.{Scalar, Text, Struct, Table, Union, Scalars, Texts, Structs, Tables, Unions}
+use Rattle.fb_schema.specs.declared.views.Act.{Act}
+use Rattle.fb_schema.specs.declared.views.Act.TheVariants.{One, Two, Four, Eight, Inline, Text as AText, Vector, Other}
+use Rattle.fb_schema.specs.declared.views.Step.{Step}
+use Rattle.fb_schema.specs.Rows.{Rows}
+use Rattle.fb_schema.specs.Live.{Live}
+use Rattle.fb_schema.specs.Served.{KindHolds}
+use Rattle.fb_schema.specs.Steps.{inline_act, act_of, step_of}
+use Rattle.fb_verify.specs.declared.checks.Checks.{Checks}
+use Rattle.fb_verify.specs.Places.{is_aligned, field_place}
+use Rattle.fb_verify.specs.Fields.{to_string, entry, entries_of, entries_at, entries}
+use Rattle.fb_verify.specs.Cost.{slot_reads, present_reads, reads_at, own_reads}
+use Rattle.fb_verify.specs.Order.{Failure, after, ◌▷◌, table_failure, inline_field_failure, lead_failure, present_failure, failure_at, own_failure}
+use Rattle.fb_verify.specs.Plain.{step_failure, step_reads, IsStep, step_failure_at, step_reads_at, plain_failure, plain_reads}
+use Rattle.fb_verify.proofs.Frames.{slot_few}
+
+-- The step at a place is that of the field there.
+pub step_at : (fs : List Live) (i : ℕ) (s : Step) → slice_get (map step_of fs) i ≡ Some s → (f : Live) × (slice_get fs i ≡ Some f) × (s ≡ step_of f)
+step_at [] i s e = absurd (let w : None ≡ Some s = e in cc)
+step_at (f ∷ fs) zero s e = (f, refl, (let w : step_of f ≡ s = cc in sym w))
+step_at (f ∷ fs) (suc i) s e = step_at fs i s e
+
+-- A scalar or struct has one of five acts.
+both_true : (x y : Bool) → (x && y) ≡ true → (x ≡ true) × (y ≡ true)
+both_true true true h = (refl, refl)
+both_true true false h = absurd cc
+both_true false y h = absurd cc
+
+is_own : (n size align : ℕ) → (size == n && align == n) ≡ true → (size ≡ n) × (align ≡ n)
+is_own n size align h =
+    let w = both_true (size == n) (align == n) h in
+    ((Decides-eqb size n).0 w.0, (Decides-eqb align n).0 w.1)
+
+inline_acts : (P : Act → Type 0) (size align : ℕ) → ((size ≡ 1) × (align ≡ 1) → P One) → ((size ≡ 2) × (align ≡ 2) → P Two) → ((size ≡ 4) × (align ≡ 4) → P Four) → ((size ≡ 8) × (align ≡ 8) → P Eight) → P Inline → P (inline_act size align)
+inline_acts P size align one two four eight other =
+    go (size == 1 && align == 1) (size == 2 && align == 2) (size == 4 && align == 4) (size == 8 && align == 8)
+    (λ e. one (is_own 1 size align e)) (λ e. two (is_own 2 size align e)) (λ e. four (is_own 4 size align e)) (λ e. eight (is_own 8 size align e)) where
+      go : (w x y z : Bool) → (w ≡ true → P One) → (x ≡ true → P Two) → (y ≡ true → P Four) → (z ≡ true → P Eight) → P (if w then One else (if x then Two else (if y then Four else (if z then Eight else Inline))))
+      go true x y z a b c d = a refl
+      go false true y z a b c d = b refl
+      go false false true z a b c d = c refl
+      go false false false true a b c d = d refl
+      go false false false false a b c d = other
+
+module _ (c : Checks) (b : List ℕ) (t p : ℕ) (s : Step) where
+  abbrev inline_of : ℕ → ℕ → Option Failure
+  inline_of size align = inline_field_failure c b t p size align
+
+  same_size : (n : ℕ) → (s.size ≡ n) × (s.align ≡ n) → inline_of n n ≡ inline_of s.size s.align
+  same_size n h = sym (ap (λ x. inline_of x s.align) h.0 ∙ ap (λ x. inline_of n x) h.1)
+
+  -- it is asked for its own size and alignment
+  pub inline_step : step_failure c b t s p (inline_act s.size s.align) ≡ inline_of s.size s.align
+  inline_step = inline_acts (λ act. step_failure c b t s p act ≡ inline_of s.size s.align) s.size s.align (same_size 1) (same_size 2) (same_size 4) (same_size 8) refl
+
+inline_free : (size align : ℕ) → step_reads (inline_act size align) ≡ 0
+inline_free size align = inline_acts (λ act. step_reads act ≡ 0) size align (λ _. refl) (λ _. refl) (λ _. refl) (λ _. refl) refl
+
+inline_is : (s : Step) (size align : ℕ) → 0 < s.align → IsStep s (inline_act size align)
+inline_is s size align h = inline_acts (IsStep s) size align (λ _. tt) (λ _. tt) (λ _. tt) (λ _. tt) h
+
+-- What is asked for its own alignment has one.
+kind_step : (S : Rows) (f : Live) (kind : Kind) → KindHolds S f kind → IsStep (step_of f) (act_of f kind)
+kind_step S f (Scalar s) h = inline_is (step_of f) f.size f.align h
+kind_step S f (Struct k) h = inline_is (step_of f) f.size f.align h
+kind_step S f Text h = tt
+kind_step S f (Table k) h = tt
+kind_step S f (Union e) h = tt
+kind_step S f (Scalars s) h = h
+kind_step S f (Structs k) h = h
+kind_step S f Texts h = tt
+kind_step S f (Tables k) h = tt
+kind_step S f (Unions e) h = tt
+
+pub is_step : (S : Rows) (fs : List Live) (i : ℕ) (s : Step) → ((f : Live) → slice_get fs i ≡ Some f → KindHolds S f f.kind) → slice_get (map step_of fs) i ≡ Some s → IsStep s s.act
+is_step S fs i s h e =
+    let x = step_at fs i s e in
+    subst (λ z. IsStep z z.act) (sym x.2) (kind_step S x.0 (x.0).kind (h x.0 x.1))
+
+-- A step reads four times at most.
+act_few : (act : Act) → step_reads act ≤ 3
+act_few One = omega arith
+act_few Two = omega arith
+act_few Four = omega arith
+act_few Eight = omega arith
+act_few Inline = omega arith
+act_few AText = omega arith
+act_few Vector = omega arith
+act_few Other = omega arith
+
+at_few : (s : Step) (place : Option ℕ) → step_reads_at s place ≤ 3
+at_few s None = omega arith
+at_few s (Some p) = act_few s.act
+
+-- one that leads on reads no more than its slot
+pub act_free : (s : Step) (place : Option ℕ) → s.act ≡ Other → step_reads_at s place ≡ 0
+act_free s None e = refl
+act_free s (Some p) e = ap step_reads e
+
+pub plain_few : (b : List ℕ) (t : ℕ) (s : Step) → plain_reads b t s ≤ 4
+unfolding plain_reads
+plain_few b t s = omega (arith, slot_few b t s.slot, at_few s (field_place b t s.slot))
+
+-- reads in two parts
+pub after_twice : (m n : ℕ) (x : Option Failure) → after m (after n x) ≡ after (m + n) x
+after_twice m n None = refl
+after_twice m n (Some x) = let e : m + (n + x.reads) ≡ m + n + x.reads = omega arith in ap (λ r. Some (record { reason = x.reason; at = x.at; reads = r })) e
+
+-- A slot is read, and then its field is tested.
+module _ (c : Checks) (b : List ℕ) (t m mid new : ℕ) (s : Step) (place : Option ℕ) (here : place ≡ field_place b t s.slot) (count : mid ≡ m + slot_reads b t s.slot) where
+  pub plain_told : (x : Option Failure) → x ≡ after mid (step_failure_at c b t s place) → x ≡ after m (plain_failure c b t s)
+  unfolding plain_failure
+  plain_told x h =
+      h ∙ ap (λ k. after k (step_failure_at c b t s place)) count ∙ sym (after_twice m (slot_reads b t s.slot) (step_failure_at c b t s place))
+      ∙ ap (λ o. after m (after (slot_reads b t s.slot) (step_failure_at c b t s o))) here
+
+  pub plain_counted : new ≡ mid + step_reads_at s place → new ≡ m + plain_reads b t s
+  unfolding plain_reads
+  plain_counted h = let w = ap (step_reads_at s) here in omega (arith, h, count, w)
+
+  -- a field that leads on doesn't fail where it is there
+  pub fails_absent : (e : Failure) → after mid (step_failure_at c b t s place) ≡ Some e → s.act ≡ Other → field_place b t s.slot ≡ None
+  fails_absent e h other = sym here ∙ go place h where
+    go : (o : Option ℕ) → after mid (step_failure_at c b t s o) ≡ Some e → o ≡ None
+    go None h = refl
+    go (Some p) h = absurd (let w : None ≡ Some e = sym (ap (λ a. after mid (step_failure c b t s p a)) other) ∙ h in cc)
+
+-- every position is aligned for a byte
+unaligned : (p : ℕ) (x : Bool) → (not x || (p % 1 == 0)) ≡ true
+unaligned p false = refl
+unaligned p true = (Decides-eqb (p % 1) 0).1 (omega arith)
+
+pub byte_aligned : (c : Checks) (p : ℕ) → is_aligned c p 1 ≡ true
+unfolding is_aligned
+byte_aligned c p = unaligned p c.alignment
+
+-- a field that leads nowhere is tested by itself
+pub record LeadsNowhere (c : Checks) (b : List ℕ) (S : Rows) (t : ℕ) (f : Live) : Type 0 where
+  pub none : entries b S t f ≡ []
+  pub chain : plain_failure c b t (step_of f) ≡ own_failure c b S t f
+  pub reads : plain_reads b t (step_of f) ≡ own_reads b t f
+
+-- one whose offset word at p leads to a string by itself, and then that string
+pub record LeadsTo (c : Checks) (b : List ℕ) (S : Rows) (t : ℕ) (f : Live) (p : ℕ) : Type 0 where
+  pub one : entries b S t f ≡ entry to_string p 0 ∷ []
+  pub chain : plain_failure c b t (step_of f) ≡ own_failure c b S t f ▷ after (own_reads b t f) (lead_failure c b p to_string)
+  pub reads : plain_reads b t (step_of f) ≡ own_reads b t f + 3
+
+module _ (c : Checks) (b : List ℕ) (S : Rows) (t : ℕ) (f : Live) where
+  abbrev own : Option Failure
+  own = own_failure c b S t f
+
+  abbrev plain : Option Failure
+  plain = plain_failure c b t (step_of f)
+
+  -- what a field comes to that is passed by its step
+  abbrev pub Comes : Type 0
+  Comes = LeadsNowhere c b S t f ⊎ ((p : ℕ) × LeadsTo c b S t f p)
+
+  absent : field_place b t f.slot ≡ None → Comes
+  unfolding own_failure own_reads entries plain_failure plain_reads
+  absent e = inl (record {
+    none = ap (λ o. entries_at b S t f o) e;
+    chain = ap (λ o. after (slot_reads b t f.slot) (step_failure_at c b t (step_of f) o)) e ∙ sym (ap (λ o. after (slot_reads b t f.slot) (failure_at c b S t f o)) e);
+    reads = ap (λ o. slot_reads b t f.slot + step_reads_at (step_of f) o) e ∙ sym (ap (λ o. slot_reads b t f.slot + reads_at b t f o) e);
+  })
+
+  module _ (p : ℕ) (here : field_place b t f.slot ≡ Some p) (kind : Kind) (is : f.kind ≡ kind) where
+    abbrev asked : Option Failure
+    asked = step_failure c b t (step_of f) p (act_of f kind)
+
+    own_is : own ≡ after (slot_reads b t f.slot) (present_failure c b S t f p kind)
+    unfolding own_failure
+    own_is = ap (λ o. after (slot_reads b t f.slot) (failure_at c b S t f o)) here ∙ ap (λ x. after (slot_reads b t f.slot) (present_failure c b S t f p x)) is
+
+    plain_is : plain ≡ after (slot_reads b t f.slot) asked
+    unfolding plain_failure
+    plain_is = ap (λ o. after (slot_reads b t f.slot) (step_failure_at c b t (step_of f) o)) here ∙ ap (λ x. after (slot_reads b t f.slot) (step_failure c b t (step_of f) p (act_of f x))) is
+
+    entries_are : entries b S t f ≡ entries_of b S t f p kind
+    unfolding entries
+    entries_are = ap (λ o. entries_at b S t f o) here ∙ ap (λ x. entries_of b S t f p x) is
+
+    own_reads_are : own_reads b t f ≡ slot_reads b t f.slot + present_reads b t f.slot kind
+    unfolding own_reads
+    own_reads_are = ap (λ o. slot_reads b t f.slot + reads_at b t f o) here ∙ ap (λ x. slot_reads b t f.slot + present_reads b t f.slot x) is
+
+    plain_reads_are : plain_reads b t (step_of f) ≡ slot_reads b t f.slot + step_reads (act_of f kind)
+    unfolding plain_reads
+    plain_reads_are = ap (λ o. slot_reads b t f.slot + step_reads_at (step_of f) o) here ∙ ap (λ x. slot_reads b t f.slot + step_reads (act_of f x)) is
+
+    nowhere : asked ≡ present_failure c b S t f p kind → entries_of b S t f p kind ≡ [] → step_reads (act_of f kind) ≡ present_reads b t f.slot kind → Comes
+    nowhere same none reads = inl (record {
+      none = entries_are ∙ none;
+      chain = plain_is ∙ ap (after (slot_reads b t f.slot)) same ∙ sym own_is;
+      reads = plain_reads_are ∙ ap (λ n. slot_reads b t f.slot + n) reads ∙ sym own_reads_are;
+    })
+
+  -- two chains after the same reads
+  after_both : (n : ℕ) (x y : Option Failure) → after n (x ▷ y) ≡ after n x ▷ after n y
+  after_both n None y = refl
+  after_both n (Some x) y = refl
+
+  not_there : {P : Type 0} (p : ℕ) → field_place b t f.slot ≡ Some p → field_place b t f.slot ≡ None → P
+  not_there p here none = absurd (let w : Some p ≡ None = sym here ∙ none in cc)
+
+  present : (p : ℕ) → field_place b t f.slot ≡ Some p → (kind : Kind) → f.kind ≡ kind → (act_of f kind ≡ Other → field_place b t f.slot ≡ None) → Comes
+  present p here (Scalar s) e n = nowhere p here (Scalar s) e (inline_step c b t p (step_of f)) refl (inline_free f.size f.align)
+  present p here (Struct k) e n = nowhere p here (Struct k) e (inline_step c b t p (step_of f)) refl (inline_free f.size f.align)
+  present p here Text e n =
+      let slot = slot_reads b t f.slot in
+      let own_count : own_reads b t f ≡ slot = own_reads_are p here Text e ∙ omega arith in
+      inr (
+        p,
+        record {
+          one = entries_are p here Text e;
+          chain = plain_is p here Text e ∙ after_both slot (table_failure c b t p 4) (lead_failure c b p to_string)
+              ∙ ap (λ x. x ▷ after slot (lead_failure c b p to_string)) (sym (own_is p here Text e))
+              ∙ ap (λ m. own ▷ after m (lead_failure c b p to_string)) (sym own_count);
+          reads = plain_reads_are p here Text e ∙ ap (λ m. m + 3) (sym own_count);
+        },
+      )
+  present p here (Table z) e n = not_there p here (n refl)
+  present p here (Union z) e n = not_there p here (n refl)
+  present p here (Scalars s) e n = nowhere p here (Scalars s) e refl refl refl
+  present p here (Structs z) e n = nowhere p here (Structs z) e refl refl refl
+  present p here Texts e n = not_there p here (n refl)
+  present p here (Tables z) e n = not_there p here (n refl)
+  present p here (Unions e') e n = not_there p here (n refl)
+
+  pub comes : (act_of f f.kind ≡ Other → field_place b t f.slot ≡ None) → Comes
+  comes n = go (field_place b t f.slot) refl where
+    go : (place : Option ℕ) → field_place b t f.slot ≡ place → Comes
+    go None e = absent e
+    go (Some p) e = present p e f.kind refl n

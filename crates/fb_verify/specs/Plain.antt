@@ -1,0 +1,60 @@
+-- Fields that lead to no table, by their steps.
+use Rattle.std.specs.Prelude.{ℕ, ◌+◌, ◌<◌, List, not, Option, Some, None}
+use Rattle.fb_schema.specs.declared.views.Act.{Act}
+use Rattle.fb_schema.specs.declared.views.Act.TheVariants.{One, Two, Four, Eight, Inline, Text, Vector, Other}
+use Rattle.fb_schema.specs.declared.views.Step.{Step}
+use Rattle.fb_verify.specs.declared.checks.Checks.{Checks}
+use Rattle.fb_verify.specs.declared.fault.Reason.{Reason}
+use Rattle.fb_verify.specs.declared.fault.Reason.TheVariants.{MissingRequired}
+use Rattle.fb_verify.specs.declared.plain.Tested.{Tested}
+use Rattle.fb_verify.specs.Places.{field_place}
+use Rattle.fb_verify.specs.Fields.{to_string}
+use Rattle.fb_verify.specs.Cost.{slot_reads}
+use Rattle.fb_verify.specs.Order.{Failure, check, after, ◌▷◌, table_failure, inline_field_failure, vector_field_failure, lead_failure}
+
+-- the failure that a test tells, after so many reads
+abbrev pub tested_by : ℕ → ℕ → Option Reason → Option Failure
+tested_by at reads None = None
+tested_by at reads (Some reason) = Some (record { reason = reason; at = at; reads = reads })
+
+abbrev pub tested : Tested → ℕ → Option Failure
+tested a reads = tested_by a.at reads a.failed
+
+-- a present field at p, with the string that it may lead to
+abbrev pub step_failure : Checks → List ℕ → ℕ → Step → ℕ → Act → Option Failure
+step_failure c b t s p One = inline_field_failure c b t p 1 1
+step_failure c b t s p Two = inline_field_failure c b t p 2 2
+step_failure c b t s p Four = inline_field_failure c b t p 4 4
+step_failure c b t s p Eight = inline_field_failure c b t p 8 8
+step_failure c b t s p Inline = inline_field_failure c b t p s.size s.align
+step_failure c b t s p Text = table_failure c b t p 4 ▷ lead_failure c b p to_string
+step_failure c b t s p Vector = vector_field_failure c b t p s.size s.align
+step_failure c b t s p Other = None
+
+-- the reads of this, after the slot
+abbrev pub step_reads : Act → ℕ
+step_reads Text = 3
+step_reads Vector = 2
+step_reads _ = 0
+
+-- what is asked for its own alignment has one
+abbrev pub IsStep : Step → Act → Type 0
+IsStep s Inline = 0 < s.align
+IsStep s Vector = 0 < s.align
+IsStep s _ = Unit {0}
+
+-- the same of a field that may be absent
+abbrev pub step_failure_at : Checks → List ℕ → ℕ → Step → Option ℕ → Option Failure
+step_failure_at c b t s None = check (not s.required) MissingRequired t 0 None
+step_failure_at c b t s (Some p) = step_failure c b t s p s.act
+
+abbrev pub step_reads_at : Step → Option ℕ → ℕ
+step_reads_at s None = 0
+step_reads_at s (Some p) = step_reads s.act
+
+-- the field in the table at t, its slot first
+unfoldable pub plain_failure : Checks → List ℕ → ℕ → Step → Option Failure
+plain_failure c b t s = after (slot_reads b t s.slot) (step_failure_at c b t s (field_place b t s.slot))
+
+unfoldable pub plain_reads : List ℕ → ℕ → Step → ℕ
+plain_reads b t s = slot_reads b t s.slot + step_reads_at s (field_place b t s.slot)
