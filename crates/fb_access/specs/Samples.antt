@@ -43,7 +43,8 @@ scalar_fields =
     ∷ number (codes "double") 24 12 (pos 1)
     ∷ []
 
--- the root table, a struct of 12 bytes that is aligned to 4, the table of scalars, and a union of this table, this struct and a text
+-- the root table, a struct of 12 bytes that is aligned to 4, the table of scalars, and a union of this table, this
+-- struct and a text
 abbrev pub rows : Rows
 rows = record {
   objects =
@@ -54,8 +55,9 @@ rows = record {
   enums = union_of (codes "U") (plain_member (codes "A") (pos 1) (object 2) ∷ plain_member (codes "W") (pos 2) (object 1) ∷ plain_member (codes "T") (pos 3) text ∷ []) ∷ [];
 }
 
--- The root table at 36 has all its fields. Its union is a struct. Of its two tables A the one at 288 has all scalars, and that at 340 has none. Of the
--- unions in its vector one is the text, one of an unknown type, one the table at 288 and one a struct.
+-- The root table at 36 has all its fields. Its union is a struct. Of its two tables A the one at 288 has all scalars,
+-- and that at 340 has none. Of the unions in its vector one is the text, one of an unknown type, one the table at 288
+-- and one a struct.
 abbrev pub bytes : List ℕ
 bytes =
     36 ∷ 0 ∷ 0 ∷ 0 ∷ 32 ∷ 0 ∷ 60 ∷ 0 ∷ 4 ∷ 0 ∷ 20 ∷ 0 ∷ 8 ∷ 0 ∷ 24 ∷ 0 ∷ 6 ∷ 0 ∷ 28 ∷ 0 ∷ 32 ∷ 0 ∷ 36 ∷ 0 ∷ 40 ∷ 0 ∷ 44 ∷ 0 ∷ 48 ∷ 0 ∷ 52 ∷ 0 ∷ 0 ∷ 0 ∷ 56 ∷ 0 ∷ 32 ∷ 0 ∷ 0 ∷ 0 ∷ 212 ∷ 254 ∷ 2 ∷ 0 ∷ 1 ∷ 2 ∷ 3 ∷ 4 ∷ 5 ∷ 6 ∷ 7 ∷ 8 ∷ 9 ∷ 10 ∷ 11 ∷ 12 ∷ 172 ∷ 0 ∷ 0 ∷ 0 ∷ 228 ∷ 0 ∷ 0 ∷ 0 ∷ 32 ∷ 0 ∷ 0 ∷ 0 ∷ 40 ∷ 0 ∷ 0 ∷ 0 ∷ 48 ∷ 0 ∷ 0 ∷ 0 ∷ 72 ∷ 0 ∷ 0 ∷ 0 ∷ 96 ∷ 0 ∷ 0 ∷ 0 ∷ 104 ∷ 0 ∷ 0 ∷ 0 ∷ 108 ∷ 0 ∷ 0 ∷ 0 ∷ 144 ∷ 0 ∷ 0 ∷ 0 ∷ 21 ∷ 22 ∷ 23 ∷ 24 ∷ 25 ∷ 26 ∷ 27 ∷ 28 ∷ 29 ∷ 30 ∷ 31 ∷ 32 ∷ 3 ∷ 0 ∷ 0 ∷ 0 ∷ 5 ∷ 0 ∷ 254 ∷ 255 ∷ 7 ∷ 0 ∷ 0 ∷ 0 ∷ 2 ∷ 0 ∷ 0 ∷ 0 ∷ 41 ∷ 42 ∷ 43 ∷ 44 ∷ 45 ∷ 46 ∷ 47 ∷ 48 ∷ 49 ∷ 50 ∷ 51 ∷ 52 ∷ 61 ∷ 62 ∷ 63 ∷ 64 ∷ 65 ∷ 66 ∷ 67 ∷ 68 ∷ 69 ∷ 70 ∷ 71 ∷ 72 ∷ 2 ∷ 0 ∷ 0 ∷ 0 ∷ 8 ∷ 0 ∷ 0 ∷ 0 ∷ 12 ∷ 0 ∷ 0 ∷ 0 ∷ 0 ∷ 0 ∷ 0 ∷ 0 ∷ 0 ∷ 0 ∷ 0 ∷ 0 ∷ 2 ∷ 0 ∷ 0 ∷ 0 ∷ 66 ∷ 111 ∷ 0 ∷ 0 ∷ 2 ∷ 0 ∷ 0 ∷ 0 ∷ 108 ∷ 0 ∷ 0 ∷ 0 ∷ 156 ∷ 0 ∷ 0 ∷ 0 ∷ 4 ∷ 0 ∷ 0 ∷ 0 ∷ 3 ∷ 9 ∷ 1 ∷ 2 ∷ 4 ∷ 0 ∷ 0 ∷ 0 ∷ 28 ∷ 0 ∷ 0 ∷ 0 ∷ 0 ∷ 0 ∷ 0 ∷ 0 ∷ 80 ∷ 0 ∷ 0 ∷ 0 ∷ 4 ∷ 0 ∷ 0 ∷ 0 ∷ 81 ∷ 82 ∷ 83 ∷ 84 ∷ 85 ∷ 86 ∷ 87 ∷ 88 ∷ 89 ∷ 90 ∷ 91 ∷ 92 ∷ 3 ∷ 0 ∷ 0 ∷ 0 ∷ 65 ∷ 100 ∷ 97 ∷ 0 ∷ 2 ∷ 0 ∷ 0 ∷ 0 ∷ 9 ∷ 0 ∷ 0 ∷ 0 ∷ 0 ∷ 0 ∷ 0 ∷ 0 ∷ 246 ∷ 255 ∷ 255 ∷ 255 ∷ 255 ∷ 255 ∷ 255 ∷ 255 ∷ 26 ∷ 0 ∷ 48 ∷ 0 ∷ 44 ∷ 0 ∷ 45 ∷ 0 ∷ 46 ∷ 0 ∷ 40 ∷ 0 ∷ 42 ∷ 0 ∷ 32 ∷ 0 ∷ 36 ∷ 0 ∷ 8 ∷ 0 ∷ 16 ∷ 0 ∷ 4 ∷ 0 ∷ 24 ∷ 0 ∷ 0 ∷ 0 ∷ 0 ∷ 0 ∷ 0 ∷ 0 ∷ 32 ∷ 0 ∷ 0 ∷ 0 ∷ 0 ∷ 0 ∷ 192 ∷ 191 ∷ 16 ∷ 50 ∷ 84 ∷ 118 ∷ 152 ∷ 186 ∷ 220 ∷ 254 ∷ 16 ∷ 50 ∷ 84 ∷ 118 ∷ 152 ∷ 186 ∷ 220 ∷ 254 ∷ 0 ∷ 0 ∷ 0 ∷ 0 ∷ 0 ∷ 0 ∷ 6 ∷ 192 ∷ 152 ∷ 186 ∷ 220 ∷ 254 ∷ 152 ∷ 186 ∷ 220 ∷ 254 ∷ 220 ∷ 254 ∷ 220 ∷ 254 ∷ 2 ∷ 254 ∷ 254 ∷ 0 ∷ 4 ∷ 0 ∷ 4 ∷ 0 ∷ 4 ∷ 0 ∷ 0 ∷ 0 ∷ []

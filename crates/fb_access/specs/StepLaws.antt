@@ -91,7 +91,8 @@ abbrev pub NoOtherElements : Type 0
 NoOtherElements =
     (b : List ℕ) (S : Rows) (k t n j : ℕ) (f : Live) (q : Spot) → numbered S k n ≡ Some f → AreOffsets f.kind → slice_get (entries b S t f) j ≡ None → Reaches b S (AtTable k t) (Field n ∷ Element j ∷ []) q → position_of q ≡ None
 
--- a member step leads where the verifier says that a union of this type leads, and from one of another type to nothing
+-- a member step leads where the verifier says that a union of this type leads, and from one of another type to
+-- nothing
 abbrev pub MembersFollowLeads : Type 0
 MembersFollowLeads =
     (b : List ℕ) (S : Rows) (e y p m : ℕ) (q : Spot) → Leads b S (AtUnion e y p) (Member m) q → ((y ≡ m) × IsLedTo b S p (lead_of S (member_of S e y)) q) ⊎ ((y ≢ m) × (q ≡ AtOtherMember))

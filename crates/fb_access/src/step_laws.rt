@@ -1,28 +1,31 @@
-//! The laws that tie steps to what the verifier checks. These functions have no body: their contracts are the theorems.
+//! The laws that tie steps to what the verifier checks. These functions have no body: their contracts are the
+//! theorems.
 
 ghost use Rattle.fb_access.specs.StepLaws.{FieldsStandInPlace, StepsFollowEntries, NoOtherElements, MembersFollowLeads, ElementsStandInRow};
 
-/// A field step leads to where the verifier's `field_place` says that the field stands, to a value of its kind; and to no
-/// place in the buffer where it says that the field is absent.
+/// A field step leads to where the verifier's `field_place` says that the field stands, to a value of its kind; and
+/// to no place in the buffer where it says that the field is absent.
 #[tactic(auto, using(crate::proofs::StepLaws::fields_stand_in_place))]
 pub fn fields_stand_in_place()
     ensures { FieldsStandInPlace }
 {}
 
-/// Of the offset words by which a field leads on, as the verifier follows them (`entries`), each is where the steps to it
-/// lead.
+/// Of the offset words by which a field leads on, as the verifier follows them (`entries`), each is where the steps
+/// to it lead.
 #[tactic(auto, using(crate::proofs::StepLaws::steps_follow_entries))]
 pub fn steps_follow_entries()
     ensures { StepsFollowEntries }
 {}
 
-/// An element step from a vector of strings, tables or unions leads to nothing where the verifier follows no offset word.
+/// An element step from a vector of strings, tables or unions leads to nothing where the verifier follows no offset
+/// word.
 #[tactic(auto, using(crate::proofs::StepLaws::no_other_elements))]
 pub fn no_other_elements()
     ensures { NoOtherElements }
 {}
 
-/// A member step leads to what the verifier finds behind the union's offset word, and from a union of another type to nothing.
+/// A member step leads to what the verifier finds behind the union's offset word, and from a union of another type to
+/// nothing.
 #[tactic(auto, using(crate::proofs::StepLaws::members_follow_leads))]
 pub fn members_follow_leads()
     ensures { MembersFollowLeads }

@@ -254,7 +254,8 @@ pub record MemberValues : Type 0 where
   pub of_an_enum : IsLegal (record { objects = []; enums = enum_of_values (codes "E") (plain_member (codes "x") (pos 256) (type_of_one (pos 0)) ∷ plain_member (codes "x") (pos 256) (object (pos 3)) ∷ []) ∷ [] })
   pub before_the_name : IsRefused (union_with (plain_member (codes "x") (pos 1) text ∷ plain_member (codes "x") (pos 1) text ∷ [])) BadMember 0 (Some 1)
 
--- then, unless its value is 0: no earlier one with a value other than 0 has its name, it is an object that is there, or a text
+-- then, unless its value is 0: no earlier one with a value other than 0 has its name, it is an object that is there,
+-- or a text
 pub record MemberTypes : Type 0 where
   pub name_twice : IsRefused (union_with (plain_member (codes "x") (pos 1) text ∷ plain_member (codes "x") (pos 2) text ∷ [])) NameTwice 0 (Some 1)
   pub name_of_no_value : IsLegal (union_with (plain_member (codes "x") (pos 0) text ∷ plain_member (codes "x") (pos 2) text ∷ []))

@@ -9,7 +9,8 @@ use Rattle.fb_schema.specs.Members.{member_of, member_named}
 use Rattle.fb_schema.specs.Builders.{type_of_one, type_of_vector, plain_field, plain_table, struct_of, plain_member, union_of, enum_of_values}
 use Rattle.fb_schema.specs.Examples.{type_byte, type_bytes, text, object, objects, union, unions, unused, with_objects}
 
--- a field that is told by its number, slot, name, kind, the size and alignment of that, and the place of its type field
+-- a field that is told by its number, slot, name, kind, the size and alignment of that, and the place of its type
+-- field
 abbrev pub live : ℕ → ℕ → List ℕ → Kind → ℕ → ℕ → Option ℕ → Live
 live number slot name kind size align companion = record {
   number = number;
@@ -58,8 +59,8 @@ pub record ScalarFields : Type 0 where
       ∷ live 11 26 (codes "l") (Scalar Double) 8 8 None
       ∷ [])
 
--- a table T, a struct W of 12 bytes that is aligned to 2, a table A, and a union U; the fields of T stand in the list in
--- falling slot, and one in the midst is deprecated
+-- a table T, a struct W of 12 bytes that is aligned to 2, a table A, and a union U; the fields of T stand in the list
+-- in falling slot, and one in the midst is deprecated
 abbrev pub of_kinds : Rows
 of_kinds = record {
   objects =

@@ -54,7 +54,8 @@ OffsetIsFalse c b p Misaligned at = (at ≡ p) × AreIn b p 4 × IsMisaligned c 
 OffsetIsFalse c b p ZeroOffset at = (at ≡ p) × AreIn b p 4 × (word b p 4 ≡ 0)
 OffsetIsFalse c b p _ at = ⊥
 
--- of the head of a table at t, whose vtable is out of the buffer, where this is told at the table, or doesn't end in it
+-- of the head of a table at t: its vtable may be out of the buffer, which is told at the table, or may not end in
+-- it
 abbrev pub HeadIsFalse : Checks → List ℕ → ℕ → Reason → ℕ → Type 0
 HeadIsFalse c b t OutOfBuffer at =
     ((at ≡ t) × AreOut b t 4)
@@ -156,8 +157,8 @@ pub record LeadsOn (c : Checks) (b : List ℕ) (S : Rows) (k t j u : ℕ) : Type
   pub offset : IsOffset c b entry.place
   pub is_target : u ≡ target b entry.place
 
--- The tables to which a buffer leads from the table at `begin`, of the object `root`: each with the number of tables above it, and the object and field
--- that lead to it, which are the root's and none for that table itself.
+-- The tables to which a buffer leads from the table at `begin`, of the object `root`: each with the number of tables
+-- above it, and the object and field that lead to it, which are the root's and none for that table itself.
 pub data IsReached (c : Checks) (b : List ℕ) (S : Rows) (root begin : ℕ) : ℕ → ℕ → ℕ → ℕ → Option ℕ → Type 0 where
   as_root : IsReached c b S root begin root begin 0 root None
   from_above : (k t above object : ℕ) (field : Option ℕ) (j u : ℕ) → IsReached c b S root begin k t above object field → (on : LeadsOn c b S k t j u) → IsReached c b S root begin j u (suc above) k (Some (on.field).number)

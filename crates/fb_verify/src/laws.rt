@@ -91,15 +91,15 @@ pub fn reads_are_bounded()
     ensures { ReadsAreBounded }
 {}
 
-/// At most one answer applies to a question: one report, or one fault, and never one of each. So `walk`, whose answers apply, gives
-/// what `verify` gives.
+/// At most one answer applies to a question: one report, or one fault, and never one of each. So `walk`, whose
+/// answers apply, gives what `verify` gives.
 #[tactic(auto, using(crate::proofs::OneVerdict::one_verdict))]
 pub fn one_answer_applies()
     ensures { HasOneVerdict }
 {}
 
-/// Where a buffer stops, the reason is true: what it says is false is false at the position that the fault names, and that is
-/// where something is asked at the start, or at a table that is reached from the root.
+/// Where a buffer stops, the reason is true: what it says is false is false at the position that the fault names, and
+/// that is where something is asked at the start, or at a table that is reached from the root.
 #[tactic(auto, using(crate::proofs::TrueFaults::stops_truly))]
 pub fn stops_truly()
     ensures { StopsTruly }

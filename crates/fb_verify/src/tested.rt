@@ -1,5 +1,5 @@
-//! Examples of the tests, each of which is asked of bytes that pass it, or fail it, beside the tests around it: each is a clause
-//! of a function that does nothing.
+//! Examples of the tests, each of which is asked of bytes that pass it, or fail it, beside the tests around it: each
+//! is a clause of a function that does nothing.
 
 ghost use Rattle.fb_verify.specs.Tests.{PrefixTests, IdentifierTests, OffsetTests, StartTests, HeadTests, StringTests, VectorTests, InlineTests, FieldTests, UnionTests, VectorFieldTests, UnionsFieldTests, ElementTests, LimitTests};
 
