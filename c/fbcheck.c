@@ -12,6 +12,18 @@ uint32_t fbcheck_load_proved(fbcheck_handle *handle, const uint8_t *file, size_t
 uint32_t fbcheck_choose_root_proved(fbcheck_handle *handle, const uint8_t *name, size_t length);
 uint32_t fbcheck_verify_proved(fbcheck_handle *handle, const fbcheck_options *options, const uint8_t *buffer,
                                size_t length, fbcheck_verdict *verdict);
+uint32_t fbcheck_verify_each_proved(fbcheck_handle *handle, const fbcheck_options *options, const uint8_t *block,
+                                    size_t length, const fbcheck_span *spans, size_t span_count,
+                                    fbcheck_verdict *verdicts, size_t verdict_count);
+uint32_t fbcheck_framer_feed_proved(fbcheck_framer *framer, uint8_t *room, size_t size, const uint8_t *piece,
+                                    size_t length, size_t *used);
+uint32_t fbcheck_framer_next_proved(fbcheck_framer *framer, const uint8_t *room, size_t size);
+uint32_t fbcheck_framer_finish_proved(fbcheck_framer *framer, const uint8_t *room, size_t size);
+uint32_t fbcheck_resolve_proved(fbcheck_handle *handle, const uint8_t *path, size_t length, fbcheck_step *steps,
+                                size_t room, size_t *count, fbcheck_verdict *verdict);
+uint32_t fbcheck_read_proved(fbcheck_handle *handle, const fbcheck_options *options, const uint8_t *buffer,
+                             size_t length, const fbcheck_step *steps, size_t count, fbcheck_value *value,
+                             uint8_t *room, size_t size, fbcheck_verdict *verdict);
 uint32_t fbcheck_most_reads_proved(fbcheck_handle *handle, const fbcheck_options *options, uint64_t length,
                                    uint64_t *reads);
 size_t fbcheck_reason_name_proved(uint32_t reason, uint8_t *text, size_t room);
@@ -56,6 +68,66 @@ uint32_t fbcheck_verify(fbcheck_handle *handle, const fbcheck_options *options, 
         return null_told(verdict);
     return fbcheck_verify_proved(handle, options != NULL ? options : &published, buffer != NULL ? buffer : no_bytes,
                                  length, verdict != NULL ? verdict : &unseen);
+}
+
+uint32_t fbcheck_verify_each(fbcheck_handle *handle, const fbcheck_options *options, const uint8_t *block,
+                             size_t length, const fbcheck_span *spans, fbcheck_verdict *verdicts, size_t count)
+{
+    static const fbcheck_span no_span = { 0, 0 };
+    fbcheck_verdict unseen = { 0 };
+    if (handle == NULL || (block == NULL && length != 0) || ((spans == NULL || verdicts == NULL) && count != 0))
+        return FBCHECK_NULL;
+    return fbcheck_verify_each_proved(handle, options != NULL ? options : &published, block != NULL ? block : no_bytes,
+                                      length, spans != NULL ? spans : &no_span, count,
+                                      verdicts != NULL ? verdicts : &unseen, count);
+}
+
+uint32_t fbcheck_framer_feed(fbcheck_framer *framer, uint8_t *room, size_t size, const uint8_t *piece, size_t length,
+                             size_t *used)
+{
+    if (framer == NULL || room == NULL || (piece == NULL && length != 0) || used == NULL)
+        return FBCHECK_NULL;
+    return fbcheck_framer_feed_proved(framer, room, size, piece != NULL ? piece : no_bytes, length, used);
+}
+
+uint32_t fbcheck_framer_next(fbcheck_framer *framer, const uint8_t *room, size_t size)
+{
+    if (framer == NULL || room == NULL)
+        return FBCHECK_NULL;
+    return fbcheck_framer_next_proved(framer, room, size);
+}
+
+uint32_t fbcheck_framer_finish(fbcheck_framer *framer, const uint8_t *room, size_t size)
+{
+    if (framer == NULL || room == NULL)
+        return FBCHECK_NULL;
+    return fbcheck_framer_finish_proved(framer, room, size);
+}
+
+uint32_t fbcheck_resolve(fbcheck_handle *handle, const char *path, size_t length, fbcheck_step *steps, size_t room,
+                         size_t *count, fbcheck_verdict *verdict)
+{
+    fbcheck_verdict unseen = { 0 };
+    fbcheck_step none = { 0, 0 };
+    if (handle == NULL || (path == NULL && length != 0) || (steps == NULL && room != 0) || count == NULL)
+        return null_told(verdict);
+    return fbcheck_resolve_proved(handle, path != NULL ? (const uint8_t *)path : no_bytes, length,
+                                  steps != NULL ? steps : &none, room, count, verdict != NULL ? verdict : &unseen);
+}
+
+uint32_t fbcheck_read(fbcheck_handle *handle, const fbcheck_options *options, const uint8_t *buffer, size_t length,
+                      const fbcheck_step *steps, size_t count, fbcheck_value *value, uint8_t *room, size_t size,
+                      fbcheck_verdict *verdict)
+{
+    static const fbcheck_step no_step = { 0, 0 };
+    fbcheck_verdict unseen = { 0 };
+    uint8_t none[1];
+    if (handle == NULL || (buffer == NULL && length != 0) || (steps == NULL && count != 0) || value == NULL
+        || (room == NULL && size != 0))
+        return null_told(verdict);
+    return fbcheck_read_proved(handle, options != NULL ? options : &published, buffer != NULL ? buffer : no_bytes,
+                               length, steps != NULL ? steps : &no_step, count, value, room != NULL ? room : none, size,
+                               verdict != NULL ? verdict : &unseen);
 }
 
 uint32_t fbcheck_most_reads(fbcheck_handle *handle, const fbcheck_options *options, uint64_t length, uint64_t *reads)

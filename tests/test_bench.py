@@ -83,6 +83,24 @@ def costs_are_measured(cases):
         cases.holds(f"{name}: instructions a message", counted, cost)
 
 
+def verifiers_are_timed_in_process(cases):
+    few = building.Size(50, 5)
+    corpus = dataclasses.replace(building.CORPORA[0], timed=few, counted=few)
+    building.build_library()
+    costs = timing.measure_in_process(corpus, 2)
+    cases.same("of all three", sorted(costs), ["fbcheck", "generated", "reflection"])
+    for name, cost in costs.items():
+        cases.holds(f"{name}: best and median", 0 < cost.best <= cost.median < 1, cost)
+    last_is_bad = building.MADE / "last_is_bad.bin"
+    last_is_bad.write_bytes(building.messages(corpus, few).read_bytes() + bytes(4))
+    for name, command in building.commands_in_process(corpus).items():
+        try:
+            timing.seconds_in_process(command, last_is_bad)
+            cases.holds(f"{name} is timed on good messages alone", False)
+        except building.Failed:
+            cases.holds(f"{name} is timed on good messages alone", True)
+
+
 def a_chart_is_drawn(cases):
     costs = {"fbcheck": timing.Cost(1.0, 1.0, None), "reflection": timing.Cost(2.0, 2.5, None),
              "generated": timing.Cost(0.5, 0.5, None)}
@@ -102,7 +120,7 @@ def main():
         print("0 passed, 0 failed")
         return
     outside.main(verdicts_agree, differences_are_told, what_is_missing_is_named, corpora_are_the_same_each_time,
-                 costs_are_measured, a_chart_is_drawn)
+                 costs_are_measured, verifiers_are_timed_in_process, a_chart_is_drawn)
 
 
 if __name__ == "__main__":

@@ -85,7 +85,17 @@ def told_alike(cases, name, by, schema_and_root, given, options):
     differing = [(line, want) for line, want in zip(got, wants) if line.partition(" ")[2] != want]
     cases.same(f"{name}: lines that differ, with what is expected", differing[:5], [])
     cases.same(f"{name}: their number", len(differing), 0)
+    sorted_out(cases, name, by, given, options if ident is None else {**options, "ident": ident}, wants)
     return wants
+
+
+def sorted_out(cases, name, by, given, options, wants):
+    """The same stream through a filter: the buffers of which the walk says yes, and a line of each other one."""
+    ran = run(*by, "--filter", *words_of(options), given=b"".join(map(prefixed, given)))
+    good = b"".join(prefixed(data) for data, want in zip(given, wants) if want.startswith("ok"))
+    notes = [f"{number} {want}" for number, want in enumerate(wants, 1) if want.startswith("bad")]
+    cases.holds(f"{name}: the good ones are passed on", ran.out == good)
+    cases.same(f"{name}: and the others are noted", ran.err.decode().splitlines(), notes)
 
 
 def reasons_of(wants):

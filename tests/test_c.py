@@ -9,6 +9,7 @@ import importlib.util
 import os
 import re
 import shutil
+import socket
 import struct
 import subprocess
 
@@ -89,6 +90,10 @@ int main(void)
     printf("options %zu %zu\n", sizes.options, sizeof(fbcheck_options));
     printf("verdict %zu %zu\n", sizes.verdict, sizeof(fbcheck_verdict));
     printf("handle %zu %zu\n", sizes.handle, sizeof(fbcheck_handle));
+    printf("span %zu %zu\n", sizes.span, sizeof(fbcheck_span));
+    printf("framer %zu %zu\n", sizes.framer, sizeof(fbcheck_framer));
+    printf("step %zu %zu\n", sizes.step, sizeof(fbcheck_step));
+    printf("value %zu %zu\n", sizes.value, sizeof(fbcheck_value));
     printf("init %d\n", memcmp(&first, &second, sizeof first));
 @LINES@
     return 0;
@@ -100,12 +105,15 @@ def the_header(cases):
     """Its numbers are those of the reference and of the module for Python, and its structs those of the library."""
     constants = re.findall(r"^    (FBCHECK_\w+) = (\d+)", HEADER, re.M)
     python = module()
-    fields = {"fbcheck_options": python.Options, "fbcheck_verdict": python._Verdict, "fbcheck_handle": python._Handle}
+    fields = {"fbcheck_options": python.Options, "fbcheck_verdict": python._Verdict, "fbcheck_handle": python._Handle,
+              "fbcheck_span": python._Span, "fbcheck_framer": python._Framer,
+              "fbcheck_step": python._Step, "fbcheck_value": python._Value}
     lines = [f'    printf("{name} %d\\n", (int){name});' for name, _ in constants]
     lines += [f"    FIELD({name}, {field});" for name, of in fields.items() for field, _ in of._fields_]
     source = file_of("numbers.c", NUMBERS.replace("@LINES@", "\n".join(lines)).encode())
     offsets = [f"{name} {field} {getattr(of, field).offset}" for name, of in fields.items() for field, _ in of._fields_]
-    want = ["options 64 64", "verdict 40 40", "handle 8 8", "init 0", *map(" ".join, constants), *offsets]
+    sizes = ["options 64 64", "verdict 40 40", "handle 8 8", "span 16 16", "framer 16 16", "step 8 8", "value 32 32"]
+    want = [*sizes, "init 0", *map(" ".join, constants), *offsets]
     programs = {"C99": compiled(cases, "numbers_c", source, *STATIC, standard="-std=c99")}
     if CPP:
         as_cpp = file_of("numbers.cpp", source.read_bytes())
@@ -113,9 +121,10 @@ def the_header(cases):
     for name, made in programs.items():
         status, out, _ = ran(made)
         cases.same(f"{name}: numbers, sizes and places", (status, out.splitlines()), (0, want))
-    cases.same("sizes of the structs of Python", [ctypes.sizeof(of) for of in fields.values()], [64, 40, 8])
+    told = [ctypes.sizeof(of) for of in fields.values()]
+    cases.same("sizes of the structs of Python", told, [64, 40, 8, 16, 16, 8, 32])
     told = {name.removeprefix("FBCHECK_"): int(number) for name, number in constants}
-    for names in (python.Status, python.Reason):
+    for names in (python.Status, python.Reason, python.Kind):
         cases.same(f"{names.__name__} of Python", {one.name: told.get(one.name) for one in names},
                    {one.name: int(one) for one in names})
     page = (TOP / "docs/REFERENCE.md").read_text()
@@ -146,13 +155,14 @@ def streams():
 
 
 def verdicts(cases):
-    """Those of the program, on every buffer, by the shared library and by the static one under the sanitizers."""
+    """Those of the program, on every buffer, by the shared library and by the static one under the sanitizers: of each
+    alone, and of all of a stream at once."""
     tell = TOP / "tests/c/tell.c"
     programs = [compiled(cases, "tell_shared", tell, *SHARED), compiled(cases, "tell_sane", tell, *SANITIZED, *STATIC)]
     buffers = reasons = 0
     seen = set()
     for name, words, given in streams():
-        want = without_names(run(*words, given=given).out)
+        want = run(*words, given=given).out
         for program in programs:
             status, out, err = ran(program, *words, given=given)
             cases.same(f"{name}, {program.name}: it ends well", (status, err), (0, ""))
@@ -166,6 +176,196 @@ def verdicts(cases):
                [b"V%d" % number for number in range(2, 14)])
 
 
+def batches(cases):
+    """Spans that overlap, stand in any order, are empty, or don't lie in the block."""
+    python = module()
+    status, block = python.Status, b"?" * 4 + ORC + ORC[:-1]
+    good, torn, end = (4, len(ORC)), (4 + len(ORC), len(ORC) - 1), len(block)
+    beyond = [(end + 1, 0), (0, end + 1), (end, 1), (2**64 - 1, 2**64 - 1), (1, 2**64 - 1), (2**63, 2**63)]
+    with python.Verifier(schemas.M) as verifier:
+        told = verifier.verify_each(block, [torn, good, (end, 0), *beyond, good])
+        single = [verifier.verify(buffer) for buffer in (ORC[:-1], ORC, b"")]
+        cases.same("those in the block, as each alone", [*told[:3], told[-1]], [*single, single[1]])
+        cases.same("those that aren't", told[3:-1], [python.Verdict(12, 0, 0, None, 0, 0, 0, 0)] * len(beyond))
+        calls, handle, verdict = verifier._calls, verifier._handle, python._Verdict(status=77)
+        one = lambda *spans: (python._Span * len(spans))(*spans)
+        for spans, answer in [([good], 0), ([torn], 1), (beyond[:1], 1), ([], 0)]:
+            got = calls.fbcheck_verify_each(handle, None, block, len(block), one(*spans), verdict, len(spans))
+            cases.same(f"the answer to {spans}", got, answer)
+        cases.same("no spans at all", calls.fbcheck_verify_each(handle, None, None, 0, None, None, 0), status.OK)
+        got = calls.fbcheck_verify_each(handle, None, None, 0, one((0, 0)), verdict, 1)
+        cases.same("an empty block has an empty buffer", (got, verdict.status, verdict.reason), (1, 1, 2))
+        verdict.status = 77
+        words = [handle, None, block, 9, one(good), verdict, 1]
+        for place in (0, 2, 4, 5):
+            got = calls.fbcheck_verify_each(*[None if place == i else word for i, word in enumerate(words)])
+            cases.same(f"without word {place} nothing is told", (got, verdict.status), (status.NULL, 77))
+        for options, answer in [(python.Options(version=2), 3), (python.Options(max_depth=65), 4)]:
+            told = verifier.verify_each(block, [good, beyond[0], torn], options)
+            cases.same(f"options that can't be served: {answer}", [one.status for one in told], [answer, 12, answer])
+        verifier.close()
+        told = verifier.verify_each(block, [good, beyond[0]])
+        cases.same("a handle that holds nothing", [one.status for one in told], [5, 12])
+
+
+def framers(cases):
+    """The messages of a stream, however it is cut, and what may be wrong with one."""
+    python = module()
+    calls, status = python._library(), python.Status
+    m, used = prefixed(ORC), ctypes.c_size_t(77)
+    cut = lambda given, size: [given[at:at + size] for at in range(0, len(given), size)]
+    stream = m + prefixed(b"") + m + prefixed(b"abc")
+    for size in range(1, len(stream) + 1):
+        framer = python.Framer(len(m))
+        told = [message for piece in cut(stream, size) for message in framer.messages(piece)]
+        cases.same(f"messages in pieces of {size}", told, [m, bytes(4), m, prefixed(b"abc")])
+        cases.same(f"and the end in pieces of {size}", framer.finish(), None)
+
+    def fed(framer, piece):
+        answer = calls.fbcheck_framer_feed(*framer._room, piece, len(piece), used)
+        return answer, used.value, framer._framer.held
+
+    framer = python.Framer(len(m))
+    finish = lambda: calls.fbcheck_framer_finish(*framer._room)
+    steps = [fed(framer, m + m), fed(framer, m), finish(), calls.fbcheck_framer_next(*framer._room), fed(framer, b"")]
+    n = len(m)
+    cases.same("a message is held until it is given up", steps, [(0, n, n), (0, 0, n), 0, 0, (13, 0, 0)])
+    steps = [fed(framer, m[:2]), calls.fbcheck_framer_next(*framer._room), fed(framer, m[2:9])]
+    cases.same("a part isn't given up", steps, [(13, 2, 2), 0, (13, 7, 9)])
+    steps = [finish(), fed(framer, m), finish(), framer._framer.held]
+    cases.same("nor may a stream end in one", steps, [15, (16, 7, 9), 16, 9])
+    for limit, first, want in [(n, n - 4, (13, 5, 5)), (n - 1, n - 4, (14, 77, 4)), (8, 2**32 - 1, (14, 77, 4))]:
+        framer, used.value = python.Framer(limit), 77
+        got = fed(framer, struct.pack("<I", first) + b"?")
+        cases.same(f"{first} declared for room of {limit}", got, want)
+        declared = first if want[0] == 14 else 0
+        cases.same("which is told", (framer._framer.declared, bool(framer._framer.failed)), (declared, declared != 0))
+    for limit, want in [(7, 4), (8, 13), (2**31 - 1, 13), (2**31, 4)]:
+        framer = python.Framer(8)
+        room = (framer._framer, framer._room[1], limit)
+        got = [calls.fbcheck_framer_feed(*room, b"", 0, used), calls.fbcheck_framer_next(*room),
+               calls.fbcheck_framer_finish(*room)]
+        cases.same(f"room of {limit}", got, [want, 0, 0] if want == 13 else [4] * 3)
+    framer._framer.held, room = 9, (framer._framer, framer._room[1], 8)
+    cases.same("more held than there is room for", calls.fbcheck_framer_feed(*room, b"?", 1, used), status.FAILED)
+    for place in (0, 1, 3, 5):
+        words = [*room, b"?", 1, used]
+        words[place] = None
+        cases.same(f"no word {place}", calls.fbcheck_framer_feed(*words), status.NULL)
+        if place < 2:
+            cases.same("none either at the end", calls.fbcheck_framer_finish(*words[:3]), status.NULL)
+            cases.same("or to give up", calls.fbcheck_framer_next(*words[:3]), status.NULL)
+
+
+def through_pipes(cases):
+    """The example that checks a stream: the program's lines, from a pipe and a socket, in pieces of any length."""
+    program = compiled(cases, "stream_shared", TOP / "examples/c/stream.c", *SHARED)
+    sane = compiled(cases, "stream_sane", TOP / "examples/c/stream.c", *SANITIZED, *STATIC)
+    whole = file_of("all.bfbs", ALL)
+    for root in (bent.WHOLE, bent.LITTLE):
+        data = buffer(root, b"KIND", prefix=True)[4:]
+        given = b"".join(map(prefixed, bent.variants(data, [1, 252])))
+        want = run("--schema", str(whole), given=given)
+        for made in (program, sane):
+            cases.same(f"a stream by {made.name}", ran(made, whole, given=given), (want.status, want.out.decode(), ""))
+    rows = (TOP / "examples/deliveries.bin").read_bytes()
+    want = run("--schema", str(ORDERS), given=rows).out.decode()
+    for size in (1, 3, 17, 64, 1000):
+        mine, theirs = socket.socketpair()
+        with subprocess.Popen([sane, ORDERS], stdin=theirs, stdout=subprocess.PIPE, text=True) as running:
+            theirs.close()
+            for at in range(0, len(rows), size):
+                mine.sendall(rows[at:at + size])
+            mine.close()
+            cases.same(f"a socket in pieces of {size}", (running.stdout.read(), running.wait()), (want, 1))
+    for name, given, words, wanted in [
+        ("no messages", b"", [ORDERS], (0, "")), ("a part of one", rows[:-1], [ORDERS], (3, "after")),
+        ("too long a one", b"\xff\xff\xff\xff", [ORDERS], (3, "4294967295 bytes is too long")),
+        ("no schema", rows, [TOP / "README.md"], (2, "no schema")),
+        ("no file", rows, [FOLDER / "nowhere"], (2, "usage")),
+        ("no words", rows, [], (2, "usage")), ("no such table", rows, [ORDERS, "post.Nobody"], (2, "no table")),
+    ]:
+        status, _, err = ran(sane, *words, given=given)
+        cases.same(name, (status, wanted[1] in err), (wanted[0], True))
+
+
+def value_line(kind, value):
+    """A value as the program writes it at the end of a line, where no byte of a text is to be escaped."""
+    if kind.name in ("FLOAT", "STRUCT"):
+        return f"{kind.name.lower()}:{value.hex()}"
+    return {"ABSENT": "absent", "NO_ELEMENT": "no-element", "OTHER_MEMBER": "other-member", "TABLE": "table",
+            "BOOL": ["false", "true"][value == 1], "INT": str(value), "UINT": str(value), "VECTOR": f"vector:{value}",
+            "UNION": f"union:{value}", "TEXT": f'"{value.decode()}"' if kind.name == "TEXT" else ""}[kind.name]
+
+
+def paths(cases):
+    """Values at the end of paths: those that the program writes, on the messages of the example."""
+    python = module()
+    calls, status = python._library(), python.Status
+    rows, messages = (TOP / "examples/deliveries.bin").read_bytes(), []
+    while rows:
+        size = 4 + struct.unpack_from("<I", rows)[0]
+        messages, rows = [*messages, rows[:size]], rows[size:]
+    with python.Verifier(ORDERS.read_bytes()) as verifier:
+        for path in ["to.name", "items", "items[0]", "items[0]@Parcel", "items[1]@Letter", "items[0]@Parcel.tags",
+                     "items[0]@Parcel.tags[1]", "items[9]", "to", "first", "first@Parcel.fragile", "price", "floor",
+                     "route", "route[0]", "helpers", "notes", "notes[0]", "stamps", "from.home", "items_type",
+                     "retired", "items@Parcel", "to.name.x", "first@Nobody", "items[4294967296]"]:
+            whole = b"".join(messages)
+            told = run("--schema", str(ORDERS), "--path", path, given=whole)
+            try:
+                steps = verifier.resolve(path)
+            except python.Error as error:
+                want = re.search(rb"P(\d) \w+ (?:at|step)=(\d+)", told.err)
+                cases.same(f"{path} is refused", [error.verdict.status, error.verdict.reason, error.verdict.at],
+                           [status.BAD_PATH, *map(int, want.groups())])
+                continue
+            for number, message in enumerate(messages):
+                line = told.out.splitlines()[number]
+                if b" bad " in line:
+                    continue
+                kind, value = verifier.read(message, steps, python.Options(prefixed=1))
+                text = line.partition(b"reads=")[2].partition(b" ")[2].decode()
+                cases.same(f"{path} of {number}", value_line(kind, value), text)
+        steps, handle = verifier.resolve("to.name"), verifier._handle
+        cases.same("steps", [(step.kind, step.number) for step in steps][0][0], 1)
+        count, value, verdict = ctypes.c_size_t(77), python._Value(kind=77), python._Verdict()
+        for text, want in [(b"", (17, 1, 0)), (b"to..x", (17, 1, 3)), (b"to.nobody", (17, 2, 1)),
+                           (b"to[0]", (17, 3, 1))]:
+            got = calls.fbcheck_resolve(handle, text, len(text), steps, len(steps), count, verdict)
+            cases.same(f"the text {text}", (got, verdict.reason, verdict.at, count.value), (*want, 77))
+        got = calls.fbcheck_resolve(handle, b"to.name", 7, steps, 1, count, verdict)
+        cases.same("too little room for steps", (got, count.value), (status.NO_ROOM, 2))
+        room = ctypes.create_string_buffer(b"?" * 8, 8)
+        data, options = messages[0], python.Options(prefixed=1)
+        read = lambda steps, size: calls.fbcheck_read(handle, options, data, len(data), steps, len(steps), value, room,
+                                                      size, verdict)
+        told = (read(steps, 2), value.kind, value.size, room.raw)
+        cases.same("too little room for a text", told, (0, 7, 3, b"?" * 8))
+        cases.same("just enough", (read(steps, 3), value.size, room.raw), (0, 3, b"Ada?????"))
+        value.kind = 77
+        for name, wrong in [("no kind", (9, 0)), ("no such field", (1, 999)), ("too great a field", (1, 65536)),
+                            ("an element of a table", (2, 0)), ("a member of a table", (3, 1))]:
+            got = read((python._Step * 1)(wrong), 8)
+            cases.same(f"a step that is {name}", (got, verdict.status, value.kind), (status.MISFIT, 19, 77))
+        cases.same("the root itself", (read((python._Step * 0)(), 8), value.kind), (0, 10))
+        bad = calls.fbcheck_read(handle, None, b"", 0, steps, len(steps), value, room, 8, verdict)
+        cases.same("a bad buffer", (bad, verdict.reason), (1, 2))
+        verifier.choose_root("post.Person")
+        cases.same("steps from another root", read(steps, 8) in (status.BAD, status.MISFIT), True)
+        for place in (0, 1, 3, 5):
+            words = [handle, b"to", 2, steps, 2, count, verdict]
+            words[place] = None
+            cases.same(f"no word {place} to resolve", calls.fbcheck_resolve(*words), status.NULL)
+        for place in (0, 2, 4, 6, 7):
+            words = [handle, None, b"", 9, steps, 2, value, room, 8, verdict]
+            words[place] = None
+            cases.same(f"no word {place} to read", calls.fbcheck_read(*words), status.NULL)
+        verifier.close()
+        cases.same("of a handle that holds nothing", (calls.fbcheck_resolve(handle, b"to", 2, steps, 2, count, None),
+                                                      read(steps, 8)), (status.EMPTY, status.EMPTY))
+
+
 def under_valgrind(cases):
     """Where there is one: the messages of the example and some damaged ones, with nothing read that isn't there."""
     if not shutil.which("valgrind"):
@@ -176,8 +376,7 @@ def under_valgrind(cases):
     status, out, err = ran("valgrind", "-q", "--error-exitcode=9", "--leak-check=full", FOLDER / "tell_shared",
                            "--schema", whole, given=given, seconds=600)
     cases.same("valgrind has nothing to say", (status, err), (0, ""))
-    want = without_names(run("--schema", str(whole), given=given).out).decode()
-    cases.same("and the lines are the program's", out, want)
+    cases.same("and the lines are the program's", out, run("--schema", str(whole), given=given).out.decode())
 
 
 def memory(cases):
@@ -378,23 +577,29 @@ def examples(cases):
             cases.same(f"{name}, check_cpp", told, (wanted, True, wanted == 2))
 
 
-def text_of_the_reference(cases):
-    """The C that docs/REFERENCE.md shows works when it is pasted."""
-    page = (TOP / "docs/REFERENCE.md").read_text()
-    text = re.search(r"```c\n(.*?)```", page, re.S)[1]
-    source = file_of("pasted.c", text.encode())
-    program = compiled(cases, "pasted", source, *SHARED)
-    small = file_of("M.bfbs", schemas.M)
-    for name, given, want in [
-        ("a good buffer", ORC, (0, "good: 1 tables, 8 reads\n")),
-        ("one whose last text is torn", ORC[:-1], (1, "bad: V2 at 28\n")),
+def texts_of_the_pages(cases):
+    """The C that README.md and docs/REFERENCE.md show works when it is pasted."""
+    for rows in ("good", "bad"):
+        (FOLDER / rows).mkdir()
+    file_of("good/my.bfbs", schemas.M)
+    file_of("bad/my.bfbs", ORC)
+    for page, good, no_schema in [
+        ("README.md", "good: 1 tables\n", ""),
+        ("docs/REFERENCE.md", "good: 1 tables, 8 reads\n", "no schema: 8\n"),
     ]:
-        cases.same(name, ran(program, small, given=given)[:2], want)
-    cases.same("no schema", ran(program, FOLDER / "orc", given=ORC)[:2], (2, "no schema: 8\n"))
+        text = re.search(r"```c\n(.*?)```", (TOP / page).read_text(), re.S)[1]
+        program = compiled(cases, "pasted from " + page.replace("/", " "), file_of("pasted.c", text.encode()), *SHARED)
+        for name, rows, given, want in [
+            ("a good buffer", "good", ORC, (0, good)),
+            ("one whose last text is torn", "good", ORC[:-1], (1, "bad: V2 at 28\n")),
+            ("no schema", "bad", ORC, (2, no_schema)),
+        ]:
+            told = ran("env", "-C", FOLDER / rows, program, "my.bfbs", given=given)
+            cases.same(f"{page}: {name}", told[:2], want)
 
 
 if __name__ == "__main__":
     outside.main(
-        what_is_built, the_header, verdicts, under_valgrind, memory, nulls, names, loads, examples,
-        text_of_the_reference,
+        what_is_built, the_header, verdicts, batches, framers, through_pipes, paths, under_valgrind, memory, nulls,
+        names, loads, examples, texts_of_the_pages,
     )

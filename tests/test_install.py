@@ -32,7 +32,7 @@ def installed(*words, **environment):
 
 def options():
     """The long options of the program, as its help has them."""
-    return re.findall(r"^ +(?:-h, )?(--[a-z-]+)", outside.run("--help").out.decode(), re.M)
+    return re.findall(r"^ +(?:-[hV], )?(--[a-z-]+)", outside.run("--help").out.decode(), re.M)
 
 
 def reasons():
@@ -92,7 +92,7 @@ def what_is_refused(cases):
 
 def the_page(cases):
     told = PAGE.replace(r"\-", "-").split(".SH OPTIONS")[1].split(".SH LINES")[0]
-    known = re.findall(r"^\.TP\n\.B[IR]? (?:-h \", \" )?(--[a-z-]+)", told, re.M)
+    known = re.findall(r"^\.TP\n\.B[IR]? (?:-[hV] \", \" )?(--[a-z-]+)", told, re.M)
     cases.same("the page has each option in the order of help", known, options())
     page = plain(PAGE)
     for reason in reasons():

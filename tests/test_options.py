@@ -1,5 +1,9 @@
 """Each option of the command line, alone and with all others, and that each reaches what it's for."""
 
+import re
+import shutil
+import subprocess
+
 import buffers
 import outside
 import schemas
@@ -310,9 +314,39 @@ def help_is_given(cases):
     for words in [["--help"], ["-h"], ["--bare", "--help"], ["--help", "--nothing"]]:
         ran = run(*words, given=SEVEN)
         cases.same(f"{words} is status 0", (ran.status, ran.err), (0, b""))
-        for name in [*CALL, "--bare", "--help"]:
+        for name in [*CALL, "--bare", "--quiet", "--help", "--version"]:
             cases.holds(f"{words} tells of {name}", name.encode() in ran.out, ran.out)
     cases.same("help is the same each time", run("-h"), Ran(0, run("--help").out, b""))
+
+
+def the_version_is_told(cases):
+    kit = re.search(r"proved with `([^`]+)`", (outside.TOP / "README.md").read_text())[1]
+    number = re.search(r"^Version: (.*)$", (outside.TOP / "c/fbcheck.pc.in").read_text(), re.M)[1]
+    for words in [["--version"], ["--bare", "--version"], ["--version", "--nothing"]]:
+        cases.same(f"{words}", run(*words, given=SEVEN), good(f"fbcheck {number}", f"proved with {kit}"))
+    cases.same("-V", run("-V", given=SEVEN), good(f"fbcheck {number}"))
+    if shutil.which("rt"):
+        told = subprocess.run(["rt", "version"], capture_output=True, text=True, timeout=outside.SECONDS).stdout
+        cases.same("the toolchain is the one that is here", told.strip(), kit)
+
+
+def good_buffers_are_left_out(cases):
+    stream = SEVEN + changed(SEVEN, (20, "0d")) + SEVEN + spelled("00000000")
+    lines = ["2 bad V3 Misaligned at=7 object=0 field=- reads=3", "4 bad V2 OutOfBuffer at=4 object=0 field=- reads=1"]
+    told_alike(cases, [
+        ("no lines", by("N", "--quiet"), SEVEN * 3, good()),
+        ("nor of nothing", by("N", "--quiet"), b"", good()),
+        ("the bad ones by their numbers", by("N", "--quiet"), stream, bad(*lines)),
+        ("before a fault", by("N", "--quiet"), stream + SEVEN[:9], failed("stream: S2 Truncated held=9", *lines)),
+        ("a bare yes", bare("M", "--quiet"), ORC, good()),
+        ("a bare no", bare("M", "--quiet", "--max-reads", "4"), ORC,
+         bad("1 bad V13 TooManyReads at=12 object=0 field=1 reads=5")),
+        ("with a path", by("N", "--quiet", "--path", "v"), stream, bad(*lines)),
+    ])
+    cases.same("twice is wrong", run("--quiet", "--quiet").status, 2)
+    whole = run(*by("N"), given=stream)
+    cases.same("they are the lines of a run without it", run(*by("N", "--quiet"), given=stream).out.splitlines(),
+               [line for line in whole.out.splitlines() if b" bad " in line])
 
 
 def the_c_library_is_all_it_loads(cases):
@@ -328,5 +362,6 @@ if __name__ == "__main__":
         the_tables_are_limited, the_reads_are_limited, the_bytes_are_limited, bare_input_is_one_buffer,
         the_checks_are_switched,
         all_options_together, each_option_left_out_of_all, each_option_changed_among_all, wrong_words, help_is_given,
+        the_version_is_told, good_buffers_are_left_out,
         the_c_library_is_all_it_loads,
     )

@@ -214,6 +214,7 @@ ANSWERS = [
     # The letters of this word, and of each option that it may be meant for, are collected too.
     Case("a word that is no option", ["--pith"], b"", 2, guesses=80),
     Case("an identifier of three bytes", ["--ident", "abc"], b"", 2),
+    Case("a filter with a path", ["--filter", "--path", "name"], b"", 2),
     Case("a schema file that isn't there", ["--schema", "/none/such"], b"", 2),
     Case("a schema file that isn't one", ["--schema", str(EXAMPLES / "deliveries.fbs")], b"", 2),
     Case("a root that isn't there", [*LOADED, "--root", "post.None"], STREAM, 2),
@@ -224,6 +225,19 @@ ANSWERS = [
 def is_front(out, whole):
     """Whether what was written is a front of whole lines of what is written without a refusal."""
     return whole.startswith(out) and (out == b"" or out.endswith(b"\n"))
+
+
+# Runs of a filter over good messages. Where memory is refused, a front of whole messages is passed on.
+GOOD = [message for number, message in enumerate(MESSAGES, 1) if number != 5]
+FILTERS = [
+    Case("a filter, over a stream", [*LOADED, "--filter"], b"".join(GOOD), 0),
+    Case("a filter, over a stream of growing messages", [*LOADED, "--filter"], b"".join(sorted(GOOD, key=len)), 0),
+]
+
+
+def is_front_of_messages(out, whole):
+    parts = list(messages(whole))
+    return out in [b"".join(parts[:count]) for count in range(len(parts) + 1)]
 
 
 def is_nothing(out, _whole):
@@ -277,7 +291,7 @@ def main():
         refuser = Refuser(folder)
         for extent in ALONE, WITH_LATER:
             tally.case(f"each call, {extent}", calls_faults(refuser, probe, extent))
-            for cases, may_be_written in (RUNS, is_front), (ANSWERS, is_nothing):
+            for cases, may_be_written in (RUNS, is_front), (FILTERS, is_front_of_messages), (ANSWERS, is_nothing):
                 for case in cases:
                     tally.case(f"{case.name}, {extent}", case_faults(refuser, fbcheck, case, extent, may_be_written))
         tally.case("an oversize prefix", oversize_faults(refuser, fbcheck))

@@ -8,7 +8,7 @@ import subprocess
 
 import outside
 
-TOOLS = ["bash", "env", "dirname", "mktemp", "rm", "tee", "tail"]
+TOOLS = ["bash", "env", "dirname", "mktemp", "rm", "tee", "tail", "cat", "sleep"]
 
 
 def folder_of(name, commands):
@@ -80,6 +80,17 @@ def checks_stand_side_by_side(cases):
         cases.holds(f"{name}: {told}", len(told) == 1 and (told[0] == want if want else 1 <= int(told[0]) < 4000), out)
 
 
+def tests_stand_side_by_side(cases):
+    top = folder_of("side by side", {"rt": tells(1, 0), "nproc": "echo 2"})
+    for mine, other in [(0, 1), (1, 0), (2, 2)]:
+        met = f"for tenth in {{1..100}}; do [ ! -e met_{other} ] || break; sleep 0.1; done; [ -e met_{other} ] || exit 1"
+        write(top / "tests" / f"test_{mine}.py", f"echo > met_{mine}\n{met}\necho I am {mine}\n{tells(1, 0)}")
+    status, out, _ = called(top)
+    cases.same("each meets the other", (status, out[-1]), (0, "4 passed, 0 failed"))
+    shown = [line for line in out if line.startswith("I am")]
+    cases.same("they are shown in their order", shown, ["I am 0", "I am 1", "I am 2"])
+
+
 def what_is_missing_is_named(cases):
     for missing, text in [("rt", "rt, the command of the Rattle toolchain"), ("python3", "python3, which runs"),
                           ("cc", "cc, a C compiler")]:
@@ -109,6 +120,6 @@ def other_words_are_refused(cases):
 
 if __name__ == "__main__":
     outside.main(
-        counts_are_added, checks_stand_side_by_side, what_is_missing_is_named, from_outside_alone,
-        other_words_are_refused,
+        counts_are_added, checks_stand_side_by_side, tests_stand_side_by_side, what_is_missing_is_named,
+        from_outside_alone, other_words_are_refused,
     )

@@ -103,11 +103,11 @@ def generate(corpus):
         run("flatc", "--binary", "--schema", "-o", MADE, source)
 
 
-def compile_program(name, source, *words):
-    """A program of one source, which may stand on the headers of all schemas."""
+def compile_program(name, source, *words, library=()):
+    """A program of one source, which may stand on the headers of all schemas, and on a library."""
     made = MADE / name
     headers = [MADE / f"{corpus.name}_generated.h" for corpus in CORPORA]
-    if not is_fresh(made, [HERE / source, HERE / "stream.h", HEADER, *headers]):
+    if not is_fresh(made, [HERE / source, HERE / "stream.h", HEADER, *headers, *library]):
         run(*COMPILE, f"-I{MADE}", f"-I{HERE}", HERE / source, "-o", made, *words)
 
 
@@ -124,6 +124,13 @@ def build():
         list(threads.map(lambda words: compile_program(*words), wanted))
 
 
+def build_library():
+    """The program that calls the library for C, with that library where it is stale."""
+    run(TOP / "build_c")
+    archive, header = TOP / "out/libfbcheck.a", TOP / "include/fbcheck.h"
+    compile_program("by_library", "by_library.cpp", f"-I{TOP / 'include'}", archive, library=[archive, header])
+
+
 def messages(corpus, size):
     """The file with so many messages of a corpus."""
     made = MADE / f"{corpus.name}-{size.messages}-{size.parts}.bin"
@@ -138,10 +145,20 @@ def messages(corpus, size):
     return made
 
 
-def commands(corpus, program):
-    """How each program is called on a stream of this corpus, by its name."""
+def verifiers_for_cpp(corpus):
+    """How the C++ programs are called on a stream of this corpus, by their names."""
     return {
-        "fbcheck": [program, "--schema", corpus.schema],
         "reflection": [MADE / REFLECTION, corpus.schema],
         "generated": [MADE / f"by_generated_{corpus.name}"],
     }
+
+
+def commands(corpus, program):
+    """How each program is called on a stream of this corpus, by its name."""
+    return {"fbcheck": [program, "--schema", corpus.schema], **verifiers_for_cpp(corpus)}
+
+
+def commands_in_process(corpus):
+    """How each program is called that times a verifier in its own process, by the verifier's name."""
+    called = {"fbcheck": [MADE / "by_library", corpus.schema], **verifiers_for_cpp(corpus)}
+    return {name: [*command, "--timed"] for name, command in called.items()}

@@ -1,15 +1,15 @@
 // The verifier that flatc generates for one schema. GENERATED is the header that it wrote, and ROOT the root table.
 //
-//   by_generated [--fenced] < STREAM
+//   by_generated [--fenced | --timed] < STREAM
 
 #include GENERATED
 
 #include "stream.h"
 
-int main(int count, char **) {
+int main(int count, char **words) {
   const auto verifies = [](const uint8_t *message, size_t length) {
     flatbuffers::Verifier verifier(message, length, most_depth, most_tables);
     return verifier.VerifySizePrefixedBuffer<ROOT>(nullptr);
   };
-  return count > 1 ? verify_fenced(verifies) : verify_stream(verifies);
+  return verify_as_asked(verifies, words[count - 1]);
 }

@@ -8,7 +8,7 @@ import statistics
 import subprocess
 import typing
 
-from building import Failed, commands, messages
+from building import Failed, commands, commands_in_process, messages
 
 
 @dataclasses.dataclass(frozen=True)
@@ -31,16 +31,24 @@ def processor_time(command, stream):
     return used.ru_utime + used.ru_stime
 
 
-def times(corpus, program, runs):
-    """The times of each program, which run in turn; each turn begins with the next one."""
-    stream = messages(corpus, corpus.timed)
-    called = list(commands(corpus, program).items())
+def in_turn(called, stream, runs, take):
+    """What is taken of each program on a stream; they run in turn, and each turn begins with the next one."""
+    called = list(called.items())
     taken = {name: [] for name, _ in called}
     for turn in range(runs):
         first = turn % len(called)
         for name, command in called[first:] + called[:first]:
-            taken[name].append(processor_time(command, stream))
+            taken[name].append(take(command, stream))
     return taken
+
+
+def seconds_in_process(command, stream):
+    """The seconds that a verifier takes for a stream that lies in the memory of its process, as that process tells."""
+    with open(stream, "rb") as given:
+        ran = subprocess.run(command, stdin=given, stdout=subprocess.PIPE, stderr=subprocess.PIPE, text=True)
+    if ran.returncode != 0:
+        raise Failed(f"{command[0]} ended with status {ran.returncode} on {stream}: {ran.stderr}")
+    return float(ran.stdout) / 1e9
 
 
 def count_instructions(command, stream):
@@ -67,8 +75,14 @@ def instructions(corpus, program):
     }
 
 
+def measure_in_process(corpus, runs):
+    """The cost of each verifier on a corpus in the process that calls it, by its name."""
+    taken = in_turn(commands_in_process(corpus), messages(corpus, corpus.timed), runs, seconds_in_process)
+    return {name: Cost(min(times), statistics.median(times), None) for name, times in taken.items()}
+
+
 def measure(corpus, program, runs):
     """The cost of each program on a corpus, by its name."""
-    taken = times(corpus, program, runs)
+    taken = in_turn(commands(corpus, program), messages(corpus, corpus.timed), runs, processor_time)
     counted = instructions(corpus, program)
     return {name: Cost(min(taken[name]), statistics.median(taken[name]), counted[name]) for name in taken}

@@ -61,6 +61,16 @@ class Verifier {
         return verdict;
     }
 
+    // The verdict on each buffer of a block, in the order of the spans.
+    std::vector<fbcheck_verdict> verify_each(const void *block, std::size_t length,
+                                             const std::vector<fbcheck_span> &spans,
+                                             const fbcheck_options &asked = options()) {
+        std::vector<fbcheck_verdict> verdicts(spans.size());
+        fbcheck_verify_each(&handle_, &asked, static_cast<const std::uint8_t *>(block), length, spans.data(),
+                            verdicts.data(), spans.size());
+        return verdicts;
+    }
+
     // Whether a buffer is good.
     bool operator()(const void *buffer, std::size_t length) noexcept {
         return verify(buffer, length).status == FBCHECK_OK;

@@ -33,6 +33,14 @@ class Status(enum.IntEnum):
     BAD_SCHEMA = 9
     ROOT_NOT_LISTED = 10
     NO_MEMORY = 11
+    NO_SPAN = 12
+    MORE = 13
+    OVERSIZE = 14
+    TRUNCATED = 15
+    FAILED = 16
+    BAD_PATH = 17
+    NO_ROOM = 18
+    MISFIT = 19
 
 
 class Reason(enum.IntEnum):
@@ -51,6 +59,23 @@ class Reason(enum.IntEnum):
     LENGTHS_DIFFER = 11
     PAST_TABLE = 12
     TOO_MANY_READS = 13
+
+
+class Kind(enum.IntEnum):
+    """What stands at the end of a path."""
+
+    ABSENT = 0
+    NO_ELEMENT = 1
+    OTHER_MEMBER = 2
+    BOOL = 3
+    INT = 4
+    UINT = 5
+    FLOAT = 6
+    TEXT = 7
+    STRUCT = 8
+    VECTOR = 9
+    TABLE = 10
+    UNION = 11
 
 
 class Options(ctypes.Structure):
@@ -97,6 +122,28 @@ class _Handle(ctypes.Structure):
     _fields_ = [("session", ctypes.c_void_p)]
 
 
+class _Span(ctypes.Structure):
+    _fields_ = [("at", ctypes.c_size_t), ("length", ctypes.c_size_t)]
+
+
+class _Step(ctypes.Structure):
+    _fields_ = [("kind", ctypes.c_uint32), ("number", ctypes.c_uint32)]
+
+
+class _Value(ctypes.Structure):
+    _fields_ = [
+        ("kind", ctypes.c_uint32),
+        ("reserved", ctypes.c_uint32),
+        ("number", ctypes.c_uint64),
+        ("integer", ctypes.c_int64),
+        ("size", ctypes.c_uint64),
+    ]
+
+
+class _Framer(ctypes.Structure):
+    _fields_ = [("held", ctypes.c_size_t), ("failed", ctypes.c_uint32), ("declared", ctypes.c_uint32)]
+
+
 class Verdict(typing.NamedTuple):
     """What is told of a buffer or a schema file."""
 
@@ -129,12 +176,30 @@ def _told(verdict: _Verdict) -> Verdict:
 
 def _library():
     found = ctypes.CDLL(os.environ.get("FBCHECK_LIBRARY") or "libfbcheck.so.1")
-    handle, options, verdict = (ctypes.POINTER(of) for of in (_Handle, Options, _Verdict))
+    handle, options, verdict, span = (ctypes.POINTER(of) for of in (_Handle, Options, _Verdict, _Span))
     for name, words in {
         "fbcheck_load": [handle, ctypes.c_char_p, ctypes.c_size_t, options, verdict],
         "fbcheck_choose_root": [handle, ctypes.c_char_p, ctypes.c_size_t],
         "fbcheck_verify": [handle, options, ctypes.c_char_p, ctypes.c_size_t, verdict],
+        "fbcheck_verify_each": [
+            handle, options, ctypes.c_char_p, ctypes.c_size_t, span, verdict, ctypes.c_size_t
+        ],
         "fbcheck_most_reads": [handle, options, ctypes.c_uint64, ctypes.POINTER(ctypes.c_uint64)],
+    }.items():
+        getattr(found, name).argtypes = words
+        getattr(found, name).restype = ctypes.c_uint32
+    framer, bytes_in, size = ctypes.POINTER(_Framer), ctypes.POINTER(ctypes.c_uint8), ctypes.c_size_t
+    for name, words in {
+        "fbcheck_framer_feed": [framer, bytes_in, size, ctypes.c_char_p, size, ctypes.POINTER(size)],
+        "fbcheck_framer_next": [framer, bytes_in, size],
+        "fbcheck_framer_finish": [framer, bytes_in, size],
+    }.items():
+        getattr(found, name).argtypes = words
+        getattr(found, name).restype = ctypes.c_uint32
+    step, value = ctypes.POINTER(_Step), ctypes.POINTER(_Value)
+    for name, words in {
+        "fbcheck_resolve": [handle, ctypes.c_char_p, size, step, size, ctypes.POINTER(size), verdict],
+        "fbcheck_read": [handle, options, ctypes.c_char_p, size, step, size, value, ctypes.c_char_p, size, verdict],
     }.items():
         getattr(found, name).argtypes = words
         getattr(found, name).restype = ctypes.c_uint32
@@ -149,6 +214,13 @@ def _library():
     found.fbcheck_free.argtypes = [handle]
     found.fbcheck_free.restype = None
     return found
+
+
+def _done(status: int) -> int:
+    """The status of a call that was done."""
+    if status not in (Status.OK, Status.MORE):
+        raise Error(Verdict(status, 0, 0, None, 0, 0, 0, 0))
+    return status
 
 
 def _name(call, *words) -> str | None:
@@ -175,9 +247,7 @@ class Verifier:
     def choose_root(self, name: str):
         """Has later checks begin at the table of this name."""
         text = name.encode()
-        status = self._calls.fbcheck_choose_root(self._handle, text, len(text))
-        if status != Status.OK:
-            raise Error(Verdict(status, 0, 0, None, 0, 0, 0, 0))
+        _done(self._calls.fbcheck_choose_root(self._handle, text, len(text)))
 
     def verify(self, buffer, options: Options | None = None) -> Verdict:
         """The verdict on a buffer: status OK or BAD."""
@@ -187,12 +257,39 @@ class Verifier:
             raise Error(_told(verdict))
         return _told(verdict)
 
+    def verify_each(self, block, spans, options: Options | None = None) -> list[Verdict]:
+        """The verdict on each buffer of a block, by its first byte's place and its length; of any status."""
+        data, spans = bytes(block), list(spans)
+        given, verdicts = (_Span * len(spans))(*spans), (_Verdict * len(spans))()
+        self._calls.fbcheck_verify_each(self._handle, options, data, len(data), given, verdicts, len(spans))
+        return [_told(verdict) for verdict in verdicts]
+
+    def resolve(self, path: str):
+        """The steps of a path, which serve every buffer that is checked from this root."""
+        text, count, verdict = path.encode(), ctypes.c_size_t(), _Verdict()
+        given = (self._handle, text, len(text))
+        if self._calls.fbcheck_resolve(*given, None, 0, count, verdict) != Status.NO_ROOM:
+            raise Error(_told(verdict))
+        steps = (_Step * count.value)()
+        self._calls.fbcheck_resolve(*given, steps, count.value, count, verdict)
+        return steps
+
+    def read(self, buffer, steps, options: Options | None = None):
+        """The kind of the value at the end of these steps in a good buffer, and the value: a number or bytes."""
+        data, value, verdict = bytes(buffer), _Value(), _Verdict()
+        room = ctypes.create_string_buffer(len(data) + 1)
+        given = (self._handle, options, data, len(data), steps, len(steps), value, room, len(data), verdict)
+        if self._calls.fbcheck_read(*given) != Status.OK:
+            raise Error(_told(verdict))
+        kind = Kind(value.kind)
+        if kind in (Kind.FLOAT, Kind.TEXT, Kind.STRUCT):
+            return kind, room.raw[: value.size]
+        return kind, value.integer if kind == Kind.INT else value.number
+
     def most_reads(self, length: int, options: Options | None = None) -> int:
         """How many reads a check of so many bytes makes at most."""
         reads = ctypes.c_uint64()
-        status = self._calls.fbcheck_most_reads(self._handle, options, length, reads)
-        if status != Status.OK:
-            raise Error(Verdict(status, 0, 0, None, 0, 0, 0, 0))
+        _done(self._calls.fbcheck_most_reads(self._handle, options, length, reads))
         return reads.value
 
     def reason_name(self, reason: int) -> str | None:
@@ -220,3 +317,26 @@ class Verifier:
     def __del__(self):
         if hasattr(self, "_handle"):
             self.close()
+
+
+class Framer:
+    """The messages of a stream that comes in pieces, each with its size in front, which have at most so many bytes."""
+
+    def __init__(self, limit: int = 1 << 16):
+        self._calls = _library()
+        self._framer = _Framer()
+        self._room = (self._framer, (ctypes.c_uint8 * limit)(), limit)
+
+    def messages(self, piece: bytes):
+        """The messages that end in the next piece, one after another."""
+        used = ctypes.c_size_t()
+        while piece:
+            status = _done(self._calls.fbcheck_framer_feed(*self._room, piece, len(piece), used))
+            piece = piece[used.value:]
+            if status == Status.OK:
+                yield bytes(self._room[1][: self._framer.held])
+                self._calls.fbcheck_framer_next(*self._room)
+
+    def finish(self):
+        """Says that the stream has ended, which it may not inside a message."""
+        _done(self._calls.fbcheck_framer_finish(*self._room))

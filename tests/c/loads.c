@@ -1,6 +1,6 @@
 /*
- * Loads a schema file, checks a buffer and frees, over and over: as a whole, into a handle that holds a schema, and cut
- * off. Tells how many bytes of the heap are in use after a few rounds, and after many.
+ * Loads a schema file, checks a buffer, reads a value and frees, over and over: as a whole, into a handle that holds a
+ * schema, and cut off. Tells how many bytes of the heap are in use after a few rounds, and after many.
  */
 #include <fbcheck.h>
 #include <malloc.h>
@@ -19,6 +19,23 @@ static void read_file(int which, const char *path)
     fclose(file);
 }
 
+/* Resolves the root's first field, and reads it. */
+static void read_first_field(fbcheck_handle *handle)
+{
+    char name[64];
+    uint8_t room[64];
+    fbcheck_step step;
+    fbcheck_value value;
+    fbcheck_verdict verdict;
+    size_t length, count;
+    fbcheck_verify(handle, NULL, NULL, 0, &verdict); /* it names the root */
+    length = fbcheck_field_name(handle, verdict.object, 0, name, sizeof name);
+    if (fbcheck_resolve(handle, name, length, &step, 1, &count, NULL) != FBCHECK_OK || count != 1)
+        exit(8);
+    if (fbcheck_read(handle, NULL, bytes[1], lengths[1], &step, 1, &value, room, sizeof room, NULL) != FBCHECK_OK)
+        exit(9);
+}
+
 static void round_of(size_t number)
 {
     fbcheck_handle handle = FBCHECK_HANDLE_INIT;
@@ -29,6 +46,7 @@ static void round_of(size_t number)
         if (fbcheck_verify(&handle, NULL, bytes[1], lengths[1], &verdict) != FBCHECK_OK || verdict.tables == 0)
             exit(4);
     }
+    read_first_field(&handle);
     if (fbcheck_load(&handle, bytes[0], number % lengths[0], NULL, NULL) == FBCHECK_OK)
         exit(5);
     if (fbcheck_verify(&handle, NULL, bytes[1], lengths[1], NULL) != FBCHECK_OK)

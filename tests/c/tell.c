@@ -1,14 +1,13 @@
 /*
  * Checks each message of a stream by the library, with words as the program takes them, and tells it by a line as the
- * program does, but for the reason's name.
+ * program does.
  *
- * A message stands right before a page that can't be read, and the next time right behind one, so that a read outside of
- * it ends the process.
+ * A message stands right before a page that can't be read, and the next time right behind one, so that a read outside
+ * of it ends the process. Then all are checked at once where they stand in the stream, which must give the same
+ * verdicts.
  */
-#include <fbcheck.h>
-#include <inttypes.h>
-#include <stdio.h>
-#include <stdlib.h>
+#include "../../examples/c/telling.h"
+
 #include <string.h>
 #include <sys/mman.h>
 #include <unistd.h>
@@ -17,22 +16,6 @@ static void fail(const char *what)
 {
     fprintf(stderr, "tell: %s\n", what);
     exit(2);
-}
-
-static uint8_t *bytes_of(FILE *file, size_t *length)
-{
-    uint8_t *bytes = NULL;
-    size_t room = 0;
-    *length = 0;
-    if (file == NULL)
-        fail("a file can't be read");
-    do {
-        bytes = realloc(bytes, room += 1 << 20);
-        if (bytes == NULL)
-            fail("out of memory");
-        *length += fread(bytes + *length, 1, room - *length, file);
-    } while (*length == room);
-    return bytes;
 }
 
 /* A run of pages between two that can't be read. */
@@ -52,80 +35,118 @@ static struct field field_of(size_t length)
     return field;
 }
 
-static void tell(size_t number, const fbcheck_verdict *verdict)
+/* What the words ask for: the schema file's name, the root's, and the options. */
+struct asked {
+    const char *path, *root;
+    fbcheck_options options;
+};
+
+static struct asked asked_by(int count, char **words)
 {
-    if (verdict->status > FBCHECK_BAD) {
-        printf("%zu status=%" PRIu32 "\n", number, verdict->status);
-        return;
-    }
-    if (verdict->status == FBCHECK_OK) {
-        printf("%zu ok tables=%" PRIu32 " depth=%" PRIu32, number, verdict->tables, verdict->depth);
-    } else {
-        printf("%zu bad V%" PRIu32 " at=%" PRIu64 " object=%" PRIu32 " field=", number, verdict->reason, verdict->at,
-               verdict->object);
-        if (verdict->field == FBCHECK_NONE)
-            printf("-");
+    struct asked asked = { "", NULL, FBCHECK_OPTIONS_INIT };
+    fbcheck_options *options = &asked.options;
+    options->prefixed = 1;
+    for (int i = 1; i < count; i++) {
+        const char *word = words[i], *value = i + 1 < count ? words[i + 1] : "";
+        if (strcmp(word, "--no-alignment") == 0)
+            options->no_alignment = 1;
+        else if (strcmp(word, "--inline-size") == 0)
+            options->inline_size = 255;
+        else if (i++, strcmp(word, "--schema") == 0)
+            asked.path = value;
+        else if (strcmp(word, "--root") == 0)
+            asked.root = value;
+        else if (strcmp(word, "--max-depth") == 0)
+            options->max_depth = (uint32_t)strtoul(value, NULL, 10);
+        else if (strcmp(word, "--max-tables") == 0)
+            options->max_tables = (uint32_t)strtoul(value, NULL, 10);
+        else if (strcmp(word, "--max-reads") == 0)
+            options->max_reads = strtoull(value, NULL, 10);
+        else if (strcmp(word, "--ident") == 0 && strlen(value) == 4)
+            memcpy(options->ident, value, 4), options->has_ident = 1;
         else
-            printf("%" PRIu32, verdict->field);
+            fail("a word is wrong");
     }
-    printf(" reads=%" PRIu64 "\n", verdict->reads);
+    return asked;
+}
+
+/* The verdict on a message, which two pages that can't be read have given alike. */
+static fbcheck_verdict verdict_on(fbcheck_handle *handle, const fbcheck_options *options, struct field field,
+                                  const uint8_t *message, size_t length)
+{
+    fbcheck_verdict verdict, again;
+    uint8_t *place = field.first + field.length - length;
+    memcpy(place, message, length);
+    fbcheck_verify(handle, options, place, length, &verdict);
+    memcpy(field.first, message, length);
+    fbcheck_verify(handle, options, field.first, length, &again);
+    if (memcmp(&verdict, &again, sizeof verdict) != 0)
+        fail("two verdicts on one message differ");
+    return verdict;
+}
+
+/* Where the messages of a stream lie. */
+static fbcheck_span *spans_of(const uint8_t *stream, size_t length, size_t *count)
+{
+    fbcheck_span *spans = calloc(length / 4 + 1, sizeof *spans);
+    if (spans == NULL)
+        fail("out of memory");
+    *count = 0;
+    for (size_t at = 0; at < length; at += spans[(*count)++].length) {
+        const uint8_t *m = stream + at;
+        spans[*count].at = at;
+        spans[*count].length = 4 + ((size_t)m[0] | (size_t)m[1] << 8 | (size_t)m[2] << 16 | (size_t)m[3] << 24);
+    }
+    return spans;
+}
+
+/* Checks all messages of a stream at once, and holds them against the verdicts on each. */
+static void check_at_once(fbcheck_handle *handle, const fbcheck_options *options, const uint8_t *stream, size_t length,
+                          const fbcheck_span *spans, const fbcheck_verdict *verdicts, size_t count)
+{
+    fbcheck_verdict *batch = calloc(count + 1, sizeof *batch);
+    uint32_t status, want = FBCHECK_OK;
+    if (batch == NULL)
+        fail("out of memory");
+    for (size_t i = 0; i < count; i++)
+        want |= verdicts[i].status != FBCHECK_OK ? FBCHECK_BAD : FBCHECK_OK;
+    status = fbcheck_verify_each(handle, options, stream, length, spans, batch, count);
+    if (memcmp(batch, verdicts, count * sizeof *batch) != 0)
+        fail("a verdict of all at once differs");
+    if (status != want)
+        fail("the answer isn't that of the verdicts");
+    free(batch);
 }
 
 int main(int count, char **words)
 {
+    struct asked asked = asked_by(count, words);
     fbcheck_handle handle = FBCHECK_HANDLE_INIT;
-    fbcheck_options options = FBCHECK_OPTIONS_INIT;
-    const char *path = "", *root = NULL;
-    fbcheck_verdict verdict;
-    size_t length, stream_length, number = 1;
-    uint8_t *file, *stream;
+    size_t length, stream_length, messages;
+    uint8_t *file = bytes_of(fopen(asked.path, "rb"), &length);
+    uint8_t *stream = bytes_of(stdin, &stream_length);
     struct field field;
-    options.prefixed = 1;
-    for (int i = 1; i < count; i++) {
-        const char *word = words[i], *value = i + 1 < count ? words[i + 1] : "";
-        if (strcmp(word, "--no-alignment") == 0)
-            options.no_alignment = 1;
-        else if (strcmp(word, "--inline-size") == 0)
-            options.inline_size = 255;
-        else if (i++, strcmp(word, "--schema") == 0)
-            path = value;
-        else if (strcmp(word, "--root") == 0)
-            root = value;
-        else if (strcmp(word, "--max-depth") == 0)
-            options.max_depth = (uint32_t)strtoul(value, NULL, 10);
-        else if (strcmp(word, "--max-tables") == 0)
-            options.max_tables = (uint32_t)strtoul(value, NULL, 10);
-        else if (strcmp(word, "--max-reads") == 0)
-            options.max_reads = strtoull(value, NULL, 10);
-        else if (strcmp(word, "--ident") == 0 && strlen(value) == 4)
-            memcpy(options.ident, value, 4), options.has_ident = 1;
-        else
-            fail("a word is wrong");
-    }
-    file = bytes_of(fopen(path, "rb"), &length);
-    stream = bytes_of(stdin, &stream_length);
-    field = field_of(stream_length);
-    if (fbcheck_load(&handle, file, length, NULL, &verdict) != FBCHECK_OK)
-        fail("no schema");
-    if (root != NULL && fbcheck_choose_root(&handle, root, strlen(root)) != FBCHECK_OK)
+    fbcheck_span *spans;
+    fbcheck_verdict *verdicts;
+    if (file == NULL || stream == NULL || fbcheck_load(&handle, file, length, NULL, NULL) != FBCHECK_OK)
+        fail("no schema, or no stream");
+    if (asked.root != NULL && fbcheck_choose_root(&handle, asked.root, strlen(asked.root)) != FBCHECK_OK)
         fail("no root");
-    for (size_t at = 0; at < stream_length; number++) {
-        uint8_t *place;
-        const uint8_t *m = stream + at;
-        size_t size = 4 + ((size_t)m[0] | (size_t)m[1] << 8 | (size_t)m[2] << 16 | (size_t)m[3] << 24);
-        fbcheck_verdict again;
-        place = field.first + field.length - size;
-        memcpy(place, m, size);
-        fbcheck_verify(&handle, &options, place, size, &verdict);
-        memcpy(field.first, m, size);
-        fbcheck_verify(&handle, &options, field.first, size, &again);
-        if (memcmp(&verdict, &again, sizeof verdict) != 0)
-            fail("two verdicts on one message differ");
-        tell(number, &verdict);
-        at += size;
+    field = field_of(stream_length);
+    spans = spans_of(stream, stream_length, &messages);
+    verdicts = calloc(messages + 1, sizeof *verdicts);
+    if (verdicts == NULL)
+        fail("out of memory");
+    for (size_t i = 0; i < messages; i++) {
+        verdicts[i] = verdict_on(&handle, &asked.options, field, stream + spans[i].at, spans[i].length);
+        printf("%zu ", i + 1);
+        tell(&verdicts[i]);
     }
+    check_at_once(&handle, &asked.options, stream, stream_length, spans, verdicts, messages);
     fbcheck_free(&handle);
     free(file);
     free(stream);
+    free(spans);
+    free(verdicts);
     return 0;
 }

@@ -1,5 +1,5 @@
 -- The steps that parts are, and the kinds to which they lead.
-use Rattle.std.proofs.Common.{◌≡◌, ℕ, List, slice_get, Option, Some, None, Ok, Err, IsTrue, IsSome, unwrap_or, refl, sym, ◌∙◌, ap, subst}
+use Rattle.std.proofs.Common.{◌≡◌, ℕ, List, slice_get, Option, Some, None, Ok, Err, IsTrue, IsSome, refl, sym, ◌∙◌, ap, subst}
 use Rattle.std.specs.Str.{bytes_eq}
 use Rattle.fb_schema.specs.declared.kinds.Kind.{Kind}
 use Rattle.fb_schema.specs.declared.kinds.Kind.TheVariants.{Scalar, Text, Struct, Table, Union, Scalars, Texts, Structs, Tables, Unions}
@@ -16,7 +16,7 @@ use Rattle.fb_access.specs.declared.misfit.Fitted.{Fitted}
 use Rattle.fb_access.specs.Fitting.{element_kind, next_kind}
 use Rattle.fb_access.specs.Grammar.{Part, field, element, member, number_of}
 use Rattle.fb_access.specs.Kept.{IsThere}
-use Rattle.fb_access.specs.Resolving.{field_with_name, to_field, to_element, to_member, field_step, member_step, fitting}
+use Rattle.fb_access.specs.Resolving.{field_with_name, to_field, to_element, to_kind, to_member, field_step, member_step, fitting}
 use Rattle.fb_access.proofs.Found.{found_at, none_found, found_there}
 use Rattle.fb_access.proofs.MemberKinds.{IsMemberKind, member_there}
 use Rattle.fb_access.proofs.NumberedFields.{found_by_number}
@@ -41,16 +41,11 @@ pub record Leads (S : Rows) (kind : Kind) (x : Fitted) : Type 0 where
   pub there : IsThere S x.kind
 
 field_kind_there : (S : Rows) (f : Live) (kind : Kind) → KindHolds S f kind → IsThere S kind
-field_kind_there S f (Scalar s) h = tt
-field_kind_there S f Text h = tt
-field_kind_there S f (Struct k) h = tt
 field_kind_there S f (Table k) h = h
 field_kind_there S f (Union e) h = h
-field_kind_there S f (Scalars s) h = tt
-field_kind_there S f Texts h = tt
-field_kind_there S f (Structs k) h = tt
 field_kind_there S f (Tables k) h = h
 field_kind_there S f (Unions e) h = h
+field_kind_there S f kind h = tt
 
 member_kind_there : (S : Rows) (kind : Kind) → IsMemberKind kind → MemberHolds S (Some kind) → IsThere S kind
 member_kind_there S (Scalar s) m h = tt
@@ -76,7 +71,7 @@ module _ (S : Rows) (legal : IsLegal S) (served : IsServed S) where
       let t = found_there (λ (f : Live). bytes_eq f.name name) (live_fields S k) f e in
       let same : fitted (Field f.number) f.kind ≡ x = cc in
       subst (Leads S (Table k)) same (record {
-        next = rw (found_by_number S legal k t.0 f t.1) refl;
+        next = rw (found_by_number S served k t.0 f t.1) refl;
         there = field_kind_there S f f.kind (served.kinds k t.0 f t.1);
       })
 
@@ -85,12 +80,9 @@ module _ (S : Rows) (legal : IsLegal S) (served : IsServed S) where
   member_leads e name None x u n h = absurd cc
   member_leads e name (Some v) x u n h =
       let k = member_there S e v name legal u n in
-      let kind : unwrap_or (member_of S e v) Text ≡ k.0 = ap (λ o. unwrap_or o Text) k.1 in
-      let same : fitted (Member v) (unwrap_or (member_of S e v) Text) ≡ x = cc in
-      subst (Leads S (Union e)) same (record {
-        next = k.1 ∙ ap Some (sym kind);
-        there = subst (IsThere S) (sym kind) (member_kind_there S k.0 k.2 (subst (MemberHolds S) k.1 (served.members e v)));
-      })
+      let w : Ok (fitted (Member v) k.0) ≡ Ok x = sym (ap (to_kind v) k.1) ∙ h in
+      let same : fitted (Member v) k.0 ≡ x = cc in
+      subst (Leads S (Union e)) same (record { next = k.1; there = member_kind_there S k.0 k.2 (subst (MemberHolds S) k.1 (served.members e v)) })
 
   element_leads : (kind : Kind) (j : ℕ) (o : Option Kind) (x : Fitted) → element_kind kind ≡ o → ((to : Kind) → element_kind kind ≡ Some to → IsThere S to) → to_element j o ≡ Ok x → Leads S kind x
   unfolding next_kind
@@ -119,27 +111,11 @@ module _ (S : Rows) (legal : IsLegal S) (served : IsServed S) where
 
   named_leads : (kind : Kind) (name : List ℕ) (x : Fitted) → field_step S kind name ≡ Ok x → Leads S kind x
   named_leads (Table k) name x h = field_leads k name (field_with_name S k name) x refl h
-  named_leads (Scalar s) name x h = absurd cc
-  named_leads Text name x h = absurd cc
-  named_leads (Struct k) name x h = absurd cc
-  named_leads (Union e) name x h = absurd cc
-  named_leads (Scalars s) name x h = absurd cc
-  named_leads Texts name x h = absurd cc
-  named_leads (Structs k) name x h = absurd cc
-  named_leads (Tables k) name x h = absurd cc
-  named_leads (Unions e) name x h = absurd cc
+  named_leads kind name x h = absurd cc
 
   chosen_leads : (kind : Kind) (name : List ℕ) (x : Fitted) → IsThere S kind → member_step S kind name ≡ Ok x → Leads S kind x
   chosen_leads (Union e) name x t h = member_leads e name (member_named S e name) x t refl h
-  chosen_leads (Scalar s) name x t h = absurd cc
-  chosen_leads Text name x t h = absurd cc
-  chosen_leads (Struct k) name x t h = absurd cc
-  chosen_leads (Table k) name x t h = absurd cc
-  chosen_leads (Scalars s) name x t h = absurd cc
-  chosen_leads Texts name x t h = absurd cc
-  chosen_leads (Structs k) name x t h = absurd cc
-  chosen_leads (Tables k) name x t h = absurd cc
-  chosen_leads (Unions e) name x t h = absurd cc
+  chosen_leads kind name x t h = absurd cc
 
   -- a part that fits leads to a kind that is there
   pub leads : (kind : Kind) (p : Part) (x : Fitted) → IsThere S kind → fitting S kind p ≡ Ok x → Leads S kind x

@@ -24,5 +24,7 @@ pub mod OneReading
 pub mod OneAnswer
 pub mod SomeAnswer
 pub mod StepLaws
+pub mod Staying
 pub mod Shown
 pub mod ShownTree
+pub mod ShownPaths

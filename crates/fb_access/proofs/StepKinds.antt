@@ -47,15 +47,7 @@ module _ (b : List ℕ) (t o : ℕ) where
   pub present_kind : (p : ℕ) (kind : Kind) → IsHere (present_spot b t o p kind) kind
   unfolding present_spot
   present_kind p (AScalar s) = refl
-  present_kind p Text = refl
-  present_kind p (Struct k) = refl
-  present_kind p (Table k) = refl
-  present_kind p (Union e) = refl
-  present_kind p (Scalars s) = refl
-  present_kind p Texts = refl
-  present_kind p (Structs k) = refl
-  present_kind p (Tables k) = refl
-  present_kind p (Unions e) = refl
+  present_kind p kind = refl
 
 default_kind : (d : ℤ) (s : Scalar) → MayBeHere (default_spot d s) (AScalar s)
 unfolding default_spot

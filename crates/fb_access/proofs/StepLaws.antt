@@ -6,13 +6,14 @@ use Rattle.std.proofs.lemmas.Bool.Decides.{nat_tests}
 use Rattle.std.proofs.lemmas.List.Folds.{find_at}
 use Rattle.fb_bytes.specs.Word.{word}
 use Rattle.fb_schema.specs.declared.kinds.Scalar.{Scalar}
-use Rattle.fb_schema.specs.declared.kinds.Scalar.TheVariants.{UType, Bool as AsBool, Byte, UByte, Short, UShort, Int, UInt, Long, ULong, Float, Double}
+use Rattle.fb_schema.specs.declared.kinds.Scalar.TheVariants.{UType}
 use Rattle.fb_schema.specs.declared.kinds.Kind.{Kind}
 use Rattle.fb_schema.specs.declared.kinds.Kind.TheVariants.{Scalar as AScalar, Text, Struct, Table, Union, Scalars, Texts, Structs, Tables, Unions}
 use Rattle.fb_schema.specs.Rows.{Rows}
 use Rattle.fb_schema.specs.Kinds.{scalar_size, struct_size, kind_size}
 use Rattle.fb_schema.specs.Live.{Live, live_fields}
 use Rattle.fb_schema.specs.Members.{member_of}
+use Rattle.fb_schema.proofs.Kinded.{field_sized}
 use Rattle.fb_verify.specs.Places.{target, field_place}
 use Rattle.fb_verify.specs.Fields.{type_place, union_type, types_begin, Lead, to_table, to_string, lead_of, Entry, entry, row, union_row, union_entry, entries_of, entries_at, entries}
 use Rattle.fb_access.specs.declared.step.Step.TheVariants.{Field, Element}
@@ -22,7 +23,6 @@ use Rattle.fb_access.specs.Fitting.{numbered}
 use Rattle.fb_access.specs.Spots.{kind_at, present_spot, default_spot, absent_spot, spot_at, field_spot, if_element, spot_of_element, member_spot}
 use Rattle.fb_access.specs.Denotes.{next_spot, Leads, Reaches}
 use Rattle.fb_access.specs.StepLaws.{position_of, value_place, IsFieldOf, FieldsStandInPlace, IsLedTo, IsOfEntry, steps_on, StepsFollowEntries, AreOffsets, NoOtherElements, MembersFollowLeads, AreInline, ElementsStandInRow}
-use Rattle.fb_access.proofs.TableFields.{field_sized}
 
 some_same : {A : Type 0} {x y : A} → Some x ≡ Some y → x ≡ y
 some_same h = cc
@@ -41,44 +41,18 @@ module _ (b : List ℕ) (S : Rows) (k t n : ℕ) (f : Live) (e : numbered S k n 
 present_in_place : (b : List ℕ) (t o p : ℕ) (kind : Kind) → (kind_at (present_spot b t o p kind) ≡ Some kind) × (position_of (present_spot b t o p kind) ≡ Some (value_place b p kind))
 unfolding present_spot
 present_in_place b t o p (AScalar s) = (refl, refl)
-present_in_place b t o p Text = (refl, refl)
-present_in_place b t o p (Struct k) = (refl, refl)
-present_in_place b t o p (Table k) = (refl, refl)
-present_in_place b t o p (Union e) = (refl, refl)
-present_in_place b t o p (Scalars s) = (refl, refl)
-present_in_place b t o p Texts = (refl, refl)
-present_in_place b t o p (Structs k) = (refl, refl)
-present_in_place b t o p (Tables k) = (refl, refl)
-present_in_place b t o p (Unions e) = (refl, refl)
+present_in_place b t o p kind = (refl, refl)
 
 default_nowhere : (d : ℤ) (s : Scalar) → position_of (default_spot d s) ≡ None
 unfolding default_spot
 default_nowhere d UType = refl
-default_nowhere d AsBool = refl
-default_nowhere d Byte = refl
-default_nowhere d UByte = refl
-default_nowhere d Short = refl
-default_nowhere d UShort = refl
-default_nowhere d Int = refl
-default_nowhere d UInt = refl
-default_nowhere d Long = refl
-default_nowhere d ULong = refl
-default_nowhere d Float = refl
-default_nowhere d Double = refl
+default_nowhere d s = refl
 
 absent_nowhere : (optional : Bool) (d : ℤ) (kind : Kind) → position_of (absent_spot optional d kind) ≡ None
 unfolding absent_spot
 absent_nowhere true d kind = refl
 absent_nowhere false d (AScalar s) = default_nowhere d s
-absent_nowhere false d Text = refl
-absent_nowhere false d (Struct k) = refl
-absent_nowhere false d (Table k) = refl
-absent_nowhere false d (Union e) = refl
-absent_nowhere false d (Scalars s) = refl
-absent_nowhere false d Texts = refl
-absent_nowhere false d (Structs k) = refl
-absent_nowhere false d (Tables k) = refl
-absent_nowhere false d (Unions e) = refl
+absent_nowhere false d kind = refl
 
 field_in_place : (b : List ℕ) (t : ℕ) (f : Live) → IsFieldOf b t f (field_spot b t f)
 field_in_place b t f = record {
@@ -281,7 +255,7 @@ members_follow_leads b S e y p m q l = of_member b S e y p m q (member_of S e m)
 -- Elements in place.
 
 numbered_size : (S : Rows) (k n : ℕ) (f : Live) → numbered S k n ≡ Some f → f.size ≡ kind_size S f.kind
-numbered_size S k n f e = (field_sized S k (position_or_len (λ g. g.number == n) (live_fields S k)) f (sym (find_at (λ g. g.number == n) (live_fields S k)) ∙ e)).size_is
+numbered_size S k n f e = (field_sized S k (position_or_len (λ g. g.number == n) (live_fields S k)) f (sym (find_at (λ g. g.number == n) (live_fields S k)) ∙ e)).size
 
 module _ (b : List ℕ) (S : Rows) (t o p j : ℕ) (lt : j < word b (target b p) 4) where
   in_row : (size : ℕ) (kind : Kind) (q : Spot) → size ≡ kind_size S kind → AreInline kind → Reaches b S (present_spot b t o p kind) (Element j ∷ []) q → position_of q ≡ Some (target b p + 4 + size * j)

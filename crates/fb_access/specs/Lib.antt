@@ -5,13 +5,15 @@ pub mod Denotes
 pub mod Here
 pub mod PlaceLaws
 pub mod StepLaws
+pub mod Held
+pub mod Inside
 pub mod Samples
 pub mod Examples
 pub mod Grammar
 pub mod Resolving
+pub mod PathTests
 -- What proofs alone need.
 pub mod Cutting
-pub mod Held
 pub mod Kept
 pub mod Scanned
 pub mod Underway

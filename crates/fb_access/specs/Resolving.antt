@@ -1,8 +1,8 @@
 -- What the text of a path resolves to, against the rows of a schema.
-use Rattle.std.specs.Prelude.{◌≡◌, ℕ, ◌⊎◌, List, [], ◌∷◌, ◌++◌, length, find, unwrap_or, Option, Some, None, Result, Ok, Err}
+use Rattle.std.specs.Prelude.{◌≡◌, ℕ, ◌⊎◌, List, [], ◌∷◌, ◌++◌, length, find, Option, Some, None, Result, Ok, Err}
 use Rattle.std.specs.Str.{bytes_eq}
 use Rattle.fb_schema.specs.declared.kinds.Kind.{Kind}
-use Rattle.fb_schema.specs.declared.kinds.Kind.TheVariants.{Text, Table, Union}
+use Rattle.fb_schema.specs.declared.kinds.Kind.TheVariants.{Table, Union}
 use Rattle.fb_schema.specs.Rows.{Rows}
 use Rattle.fb_schema.specs.Live.{Live, live_fields}
 use Rattle.fb_schema.specs.Members.{member_of, member_named}
@@ -30,10 +30,15 @@ abbrev pub to_element : ℕ → Option Kind → Result Fitted Misfit
 to_element j None = Err NotIndexable
 to_element j (Some kind) = Ok (record { step = Element j; kind = kind })
 
--- the step to the member with the value that was found, if there is one; legal rows give each member a kind
+-- the step to the member of this value, if it has a kind
+abbrev pub to_kind : ℕ → Option Kind → Result Fitted Misfit
+to_kind value None = Err NoSuchMember
+to_kind value (Some kind) = Ok (record { step = Member value; kind = kind })
+
+-- the step to the member with the value that was found, if there is one
 abbrev pub to_member : Rows → ℕ → Option ℕ → Result Fitted Misfit
 to_member S e None = Err NoSuchMember
-to_member S e (Some value) = Ok (record { step = Member value; kind = unwrap_or (member_of S e value) Text })
+to_member S e (Some value) = to_kind value (member_of S e value)
 
 -- `.name` is a step from a table that has this live field
 abbrev pub field_step : Rows → Kind → List ℕ → Result Fitted Misfit

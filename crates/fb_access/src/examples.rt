@@ -1,5 +1,6 @@
 //! Examples of the definitions: each is a clause of a function that does nothing.
 
+ghost use Rattle.fb_access.specs.PathTests.{Words, Spellings, Resolved, Unfit};
 ghost use Rattle.fb_access.specs.Examples.{SampleUnfolds, FieldValues, ElementValues, MemberValues, ScalarValues, DefaultValues, StayingValues, LackingFields, PrefixedValues};
 
 /// A buffer with a field of each kind is good, and what paths denote in it.
@@ -19,4 +20,13 @@ pub fn values()
 #[tactic(auto, using(crate::proofs::Shown::prefixed_values))]
 pub fn values_behind_a_prefix()
     ensures { PrefixedValues }
+{}
+
+/// Texts of paths: names and numbers at their bounds, how parts are written, and what a text resolves to, or why not.
+#[tactic(auto, using(crate::proofs::ShownPaths::words_shown, crate::proofs::ShownPaths::spellings_shown, crate::proofs::ShownPaths::resolved_shown, crate::proofs::ShownPaths::unfit_shown))]
+pub fn paths()
+    ensures words { Words }
+    ensures spellings { Spellings }
+    ensures resolved { Resolved }
+    ensures unfit { Unfit }
 {}

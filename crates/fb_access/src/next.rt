@@ -11,7 +11,7 @@ ghost use Rattle.fb_access.specs.Held.{IsSpot, IsCounted, IsLed};
 use crate::field::{field_numbered, spot_of, target_of};
 use crate::spot::Spot;
 use crate::step::Step;
-use crate::value::{scalar_size, struct_size};
+use crate::value::struct_size;
 use fb_bytes::Window;
 use fb_schema::{Kind, Schema};
 
@@ -57,7 +57,7 @@ fn spot_of_element(window: &Window<'_>, schema: &Schema<'_>, spot: Spot, j: u32)
 {
     match spot {
         Spot::AtScalars(scalar, at) => {
-            match place_of_element(window, at, scalar_size(scalar), j) {
+            match place_of_element(window, at, u64::from(scalar.size()), j) {
                 None => Some(Spot::AtNoElement),
                 Some(place) => Some(Spot::AtInline(scalar, place)),
             }

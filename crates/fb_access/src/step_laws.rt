@@ -1,6 +1,7 @@
 //! The laws that tie steps to what the verifier checks. These functions have no body: their contracts are the
 //! theorems.
 
+ghost use Rattle.fb_access.specs.Inside.{ValuesLieInside};
 ghost use Rattle.fb_access.specs.StepLaws.{FieldsStandInPlace, StepsFollowEntries, NoOtherElements, MembersFollowLeads, ElementsStandInRow};
 
 /// A field step leads to where the verifier's `field_place` says that the field stands, to a value of its kind; and
@@ -36,4 +37,11 @@ pub fn members_follow_leads()
 #[tactic(auto, using(crate::proofs::StepLaws::elements_stand_in_row))]
 pub fn elements_stand_in_row()
     ensures { ElementsStandInRow }
+{}
+
+/// Whatever steps lead to in a buffer that was verified lies in that buffer, with its count and all its elements: a
+/// reader who goes by the schema from the root table, and reads what is there, reads nothing outside.
+#[tactic(auto, using(crate::proofs::Staying::values_lie_inside))]
+pub fn values_lie_inside()
+    ensures { ValuesLieInside }
 {}

@@ -12,18 +12,6 @@ use crate::spot::Spot;
 use fb_bytes::Window;
 use fb_schema::{Scalar, Schema};
 
-/// The bytes of a scalar.
-pub fn scalar_size(scalar: Scalar) -> u64
-    ensures { result ≡ scalar_size scalar }
-{
-    match scalar {
-        Scalar::UType | Scalar::Bool | Scalar::Byte | Scalar::UByte => 1,
-        Scalar::Short | Scalar::UShort => 2,
-        Scalar::Int | Scalar::UInt | Scalar::Float => 4,
-        Scalar::Long | Scalar::ULong | Scalar::Double => 8,
-    }
-}
-
 /// The bytes of a struct.
 pub fn struct_size(schema: &Schema<'_>, object: u32) -> u64
     requires { object < length schema.now.objects }
@@ -58,7 +46,7 @@ fn word_of(window: &Window<'_>, at: u64, scalar: Scalar) -> u64
     ensures value { result ≡ word window.now at (scalar_size scalar) }
     ensures fits { result < 256 ^ scalar_size scalar }
 {
-    match scalar_size(scalar) {
+    match scalar.size() {
         1 => u64::from(window.u8_at(at)),
         2 => u64::from(window.u16_at(at)),
         4 => u64::from(window.u32_at(at)),
@@ -87,7 +75,7 @@ fn default_at<'b>(default: i64, scalar: Scalar) -> Answer<'b>
     ensures fits { FitsScalar scalar result }
 {
     let bytes = default.cast_unsigned();
-    let low = match scalar_size(scalar) {
+    let low = match scalar.size() {
         1 => bytes % 0x100,
         2 => bytes % 0x1_0000,
         4 => bytes % 0x1_0000_0000,

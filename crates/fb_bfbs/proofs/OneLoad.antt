@@ -1,7 +1,7 @@
 -- At most one answer applies to the bytes of a schema file.
 use Rattle.std.proofs.Common.{◌≡◌, ℕ, ◌<◌, ◌≤◌, ◌^◌, List, [], ◌∷◌, length, refl, sym, ◌∙◌, ap, subst, arith, Option, Some, None, Result, Ok, Err}
 use Rattle.std.specs.Borrow.{Bor}
-use Rattle.fb_schema.specs.Rows.{Rows}
+use Rattle.fb_schema.specs.Rows.{Rows, table_named}
 use Rattle.fb_schema.specs.declared.fault.SchemaFault.{SchemaFault}
 use Rattle.fb_schema.specs.Demands.{IsLegal, IsFirstIllegal}
 use Rattle.fb_schema.proofs.DemandLaws.{one_first, no_first_if_legal}
@@ -21,7 +21,7 @@ use Rattle.fb_bfbs.specs.declared.load_fault.LoadFault.{LoadFault}
 use Rattle.fb_bfbs.specs.declared.load_fault.LoadFault.TheVariants.{NotWellFormed, BadSchema, RootNotListed, OutOfMemory, TooLong}
 use Rattle.fb_bfbs.specs.Fixed.{fixed}
 use Rattle.fb_bfbs.specs.Says.{text_or_nothing}
-use Rattle.fb_bfbs.specs.Describes.{Describes, NamesRoot, IsRoot, HasStrayRoot, table_named}
+use Rattle.fb_bfbs.specs.Describes.{Describes, NamesRoot, IsRoot, HasStrayRoot}
 use Rattle.fb_bfbs.specs.Loads.{IsSchemaFile, IsBadSchema, IsLoaded, told, published, schema_number, schema_ident}
 use Rattle.fb_bfbs.specs.LoadLaws.{ident_bytes, IsSameLoad, IsSameAnswer, Applies}
 use Rattle.fb_bfbs.proofs.OneFile.{IsSingle, describes_once, one_text, text_is_something}

@@ -2,6 +2,7 @@
 use Rattle.std.proofs.Common.{◌≡◌, ℕ, refl, arith, length}
 use Rattle.std.specs.Prelude.{codes}
 use Rattle.fb_bytes.specs.Word.{word}
+use Rattle.fb_schema.specs.Rows.{table_named}
 use Rattle.fb_schema.specs.Kinds.{shape_of, kind_of, base_types}
 use Rattle.fb_schema.specs.Demands.{IsLegal, names_no_object, names_table, names_no_union, inline_bytes}
 use Rattle.fb_schema.specs.Live.{live_fields}
@@ -18,7 +19,6 @@ use Rattle.fb_verify.proofs.Shown.{start, head, own, offset, string}
 use Rattle.fb_access.specs.Spots.{present_spot, default_spot, absent_spot, spot_of_element, member_spot}
 use Rattle.fb_access.specs.Denotes.{next_spot, number, inline_value, default_value, value}
 use Rattle.fb_bfbs.specs.Fixed.{fixed}
-use Rattle.fb_bfbs.specs.Describes.{table_named}
 use Rattle.fb_bfbs.specs.Loads.{published, IsSchemaFile}
 use Rattle.fb_bfbs.specs.Samples.{plain, plain_rows}
 use Rattle.fb_bfbs.specs.Examples.{PlainFile}

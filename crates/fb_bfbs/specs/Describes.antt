@@ -1,9 +1,8 @@
 -- What the rows of a schema file are: each is what the paths of its table lead to, by the field numbers of reflection.fbs.
-use Rattle.std.specs.Prelude.{◌≡◌, ℕ, pos, negsuc, List, [], ◌∷◌, ◌⊎◌, Option, Some, None, option_and_then, position, if◌then◌else◌}
+use Rattle.std.specs.Prelude.{◌≡◌, ℕ, pos, negsuc, List, [], ◌∷◌, ◌⊎◌, Option, Some, None}
 use Rattle.std.specs.Borrow.{Bor}
-use Rattle.std.specs.Str.{bytes_eq}
 use Rattle.fb_schema.specs.declared.rows.TypeRow.{TypeRow}
-use Rattle.fb_schema.specs.Rows.{Field, Object, Member, Enum, Rows, is_table}
+use Rattle.fb_schema.specs.Rows.{Field, Object, Member, Enum, Rows, table_named}
 use Rattle.fb_access.specs.declared.step.Step.TheVariants.{Field as ToField}
 use Rattle.fb_access.specs.Denotes.{nothing, truth, signed, unsigned, text, table}
 use Rattle.fb_bfbs.specs.Says.{Says, after, AreRows}
@@ -58,10 +57,6 @@ pub record IsEnumRow (D : Says) (e : Enum) : Type 0 where
 pub record Describes (D : Says) (rows : Rows) : Type 0 where
   pub objects : AreRows IsObjectRow (after D (ToField 0)) rows.objects
   pub enums : AreRows IsEnumRow (after D (ToField 1)) rows.enums
-
--- the listed table of this name
-unfoldable pub table_named : Rows → List ℕ → Option ℕ
-table_named rows name = option_and_then (λ n. if is_table rows n then Some n else None) (position (λ o. bytes_eq o.name name) rows.objects)
 
 -- the root table has this name
 abbrev pub NamesRoot : Says → List ℕ → Type 0

@@ -1,8 +1,7 @@
 // A schema out of its file.
 
-ghost use Rattle.std.specs.Prelude.{◌≡◌, ◌<◌, ◌≤◌, IsTrue, IfSome, IfOk, OnOk, IfErr};
-ghost use Rattle.fb_schema.specs.Rows.{AreFew, is_table};
-ghost use Rattle.fb_bfbs.specs.Describes.{table_named};
+ghost use Rattle.std.specs.Prelude.{◌≡◌, ◌<◌, ◌≤◌, IfOk, OnOk, IfErr};
+ghost use Rattle.fb_schema.specs.Rows.{AreFew};
 ghost use Rattle.fb_bfbs.specs.FileRows.{IsTold};
 ghost use Rattle.fb_bfbs.specs.Loads.{IsSchemaFile, HasTableForRoot, IsLoaded, IsLoadFault, told};
 
@@ -65,18 +64,6 @@ fn read<'b>(alloc: Global, bytes: &'b [u8], limits: Limits) -> Result<FileRows<'
     Ok(file_rows(alloc, &verified)?)
 }
 
-/// The table of this name.
-#[tactic(auto, unfolding(crate::specs::Describes::table_named))]
-fn table_named(schema: &Schema, name: &[u8]) -> Option<u32>
-    ensures named { result ≡ table_named schema.now name.now }
-    ensures table { IfSome result (λ n. IsTrue (is_table schema.now n)) }
-{
-    match schema.object_named(name) {
-        Some(n) if schema.is_table(n) => Some(n),
-        _ => None,
-    }
-}
-
 /// Loads a schema file: verifies it by the fixed table ([`reflection`]) as a bare buffer with the identifier `BFBS`, within these
 /// limits and with the checks of the published verifier, takes its rows by the paths of reflection.fbs, and builds them.
 ///
@@ -95,7 +82,7 @@ pub fn load<'b>(alloc: Global, bytes: &'b [u8], limits: Limits) -> Result<Loaded
     let schema = Schema::build(alloc, rows.objects, rows.enums)?;
     let root = match rows.root {
         None => None,
-        Some(name) => Some(table_named(&schema, name).ok_or(LoadFault::RootNotListed)?),
+        Some(name) => Some(schema.table_named(name).ok_or(LoadFault::RootNotListed)?),
     };
     Ok(Loaded {
         schema,

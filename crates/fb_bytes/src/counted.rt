@@ -9,7 +9,9 @@ use std::marker::Model;
 
 /// A reader or writer of std with the counts that [`Source`] and [`Sink`] tell, beginning at none.
 ///
-/// Each call is passed on once, and its answer is handed back unchanged.
+/// Each call is passed on once, and its answer is handed back unchanged. Where the answer is an error, no contract says
+/// that the call was passed on: std's clauses hold of every error, whoever made it. A test counts the calls that the
+/// reader or writer saw.
 #[derive(Drop)]
 pub struct Counted<I> {
     inner: I,

@@ -1,5 +1,5 @@
 -- The live fields of legal rows have a kind.
-use Rattle.std.proofs.Common.{◌≡◌, ℕ, ℤ, pos, negsuc, Bool, true, false, not, ◌&&◌, ◌||◌, slice_get, Option, Some, None, is_none, refl, sym, ◌∙◌, ap, unwrap_or}
+use Rattle.std.proofs.Common.{◌≡◌, ℕ, ℤ, pos, negsuc, Bool, true, false, not, ◌&&◌, ◌||◌, List, slice_get, Option, Some, None, is_none, length, option_map, option_and_then, is_some, refl, sym, ◌∙◌, ap, subst}
 use Rattle.fb_schema.specs.declared.kinds.Kind.{Kind}
 use Rattle.fb_schema.specs.declared.kinds.Kind.TheVariants.{Scalar, Text, Struct, Table, Union, Scalars, Texts, Structs, Tables, Unions}
 use Rattle.fb_schema.specs.declared.kinds.Element.TheVariants.{Scalar as OfScalar, Text as OfText, Object as OfObject, Union as OfUnion}
@@ -7,11 +7,12 @@ use Rattle.fb_schema.specs.declared.kinds.Shape.{Shape}
 use Rattle.fb_schema.specs.declared.kinds.Shape.TheVariants.{One, Vector, Array}
 use Rattle.fb_schema.specs.Demands.{IsLegal, table_field_demands, is_supported, is_object, is_union_shape, names_no_object, names_no_union}
 use Rattle.fb_schema.specs.Kinds.{kind_of, shape_of, shape_kind, object_kind, union_kind}
-use Rattle.fb_schema.specs.Live.{field_kind}
+use Rattle.fb_schema.specs.Live.{Live, live_rows, live_as, live_of, live_in, live_fields, AreKinded}
 use Rattle.fb_schema.specs.Rows.{Rows, Field, Object, Enum, entry_at, is_some_union}
-use Rattle.fb_schema.specs.Served.{HaveKinds}
+use Rattle.fb_schema.specs.Served.{IsSized, HaveKinds}
 use Rattle.fb_schema.proofs.DemandLaws.{clear_line}
-use Rattle.fb_schema.proofs.TypedLemmas.{IsRowOf, row_in, asked, live_line}
+use Rattle.fb_schema.proofs.Kept.{kept_from, kept_long, kept_at}
+use Rattle.fb_schema.proofs.RowLemmas.{IsRowOf, row_in, asked, live_line}
 
 -- a kind of an object that is there, and of a union that is
 
@@ -46,7 +47,7 @@ neither true b h = absurd (let w : true ≡ false = h in cc)
 neither false true h = refl
 neither false false h = absurd (let w : true ≡ false = h in cc)
 
-field_has_kind : (rows : Rows) → IsLegal rows → (k i : ℕ) (o : Object) (g : Field) → IsRowOf rows k i o g → kind_of rows g.ty ≡ Some (field_kind rows g)
+pub field_has_kind : (rows : Rows) → IsLegal rows → (k i : ℕ) (o : Object) (g : Field) → IsRowOf rows k i o g → (kind : Kind) × (kind_of rows g.ty ≡ Some kind)
 unfolding kind_of names_no_object names_no_union
 field_has_kind rows legal k i o g r =
     let clear = asked rows legal k i o g r in
@@ -57,9 +58,71 @@ field_has_kind rows legal k i o g r =
     let fits = neither g.offset64 (is_supported s) (live_line g.deprecated (g.offset64 || not (is_supported s)) type_line r.live) in
     let there = live_line g.deprecated (is_object s && is_none (entry_at rows.objects g.ty.index)) object_line r.live in
     let joined = live_line g.deprecated (is_union_shape s && not (is_some_union (entry_at rows.enums g.ty.index))) union_line r.live in
-    let found = shape_has_kind rows g.ty.index s fits there joined in
-    found.1 ∙ ap Some (sym (ap (λ x. unwrap_or x Text) found.1))
+    shape_has_kind rows g.ty.index s fits there joined
+
+-- A legal table's live fields are its live rows, one by one.
+module _ (rows : Rows) (legal : IsLegal rows) (k : ℕ) (o : Object) (at : slice_get rows.objects k ≡ Some o) where
+  pub rows_kinded : AreKinded rows (live_rows o)
+  rows_kinded = record { at = λ i g here. ap is_some (field_has_kind rows legal k i o g (row_in rows k i o g at here)).1 }
+
+  each : (i : ℕ) (g : Field) → slice_get (live_rows o) i ≡ Some g → (f : Live) × (live_of rows (live_rows o) g ≡ Some f)
+  each i g here = let kind = field_has_kind rows legal k i o g (row_in rows k i o g at here) in (_, ap (option_map (live_as rows (live_rows o) g)) kind.1)
+
+  pub live_long : length (live_in rows (Some o)) ≡ length (live_rows o)
+  live_long = kept_long (live_of rows (live_rows o)) (live_rows o) each
+
+  pub live_at : (i : ℕ) → slice_get (live_in rows (Some o)) i ≡ option_and_then (live_of rows (live_rows o)) (slice_get (live_rows o) i)
+  live_at = kept_at (live_of rows (live_rows o)) (live_rows o) each
+
+  -- the live field of a row
+  pub listed : (i : ℕ) (g : Field) (kind : Kind) → slice_get (live_rows o) i ≡ Some g → kind_of rows g.ty ≡ Some kind → slice_get (live_fields rows k) i ≡ Some (live_as rows (live_rows o) g kind)
+  unfolding live_fields
+  listed i g kind here is =
+      ap (λ x. slice_get (live_in rows x) i) at ∙ live_at i ∙ ap (option_and_then (live_of rows (live_rows o))) here
+      ∙ ap (option_map (live_as rows (live_rows o) g)) is
 
 -- each live field has a kind
 pub have_kinds : (rows : Rows) → IsLegal rows → HaveKinds rows
-have_kinds rows legal = record { at = λ k i o g there live. field_has_kind rows legal k i o g (row_in rows k i o g there live) }
+have_kinds rows legal = record {
+  at = λ k i o g at here.
+      let h = field_has_kind rows legal k i o g (row_in rows k i o g at here) in
+      record { kind = h.0; is = h.1; listed = listed rows legal k o at i g h.0 here h.1 };
+}
+
+-- a live field with its row and its kind
+pub record IsLiveOf (rows : Rows) (k i : ℕ) (f : Live) : Type 0 where
+  pub object : Object
+  pub field : Field
+  pub kind : Kind
+  pub row : IsRowOf rows k i object field
+  pub kind_is : kind_of rows field.ty ≡ Some kind
+  pub same : f ≡ live_as rows (live_rows object) field kind
+
+pub row_of : (rows : Rows) → IsLegal rows → (k i : ℕ) (f : Live) → slice_get (live_fields rows k) i ≡ Some f → IsLiveOf rows k i f
+unfolding live_fields
+row_of rows legal k i f e = go (slice_get rows.objects k) refl e where
+  kinded : (o : Object) (g : Field) (r : IsRowOf rows k i o g) → live_of rows (live_rows o) g ≡ Some f → IsLiveOf rows k i f
+  kinded o g r e =
+      let h = field_has_kind rows legal k i o g r in
+      let w : Some (live_as rows (live_rows o) g h.0) ≡ Some f = sym (ap (option_map (live_as rows (live_rows o) g)) h.1) ∙ e in
+      record { object = o; field = g; kind = h.0; row = r; kind_is = h.1; same = cc }
+
+  in_list : (o : Object) (g : Option Field) → slice_get rows.objects k ≡ Some o → slice_get (live_rows o) i ≡ g → option_and_then (live_of rows (live_rows o)) g ≡ Some f → IsLiveOf rows k i f
+  in_list o None at here e = absurd (let w : None ≡ Some f = e in cc)
+  in_list o (Some g) at here e = kinded o g (row_in rows k i o g at here) e
+
+  go : (o : Option Object) → slice_get rows.objects k ≡ o → slice_get (live_in rows o) i ≡ Some f → IsLiveOf rows k i f
+  go None at e = absurd (let w : None ≡ Some f = e in cc)
+  go (Some o) at e = in_list o (slice_get (live_rows o) i) at refl (sym (live_at rows legal k o at i) ∙ e)
+
+kind_sized : (rows : Rows) (live : List Field) (g : Field) (f : Live) (kind : Option Kind) → option_map (live_as rows live g) kind ≡ Some f → IsSized rows f
+kind_sized rows live g f None e = absurd (let w : None ≡ Some f = e in cc)
+kind_sized rows live g f (Some kind) e = let w : live_as rows live g kind ≡ f = cc in subst (IsSized rows) w (record { size = refl; align = refl })
+
+-- a live field of any rows has its kind's size and alignment
+pub field_sized : (rows : Rows) (k i : ℕ) (f : Live) → slice_get (live_fields rows k) i ≡ Some f → IsSized rows f
+unfolding live_fields
+field_sized rows k i f e = go (slice_get rows.objects k) e where
+  go : (o : Option Object) → slice_get (live_in rows o) i ≡ Some f → IsSized rows f
+  go None e = absurd (let w : None ≡ Some f = e in cc)
+  go (Some o) e = let g = kept_from (live_of rows (live_rows o)) (live_rows o) i f e in kind_sized rows (live_rows o) g.0 f (kind_of rows (g.0).ty) g.1

@@ -21,5 +21,7 @@ pub mod UnionLemmas
 pub mod NameLemmas
 pub mod MemberNames
 pub mod KindLemmas
-pub mod TypedLemmas
+pub mod Kept
+pub mod RowLemmas
 pub mod Kinded
+pub mod TypedLemmas

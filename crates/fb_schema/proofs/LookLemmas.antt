@@ -1,10 +1,10 @@
 -- What the look-ups read.
-use Rattle.std.proofs.Common.{◌≡◌, ℕ, zero, suc, ◌≤◌, List, [], ◌∷◌, length, get_or, slice_get, map, Some, None, IsTrue, sym, ◌∙◌, ap, arith}
-use Rattle.std.proofs.lemmas.List.{length-map}
+use Rattle.std.proofs.Common.{◌≡◌, ℕ, zero, suc, ◌<◌, ◌≤◌, ◌^◌, List, [], ◌∷◌, length, get_or, slice_get, map, Some, None, IsTrue, sym, ◌∙◌, ap, arith}
 use Rattle.fb_schema.specs.declared.views.Step.{Step}
-use Rattle.fb_schema.specs.Live.{Live, live_in, live_rows, live_fields, required_end, required_end_of, widest, widest_of}
+use Rattle.fb_schema.specs.Live.{Live, live_of, live_in, live_rows, live_fields, required_end, required_end_of, widest, widest_of}
 use Rattle.fb_schema.specs.Rows.{Rows, Object, is_table, is_some_table}
 use Rattle.fb_schema.specs.Steps.{step_of}
+use Rattle.fb_schema.proofs.Kept.{kept_fewer}
 
 read_list : (rows : Rows) (objects : List Object) (n : ℕ) (y : List Live) → slice_get (map (λ o. live_in rows (Some o)) objects) n ≡ Some y → y ≡ live_in rows (slice_get objects n)
 read_list rows [] n y e = absurd (let w : None ≡ Some y = e in cc)
@@ -36,10 +36,15 @@ end_read rows ends n e h t at = read_end rows rows.objects n e t (at ∙ ap (λ 
 
 count_within : (rows : Rows) (objects : List Object) (n : ℕ) → length (live_in rows (slice_get objects n)) ≤ widest_of objects
 count_within rows [] n = omega arith
-count_within rows (o ∷ os) zero = let e = length-map (live_rows o) (Rattle.fb_schema.specs.Live.live_of rows (live_rows o)) in omega arith
+count_within rows (o ∷ os) zero = let e = kept_fewer (live_of rows (live_rows o)) (live_rows o) in omega arith
 count_within rows (o ∷ os) (suc n) = let h = count_within rows os n in omega arith
 
 -- no table has more live fields than the widest
 pub within_widest : (rows : Rows) (n : ℕ) → length (live_fields rows n) ≤ widest rows
 unfolding live_fields widest
 within_widest rows n = count_within rows rows.objects n
+
+-- a list as long as a table's live fields is short
+pub few_read : (rows seen : Rows) (most n : ℕ) → most ≡ widest_of rows.objects → most ≤ 32766 → rows ≡ seen → n ≤ widest seen → n < 2 ^ 32
+unfolding widest
+few_read rows seen most n e few same h = let w = ap widest same in omega arith

@@ -1,5 +1,5 @@
 -- The steps of the walk over the members of a union.
-use Rattle.std.proofs.Common.{◌≡◌, ℕ, ◌<◌, ◌≤◌, pos, ◌⊎◌, inl, inr, Bool, true, false, not, ◌&&◌, ◌||◌, List, [], ◌∷◌, length, slice_get, take, map, int_lt, Option, Some, None, refl, sym, ◌∙◌, ap, arith, Decides}
+use Rattle.std.proofs.Common.{◌≡◌, ℕ, ◌<◌, ◌≤◌, pos, ◌⊎◌, inl, inr, Bool, true, false, not, ◌&&◌, ◌||◌, List, [], ◌∷◌, length, slice_get, take, map, int_lt, Option, Some, None, refl, sym, ◌∙◌, ap, Decides}
 use Rattle.std.proofs.lemmas.List.{length-map}
 use Rattle.std.specs.Cmp.{signed_Decides}
 use Rattle.std.specs.List.{list_any}
@@ -13,8 +13,8 @@ use Rattle.fb_schema.specs.Rows.{Rows, Member, member_of_row}
 use Rattle.fb_schema.specs.Demands.{is_at, first_code, stands_before, same_value, same_member_name, Demand, member_demands, members_asked, demands_of_member}
 use Rattle.fb_schema.proofs.DemandLaws.{clear_line}
 use Rattle.fb_schema.proofs.KeyLemmas.{test_from_again, is_at_test}
-use Rattle.fb_schema.proofs.Numbers.{slice_get_some, slice_get_past, le_or_lt}
-use Rattle.fb_schema.proofs.WalkLemmas.{names_agree, mapped_at, values_agree, or_false}
+use Rattle.fb_schema.proofs.Numbers.{slice_get_some}
+use Rattle.fb_schema.proofs.WalkLemmas.{names_agree, mapped_at, values_agree, or_false, past_list}
 
 -- both rows stand for the union without a value, or neither does, and they have one name
 abbrev same_key : Member → Member → Bool
@@ -143,7 +143,4 @@ module _ (rows : Rows) (members : List MemberRow) where
 
   -- past the last member nothing is demanded
   pub past_members : (n : ℕ) → length members ≤ n → ((q : ℕ) → q < n → first_code (members_asked rows (map member_of_row members) q) ≡ None) → (q : ℕ) → first_code (members_asked rows (map member_of_row members) q) ≡ None
-  past_members n le h q = elim (le_or_lt (length members) q) [
-    | inl past ↦ ap (λ m. first_code (demands_of_member rows (map member_of_row members) q m)) (slice_get_past (map member_of_row members) q (rw length-map past))
-    | inr lt ↦ h q (omega arith)
-  ]
+  past_members n le h q = past_list (map member_of_row members) (demands_of_member rows (map member_of_row members)) (λ q. refl) n (rw length-map le) h q

@@ -22,7 +22,7 @@ use Rattle.fb_schema.proofs.MemberLemmas.{name_not_again, clear_demands, both_eq
 use Rattle.fb_schema.proofs.Numbers.{slice_get_some}
 use Rattle.fb_schema.proofs.PlaceLemmas.{alike_one}
 use Rattle.fb_schema.proofs.Search.{not_true}
-use Rattle.fb_schema.proofs.UnionLemmas.{members_read}
+use Rattle.fb_schema.proofs.UnionLemmas.{members_read, both_true, all_true}
 use Rattle.fb_schema.proofs.WalkLemmas.{names_agree, names_total}
 
 pub members_total : IsTotalOrder member_cmp
@@ -52,14 +52,6 @@ and_first : (a b : Bool) → (a && b) ≡ true → a ≡ true
 and_first true b h = refl
 and_first false b h = absurd (let w : false ≡ true = h in cc)
 
-and_second : (a b : Bool) → (a && b) ≡ true → b ≡ true
-and_second true b h = h
-and_second false b h = absurd (let w : false ≡ true = h in cc)
-
-and_both : (a b : Bool) → a ≡ true → b ≡ true → (a && b) ≡ true
-and_both true b e h = h
-and_both false b e h = absurd (let w : false ≡ true = e in cc)
-
 not_none : (z : ℤ) → is_member_value z ≡ true → int_eq z (pos 0) ≡ false
 not_none z h = not_true (int_eq z (pos 0)) (λ e. let w : true ≡ false = sym h ∙ ap is_member_value ((signed_Decides z (pos 0)).0 e) in cc)
 
@@ -87,7 +79,7 @@ module _ (rows : Rows) (members : List MemberRow) (clear : (q : ℕ) → first_c
 
   tied : (m : MemberRow) → test (member_of_row m) ≡ true → member_cmp (member_key m) (false, name) ≡ Equal
   unfolding keyed test
-  tied m h = (agrees m).0 (and_both (is_eq (bool_cmp (int_eq m.value (pos 0)) false)) (bytes_eq m.name.now name.now) (eq_false (int_eq m.value (pos 0)) (not_none m.value (and_first (is_member_value m.value) (bytes_eq m.name.now name.now) h))) (and_second (is_member_value m.value) (bytes_eq m.name.now name.now) h))
+  tied m h = (agrees m).0 (all_true (is_eq (bool_cmp (int_eq m.value (pos 0)) false)) (bytes_eq m.name.now name.now) (eq_false (int_eq m.value (pos 0)) (not_none m.value (and_first (is_member_value m.value) (bytes_eq m.name.now name.now) h))) (both_true (is_member_value m.value) (bytes_eq m.name.now name.now) h))
 
   pub real_at : (k : ℕ) (x : MemberRow) → k < length members → member_cmp (member_key (get_or members k x)) (false, name) ≡ Equal → is_member_value (get_or members k x).value ≡ true
   unfolding keyed
@@ -104,7 +96,7 @@ module _ (rows : Rows) (members : List MemberRow) (clear : (q : ℕ) → first_c
   unfolding keyed test
   tested k x lt e =
       let m = get_or members k x in
-      and_both (is_member_value m.value) (bytes_eq m.name.now name.now) (real_at k x lt e) (and_second (is_eq (bool_cmp (int_eq m.value (pos 0)) false)) (bytes_eq m.name.now name.now) ((agrees m).1 e))
+      all_true (is_member_value m.value) (bytes_eq m.name.now name.now) (real_at k x lt e) (both_true (is_eq (bool_cmp (int_eq m.value (pos 0)) false)) (bytes_eq m.name.now name.now) ((agrees m).1 e))
 
   pub name_found : (k : ℕ) (x : MemberRow) → k < length members → member_cmp (member_key (get_or members k x)) (false, name) ≡ Equal
       → find (λ m. bytes_eq m.name name.now) (filter (λ m. is_member_value m.value) (map member_of_row members)) ≡ Some (member_of_row (get_or members k x))

@@ -1,24 +1,28 @@
 -- The live fields of a legal table are found by name.
-use Rattle.std.proofs.Common.{◌≡◌, ℕ, zero, suc, ◌<◌, inl, inr, Bool, true, false, not, IsTrue, if◌then◌else◌, List, [], ◌∷◌, length, get_or, slice_get, map, filter, Some, None, refl, sym, ◌∙◌, ap, arith}
+use Rattle.std.proofs.Common.{◌≡◌, ℕ, zero, suc, ◌<◌, inl, inr, Bool, true, false, not, IsTrue, if◌then◌else◌, List, [], ◌∷◌, length, get_or, slice_get, map, filter, option_map, option_and_then, Option, Some, None, refl, sym, ◌∙◌, ap, arith}
 use Rattle.std.proofs.lemmas.List.{length-map, get_or-map}
+use Rattle.std.proofs.lemmas.Option.{slice_get-get_or}
 use Rattle.std.proofs.lemmas.List.Elements.{Contains-get_or}
 use Rattle.std.proofs.lemmas.Cmp.{tied_itself, nat_list_cmp_total}
 use Rattle.std.proofs.lemmas.Map.Lookups.{exact_bytes}
 use Rattle.std.specs.Cmp.Lexicographic.{slice_cmp}
 use Rattle.std.specs.Ordering.{nat_cmp}
 use Rattle.std.specs.declared.cmp.Ordering.TheVariants.{Equal}
+use Rattle.fb_schema.specs.declared.kinds.Kind.{Kind}
 use Rattle.fb_schema.specs.declared.rows.ObjectRow.{ObjectRow}
 use Rattle.fb_schema.specs.declared.views.FieldView.{FieldView}
 use Rattle.fb_schema.specs.Demands.{IsLegal, first_code, table_asked, demands_of_object, demands_of_struct_field, demands_of_table_field}
 use Rattle.fb_schema.specs.Index.{view_name}
-use Rattle.fb_schema.specs.Live.{Live, by_slot, is_live, live_of, live_of_view, live_in, AreApart}
+use Rattle.fb_schema.specs.Kinds.{kind_of}
+use Rattle.fb_schema.specs.Live.{Live, by_slot, is_live, live_rows, live_as, live_of, live_of_view, live_in, AreApart}
 use Rattle.fb_schema.specs.Sorting.{IsAgain, name_cmp, field_name}
 use Rattle.fb_schema.specs.Rows.{Rows, Field, field_of, object_of, is_some_table}
-use Rattle.fb_schema.proofs.IndexLemmas.{legal_slots, table_list, same_length}
+use Rattle.fb_schema.proofs.IndexLemmas.{legal_slots, table_list}
+use Rattle.fb_schema.proofs.Kinded.{live_long, live_at}
 use Rattle.fb_schema.proofs.LegalLemmas.{legal_clear}
 use Rattle.fb_schema.proofs.LiveLemmas.{Rises, sorted_rises, sorted_members, filter_apart, filter_contains}
 use Rattle.fb_schema.proofs.Numbers.{lt_or_eq, le_or_lt, get_or_default, slice_get_some}
-use Rattle.fb_schema.proofs.WalkLemmas.{not_named_table}
+use Rattle.fb_schema.proofs.WalkLemmas.{mapped_at, not_named_table}
 
 -- no field of a legal table has an earlier one's name
 no_name_again : (rows : Rows) (n : ℕ) (row : ObjectRow) → IsLegal rows → slice_get rows.objects n ≡ Some (object_of row) → row.is_struct ≡ false → (q : ℕ) → IsAgain name_cmp (map field_name row.fields.items) q → ⊥
@@ -77,20 +81,32 @@ live_names fields apart one i j d lt within e =
     let up = rises_at live (sorted_rises (filter is_live fields) (filter_apart is_live fields apart)) i j d lt within in
     omega arith
 
+live_list : (b : Bool) (xs : List Field) → b ≡ false → (if b then [] else xs) ≡ xs
+live_list true xs e = absurd (let w : true ≡ false = e in cc)
+live_list false xs e = refl
+
+named_alike : (rows : Rows) (live : List Field) (g : Field) (f : Live) (kind : Option Kind) → option_map (live_as rows live g) kind ≡ Some f → f.name ≡ g.name
+named_alike rows live g f None e = absurd (let w : None ≡ Some f = e in cc)
+named_alike rows live g f (Some kind) e = let w : live_as rows live g kind ≡ f = cc in sym (ap (λ (l : Live). l.name) w)
+
 -- the views of a table's live fields have names of their own
-pub view_not_again : (rows : Rows) (n : ℕ) (row : ObjectRow) → IsLegal rows → slice_get rows.objects n ≡ Some (object_of row) → row.is_struct ≡ false → (views : List FieldView)
-    → map live_of_view views ≡ map (live_of rows (by_slot (filter is_live (map field_of row.fields.items)))) (by_slot (filter is_live (map field_of row.fields.items)))
+pub view_not_again : (rows : Rows) (n : ℕ) (row : ObjectRow) → IsLegal rows → slice_get rows.objects n ≡ Some (object_of row) → row.is_struct ≡ false → (views : List FieldView) → map live_of_view views ≡ live_in rows (Some (object_of row))
     → (q : ℕ) → IsAgain name_cmp (map view_name views) q → ⊥
 view_not_again rows n row legal at table views same q a =
     let fields = map field_of row.fields.items in
     let live = by_slot (filter is_live fields) in
-    let long = same_length live_of_view (live_of rows live) views live same in
+    let listed : live_rows (object_of row) ≡ live = live_list row.is_struct live table in
+    let long : length views ≡ length live = sym (length-map views live_of_view) ∙ ap length same ∙ live_long rows legal n (object_of row) at ∙ ap length listed in
     let within : q < length views = rw length-map at a.within in
     let first : a.earlier < length views = let lt = a.before in omega arith in
     let v = (slice_get_some views q within).0 in
     let f = (slice_get_some live q (let w = within in omega arith)).0 in
     let name_at : (k : ℕ) → k < length views → (get_or views k v).name.now ≡ (get_or live k f).name =
-    λ k lt. ap (λ (l : Live). l.name) (sym (get_or-map live_of_view views k v (live_of_view v) lt) ∙ ap (λ ls. get_or ls k (live_of_view v)) same ∙ get_or-map (live_of rows live) live k f (live_of_view v) (omega arith)) in
+    λ k lt.
+    let row_at = ap (λ ls. slice_get ls k) listed ∙ slice_get-get_or live k f (omega arith) in
+    let view_at = mapped_at live_of_view views k (get_or views k v) (slice_get-get_or views k v lt) in
+    named_alike rows (live_rows (object_of row)) (get_or live k f) (live_of_view (get_or views k v)) (kind_of rows (get_or live k f).ty)
+    (sym (live_at rows legal n (object_of row) at k ∙ ap (option_and_then (live_of rows (live_rows (object_of row)))) row_at) ∙ sym (ap (λ ls. slice_get ls k) same) ∙ view_at) in
     let e = get_or-map view_name views a.earlier v v.name first in
     let g = get_or-map view_name views q v v.name within in
     let tied : slice_cmp nat_cmp (get_or views a.earlier v).name.now (get_or views q v).name.now ≡ Equal = ap (λ z. name_cmp z (get_or views q v).name) (sym e) ∙ ap (name_cmp (get_or (map view_name views) a.earlier v.name)) (sym g) ∙ a.alike v.name in
@@ -105,12 +121,3 @@ table_at (o ∷ os) zero h = (o, refl, not_it o.is_struct h) where
   not_it true h = absurd (let w : false ≡ true = h in cc)
   not_it false h = refl
 table_at (o ∷ os) (suc n) h = table_at os n h
-
-live_list : (b : Bool) (xs : List Field) → b ≡ false → (if b then [] else xs) ≡ xs
-live_list true xs e = absurd (let w : true ≡ false = e in cc)
-live_list false xs e = refl
-
--- the live fields of a table are those of its list
-pub live_in_table : (rows : Rows) (row : ObjectRow) → row.is_struct ≡ false
-    → live_in rows (Some (object_of row)) ≡ map (live_of rows (by_slot (filter is_live (map field_of row.fields.items)))) (by_slot (filter is_live (map field_of row.fields.items)))
-live_in_table rows row e = ap (λ live. map (live_of rows live) live) (live_list row.is_struct (by_slot (filter is_live (map field_of row.fields.items))) e)

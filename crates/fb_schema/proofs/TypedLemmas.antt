@@ -1,7 +1,6 @@
 -- What the live fields of legal rows give.
-use Rattle.std.proofs.Common.{◌≡◌, ℕ, zero, suc, ◌+◌, ◌*◌, ◌<◌, ◌≤◌, ◌==◌, ◌%◌, nat_lt, inl, inr, ℤ, Bool, true, false, not, ◌&&◌, ◌||◌, List, [], ◌∷◌, length, get_or, slice_get, map, filter, Option, Some, None, refl, sym, ◌∙◌, ap, subst, arith, cond, unwrap_or, if◌then◌else◌}
+use Rattle.std.proofs.Common.{◌≡◌, ℕ, zero, suc, ◌+◌, ◌-◌, ◌*◌, ◌/◌, ◌<◌, ◌≤◌, ◌==◌, ◌%◌, nat_lt, inl, inr, ℤ, Bool, true, false, not, ◌&&◌, ◌||◌, List, [], ◌∷◌, slice_get, filter, Option, Some, None, refl, sym, ◌∙◌, ap, subst, arith, cond, if◌then◌else◌}
 use Rattle.std.proofs.lemmas.Bool.Decides.{Decides-eqb, nat_tests}
-use Rattle.std.proofs.lemmas.Option.{slice_get-get_or}
 use Rattle.std.specs.List.{Contains, list_any}
 use Rattle.fb_schema.specs.declared.kinds.Kind.{Kind}
 use Rattle.fb_schema.specs.declared.kinds.Kind.TheVariants.{Scalar, Text, Struct, Table, Union, Scalars, Texts, Structs, Tables, Unions}
@@ -11,52 +10,26 @@ use Rattle.fb_schema.specs.declared.kinds.Shape.{Shape}
 use Rattle.fb_schema.specs.declared.kinds.Shape.TheVariants.{One, Vector, Array}
 use Rattle.fb_schema.specs.declared.kinds.TypeField.{TypeField}
 use Rattle.fb_schema.specs.declared.kinds.TypeField.TheVariants.{ForUnion, ForUnions}
-use Rattle.fb_schema.specs.Demands.{IsLegal, first_code, demands_of_object, demands_of_table_field, demands_of_struct_field, table_field_demands, stands_before, same_field_name, same_slot, stands_below, is_type_field, lacks_type_field, is_union_shape, names_no_union}
+use Rattle.fb_schema.specs.Demands.{IsLegal, table_field_demands, stands_before, same_slot, stands_below, is_type_field, lacks_type_field, is_union_shape, names_no_union}
 use Rattle.fb_schema.specs.Kinds.{kind_of, shape_of, shape_kind, kind_size, kind_align, scalar_size}
-use Rattle.fb_schema.specs.Live.{Live, live_fields, live_in, live_rows, live_of, by_slot, is_live, field_kind, widest, AreSpaced}
+use Rattle.fb_schema.specs.Live.{Live, live_fields, live_rows, live_as, by_slot, is_live, widest, AreSpaced}
 use Rattle.fb_schema.specs.Rows.{Rows, Field, Object, entry_at, is_some_union}
 use Rattle.fb_schema.specs.Served.{KindHolds, HasTypeField, IsTyped, IsServed}
 use Rattle.fb_schema.proofs.DemandLaws.{clear_line}
-use Rattle.fb_schema.proofs.IndexLemmas.{legal_slots, table_list}
 use Rattle.fb_schema.proofs.KindLemmas.{NamesObject, NamesUnion, names_object, union_of_shape, object_kind_is, union_kind_is, some_is, member_holds}
-use Rattle.fb_schema.proofs.LegalLemmas.{legal_clear}
-use Rattle.fb_schema.proofs.LiveLemmas.{Rises, sorted_rises, sorted_members, filter_contains, filter_apart}
+use Rattle.fb_schema.proofs.Kinded.{listed, row_of, field_sized}
+use Rattle.fb_schema.proofs.LiveLemmas.{Rises, sorted_members}
 use Rattle.fb_schema.proofs.LookLemmas.{within_widest}
 use Rattle.fb_schema.proofs.Numbers.{le_or_lt, lt_or_eq}
-use Rattle.fb_schema.proofs.WalkLemmas.{mapped_at}
+use Rattle.fb_schema.proofs.RowLemmas.{contains_at, place_in, rises_at, IsRowOf, row_in, asked, live_line, rows_rise}
 
 -- Places of lists.
-contains_at : {X : Type 0} (xs : List X) (i : ℕ) (x : X) → slice_get xs i ≡ Some x → Contains xs x
-contains_at [] i x e = absurd (let w : None ≡ Some x = e in cc)
-contains_at (y ∷ ys) zero x e = (0, omega arith, (let w : y ≡ x = cc in w))
-contains_at (y ∷ ys) (suc i) x e = let c = contains_at ys i x e in (suc c.0, omega (arith, c.1), c.2)
-
-place_in : {X : Type 0} (xs : List X) (x : X) → Contains xs x → (i : ℕ) × (slice_get xs i ≡ Some x)
-place_in xs x c = (c.0, slice_get-get_or xs c.0 x c.1 ∙ ap Some c.2)
-
--- the item that a mapped one comes from
-mapped_from : {X Y : Type 0} (f : X → Y) (xs : List X) (i : ℕ) (y : Y) → slice_get (map f xs) i ≡ Some y → (x : X) × (slice_get xs i ≡ Some x) × (y ≡ f x)
-mapped_from f [] i y e = absurd (let w : None ≡ Some y = e in cc)
-mapped_from f (x ∷ xs) zero y e = (x, refl, (let w : f x ≡ y = cc in sym w))
-mapped_from f (x ∷ xs) (suc i) y e = mapped_from f xs i y e
-
 any_found : {X : Type 0} (p : X → Bool) (xs : List X) → list_any p xs ≡ true → (x : X) × Contains xs x × (p x ≡ true)
 any_found p [] h = absurd (let w : false ≡ true = h in cc)
 any_found {X} p (x ∷ xs) h = go (p x) refl h (any_found p xs) where
   go : (b : Bool) → p x ≡ b → (b || list_any p xs) ≡ true → (list_any p xs ≡ true → (y : X) × Contains xs y × (p y ≡ true)) → (y : X) × Contains (x ∷ xs) y × (p y ≡ true)
   go true e h later = (x, (0, omega arith, refl), e)
   go false e h later = let w = later h in (w.0, (suc w.1.0, omega (arith, w.1.1), w.1.2), w.2)
-
-filter_passes : {X : Type 0} (p : X → Bool) (xs : List X) (z : X) → Contains (filter p xs) z → p z ≡ true
-filter_passes p [] z c = absurd (omega (arith, c.1))
-filter_passes p (x ∷ xs) z c = go (p x) refl c (filter_passes p xs z) where
-  here : (k : ℕ) → k < suc (length (filter p xs)) → get_or (x ∷ filter p xs) k z ≡ z → p x ≡ true → (Contains (filter p xs) z → p z ≡ true) → p z ≡ true
-  here zero lt e q later = ap p (sym e) ∙ q
-  here (suc k) lt e q later = later (k, omega arith, e)
-
-  go : (b : Bool) → p x ≡ b → Contains (cond b (x ∷ filter p xs) (filter p xs)) z → (Contains (filter p xs) z → p z ≡ true) → p z ≡ true
-  go true e c later = here c.0 c.1 c.2 e later
-  go false e c later = later c
 
 filter_keeps : {X : Type 0} (p : X → Bool) (xs : List X) (k : ℕ) (z : X) → slice_get xs k ≡ Some z → p z ≡ true → Contains (filter p xs) z
 filter_keeps p [] k z e q = absurd (let w : None ≡ Some z = e in cc)
@@ -69,13 +42,6 @@ filter_keeps p (x ∷ xs) (suc k) z e q = go (p x) (filter_keeps p xs k z e q) w
   go true c = (suc c.0, omega (arith, c.1), c.2)
   go false c = c
 
--- Rising slots.
-rises_at : (fs : List Field) → Rises fs → (i j : ℕ) (f g : Field) → slice_get fs i ≡ Some f → slice_get fs j ≡ Some g → i < j → f.slot < g.slot
-rises_at [] r i j f g a b lt = absurd (let w : None ≡ Some f = a in cc)
-rises_at (x ∷ xs) r i zero f g a b lt = absurd (omega arith)
-rises_at (x ∷ xs) r zero (suc j) f g a b lt = (let w : x ≡ f = cc in let e = ap (λ (f : Field). f.slot) w in let h = r.0 g (contains_at xs j g b) in omega arith)
-rises_at (x ∷ xs) r (suc i) (suc j) f g a b lt = rises_at xs r.1 i j f g a b (omega arith)
-
 place_below : (fs : List Field) → Rises fs → (i j : ℕ) (f g : Field) → slice_get fs i ≡ Some f → slice_get fs j ≡ Some g → g.slot < f.slot → j < i
 place_below fs r i j f g a b lt = elim (le_or_lt i j) [
   | inl le ↦ elim (lt_or_eq i j le) [
@@ -84,59 +50,6 @@ place_below fs r i j f g a b lt = elim (le_or_lt i j) [
   ]
   | inr less ↦ less
 ]
-
--- A live field with its row.
-pub record IsRowOf (rows : Rows) (k i : ℕ) (o : Object) (f : Field) : Type 0 where
-  pub at : slice_get rows.objects k ≡ Some o
-  pub table : o.is_struct ≡ false
-  pub here : slice_get (live_rows o) i ≡ Some f
-  pub live : f.deprecated ≡ false
-  pub place : ℕ
-  pub there : slice_get o.fields place ≡ Some f
-
-table_rows : (o : Object) (b : Bool) → o.is_struct ≡ b → (i : ℕ) (f : Field) → slice_get (live_rows o) i ≡ Some f → (o.is_struct ≡ false) × Contains (by_slot (filter is_live o.fields)) f
-table_rows o true is i f e = absurd (let w : None ≡ Some f = sym (ap (λ b. slice_get (if b then [] else by_slot (filter is_live o.fields)) i) is) ∙ e in cc)
-table_rows o false is i f e = (is, contains_at (by_slot (filter is_live o.fields)) i f (sym (ap (λ b. slice_get (if b then [] else by_slot (filter is_live o.fields)) i) is) ∙ e))
-
-not_false : (b : Bool) → not b ≡ true → b ≡ false
-not_false true h = absurd (let w : false ≡ true = h in cc)
-not_false false h = refl
-
-pub row_in : (rows : Rows) (k i : ℕ) (o : Object) (f : Field) → slice_get rows.objects k ≡ Some o → slice_get (live_rows o) i ≡ Some f → IsRowOf rows k i o f
-row_in rows k i o f at here =
-    let t = table_rows o o.is_struct refl i f here in
-    let c = (sorted_members f (filter is_live o.fields)).0 t.1 in
-    let p = place_in o.fields f (filter_contains is_live o.fields f c) in
-    record { at = at; table = t.0; here = here; live = not_false f.deprecated (filter_passes is_live o.fields f c); place = p.0; there = p.1 }
-
-pub row_of : (rows : Rows) (k i : ℕ) (f : Live) → slice_get (live_fields rows k) i ≡ Some f → (o : Object) × (g : Field) × IsRowOf rows k i o g × (f ≡ live_of rows (live_rows o) g)
-unfolding live_fields
-row_of rows k i f e = go (slice_get rows.objects k) refl e where
-  go : (o : Option Object) → slice_get rows.objects k ≡ o → slice_get (live_in rows o) i ≡ Some f → (o : Object) × (g : Field) × IsRowOf rows k i o g × (f ≡ live_of rows (live_rows o) g)
-  go None at e = absurd (let w : None ≡ Some f = e in cc)
-  go (Some o) at e = let m = mapped_from (live_of rows (live_rows o)) (live_rows o) i f e in (o, m.0, row_in rows k i o m.0 at m.1, m.2)
-
--- the demands of a live field
-abbrev pub IsAsked : Rows → Object → Field → ℕ → Type 0
-IsAsked rows o f p = first_code (table_field_demands rows f (stands_before same_field_name o.fields p f) (stands_before same_slot o.fields p f) (stands_below ForUnion o.fields f.slot) (stands_below ForUnions o.fields f.slot)) ≡ None
-
-pub asked : (rows : Rows) → IsLegal rows → (k i : ℕ) (o : Object) (f : Field) (r : IsRowOf rows k i o f) → IsAsked rows o f r.place
-asked rows legal k i o f r =
-    sym (ap (λ x. first_code (demands_of_object rows k (suc r.place) x)) r.at
-    ∙ ap first_code (table_list o.is_struct (demands_of_struct_field rows o.bytesize o.fields r.place (slice_get o.fields r.place)) (demands_of_table_field rows o.fields r.place (slice_get o.fields r.place)) r.table)
-    ∙ ap (λ x. first_code (demands_of_table_field rows o.fields r.place x)) r.there)
-    ∙ legal_clear rows legal 0 k (suc r.place)
-
-pub live_line : (a b : Bool) → (not a && b) ≡ false → a ≡ false → b ≡ false
-live_line true b h e = absurd (let w : true ≡ false = e in cc)
-live_line false b h e = h
-
--- the slots of a legal table's live fields rise
-pub rows_rise : (rows : Rows) → IsLegal rows → (k : ℕ) (o : Object) → slice_get rows.objects k ≡ Some o → Rises (live_rows o)
-rows_rise rows legal k o at = go o.is_struct refl where
-  go : (b : Bool) → o.is_struct ≡ b → Rises (if b then [] else by_slot (filter is_live o.fields))
-  go true is = tt
-  go false is = sorted_rises (filter is_live o.fields) (filter_apart is_live o.fields (legal_slots rows k o legal at is))
 
 -- Kinds.
 scalar_above : (s : _) → 0 < scalar_size s
@@ -172,62 +85,29 @@ union_named rows legal k i o g r kind e =
     let line = clear_line (table_field_demands rows g _ _ _ _) (asked rows legal k i o g r) 4 _ refl in
     union_of_shape rows g.ty.index (shape_of g.ty) kind e (live_line g.deprecated (is_union_shape (shape_of g.ty) && not (is_some_union (entry_at rows.enums g.ty.index))) line r.live)
 
-row_holds : (rows : Rows) → IsLegal rows → (k i : ℕ) (o : Object) (g : Field) → IsRowOf rows k i o g → KindHolds rows (live_of rows (live_rows o) g) (field_kind rows g)
-row_holds rows legal k i o g r = go (kind_of rows g.ty) refl where
-  go : (kind : Option Kind) → kind_of rows g.ty ≡ kind → KindHolds rows (live_of rows (live_rows o) g) (unwrap_or kind Text)
-  go None e = tt
-  go (Some kind) e = kind_holds rows (live_of rows (live_rows o) g) kind (ap (λ x. kind_align rows (unwrap_or x Text)) e) (names_object rows legal g.ty kind e) (union_named rows legal k i o g r kind e)
-
 -- what a live field's kind names is there
 pub field_holds : (rows : Rows) → IsLegal rows → (k i : ℕ) (f : Live) → slice_get (live_fields rows k) i ≡ Some f → KindHolds rows f f.kind
-field_holds rows legal k i f e = let r = row_of rows k i f e in subst (λ (f : Live). KindHolds rows f f.kind) (sym r.3) (row_holds rows legal k i r.0 r.1 r.2)
+field_holds rows legal k i f e =
+    let r = row_of rows legal k i f e in
+    subst (λ (f : Live). KindHolds rows f f.kind) (sym r.same)
+    (kind_holds rows (live_as rows (live_rows r.object) r.field r.kind) r.kind refl (names_object rows legal r.field.ty r.kind r.kind_is) (union_named rows legal k i r.object r.field r.row r.kind r.kind_is))
 
 -- Type fields.
 scalar_type : (s : _) → is_type_field ForUnion (Some (One (OfScalar s))) ≡ true → Some (Scalar s) ≡ Some (Scalar UType)
 scalar_type UType h = refl
-scalar_type AsBool h = absurd (let w : false ≡ true = h in cc)
-scalar_type Byte h = absurd (let w : false ≡ true = h in cc)
-scalar_type UByte h = absurd (let w : false ≡ true = h in cc)
-scalar_type Short h = absurd (let w : false ≡ true = h in cc)
-scalar_type UShort h = absurd (let w : false ≡ true = h in cc)
-scalar_type Int h = absurd (let w : false ≡ true = h in cc)
-scalar_type UInt h = absurd (let w : false ≡ true = h in cc)
-scalar_type Long h = absurd (let w : false ≡ true = h in cc)
-scalar_type ULong h = absurd (let w : false ≡ true = h in cc)
-scalar_type Float h = absurd (let w : false ≡ true = h in cc)
-scalar_type Double h = absurd (let w : false ≡ true = h in cc)
+scalar_type s h = absurd (let w : false ≡ true = h in cc)
 
 scalars_type : (s : _) → is_type_field ForUnions (Some (Vector (OfScalar s))) ≡ true → Some (Scalars s) ≡ Some (Scalars UType)
 scalars_type UType h = refl
-scalars_type AsBool h = absurd (let w : false ≡ true = h in cc)
-scalars_type Byte h = absurd (let w : false ≡ true = h in cc)
-scalars_type UByte h = absurd (let w : false ≡ true = h in cc)
-scalars_type Short h = absurd (let w : false ≡ true = h in cc)
-scalars_type UShort h = absurd (let w : false ≡ true = h in cc)
-scalars_type Int h = absurd (let w : false ≡ true = h in cc)
-scalars_type UInt h = absurd (let w : false ≡ true = h in cc)
-scalars_type Long h = absurd (let w : false ≡ true = h in cc)
-scalars_type ULong h = absurd (let w : false ≡ true = h in cc)
-scalars_type Float h = absurd (let w : false ≡ true = h in cc)
-scalars_type Double h = absurd (let w : false ≡ true = h in cc)
+scalars_type s h = absurd (let w : false ≡ true = h in cc)
 
 byte_shape : (rows : Rows) (index : ℤ) (s : Option Shape) → is_type_field ForUnion s ≡ true → shape_kind rows index s ≡ Some (Scalar UType)
-byte_shape rows index None h = absurd (let w : false ≡ true = h in cc)
 byte_shape rows index (Some (One (OfScalar s))) h = scalar_type s h
-byte_shape rows index (Some (One OfText)) h = absurd (let w : false ≡ true = h in cc)
-byte_shape rows index (Some (One OfObject)) h = absurd (let w : false ≡ true = h in cc)
-byte_shape rows index (Some (One OfUnion)) h = absurd (let w : false ≡ true = h in cc)
-byte_shape rows index (Some (Vector e)) h = absurd (let w : false ≡ true = h in cc)
-byte_shape rows index (Some (Array e)) h = absurd (let w : false ≡ true = h in cc)
+byte_shape rows index s h = absurd (let w : false ≡ true = h in cc)
 
 bytes_shape : (rows : Rows) (index : ℤ) (s : Option Shape) → is_type_field ForUnions s ≡ true → shape_kind rows index s ≡ Some (Scalars UType)
-bytes_shape rows index None h = absurd (let w : false ≡ true = h in cc)
 bytes_shape rows index (Some (Vector (OfScalar s))) h = scalars_type s h
-bytes_shape rows index (Some (Vector OfText)) h = absurd (let w : false ≡ true = h in cc)
-bytes_shape rows index (Some (Vector OfObject)) h = absurd (let w : false ≡ true = h in cc)
-bytes_shape rows index (Some (Vector OfUnion)) h = absurd (let w : false ≡ true = h in cc)
-bytes_shape rows index (Some (One e)) h = absurd (let w : false ≡ true = h in cc)
-bytes_shape rows index (Some (Array e)) h = absurd (let w : false ≡ true = h in cc)
+bytes_shape rows index s h = absurd (let w : false ≡ true = h in cc)
 
 -- the kind of a type field
 type_kind : TypeField → Kind
@@ -257,10 +137,6 @@ live_place o h table c live =
     let q = place_in (by_slot (filter is_live o.fields)) h ((sorted_members h (filter is_live o.fields)).1 (filter_keeps is_live o.fields p.0 h p.1 live)) in
     (q.0, ap (λ b. slice_get (if b then [] else by_slot (filter is_live o.fields)) q.0) table ∙ q.1)
 
-read_field : (rows : Rows) (k j : ℕ) (o : Object) (h : Field) → slice_get rows.objects k ≡ Some o → slice_get (live_rows o) j ≡ Some h → slice_get (live_fields rows k) j ≡ Some (live_of rows (live_rows o) h)
-unfolding live_fields
-read_field rows k j o h at here = ap (λ x. slice_get (live_in rows x) j) at ∙ mapped_at (live_of rows (live_rows o)) (live_rows o) j h here
-
 type_before : (rows : Rows) → IsLegal rows → (k i : ℕ) (o : Object) (g : Field) → IsRowOf rows k i o g → (wanted : TypeField) → stands_below wanted o.fields g.slot ≡ true → HasTypeField (live_fields rows k) i g.slot (type_kind wanted)
 type_before rows legal k i o g r wanted stands =
     let found = any_found (λ h. not h.deprecated && (h.slot + 2 == g.slot) && is_type_field wanted (shape_of h.ty)) o.fields stands in
@@ -268,15 +144,14 @@ type_before rows legal k i o g r wanted stands =
     let is = three (not h.deprecated) (h.slot + 2 == g.slot) (is_type_field wanted (shape_of h.ty)) found.2 in
     let below : h.slot + 2 ≡ g.slot = (Decides-eqb (h.slot + 2) g.slot).0 is.1 in
     let p = live_place o h r.table found.1 is.0 in
-    let kind : field_kind rows h ≡ type_kind wanted = ap (λ x. unwrap_or x Text) (kind_of_type rows wanted h is.2) in
     record {
       place = p.0;
       lower = place_below (live_rows o) (rows_rise rows legal k o r.at) i p.0 g h r.here p.1 (omega (arith, below));
-      field = live_of rows (live_rows o) h;
-      found = read_field rows k p.0 o h r.at p.1;
+      field = live_as rows (live_rows o) h (type_kind wanted);
+      found = listed rows legal k o r.at p.0 h (type_kind wanted) p.1 (kind_of_type rows wanted h is.2);
       below = below;
-      kind_is = kind;
-      size_is = ap (kind_size rows) kind ∙ size_of_type rows wanted;
+      kind_is = refl;
+      size_is = size_of_type rows wanted;
     }
 
 -- the type field that a kind asks for is there
@@ -302,32 +177,23 @@ has_asked rows byte vector index (Some (Vector OfUnion)) kind e h = union_kind_i
 has_asked rows byte vector index (Some (Array s)) kind e h = absurd (let w : None ≡ Some kind = e in cc)
 
 kind_typed : (fs : List Live) (i slot : ℕ) (byte vector : Bool) (kind : Kind) → HasAsked byte vector kind → (byte ≡ true → HasTypeField fs i slot (Scalar UType)) → (vector ≡ true → HasTypeField fs i slot (Scalars UType)) → IsTyped fs i slot kind
-kind_typed fs i slot byte vector (Scalar s) h one many = tt
-kind_typed fs i slot byte vector Text h one many = tt
-kind_typed fs i slot byte vector (Struct k) h one many = tt
-kind_typed fs i slot byte vector (Table k) h one many = tt
 kind_typed fs i slot byte vector (Union e) h one many = one h
-kind_typed fs i slot byte vector (Scalars s) h one many = tt
-kind_typed fs i slot byte vector Texts h one many = tt
-kind_typed fs i slot byte vector (Structs k) h one many = tt
-kind_typed fs i slot byte vector (Tables k) h one many = tt
 kind_typed fs i slot byte vector (Unions e) h one many = many h
+kind_typed fs i slot byte vector kind h one many = tt
 
-row_typed : (rows : Rows) → IsLegal rows → (k i : ℕ) (o : Object) (g : Field) → IsRowOf rows k i o g → IsTyped (live_fields rows k) i g.slot (field_kind rows g)
+row_typed : (rows : Rows) → IsLegal rows → (k i : ℕ) (o : Object) (g : Field) → IsRowOf rows k i o g → (kind : Kind) → kind_of rows g.ty ≡ Some kind → IsTyped (live_fields rows k) i g.slot kind
 unfolding kind_of type_kind
-row_typed rows legal k i o g r = go (kind_of rows g.ty) refl where
-  line : lacks_type_field (shape_of g.ty) (stands_below ForUnion o.fields g.slot) (stands_below ForUnions o.fields g.slot) ≡ false
-  line = live_line g.deprecated (lacks_type_field (shape_of g.ty) (stands_below ForUnion o.fields g.slot) (stands_below ForUnions o.fields g.slot)) (clear_line (table_field_demands rows g _ _ _ _) (asked rows legal k i o g r) 5 _ refl) r.live
-
-  go : (kind : Option Kind) → kind_of rows g.ty ≡ kind → IsTyped (live_fields rows k) i g.slot (unwrap_or kind Text)
-  go None e = tt
-  go (Some kind) e = kind_typed (live_fields rows k) i g.slot (stands_below ForUnion o.fields g.slot) (stands_below ForUnions o.fields g.slot) kind
-      (has_asked rows (stands_below ForUnion o.fields g.slot) (stands_below ForUnions o.fields g.slot) g.ty.index (shape_of g.ty) kind e line)
-      (type_before rows legal k i o g r ForUnion) (type_before rows legal k i o g r ForUnions)
+row_typed rows legal k i o g r kind e =
+    let byte = stands_below ForUnion o.fields g.slot in
+    let vector = stands_below ForUnions o.fields g.slot in
+    let line = live_line g.deprecated (lacks_type_field (shape_of g.ty) byte vector) (clear_line (table_field_demands rows g _ _ _ _) (asked rows legal k i o g r) 5 _ refl) r.live in
+    kind_typed (live_fields rows k) i g.slot byte vector kind (has_asked rows byte vector g.ty.index (shape_of g.ty) kind e line) (type_before rows legal k i o g r ForUnion) (type_before rows legal k i o g r ForUnions)
 
 -- a live union has its type field before it
 pub field_typed : (rows : Rows) → IsLegal rows → (k i : ℕ) (f : Live) → slice_get (live_fields rows k) i ≡ Some f → IsTyped (live_fields rows k) i f.slot f.kind
-field_typed rows legal k i f e = let r = row_of rows k i f e in subst (λ (f : Live). IsTyped (live_fields rows k) i f.slot f.kind) (sym r.3) (row_typed rows legal k i r.0 r.1 r.2)
+field_typed rows legal k i f e =
+    let r = row_of rows legal k i f e in
+    subst (λ (f : Live). IsTyped (live_fields rows k) i f.slot f.kind) (sym r.same) (row_typed rows legal k i r.object r.field r.row r.kind r.kind_is)
 
 -- Slots.
 asked_of_slot : (a b c : Bool) → (not a || b || c) ≡ false → (a ≡ true) × (b ≡ false)
@@ -367,12 +233,30 @@ rows_spaced rows legal k o at = record {
 -- the slots of a legal table's live fields rise
 fields_rise : (rows : Rows) → IsLegal rows → (k i j : ℕ) (f g : Live) → slice_get (live_fields rows k) i ≡ Some f → slice_get (live_fields rows k) j ≡ Some g → i < j → f.slot < g.slot
 fields_rise rows legal k i j f g a b lt =
-    let p = row_of rows k i f a in
-    let q = row_of rows k j g b in
-    let same : p.0 ≡ q.0 = let w : Some p.0 ≡ Some q.0 = sym p.2.at ∙ q.2.at in cc in
-    let there = subst (λ o. slice_get (live_rows o) j ≡ Some q.1) (sym same) q.2.here in
-    let less = rises_at (live_rows p.0) (rows_rise rows legal k p.0 p.2.at) i j p.1 q.1 p.2.here there lt in
-    omega (arith, less, ap (λ (x : Live). x.slot) p.3, ap (λ (x : Live). x.slot) q.3)
+    let p = row_of rows legal k i f a in
+    let q = row_of rows legal k j g b in
+    let same : p.object ≡ q.object = let w : Some p.object ≡ Some q.object = sym (p.row).at ∙ (q.row).at in cc in
+    let there = subst (λ o. slice_get (live_rows o) j ≡ Some q.field) (sym same) (q.row).here in
+    let less = rises_at (live_rows p.object) (rows_rise rows legal k p.object (p.row).at) i j p.field q.field (p.row).here there lt in
+    omega (arith, less, ap (λ (x : Live). x.slot) p.same, ap (λ (x : Live). x.slot) q.same)
+
+same_number : (a b : ℕ) → a % 2 ≡ 0 → 4 ≤ a → b % 2 ≡ 0 → 4 ≤ b → (a - 4) / 2 ≡ (b - 4) / 2 → a ≡ b
+same_number a b e l f m h = omega arith
+
+-- two live fields of one number stand in one place
+numbers_apart : (rows : Rows) → IsLegal rows → (k i j : ℕ) (f g : Live) → slice_get (live_fields rows k) i ≡ Some f → slice_get (live_fields rows k) j ≡ Some g → f.number ≡ g.number → i ≡ j
+numbers_apart rows legal k i j f g a b e =
+    let p = row_of rows legal k i f a in
+    let q = row_of rows legal k j g b in
+    let s = row_slot rows legal k i p.object p.field p.row in
+    let t = row_slot rows legal k j q.object q.field q.row in
+    let n : ((p.field).slot - 4) / 2 ≡ ((q.field).slot - 4) / 2 = sym (ap (λ (f : Live). f.number) p.same) ∙ e ∙ ap (λ (f : Live). f.number) q.same in
+    let one = same_number (p.field).slot (q.field).slot s.0 s.1 t.0 t.1 n in
+    let here : f.slot ≡ g.slot = ap (λ (f : Live). f.slot) p.same ∙ one ∙ sym (ap (λ (f : Live). f.slot) q.same) in
+    elim (le_or_lt i j) [
+      | inl le ↦ elim (lt_or_eq i j le) [ inl lt ↦ absurd (let w = fields_rise rows legal k i j f g a b lt in omega arith) | inr same ↦ same ]
+      | inr lt ↦ absurd (let w = fields_rise rows legal k j i g f b a lt in omega arith)
+    ]
 
 -- What legal rows give, where no table has more live fields than slots.
 pub served_by : (rows : Rows) → IsLegal rows → widest rows ≤ 32766 → IsServed rows
@@ -380,6 +264,8 @@ served_by rows legal few = record {
   few = λ k. (let w = within_widest rows k in omega arith);
   kinds = field_holds rows legal;
   typed = field_typed rows legal;
+  sized = field_sized rows;
   rising = fields_rise rows legal;
+  numbers = numbers_apart rows legal;
   members = member_holds rows legal;
 }

@@ -1,34 +1,25 @@
 -- The members of a union of legal rows.
-use Rattle.std.proofs.Common.{◌≡◌, ℕ, zero, suc, ◌<◌, ℤ, pos, negsuc, Bool, true, false, not, ◌&&◌, List, [], ◌∷◌, length, get_or, slice_get, filter, map, Option, Some, None, IsTrue, refl, sym, ◌∙◌, ap, arith, find, is_none, unwrap_or, if◌then◌else◌}
+use Rattle.std.proofs.Common.{◌≡◌, ℕ, zero, suc, ◌<◌, ℤ, pos, Bool, true, false, ◌&&◌, List, [], ◌∷◌, length, get_or, slice_get, filter, map, Option, Some, None, IsTrue, refl, sym, ◌∙◌, ap, arith, find, if◌then◌else◌}
 use Rattle.std.proofs.lemmas.Bool.Decides.{nat_tests}
 use Rattle.std.proofs.lemmas.List.{length-map, get_or-map}
-use Rattle.std.proofs.lemmas.Option.{slice_get-get_or}
 use Rattle.std.specs.Cmp.{Equal-is, signed_Decides}
 use Rattle.std.specs.Ordering.{int_cmp, int_eq}
 use Rattle.std.specs.Option.{option_and_then}
 use Rattle.std.specs.declared.cmp.Ordering.TheVariants.{Equal}
 use Rattle.std.proofs.lemmas.Cmp.{int_cmp_total}
-use Rattle.fb_schema.specs.declared.kinds.Kind.{Kind}
-use Rattle.fb_schema.specs.declared.kinds.Kind.TheVariants.{Text, Struct, Table}
-use Rattle.fb_schema.specs.declared.kinds.Element.TheVariants.{Scalar as OfScalar, Text as OfText, Object as OfObject, Union as OfUnion}
-use Rattle.fb_schema.specs.declared.kinds.Shape.{Shape}
-use Rattle.fb_schema.specs.declared.kinds.Shape.TheVariants.{One, Vector, Array}
 use Rattle.fb_schema.specs.declared.rows.EnumRow.{EnumRow}
 use Rattle.fb_schema.specs.declared.rows.MemberRow.{MemberRow}
-use Rattle.fb_schema.specs.Demands.{Demand, IsLegal, first_code, member_demands, members_asked, demands_of_enum, is_for_member, is_object, names_no_object}
-use Rattle.fb_schema.specs.Index.{member_kind}
-use Rattle.fb_schema.specs.Kinds.{kind_of, shape_of, shape_kind, object_kind}
+use Rattle.fb_schema.specs.Demands.{Demand, IsLegal, first_code, members_asked, demands_of_enum}
+use Rattle.fb_schema.specs.Kinds.{kind_of}
 use Rattle.fb_schema.specs.Matched.{AreMatched}
 use Rattle.fb_schema.specs.Members.{is_member_value, member_of, members_in}
 use Rattle.fb_schema.specs.Sorting.{member_value}
-use Rattle.fb_schema.specs.Rows.{Rows, Object, Member, Enum, member_of_row, enum_of, entry_at, is_some_union}
-use Rattle.fb_schema.proofs.DemandLaws.{clear_line}
+use Rattle.fb_schema.specs.Rows.{Rows, Member, Enum, member_of_row, enum_of, is_some_union}
 use Rattle.fb_schema.proofs.FindLemmas.{find_filter, found_item, no_item}
 use Rattle.fb_schema.proofs.LegalLemmas.{legal_clear}
-use Rattle.fb_schema.proofs.MemberLemmas.{value_not_again, clear_demands}
+use Rattle.fb_schema.proofs.MemberLemmas.{value_not_again}
 use Rattle.fb_schema.proofs.Numbers.{slice_get_some}
 use Rattle.fb_schema.proofs.PlaceLemmas.{alike_one}
-use Rattle.fb_schema.proofs.Search.{not_true}
 use Rattle.fb_schema.proofs.WalkLemmas.{mapped_at}
 
 -- a union's row
@@ -69,49 +60,17 @@ members_read rows enums same n row at union =
     ap members_in (ap (λ es. slice_get es n) same ∙ mapped_at enum_of enums n row at)
     ∙ union_members row.is_union (filter (λ m. is_member_value m.value) (map member_of_row row.members.items)) union
 
--- a member of legal rows has a kind
-kind_of_shape : (rows : Rows) (index : ℤ) (s : Option Shape) → is_for_member s ≡ true → (is_object s && is_none (entry_at rows.objects index)) ≡ false → (k : Kind) × (shape_kind rows index s ≡ Some k)
-kind_of_shape rows (pos n) (Some (One OfObject)) h e = go (slice_get rows.objects n) e where
-  go : (o : Option Object) → is_none o ≡ false → (k : Kind) × (object_kind (pos n) Struct Table o ≡ Some k)
-  go None e = absurd (let w : true ≡ false = e in cc)
-  go (Some o) e = (_, refl)
-kind_of_shape rows (negsuc n) (Some (One OfObject)) h e = absurd (let w : true ≡ false = e in cc)
-kind_of_shape rows index (Some (One OfText)) h e = (Text, refl)
-kind_of_shape rows index None h e = absurd (let w : false ≡ true = h in cc)
-kind_of_shape rows index (Some (One (OfScalar s))) h e = absurd (let w : false ≡ true = h in cc)
-kind_of_shape rows index (Some (One OfUnion)) h e = absurd (let w : false ≡ true = h in cc)
-kind_of_shape rows index (Some (Vector s)) h e = absurd (let w : false ≡ true = h in cc)
-kind_of_shape rows index (Some (Array s)) h e = absurd (let w : false ≡ true = h in cc)
+pub both_true : (a b : Bool) → (a && b) ≡ true → b ≡ true
+both_true true b h = h
+both_true false b h = absurd (let w : false ≡ true = h in cc)
 
-not_and : (a b : Bool) → (not a && not b) ≡ false → a ≡ false → b ≡ true
-not_and true b h e = absurd (let w : true ≡ false = e in cc)
-not_and false true h e = refl
-not_and false false h e = absurd (let w : true ≡ false = h in cc)
-
-and_false : (a b : Bool) → (not a && b) ≡ false → a ≡ false → b ≡ false
-and_false true b h e = absurd (let w : true ≡ false = e in cc)
-and_false false b h e = h
-
-has_kind : (rows : Rows) (m : Member) (taken named : Bool) → first_code (member_demands rows m taken named) ≡ None → int_eq m.value (pos 0) ≡ false → kind_of rows m.ty ≡ Some (member_kind rows m)
-unfolding kind_of names_no_object
-has_kind rows m taken named clear real =
-    let ds = member_demands rows m taken named in
-    let fits = not_and (int_eq m.value (pos 0)) (is_for_member (shape_of m.ty)) (clear_line ds clear 2 _ refl) real in
-    let there = and_false (int_eq m.value (pos 0)) (is_object (shape_of m.ty) && is_none (entry_at rows.objects m.ty.index)) (clear_line ds clear 3 _ refl) real in
-    let k = kind_of_shape rows m.ty.index (shape_of m.ty) fits there in
-    k.1 ∙ ap Some (sym (ap (λ o. unwrap_or o Text) k.1))
+pub all_true : (a b : Bool) → a ≡ true → b ≡ true → (a && b) ≡ true
+all_true true b e h = h
+all_true false b e h = absurd (let w : false ≡ true = e in cc)
 
 module _ (rows : Rows) (members : List MemberRow) (clear : (q : ℕ) → first_code (members_asked rows (map member_of_row members) q) ≡ None) where
   test : ℕ → Member → Bool
   test v y = is_member_value y.value && int_eq y.value (pos v)
-
-  both_true : (a b : Bool) → (a && b) ≡ true → b ≡ true
-  both_true true b h = h
-  both_true false b h = absurd (let w : false ≡ true = h in cc)
-
-  all_true : (a b : Bool) → a ≡ true → b ≡ true → (a && b) ≡ true
-  all_true true b e h = h
-  all_true false b e h = absurd (let w : false ≡ true = e in cc)
 
   real_value : (v : ℕ) → 0 < v → v < 256 → is_member_value (pos v) ≡ true
   real_value v a b = grind (arith, nat_tests)
@@ -156,17 +115,6 @@ module _ (rows : Rows) (members : List MemberRow) (clear : (q : ℕ) → first_c
       let there : (get_or members j x).value ≡ pos v = named v (member_of_row (get_or members j x)) (ap (test v) (sym same) ∙ e) in
       never j (member_value x) low (ap (λ z. int_cmp z (pos v)) (get_or-map member_value members j x (member_value x) low) ∙ (Equal-is (int_cmp (get_or members j x).value (pos v))).0 ((signed_Decides (get_or members j x).value (pos v)).1 there)))
 
-  pub kind_found : (v k : ℕ) (x : MemberRow) → 0 < v → k < length members → (get_or members k x).value ≡ pos v → kind_of rows (get_or members k x).ty ≡ Some (member_kind rows (member_of_row (get_or members k x)))
-  kind_found v k x a lt e =
-      let row = get_or members k x in
-      has_kind rows (member_of_row row) _ _ (clear_demands rows members k row (slice_get-get_or members k x lt) (clear k))
-      (not_zero row.value v a e) where
-        not_zero : (z : ℤ) (v : ℕ) → 0 < v → z ≡ pos v → int_eq z (pos 0) ≡ false
-        not_zero z v a e = not_true (int_eq z (pos 0)) (λ h. let w : pos v ≡ pos 0 = sym e ∙ (signed_Decides z (pos 0)).0 h in let u : v ≡ 0 = cc in omega arith)
-
-  pub value_at : (v k : ℕ) (x : MemberRow) → k < length members → ((d : ℤ) → int_cmp (get_or (map member_value members) k d) (pos v) ≡ Equal) → (get_or members k x).value ≡ pos v
-  value_at = value_of
-
 -- what is looked up of a union, over its row
 pub member_of_row_is : (rows : Rows) (enums : List EnumRow) → rows.enums ≡ map enum_of enums → (n : ℕ) (row : EnumRow) → slice_get enums n ≡ Some row → row.is_union ≡ true → (v : ℕ)
     → member_of rows n v ≡ option_and_then (λ m. kind_of rows m.ty) (find (λ m. int_eq m.value (pos v)) (filter (λ m. is_member_value m.value) (map member_of_row row.members.items)))
@@ -174,11 +122,7 @@ unfolding member_of
 member_of_row_is rows enums same n row at union v = ap (λ ms. option_and_then (λ (m : Member). kind_of rows m.ty) (find (λ m. int_eq m.value (pos v)) ms)) (members_read rows enums same n row at union)
 
 zero_test : (z : ℤ) → (is_member_value z && int_eq z (pos 0)) ≡ true → ⊥
-zero_test z h = go z ((signed_Decides z (pos 0)).0 (second (is_member_value z) (int_eq z (pos 0)) h)) h where
-  second : (a b : Bool) → (a && b) ≡ true → b ≡ true
-  second true b h = h
-  second false b h = absurd (let w : false ≡ true = h in cc)
-
+zero_test z h = go z ((signed_Decides z (pos 0)).0 (both_true (is_member_value z) (int_eq z (pos 0)) h)) h where
   go : (z : ℤ) → z ≡ pos 0 → (is_member_value z && int_eq z (pos 0)) ≡ true → ⊥
   go z e h = let w : false ≡ true = ap (λ z. is_member_value z && int_eq z (pos 0)) (sym e) ∙ h in cc
 

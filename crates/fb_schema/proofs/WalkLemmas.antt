@@ -1,5 +1,5 @@
 -- The steps of the walk over the rows.
-use Rattle.std.proofs.Common.{◌≡◌, ℕ, ◌<◌, ◌≤◌, ℤ, inl, inr, Bool, true, false, not, ◌||◌, ◌==◌, ◌%◌, nat_lt, List, length, slice_get, map, Option, Some, None, refl, sym, ◌∙◌, ap, arith, Decides}
+use Rattle.std.proofs.Common.{◌≡◌, ℕ, ◌<◌, ◌≤◌, ℤ, inl, inr, Bool, true, false, not, ◌||◌, ◌==◌, ◌%◌, nat_lt, List, [], length, slice_get, map, Option, Some, None, refl, sym, ◌∙◌, ap, arith, Decides}
 use Rattle.std.proofs.lemmas.List.{length-map}
 use Rattle.std.proofs.lemmas.Option.{slice_get-map}
 use Rattle.std.proofs.lemmas.Slice.Eq.{bytes_eq-Decides}
@@ -18,7 +18,7 @@ use Rattle.fb_schema.specs.declared.rows.FieldRow.{FieldRow}
 use Rattle.fb_schema.specs.declared.rows.MemberRow.{MemberRow}
 use Rattle.fb_schema.specs.Sorting.{IsAgain, IsFirstAgain, name_cmp, object_name, field_name, field_slot, member_value}
 use Rattle.fb_schema.specs.Rows.{Rows, field_of, object_of, member_of_row}
-use Rattle.fb_schema.specs.Demands.{is_at, first_code, stands_before, same_object_name, same_field_name, same_slot, same_value, struct_field_demands, struct_asked, demands_of_struct_field, Demand, table_field_demands, table_asked, demands_of_table_field, stands_below}
+use Rattle.fb_schema.specs.Demands.{Demand, is_at, first_code, stands_before, same_object_name, same_field_name, same_slot, same_value, struct_field_demands, struct_asked, demands_of_struct_field, Demand, table_field_demands, table_asked, demands_of_table_field, stands_below}
 use Rattle.fb_schema.specs.declared.kinds.TypeField.TheVariants.{ForUnion, ForUnions}
 use Rattle.fb_schema.proofs.DemandLaws.{passed_over, clear_line}
 use Rattle.fb_schema.proofs.KeyLemmas.{test_from_again, is_at_test}
@@ -53,6 +53,13 @@ values_agree a b = Equal-is (int_cmp a.value b.value)
 pub mapped_at : {X Y : Type 0} (f : X → Y) (xs : List X) (p : ℕ) (x : X) → slice_get xs p ≡ Some x → slice_get (map f xs) p ≡ Some (f x)
 mapped_at f xs p x at = slice_get-map f xs p ∙ ap (option_map f) at
 
+-- past the last item nothing is demanded
+pub past_list : {X : Type 0} (xs : List X) (demands : ℕ → Option X → List Demand) → ((q : ℕ) → demands q None ≡ []) → (n : ℕ) → length xs ≤ n → ((q : ℕ) → q < n → first_code (demands q (slice_get xs q)) ≡ None) → (q : ℕ) → first_code (demands q (slice_get xs q)) ≡ None
+past_list xs demands none n le h q = elim (le_or_lt (length xs) q) [
+  | inl past ↦ ap (λ x. first_code (demands q x)) (slice_get_past xs q past) ∙ ap first_code (none q)
+  | inr lt ↦ h q (omega arith)
+]
+
 -- Structs.
 module _ (rows : Rows) (bytesize : ℤ) (fields : List FieldRow) where
   struct_at : (p : ℕ) (row : FieldRow) → slice_get fields p ≡ Some row
@@ -77,10 +84,7 @@ module _ (rows : Rows) (bytesize : ℤ) (fields : List FieldRow) where
 
   -- past the last field nothing is demanded
   pub past_struct : (n : ℕ) → length fields ≤ n → ((q : ℕ) → q < n → first_code (struct_asked rows bytesize (map field_of fields) q) ≡ None) → (q : ℕ) → first_code (struct_asked rows bytesize (map field_of fields) q) ≡ None
-  past_struct n le h q = elim (le_or_lt (length fields) q) [
-    | inl past ↦ ap (λ f. first_code (demands_of_struct_field rows bytesize (map field_of fields) q f)) (slice_get_past (map field_of fields) q (rw length-map past))
-    | inr lt ↦ h q (omega arith)
-  ]
+  past_struct n le h q = past_list (map field_of fields) (demands_of_struct_field rows bytesize (map field_of fields)) (λ q. refl) n (rw length-map le) h q
 
 -- Tables.
 pub or_false : (a b c : Bool) → (a || b || c) ≡ false → c ≡ false
@@ -131,7 +135,4 @@ module _ (rows : Rows) (fields : List FieldRow) where
 
   -- past the last field nothing is demanded
   pub past_table : (n : ℕ) → length fields ≤ n → ((q : ℕ) → q < n → first_code (table_asked rows (map field_of fields) q) ≡ None) → (q : ℕ) → first_code (table_asked rows (map field_of fields) q) ≡ None
-  past_table n le h q = elim (le_or_lt (length fields) q) [
-    | inl past ↦ ap (λ f. first_code (demands_of_table_field rows (map field_of fields) q f)) (slice_get_past (map field_of fields) q (rw length-map past))
-    | inr lt ↦ h q (omega arith)
-  ]
+  past_table n le h q = past_list (map field_of fields) (demands_of_table_field rows (map field_of fields)) (λ q. refl) n (rw length-map le) h q

@@ -1,9 +1,7 @@
 -- What the index of a schema has to do with its rows.
-use Rattle.std.specs.Prelude.{◌≡◌, ◌≤◌, ℕ, List, map, unwrap_or, Some}
+use Rattle.std.specs.Prelude.{◌≡◌, ◌≤◌, ℕ, List, map, Some}
 use Rattle.std.specs.Borrow.{Bor}
 use Rattle.std.specs.Ordering.{int_cmp}
-use Rattle.fb_schema.specs.declared.kinds.Kind.{Kind}
-use Rattle.fb_schema.specs.declared.kinds.Kind.TheVariants.{Text}
 use Rattle.fb_schema.specs.declared.rows.EnumRow.{EnumRow}
 use Rattle.fb_schema.specs.declared.views.FieldView.{FieldView}
 use Rattle.fb_schema.specs.declared.index.LiveIndex.{LiveIndex}
@@ -14,7 +12,7 @@ use Rattle.fb_schema.specs.Live.{live_of_view, live_in, required_end_of, widest_
 use Rattle.fb_schema.specs.Matched.{AreMatched}
 use Rattle.fb_schema.specs.Steps.{step_of}
 use Rattle.fb_schema.specs.Sorting.{IsOrderOf, name_cmp, member_cmp, member_value, member_key}
-use Rattle.fb_schema.specs.Rows.{Rows, Object, Member, member_of_row}
+use Rattle.fb_schema.specs.Rows.{Rows, Object, member_of_row}
 
 abbrev pub view_name : FieldView → Bor (List ℕ)
 view_name f = f.name
@@ -29,12 +27,8 @@ pub record IsLiveIndex {A : Type 0} (rows : Rows) (objects : List Object) (index
   pub widest : index.widest ≡ widest_of objects
   pub few : index.widest ≤ 32766
 
--- the kind of a member; legal rows give each member of a union one
-abbrev pub member_kind : Rows → Member → Kind
-member_kind rows m = unwrap_or (kind_of rows m.ty) Text
-
 -- the kinds of these enums' members, and the orders of their values and names
 pub record IsMemberIndex {A : Type 0} (rows : Rows) (enums : List EnumRow) (index : MemberIndex A) : Type 0 where
-  pub kinds : AreMatched (λ row kinds. kinds ≡ map (λ m. member_kind rows (member_of_row m)) row.members.items) enums (lists_of index.kinds)
+  pub kinds : AreMatched (λ row kinds. kinds ≡ map (λ m. kind_of rows (member_of_row m).ty) row.members.items) enums (lists_of index.kinds)
   pub values : AreMatched (λ row order. IsOrderOf int_cmp (map member_value row.members.items) order) enums (lists_of index.values)
   pub names : AreMatched (λ row order. IsOrderOf member_cmp (map member_key row.members.items) order) enums (lists_of index.names)

@@ -109,18 +109,19 @@ struct_size rows n = size_in (slice_get rows.objects n)
 abbrev pub struct_align : Rows → ℕ → ℕ
 struct_align rows n = align_in (slice_get rows.objects n)
 
--- the bytes of a scalar or struct, or of one element of a vector of these; of any other kind those of an offset
-abbrev pub kind_size : Rows → Kind → ℕ
-kind_size rows (AScalar s) = scalar_size s
-kind_size rows (Struct k) = struct_size rows k
-kind_size rows (Scalars s) = scalar_size s
-kind_size rows (Structs k) = struct_size rows k
-kind_size rows _ = 4
+-- a size of a scalar or struct, or of one element of a vector of these, where a struct has this one; of any other kind
+-- that of an offset
+abbrev pub kind_measure : (ℕ → ℕ) → Kind → ℕ
+kind_measure measure (AScalar s) = scalar_size s
+kind_measure measure (Struct k) = measure k
+kind_measure measure (Scalars s) = scalar_size s
+kind_measure measure (Structs k) = measure k
+kind_measure measure _ = 4
 
--- the alignment, likewise
+-- the bytes
+abbrev pub kind_size : Rows → Kind → ℕ
+kind_size rows kind = kind_measure (struct_size rows) kind
+
+-- the alignment
 abbrev pub kind_align : Rows → Kind → ℕ
-kind_align rows (AScalar s) = scalar_size s
-kind_align rows (Struct k) = struct_align rows k
-kind_align rows (Scalars s) = scalar_size s
-kind_align rows (Structs k) = struct_align rows k
-kind_align rows _ = 4
+kind_align rows kind = kind_measure (struct_align rows) kind

@@ -1,8 +1,9 @@
 -- The live fields of a table in rising slot, with what a reader of buffers needs.
-use Rattle.std.specs.Prelude.{◌≡◌, ◌<◌, ◌≤◌, slice_index_or, ℕ, ◌+◌, ◌*◌, ◌-◌, ◌/◌, ℤ, Bool, not, ◌||◌, nat_le, nat_lt, ◌==◌, if◌then◌else◌, List, [], ◌∷◌, map, filter, length, max, position, slice_get, Option, Some, None, unwrap_or}
+use Rattle.std.specs.Prelude.{◌≡◌, ◌<◌, ◌≤◌, slice_index_or, ℕ, ◌+◌, ◌*◌, ◌-◌, ◌/◌, ℤ, Bool, not, ◌||◌, nat_le, nat_lt, ◌==◌, if◌then◌else◌, List, [], ◌∷◌, filter, length, max, position, slice_get, Option, Some, None, IsSome, option_map}
+use Rattle.std.specs.List.{filter_map}
 use Rattle.std.specs.Str.{bytes_eq}
 use Rattle.fb_schema.specs.declared.kinds.Kind.{Kind}
-use Rattle.fb_schema.specs.declared.kinds.Kind.TheVariants.{Text, Union, Unions}
+use Rattle.fb_schema.specs.declared.kinds.Kind.TheVariants.{Union, Unions}
 use Rattle.fb_schema.specs.declared.views.FieldView.{FieldView}
 use Rattle.fb_schema.specs.declared.rows.FieldRow.{FieldRow}
 use Rattle.fb_schema.specs.Rows.{Field, Object, Rows}
@@ -42,34 +43,35 @@ by_slot (f ∷ fs) = insert_by_slot f (by_slot fs)
 abbrev pub live_rows : Object → List Field
 live_rows o = if o.is_struct then [] else by_slot (filter is_live o.fields)
 
--- the kind of a field; legal rows give each live field one
-abbrev pub field_kind : Rows → Field → Kind
-field_kind rows f = unwrap_or (kind_of rows f.ty) Text
-
 -- the place of the field in the slot two below, for a union and a vector of unions
 abbrev pub companion_of : List Field → ℕ → Kind → Option ℕ
 companion_of live slot (Union e) = position (λ g. g.slot + 2 == slot) live
 companion_of live slot (Unions e) = position (λ g. g.slot + 2 == slot) live
 companion_of live slot _ = None
 
--- a field among the live fields of its table
-abbrev pub live_of : Rows → List Field → Field → Live
-live_of rows live f = record {
+-- a field of this kind among the live fields of its table
+abbrev pub live_as : Rows → List Field → Field → Kind → Live
+live_as rows live f kind = record {
   number = (f.slot - 4) / 2;
   slot = f.slot;
   name = f.name;
-  kind = field_kind rows f;
+  kind = kind;
   default = f.default;
   required = f.required;
   optional = f.optional;
-  size = kind_size rows (field_kind rows f);
-  align = kind_align rows (field_kind rows f);
-  companion = companion_of live f.slot (field_kind rows f);
+  size = kind_size rows kind;
+  align = kind_align rows kind;
+  companion = companion_of live f.slot kind;
 }
 
+-- a field of its type's kind, if it has one
+abbrev pub live_of : Rows → List Field → Field → Option Live
+live_of rows live f = option_map (live_as rows live f) (kind_of rows f.ty)
+
+-- those that have a kind, which of legal rows are all
 abbrev pub live_in : Rows → Option Object → List Live
 live_in rows None = []
-live_in rows (Some o) = map (live_of rows (live_rows o)) (live_rows o)
+live_in rows (Some o) = filter_map (live_of rows (live_rows o)) (live_rows o)
 
 -- the live fields of table n in rising slot; none where n is no table
 unfoldable pub live_fields : Rows → ℕ → List Live
@@ -103,6 +105,10 @@ pub record AreApart (fields : List Field) : Type 0 where
 -- each slot is below those after it
 pub record AreRising (fields : List FieldRow) : Type 0 where
   pub at : (i j : ℕ) (d : FieldRow) → i < j → j < length fields → (slice_index_or fields i d).slot < (slice_index_or fields j d).slot
+
+-- each field's type has a kind
+pub record AreKinded (rows : Rows) (fields : List Field) : Type 0 where
+  pub at : (i : ℕ) (f : Field) → slice_get fields i ≡ Some f → IsSome (kind_of rows f.ty)
 
 -- the first slot is 4 at least, and each is two above the one before it at least
 pub record AreSpaced (fields : List Field) : Type 0 where

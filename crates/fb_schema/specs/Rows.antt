@@ -1,5 +1,7 @@
 -- The rows of a schema, as contracts see them: plain records without references.
-use Rattle.std.specs.Prelude.{ℕ, ◌<◌, ◌^◌, All, length, vec_len, ℤ, pos, negsuc, Bool, false, not, List, map, slice_get, Option, Some, None, option_map}
+use Rattle.std.specs.Prelude.{ℕ, ◌<◌, ◌^◌, All, length, vec_len, ℤ, pos, negsuc, Bool, false, not, List, map, slice_get, Option, Some, None, option_map, position, if◌then◌else◌}
+use Rattle.std.specs.Option.{option_and_then}
+use Rattle.std.specs.Str.{bytes_eq}
 use Rattle.fb_schema.specs.declared.rows.TypeRow.{TypeRow}
 use Rattle.fb_schema.specs.declared.rows.FieldRow.{FieldRow}
 use Rattle.fb_schema.specs.declared.rows.ObjectRow.{ObjectRow}
@@ -77,6 +79,10 @@ is_some_table (Some o) = not o.is_struct
 -- the object of this number is a table
 abbrev pub is_table : Rows → ℕ → Bool
 is_table rows n = is_some_table (slice_get rows.objects n)
+
+-- the table of this name; none where the object of this name is a struct
+unfoldable pub table_named : Rows → List ℕ → Option ℕ
+table_named rows name = option_and_then (λ n. if is_table rows n then Some n else None) (position (λ o. bytes_eq o.name name) rows.objects)
 
 -- there is an enum, and it is a union
 abbrev pub is_some_union : Option Enum → Bool

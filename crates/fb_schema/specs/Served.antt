@@ -4,8 +4,8 @@ use Rattle.fb_schema.specs.declared.kinds.Kind.{Kind}
 use Rattle.fb_schema.specs.declared.kinds.Kind.TheVariants.{Scalar, Text, Struct, Table, Union, Scalars, Texts, Structs, Tables, Unions}
 use Rattle.fb_schema.specs.declared.kinds.Scalar.TheVariants.{UType}
 use Rattle.fb_schema.specs.Rows.{Rows, Field, Object, is_table, is_union}
-use Rattle.fb_schema.specs.Kinds.{kind_of, struct_align}
-use Rattle.fb_schema.specs.Live.{Live, live_fields, live_rows, field_kind}
+use Rattle.fb_schema.specs.Kinds.{kind_of, kind_size, kind_align, struct_align}
+use Rattle.fb_schema.specs.Live.{Live, live_fields, live_rows, live_as}
 use Rattle.fb_schema.specs.Members.{member_of}
 
 -- what a field's kind names is there, and what stands in place has an alignment
@@ -20,6 +20,11 @@ KindHolds rows f Texts = Unit {0}
 KindHolds rows f (Structs k) = 0 < f.align
 KindHolds rows f (Tables k) = IsTrue (is_table rows k)
 KindHolds rows f (Unions e) = IsTrue (is_union rows e)
+
+-- a live field has its kind's size and alignment
+pub record IsSized (rows : Rows) (f : Live) : Type 0 where
+  pub size : f.size ≡ kind_size rows f.kind
+  pub align : f.align ≡ kind_align rows f.kind
 
 -- before place i, a live field of this kind in the slot two below
 pub record HasTypeField (fs : List Live) (i slot : ℕ) (kind : Kind) : Type 0 where
@@ -48,9 +53,17 @@ pub record IsServed (rows : Rows) : Type 0 where
   pub few : (k : ℕ) → length (live_fields rows k) ≤ 32766
   pub kinds : (k i : ℕ) (f : Live) → slice_get (live_fields rows k) i ≡ Some f → KindHolds rows f f.kind
   pub typed : (k i : ℕ) (f : Live) → slice_get (live_fields rows k) i ≡ Some f → IsTyped (live_fields rows k) i f.slot f.kind
+  pub sized : (k i : ℕ) (f : Live) → slice_get (live_fields rows k) i ≡ Some f → IsSized rows f
   pub rising : (k i j : ℕ) (f g : Live) → slice_get (live_fields rows k) i ≡ Some f → slice_get (live_fields rows k) j ≡ Some g → i < j → f.slot < g.slot
+  pub numbers : (k i j : ℕ) (f g : Live) → slice_get (live_fields rows k) i ≡ Some f → slice_get (live_fields rows k) j ≡ Some g → f.number ≡ g.number → i ≡ j
   pub members : (e value : ℕ) → MemberHolds rows (member_of rows e value)
 
--- each live field has a kind: that of its type, and never the one that stands where a type has none
+-- the live field at place i is that of the i-th live row, of the kind that its type has
+pub record HasKind (rows : Rows) (k i : ℕ) (live : List Field) (f : Field) : Type 0 where
+  pub kind : Kind
+  pub is : kind_of rows f.ty ≡ Some kind
+  pub listed : slice_get (live_fields rows k) i ≡ Some (live_as rows live f kind)
+
+-- each live field has a kind, so that none is left out
 pub record HaveKinds (rows : Rows) : Type 0 where
-  pub at : (k i : ℕ) (o : Object) (f : Field) → slice_get rows.objects k ≡ Some o → slice_get (live_rows o) i ≡ Some f → kind_of rows f.ty ≡ Some (field_kind rows f)
+  pub at : (k i : ℕ) (o : Object) (f : Field) → slice_get rows.objects k ≡ Some o → slice_get (live_rows o) i ≡ Some f → HasKind rows k i (live_rows o) f

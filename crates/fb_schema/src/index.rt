@@ -16,10 +16,10 @@ pub struct LiveIndex<'n, A: Allocator> {
     pub widest: u32,
 }
 
-/// The kinds of each enum's members, and the orders of their values and names.
+/// The kinds of each enum's members, none for a type that no union holds, and the orders of their values and names.
 #[derive(Drop)]
 pub struct MemberIndex<'n, A: Allocator> {
-    pub kinds: Lists<Kind, A>,
+    pub kinds: Lists<Option<Kind>, A>,
     pub values: Lists<(i64, u32), A>,
     pub names: Lists<((bool, &'n [u8]), u32), A>,
 }

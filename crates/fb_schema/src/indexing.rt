@@ -3,7 +3,8 @@
 ghost use Rattle.std.specs.Prelude.{◌≡◌, ◌<◌, ◌^◌, map, length, IfOk, All, vec_len};
 ghost use Rattle.fb_schema.specs.Sorting.{IsOrderOf, name_cmp};
 ghost use Rattle.fb_schema.specs.Rows.{borrowed_rows, member_of_row};
-ghost use Rattle.fb_schema.specs.Index.{view_name, member_kind, IsLiveIndex, IsMemberIndex};
+ghost use Rattle.fb_schema.specs.Index.{view_name, IsLiveIndex, IsMemberIndex};
+ghost use Rattle.fb_schema.specs.Kinds.{kind_of};
 ghost use Rattle.fb_schema.specs.Demands.{IsLegal};
 ghost use Rattle.fb_schema.specs.Live.{live_of_view, required_end_of};
 
@@ -49,17 +50,17 @@ fn required_end(fields: &[FieldView]) -> u32
     end
 }
 
-/// The kinds of members.
+/// The kinds of members, none for a type that no union holds.
 fn member_kinds<A: Allocator>(
     alloc: A,
     rows: &RowLists,
     members: &[MemberRow],
-) -> Result<Vec<Kind, A>, AllocError>
-    ensures { IfOk result (λ kinds. kinds.items ≡ map (λ m. member_kind (borrowed_rows rows.now) (member_of_row m)) members.now) }
+) -> Result<Vec<Option<Kind>, A>, AllocError>
+    ensures { IfOk result (λ kinds. kinds.items ≡ map (λ m. kind_of (borrowed_rows rows.now) (member_of_row m).ty) members.now) }
 {
     let mut kinds = Vec::new(alloc);
     for member in members {
-        kinds.push(rows.kind_of(member.ty).unwrap_or(Kind::Text))?;
+        kinds.push(rows.kind_of(member.ty))?;
     }
     Ok(kinds)
 }

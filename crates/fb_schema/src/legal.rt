@@ -1,6 +1,6 @@
 // Rows are refused by the first demand that they break.
 
-ghost use Rattle.std.specs.Prelude.{◌<◌, ◌^◌, map, length, IfOk, OnOk, IfErr, All, vec_len};
+ghost use Rattle.std.specs.Prelude.{◌≡◌, ◌<◌, ◌^◌, map, length, IfOk, OnOk, IfErr, All, vec_len};
 ghost use Rattle.fb_schema.specs.Sorting.{IsOrderOf, IsFirstAgain, name_cmp, object_name};
 ghost use Rattle.fb_schema.specs.Rows.{AreFew, object_of, enum_of, borrowed_rows};
 ghost use Rattle.fb_schema.specs.Demands.{IsLegal, AreClear, Refuses, IsFirstOf, demands_of_field, demands_of_union};
@@ -46,6 +46,18 @@ fn union_fault<A: Allocator + Copy>(
     }
 }
 
+/// The fault of the owner of this number, or of a part of it.
+fn fault_of(code: Code, owner: usize, part: Option<u32>) -> SchemaFault
+    requires { owner < 2 ^ 31 }
+    ensures { result ≡ record { code = code; owner = owner; part = part } }
+{
+    SchemaFault {
+        code,
+        owner: owner as u32,
+        part,
+    }
+}
+
 /// Refuses objects by the first demand that one of them breaks. `again` is the first object whose name stood before.
 fn objects_legal<A: Allocator + Copy>(
     alloc: A,
@@ -60,19 +72,11 @@ fn objects_legal<A: Allocator + Copy>(
 {
     for (n, object) in rows.objects.iter().enumerate() {
         if let Some(code) = object_fault(object, is_at(again, n)) {
-            return Err(SchemaFault {
-                code,
-                owner: n as u32,
-                part: None,
-            });
+            return Err(fault_of(code, n, None));
         }
         let fault = fields_fault(alloc, rows, object)?;
         if let Some((code, p)) = fault {
-            return Err(SchemaFault {
-                code,
-                owner: n as u32,
-                part: Some(p),
-            });
+            return Err(fault_of(code, n, Some(p)));
         }
     }
     Ok(())
@@ -89,11 +93,7 @@ fn unions_legal<A: Allocator + Copy>(alloc: A, rows: &RowLists) -> Result<(), Sc
     for (n, row) in rows.enums.iter().enumerate() {
         let fault = union_fault(alloc, rows, row)?;
         if let Some((code, p)) = fault {
-            return Err(SchemaFault {
-                code,
-                owner: n as u32,
-                part: Some(p),
-            });
+            return Err(fault_of(code, n, Some(p)));
         }
     }
     Ok(())

@@ -1,8 +1,8 @@
 // The live fields of tables in rising slot.
 
-ghost use Rattle.std.specs.Prelude.{◌≡◌, ◌<◌, ◌^◌, ◌+◌, ◌==◌, filter, map, position, length, vec_len, IfOk, false, ◌≤◌};
+ghost use Rattle.std.specs.Prelude.{◌≡◌, ◌<◌, ◌^◌, ◌+◌, ◌==◌, filter, map, filter_map, position, length, vec_len, IfOk, false, ◌≤◌};
 ghost use Rattle.fb_schema.specs.Rows.{field_of, object_of, borrowed_rows};
-ghost use Rattle.fb_schema.specs.Live.{is_live, by_slot, field_kind, companion_of, live_of, live_of_view, live_in, AreApart, AreRising, AreSpaced};
+ghost use Rattle.fb_schema.specs.Live.{is_live, by_slot, companion_of, live_as, live_of, live_of_view, live_in, AreApart, AreRising, AreKinded, AreSpaced};
 
 use crate::kinds::Kind;
 use crate::rows::{FieldRow, ObjectRow};
@@ -45,12 +45,6 @@ fn place_below(live: &[FieldRow], slot: u16) -> Option<u32>
     }
 }
 
-fn field_kind(rows: &RowLists, field: &FieldRow) -> Kind
-    ensures { result ≡ field_kind (borrowed_rows rows.now) (field_of field.now) }
-{
-    rows.kind_of(field.ty).unwrap_or(Kind::Text)
-}
-
 /// The place of the type field of a union and of a vector of unions.
 fn companion(live: &[FieldRow], slot: u16, kind: Kind) -> Option<u32>
     requires few { length live.now < 2 ^ 31 }
@@ -63,14 +57,19 @@ fn companion(live: &[FieldRow], slot: u16, kind: Kind) -> Option<u32>
     }
 }
 
-/// A field among the live fields of its table.
-fn view_of<'n>(rows: &RowLists, live: &[FieldRow<'n>], field: &FieldRow<'n>) -> FieldView<'n>
+/// A field of this kind among the live fields of its table.
+fn view_of<'n>(
+    rows: &RowLists,
+    live: &[FieldRow<'n>],
+    field: &FieldRow<'n>,
+    kind: Kind,
+) -> FieldView<'n>
     requires few { length live.now < 2 ^ 31 }
     requires rising { AreRising live.now }
-    ensures value { live_of_view result ≡ live_of (borrowed_rows rows.now) (map field_of live.now) (field_of field.now) }
+    ensures value { live_of_view result ≡ live_as (borrowed_rows rows.now) (map field_of live.now) (field_of field.now) kind }
     ensures slot { field.now.slot < 2 ^ 16 }
 {
-    let kind = field_kind(rows, field);
+    let layout = rows.layout_of(kind);
     FieldView {
         number: field.slot.saturating_sub(4) / 2,
         slot: field.slot,
@@ -79,8 +78,8 @@ fn view_of<'n>(rows: &RowLists, live: &[FieldRow<'n>], field: &FieldRow<'n>) -> 
         default: field.default,
         required: field.required,
         optional: field.optional,
-        size: rows.kind_size(kind),
-        align: rows.kind_align(kind),
+        size: layout.size,
+        align: layout.align,
         companion: companion(live, field.slot, kind),
     }
 }
@@ -93,13 +92,15 @@ fn views<'n, A: Allocator>(
 ) -> Result<Vec<FieldView<'n>, A>, AllocError>
     requires few { length live.now < 2 ^ 31 }
     requires rising { AreRising live.now }
+    requires kinds { AreKinded (borrowed_rows rows.now) (map field_of live.now) }
     requires spaced { AreSpaced (map field_of live.now) }
-    ensures value { IfOk result (λ views. map live_of_view views.items ≡ map (live_of (borrowed_rows rows.now) (map field_of live.now)) (map field_of live.now)) }
+    ensures value { IfOk result (λ views. map live_of_view views.items ≡ filter_map (live_of (borrowed_rows rows.now) (map field_of live.now)) (map field_of live.now)) }
     ensures few { IfOk result (λ views. length views.items ≤ 32766) }
 {
     let mut views = Vec::new(alloc);
     for field in live {
-        views.push(view_of(rows, live, field))?;
+        let kind = rows.kind_of(field.ty).unwrap();
+        views.push(view_of(rows, live, field, kind))?;
     }
     Ok(views)
 }
@@ -112,6 +113,7 @@ pub fn table_views<'n, A: Allocator + Copy>(
 ) -> Result<Vec<FieldView<'n>, A>, AllocError>
     requires few { vec_len object.now.fields < 2 ^ 31 }
     requires apart { object.now.is_struct ≡ false → AreApart (map field_of object.now.fields.items) }
+    requires kinds { object.now.is_struct ≡ false → AreKinded (borrowed_rows rows.now) (by_slot (filter is_live (map field_of object.now.fields.items))) }
     requires spaced { object.now.is_struct ≡ false → AreSpaced (by_slot (filter is_live (map field_of object.now.fields.items))) }
     ensures value { IfOk result (λ views. map live_of_view views.items ≡ live_in (borrowed_rows rows.now) (Some (object_of object.now))) }
     // A slot is a number of 16 bits.

@@ -1,9 +1,9 @@
 // A legal schema.
 
-ghost use Rattle.std.specs.Prelude.{◌≡◌, ◌<◌, map, length, IfOk, OnOk, IfErr, IsTrue, option_map, slice_get, Some};
+ghost use Rattle.std.specs.Prelude.{◌≡◌, ◌<◌, map, length, IfOk, OnOk, IfErr, IfSome, IsTrue, option_map, slice_get, Some};
 ghost use Rattle.std.specs.Prelude.{position, ◌≤◌, ◌^◌};
 ghost use Rattle.std.specs.Str.{bytes_eq};
-ghost use Rattle.fb_schema.specs.Rows.{AreFew, rows_of, is_table, is_union};
+ghost use Rattle.fb_schema.specs.Rows.{AreFew, rows_of, is_table, is_union, table_named};
 ghost use Rattle.fb_schema.specs.Heads.{head_of, head_of_view};
 ghost use Rattle.fb_schema.specs.Live.{live_fields, live_of_view, field_named, required_end, widest};
 ghost use Rattle.fb_schema.specs.Members.{member_of, member_named};
@@ -155,6 +155,18 @@ impl<'n, A: Allocator + Copy> Schema<'n, A> {
         place_of(&self.order, &name)
     }
 
+    /// The number of the table of this name, none where the object of this name is a struct or isn't there.
+    #[tactic(auto, unfolding(crate::specs::Rows::table_named))]
+    pub fn table_named(&self, name: &[u8]) -> Option<u32>
+        ensures number { result ≡ table_named self.now name.now }
+        ensures table { IfSome result (λ n. IsTrue (is_table self.now n)) }
+    {
+        match self.object_named(name) {
+            Some(n) if self.is_table(n) => Some(n),
+            _ => None,
+        }
+    }
+
     /// The place of the live field of this name, among the live fields of a table in rising slot.
     pub fn field_named(&self, n: u32, name: &[u8]) -> Option<u32>
         requires { IsTrue (is_table self.now n) }
@@ -199,7 +211,7 @@ impl<'n, A: Allocator + Copy> Schema<'n, A> {
         }
         let values = self.members.values.get(e as usize);
         match place_of(values, &i64::from(value)) {
-            Some(place) => Some(self.members.kinds.get(e as usize)[place as usize]),
+            Some(place) => self.members.kinds.get(e as usize)[place as usize],
             None => None,
         }
     }

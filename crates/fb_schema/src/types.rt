@@ -10,6 +10,13 @@ use crate::base_type;
 use crate::kinds::{Element, Kind, Scalar, Shape, TypeField};
 use crate::rows::{EnumRow, ObjectRow, TypeRow};
 
+/// The size and alignment of a value, in bytes.
+#[derive(Clone, Copy)]
+pub struct Layout {
+    pub size: u32,
+    pub align: u32,
+}
+
 /// The two lists of rows while they are checked.
 #[derive(Clone, Copy)]
 pub struct RowLists<'r, 'n> {
@@ -17,15 +24,17 @@ pub struct RowLists<'r, 'n> {
     pub enums: &'r [EnumRow<'n>],
 }
 
-/// The bytes of a scalar, which are its alignment too.
-pub fn scalar_size(scalar: Scalar) -> u32
-    ensures { result ≡ scalar_size scalar }
-{
-    match scalar {
-        Scalar::UType | Scalar::Bool | Scalar::Byte | Scalar::UByte => 1,
-        Scalar::Short | Scalar::UShort => 2,
-        Scalar::Int | Scalar::UInt | Scalar::Float => 4,
-        Scalar::Long | Scalar::ULong | Scalar::Double => 8,
+impl Scalar {
+    /// The bytes of a scalar of this type, which are its alignment too (FlatBuffers Internals).
+    pub fn size(self) -> u32
+        ensures { result ≡ scalar_size self }
+    {
+        match self {
+            Scalar::UType | Scalar::Bool | Scalar::Byte | Scalar::UByte => 1,
+            Scalar::Short | Scalar::UShort => 2,
+            Scalar::Int | Scalar::UInt | Scalar::Float => 4,
+            Scalar::Long | Scalar::ULong | Scalar::Double => 8,
+        }
     }
 }
 
@@ -208,7 +217,7 @@ impl<'r, 'n> RowLists<'r, 'n> {
         ensures { result ≡ element_bytes (entry_at (borrowed_rows self.now).objects index) element }
     {
         match element {
-            Element::Scalar(scalar) => scalar_size(scalar) as i32,
+            Element::Scalar(scalar) => scalar.size() as i32,
             Element::Object => self.object_bytes(index),
             Element::Text | Element::Union => 0,
         }
@@ -287,43 +296,32 @@ impl<'r, 'n> RowLists<'r, 'n> {
         Some(Kind::Unions(index as u32))
     }
 
-    fn struct_size(&self, number: u32) -> u32
-        ensures { result ≡ struct_size (borrowed_rows self.now) number }
+    fn struct_layout(&self, number: u32) -> Layout
+        ensures size { result.size ≡ struct_size (borrowed_rows self.now) number }
+        ensures align { result.align ≡ struct_align (borrowed_rows self.now) number }
     {
         match self.objects.get(number as usize) {
-            Some(object) => object.bytesize.unsigned_abs(),
-            None => 0,
+            Some(object) => Layout {
+                size: object.bytesize.unsigned_abs(),
+                align: object.minalign.unsigned_abs(),
+            },
+            None => Layout { size: 0, align: 0 },
         }
     }
 
-    fn struct_align(&self, number: u32) -> u32
-        ensures { result ≡ struct_align (borrowed_rows self.now) number }
-    {
-        match self.objects.get(number as usize) {
-            Some(object) => object.minalign.unsigned_abs(),
-            None => 0,
-        }
-    }
-
-    /// The bytes of a scalar or struct, or of one element of a vector of these; of any other kind those of an offset.
-    pub fn kind_size(&self, kind: Kind) -> u32
-        ensures { result ≡ kind_size (borrowed_rows self.now) kind }
+    /// The size and alignment of a scalar or struct, or of one element of a vector of these; of any other kind those
+    /// of an offset.
+    pub fn layout_of(&self, kind: Kind) -> Layout
+        ensures size { result.size ≡ kind_size (borrowed_rows self.now) kind }
+        ensures align { result.align ≡ kind_align (borrowed_rows self.now) kind }
     {
         match kind {
-            Kind::Scalar(scalar) | Kind::Scalars(scalar) => scalar_size(scalar),
-            Kind::Struct(number) | Kind::Structs(number) => self.struct_size(number),
-            _ => 4,
-        }
-    }
-
-    /// The alignment of these.
-    pub fn kind_align(&self, kind: Kind) -> u32
-        ensures { result ≡ kind_align (borrowed_rows self.now) kind }
-    {
-        match kind {
-            Kind::Scalar(scalar) | Kind::Scalars(scalar) => scalar_size(scalar),
-            Kind::Struct(number) | Kind::Structs(number) => self.struct_align(number),
-            _ => 4,
+            Kind::Scalar(scalar) | Kind::Scalars(scalar) => Layout {
+                size: scalar.size(),
+                align: scalar.size(),
+            },
+            Kind::Struct(number) | Kind::Structs(number) => self.struct_layout(number),
+            _ => Layout { size: 4, align: 4 },
         }
     }
 }

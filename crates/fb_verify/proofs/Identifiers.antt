@@ -1,5 +1,5 @@
 -- Numbers of four bytes.
-use Rattle.std.proofs.Common.{◌≡◌, ◌↔◌, ℕ, zero, suc, ◌+◌, ◌*◌, ◌<◌, List, slice_index, ap, ◌∙◌, sym, arith}
+use Rattle.std.proofs.Common.{◌≡◌, ◌↔◌, ℕ, zero, suc, ◌+◌, ◌*◌, ◌<◌, List, slice_index, ap, subst, ◌∙◌, sym, arith}
 use Rattle.fb_bytes.specs.Word.{word}
 
 -- what holds of 0 to 3 holds below 4
@@ -17,7 +17,7 @@ digits : (a b c d w x y z : ℕ) → a < 256 → b < 256 → c < 256 → w < 256
 unfolding number
 digits a b c d w x y z ha hb hc hw hx hy e = (omega arith, omega arith, omega arith, omega arith)
 
-pub same_four : (b name : List ℕ) (p : ℕ) → ((i : ℕ) → slice_index b i < 256) → ((i : ℕ) → slice_index name i < 256) → (word b p 4 ≡ word name 0 4) ↔ ((i : ℕ) → i < 4 → slice_index b (p + i) ≡ slice_index name i)
+pub same_four : (b name : List ℕ) (p : ℕ) → ((i : ℕ) → i < 4 → slice_index b (p + i) < 256) → ((i : ℕ) → i < 4 → slice_index name i < 256) → (word b p 4 ≡ word name 0 4) ↔ ((i : ℕ) → i < 4 → slice_index b (p + i) ≡ slice_index name i)
 unfolding word number
 same_four b name p h g =
     let at = slice_index b in
@@ -26,7 +26,8 @@ same_four b name p h g =
     let second : at (p + 2) ≡ at (suc (suc p)) = ap at (omega arith) in
     let third : at (p + 3) ≡ at (suc (suc (suc p))) = ap at (omega arith) in (
       λ e.
-          let d = digits _ _ _ _ _ _ _ _ (h p) (h (suc p)) (h (suc (suc p))) (g 0) (g 1) (g 2) e in
+          let is_byte : (x y : ℕ) → x ≡ y → x < 256 → y < 256 = λ x y e h. subst (λ n. n < 256) e h in
+          let d = digits _ _ _ _ _ _ _ _ (is_byte _ _ zeroth (h 0 (omega arith))) (is_byte _ _ first (h 1 (omega arith))) (is_byte _ _ second (h 2 (omega arith))) (g 0 (omega arith)) (g 1 (omega arith)) (g 2 (omega arith)) e in
           below_four (λ i. at (p + i) ≡ slice_index name i) (zeroth ∙ d.0) (first ∙ d.1) (second ∙ d.2) (third ∙ d.3),
       λ f.
           let a : at p ≡ slice_index name 0 = sym zeroth ∙ f 0 (omega arith) in

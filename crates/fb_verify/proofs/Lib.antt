@@ -29,3 +29,5 @@ pub mod Walking
 pub mod Absent
 pub mod Plains
 pub mod Passing
+pub mod LeafRows
+pub mod Children

@@ -1,5 +1,5 @@
 -- At most one fault is the first.
-use Rattle.std.proofs.Common.{◌≡◌, ℕ, zero, suc, ◌+◌, ◌<◌, ◌⊎◌, inl, inr, List, [], ◌∷◌, take, refl, sym, ◌∙◌, ap, subst, arith, Some}
+use Rattle.std.proofs.Common.{◌≡◌, ℕ, zero, suc, ◌+◌, ◌<◌, ◌⊎◌, inl, inr, List, take, refl, sym, ◌∙◌, ap, subst, arith, Some}
 use Rattle.std.specs.Prelude.{slice_get}
 use Rattle.std.proofs.lemmas.List.{take-take}
 use Rattle.fb_schema.specs.Rows.{Rows}
@@ -22,6 +22,7 @@ use Rattle.fb_verify.proofs.Chains.{start_none, own_none, through_passes}
 use Rattle.fb_verify.proofs.Unique.{one_kids, one_elements}
 use Rattle.fb_verify.proofs.Budgets.{fewer_reads, not_both}
 use Rattle.fb_verify.proofs.Overruns.{reads_fault, no_lead_fault, kids_at, elements_at, head_overruns, field_overruns, element_overruns, kids_cost_take, elements_cost_take}
+use Rattle.fb_verify.proofs.Typed.{get_take}
 
 -- lists
 
@@ -33,14 +34,6 @@ compare zero zero = inr (inl refl)
 compare zero (suc n) = inl (omega arith)
 compare (suc m) zero = inr (inr (omega arith))
 compare (suc m) (suc n) = elim (compare m n) [ inl h ↦ inl (omega arith) | inr h ↦ elim h [ inl e ↦ inr (inl (ap suc e)) | inr g ↦ inr (inr (omega arith)) ] ]
-
-get_take : {A : Type 0} (xs : List A) (m n : ℕ) → m < n → slice_get (take n xs) m ≡ slice_get xs m
-get_take [] m zero h = refl
-get_take [] m (suc n) h = refl
-get_take (x ∷ xs) zero zero h = absurd (omega arith)
-get_take (x ∷ xs) zero (suc n) h = refl
-get_take (x ∷ xs) (suc m) zero h = absurd (omega arith)
-get_take (x ∷ xs) (suc m) (suc n) h = get_take xs m n (omega arith)
 
 to_same : {A : Type 0} {x y : A} (xs : List A) (m n : ℕ) → m ≡ n → slice_get xs m ≡ Some x → slice_get xs n ≡ Some y → x ≡ y
 to_same xs m n e h g = some_same (sym h ∙ ap (slice_get xs) e ∙ g)

@@ -28,7 +28,7 @@ use Rattle.fb_verify.specs.OffsetRows.{words_of, first_word, past_first}
 use Rattle.fb_verify.specs.Plain.{step_reads, step_reads_at, tested_by, plain_failure, plain_reads}
 use Rattle.fb_verify.specs.Stack.{blank, Origin, IsUnderWay, IsWalkingBy, IsAtField, Standing}
 use Rattle.fb_verify.specs.Stops.{StopsFrom, reads_failure, lead_reads_failure}
-use Rattle.fb_verify.specs.Told.{told, refused, stopped}
+use Rattle.fb_verify.specs.Told.{refused, stopped}
 use Rattle.fb_verify.proofs.Absent.{others_absent}
 use Rattle.fb_verify.proofs.Budgets.{fewer_reads}
 use Rattle.fb_verify.proofs.Chains.{after_none, both_none}
@@ -40,7 +40,7 @@ use Rattle.fb_verify.proofs.Walking.{field_skipped}
 use Rattle.fb_verify.proofs.Words.{row_none}
 
 -- a failure that a test tells is told after the reads before it
-failed_after : (k m q : ℕ) (e : Refusal) (x : Option Failure) → after m x ≡ Some (refused e q) → after (k + m) x ≡ Some (refused e (k + q))
+pub failed_after : (k m q : ℕ) (e : Refusal) (x : Option Failure) → after m x ≡ Some (refused e q) → after (k + m) x ≡ Some (refused e (k + q))
 failed_after k m q e x h = sym (after_twice k m x) ∙ ap (after k) h
 
 -- a stop is its parts

@@ -1,7 +1,7 @@
 -- Fields that lead to no table are passed by their steps.
-use Rattle.std.proofs.Common.{◌≡◌, ℕ, zero, suc, ◌+◌, ◌<◌, ◌≤◌, ◌==◌, ◌%◌, ◌&&◌, ◌||◌, ◌⊎◌, inl, inr, Bool, true, false, not, List, [], ◌∷◌, map, refl, sym, ◌∙◌, ap, subst, arith, Option, Some, None, if◌then◌else◌}
+use Rattle.std.proofs.Common.{◌≡◌, ℕ, zero, suc, ◌+◌, ◌<◌, ◌≤◌, ◌==◌, ◌%◌, ◌&&◌, ◌||◌, ◌⊎◌, inl, inr, Bool, true, false, not, List, [], ◌∷◌, map, refl, sym, ◌∙◌, ap, subst, arith, Option, Some, None, if◌then◌else◌, IfSome}
 use Rattle.std.specs.Prelude.{slice_get}
-use Rattle.std.proofs.lemmas.Bool.Decides.{Decides-eqb}
+use Rattle.std.proofs.lemmas.Bool.Decides.{Decides-eqb, nat_tests}
 use Rattle.fb_schema.specs.declared.kinds.Kind.{Kind}
 use Rattle.fb_schema.specs.declared.kinds.Kind.TheVariants.{Scalar, Text, Struct, Table, Union, Scalars, Texts, Structs, Tables, Unions}
 use Rattle.fb_schema.specs.declared.views.Act.{Act}
@@ -16,7 +16,7 @@ use Rattle.fb_verify.specs.Places.{is_aligned, field_place}
 use Rattle.fb_verify.specs.Fields.{to_string, entry, entries_of, entries_at, entries}
 use Rattle.fb_verify.specs.Cost.{slot_reads, present_reads, reads_at, own_reads}
 use Rattle.fb_verify.specs.Order.{Failure, after, ◌▷◌, table_failure, inline_field_failure, lead_failure, present_failure, failure_at, own_failure}
-use Rattle.fb_verify.specs.Plain.{step_failure, step_reads, IsStep, step_failure_at, step_reads_at, plain_failure, plain_reads}
+use Rattle.fb_verify.specs.Plain.{place_from, step_failure, step_reads, IsStep, step_failure_at, step_reads_at, plain_failure, plain_reads}
 use Rattle.fb_verify.proofs.Frames.{slot_few}
 
 -- The step at a place is that of the field there.
@@ -129,6 +129,28 @@ module _ (c : Checks) (b : List ℕ) (t m mid new : ℕ) (s : Step) (place : Opt
     go : (o : Option ℕ) → after mid (step_failure_at c b t s o) ≡ Some e → o ≡ None
     go None h = refl
     go (Some p) h = absurd (let w : None ≡ Some e = sym (ap (λ a. after mid (step_failure c b t s p a)) other) ∙ h in cc)
+
+-- A slot that tells a word tells the place so many bytes behind the table, or that there is none.
+same_place : (t w : ℕ) → (w == 0) ≡ true → (t + w == t) ≡ true
+same_place t w h = grind (arith, nat_tests)
+
+other_place : (t w : ℕ) → (w == 0) ≡ false → (t + w == t) ≡ false
+other_place t w h = grind (arith, nat_tests)
+
+pub place_told : (t w : ℕ) → place_from t (t + w) ≡ (if w == 0 then None else Some (t + w))
+place_told t w = go (w == 0) refl where
+  go : (x : Bool) → (w == 0) ≡ x → place_from t (t + w) ≡ (if x then None else Some (t + w))
+  go true e = ap (λ y. if y then None else Some (t + w)) (same_place t w e)
+  go false e = ap (λ y. if y then None else Some (t + w)) (other_place t w e)
+
+pub place_none : (t : ℕ) → place_from t t ≡ None
+place_none t = ap (λ y. if y then None else Some t) ((Decides-eqb t t).1 refl)
+
+pub place_near : (t p n : ℕ) → p < n → IfSome (place_from t p) (λ q. q < n)
+place_near t p n h = go (p == t) where
+  go : (x : Bool) → IfSome (if x then None else Some p) (λ q. q < n)
+  go true = tt
+  go false = h
 
 -- every position is aligned for a byte
 unaligned : (p : ℕ) (x : Bool) → (not x || (p % 1 == 0)) ≡ true

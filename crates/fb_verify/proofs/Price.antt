@@ -1,13 +1,11 @@
 -- What a tree, and what a way to a fault, costs at most.
-use Rattle.std.proofs.Common.{◌≡◌, ℕ, zero, suc, ◌+◌, ◌*◌, ◌≤◌, List, [], ◌∷◌, length, refl, arith, Option, Some, None}
-use Rattle.std.specs.Prelude.{slice_get}
+use Rattle.std.proofs.Common.{ℕ, zero, suc, ◌+◌, ◌*◌, ◌≤◌, List, [], ◌∷◌, length, arith, Option, Some, None}
 use Rattle.std.proofs.lemmas.Bool.Decides.{nat_tests}
-use Rattle.std.proofs.lemmas.List.{length-map}
 use Rattle.fb_bytes.specs.Word.{word}
 use Rattle.fb_schema.specs.declared.kinds.Kind.{Kind}
 use Rattle.fb_schema.specs.declared.kinds.Kind.TheVariants.{Scalar, Text, Struct, Table, Union, Scalars, Texts, Structs, Tables, Unions}
-use Rattle.fb_schema.specs.Rows.{Object, Rows}
-use Rattle.fb_schema.specs.Live.{Live, live_fields, live_rows, live_in, live_of, widest, widest_of}
+use Rattle.fb_schema.specs.Rows.{Rows}
+use Rattle.fb_schema.specs.Live.{Live, live_fields}
 use Rattle.fb_schema.specs.Members.{member_of}
 use Rattle.fb_verify.specs.declared.checks.Checks.{Checks}
 use Rattle.fb_verify.specs.declared.start.Start.{Start}
@@ -20,22 +18,6 @@ use Rattle.fb_verify.specs.Tree.{Tree, node, Kids, no_kids, kid, Elements, no_el
 use Rattle.fb_verify.specs.Unfolds.{Unfolds, FieldsUnfold, ElementsUnfold, ElementUnfolds}
 use Rattle.fb_verify.specs.WellFormed.{start_reads}
 use Rattle.fb_verify.specs.Cost.{head_reads, slot_reads, reads_if_present, present_reads, reads_at, own_reads, lead_reads, tree_cost, kids_cost, elements_cost, element_cost}
-
--- no table has more live fields than the widest
-
-object_width : (os : List Object) (n : ℕ) (o : Object) → slice_get os n ≡ Some o → length (live_rows o) ≤ widest_of os
-object_width [] n o h = absurd (cc)
-object_width (p ∷ os) zero o h = let e : p ≡ o = cc in rw e (omega arith)
-object_width (p ∷ os) (suc n) o h = omega (arith, object_width os n o h)
-
-width_in : (S : Rows) (n : ℕ) (o : Option Object) → slice_get S.objects n ≡ o → length (live_in S o) ≤ widest S
-unfolding widest
-width_in S n None h = omega arith
-width_in S n (Some o) h = omega (arith, length-map (live_rows o) (live_of S (live_rows o)), object_width S.objects n o h)
-
-pub width : (S : Rows) (k : ℕ) → length (live_fields S k) ≤ widest S
-unfolding live_fields
-width S k = width_in S k (slice_get S.objects k) refl
 
 -- the start
 

@@ -4,6 +4,7 @@ use Rattle.std.specs.Prelude.{slice_get}
 use Rattle.std.proofs.lemmas.Bool.Decides.{nat_tests}
 use Rattle.fb_schema.specs.Rows.{Rows}
 use Rattle.fb_schema.specs.Live.{Live, live_fields, widest}
+use Rattle.fb_schema.proofs.LookLemmas.{within_widest}
 use Rattle.fb_verify.specs.declared.checks.Checks.{Checks}
 use Rattle.fb_verify.specs.declared.start.Start.{Start}
 use Rattle.fb_verify.specs.declared.start.Ident.{Ident}
@@ -19,7 +20,7 @@ use Rattle.fb_verify.specs.Way.{Way, way_to_start, way_to_root, way_to_field, wa
 use Rattle.fb_verify.specs.Stops.{budget_failure, reads_failure, in_head, fault_at, IsFalseAt, Trail, at_head, at_field, FieldTrail, at_own, at_element, ElementTrail, at_lead, through, IsTrail, IsFieldTrail, IsElementTrail, Stops}
 use Rattle.fb_verify.specs.MostReads.{within_budget, most_reads}
 use Rattle.fb_verify.proofs.Budgets.{no_reads, IsNear, near}
-use Rattle.fb_verify.proofs.Price.{width, start_price, row_reads, field_price, head_price, kids_price, elements_price, tree_price}
+use Rattle.fb_verify.proofs.Price.{start_price, row_reads, field_price, head_price, kids_price, elements_price, tree_price}
 use Rattle.fb_verify.proofs.ChainReads.{either, reads_most, start_most}
 use Rattle.fb_verify.proofs.Overruns.{kids_cost_take, elements_cost_take}
 use Rattle.fb_verify.proofs.Nears.{fault_reads, first_of_two, budget_most, head_reads_most, own_reads_most, entry_reads_most, trail_near}
@@ -102,7 +103,7 @@ module _ (c : Checks) (b : List ℕ) (S : Rows) (L : Bounds) where
 
   all_tables : (k : ℕ) → 3 + length (live_fields S k) * (6 + length b) ≤ table_most
   unfolding table_most
-  all_tables k = omega (arith, mul-le-mul_right (6 + length b) (width S k))
+  all_tables k = omega (arith, mul-le-mul_right (6 + length b) (within_widest S k))
 
   below_bound : 3 + table_most * L.tables ≤ 4 + L.tables * (4 + widest S * (8 + length b))
   unfolding table_most

@@ -2,7 +2,7 @@
 use Rattle.std.proofs.Common.{◌≡◌, ℕ, zero, suc, ◌-◌, ◌<◌, List, [], ◌∷◌, take, refl, ◌∙◌, subst, arith, Some}
 use Rattle.std.specs.Prelude.{slice_get}
 use Rattle.fb_schema.specs.declared.kinds.Kind.{Kind}
-use Rattle.fb_schema.specs.declared.kinds.Kind.TheVariants.{Scalar, Text, Struct, Table, Union, Scalars, Texts, Structs, Tables, Unions}
+use Rattle.fb_schema.specs.declared.kinds.Kind.TheVariants.{Scalar, Union, Scalars, Unions}
 use Rattle.fb_schema.specs.declared.kinds.Scalar.TheVariants.{UType}
 use Rattle.fb_schema.specs.Rows.{Rows}
 use Rattle.fb_schema.specs.Live.{Live}
@@ -14,7 +14,7 @@ use Rattle.fb_verify.specs.Tree.{Kids, no_kids, kid}
 use Rattle.fb_verify.specs.Unfolds.{FieldsUnfold}
 use Rattle.fb_verify.specs.OffsetRows.{TypeFits, TypesFit, IsTyped}
 
-get_take : {A : Type 0} (xs : List A) (m n : ℕ) → m < n → slice_get (take n xs) m ≡ slice_get xs m
+pub get_take : {A : Type 0} (xs : List A) (m n : ℕ) → m < n → slice_get (take n xs) m ≡ slice_get xs m
 get_take [] m zero h = refl
 get_take [] m (suc n) h = refl
 get_take (x ∷ xs) zero zero h = absurd (omega arith)
@@ -37,13 +37,11 @@ module _ (c : Checks) (b : List ℕ) (S : Rows) (t : ℕ) where
   unfolding IsField
   present f p kind h e k = subst (λ x. IsPresent c b S t f p x) k (subst (λ x. IsPresentOrAbsent c b S t f x) e h)
 
-  module _ (kids : Kids) (fs : List Live) (i o : ℕ) (u : FieldsUnfold kids c b S t (take i fs)) where
-    -- the type field that legal rows give is passed, and stands where the union's slot says
+  -- type fields that hold
+  module _ (fs : List Live) (i o : ℕ) (met : (kind : Kind) (h : HasTypeField fs i o kind) → IsField c b S t h.field) where
+    -- the type field that legal rows give stands where the union's slot says
     types_at : (kind : Kind) (h : HasTypeField fs i o kind) (q : ℕ) → type_place b t o ≡ Some q → IsPresent c b S t h.field q kind
-    types_at kind h q e =
-        let met = field_met kids (take i fs) h.place h.field u (get_take fs h.place i h.lower ∙ h.found) in
-        let s : o - 2 ≡ (h.field).slot = omega (arith, h.below) in
-        present h.field q kind met (rw s at e) h.kind_is
+    types_at kind h q e = let s : o - 2 ≡ (h.field).slot = omega (arith, h.below) in present h.field q kind (met kind h) (rw s at e) h.kind_is
 
     type_fits : HasTypeField fs i o (Scalar UType) → TypeFits b t o
     type_fits h = record {
@@ -59,14 +57,11 @@ module _ (c : Checks) (b : List ℕ) (S : Rows) (t : ℕ) where
       types = λ q e. let v = (types_at (Scalars UType) h q e).vector.within in let one = h.size_is in omega (arith, rw one at v);
     }
 
-    pub typed_before : (kind : Kind) → IsTypedIn fs i o kind → IsTyped b t o kind
-    typed_before (Scalar s) h = tt
-    typed_before Text h = tt
-    typed_before (Struct k) h = tt
-    typed_before (Table k) h = tt
-    typed_before (Union e) h = type_fits h
-    typed_before (Scalars s) h = tt
-    typed_before Texts h = tt
-    typed_before (Structs k) h = tt
-    typed_before (Tables k) h = tt
-    typed_before (Unions e) h = types_fit h
+    pub typed_by : (kind : Kind) → IsTypedIn fs i o kind → IsTyped b t o kind
+    typed_by (Union e) h = type_fits h
+    typed_by (Unions e) h = types_fit h
+    typed_by kind h = tt
+
+  -- those of fields that are passed
+  pub typed_before : (kids : Kids) (fs : List Live) (i o : ℕ) (u : FieldsUnfold kids c b S t (take i fs)) (kind : Kind) → IsTypedIn fs i o kind → IsTyped b t o kind
+  typed_before kids fs i o u kind h = typed_by fs i o (λ kind h. field_met kids (take i fs) h.place h.field u (get_take fs h.place i h.lower ∙ h.found)) kind h

@@ -54,10 +54,10 @@ ElementLaw = (c : Checks) (b : List ℕ) (x : Entry) → (element_failure c b x 
 abbrev pub FieldLaw : Type 0
 FieldLaw = (c : Checks) (b : List ℕ) (S : Rows) (t : ℕ) (f : Live) → (own_failure c b S t f ≡ None) ↔ IsField c b S t f
 
--- two numbers of four bytes are one exactly where the bytes are the same, as for the identifier
+-- two numbers of four bytes, each below 256, are one exactly where the bytes are the same, as for the identifier
 abbrev pub IdentifierLaw : Type 0
 IdentifierLaw =
-    (b name : List ℕ) (p : ℕ) → ((i : ℕ) → slice_index b i < 256) → ((i : ℕ) → slice_index name i < 256) → (word b p 4 ≡ word name 0 4) ↔ ((i : ℕ) → i < 4 → slice_index b (p + i) ≡ slice_index name i)
+    (b name : List ℕ) (p : ℕ) → ((i : ℕ) → i < 4 → slice_index b (p + i) < 256) → ((i : ℕ) → i < 4 → slice_index name i < 256) → (word b p 4 ≡ word name 0 4) ↔ ((i : ℕ) → i < 4 → slice_index b (p + i) ≡ slice_index name i)
 
 -- a buffer has at most one tree for an object and a position
 abbrev pub HasOneTree : Type 0

@@ -23,6 +23,7 @@ pub mod Tests
 -- What proofs alone need.
 pub mod OffsetRows
 pub mod Plain
+pub mod Known
 pub mod Stack
 pub mod Told
 pub mod Walked

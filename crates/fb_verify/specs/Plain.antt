@@ -1,24 +1,24 @@
 -- Fields that lead to no table, by their steps.
-use Rattle.std.specs.Prelude.{ℕ, ◌+◌, ◌<◌, List, not, Option, Some, None}
+use Rattle.std.specs.Prelude.{ℕ, ◌+◌, ◌<◌, ◌==◌, if◌then◌else◌, List, not, Option, Some, None}
 use Rattle.fb_schema.specs.declared.views.Act.{Act}
 use Rattle.fb_schema.specs.declared.views.Act.TheVariants.{One, Two, Four, Eight, Inline, Text, Vector, Other}
 use Rattle.fb_schema.specs.declared.views.Step.{Step}
 use Rattle.fb_verify.specs.declared.checks.Checks.{Checks}
 use Rattle.fb_verify.specs.declared.fault.Reason.{Reason}
 use Rattle.fb_verify.specs.declared.fault.Reason.TheVariants.{MissingRequired}
-use Rattle.fb_verify.specs.declared.plain.Tested.{Tested}
 use Rattle.fb_verify.specs.Places.{field_place}
 use Rattle.fb_verify.specs.Fields.{to_string}
 use Rattle.fb_verify.specs.Cost.{slot_reads}
 use Rattle.fb_verify.specs.Order.{Failure, check, after, ◌▷◌, table_failure, inline_field_failure, vector_field_failure, lead_failure}
 
--- the failure that a test tells, after so many reads
+-- the failure that a test tells at this position, after so many reads
 abbrev pub tested_by : ℕ → ℕ → Option Reason → Option Failure
 tested_by at reads None = None
 tested_by at reads (Some reason) = Some (record { reason = reason; at = at; reads = reads })
 
-abbrev pub tested : Tested → ℕ → Option Failure
-tested a reads = tested_by a.at reads a.failed
+-- where a field stands in the table at t, that is told to be at p: nowhere, where that is the table's own position
+abbrev pub place_from : (t p : ℕ) → Option ℕ
+place_from t p = if p == t then None else Some p
 
 -- a present field at p, with the string that it may lead to
 abbrev pub step_failure : Checks → List ℕ → ℕ → Step → ℕ → Act → Option Failure

@@ -3,10 +3,10 @@ use Rattle.std.specs.Prelude.{◌≡◌, ℕ, ◌<◌, ◌^◌, List, length, Is
 use Rattle.fb_schema.specs.Rows.{Rows, is_table}
 use Rattle.fb_verify.specs.declared.checks.Checks.{Checks}
 use Rattle.fb_verify.specs.declared.start.Start.{Start}
-use Rattle.fb_verify.specs.declared.start.Ident.TheVariants.{Any}
+use Rattle.fb_verify.specs.declared.start.Ident.{Ident}
 use Rattle.fb_verify.specs.declared.fault.Report.{Report}
 use Rattle.fb_verify.specs.Tree.{Tree, size, depth}
-use Rattle.fb_verify.specs.WellFormed.{IsWellFormed}
+use Rattle.fb_verify.specs.WellFormed.{IsWellFormed, cost}
 
 -- the bytes, the rows of the schema, and what was asked and answered
 pub record Sealed : Type 0 where
@@ -17,12 +17,15 @@ pub record Sealed : Type 0 where
   pub checks : Checks
   pub report : Report
 
--- the bytes, of which there are fewer than 2^31, unfold by the schema from the root, which is a table, whatever their identifier, into a tree of
--- so many tables and this depth
+-- the bytes, of which there are fewer than 2^31, unfold by the schema from the root, which is a table, into a tree that
+-- the report counts: its tables, its depth, and its reads with those of the start, of which an identifier that was asked
+-- for is one
 pub record IsUnfolded (v : Sealed) : Type 0 where
   pub short : length v.bytes < 2 ^ 31
   pub root_is_table : IsTrue (is_table v.schema v.root)
+  pub ident : Ident
   pub found : Tree
-  pub well_formed : IsWellFormed v.checks v.bytes v.schema v.root v.start Any found
+  pub well_formed : IsWellFormed v.checks v.bytes v.schema v.root v.start ident found
   pub tables : (v.report).tables ≡ size found
   pub depth : (v.report).depth ≡ depth found
+  pub reads : (v.report).reads ≡ cost found v.checks v.bytes v.schema v.start ident

@@ -10,13 +10,17 @@ use Rattle.fb_verify.specs.declared.fault.Fault.{Fault}
 use Rattle.fb_verify.specs.declared.offset_row.Referent.TheVariants.{Nothing}
 use Rattle.fb_verify.specs.declared.offset_row.Leads.TheVariants.{All as AllTo}
 use Rattle.fb_verify.specs.declared.scratch.Frame.{Frame}
+use Rattle.fb_verify.specs.declared.element.Child.{Child}
 use Rattle.fb_verify.specs.declared.field.Table.{Table}
 use Rattle.fb_verify.specs.declared.stack.Walk.{Walk}
 use Rattle.fb_verify.specs.Bounds.{Bounds, AreAllowed}
-use Rattle.fb_verify.specs.Places.{has_slot, field_place}
+use Rattle.fb_verify.specs.Places.{target, has_slot, field_place}
+use Rattle.fb_verify.specs.Fields.{to_table}
+use Rattle.fb_verify.specs.Cost.{lead_reads}
+use Rattle.fb_verify.specs.Order.{element_failure}
 use Rattle.fb_verify.specs.Way.{Way}
 use Rattle.fb_verify.specs.Told.{IsHead}
-use Rattle.fb_verify.specs.OffsetRows.{words_of, IsRow}
+use Rattle.fb_verify.specs.OffsetRows.{words_of, first_word, IsRow}
 use Rattle.fb_verify.specs.Stops.{StopsFrom}
 use Rattle.fb_verify.specs.Walked.{ended, TableWalked, IsInside, IsInField, Waits}
 
@@ -112,6 +116,20 @@ pub record IsAtField (w : Walk) (counted : ℕ) (m : Metered) (s : Origin) (belo
   pub within : top.next < length (live_fields w.schema.now (top.table).object)
   pub present : (f : Live) → slice_get (live_fields w.schema.now (top.table).object) top.next ≡ Some f → (field_place m.bytes (top.table).at f.slot ≡ Some place) × IsTrue (has_slot m.bytes (top.table).at f.slot)
   pub near : place < 2 ^ 34
+
+-- a walk through these bytes, which came to r reads, where the last ones were those of the first offset word that is left
+-- of the top's field: it leads to this table. Before them, with four for each word that is left, there were so many at most
+pub record IsAtTable (w : Walk) (b : List ℕ) (r : ℕ) (s : Origin) (below : List Frame) (top : Frame) (most : ℕ) (child : Child) : Type 0 where
+  pub before : ℕ
+  pub count : r ≡ before + (first_word b w.schema.now top.row).reads + lead_reads (first_word b w.schema.now top.row).lead
+  pub walking : IsUnderWay w.checks b w.schema.now w.limits s below top w.tables w.deepest before
+  pub more : 0 < (top.row).left
+  pub holds : element_failure w.checks b (first_word b w.schema.now top.row) ≡ None
+  pub leads : (first_word b w.schema.now top.row).lead ≡ to_table child.object
+  pub table : IsTrue (is_table w.schema.now child.object)
+  pub at : child.at ≡ target b (top.row).place
+  pub near : child.at < 2 ^ 33
+  pub paid : before + 4 * (top.row).left ≤ most
 
 -- the walk is over: the table where it began was walked
 abbrev pub IsOver : Walk → Metered → Origin → Type 0

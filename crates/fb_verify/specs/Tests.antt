@@ -1,9 +1,10 @@
 -- Examples of the tests of Order.antt: bytes that pass or fail each of them, most of them beside the tests around it.
-use Rattle.std.specs.Prelude.{◌≡◌, ℕ, pos, true, false, List, [], ◌∷◌, Option, Some, None}
+use Rattle.std.specs.Prelude.{◌≡◌, ℕ, true, false, List, [], ◌∷◌, Option, Some, None}
 use Rattle.fb_schema.specs.declared.kinds.Scalar.TheVariants.{Short, Int, Long}
 use Rattle.fb_schema.specs.declared.kinds.Kind.{Kind}
 use Rattle.fb_schema.specs.declared.kinds.Kind.TheVariants.{Scalar, Text, Struct, Table, Union, Scalars, Texts, Structs, Tables, Unions}
 use Rattle.fb_schema.specs.Live.{Live}
+use Rattle.fb_schema.specs.LookUps.{live}
 use Rattle.fb_verify.specs.declared.checks.Checks.{Checks}
 use Rattle.fb_verify.specs.declared.start.Start.TheVariants.{Bare, Prefixed}
 use Rattle.fb_verify.specs.declared.start.Ident.{Ident}
@@ -39,18 +40,7 @@ a_table inline fourth sixth rest = 8 ∷ 0 ∷ inline ∷ 0 ∷ fourth ∷ 0 ∷
 
 -- a field of this kind with this slot, size and alignment
 abbrev pub a_field : Kind → ℕ → ℕ → ℕ → Live
-a_field kind slot size align = record {
-  number = 3;
-  slot = slot;
-  name = [];
-  kind = kind;
-  default = pos 0;
-  required = false;
-  optional = false;
-  size = size;
-  align = align;
-  companion = None;
-}
+a_field kind slot size align = live 3 slot [] kind size align None
 
 -- such a field of that table by itself
 abbrev pub own : Checks → List ℕ → Live → Option Failure

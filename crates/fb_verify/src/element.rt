@@ -66,39 +66,9 @@ fn pass_referent(
     }
 }
 
-/// Checks the first offset word of a row, and answers the table to which it leads, if it does.
-#[tactic(auto, unfolding(crate::specs::Order::element_failure))]
-fn check_element(
-    meter: &mut Meter<'_>,
-    schema: &Schema<'_>,
-    checks: Checks,
-    row: Row,
-) -> Result<Option<Child>, Refusal>
-    requires served { IsServed schema.now }
-    requires more { 0 < row.left }
-    requires row { IsRow meter.old.bytes schema.now row }
-    requires few { meter.old.count < 2 ^ 96 }
-    ensures ok { IfOk result (λ _. element_failure checks meter.old.bytes (first_word meter.old.bytes schema.now row) ≡ None) }
-    ensures child { IfOk result (λ o. MatchOption o (IsLeafLead (first_word meter.old.bytes schema.now row).lead) (λ child. ((first_word meter.old.bytes schema.now row).lead ≡ to_table child.object) × (child.at ≡ target meter.old.bytes row.place))) }
-    ensures table { IfOk result (λ o. IfSome o (λ child. IsTrue (is_table schema.now child.object))) }
-    ensures near { IfOk result (λ o. IfSome o (λ child. child.at < 2 ^ 33)) }
-    ensures counted { IfOk result (λ _. meter.new ≡ record meter.old { count = meter.old.count + (first_word meter.old.bytes schema.now row).reads + lead_reads (first_word meter.old.bytes schema.now row).lead }) }
-    ensures err { IfErr result (λ e. after meter.old.count (element_failure checks meter.old.bytes (first_word meter.old.bytes schema.now row)) ≡ Some (refused e meter.new.count)) }
-    ensures bytes { meter.new.bytes ≡ meter.old.bytes }
-{
-    let referent = match row.leads {
-        Leads::All(referent) => referent,
-        Leads::ByType(union, types) => {
-            let value = meter.u8_at(types);
-            referent_of(schema, schema.member_of(union, value))
-        }
-    };
-    pass_referent(meter, checks, row.place, referent)
-}
-
 /// Checks the first offset word of a row, and answers the table to which it leads, if it does; else the budget is asked. What
 /// fails does so at this site.
-#[tactic(auto, using(crate::proofs::Refusals::told_after))]
+#[tactic(auto, using(crate::proofs::Refusals::told_after), unfolding(crate::specs::Order::element_failure))]
 pub fn pass_element(
     meter: &mut Meter<'_>,
     schema: &Schema<'_>,
@@ -120,7 +90,14 @@ pub fn pass_element(
     ensures err { IfErr result (λ s. told site meter.old.count (element_failure checks meter.old.bytes (first_word meter.old.bytes schema.now row) ▷ lead_reads_failure limits meter.old.count (first_word meter.old.bytes schema.now row) (first_word meter.old.bytes schema.now row).lead) ≡ Some (stopped s meter.new.count)) }
     ensures bytes { meter.new.bytes ≡ meter.old.bytes }
 {
-    match check_element(meter, schema, checks, row) {
+    let referent = match row.leads {
+        Leads::All(referent) => referent,
+        Leads::ByType(union, types) => {
+            let value = meter.u8_at(types);
+            referent_of(schema, schema.member_of(union, value))
+        }
+    };
+    match pass_referent(meter, checks, row.place, referent) {
         Ok(Some(child)) => Ok(Some(child)),
         Ok(None) => {
             ask_reads(meter, limits, site, row.place)?;

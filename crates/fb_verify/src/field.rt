@@ -351,86 +351,6 @@ fn check_present(
     }
 }
 
-/// Checks a field of a table by itself, and answers whether it leads on, and then by which offset words.
-#[inline(always)]
-#[tactic(auto, using(crate::proofs::Words::row_none), unfolding(crate::specs::Order::own_failure, crate::specs::Cost::own_reads, crate::specs::Fields::entries, crate::specs::Fields::row, crate::specs::Fields::union_row))]
-fn check_field(
-    meter: &mut Meter<'_>,
-    schema: &Schema<'_>,
-    checks: Checks,
-    table: Table,
-    field: &FieldView<'_>,
-    row: &mut Row,
-) -> Result<bool, Refusal>
-    requires served { IsServed schema.now }
-    requires kind { KindHolds schema.now (live_of_view field.now) (field.now).kind }
-    requires typed { IsTyped meter.old.bytes table.at (field.now).slot (field.now).kind }
-    requires few { meter.old.count < 2 ^ 96 + 2 ^ 95 }
-    requires near { table.at < 2 ^ 33 }
-    requires head { IsHead checks meter.old.bytes table.at table.head }
-    ensures ok { IfOk result (λ _. own_failure checks meter.old.bytes schema.now table.at (live_of_view field.now) ≡ None) }
-    ensures none { IfOk result (λ more. more ≡ false → (entries meter.old.bytes schema.now table.at (live_of_view field.now) ≡ []) × (row.new ≡ row.old)) }
-    ensures entries { IfOk result (λ more. more ≡ true → entries meter.old.bytes schema.now table.at (live_of_view field.now) ≡ words_of meter.old.bytes schema.now row.new) }
-    ensures row { IfOk result (λ more. more ≡ true → IsRow meter.old.bytes schema.now row.new × (0 < (row.new).left)) }
-    ensures counted { IfOk result (λ _. meter.new ≡ record meter.old { count = meter.old.count + own_reads meter.old.bytes table.at (live_of_view field.now) }) }
-    ensures err { IfErr result (λ e. after meter.old.count (own_failure checks meter.old.bytes schema.now table.at (live_of_view field.now)) ≡ Some (refused e meter.new.count)) }
-    ensures bytes { meter.new.bytes ≡ meter.old.bytes }
-{
-    let Some(place) = read_slot(meter, table.at, table.head, field.slot) else {
-        if field.required {
-            return Err(refuse(table.at, Reason::MissingRequired));
-        }
-        return Ok(false);
-    };
-    let spot = FieldSpot {
-        at: table.at,
-        head: table.head,
-        place,
-    };
-    check_present(meter, schema, checks, spot, field, row)
-}
-
-/// Checks a field of a table by itself, asks the budget, and answers whether the field leads on, and then by which offset words.
-/// What fails does so at this field.
-#[inline(always)]
-#[tactic(auto, using(crate::proofs::Refusals::told_after))]
-pub fn pass_field(
-    meter: &mut Meter<'_>,
-    schema: &Schema<'_>,
-    limits: Limits,
-    checks: Checks,
-    table: Table,
-    field: &FieldView<'_>,
-    row: &mut Row,
-) -> Result<bool, Stop>
-    requires served { IsServed schema.now }
-    requires kind { KindHolds schema.now (live_of_view field.now) (field.now).kind }
-    requires typed { IsTyped meter.old.bytes table.at (field.now).slot (field.now).kind }
-    requires few { meter.old.count < 2 ^ 96 + 2 ^ 95 }
-    requires near { table.at < 2 ^ 33 }
-    requires head { IsHead checks meter.old.bytes table.at table.head }
-    ensures ok { IfOk result (λ _. own_failure checks meter.old.bytes schema.now table.at (live_of_view field.now) ≡ None) }
-    ensures none { IfOk result (λ more. more ≡ false → (entries meter.old.bytes schema.now table.at (live_of_view field.now) ≡ []) × (row.new ≡ row.old)) }
-    ensures entries { IfOk result (λ more. more ≡ true → entries meter.old.bytes schema.now table.at (live_of_view field.now) ≡ words_of meter.old.bytes schema.now row.new) }
-    ensures row { IfOk result (λ more. more ≡ true → IsRow meter.old.bytes schema.now row.new × (0 < (row.new).left)) }
-    ensures counted { IfOk result (λ _. meter.new ≡ record meter.old { count = meter.old.count + own_reads meter.old.bytes table.at (live_of_view field.now) }) }
-    ensures reads { IfOk result (λ _. AreAllowed limits.reads meter.new.count) }
-    ensures err { IfErr result (λ s. told (record { object = table.object; field = Some (field.now).number }) meter.old.count (own_failure checks meter.old.bytes schema.now table.at (live_of_view field.now) ▷ reads_failure limits meter.old.count (own_reads meter.old.bytes table.at (live_of_view field.now)) table.at) ≡ Some (stopped s meter.new.count)) }
-    ensures bytes { meter.new.bytes ≡ meter.old.bytes }
-{
-    let site = Site {
-        object: table.object,
-        field: Some(field.number),
-    };
-    match check_field(meter, schema, checks, table, field, row) {
-        Ok(more) => {
-            ask_reads(meter, limits, site, table.at)?;
-            Ok(more)
-        }
-        Err(refusal) => Err(Stop { site, refusal }),
-    }
-}
-
 /// Goes on with a field of a table that stands at this place, whose slot was the last read: checks it by itself, asks
 /// the budget, and answers whether the field leads on, and then by which offset words. What fails does so at this field.
 #[inline(always)]
@@ -451,7 +371,7 @@ pub fn pass_present(
     requires present { field_place meter.old.bytes table.at (field.now).slot ≡ Some place }
     requires slot { IsTrue (has_slot meter.old.bytes table.at (field.now).slot) }
     requires counted { 1 ≤ meter.old.count }
-    requires few { meter.old.count < 2 ^ 96 + 2 ^ 95 }
+    requires few { meter.old.count ≤ 2 ^ 96 + 2 ^ 95 }
     requires near { table.at < 2 ^ 33 }
     requires near_place { place < 2 ^ 34 }
     requires head { IsHead checks meter.old.bytes table.at table.head }
@@ -480,4 +400,47 @@ pub fn pass_present(
         }
         Err(refusal) => Err(Stop { site, refusal }),
     }
+}
+
+/// Checks a field of a table by itself, asks the budget, and answers whether the field leads on, and then by which offset words.
+/// What fails does so at this field.
+#[inline(always)]
+#[tactic(auto, using(crate::proofs::Refusals::told_after), unfolding(crate::specs::Order::own_failure, crate::specs::Cost::own_reads, crate::specs::Fields::entries))]
+pub fn pass_field(
+    meter: &mut Meter<'_>,
+    schema: &Schema<'_>,
+    limits: Limits,
+    checks: Checks,
+    table: Table,
+    field: &FieldView<'_>,
+    row: &mut Row,
+) -> Result<bool, Stop>
+    requires served { IsServed schema.now }
+    requires kind { KindHolds schema.now (live_of_view field.now) (field.now).kind }
+    requires typed { IsTyped meter.old.bytes table.at (field.now).slot (field.now).kind }
+    requires few { meter.old.count < 2 ^ 96 + 2 ^ 95 }
+    requires near { table.at < 2 ^ 33 }
+    requires head { IsHead checks meter.old.bytes table.at table.head }
+    ensures ok { IfOk result (λ _. own_failure checks meter.old.bytes schema.now table.at (live_of_view field.now) ≡ None) }
+    ensures none { IfOk result (λ more. more ≡ false → (entries meter.old.bytes schema.now table.at (live_of_view field.now) ≡ []) × (row.new ≡ row.old)) }
+    ensures entries { IfOk result (λ more. more ≡ true → entries meter.old.bytes schema.now table.at (live_of_view field.now) ≡ words_of meter.old.bytes schema.now row.new) }
+    ensures row { IfOk result (λ more. more ≡ true → IsRow meter.old.bytes schema.now row.new × (0 < (row.new).left)) }
+    ensures counted { IfOk result (λ _. meter.new ≡ record meter.old { count = meter.old.count + own_reads meter.old.bytes table.at (live_of_view field.now) }) }
+    ensures reads { IfOk result (λ _. AreAllowed limits.reads meter.new.count) }
+    ensures err { IfErr result (λ s. told (record { object = table.object; field = Some (field.now).number }) meter.old.count (own_failure checks meter.old.bytes schema.now table.at (live_of_view field.now) ▷ reads_failure limits meter.old.count (own_reads meter.old.bytes table.at (live_of_view field.now)) table.at) ≡ Some (stopped s meter.new.count)) }
+    ensures bytes { meter.new.bytes ≡ meter.old.bytes }
+{
+    let site = Site {
+        object: table.object,
+        field: Some(field.number),
+    };
+    let Some(place) = read_slot(meter, table.at, table.head, field.slot) else {
+        if field.required {
+            let refusal = refuse(table.at, Reason::MissingRequired);
+            return Err(Stop { site, refusal });
+        }
+        ask_reads(meter, limits, site, table.at)?;
+        return Ok(false);
+    };
+    pass_present(meter, schema, limits, checks, table, place, field, row)
 }

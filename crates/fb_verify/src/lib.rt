@@ -10,6 +10,7 @@ pub mod fault;
 mod field;
 mod head;
 pub mod laws;
+mod leaves;
 pub mod limits;
 mod most;
 mod offset_row;

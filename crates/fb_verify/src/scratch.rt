@@ -1,12 +1,13 @@
 // The room of a walk.
 
-ghost use Rattle.std.specs.Prelude.{◌≡◌, ◌<◌, ◌≤◌, IfOk, IfErr};
+ghost use Rattle.std.specs.Prelude.{◌≡◌, ◌<◌, ◌≤◌, IfOk, IfErr, Some};
 ghost use Rattle.fb_verify.specs.declared.scratch.ScratchFault.TheVariants.{LimitOutOfRange, OutOfMemory};
 ghost use Rattle.fb_verify.specs.Stack.{blank};
 
 use crate::field::Table;
 use crate::head::Head;
 use crate::offset_row::{NO_ROW, Row};
+use crate::site::Site;
 use std::alloc::{Allocator, Global};
 use std::marker::Model;
 
@@ -39,6 +40,16 @@ const BLANK: Frame = Frame {
 };
 
 impl Frame {
+    /// The table's object, and the field before its next one.
+    pub fn site(&self) -> Site
+        ensures { result ≡ record { object = (self.now.table).object; field = Some self.now.number } }
+    {
+        Site {
+            object: self.table.object,
+            field: Some(self.number),
+        }
+    }
+
     /// The frame of a table that was opened.
     pub fn opened(table: Table) -> Self
         ensures { result ≡ record blank { table = table } }

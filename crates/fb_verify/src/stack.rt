@@ -13,7 +13,7 @@ ghost use Rattle.fb_verify.specs.Walked.{TableWalked, ended};
 ghost use Rattle.fb_verify.specs.Stack.{blank, Origin, Waiting, frame_work, work, opened, IsWalking, IsWalkingBy, IsAtField, IsOver, IsStopped};
 
 use crate::checks::Checks;
-use crate::element::{Child, pass_element};
+use crate::element::Child;
 use crate::fault::Reason;
 use crate::field::{Table, pass_field, pass_present};
 use crate::head::read_head;
@@ -199,14 +199,15 @@ impl<'s, 'n> Walk<'s, 'n> {
                 return Ok(None);
             }
             let place = slot_at(reads, table.at, table.head, step.slot);
-            let answer = test_at(reads, checks, table, place, step);
-            if let Some(reason) = answer.failed {
+            let mut at = place;
+            let failed = test_at(reads, checks, table, &mut at, step);
+            if let Some(reason) = failed {
                 top.next = next;
-                return Err(self.stop_at(top, answer.at, reason));
+                return Err(self.stop_at(top, at, reason));
             }
-            if leads_on(step, place) {
+            if leads_on(step, table.at, place) {
                 top.next = next;
-                return Ok(place);
+                return Ok(Some(place));
             }
             next += 1;
         }
@@ -337,14 +338,12 @@ impl<'s, 'n> Walk<'s, 'n> {
         ensures bytes { meter.new.bytes ≡ meter.old.bytes }
         ensures err { IfErr result (λ s. IsStopped self.old meter.old under.start (stopped s meter.new.count)) }
     {
+        let _schema = self.schema;
         while top.row.left > 0 {
-            let site = Site {
-                object: top.table.object,
-                field: Some(top.number),
-            };
-            let child = pass_element(meter, self.schema, self.limits, self.checks, site, top.row)?;
-            top.row.advance();
+            let child = self.next_child(meter, top)?;
             if let Some(child) = child {
+                top.row.advance();
+                let site = top.site();
                 let table = self.open_table(meter, waiting + 1, site, child)?;
                 if let Some(below) = self.pass_below(meter, top, table)? {
                     return Ok(Some(below));

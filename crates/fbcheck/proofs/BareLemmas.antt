@@ -1,20 +1,37 @@
--- The line of a bare input, of which a writer took a front.
-use Rattle.std.proofs.Common.{◌≡◌, ℕ, ◌+◌, List, [], ◌++◌, Option, subst, ◌∙◌, ap, arith}
+-- What is told of a bare input, of which a front was written.
+use Rattle.std.proofs.Common.{◌≡◌, ℕ, ◌+◌, ◌≤◌, List, Option, length, subst, ◌∙◌, ap, arith}
+use Rattle.std.specs.Io.KnownBytes.{Consumes}
 use Rattle.fbcheck.specs.Job.{Job}
-use Rattle.fbcheck.specs.Line.{IsLine}
-use Rattle.fbcheck.specs.Lines.{AddsLine, WritesFront}
-use Rattle.fbcheck.specs.Bare.{WritesPart}
+use Rattle.fbcheck.specs.Texts.{Texts, followed, silent}
+use Rattle.fbcheck.specs.Line.{IsTold}
+use Rattle.fbcheck.specs.Lines.{AddsTold, WritesFronts}
+use Rattle.fbcheck.specs.Bare.{FailsBare, WritesPart}
+use Rattle.fbcheck.specs.declared.fault.RunFault.{RunFault}
+use Rattle.fbcheck.specs.declared.fault.RunFault.TheVariants as run
+use Rattle.fbcheck.proofs.TextsLemmas.{same_texts}
 
-pub writes_part : (job : Job) (bytes message text text' : List ℕ) (good bad good' bad' count count' written : ℕ) (sink sink' : Option (List ℕ))
-    → message ≡ bytes → text ≡ [] → good ≡ 0 → bad ≡ 0 → count' ≡ count → count ≡ 0
-    → AddsLine job (1 + (good + bad)) message text good bad text' good' bad' → WritesFront text' sink sink' count' written
-    → WritesPart job bytes sink sink' written
-writes_part job bytes message text text' good bad good' bad' count count' written sink sink' same none g0 b0 kept c0 adds front =
-    let whole : text' ≡ adds.line = adds.text_is ∙ ap (λ l. l ++ adds.line) none in
+writes_part : (job : Job) (bytes message : List ℕ) (text text' : Texts) (good bad good' bad' count noted : ℕ) (s s' n n' : Option (List ℕ)) (fault : RunFault)
+    → message ≡ bytes → text ≡ silent → good ≡ 0 → bad ≡ 0 → count ≡ 0 → noted ≡ 0
+    → AddsTold job (1 + (good + bad)) message text good bad text' good' bad' → WritesFronts text' s s' n n' count noted fault
+    → WritesPart job bytes s s' n n' fault
+writes_part job bytes message text text' good bad good' bad' count noted s s' n n' fault same none g0 b0 c0 n0 adds front =
+    let whole : text' ≡ adds.line = same_texts _ _ _ _ adds.out_is adds.notes_are ∙ ap (λ t. followed t adds.line) none in
     let first : 1 + (good + bad) ≡ 1 = omega arith in
     record {
       verdict = adds.verdict;
       line = adds.line;
-      is_line = subst (λ (b : List ℕ). IsLine job 1 b adds.verdict adds.line) same (subst (λ (n : ℕ). IsLine job n message adds.verdict adds.line) first adds.is_line);
-      wrote = subst (λ (n : ℕ). WritesFront adds.line sink sink' n written) (kept ∙ c0) (subst (λ (l : List ℕ). WritesFront l sink sink' count' written) whole front);
+      is_line = subst (λ (b : List ℕ). IsTold job 1 b adds.verdict adds.line) same (subst (λ (k : ℕ). IsTold job k message adds.verdict adds.line) first adds.is_line);
+      wrote = subst (λ (k : ℕ). WritesFronts adds.line s s' n n' k 0 fault) c0
+          (subst (λ (k : ℕ). WritesFronts adds.line s s' n n' count k fault) n0 (subst (λ (t : Texts). WritesFronts t s s' n n' count noted fault) whole front));
     }
+
+-- the run came to rest in a write
+pub fails_part : (job : Job) (bytes message : List ℕ) (text text' : Texts) (good bad good' bad' count noted : ℕ) (r r' s s' n n' : Option (List ℕ)) (fault : RunFault)
+    → Consumes r r' bytes → length bytes ≤ job.limit → message ≡ bytes → text ≡ silent → good ≡ 0 → bad ≡ 0 → count ≡ 0 → noted ≡ 0
+    → AddsTold job (1 + (good + bad)) message text good bad text' good' bad' → WritesFronts text' s s' n n' count noted fault
+    → FailsBare job job.limit r r' s s' n n' fault
+fails_part job bytes message text text' good bad good' bad' count noted r r' s s' n n' (run.WriteFault written) read within same none g0 b0 c0 n0 adds front =
+    (bytes, read, (within, writes_part job bytes message text text' good bad good' bad' count noted s s' n n' (run.WriteFault written) same none g0 b0 c0 n0 adds front))
+fails_part job bytes message text text' good bad good' bad' count noted r r' s s' n n' (run.NoteFault written) read within same none g0 b0 c0 n0 adds front =
+    (bytes, read, (within, writes_part job bytes message text text' good bad good' bad' count noted s s' n n' (run.NoteFault written) same none g0 b0 c0 n0 adds front))
+fails_part job bytes message text text' good bad good' bad' count noted r r' s s' n n' _ read within same none g0 b0 c0 n0 adds never = absurd never

@@ -3,6 +3,7 @@ mod AskedLemmas
 mod BareLemmas
 mod CheckLemmas
 mod DefaultLemmas
+mod FilterLemmas
 mod FrontLemmas
 mod LineLemmas
 mod LinesLemmas
@@ -10,5 +11,8 @@ mod OneAsk
 mod Pieces
 mod ProgramLemmas
 mod RunLemmas
+mod ServingLemmas
+mod Shown
 mod StreamLemmas
+mod TextsLemmas
 mod WordsLemmas

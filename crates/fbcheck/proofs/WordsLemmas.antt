@@ -1,5 +1,6 @@
 -- What a parse of the program's words gives.
-use Rattle.std.proofs.Common.{◌≡◌, ◌↔◌, Bool, true, false, not, IsTrue, List, [], ◌∷◌, codes, Some, refl, sym, ap, subst, ◌∙◌}
+use Rattle.std.proofs.Common.{◌≡◌, ◌↔◌, Bool, true, false, not, IsTrue, List, [], ◌∷◌, codes, Option, Some, None, refl, sym, ap, subst, ◌∙◌}
+use Rattle.std.specs.Prelude.{String, is_some, option_map, string_bytes}
 use Rattle.clap.specs.Walk.{Text, first_of, one_of}
 use Rattle.clap.specs.Simple.{App, HasMatchesOf, is_simple, matches_of}
 use Rattle.clap.specs.Matches.{first_value, found_of, one_text}
@@ -37,6 +38,13 @@ pub read_of_words : (app : App) (words : List Text) (m : ArgMatches) (id : Text)
     → one_text (found_of m) id ≡ one_of id (matches_of program words)
 read_of_words app words m id is has =
     one_text-rows (found_of m) id ∙ ap (one_of id) ((has (ap is_simple is ∙ simple)).0 ∙ ap (λ (a : App). matches_of a words) is)
+
+-- a text that is there
+pub some_text : {A : Type 0} (found : Option (String A)) (text : Option Text) → is_some found ≡ true → option_map string_bytes found ≡ text → (t : Text) × (text ≡ Some t)
+some_text (Some found) text is same = (string_bytes found, sym same)
+some_text None text is same =
+    let bad : false ≡ true = is in
+    absurd cc
 
 -- a flag that is turned round
 pub turned : (b : Bool) (P : Type 0) → IsTrue b ↔ P → (not b ≡ false) ↔ P

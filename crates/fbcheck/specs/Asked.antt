@@ -1,7 +1,6 @@
 -- What the settings ask, by a schema that has a root table of its own, or none.
-use Rattle.std.specs.Prelude.{◌≡◌, ℕ, ◌<◌, ◌≤◌, ◌^◌, List, Option, Some, None, Result, Ok, Err, option_map, string_bytes}
-use Rattle.fb_schema.specs.Rows.{Rows}
-use Rattle.fb_bfbs.specs.Describes.{table_named}
+use Rattle.std.specs.Prelude.{◌≡◌, ℕ, ◌<◌, ◌≤◌, ◌^◌, Bool, true, false, List, Option, Some, None, Result, Ok, Err, option_map, string_bytes}
+use Rattle.fb_schema.specs.Rows.{Rows, table_named}
 use Rattle.fb_access.specs.declared.step.Step.{Step}
 use Rattle.fb_access.specs.declared.path_fault.PathFault.{PathFault}
 use Rattle.fb_access.specs.Resolving.{Resolves, IsFault}
@@ -9,6 +8,8 @@ use Rattle.fb_verify.specs.declared.start.Ident.{Ident}
 use Rattle.fb_verify.specs.declared.start.Ident.TheVariants.{Any, Want}
 use Rattle.fbcheck.specs.Job.{Job, job_of}
 use Rattle.fbcheck.specs.declared.choices.Settings.{Settings}
+use Rattle.fbcheck.specs.declared.options.Mode.{Mode}
+use Rattle.fbcheck.specs.declared.options.Mode.TheVariants.{Lines, BadLines, Filter}
 use Rattle.fbcheck.specs.declared.options.Options.{Options}
 use Rattle.fbcheck.specs.declared.fault.RunFault.{RunFault}
 use Rattle.fbcheck.specs.declared.fault.RunFault.TheVariants.{Path, NoRoot, OutOfMemory}
@@ -38,6 +39,12 @@ abbrev pub ident_of : Option (List ℕ) → Ident
 ident_of None = Any
 ident_of (Some bytes) = Want bytes
 
+-- what is told of the buffers, by whether they are filtered and whether there are no lines of good ones
+abbrev pub mode_of : Bool → Bool → Mode
+mode_of true quiet = Filter
+mode_of false true = BadLines
+mode_of false false = Lines
+
 -- what the settings ask of each buffer, from this root and with these steps to the value
 abbrev pub options_of : Settings → ℕ → Option (List Step) → Options
 options_of settings root steps = record {
@@ -49,6 +56,7 @@ options_of settings root steps = record {
   bare = settings.bare;
   alignment = settings.alignment;
   inline_size = settings.inline_size;
+  mode = mode_of settings.filter settings.quiet;
 }
 
 -- the buffers are checked from the root and with the path that the settings ask for

@@ -11,7 +11,7 @@ use Rattle.fb_bfbs.specs.declared.load_fault.LoadFault.{LoadFault}
 use Rattle.fb_bfbs.specs.declared.load_fault.LoadFault.TheVariants as load
 use Rattle.fbcheck.specs.Asked.{AsksBy}
 use Rattle.fbcheck.specs.Job.{Job}
-use Rattle.fbcheck.specs.Run.{IsRun}
+use Rattle.fbcheck.specs.Run.{IsRunBeside}
 use Rattle.fbcheck.specs.declared.choices.Settings.{Settings}
 use Rattle.fbcheck.specs.declared.fault.RunFault.{RunFault}
 use Rattle.fbcheck.specs.declared.fault.RunFault.TheVariants.{Load, NoRoot, OutOfMemory, Path}
@@ -55,14 +55,19 @@ IsRefusal NoRoot = Unit {0}
 IsRefusal (Path fault) = Unit {0}
 IsRefusal _ = ⊥
 
--- what was read and written by a run that was asked for and answered this
-abbrev pub RunsAsAsked : Option (Bor (List ℕ)) → Settings → Option (List ℕ) → Option (List ℕ) → Option (List ℕ) → Option (List ℕ) → Result Tally RunFault → Type 0
-RunsAsAsked file settings source source' sink sink' answer = (job : Job) × Asks file settings (Ok job) × IsRun job source source' sink sink' answer
+-- what was read, written and noted by a run that was asked for and answered this
+abbrev pub RunsAsAsked : Option (Bor (List ℕ)) → Settings → Option (List ℕ) → Option (List ℕ) → Option (List ℕ) → Option (List ℕ) → Option (List ℕ) → Option (List ℕ) → Result Tally RunFault → Type 0
+RunsAsAsked file settings source source' sink sink' notes notes' answer = (job : Job) × Asks file settings (Ok job) × IsRunBeside job source source' sink sink' notes notes' answer
 
 -- the same where it may be that nothing was asked for, or that memory was refused before the run began
+abbrev pub IsCheckedBeside : Option (Bor (List ℕ)) → Settings → Option (List ℕ) → Option (List ℕ) → Option (List ℕ) → Option (List ℕ) → Option (List ℕ) → Option (List ℕ) → Result Tally RunFault → Type 0
+IsCheckedBeside file settings source source' sink sink' notes notes' (Err (Load fault)) = Asks file settings (Err (Load fault))
+IsCheckedBeside file settings source source' sink sink' notes notes' (Err NoRoot) = Asks file settings (Err NoRoot)
+IsCheckedBeside file settings source source' sink sink' notes notes' (Err (Path fault)) = Asks file settings (Err (Path fault))
+IsCheckedBeside file settings source source' sink sink' notes notes' (Err OutOfMemory) =
+    (Keeps source source' × Keeps sink sink' × Keeps notes notes') ⊎ RunsAsAsked file settings source source' sink sink' notes notes' (Err OutOfMemory)
+IsCheckedBeside file settings source source' sink sink' notes notes' answer = RunsAsAsked file settings source source' sink sink' notes notes' answer
+
+-- the same where no notes are known
 abbrev pub IsChecked : Option (Bor (List ℕ)) → Settings → Option (List ℕ) → Option (List ℕ) → Option (List ℕ) → Option (List ℕ) → Result Tally RunFault → Type 0
-IsChecked file settings source source' sink sink' (Err (Load fault)) = Asks file settings (Err (Load fault))
-IsChecked file settings source source' sink sink' (Err NoRoot) = Asks file settings (Err NoRoot)
-IsChecked file settings source source' sink sink' (Err (Path fault)) = Asks file settings (Err (Path fault))
-IsChecked file settings source source' sink sink' (Err OutOfMemory) = (Keeps source source' × Keeps sink sink') ⊎ RunsAsAsked file settings source source' sink sink' (Err OutOfMemory)
-IsChecked file settings source source' sink sink' answer = RunsAsAsked file settings source source' sink sink' answer
+IsChecked file settings source source' sink sink' answer = IsCheckedBeside file settings source source' sink sink' None None answer

@@ -1,7 +1,7 @@
 -- The program's command line.
-use Rattle.std.specs.Prelude.{ℕ, [], ◌∷◌, Some, codes, pos}
+use Rattle.std.specs.Prelude.{ℕ, true, [], ◌∷◌, Some, codes, pos}
 use Rattle.clap.specs.Walk.{Rule, Text}
-use Rattle.clap.specs.Simple.{App, new_app, new_rule, with_rule}
+use Rattle.clap.specs.Simple.{App, new_app, new_rule, on_top, with_rule}
 use Rattle.clap.specs.declared.builder.action.ArgAction.TheVariants.{Set, SetTrue}
 use Rattle.clap.specs.declared.builder.value_parser.ValueParser.{ValueParser}
 use Rattle.clap.specs.declared.builder.value_parser.ValueParser.TheVariants as parser
@@ -44,11 +44,18 @@ bytes_rule = number_rule (codes "max-bytes") 8 2147483647 (codes "67108864")
 abbrev pub flag_rule : Text → Rule
 flag_rule name = record (new_rule name) { long = Some name; action = Some SetTrue }
 
+-- the program by its name, which tells its version
+abbrev pub named : App
+named = on_top (λ s. record s { has_version = true; has_long_version = true }) (new_app (codes "fbcheck"))
+
 abbrev pub texts : App
-texts = with_rule (with_rule (with_rule (with_rule (new_app (codes "fbcheck")) (text_rule (codes "schema"))) (text_rule (codes "root"))) (text_rule (codes "ident"))) (text_rule (codes "path"))
+texts = with_rule (with_rule (with_rule (with_rule named (text_rule (codes "schema"))) (text_rule (codes "root"))) (text_rule (codes "ident"))) (text_rule (codes "path"))
 
 abbrev pub numbers : App
 numbers = with_rule (with_rule (with_rule (with_rule texts depth_rule) tables_rule) reads_rule) bytes_rule
 
+abbrev pub switches : App
+switches = with_rule (with_rule (with_rule numbers (flag_rule (codes "bare"))) (flag_rule (codes "no-alignment"))) (flag_rule (codes "inline-size"))
+
 abbrev pub program : App
-program = with_rule (with_rule (with_rule numbers (flag_rule (codes "bare"))) (flag_rule (codes "no-alignment"))) (flag_rule (codes "inline-size"))
+program = with_rule (with_rule switches (flag_rule (codes "quiet"))) (flag_rule (codes "filter"))

@@ -7,7 +7,7 @@ use Rattle.fb_bfbs.specs.declared.load_fault.LoadFault.TheVariants as load
 use Rattle.fb_bytes.specs.declared.stream_fault.StreamFault.{StreamFault}
 use Rattle.fb_bytes.specs.declared.stream_fault.StreamFault.TheVariants as stream
 use Rattle.fbcheck.specs.declared.fault.RunFault.{RunFault}
-use Rattle.fbcheck.specs.declared.fault.RunFault.TheVariants.{ReadFault, WriteFault, Stream, TooManyTurns, OutOfMemory, BareTooLong, Load, Path, NoRoot}
+use Rattle.fbcheck.specs.declared.fault.RunFault.TheVariants.{ReadFault, WriteFault, NoteFault, Stream, TooManyTurns, OutOfMemory, BareTooLong, Load, Path, NoRoot}
 use Rattle.fbcheck.specs.declared.output.Tally.{Tally}
 
 -- a fault of the framer
@@ -25,24 +25,30 @@ abbrev pub path_fault : PathFault → RunFault
 path_fault path.OutOfMemory = OutOfMemory
 path_fault cause = Path cause
 
--- the cause of a fault, by the counts: the reader's and the writer's failures before and after, the reads that were left, and whether
+-- the cause of a fault, by the counts: the failures of the reader, the writer and the notes before and after, the reads that were left, and whether
 -- the input's end was told
-abbrev pub IsCaused : ℕ → ℕ → ℕ → ℕ → ℕ → Bool → RunFault → Type 0
-IsCaused failures failures' refusals refusals' left ended ReadFault = failures < failures'
-IsCaused failures failures' refusals refusals' left ended (WriteFault written) = refusals < refusals'
-IsCaused failures failures' refusals refusals' left ended TooManyTurns = left ≡ 0
-IsCaused failures failures' refusals refusals' left ended (Stream (stream.Truncated held)) = ended ≡ true
-IsCaused failures failures' refusals refusals' left ended (Stream fault) = Unit {0}
-IsCaused failures failures' refusals refusals' left ended OutOfMemory = Unit {0}
-IsCaused failures failures' refusals refusals' left ended (BareTooLong most) = Unit {0}
-IsCaused failures failures' refusals refusals' left ended (Load fault) = Unit {0}
-IsCaused failures failures' refusals refusals' left ended (Path fault) = Unit {0}
-IsCaused failures failures' refusals refusals' left ended NoRoot = Unit {0}
+abbrev pub IsCaused : ℕ → ℕ → ℕ → ℕ → ℕ → ℕ → ℕ → Bool → RunFault → Type 0
+IsCaused failures failures' refusals refusals' complaints complaints' left ended ReadFault = failures < failures'
+IsCaused failures failures' refusals refusals' complaints complaints' left ended (WriteFault written) = refusals < refusals'
+IsCaused failures failures' refusals refusals' complaints complaints' left ended (NoteFault written) = complaints < complaints'
+IsCaused failures failures' refusals refusals' complaints complaints' left ended TooManyTurns = left ≡ 0
+IsCaused failures failures' refusals refusals' complaints complaints' left ended (Stream (stream.Truncated held)) = ended ≡ true
+IsCaused failures failures' refusals refusals' complaints complaints' left ended (Stream fault) = Unit {0}
+IsCaused failures failures' refusals refusals' complaints complaints' left ended OutOfMemory = Unit {0}
+IsCaused failures failures' refusals refusals' complaints complaints' left ended (BareTooLong most) = Unit {0}
+IsCaused failures failures' refusals refusals' complaints complaints' left ended (Load fault) = Unit {0}
+IsCaused failures failures' refusals refusals' complaints complaints' left ended (Path fault) = Unit {0}
+IsCaused failures failures' refusals refusals' complaints complaints' left ended NoRoot = Unit {0}
 
 -- how a run ended, by the same counts: after its end was told, where no read and no write has failed, or by the cause of its fault
+abbrev pub EndsBeside : ℕ → ℕ → ℕ → ℕ → ℕ → ℕ → ℕ → Bool → Result Tally RunFault → Type 0
+EndsBeside failures failures' refusals refusals' complaints complaints' left ended (Ok tally) =
+    (ended ≡ true) × (failures' ≡ failures) × (refusals' ≡ refusals) × (complaints' ≡ complaints)
+EndsBeside failures failures' refusals refusals' complaints complaints' left ended (Err fault) = IsCaused failures failures' refusals refusals' complaints complaints' left ended fault
+
+-- the same where nothing is noted
 abbrev pub EndsBy : ℕ → ℕ → ℕ → ℕ → ℕ → Bool → Result Tally RunFault → Type 0
-EndsBy failures failures' refusals refusals' left ended (Ok tally) = (ended ≡ true) × (failures' ≡ failures) × (refusals' ≡ refusals)
-EndsBy failures failures' refusals refusals' left ended (Err fault) = IsCaused failures failures' refusals refusals' left ended fault
+EndsBy failures failures' refusals refusals' left ended answer = EndsBeside failures failures' refusals refusals' 0 0 left ended answer
 
 -- the exit status after a fault: 2 where there was nothing to check by, else 3
 abbrev pub fault_status : RunFault → ℕ

@@ -15,10 +15,11 @@ use Rattle.fb_access.specs.declared.step.Step.{Step}
 use Rattle.fb_access.specs.Denotes.{Denotes, Shown, shown}
 use Rattle.fb_access.specs.Fitting.{StepsFit}
 use Rattle.fbcheck.specs.declared.checker.Found.{Found}
+use Rattle.fbcheck.specs.declared.options.Mode.{Mode}
 use Rattle.fbcheck.specs.declared.options.Options.{Options}
 
 -- a schema with its root, how a buffer starts, the identifier, the limits and the checks, the steps to the value that is
--- asked for, and the most bytes that a message may have
+-- asked for, the most bytes that a message may have, and what is told of messages
 pub record Job : Type 0 where
   pub rows : Rows
   pub root : ℕ
@@ -28,6 +29,7 @@ pub record Job : Type 0 where
   pub checks : Checks
   pub steps : Option (List Step)
   pub limit : ℕ
+  pub mode : Mode
 
 -- a yes: what was counted, and the value that was asked for
 pub record Yes : Type 0 where
@@ -71,6 +73,7 @@ job_of rows options = record {
   checks = record { alignment = options.alignment; inline_size = options.inline_size };
   steps = options.path;
   limit = options.max_bytes;
+  mode = options.mode;
 }
 
 -- the steps, where there are any, fit from this table on

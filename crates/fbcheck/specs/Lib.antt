@@ -1,8 +1,10 @@
 -- What public contracts say, in reading order.
 pub mod Job
 pub mod AnswerText
+pub mod Texts
 pub mod Line
 pub mod Lines
+pub mod LineTests
 pub mod Stream
 pub mod Bare
 pub mod Run
@@ -12,4 +14,6 @@ pub mod Values
 pub mod Refusal
 pub mod Asked
 pub mod Checking
+pub mod Serving
 pub mod CheckLaws
+pub mod FilterLaws

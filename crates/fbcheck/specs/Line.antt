@@ -3,6 +3,9 @@ use Rattle.std.specs.Prelude.{◌≡◌, ℕ, List, ◌++◌, Option, Some, None
 use Rattle.fb_access.specs.Denotes.{Shown}
 use Rattle.fbcheck.specs.AnswerText.{answer_text}
 use Rattle.fbcheck.specs.Job.{Job, Verdict, IsVerdict}
+use Rattle.fbcheck.specs.Texts.{Texts, silent, to_notes, to_out}
+use Rattle.fbcheck.specs.declared.options.Mode.{Mode}
+use Rattle.fbcheck.specs.declared.options.Mode.TheVariants.{Lines, BadLines, Filter}
 use Rattle.fb_verify.specs.declared.fault.Fault.{Fault}
 use Rattle.fb_verify.specs.Reasons.{reason_text}
 use Rattle.fb_verify.specs.declared.fault.Report.{Report}
@@ -48,6 +51,15 @@ abbrev pub short_line : ℕ → Verdict → List ℕ
 short_line k (Ok found) = decimal k ++ yes_end found.report (short_ending found.answer)
 short_line k (Err fault) = decimal k ++ no_end fault
 
+-- what is told of message number k by its verdict: a line of each, one of each bad message alone, or the good message itself and, in the
+-- notes, the line of a bad one
+abbrev pub told_of : Mode → ℕ → List ℕ → Verdict → Texts
+told_of Lines k message verdict = to_out (verdict_line k verdict)
+told_of BadLines k message (Ok found) = silent
+told_of BadLines k message (Err fault) = to_out (verdict_line k (Err fault))
+told_of Filter k message (Ok found) = to_out message
+told_of Filter k message (Err fault) = to_notes (verdict_line k (Err fault))
+
 -- how many yes, and how many no
 abbrev pub yes_count : Verdict → ℕ
 yes_count (Ok found) = 1
@@ -57,7 +69,7 @@ abbrev pub no_count : Verdict → ℕ
 no_count (Ok found) = 0
 no_count (Err fault) = 1
 
--- the line of the message with number k, by this verdict
-pub record IsLine (job : Job) (k : ℕ) (bytes : List ℕ) (verdict : Verdict) (line : List ℕ) : Type 0 where
+-- what is told of the message with number k, by this verdict
+pub record IsTold (job : Job) (k : ℕ) (bytes : List ℕ) (verdict : Verdict) (line : Texts) : Type 0 where
   pub verdict_is : IsVerdict job bytes verdict
-  pub text : line ≡ verdict_line k verdict
+  pub text : line ≡ told_of job.mode k bytes verdict

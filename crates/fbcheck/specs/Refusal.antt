@@ -7,14 +7,16 @@ use Rattle.clap.specs.Faults.{fault_of}
 use Rattle.clap.specs.declared.error.kind.ErrorKind.{ErrorKind}
 use Rattle.clap.specs.declared.error.kind.ErrorKind.TheVariants as kind
 use Rattle.fbcheck.specs.CommandLine.{program}
-use Rattle.fbcheck.specs.Values.{text_of}
+use Rattle.fbcheck.specs.Values.{IsGiven, text_of}
 use Rattle.fbcheck.specs.declared.choices.SettingsFault.{SettingsFault}
-use Rattle.fbcheck.specs.declared.choices.SettingsFault.TheVariants.{Usage, BadIdent, OutOfMemory}
+use Rattle.fbcheck.specs.declared.choices.SettingsFault.TheVariants.{Usage, BadIdent, PathInFilter, OutOfMemory}
 
--- `clap` refuses the words by an error of that kind, or reads them and the identifier isn't four bytes long, or there was no memory
+-- `clap` refuses the words by an error of that kind; or it reads them, and the identifier isn't four bytes long, or a filter is asked for
+-- together with a path; or there was no memory
 abbrev pub Refuses : List Text → SettingsFault → Type 0
 Refuses words (Usage error) = (kind_of error ≢ kind.OutOfMemory) × HasKind (fault_of program words) error
 Refuses words BadIdent = (fault_of program words ≡ []) × ((t : Text) × (text_of (codes "ident") words ≡ Some t) × (length t ≢ 4))
+Refuses words PathInFilter = (fault_of program words ≡ []) × IsGiven (codes "filter") words × ((t : Text) × (text_of (codes "path") words ≡ Some t))
 Refuses words OutOfMemory = Unit {0}
 
 -- texts that are asked for are no mistake
@@ -27,4 +29,5 @@ usage_status _ = 2
 abbrev pub refusal_status : SettingsFault → ℕ
 refusal_status (Usage error) = usage_status (kind_of error)
 refusal_status BadIdent = 2
+refusal_status PathInFilter = 2
 refusal_status OutOfMemory = 3

@@ -1,5 +1,5 @@
 -- A run, over a stream or over one bare input.
-use Rattle.std.specs.Prelude.{ℕ, List, Option, Result, Ok, Err}
+use Rattle.std.specs.Prelude.{ℕ, List, Option, None, Result, Ok, Err}
 use Rattle.fb_verify.specs.declared.start.Start.{Start}
 use Rattle.fb_verify.specs.declared.start.Start.TheVariants as start
 use Rattle.fbcheck.specs.Job.{Job}
@@ -9,20 +9,24 @@ use Rattle.fbcheck.specs.declared.fault.RunFault.{RunFault}
 use Rattle.fbcheck.specs.declared.output.Tally.{Tally}
 
 -- what was read and written by a run over one bare input that answered this
-abbrev pub IsBareRun : Job → Option (List ℕ) → Option (List ℕ) → Option (List ℕ) → Option (List ℕ) → Result Tally RunFault → Type 0
-IsBareRun job source source' sink sink' (Ok tally) = PassesBare job job.limit source source' sink sink' tally.yes tally.no
-IsBareRun job source source' sink sink' (Err fault) = FailsBare job job.limit source source' sink sink' fault
+abbrev pub IsBareRun : Job → Option (List ℕ) → Option (List ℕ) → Option (List ℕ) → Option (List ℕ) → Option (List ℕ) → Option (List ℕ) → Result Tally RunFault → Type 0
+IsBareRun job source source' sink sink' notes notes' (Ok tally) = PassesBare job job.limit source source' sink sink' notes notes' tally.yes tally.no
+IsBareRun job source source' sink sink' notes notes' (Err fault) = FailsBare job job.limit source source' sink sink' notes notes' fault
 
 -- and by one over a stream
-abbrev pub IsStreamRun : Job → Option (List ℕ) → Option (List ℕ) → Option (List ℕ) → Option (List ℕ) → Result Tally RunFault → Type 0
-IsStreamRun job source source' sink sink' (Ok tally) = PassesStream job job.limit source source' sink sink' tally.yes tally.no
-IsStreamRun job source source' sink sink' (Err fault) = FailsStream job job.limit source source' sink sink' fault
+abbrev pub IsStreamRun : Job → Option (List ℕ) → Option (List ℕ) → Option (List ℕ) → Option (List ℕ) → Option (List ℕ) → Option (List ℕ) → Result Tally RunFault → Type 0
+IsStreamRun job source source' sink sink' notes notes' (Ok tally) = PassesStream job job.limit source source' sink sink' notes notes' tally.yes tally.no
+IsStreamRun job source source' sink sink' notes notes' (Err fault) = FailsStream job job.limit source source' sink sink' notes notes' fault
 
 -- the input is one bare buffer, or a stream of buffers with their sizes
-abbrev pub IsRunFrom : Start → Job → Option (List ℕ) → Option (List ℕ) → Option (List ℕ) → Option (List ℕ) → Result Tally RunFault → Type 0
+abbrev pub IsRunFrom : Start → Job → Option (List ℕ) → Option (List ℕ) → Option (List ℕ) → Option (List ℕ) → Option (List ℕ) → Option (List ℕ) → Result Tally RunFault → Type 0
 IsRunFrom start.Bare = IsBareRun
 IsRunFrom start.Prefixed = IsStreamRun
 
--- what was read and written by a run that answered this
+-- what was read, written and noted by a run that answered this
+abbrev pub IsRunBeside : Job → Option (List ℕ) → Option (List ℕ) → Option (List ℕ) → Option (List ℕ) → Option (List ℕ) → Option (List ℕ) → Result Tally RunFault → Type 0
+IsRunBeside job = IsRunFrom job.start job
+
+-- the same of a run of which no notes are known
 abbrev pub IsRun : Job → Option (List ℕ) → Option (List ℕ) → Option (List ℕ) → Option (List ℕ) → Result Tally RunFault → Type 0
-IsRun job = IsRunFrom job.start job
+IsRun job source source' sink sink' answer = IsRunBeside job source source' sink sink' None None answer

@@ -2,7 +2,6 @@
 
 ghost use Rattle.std.specs.Prelude.{IfOk, IfErr, IfSome, IsTrue, Ok, ◌≡◌, ◌≤◌, option_map, string_bytes};
 ghost use Rattle.fb_schema.specs.Rows.{is_table};
-ghost use Rattle.fb_bfbs.specs.Describes.{table_named};
 ghost use Rattle.fbcheck.specs.Asked.{AreInRange, IsPath, PathFails, ident_of, options_of, root_of};
 ghost use Rattle.fbcheck.specs.Checking.{Asks, IsSchema, LacksJob, LacksSchema, schema_limits};
 ghost use Rattle.fbcheck.specs.Job.{PathFits, Serves, job_of};
@@ -44,18 +43,6 @@ fn schema_of(alloc: Global, schema_bytes: Option<&[u8]>) -> Result<Loaded<'_>, R
     }
 }
 
-/// The number of the listed table of this name.
-#[tactic(auto, unfolding(fb_bfbs::specs::Describes::table_named))]
-fn named_table(schema: &Schema<'_>, name: &[u8]) -> Option<u32>
-    ensures number { result ≡ table_named schema.now name.now }
-    ensures table { IfSome result (λ n. IsTrue (is_table schema.now n)) }
-{
-    match schema.object_named(name) {
-        Some(number) if schema.is_table(number) => Some(number),
-        _ => None,
-    }
-}
-
 /// The number of the root table: the listed one of the name that is asked for, or else the schema's own.
 fn find_root(schema: &Schema<'_>, name: &Option<String>, own: Option<u32>) -> Option<u32>
     requires own { IfSome own (λ n. IsTrue (is_table schema.now n)) }
@@ -63,7 +50,7 @@ fn find_root(schema: &Schema<'_>, name: &Option<String>, own: Option<u32>) -> Op
     ensures table { IfSome result (λ n. IsTrue (is_table schema.now n)) }
 {
     match name {
-        Some(name) => named_table(schema, name.as_bytes()),
+        Some(name) => schema.table_named(name.as_bytes()),
         None => own,
     }
 }
@@ -113,6 +100,7 @@ fn options(settings: &Settings, root: u32, path: Option<Path>) -> Options
         bare: settings.bare,
         alignment: settings.alignment,
         inline_size: settings.inline_size,
+        mode: settings.mode(),
     }
 }
 

@@ -2,15 +2,16 @@
 
 ghost use Rattle.std.specs.Prelude.{IfErr, ◌≡◌, ◌+◌, ◌-◌, ◌<◌, ◌≤◌, ◌^◌};
 ghost use Rattle.fbcheck.specs.Asked.{AreInRange};
-ghost use Rattle.fbcheck.specs.Checking.{IsChecked, IsRefusal};
-ghost use Rattle.fbcheck.specs.Faults.{EndsBy};
+ghost use Rattle.fbcheck.specs.Checking.{IsChecked, IsCheckedBeside, IsRefusal};
+ghost use Rattle.fbcheck.specs.Faults.{EndsBeside, EndsBy};
 
 use crate::asked::asked_of;
 use crate::choices::Settings;
 use crate::fault::RunFault;
 use crate::output::Tally;
 use crate::reading::MOST_TURNS;
-use crate::run::run;
+use crate::run::run_beside;
+use crate::writing::Nowhere;
 use fb_bytes::{Sink, Source};
 use std::alloc::Global;
 
@@ -25,7 +26,44 @@ use std::alloc::Global;
 ///
 /// `Load` where the schema file gives no schema, then `NoRoot` where there is no root table, then `Path` where the path
 /// isn't one from there; all before anything is read of the input, and `OutOfMemory` in place of any where memory was
-/// refused. Then as [`run`](crate::run::run).
+/// refused. Then as [`run_beside`](crate::run::run_beside), with at most 2^32 reads.
+pub fn check_beside<S: Source, K: Sink, N: Sink>(
+    alloc: Global,
+    schema_bytes: Option<&[u8]>,
+    settings: &Settings,
+    reader: &mut S,
+    writer: &mut K,
+    notes: &mut N,
+) -> Result<Tally, RunFault>
+    requires ranges { AreInRange settings.now }
+    requires reads { S.calls reader.old < 2 ^ 64 }
+    requires writes { K.calls writer.old < 2 ^ 64 }
+    requires tells { N.calls notes.old < 2 ^ 64 }
+
+    ensures run { IsCheckedBeside schema_bytes.entry settings.now (S.remaining reader.old) (S.remaining reader.new)
+        (K.contents writer.old) (K.contents writer.new) (N.contents notes.old) (N.contents notes.new) result }
+    ensures unread { IfErr result (λ fault. IsRefusal fault → reader.new ≡ reader.old) }
+    ensures unwritten { IfErr result (λ fault. IsRefusal fault → writer.new ≡ writer.old) }
+    ensures unnoted { IfErr result (λ fault. IsRefusal fault → notes.new ≡ notes.old) }
+    ensures end { EndsBeside (S.failures reader.old) (S.failures reader.new)
+        (K.failures writer.old) (K.failures writer.new) (N.failures notes.old) (N.failures notes.new)
+        (S.calls reader.old + MOST_TURNS - S.calls reader.new) (S.ended reader.new) result }
+    ensures pushes { N.calls notes.new ≤ N.calls notes.old + 2 ^ 96 }
+    ensures turns { S.calls reader.new ≤ S.calls reader.old + MOST_TURNS }
+{
+    let asked = asked_of(alloc, schema_bytes, settings)?;
+    run_beside(
+        alloc,
+        reader,
+        writer,
+        notes,
+        &asked.schema,
+        &asked.options,
+        MOST_TURNS,
+    )
+}
+
+/// The same without notes: what would be noted is dropped, and only a filter notes anything.
 pub fn check<S: Source, K: Sink>(
     alloc: Global,
     schema_bytes: Option<&[u8]>,
@@ -45,6 +83,6 @@ pub fn check<S: Source, K: Sink>(
         (S.calls reader.old + MOST_TURNS - S.calls reader.new) (S.ended reader.new) result }
     ensures turns { S.calls reader.new ≤ S.calls reader.old + MOST_TURNS }
 {
-    let asked = asked_of(alloc, schema_bytes, settings)?;
-    run(alloc, reader, writer, &asked.schema, &asked.options)
+    let mut notes = Nowhere::new();
+    check_beside(alloc, schema_bytes, settings, reader, writer, &mut notes)
 }

@@ -1,8 +1,9 @@
 //! Whole runs by schema files, and without one.
 
 use crate::fault::RunFault;
+use crate::files::FileFault;
 use crate::schema_files::{all_told, spelled, told_of};
-use crate::start_fault::StartFault;
+use crate::stop::{Ending, Stop, WordsFault, exit_status};
 use case_text::chains::list;
 use fb_access::PathFault;
 use fb_bfbs::LoadFault;
@@ -159,12 +160,16 @@ fn an_input_may_be_too_long(rt: HostRuntime) -> Result<(), Fail> {
 #[test]
 fn a_stop_has_its_text(rt: HostRuntime) -> Result<(), Fail> {
     for (stop, text, status) in [
-        (StartFault::Unreadable, "cannot read schema", 2),
-        (StartFault::OutOfMemory, "out of memory", 3),
+        (Stop::File(FileFault::Unreadable), "cannot read schema", 2),
+        (Stop::File(FileFault::OutOfMemory), "out of memory", 3),
+        (Stop::Words(WordsFault::NotText), "a word is not UTF-8", 2),
+        (Stop::CutOff { written: 7 }, "write failed after 7 bytes", 3),
+        (Stop::Run(RunFault::NoRoot), "no root table", 2),
     ] {
         assert_eq!(rt; format!(in rt.alloc(); "{stop}")?.as_str(), text);
-        assert_eq!(rt; stop.status(), status, "{text}");
+        assert_eq!(rt; exit_status(&Err(stop)), status, "{text}");
     }
+    assert_eq!(rt; exit_status(&Ok(Ending::Helped)), 0);
     let fault = RunFault::Load(LoadFault::TooLong);
     assert_eq!(rt;
         format!(in rt.alloc(); "{fault}")?.as_str(),

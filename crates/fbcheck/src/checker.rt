@@ -4,7 +4,7 @@ ghost use Rattle.std.specs.Prelude.{IfOk, ◌≡◌, ◌<◌, ◌≤◌, ◌^◌
 ghost use Rattle.fb_access.specs.Denotes.{shown};
 ghost use Rattle.fbcheck.specs.Job.{IsAnswer, IsVerdict, PathFits, Serves, job_of, verdict_of};
 
-use crate::options::Options;
+use crate::options::{Mode, Options};
 use fb_access::{Answer, Path, get};
 use fb_bytes::Meter;
 use fb_schema::Schema;
@@ -55,6 +55,13 @@ impl<'s, 'n> Checker<'s, 'n> {
         ensures most { self.now.limit < 2 ^ 31 }
     {
         self.options.max_bytes
+    }
+
+    /// What is told of the buffers.
+    pub fn mode(&self) -> Mode
+        ensures { result ≡ self.now.mode }
+    {
+        self.options.mode
     }
 
     /// Room for as many open tables as the limits allow.

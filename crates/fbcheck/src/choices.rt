@@ -1,8 +1,10 @@
 //! What the command line may ask for.
 
 ghost use Rattle.std.specs.Prelude.{◌≡◌};
+ghost use Rattle.fbcheck.specs.Asked.{mode_of};
 ghost use Rattle.fbcheck.specs.Refusal.{refusal_status};
 
+use crate::options::Mode;
 use clap::Error;
 use thiserror::Error as DeriveError;
 
@@ -32,6 +34,25 @@ pub struct Settings {
     pub alignment: bool,
     /// Whether fields are held against their table's inline size (`--inline-size`).
     pub inline_size: bool,
+    /// Whether good buffers have no lines (`--quiet`).
+    pub quiet: bool,
+    /// Whether the good buffers themselves are written (`--filter`); there is no path then.
+    pub filter: bool,
+}
+
+impl Settings {
+    /// What is told of the buffers.
+    pub fn mode(&self) -> Mode
+        ensures { result ≡ mode_of self.now.filter self.now.quiet }
+    {
+        if self.filter {
+            Mode::Filter
+        } else if self.quiet {
+            Mode::BadLines
+        } else {
+            Mode::Lines
+        }
+    }
 }
 
 /// Why words give no settings.
@@ -43,6 +64,9 @@ pub enum SettingsFault {
     /// The words are read, and the text of `--ident` isn't four bytes long.
     #[error("ident must be four bytes")]
     BadIdent,
+    /// The words are read, and ask for a filter together with a path.
+    #[error("a filter takes no path")]
+    PathInFilter,
     /// No memory was to be had.
     #[error("out of memory")]
     OutOfMemory,
@@ -57,7 +81,7 @@ impl SettingsFault {
         match self {
             SettingsFault::Usage(error) if error.use_stderr() => 2,
             SettingsFault::Usage(_) => 0,
-            SettingsFault::BadIdent => 2,
+            SettingsFault::BadIdent | SettingsFault::PathInFilter => 2,
             SettingsFault::OutOfMemory => 3,
         }
     }

@@ -1,9 +1,15 @@
 ghost use Rattle.std.specs.Prelude.{IfOk, ◌≡◌, false};
 ghost use Rattle.clap.specs.Words.{app_of, rule_of};
-ghost use Rattle.fbcheck.specs.CommandLine.{program, texts, numbers, text_rule, depth_rule, tables_rule, reads_rule, bytes_rule, flag_rule};
+ghost use Rattle.fbcheck.specs.CommandLine.{named, program, switches, texts, numbers, text_rule, depth_rule, tables_rule, reads_rule, bytes_rule, flag_rule};
 
 use clap::{Arg, ArgAction, Command, value_parser};
 use std::alloc::{AllocError, Global};
+
+/// The version of the program and of the library for C.
+const VERSION: &str = "1";
+
+/// The same, and by which toolchain all of it is proved and built.
+const LONG_VERSION: &str = "1\nproved with rattle-kit-13b logic dac8208d650f15bf";
 
 fn text_arg<'a>(alloc: Global, name: &'a str, value: &'a str, help: &'a str) -> Arg<'a>
     ensures rule { rule_of result ≡ text_rule name.entry.now }
@@ -77,11 +83,20 @@ fn flag_arg<'a>(alloc: Global, name: &'a str, help: &'a str) -> Arg<'a>
         .action(ArgAction::SetTrue)
 }
 
-fn with_texts<'a>(alloc: Global) -> Result<Command<'a>, AllocError>
-    ensures app { IfOk result (λ c. app_of c ≡ texts) }
+/// The command by its name, which tells its version.
+fn named<'a>(alloc: Global) -> Command<'a>
+    ensures app { app_of result ≡ named }
 {
     Command::new(alloc, "fbcheck")
         .about("Checks a stream of size-prefixed FlatBuffers by a binary schema")
+        .version(VERSION)
+        .long_version(LONG_VERSION)
+}
+
+fn with_texts<'a>(alloc: Global) -> Result<Command<'a>, AllocError>
+    ensures app { IfOk result (λ c. app_of c ≡ texts) }
+{
+    named(alloc)
         .arg(text_arg(
             alloc,
             "schema",
@@ -118,9 +133,8 @@ fn with_numbers<'a>(alloc: Global) -> Result<Command<'a>, AllocError>
         .arg(bytes_arg(alloc))
 }
 
-/// The command `fbcheck` with its options.
-pub(crate) fn command<'a>(alloc: Global) -> Result<Command<'a>, AllocError>
-    ensures app { IfOk result (λ c. app_of c ≡ program) }
+fn with_switches<'a>(alloc: Global) -> Result<Command<'a>, AllocError>
+    ensures app { IfOk result (λ c. app_of c ≡ switches) }
 {
     with_numbers(alloc)?
         .arg(flag_arg(
@@ -133,5 +147,18 @@ pub(crate) fn command<'a>(alloc: Global) -> Result<Command<'a>, AllocError>
             alloc,
             "inline-size",
             "Hold fields against their table's inline size",
+        ))
+}
+
+/// The command `fbcheck` with its options.
+pub(crate) fn command<'a>(alloc: Global) -> Result<Command<'a>, AllocError>
+    ensures app { IfOk result (λ c. app_of c ≡ program) }
+{
+    with_switches(alloc)?
+        .arg(flag_arg(alloc, "quiet", "Write no line of a good buffer"))?
+        .arg(flag_arg(
+            alloc,
+            "filter",
+            "Pass good buffers on, and write lines of bad ones to standard error",
         ))
 }

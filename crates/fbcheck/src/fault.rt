@@ -2,9 +2,9 @@
 
 ghost use Rattle.std.specs.Prelude.{◌≡◌};
 ghost use Rattle.fbcheck.specs.Faults.{feed_fault, load_fault, path_fault, status_of};
-ghost use Rattle.fbcheck.specs.declared.fault.RunFault.TheVariants.{OutOfMemory, WriteFault};
+ghost use Rattle.fbcheck.specs.declared.fault.RunFault.TheVariants.{OutOfMemory};
 
-use crate::output::{Tally, Unwritten};
+use crate::output::Tally;
 use fb_access::PathFault;
 use fb_bfbs::LoadFault;
 use fb_bytes::StreamFault;
@@ -20,6 +20,9 @@ pub enum RunFault {
     /// The writer failed, or took nothing. `written` counts the bytes that it took in this run.
     #[error("write failed after {written} bytes")]
     WriteFault { written: u128 },
+    /// The notes failed, or took nothing. `written` counts the bytes that they took in this run.
+    #[error("write to standard error failed after {written} bytes")]
+    NoteFault { written: u128 },
     /// The stream declares too much, or ends in mid-message.
     #[error("stream: {0}")]
     Stream(StreamFault),
@@ -48,16 +51,6 @@ impl From<AllocError> for RunFault {
 
     fn from(_: AllocError) -> Self {
         Self::OutOfMemory
-    }
-}
-
-impl From<Unwritten> for RunFault {
-    ghost from_gives = { λ cause fault. fault ≡ WriteFault cause.written };
-
-    fn from(cause: Unwritten) -> Self {
-        Self::WriteFault {
-            written: cause.written,
-        }
     }
 }
 

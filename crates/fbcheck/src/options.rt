@@ -3,7 +3,18 @@
 use fb_access::Path;
 use fb_verify::{Ident, Limits};
 
-/// How the buffers of a run are checked.
+/// What a run tells of the buffers, to the writer and to the notes beside it.
+#[derive(Clone, Copy, Debug, PartialEq, Eq)]
+pub enum Mode {
+    /// The writer gets a line of each.
+    Lines,
+    /// The writer gets a line of each bad one, and nothing of the good ones.
+    BadLines,
+    /// The writer gets each good one as it is, prefix included, and the notes get a line of each bad one.
+    Filter,
+}
+
+/// How the buffers of a run are checked, and what is told of them.
 #[derive(Drop)]
 pub struct Options {
     /// The number of the root table's object.
@@ -22,4 +33,6 @@ pub struct Options {
     pub alignment: bool,
     /// Whether fields are held against their table's inline size.
     pub inline_size: bool,
+    /// What is told of the buffers.
+    pub mode: Mode,
 }

@@ -1,17 +1,21 @@
-//! The lines of a run: gathered, counted, and written together.
+//! What a run tells: gathered, counted, and written together.
 
-ghost use Rattle.std.specs.Prelude.{IfErr, OnOk, OnErr, ◌≡◌, ◌+◌, ◌<◌, ◌≤◌, ◌^◌, ◌++◌, [], length, codes};
+ghost use Rattle.std.specs.Prelude.{IfErr, OnOk, OnErr, ◌≡◌, ◌+◌, ◌<◌, ◌≤◌, ◌^◌, ◌++◌, length, codes, ℕ, Bool};
 ghost use Rattle.std.specs.Io.KnownBytes.{Appends};
 ghost use Rattle.fb_access.specs.Denotes.{shown};
 ghost use Rattle.fbcheck.specs.AnswerText.{answer_text};
+ghost use Rattle.fbcheck.specs.Faults.{IsCaused};
 ghost use Rattle.fbcheck.specs.Job.{verdict_of};
-ghost use Rattle.fbcheck.specs.Line.{verdict_line};
-ghost use Rattle.fbcheck.specs.Lines.{AddsLine, WritesFront};
+ghost use Rattle.fbcheck.specs.Line.{told_of, verdict_line};
+ghost use Rattle.fbcheck.specs.Lines.{AddsTold, WritesFronts};
+ghost use Rattle.fbcheck.specs.Texts.{silent, waiting};
 
 use crate::checker::{Checker, Found};
+use crate::fault::RunFault;
 use crate::line::Line;
+use crate::options::Mode;
 use crate::value_text::put_answer;
-use crate::writing::push_all;
+use crate::writing::{Pending, Unwritten};
 use fb_access::Answer;
 use fb_bytes::Sink;
 use fb_verify::{Fault, Scratch};
@@ -24,48 +28,44 @@ pub struct Tally {
     pub no: u64,
 }
 
-/// A write failed or took nothing: the writer took so many bytes in all.
-#[derive(Clone, Copy, Debug, PartialEq, Eq)]
-pub struct Unwritten {
-    pub written: u128,
-}
-
-/// What a run has told so far: the verdicts, the lines that wait to be written, and the bytes that were.
+/// What a run has told so far: the verdicts, and what waits to be written to the writer and to the notes.
 #[derive(Drop)]
 pub struct Output<A: Allocator> {
     pub yes: u64,
     pub no: u64,
-    /// Whole lines that wait.
-    pub text: Vec<u8, A>,
+    /// Whole lines, or whole messages that are passed on.
+    pub out: Pending<A>,
+    /// Whole lines.
+    pub notes: Pending<A>,
     /// The line that is being made, but for a value.
     line: Line,
     /// The end of that line: a value and a newline.
     value: Vec<u8, A>,
-    pub written: u128,
 }
 
 impl<'a, A: Allocator> Output<&'a A> {
     /// Nothing is told.
     pub fn new(alloc: &'a A) -> Self
-        ensures text { result.text.items ≡ [] }
+        ensures text { waiting result ≡ silent }
         ensures yes { result.yes ≡ 0 }
         ensures no { result.no ≡ 0 }
-        ensures written { result.written ≡ 0 }
+        ensures written { result.out.written ≡ 0 }
+        ensures noted { result.notes.written ≡ 0 }
     {
         Output {
             yes: 0,
             no: 0,
-            text: Vec::new(alloc),
+            out: Pending::new(alloc),
+            notes: Pending::new(alloc),
             line: Line::new(),
             value: Vec::new(alloc),
-            written: 0,
         }
     }
 }
 
 impl<A: Allocator> Output<A> {
-    /// Adds the line of the next message, and counts its verdict. Where memory is refused, nothing is told of it.
-    pub fn add_line<B: Allocator>(
+    /// Adds what is told of the next message, and counts its verdict. Where memory is refused, nothing is told of it.
+    pub fn add<B: Allocator>(
         &mut self,
         checker: &Checker<'_, '_>,
         scratch: &mut Scratch<B>,
@@ -74,15 +74,16 @@ impl<A: Allocator> Output<A> {
         requires room { checker.now.limits.depth ≤ scratch.old }
         requires few { self.old.yes + self.old.no < 2 ^ 63 }
         requires short { length message.now < 2 ^ 31 }
-        ensures ok { OnOk result (AddsLine checker.now (1 + (self.old.yes + self.old.no)) message.now
-            self.old.text.items self.old.yes self.old.no self.new.text.items self.new.yes self.new.no) }
+        ensures ok { OnOk result (AddsTold checker.now (1 + (self.old.yes + self.old.no)) message.now
+            (waiting self.old) self.old.yes self.old.no (waiting self.new) self.new.yes self.new.no) }
         ensures one { OnOk result (self.new.yes + self.new.no ≡ self.old.yes + self.old.no + 1) }
-        ensures err_text { OnErr result (self.new.text.items ≡ self.old.text.items) }
-        ensures written { self.new.written ≡ self.old.written }
+        ensures err_text { OnErr result (waiting self.new ≡ waiting self.old) }
+        ensures written { self.new.out.written ≡ self.old.out.written }
+        ensures noted { self.new.notes.written ≡ self.old.notes.written }
         ensures scratch { scratch.new ≡ scratch.old }
     {
         let verdict = checker.verdict(scratch, message);
-        self.tell(1 + (self.yes + self.no), &verdict)?;
+        self.tell(checker.mode(), 1 + (self.yes + self.no), message, &verdict)?;
         match verdict {
             Ok(_) => self.yes += 1,
             Err(_) => self.no += 1,
@@ -90,68 +91,112 @@ impl<A: Allocator> Output<A> {
         Ok(())
     }
 
-    /// Adds the line of this verdict on message number `number`.
-    fn tell(&mut self, number: u64, verdict: &Result<Found<'_>, Fault>) -> Result<(), AllocError>
-        ensures ok { OnOk result (self.new.text.items ≡ self.old.text.items ++ verdict_line number (verdict_of verdict.now)) }
-        ensures err_text { OnErr result (self.new.text.items ≡ self.old.text.items) }
+    /// Adds what the mode tells of message number `number` with this verdict.
+    fn tell(
+        &mut self,
+        mode: Mode,
+        number: u64,
+        message: &[u8],
+        verdict: &Result<Found<'_>, Fault>,
+    ) -> Result<(), AllocError>
+        ensures out { OnOk result ((waiting self.new).out ≡ (waiting self.old).out ++ (told_of mode number message.now (verdict_of verdict.now)).out) }
+        ensures notes { OnOk result ((waiting self.new).notes ≡ (waiting self.old).notes ++ (told_of mode number message.now (verdict_of verdict.now)).notes) }
+        ensures err_text { OnErr result (waiting self.new ≡ waiting self.old) }
         ensures yes { self.new.yes ≡ self.old.yes }
         ensures no { self.new.no ≡ self.old.no }
-        ensures written { self.new.written ≡ self.old.written }
+        ensures written { self.new.out.written ≡ self.old.out.written }
+        ensures noted { self.new.notes.written ≡ self.old.notes.written }
+    {
+        match mode {
+            Mode::Lines => self.put_line(number, verdict),
+            Mode::BadLines => match verdict {
+                Ok(_) => Ok(()),
+                Err(_) => self.put_line(number, verdict),
+            },
+            Mode::Filter => match verdict {
+                Ok(_) => self.out.bytes.extend_from_slice(message),
+                Err(_) => {
+                    self.line.set(number, verdict);
+                    self.notes.bytes.extend_from_slice(self.line.bytes())
+                }
+            },
+        }
+    }
+
+    /// Adds the line of this verdict on message number `number` to what waits for the writer.
+    fn put_line(
+        &mut self,
+        number: u64,
+        verdict: &Result<Found<'_>, Fault>,
+    ) -> Result<(), AllocError>
+        ensures ok { OnOk result (self.new.out.bytes.items ≡ self.old.out.bytes.items ++ verdict_line number (verdict_of verdict.now)) }
+        ensures err_text { OnErr result (self.new.out.bytes.items ≡ self.old.out.bytes.items) }
+        ensures notes { self.new.notes ≡ self.old.notes }
+        ensures yes { self.new.yes ≡ self.old.yes }
+        ensures no { self.new.no ≡ self.old.no }
+        ensures written { self.new.out.written ≡ self.old.out.written }
     {
         self.line.set(number, verdict);
         match verdict {
             Ok(found) => match &found.answer {
                 Some(value) => self.add_value(value),
-                None => self.text.extend_from_slice(self.line.bytes()),
+                None => self.out.bytes.extend_from_slice(self.line.bytes()),
             },
-            Err(_) => self.text.extend_from_slice(self.line.bytes()),
+            Err(_) => self.out.bytes.extend_from_slice(self.line.bytes()),
         }
     }
 
     /// Adds the line that was made, with a value at its end.
     fn add_value(&mut self, answer: &Answer<'_>) -> Result<(), AllocError>
-        ensures ok { OnOk result (self.new.text.items ≡ self.old.text.items ++ (self.old.line ++ (answer_text (shown answer.now) ++ codes "\n"))) }
-        ensures err_text { OnErr result (self.new.text.items ≡ self.old.text.items) }
+        ensures ok { OnOk result (self.new.out.bytes.items ≡ self.old.out.bytes.items ++ (self.old.line ++ (answer_text (shown answer.now) ++ codes "\n"))) }
+        ensures err_text { OnErr result (self.new.out.bytes.items ≡ self.old.out.bytes.items) }
+        ensures notes { self.new.notes ≡ self.old.notes }
         ensures yes { self.new.yes ≡ self.old.yes }
         ensures no { self.new.no ≡ self.old.no }
-        ensures written { self.new.written ≡ self.old.written }
+        ensures written { self.new.out.written ≡ self.old.out.written }
     {
         self.value.clear();
         put_answer(&mut self.value, answer)?;
         self.value.extend_from_slice(b"\n")?;
-        let before = self.text.len();
-        self.text.extend_from_slice(self.line.bytes())?;
-        let whole = self.text.extend_from_slice(self.value.as_slice());
+        let before = self.out.bytes.len();
+        self.out.bytes.extend_from_slice(self.line.bytes())?;
+        let whole = self.out.bytes.extend_from_slice(self.value.as_slice());
         if whole.is_err() {
-            self.text.truncate(before);
+            self.out.bytes.truncate(before);
         }
         whole
     }
 
-    /// Writes the lines that wait.
-    pub fn flush<K: Sink>(&mut self, sink: &mut K) -> Result<(), Unwritten>
-        requires calls { K.calls sink.old < 2 ^ 99 }
-        requires little { self.old.written < 2 ^ 100 }
-        ensures ok { OnOk result (Appends (K.contents sink.old) (K.contents sink.new) self.old.text.items) }
-        ensures empty { OnOk result (self.new.text.items ≡ []) }
-        ensures written { OnOk result (self.new.written ≡ self.old.written + length self.old.text.items) }
-        ensures err { IfErr result (λ cause. WritesFront self.old.text.items (K.contents sink.old) (K.contents sink.new)
-            self.old.written cause.written) }
-        ensures failed { OnErr result (K.failures sink.old < K.failures sink.new) }
-        ensures unfailed { OnOk result (K.failures sink.new ≡ K.failures sink.old) }
+    /// Writes what waits, first for the writer and then for the notes.
+    pub fn flush<K: Sink, N: Sink>(&mut self, writer: &mut K, notes: &mut N) -> Result<(), RunFault>
+        requires writes { K.calls writer.old < 2 ^ 99 }
+        requires tells { N.calls notes.old < 2 ^ 99 }
+        requires written { self.old.out.written < 2 ^ 100 }
+        requires noted { self.old.notes.written < 2 ^ 100 }
+        ensures wrote { OnOk result (Appends (K.contents writer.old) (K.contents writer.new) (waiting self.old).out) }
+        ensures told { OnOk result (Appends (N.contents notes.old) (N.contents notes.new) (waiting self.old).notes) }
+        ensures empty { OnOk result (waiting self.new ≡ silent) }
+        ensures written { OnOk result (self.new.out.written ≡ self.old.out.written + length (waiting self.old).out) }
+        ensures noted { OnOk result (self.new.notes.written ≡ self.old.notes.written + length (waiting self.old).notes) }
+        ensures err { IfErr result (WritesFronts (waiting self.old) (K.contents writer.old) (K.contents writer.new)
+            (N.contents notes.old) (N.contents notes.new) self.old.out.written self.old.notes.written) }
+        ensures failed { IfErr result (λ fault. (failures left : ℕ) (ended : Bool) → IsCaused failures failures
+            (K.failures writer.old) (K.failures writer.new) (N.failures notes.old) (N.failures notes.new) left ended fault) }
+        ensures unfailed { OnOk result (K.failures writer.new ≡ K.failures writer.old) }
+        ensures unrefused { OnOk result (N.failures notes.new ≡ N.failures notes.old) }
         ensures yes { self.new.yes ≡ self.old.yes }
         ensures no { self.new.no ≡ self.old.no }
-        ensures little { self.new.written ≤ self.old.written + 2 ^ 64 }
-        ensures calls { K.calls sink.new ≤ K.calls sink.old + 2 ^ 64 }
+        ensures little { self.new.out.written ≤ self.old.out.written + 2 ^ 64 }
+        ensures less { self.new.notes.written ≤ self.old.notes.written + 2 ^ 64 }
+        ensures writes { K.calls writer.new ≤ K.calls writer.old + 2 ^ 64 }
+        ensures tells { N.calls notes.new ≤ N.calls notes.old + 2 ^ 64 }
     {
-        let taken = push_all(sink, self.text.as_slice());
-        self.written += taken as u128;
-        if taken < self.text.len() {
-            return Err(Unwritten {
-                written: self.written,
-            });
+        if let Err(Unwritten { written }) = self.out.flush(writer) {
+            return Err(RunFault::WriteFault { written });
         }
-        self.text.clear();
+        if let Err(Unwritten { written }) = self.notes.flush(notes) {
+            return Err(RunFault::NoteFault { written });
+        }
         Ok(())
     }
 

@@ -45,7 +45,7 @@ pub fn pull_piece<A: Allocator, S: Source>(
     source.pull(piece.as_mut_slice())
 }
 
-/// Reads the whole input, of at most `limit` bytes, in at most `turns` reads. Whatever a sink holds, it keeps.
+/// Reads the whole input, of at most `limit` bytes, in at most `turns` reads. Whatever the sinks hold, they keep.
 pub fn read_whole<A: Allocator, B: Allocator, S: Source>(
     alloc: A,
     source: &mut S,
@@ -59,10 +59,10 @@ pub fn read_whole<A: Allocator, B: Allocator, S: Source>(
     ensures within { IfOk result (λ whole. length whole.items ≤ limit) }
     ensures end { OnOk result (S.ended source.new ≡ true) }
     ensures unfailed { OnOk result (S.failures source.new ≡ S.failures source.old) }
-    ensures fault { IfErr result (λ fault. (job : Job) (sink : Option (List ℕ))
-        → FailsBare job limit (S.remaining source.old) (S.remaining source.new) sink sink fault) }
-    ensures cause { IfErr result (λ fault. (refusals : ℕ) → IsCaused (S.failures source.old) (S.failures source.new)
-        refusals refusals (S.calls source.old + turns - S.calls source.new) (S.ended source.new) fault) }
+    ensures fault { IfErr result (λ fault. (job : Job) (sink notes : Option (List ℕ))
+        → FailsBare job limit (S.remaining source.old) (S.remaining source.new) sink sink notes notes fault) }
+    ensures cause { IfErr result (λ fault. (refusals complaints : ℕ) → IsCaused (S.failures source.old) (S.failures source.new)
+        refusals refusals complaints complaints (S.calls source.old + turns - S.calls source.new) (S.ended source.new) fault) }
     ensures turns { S.calls source.new ≤ S.calls source.old + turns }
 {
     let mut whole = Vec::new(alloc);

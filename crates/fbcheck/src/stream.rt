@@ -1,9 +1,10 @@
 //! A run over a stream of size-prefixed buffers.
 
 ghost use Rattle.std.specs.Prelude.{IfOk, IfErr, OnOk, ◌≡◌, ◌+◌, ◌-◌, ◌<◌, ◌≤◌, ◌^◌, [], length, take};
-ghost use Rattle.fbcheck.specs.Faults.{EndsBy};
+ghost use Rattle.fbcheck.specs.Faults.{EndsBeside};
 ghost use Rattle.fbcheck.specs.Run.{IsStreamRun};
 ghost use Rattle.fbcheck.specs.Stream.{Gathers, Halts, IsFeedFault, IsReady, Onward, standing};
+ghost use Rattle.fbcheck.specs.Texts.{silent, waiting};
 
 use crate::checker::Checker;
 use crate::fault::RunFault;
@@ -26,8 +27,9 @@ impl<'a, A: Allocator> Carried<&'a A> {
     /// What is carried at first: nothing is told, and nothing is held.
     fn new(alloc: &'a A, checker: &Checker<'_, '_>) -> Result<Self, AllocError>
         ensures ready { IfOk result (λ carried. IsReady checker.now carried.framer carried.scratch) }
-        ensures empty { IfOk result (λ carried. standing carried ≡ record { text = []; good = 0; bad = 0; held = [] }) }
-        ensures written { IfOk result (λ carried. carried.output.written ≡ 0) }
+        ensures empty { IfOk result (λ carried. standing carried ≡ record { text = silent; good = 0; bad = 0; held = [] }) }
+        ensures written { IfOk result (λ carried. carried.output.out.written ≡ 0) }
+        ensures noted { IfOk result (λ carried. carried.output.notes.written ≡ 0) }
     {
         let scratch = checker.scratch(alloc)?;
         let Ok(framer) = Framer::new(alloc, checker.limit()) else {
@@ -43,7 +45,7 @@ impl<'a, A: Allocator> Carried<&'a A> {
 }
 
 impl<A: Allocator> Carried<A> {
-    /// Passes a whole piece, and adds the lines of the messages that end in it.
+    /// Passes a whole piece, and adds what is told of the messages that end in it.
     fn use_up(&mut self, checker: &Checker<'_, '_>, piece: &[u8]) -> Result<(), RunFault>
         requires ready { IsReady checker.now self.old.framer self.old.scratch }
         requires piece { length piece.now ≤ PIECE }
@@ -54,11 +56,12 @@ impl<A: Allocator> Carried<A> {
         ensures few { OnOk result (self.new.output.yes + self.new.output.no
             ≤ self.old.output.yes + self.old.output.no + PIECE) }
 
-        ensures halts { IfErr result (Halts checker.now (standing self.old) piece.now self.new.output.text.items) }
+        ensures halts { IfErr result (Halts checker.now (standing self.old) piece.now (waiting self.new.output)) }
         ensures kind { IfErr result (λ fault. IsFeedFault fault) }
 
-        ensures gathers { Gathers checker.now (standing self.old) piece.now self.new.output.text.items }
-        ensures written { self.new.output.written ≡ self.old.output.written }
+        ensures gathers { Gathers checker.now (standing self.old) piece.now (waiting self.new.output) }
+        ensures written { self.new.output.out.written ≡ self.old.output.out.written }
+        ensures noted { self.new.output.notes.written ≡ self.old.output.notes.written }
     {
         let mut rest = piece;
         while !rest.is_empty() {
@@ -68,9 +71,9 @@ impl<A: Allocator> Carried<A> {
         Ok(())
     }
 
-    /// Passes bytes from the front of the rest of a piece, up to the end of a message, and adds its line. Answers how
-    /// many bytes that were. A message that stands whole there is checked where it stands; of others the framer holds
-    /// what came.
+    /// Passes bytes from the front of the rest of a piece, up to the end of a message, and adds what is told of it.
+    /// Answers how many bytes that were. A message that stands whole there is checked where it stands; of others the
+    /// framer holds what came.
     fn pass_some(&mut self, checker: &Checker<'_, '_>, rest: &[u8]) -> Result<usize, RunFault>
         requires rest { 0 < length rest.now }
         requires ready { IsReady checker.now self.old.framer self.old.scratch }
@@ -83,22 +86,23 @@ impl<A: Allocator> Carried<A> {
         ensures few { OnOk result (self.new.output.yes + self.new.output.no
             ≤ self.old.output.yes + self.old.output.no + 1) }
 
-        ensures halts { IfErr result (Halts checker.now (standing self.old) rest.now self.new.output.text.items) }
+        ensures halts { IfErr result (Halts checker.now (standing self.old) rest.now (waiting self.new.output)) }
         ensures kind { IfErr result (λ fault. IsFeedFault fault) }
 
-        ensures written { self.new.output.written ≡ self.old.output.written }
+        ensures written { self.new.output.out.written ≡ self.old.output.out.written }
+        ensures noted { self.new.output.notes.written ≡ self.old.output.notes.written }
     {
         if self.framer.held() == 0 {
             if let Some(message) = front_message(rest, checker.limit()) {
-                self.output.add_line(checker, &mut self.scratch, message)?;
+                self.output.add(checker, &mut self.scratch, message)?;
                 return Ok(message.len());
             }
         }
         self.feed_some(checker, rest)
     }
 
-    /// Feeds the framer bytes from the front of the rest of a piece, up to the end of a message, and adds its line.
-    /// Answers how many bytes that were.
+    /// Feeds the framer bytes from the front of the rest of a piece, up to the end of a message, and adds what is told of
+    /// it. Answers how many bytes that were.
     fn feed_some(&mut self, checker: &Checker<'_, '_>, rest: &[u8]) -> Result<usize, RunFault>
         requires rest { 0 < length rest.now }
         requires ready { IsReady checker.now self.old.framer self.old.scratch }
@@ -111,41 +115,46 @@ impl<A: Allocator> Carried<A> {
         ensures few { OnOk result (self.new.output.yes + self.new.output.no
             ≤ self.old.output.yes + self.old.output.no + 1) }
 
-        ensures halts { IfErr result (Halts checker.now (standing self.old) rest.now self.new.output.text.items) }
+        ensures halts { IfErr result (Halts checker.now (standing self.old) rest.now (waiting self.new.output)) }
         ensures kind { IfErr result (λ fault. IsFeedFault fault) }
 
-        ensures written { self.new.output.written ≡ self.old.output.written }
+        ensures written { self.new.output.out.written ≡ self.old.output.out.written }
+        ensures noted { self.new.output.notes.written ≡ self.old.output.notes.written }
     {
         let taken = self.framer.feed(rest)?;
         let Some(message) = self.framer.message() else {
             return Ok(taken.used);
         };
-        self.output.add_line(checker, &mut self.scratch, message)?;
+        self.output.add(checker, &mut self.scratch, message)?;
         self.framer.next();
         Ok(taken.used)
     }
 }
 
-/// Checks a stream of size-prefixed buffers, each of at most `max_bytes` of the options, and writes a line for each, with
-/// at most `turns` reads.
+/// Checks a stream of size-prefixed buffers, each of at most `max_bytes` of the options, and writes what the mode tells
+/// of each, with at most `turns` reads.
 ///
-/// The lines of all messages that are whole are written before the next read, and before any answer. On a fault those
-/// of all whole messages that were read are written, but for `OutOfMemory`, where they are those of the first ones,
-/// and for `WriteFault`, where `written` bytes of them are.
-pub fn run_stream<A: Allocator, S: Source, K: Sink>(
+/// What is told of all messages that are whole is written before the next read, and before any answer. On a fault that
+/// of all whole messages that were read is written, but for `OutOfMemory`, where it is that of the first ones, and for
+/// `WriteFault` and `NoteFault`, where `written` bytes of it are.
+pub fn run_stream<A: Allocator, S: Source, K: Sink, N: Sink>(
     alloc: A,
     reader: &mut S,
     writer: &mut K,
+    notes: &mut N,
     checker: &Checker<'_, '_>,
     turns: u64,
 ) -> Result<Tally, RunFault>
     requires turns { turns ≤ MOST_TURNS }
     requires reads { S.calls reader.old < 2 ^ 64 }
     requires writes { K.calls writer.old < 2 ^ 64 }
+    requires tells { N.calls notes.old < 2 ^ 64 }
     ensures run { IsStreamRun checker.now
-        (S.remaining reader.old) (S.remaining reader.new) (K.contents writer.old) (K.contents writer.new) result }
-    ensures end { EndsBy (S.failures reader.old) (S.failures reader.new) (K.failures writer.old) (K.failures writer.new)
-        (S.calls reader.old + turns - S.calls reader.new) (S.ended reader.new) result }
+        (S.remaining reader.old) (S.remaining reader.new) (K.contents writer.old) (K.contents writer.new)
+        (N.contents notes.old) (N.contents notes.new) result }
+    ensures end { EndsBeside (S.failures reader.old) (S.failures reader.new) (K.failures writer.old) (K.failures writer.new)
+        (N.failures notes.old) (N.failures notes.new) (S.calls reader.old + turns - S.calls reader.new) (S.ended reader.new) result }
+    ensures pushes { N.calls notes.new ≤ N.calls notes.old + 2 ^ 96 }
     ensures turns { S.calls reader.new ≤ S.calls reader.old + turns }
 {
     let mut piece = read_buffer(&alloc)?;
@@ -163,7 +172,7 @@ pub fn run_stream<A: Allocator, S: Source, K: Sink>(
         };
         let piece = &piece.as_slice()[..read];
         let used = carried.use_up(checker, piece);
-        carried.output.flush(writer)?;
+        carried.output.flush(writer, notes)?;
         used?;
     }
     Err(RunFault::TooManyTurns)

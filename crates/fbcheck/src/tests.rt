@@ -4,7 +4,7 @@ ghost use Rattle.std.specs.Prelude.{◌≡◌, None};
 
 use crate::check::check;
 use crate::fault::{RunFault, status};
-use crate::options::Options;
+use crate::options::{Mode, Options};
 use crate::output::Tally;
 use crate::reading::MOST_TURNS;
 use crate::run::run_within;
@@ -57,6 +57,7 @@ pub fn stream_options(max_bytes: u32) -> Options
         bare: false,
         alignment: true,
         inline_size: false,
+        mode: Mode::Lines,
     }
 }
 

@@ -17,7 +17,7 @@ use std::alloc::{AllocError, Global};
 /// # Errors
 ///
 /// `Usage` where `clap` refuses them, help included, `BadIdent` where it reads them and the identifier isn't four bytes
-/// long, and `OutOfMemory` for want of memory.
+/// long, then `PathInFilter` where they ask for a filter and a path, and `OutOfMemory` for want of memory.
 pub fn settings(alloc: Global, words: &[String]) -> Result<Settings, SettingsFault>
     ensures read { OnOk result (fault_of program (map string_bytes words.now) ≡ []) }
     ensures refused { IfErr result (Refuses (map string_bytes words.now)) }
@@ -38,6 +38,9 @@ pub fn settings(alloc: Global, words: &[String]) -> Result<Settings, SettingsFau
     ensures bare { IfOk result (λ s. IsTrue s.bare ↔ IsGiven (codes "bare") (map string_bytes words.now)) }
     ensures alignment { IfOk result (λ s. (s.alignment ≡ false) ↔ IsGiven (codes "no-alignment") (map string_bytes words.now)) }
     ensures inline_size { IfOk result (λ s. IsTrue s.inline_size ↔ IsGiven (codes "inline-size") (map string_bytes words.now)) }
+    ensures filter { IfOk result (λ s. IsTrue s.filter ↔ IsGiven (codes "filter") (map string_bytes words.now)) }
+    ensures apart { IfOk result (λ s. IsTrue s.filter → s.path ≡ None) }
+    ensures quiet { IfOk result (λ s. IsTrue s.quiet ↔ IsGiven (codes "quiet") (map string_bytes words.now)) }
 {
     let Ok(command) = command(alloc) else {
         return Err(SettingsFault::OutOfMemory);
@@ -70,6 +73,11 @@ pub fn settings(alloc: Global, words: &[String]) -> Result<Settings, SettingsFau
     let bare = flag(&matches, "bare");
     let alignment = !flag(&matches, "no-alignment");
     let inline_size = flag(&matches, "inline-size");
+    let quiet = flag(&matches, "quiet");
+    let filter = flag(&matches, "filter");
+    if filter && path.is_some() {
+        return Err(SettingsFault::PathInFilter);
+    }
     Ok(Settings {
         schema,
         root,
@@ -82,6 +90,8 @@ pub fn settings(alloc: Global, words: &[String]) -> Result<Settings, SettingsFau
         bare,
         alignment,
         inline_size,
+        quiet,
+        filter,
     })
 }
 

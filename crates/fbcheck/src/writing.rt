@@ -1,9 +1,12 @@
-//! Writing a text to a sink that may take it in parts.
+//! Writing to a sink that may take a text in parts, and a sink that keeps nothing.
 
-ghost use Rattle.std.specs.Prelude.{◌≡◌, ◌+◌, ◌<◌, ◌≤◌, ◌^◌, length, take};
+ghost use Rattle.std.specs.Prelude.{OnOk, OnErr, IfErr, ◌≡◌, ◌+◌, ◌<◌, ◌≤◌, ◌^◌, [], None, length, take};
 ghost use Rattle.std.specs.Io.KnownBytes.{Appends};
+ghost use Rattle.fbcheck.specs.Lines.{WritesFront};
 
 use fb_bytes::Sink;
+use std::alloc::Allocator;
+use std::io;
 
 /// Writes the text, and answers how many of its bytes were taken: fewer only where the writer failed or took
 /// nothing.
@@ -23,4 +26,93 @@ pub fn push_all<K: Sink>(sink: &mut K, text: &[u8]) -> usize
         }
     }
     text.len() - rest.len()
+}
+
+/// A write failed or took nothing: the sink took so many bytes in all.
+#[derive(Clone, Copy, Debug, PartialEq, Eq)]
+pub struct Unwritten {
+    pub written: u128,
+}
+
+/// Bytes that wait to be written to one sink, and how many it took before.
+#[derive(Drop)]
+pub struct Pending<A: Allocator> {
+    pub bytes: Vec<u8, A>,
+    pub written: u128,
+}
+
+impl<'a, A: Allocator> Pending<&'a A> {
+    /// Nothing waits, and nothing was written.
+    pub fn new(alloc: &'a A) -> Self
+        ensures bytes { result.bytes.items ≡ [] }
+        ensures written { result.written ≡ 0 }
+    {
+        Pending {
+            bytes: Vec::new(alloc),
+            written: 0,
+        }
+    }
+}
+
+impl<A: Allocator> Pending<A> {
+    /// Writes the bytes that wait.
+    pub fn flush<K: Sink>(&mut self, sink: &mut K) -> Result<(), Unwritten>
+        requires calls { K.calls sink.old < 2 ^ 99 }
+        requires little { self.old.written < 2 ^ 100 }
+        ensures ok { OnOk result (Appends (K.contents sink.old) (K.contents sink.new) self.old.bytes.items) }
+        ensures empty { OnOk result (self.new.bytes.items ≡ []) }
+        ensures written { OnOk result (self.new.written ≡ self.old.written + length self.old.bytes.items) }
+        ensures err { IfErr result (λ cause. WritesFront self.old.bytes.items (K.contents sink.old) (K.contents sink.new)
+            self.old.written cause.written) }
+        ensures failed { OnErr result (K.failures sink.old < K.failures sink.new) }
+        ensures unfailed { OnOk result (K.failures sink.new ≡ K.failures sink.old) }
+        ensures little { self.new.written ≤ self.old.written + 2 ^ 64 }
+        ensures calls { K.calls sink.new ≤ K.calls sink.old + 2 ^ 64 }
+    {
+        let taken = push_all(sink, self.bytes.as_slice());
+        self.written += taken as u128;
+        if taken < self.bytes.len() {
+            return Err(Unwritten {
+                written: self.written,
+            });
+        }
+        self.bytes.clear();
+        Ok(())
+    }
+}
+
+/// A sink that takes all bytes and keeps none.
+#[derive(Drop)]
+pub struct Nowhere {
+    calls: u128,
+}
+
+impl Nowhere {
+    /// Nothing was written to it.
+    pub fn new() -> Nowhere
+        ensures { result.calls ≡ 0 }
+    {
+        Nowhere { calls: 0 }
+    }
+}
+
+impl Sink for Nowhere {
+    ghost contents = { λ _. None };
+
+    ghost calls = { λ s. s.calls };
+
+    ghost failures = { λ _. 0 };
+
+    fn push(&mut self, piece: &[u8]) -> io::Result<usize> {
+        self.calls += 1;
+        Ok(piece.len())
+    }
+
+    fn calls(&self) -> u128 {
+        self.calls
+    }
+
+    fn failures(&self) -> u128 {
+        0
+    }
 }

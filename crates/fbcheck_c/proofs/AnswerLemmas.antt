@@ -1,13 +1,13 @@
 -- To whom a yes is due, and to whom a no.
-use Rattle.std.proofs.Common.{◌≡◌, ℕ, ◌<◌, ◌≤◌, ◌^◌, min, List, length, refl, sym, ◌∙◌, subst, arith, Option, Some, None, IsSomeAnd}
+use Rattle.std.proofs.Common.{◌≡◌, ℕ, List, refl, subst, arith, Option, Some, IsSomeAnd}
 use Rattle.fb_verify.specs.Tree.{Tree}
 use Rattle.fb_verify.specs.Verdict.{HasNone}
 use Rattle.fb_verify.specs.WellFormed.{IsWellFormed, IsWithin}
 use Rattle.fbcheck_c.specs.declared.answer.Answer.{Answer}
-use Rattle.fbcheck_c.specs.declared.answer.Answer.TheVariants.{Done, Good, Bad, UnknownOptions, OutOfRange, Empty, NoRoot, TooLong, NoSchema}
+use Rattle.fbcheck_c.specs.declared.answer.Answer.TheVariants.{Done, Good, Bad, UnknownOptions, OutOfRange, Empty, NoRoot, TooLong, NoSchema, NoSpan, BadStream, BadPath, NoRoom, Misfit}
 use Rattle.fbcheck_c.specs.declared.options.Options.{Options}
 use Rattle.fbcheck_c.specs.declared.session.Session.{Session}
-use Rattle.fbcheck_c.specs.Answered.{HasLimits, IsBadFrom, IsChecked, IsGoodFrom, root_table}
+use Rattle.fbcheck_c.specs.Answered.{IsBadFrom, IsChecked, IsGoodFrom, root_table}
 use Rattle.fbcheck_c.specs.AnswerLaws.{CanServe}
 use Rattle.fbcheck_c.specs.Asked.{checks_asked, ident_asked, limits_of, start_asked}
 use Rattle.fbcheck_c.specs.Told.{told}
@@ -28,6 +28,11 @@ module _ (s : Session) (o : Options) (b : List ℕ) (root : ℕ) (c : CanServe s
   good_gets_yes y NoRoot w i h = let e = c.root_is in cc
   good_gets_yes y TooLong w i h = let short = c.short in absurd (omega arith)
   good_gets_yes y (NoSchema fault) w i h = absurd h
+  good_gets_yes y NoSpan w i h = absurd h
+  good_gets_yes y (BadStream fault) w i h = absurd h
+  good_gets_yes y (BadPath fault) w i h = absurd h
+  good_gets_yes y NoRoom w i h = absurd h
+  good_gets_yes y Misfit w i h = absurd h
 
   pub bad_gets_no : (a : Answer) → HasNone (checks_asked o) b s.loaded.schema root (start_asked o) (ident_asked o) (limits_of o) → IsChecked s o b a → (told a).status ≡ 1
   bad_gets_no (Good r) none h = let good = at_value (root_table s) root (IsGoodFrom s o b r) c.root_is h.1 in absurd (none good.found good.well_formed good.within)
@@ -39,3 +44,8 @@ module _ (s : Session) (o : Options) (b : List ℕ) (root : ℕ) (c : CanServe s
   bad_gets_no NoRoot none h = let e = c.root_is in cc
   bad_gets_no TooLong none h = let short = c.short in absurd (omega arith)
   bad_gets_no (NoSchema fault) none h = absurd h
+  bad_gets_no NoSpan none h = absurd h
+  bad_gets_no (BadStream fault) none h = absurd h
+  bad_gets_no (BadPath fault) none h = absurd h
+  bad_gets_no NoRoom none h = absurd h
+  bad_gets_no Misfit none h = absurd h

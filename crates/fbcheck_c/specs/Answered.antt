@@ -1,12 +1,12 @@
 -- Which answer a call gives.
-use Rattle.std.specs.Prelude.{◌≡◌, ℕ, ◌≤◌, ◌^◌, min, List, length, Option, Some, None, Result, Ok, Err, IsSomeAnd, MatchOption, if◌then◌else◌}
-use Rattle.fb_schema.specs.Rows.{Rows, is_table}
+use Rattle.std.specs.Prelude.{◌≡◌, ℕ, ◌≤◌, ◌^◌, min, List, length, Option, Some, None, Result, Ok, Err, IsSomeAnd, IsTrue, MatchOption, if◌then◌else◌}
+use Rattle.fb_schema.specs.Rows.{Rows, is_table, table_named}
+use Rattle.fb_verify.specs.Bounds.{Bounds}
 use Rattle.fb_verify.specs.MostReads.{most_reads}
 use Rattle.fb_verify.specs.Stops.{Stops}
 use Rattle.fb_verify.specs.Verdict.{Reports, HasNone}
 use Rattle.fb_verify.specs.declared.fault.Fault.{Fault}
 use Rattle.fb_verify.specs.declared.fault.Report.{Report}
-use Rattle.fb_bfbs.specs.Describes.{table_named}
 use Rattle.fb_bfbs.specs.Loads.{IsLoaded, IsLoadFault}
 use Rattle.fbcheck_c.specs.declared.answer.Answer.{Answer}
 use Rattle.fbcheck_c.specs.declared.answer.Answer.TheVariants.{Done, Good, Bad, UnknownOptions, OutOfRange, Empty, NoRoot, TooLong, NoSchema}
@@ -58,6 +58,18 @@ pub record IsBadFrom (s : Session) (o : Options) (b : List ℕ) (f : Fault) (roo
 -- the options ask for what the session has room for
 abbrev pub HasLimits : Session → Options → Type 0
 HasLimits s o = AreKnown o × (o.max_depth ≤ min 4096 s.scratch)
+
+-- why a session can't check by these options
+abbrev pub IsUnserved : Session → Options → Answer → Type 0
+IsUnserved s o NoRoot = root_table s ≡ None
+IsUnserved s o a = LimitsFail o s.scratch a
+
+-- the limits and the root of a check
+pub record Begins (s : Session) (o : Options) (limits : Bounds) (root : ℕ) : Type 0 where
+  pub has : HasLimits s o
+  pub limits_are : limits ≡ limits_of o
+  pub root_is : root_table s ≡ Some root
+  pub is_table : IsTrue (is_table s.loaded.schema root)
 
 -- what a check of a buffer answers
 abbrev pub IsChecked : Session → Options → List ℕ → Answer → Type 0

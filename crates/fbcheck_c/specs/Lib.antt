@@ -3,6 +3,11 @@ pub mod Asked
 pub mod Told
 pub mod Answered
 pub mod AnswerLaws
+pub mod Spans
+pub mod Framers
+pub mod Steps
+pub mod Values
+pub mod Reached
 pub mod Names
 -- What a handle owns.
 pub mod Held

@@ -5,10 +5,14 @@ use Rattle.fb_schema.specs.declared.fault.Code.TheVariants.{NoSuchObject, NoSuch
 use Rattle.fb_verify.specs.declared.fault.Fault.{Fault}
 use Rattle.fb_verify.specs.declared.fault.Reason.{Reason}
 use Rattle.fb_verify.specs.declared.fault.Reason.TheVariants.{WrongPrefix, OutOfBuffer, Misaligned, ZeroOffset, WrongIdentifier, TooDeep, TooManyTables, BadVtable, MissingRequired, NoTerminator, LengthsDiffer, PastTable, TooManyReads}
+use Rattle.fb_access.specs.declared.path_fault.PathFault.{PathFault}
+use Rattle.fb_access.specs.declared.path_fault.PathFault.TheVariants as path
+use Rattle.fb_bytes.specs.declared.stream_fault.StreamFault.{StreamFault}
+use Rattle.fb_bytes.specs.declared.stream_fault.StreamFault.TheVariants as stream
 use Rattle.fb_bfbs.specs.declared.load_fault.LoadFault.{LoadFault}
 use Rattle.fb_bfbs.specs.declared.load_fault.LoadFault.TheVariants as load
 use Rattle.fbcheck_c.specs.declared.answer.Answer.{Answer}
-use Rattle.fbcheck_c.specs.declared.answer.Answer.TheVariants.{Done, Good, Bad, UnknownOptions, OutOfRange, Empty, NoRoot, TooLong, NoSchema}
+use Rattle.fbcheck_c.specs.declared.answer.Answer.TheVariants.{Done, Good, Bad, UnknownOptions, OutOfRange, Empty, NoRoot, TooLong, NoSchema, NoSpan, BadStream, BadPath, NoRoom, Misfit}
 use Rattle.fbcheck_c.specs.declared.answer.Verdict.{Verdict}
 
 -- a reason's number is that of its code
@@ -71,6 +75,27 @@ load_told (load.BadSchema f) = record (blank 9) { reason = code_number f.code; o
 load_told load.RootNotListed = blank 10
 load_told load.OutOfMemory = blank 11
 
+-- what is wrong with a stream
+abbrev pub stream_number : StreamFault → ℕ
+stream_number stream.OutOfMemory = 11
+stream_number (stream.Oversize number) = 14
+stream_number (stream.Truncated held) = 15
+stream_number stream.Failed = 16
+
+-- a fault of a path, by the number of its code, and the place in the text or the number of the step
+abbrev pub misplaced : ℕ → ℕ → Verdict
+misplaced reason at = record (blank 17) { reason = reason; at = at }
+
+-- why a text is no path
+abbrev pub path_told : PathFault → Verdict
+path_told (path.BadText at) = misplaced 1 at
+path_told (path.NoSuchField step) = misplaced 2 step
+path_told (path.NotIndexable step) = misplaced 3 step
+path_told (path.NotAUnion step) = misplaced 4 step
+path_told (path.NoSuchMember step) = misplaced 5 step
+path_told (path.NotATable step) = misplaced 6 step
+path_told path.OutOfMemory = blank 11
+
 -- an answer in numbers
 abbrev pub told : Answer → Verdict
 told Done = blank 0
@@ -82,3 +107,8 @@ told Empty = blank 5
 told NoRoot = blank 6
 told TooLong = blank 7
 told (NoSchema fault) = load_told fault
+told NoSpan = blank 12
+told (BadStream fault) = blank (stream_number fault)
+told (BadPath fault) = path_told fault
+told NoRoom = blank 18
+told Misfit = blank 19

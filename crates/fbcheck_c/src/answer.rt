@@ -1,9 +1,11 @@
 //! What a call answers, and how it is told in numbers.
 
 ghost use Rattle.std.specs.Prelude.{◌≡◌, min};
-ghost use Rattle.fbcheck_c.specs.Told.{blank, code_number, fault_told, field_number, load_told, low, part_number, reason_number, told};
+ghost use Rattle.fbcheck_c.specs.Told.{blank, code_number, fault_told, field_number, load_told, low, misplaced, part_number, path_told, reason_number, stream_number, told};
 
+use fb_access::PathFault;
 use fb_bfbs::LoadFault;
+use fb_bytes::StreamFault;
 use fb_schema::{Code, SchemaFault};
 use fb_verify::{Fault, Reason, Report};
 
@@ -31,6 +33,16 @@ pub enum Answer {
     TooLong,
     /// 7 to 11: the schema file gives no schema.
     NoSchema(LoadFault),
+    /// 12: the span doesn't lie in the block.
+    NoSpan,
+    /// 11 and 17: the text is no path of the schema.
+    BadPath(PathFault),
+    /// 18: there are more steps than there is room for.
+    NoRoom,
+    /// 19: the steps don't fit from the root table.
+    Misfit,
+    /// 11 and 14 to 16: the stream of a framer isn't one of messages within its limit.
+    BadStream(StreamFault),
 }
 
 /// What is told of an answer in numbers (`fbcheck_verdict`).
@@ -61,38 +73,14 @@ pub struct Verdict {
 fn reason_number(reason: Reason) -> u32
     ensures { result ≡ reason_number reason }
 {
-    match reason {
-        Reason::WrongPrefix => 1,
-        Reason::OutOfBuffer => 2,
-        Reason::Misaligned => 3,
-        Reason::ZeroOffset => 4,
-        Reason::WrongIdentifier => 5,
-        Reason::TooDeep => 6,
-        Reason::TooManyTables => 7,
-        Reason::BadVtable => 8,
-        Reason::MissingRequired => 9,
-        Reason::NoTerminator => 10,
-        Reason::LengthsDiffer => 11,
-        Reason::PastTable => 12,
-        Reason::TooManyReads => 13,
-    }
+    reason as u32 + 1
 }
 
 /// The number of what is wrong with rows.
 fn code_number(code: Code) -> u32
     ensures { result ≡ code_number code }
 {
-    match code {
-        Code::NoSuchObject => 1,
-        Code::NoSuchEnum => 2,
-        Code::Unsupported => 3,
-        Code::BadSlot => 4,
-        Code::NoTypeField => 5,
-        Code::BadStruct => 6,
-        Code::BadMember => 7,
-        Code::NameTwice => 8,
-        Code::OutOfMemory => 9,
-    }
+    code as u32 + 1
 }
 
 /// The number of a field, if there is one.
@@ -170,8 +158,47 @@ fn load_told(fault: LoadFault) -> Verdict
     }
 }
 
+/// A fault of a path, by the number of its code and its place.
+fn misplaced(reason: u32, at: u64) -> Verdict
+    ensures { result ≡ misplaced reason at }
+{
+    Verdict {
+        reason,
+        at,
+        ..blank(17)
+    }
+}
+
+/// Why a text is no path.
+fn path_told(fault: PathFault) -> Verdict
+    ensures { result ≡ path_told fault }
+{
+    match fault {
+        PathFault::BadText { at } => misplaced(1, at),
+        PathFault::NoSuchField { step } => misplaced(2, step),
+        PathFault::NotIndexable { step } => misplaced(3, step),
+        PathFault::NotAUnion { step } => misplaced(4, step),
+        PathFault::NoSuchMember { step } => misplaced(5, step),
+        PathFault::NotATable { step } => misplaced(6, step),
+        PathFault::OutOfMemory => blank(11),
+    }
+}
+
+/// The number of what is wrong with a stream.
+fn stream_number(fault: StreamFault) -> u32
+    ensures { result ≡ stream_number fault }
+{
+    match fault {
+        StreamFault::OutOfMemory => 11,
+        StreamFault::Oversize { .. } => 14,
+        StreamFault::Truncated { .. } => 15,
+        StreamFault::Failed => 16,
+    }
+}
+
 impl Answer {
     /// The answer in numbers.
+    #[inline(always)]
     pub fn told(self) -> Verdict
         ensures { result ≡ told self }
     {
@@ -190,6 +217,11 @@ impl Answer {
             Answer::NoRoot => blank(6),
             Answer::TooLong => blank(7),
             Answer::NoSchema(fault) => load_told(fault),
+            Answer::NoSpan => blank(12),
+            Answer::BadPath(fault) => path_told(fault),
+            Answer::NoRoom => blank(18),
+            Answer::Misfit => blank(19),
+            Answer::BadStream(fault) => blank(stream_number(fault)),
         }
     }
 }

@@ -4,13 +4,18 @@ ghost use Rattle.std.specs.Prelude.{◌≡◌, None, Option, Some, option_map};
 ghost use Rattle.std.specs.Ptr.{null_ptr};
 ghost use Rattle.fbcheck_c.specs.Answered.{IfHeld, IsChecked, IsChosenIn, IsPricedIn, IsTaken};
 ghost use Rattle.fbcheck_c.specs.Names.{IsNameTold, field_name, held_name, object_name};
+ghost use Rattle.fbcheck_c.specs.Reached.{IsPathIn, IsReadIn};
+ghost use Rattle.fbcheck_c.specs.Spans.{AreTold, IsSpanChecked};
 ghost use Rattle.fbcheck_c.specs.declared.session.Session.{Session};
 
-use crate::answer::Answer;
+use crate::answer::{Answer, Verdict};
 use crate::detached::Detached;
 use crate::names::{field_name, object_name, told};
 use crate::options::Options;
 use crate::session::Session;
+use crate::spans::Span;
+use crate::steps::PlainStep;
+use crate::values::Value;
 use fb_bfbs::LoadFault;
 use std::alloc::Global;
 use std::marker::Model;
@@ -107,8 +112,9 @@ impl Handle {
         }
     }
 
-    /// Has the handle hold this session. What it held before is forgotten.
+    /// Has the handle, which holds nothing, hold this session.
     fn put(&mut self, session: Box<Session>)
+        requires { self.old.session ≡ None }
         ensures { self.new.session ≡ Some session.value }
     {
         *self = Handle::of(session);
@@ -154,6 +160,78 @@ impl Handle {
         };
         let inside = &mut *session;
         let answer = inside.check(options, buffer);
+        self.put(session);
+        answer
+    }
+
+    /// Checks the buffer that a span names in a block of bytes, as [`Handle::check`] does.
+    fn check_span(&mut self, alloc: Global, options: &Options, block: &[u8], span: &Span) -> Answer
+        ensures answer { IsSpanChecked self.old.session options.now block.now span.now result }
+        ensures kept { self.new.session ≡ self.old.session }
+    {
+        match span.cut(block) {
+            Some(buffer) => self.check(alloc, options, buffer),
+            None => Answer::NoSpan,
+        }
+    }
+
+    /// Checks the buffers that spans name in a block of bytes, each as [`Handle::check`] does, and tells each verdict at
+    /// the place of its span. Where there are more of spans or of verdicts than of the others, these are left alone.
+    pub fn check_each(
+        &mut self,
+        alloc: Global,
+        options: &Options,
+        block: &[u8],
+        spans: &[Span],
+        verdicts: &mut [Verdict],
+    )
+        ensures told { AreTold self.old.session options.now block.now spans.now verdicts.new }
+        ensures kept { self.new.session ≡ self.old.session }
+    {
+        let count = spans.len().min(verdicts.len());
+        for place in 0..count {
+            let answer = self.check_span(alloc, options, block, &spans[place]);
+            verdicts[place] = answer.told();
+        }
+    }
+
+    /// Writes the steps of the path that a text names, as [`Session::resolve`] does.
+    pub fn resolve(
+        &mut self,
+        alloc: Global,
+        text: &[u8],
+        room: &mut [PlainStep],
+        count: &mut usize,
+    ) -> Answer
+        ensures path { IsPathIn self.old.session text.now room.old room.new count.old count.new result }
+        ensures kept { self.new.session ≡ self.old.session }
+    {
+        let Some(session) = self.take(alloc) else {
+            return Answer::Empty;
+        };
+        let answer = session.resolve(alloc, text, room, count);
+        self.put(session);
+        answer
+    }
+
+    /// Checks a buffer and tells the value at the end of these steps, as [`Session::read`] does.
+    pub fn read(
+        &mut self,
+        alloc: Global,
+        options: &Options,
+        buffer: &[u8],
+        steps: &[PlainStep],
+        value: &mut Value,
+        room: &mut [u8],
+    ) -> Answer
+        ensures answer { IsReadIn self.old.session options.now buffer.now steps.now value.old value.new room.old room.new result }
+        ensures kept { self.new.session ≡ self.old.session }
+    {
+        let Some(mut session) = self.take(alloc) else {
+            return Answer::Empty;
+        };
+        let inside = &mut *session;
+        let answer = inside.read(options, steps, buffer, value, room);
         self.put(session);
         answer
     }

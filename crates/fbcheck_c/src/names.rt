@@ -57,7 +57,7 @@ pub fn field_name<'n>(schema: &Schema<'n>, object: u32, number: u32) -> Option<&
 }
 
 /// Copies a text where there is room for all of it, and tells its length whether or not there is.
-fn copied(text: &[u8], room: &mut [u8]) -> usize
+pub fn copied(text: &[u8], room: &mut [u8]) -> usize
     ensures length { result ≡ length text.now }
     ensures room { room.new ≡ filled text.now room.old }
 {

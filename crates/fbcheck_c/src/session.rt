@@ -1,16 +1,18 @@
 //! A loaded schema, by which buffers are checked.
 
 ghost use Rattle.std.specs.Prelude.{◌≡◌, IfOk, IfSome, IsTrue, MatchResult};
-ghost use Rattle.fb_bfbs.specs.Describes.{table_named};
 ghost use Rattle.fb_schema.specs.Rows.{is_table};
-ghost use Rattle.fbcheck_c.specs.Answered.{IsChecked, IsChosen, IsNotOpened, IsOpened, IsPriced, root_table};
+ghost use Rattle.fbcheck_c.specs.Answered.{Begins, IsChecked, IsChosen, IsNotOpened, IsOpened, IsPriced, IsUnserved, root_table};
+ghost use Rattle.fbcheck_c.specs.Reached.{IsPath, IsRead};
 
 use crate::answer::{Answer, low};
 use crate::options::Options;
+use crate::steps::{PlainStep, write_steps};
+use crate::values::{Value, found_at, told_value};
+use fb_access::Path;
 use fb_bfbs::{LoadFault, Loaded, load};
 use fb_bytes::Meter;
-use fb_schema::Schema;
-use fb_verify::{Limits, Scratch, ScratchFault, most_reads, walk};
+use fb_verify::{Limits, Scratch, ScratchFault, most_reads, verify, walk};
 use std::alloc::{AllocError, Global};
 
 /// The most levels that a session may have room for.
@@ -22,17 +24,6 @@ pub struct Session {
     pub loaded: Loaded<'static>,
     pub root: Option<u32>,
     pub scratch: Scratch,
-}
-
-/// The table of this name.
-#[tactic(auto, unfolding(fb_bfbs::specs::Describes::table_named))]
-fn table_named(schema: &Schema<'_>, name: &[u8]) -> Option<u32>
-    ensures { result ≡ table_named schema.now name.now }
-{
-    match schema.object_named(name) {
-        Some(n) if schema.is_table(n) => Some(n),
-        _ => None,
-    }
 }
 
 /// Room for as many open tables as the limits allow.
@@ -86,12 +77,27 @@ impl Session {
     pub fn choose_root(&mut self, name: &[u8]) -> Answer
         ensures { IsChosen self.old name.now self.new result }
     {
-        match table_named(&self.loaded.schema, name) {
+        match self.loaded.schema.table_named(name) {
             Some(n) => {
                 self.root = Some(n);
                 Answer::Done
             }
             None => Answer::NoRoot,
+        }
+    }
+
+    /// The limits of a check by these options, and the root table where it begins.
+    ///
+    /// # Errors
+    ///
+    /// As [`Options::limits`] has it for the levels of the session; then `NoRoot`.
+    fn begin(&self, options: &Options) -> Result<(Limits, u32), Answer>
+        ensures { MatchResult result (λ begun. Begins self.now options.now begun.0 begun.1) (IsUnserved self.now options.now) }
+    {
+        let limits = options.limits(self.scratch.depth())?;
+        match self.root_table() {
+            Some(root) => Ok((limits, root)),
+            None => Err(Answer::NoRoot),
         }
     }
 
@@ -122,6 +128,68 @@ impl Session {
         ) {
             Ok(report) => Answer::Good(report),
             Err(fault) => Answer::Bad(fault),
+        }
+    }
+
+    /// Checks a buffer as [`Session::check`] does, and tells of a good one the value at the end of these steps from the root
+    /// table. Its bytes are copied where there is room for them. `Misfit` where the steps don't fit.
+    pub fn read(
+        &mut self,
+        options: &Options,
+        steps: &[PlainStep],
+        buffer: &[u8],
+        value: &mut Value,
+        room: &mut [u8],
+    ) -> Answer
+        ensures answer { IsRead self.old options.now buffer.now steps.now value.old value.new room.old room.new result }
+        ensures kept { self.new ≡ self.old }
+    {
+        let (limits, root) = match self.begin(options) {
+            Ok(begun) => begun,
+            Err(answer) => return answer,
+        };
+        let Ok(meter) = Meter::new(buffer) else {
+            return Answer::TooLong;
+        };
+        let schema = &self.loaded.schema;
+        let (start, ident, checks) = (options.start(), options.ident(), options.checks());
+        let scratch = &mut self.scratch;
+        let verified = match verify(meter, schema, root, start, ident, limits, checks, scratch) {
+            Ok(verified) => verified,
+            Err(first) => return Answer::Bad(first),
+        };
+        let Some(found) = found_at(&verified, steps) else {
+            return Answer::Misfit;
+        };
+        *value = told_value(found, room);
+        Answer::Good(verified.report())
+    }
+
+    /// Writes the steps of the path that a text names from the root table, where there is room for all of them, and tells
+    /// how many they are.
+    ///
+    /// `NoRoot`; `BadPath` as [`Path::resolve`] has it; `NoRoom` where they are more than there is room for.
+    pub fn resolve(
+        &self,
+        alloc: Global,
+        text: &[u8],
+        room: &mut [PlainStep],
+        count: &mut usize,
+    ) -> Answer
+        ensures { IsPath self.now text.now room.old room.new count.old count.new result }
+    {
+        let Some(root) = self.root_table() else {
+            return Answer::NoRoot;
+        };
+        let path = match Path::resolve(alloc, &self.loaded.schema, root, text) {
+            Ok(path) => path,
+            Err(fault) => return Answer::BadPath(fault),
+        };
+        *count = path.steps().len();
+        if write_steps(path.steps(), room) {
+            Answer::Done
+        } else {
+            Answer::NoRoom
         }
     }
 

@@ -12,14 +12,14 @@ mod tests;
 
 /// The string at `to.name` of a good buffer; none where it is absent, or anything is wrong.
 pub fn name_in<'b>(alloc: Global, schema_file: &[u8], buffer: &'b [u8]) -> Option<&'b [u8]> {
-    // A server does this once: the schema with its root table, the path, and room for the walk.
+    // Once: the schema, its root table, the path, and room for a walk.
     let limits = Limits::published();
     let loaded = load(alloc, schema_file, limits).ok()?;
     let root = loaded.root?;
     let path = Path::resolve(alloc, &loaded.schema, root, b"to.name").ok()?;
     let mut scratch = Scratch::new(alloc, limits.depth()).ok()?;
 
-    // For each buffer: the verdict, and then values. Nothing here takes memory or copies.
+    // For each buffer; this takes no memory and copies nothing.
     let meter = Meter::new(buffer).ok()?;
     let verified = verify(
         meter,

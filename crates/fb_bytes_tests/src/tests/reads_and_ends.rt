@@ -2,7 +2,7 @@
 
 use fb_bytes::{Counted, Meter, Sink, Source, Window};
 use std::io;
-use std::io::{ErrorKind, Read};
+use std::io::{ErrorKind, Read, Write};
 use std::test::Fail;
 
 /// A buffer of one table with a short and a string.
@@ -40,6 +40,35 @@ impl Read for Falters {
             2 => Err(io::Error::from(ErrorKind::Other)),
             _ => Ok(0),
         }
+    }
+}
+
+/// A reader and writer that fails at each call, and counts them.
+#[derive(Drop)]
+struct Fails {
+    calls: u32,
+}
+
+impl Fails {
+    fn fail(&mut self) -> io::Error {
+        self.calls = self.calls.saturating_add(1);
+        io::Error::from(ErrorKind::Other)
+    }
+}
+
+impl Read for Fails {
+    fn read(&mut self, _buf: &mut [u8]) -> io::Result<usize> {
+        Err(self.fail())
+    }
+}
+
+impl Write for Fails {
+    fn write(&mut self, _buf: &[u8]) -> io::Result<usize> {
+        Err(self.fail())
+    }
+
+    fn flush(&mut self) -> io::Result<()> {
+        Ok(())
     }
 }
 
@@ -157,5 +186,19 @@ fn a_sink_that_takes_nothing_has_failed(rt: HostRuntime) -> Result<(), Fail> {
     assert_eq!(rt; sink.push(b"c").ok(), Some(0));
     assert_eq!(rt; (sink.calls(), sink.failures()), (3, 1));
     assert_eq!(rt; sink.into_inner().len(), 0);
+    Ok(())
+}
+
+#[test]
+fn a_call_that_fails_was_passed_on_once(rt: HostRuntime) -> Result<(), Fail> {
+    let mut source = Counted::new(Fails { calls: 0 });
+    let mut piece = [0u8; 4];
+    assert!(rt; source.pull(&mut piece).is_err());
+    assert!(rt; source.pull(&mut piece).is_err());
+    assert_eq!(rt; (Source::failures(&source), source.get_ref().calls), (2, 2));
+    let mut sink = Counted::new(Fails { calls: 0 });
+    assert!(rt; sink.push(b"ab").is_err());
+    assert!(rt; sink.push(b"ab").is_err());
+    assert_eq!(rt; (Sink::failures(&sink), sink.get_ref().calls), (2, 2));
     Ok(())
 }

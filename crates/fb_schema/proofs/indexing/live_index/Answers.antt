@@ -2,11 +2,12 @@ use Rattle.std.proofs.Common.{◌<◌, [], filter, if◌then◌else◌, Some, ma
 use Rattle.std.proofs.lemmas.List.{length-map}
 use Rattle.fb_schema.specs.Index.{view_name}
 use Rattle.fb_schema.specs.FlatLists.{lists_of}
-use Rattle.fb_schema.specs.Live.{required_end_of, live_in, live_of, live_of_view, live_rows, by_slot, is_live, AreSpaced}
+use Rattle.fb_schema.specs.Live.{required_end_of, live_in, live_of_view, by_slot, is_live, AreKinded, AreSpaced}
 use Rattle.fb_schema.specs.Sorting.{IsOrderOf, name_cmp}
 use Rattle.fb_schema.specs.Rows.{borrowed_rows, object_of}
 use Rattle.fb_schema.specs.Steps.{step_of}
-use Rattle.fb_schema.proofs.IndexLemmas.{legal_slots, matched_pushed, lists_step, value_step, widest_step, same_length, kept_read, mapped_read, mapped_twice}
+use Rattle.fb_schema.proofs.IndexLemmas.{legal_slots, matched_pushed, lists_step, value_step, widest_step, kept_read, mapped_read, mapped_twice}
+use Rattle.fb_schema.proofs.Kinded.{rows_kinded, live_long}
 use Rattle.fb_schema.proofs.TypedLemmas.{rows_spaced}
 use Rattle.fb_schema.proofs.indexing.live_index.Goals as goal
 
@@ -20,6 +21,14 @@ table_views-requires-clause-spaced g c = λ table.
     let o = object_of c.object-item.result in
     subst (λ b. AreSpaced (if b then [] else by_slot (filter is_live o.fields))) table
     (rows_spaced (borrowed_rows c.args.rows.now) c.requires.legal c.loop-object.object-index o
+    (kept_read object_of c.args.rows.now.objects.now c.loop-object.object-index c.object-item.result c.loop-object-test.true c.object-item.is))
+
+pub table_views-requires-clause-kinds : goal.table_views-requires-clause-kinds
+table_views-requires-clause-kinds g c = λ table.
+    let o = object_of c.object-item.result in
+    let rows = borrowed_rows c.args.rows.now in
+    subst (λ b. AreKinded rows (if b then [] else by_slot (filter is_live o.fields))) table
+    (rows_kinded rows c.requires.legal c.loop-object.object-index o
     (kept_read object_of c.args.rows.now.objects.now c.loop-object.object-index c.object-item.result c.loop-object-test.true c.object-item.is))
 
 pub view_names-requires : goal.view_names-requires
@@ -50,6 +59,7 @@ loop-object-preserved g c =
       required = value_step (λ o. required_end_of (live_in rows (Some o))) (map object_of objects) i o c.loop-object.index.required.items _ c.required_end.result low is c.loop-object.invariant.required c.in_ok-push-4.ensures.items
           (c.required_end.ensures ∙ ap (λ fields. required_end_of (map live_of_view fields)) c.deref-in-loop-object-5.ensures.value ∙ ap required_end_of c.in_ok-fields.ensures.value);
       widest = widest_step (map object_of objects) i o c.loop-object.index.widest c.max.result c.len.result low is c.loop-object.invariant.widest c.max.ensures
-          (c.len.ensures ∙ c.in_ok-fields.fields.ok.0 ∙ same_length live_of_view (live_of rows (live_rows o)) views (live_rows o) c.in_ok-fields.ensures.value);
+          (c.len.ensures ∙ c.in_ok-fields.fields.ok.0 ∙ sym (length-map views live_of_view) ∙ ap length c.in_ok-fields.ensures.value
+          ∙ live_long rows c.requires.legal i o (kept_read object_of objects i row lt c.object-item.is));
       few = omega (arith, c.max.ensures, c.loop-object.invariant.few, c.in_ok-fields.ensures.few, c.len.ensures, c.in_ok-fields.fields.ok.0);
     }

@@ -12,13 +12,13 @@ at_row g c = slice_get-get_or c.args.rows.now.objects.now c.loop-n.n c.object-it
 pub returns-in-Some-clause-refused : goal.returns-in-Some-clause-refused
 returns-in-Some-clause-refused g c =
     let d = (goal.at.returns-in-Some-clause-refused g c).After-object_fault in
-    inl (refused_object (borrowed_rows c.args.rows.now) c.args.rows.now.objects.now refl c.loop-n.n c.object-item.result (at_row g d) c.args.again c.requires.again c.loop-n.invariant c.is_at.result c.in-Some.code c.is_at.ensures (sym c.in-Some.is ∙ c.object_fault.ensures))
+    inl (rw c.fault_of.ensures (refused_object (borrowed_rows c.args.rows.now) c.args.rows.now.objects.now refl c.loop-n.n c.object-item.result (at_row g d) c.args.again c.requires.again c.loop-n.invariant c.is_at.result c.in-Some.code c.is_at.ensures (sym c.in-Some.is ∙ c.object_fault.ensures)))
 
 pub returns-in-Some-fault-clause-refused : goal.returns-in-Some-fault-clause-refused
 returns-in-Some-fault-clause-refused g c =
     let d = (goal.at.returns-in-Some-fault-clause-refused g c).After-object_fault in
-    inl (refused_field (borrowed_rows c.args.rows.now) c.args.rows.now.objects.now refl c.loop-n.n c.object-item.result (at_row g d) c.args.again c.requires.again c.loop-n.invariant c.is_at.result c.is_at.ensures (sym c.in_default.is ∙ c.object_fault.ensures) c.in-Some-fault.code c.in-Some-fault.p
-    (rw c.in-Some-fault.is at c.in_ok-fault.ensures))
+    inl (rw c.fault_of-in-Some-fault.ensures (refused_field (borrowed_rows c.args.rows.now) c.args.rows.now.objects.now refl c.loop-n.n c.object-item.result (at_row g d) c.args.again c.requires.again c.loop-n.invariant c.is_at.result c.is_at.ensures (sym c.in_default.is ∙ c.object_fault.ensures) c.in-Some-fault.code c.in-Some-fault.p
+    (rw c.in-Some-fault.is at c.in_ok-fault.ensures)))
 
 pub loop-n-preserved : goal.loop-n-preserved
 loop-n-preserved g c =

@@ -13,7 +13,7 @@ at_row g c = mapped_at enum_of c.args.rows.now.enums.now c.loop-n.n c.row-item.r
 pub returns-in-Some-clause-refused : goal.returns-in-Some-clause-refused
 returns-in-Some-clause-refused g c =
     let d = (goal.at.returns-in-Some-clause-refused g c).After-union_fault in
-    inl (refused_member (borrowed_rows c.args.rows.now) c.requires.objects c.loop-n.n (enum_of c.row-item.result) (at_row g d) c.loop-n.invariant c.in-Some.code c.in-Some.p (rw c.in-Some.is at c.in_ok-fault.ensures))
+    inl (rw c.fault_of.ensures (refused_member (borrowed_rows c.args.rows.now) c.requires.objects c.loop-n.n (enum_of c.row-item.result) (at_row g d) c.loop-n.invariant c.in-Some.code c.in-Some.p (rw c.in-Some.is at c.in_ok-fault.ensures)))
 
 pub loop-n-preserved : goal.loop-n-preserved
 loop-n-preserved g c =

@@ -1,21 +1,29 @@
-use Rattle.std.proofs.Common.{map, ◌∙◌, arith}
-use Rattle.std.proofs.lemmas.List.{length-map, length-take-le}
-use Rattle.fb_schema.proofs.IndexLemmas.{same_length, views_step, few_step}
-use Rattle.fb_schema.specs.Live.{live_of, live_of_view}
+use Rattle.std.proofs.Common.{map, get_or, Some, IsSome, option_map, sym, ap, subst, ◌∙◌, rules}
+use Rattle.std.proofs.lemmas.Option.{slice_get-get_or}
+use Rattle.fb_schema.specs.Live.{live_as, live_of, live_of_view}
 use Rattle.fb_schema.specs.Rows.{field_of, borrowed_rows}
+use Rattle.fb_schema.proofs.Blank.{blank_field}
+use Rattle.fb_schema.proofs.IndexLemmas.{few_step}
+use Rattle.fb_schema.proofs.Kept.{kept_step}
+use Rattle.fb_schema.proofs.WalkLemmas.{mapped_at}
 use Rattle.fb_schema.proofs.live.views.Goals as goal
 
-pub returns-clause-few : goal.returns-clause-few
-returns-clause-few g c =
+pub unwrap-kind-requires : goal.unwrap-kind-requires
+unwrap-kind-requires g c =
     let live = c.args.live.now in
-    let few = c.loop-field.invariant.1 in
-    let same = same_length live_of_view (live_of (borrowed_rows c.args.rows.now) (map field_of live)) c.loop-field.views.items _ c.loop-field.invariant.0 ∙ length-map _ _ in
-    let short = length-take-le c.loop-field.field-index live (omega arith) in
-    omega (arith, same, few, short)
+    let i = c.loop-field.field-index in
+    let x = get_or live i blank_field in
+    subst IsSome (sym c.kind_of.ensures) (c.requires.kinds.at i (field_of x) (mapped_at field_of live i x (slice_get-get_or live i blank_field c.loop-field-test.true)))
 
 pub loop-field-preserved : goal.loop-field-preserved
 loop-field-preserved g c =
     let live = c.args.live.now in
+    let rows = borrowed_rows c.args.rows.now in
     let i = c.loop-field.field-index in
     let lt = c.loop-field-test.true in
-    (views_step field_of (live_of (borrowed_rows c.args.rows.now) (map field_of live)) live_of_view live i _ c.loop-field.views.items _ c.view_of.result lt c.loop-field.invariant.0 c.in_ok-push.ensures.items c.view_of.ensures.value, few_step live i _ c.requires.spaced lt c.view_of.ensures.slot)
+    let kind = ap (option_map (live_as rows (map field_of live) (field_of (get_or live i blank_field)))) (sym c.kind_of.ensures ∙ c.unwrap-kind.ensures) in
+    record {
+      value = kept_step field_of (live_of rows (map field_of live)) live_of_view live i blank_field c.loop-field.views.items _ c.view_of.result lt c.loop-field.invariant.value c.in_ok-push.ensures.items (kind ∙ ap Some (sym c.view_of.ensures.value));
+      long = search rules;
+      few = few_step live i blank_field c.requires.spaced lt c.view_of.ensures.slot;
+    }

@@ -1,20 +1,22 @@
-use Rattle.std.proofs.Common.{rules, ap, refl}
+use Rattle.std.proofs.Common.{◌+◌, ◌-◌, rules, ap, refl}
+use Rattle.fbcheck.specs.Faults.{EndsBeside}
 use Rattle.fbcheck.specs.Run.{IsStreamRun}
-use Rattle.fbcheck.proofs.RunLemmas.{err_exit, fails_empty, fails_used, fails_write, sofar_more, sofar_nothing}
+use Rattle.fbcheck.proofs.RunLemmas.{caused_flush, err_exit, fails_empty, fails_used, fails_write, sofar_more, sofar_nothing}
 use Rattle.fbcheck.specs.Stream.{Standing, standing}
+use Rattle.fbcheck.specs.Texts.{waiting}
 use Rattle.fbcheck.proofs.stream.run_stream.Goals as goal
 
 pub returns-in_err-piece-clause-run : goal.returns-in_err-piece-clause-run
 returns-in_err-piece-clause-run g c =
     err_exit c.from_residual.result _
-    (IsStreamRun c.args.checker.now (g.S.Source.remaining c.args.reader.now) (g.S.Source.remaining c.args.reader.now) (g.K.Sink.contents c.args.writer.now) (g.K.Sink.contents c.args.writer.now))
-    c.from_residual.ensures.1 (fails_empty _ _ _ _)
+    (IsStreamRun c.args.checker.now (g.S.Source.remaining c.args.reader.now) (g.S.Source.remaining c.args.reader.now) (g.K.Sink.contents c.args.writer.now) (g.K.Sink.contents c.args.writer.now) (g.N.Sink.contents c.args.notes.now) (g.N.Sink.contents c.args.notes.now))
+    c.from_residual.ensures.1 (fails_empty _ _ _ _ _)
 
 pub returns-in_err-carried-clause-run : goal.returns-in_err-carried-clause-run
 returns-in_err-carried-clause-run g c =
     err_exit c.from_residual-in_err-carried.result _
-    (IsStreamRun c.args.checker.now (g.S.Source.remaining c.args.reader.now) (g.S.Source.remaining c.args.reader.now) (g.K.Sink.contents c.args.writer.now) (g.K.Sink.contents c.args.writer.now))
-    c.from_residual-in_err-carried.ensures.1 (fails_empty _ _ _ _)
+    (IsStreamRun c.args.checker.now (g.S.Source.remaining c.args.reader.now) (g.S.Source.remaining c.args.reader.now) (g.K.Sink.contents c.args.writer.now) (g.K.Sink.contents c.args.writer.now) (g.N.Sink.contents c.args.notes.now) (g.N.Sink.contents c.args.notes.now))
+    c.from_residual-in_err-carried.ensures.1 (fails_empty _ _ _ _ _)
 
 pub loop-left-init : goal.loop-left-init
 loop-left-init g c =
@@ -23,14 +25,17 @@ loop-left-init g c =
       room = search rules;
       ready = new.ready;
       empty = ap (λ (s : Standing). s.text) new.empty;
-      told = sofar_nothing _ (standing c.in_ok-carried.carried) _ _ _ new.empty new.written;
+      told = sofar_nothing _ (standing c.in_ok-carried.carried) _ _ _ _ _ new.empty new.written new.noted;
       fewer = search rules;
       calls = search rules;
       few = search rules;
       little = search rules;
-      pushes = search rules;
+      less = search rules;
+      writes = search rules;
+      tells = search rules;
       failures = search rules;
       refusals = search rules;
+      complaints = search rules;
     }
 
 pub loop-left-preserved : goal.loop-left-preserved
@@ -38,33 +43,45 @@ loop-left-preserved g c =
     let before = c.loop-left.invariant in
     let used = c.in_ok-used.ensures in
     let flushed = c.in_ok-flush.ensures in
-    let after : Standing = record { text = c.flush.new.self.text.items; good = c.flush.new.self.yes; bad = c.flush.new.self.no; held = c.use_up-used.new.self.framer.held } in
+    let after : Standing = record { text = waiting c.flush.new.self; good = c.flush.new.self.yes; bad = c.flush.new.self.no; held = c.use_up-used.new.self.framer.held } in
     record {
       room = search rules;
       ready = used.ready;
       empty = flushed.empty;
-      told = sofar_more _ (standing c.loop-left.carried) (standing c.use_up-used.new.self) after _ _ _ _ _ _ _ _ _ _ _ c.as_slice.ensures.value before.empty (search rules) flushed.yes flushed.no refl before.told c.in-Ok.ensures.ok used.onward flushed.ok;
+      told = sofar_more _ (standing c.loop-left.carried) (standing c.use_up-used.new.self) after _ _ _ _ _ _ _ _ _ _ _ _ _ _ _ _ c.as_slice.ensures.value before.empty (search rules) (search rules) flushed.yes flushed.no refl before.told c.in-Ok.ensures.ok used.onward flushed.wrote flushed.told;
       fewer = search rules;
       calls = search rules;
       few = search rules;
       little = search rules;
-      pushes = search rules;
+      less = search rules;
+      writes = search rules;
+      tells = search rules;
       failures = search rules;
       refusals = search rules;
+      complaints = search rules;
     }
 
 pub returns-in_err-flush-clause-run : goal.returns-in_err-flush-clause-run
 returns-in_err-flush-clause-run g c =
     let before = c.loop-left.invariant in
     err_exit c.from_residual-in_err-flush.result _
-    (IsStreamRun c.args.checker.now (g.S.Source.remaining c.args.reader.now) (g.S.Source.remaining c.pull_piece.new.source) (g.K.Sink.contents c.args.writer.now) (g.K.Sink.contents c.flush.new.sink))
+    (IsStreamRun c.args.checker.now (g.S.Source.remaining c.args.reader.now) (g.S.Source.remaining c.pull_piece.new.source) (g.K.Sink.contents c.args.writer.now) (g.K.Sink.contents c.flush.new.writer) (g.N.Sink.contents c.args.notes.now) (g.N.Sink.contents c.flush.new.notes))
     c.from_residual-in_err-flush.ensures.1
-    (fails_write _ (standing c.loop-left.carried) _ _ _ _ _ _ _ _ _ _ _ _ _ c.as_slice.ensures.value before.empty c.use_up-used.ensures.written before.told c.in-Ok.ensures.ok c.use_up-used.ensures.gathers c.in_err-flush.ensures.err)
+    (fails_write _ (standing c.loop-left.carried) _ _ _ _ _ _ _ _ _ _ _ _ _ _ _ _ _ _ c.as_slice.ensures.value before.empty c.use_up-used.ensures.written c.use_up-used.ensures.noted before.told c.in-Ok.ensures.ok c.use_up-used.ensures.gathers c.in_err-flush.ensures.err)
+
+pub returns-in_err-flush-clause-end : goal.returns-in_err-flush-clause-end
+returns-in_err-flush-clause-end g c =
+    let before = c.loop-left.invariant in
+    err_exit c.from_residual-in_err-flush.result _
+    (EndsBeside (g.S.Source.failures c.args.reader.now) (g.S.Source.failures c.pull_piece.new.source) (g.K.Sink.failures c.args.writer.now) (g.K.Sink.failures c.flush.new.writer) (g.N.Sink.failures c.args.notes.now) (g.N.Sink.failures c.flush.new.notes)
+    (g.S.Source.calls c.args.reader.now + c.args.turns - g.S.Source.calls c.pull_piece.new.source) (g.S.Source.ended c.pull_piece.new.source))
+    c.from_residual-in_err-flush.ensures.1
+    (caused_flush _ _ _ _ _ _ _ _ _ _ c.in_err-flush.field-0.0 before.refusals before.complaints c.in_err-flush.ensures.failed)
 
 pub returns-in_err-used-clause-run : goal.returns-in_err-used-clause-run
 returns-in_err-used-clause-run g c =
     let before = c.loop-left.invariant in
     err_exit c.from_residual-in_err-used.result _
-    (IsStreamRun c.args.checker.now (g.S.Source.remaining c.args.reader.now) (g.S.Source.remaining c.pull_piece.new.source) (g.K.Sink.contents c.args.writer.now) (g.K.Sink.contents c.flush.new.sink))
+    (IsStreamRun c.args.checker.now (g.S.Source.remaining c.args.reader.now) (g.S.Source.remaining c.pull_piece.new.source) (g.K.Sink.contents c.args.writer.now) (g.K.Sink.contents c.flush.new.writer) (g.N.Sink.contents c.args.notes.now) (g.N.Sink.contents c.flush.new.notes))
     c.from_residual-in_err-used.ensures.1
-    (fails_used _ (standing c.loop-left.carried) _ _ _ _ _ _ _ _ _ _ _ _ c.as_slice.ensures.value before.empty before.told c.in-Ok.ensures.ok c.in_err-used.ensures.halts c.in_ok-flush.ensures.ok)
+    (fails_used _ (standing c.loop-left.carried) _ _ _ _ _ _ _ _ _ _ _ _ _ _ _ _ c.as_slice.ensures.value before.empty before.told c.in-Ok.ensures.ok c.in_err-used.ensures.halts c.in_ok-flush.ensures.wrote c.in_ok-flush.ensures.told)

@@ -3,7 +3,7 @@ use Rattle.clap.specs.Walk.{Text}
 use Rattle.fbcheck.specs.Values.{IsWrittenIn}
 use Rattle.fbcheck.proofs.words.settings.Goals.{in-OutOfMemory+in-Some-1, in-OutOfMemory+in-None-1, in_default-kind}
 use Rattle.fbcheck.proofs.ProgramLemmas.{differs, holds_number, holds_wide_number}
-use Rattle.fbcheck.proofs.WordsLemmas.{no_fault, refused_by, text_of_words, read_of_words, turned}
+use Rattle.fbcheck.proofs.WordsLemmas.{no_fault, refused_by, some_text, text_of_words, read_of_words, turned}
 use Rattle.fbcheck.proofs.words.settings.Goals as goal
 
 pub returns-clause-read : goal.returns-clause-read
@@ -65,6 +65,14 @@ pub returns-clause-inline_size : goal.returns-clause-inline_size
 returns-clause-inline_size c = subst (λ (o : Option Text). IsTrue c.flag-inline_size.result ↔ (o ≡ Some (codes "true")))
     (text_of_words _ _ _ (codes "inline-size") c.in-Ok.ensures.app c.in-Ok-try_get_matches_from.ensures.matches) c.flag-inline_size.ensures
 
+pub returns-clause-filter : goal.returns-clause-filter
+returns-clause-filter c = subst (λ (o : Option Text). IsTrue c.flag-filter.result ↔ (o ≡ Some (codes "true")))
+    (text_of_words _ _ _ (codes "filter") c.in-Ok.ensures.app c.in-Ok-try_get_matches_from.ensures.matches) c.flag-filter.ensures
+
+pub returns-clause-quiet : goal.returns-clause-quiet
+returns-clause-quiet c = subst (λ (o : Option Text). IsTrue c.flag-quiet.result ↔ (o ≡ Some (codes "true")))
+    (text_of_words _ _ _ (codes "quiet") c.in-Ok.ensures.app c.in-Ok-try_get_matches_from.ensures.matches) c.flag-quiet.ensures
+
 pub returns-clause-schema : goal.returns-clause-schema
 returns-clause-schema c = c.in-Ok-copied.ensures ∙ text_of_words _ _ _ (codes "schema") c.in-Ok.ensures.app c.in-Ok-try_get_matches_from.ensures.matches
 
@@ -82,6 +90,16 @@ returns-in-Err-clause-refused c = elim c.match-kind.branch [
       let fault = refused_by _ _ c.in-Err.error c.in-Ok.ensures.app c.in-Err.ensures.kinds in
       rw w.result-is (search rules, fault)
 ]
+
+pub returns-then-is_some-clause-refused : goal.returns-then-is_some-clause-refused
+returns-then-is_some-clause-refused c =
+    let filter = subst (λ (o : Option Text). IsTrue c.flag-filter.result ↔ (o ≡ Some (codes "true")))
+    (text_of_words _ _ _ (codes "filter") c.in-Ok.ensures.app c.in-Ok-try_get_matches_from.ensures.matches) c.flag-filter.ensures in (
+      no_fault _ _ c.in-Ok.ensures.app c.in-Ok-try_get_matches_from.ensures.kinds,
+      filter.0 c.if-filter.true,
+      some_text c.in-Ok-copied-3.path _ (sym c.is_some.ensures ∙ c.if-is_some.true)
+          (c.in-Ok-copied-3.ensures ∙ text_of_words _ _ _ (codes "path") c.in-Ok.ensures.app c.in-Ok-try_get_matches_from.ensures.matches),
+    )
 
 pub returns-in_default-identifier-clause-refused : goal.returns-in_default-identifier-clause-refused
 returns-in_default-identifier-clause-refused c =

@@ -1,12 +1,12 @@
-use Rattle.std.proofs.Common.{◌≡◌, IsTrue, map, filter, position, sym, ap, subst, ◌∙◌, arith}
+use Rattle.std.proofs.Common.{◌≡◌, IsTrue, Some, map, position, sym, ap, subst, ◌∙◌, arith}
 use Rattle.std.specs.Str.{bytes_eq}
 use Rattle.fb_schema.specs.FlatLists.{lists_of}
 use Rattle.fb_schema.specs.Index.{view_name}
-use Rattle.fb_schema.specs.Live.{Live, live_in, live_fields, live_of_view, live_of, by_slot, is_live}
+use Rattle.fb_schema.specs.Live.{Live, live_in, live_fields, live_of_view}
 use Rattle.fb_schema.specs.Sorting.{name_cmp}
-use Rattle.fb_schema.specs.Rows.{Rows, rows_of, object_of, field_of, is_table}
+use Rattle.fb_schema.specs.Rows.{Rows, rows_of, object_of, is_table}
 use Rattle.fb_schema.proofs.LookLemmas.{live_read}
-use Rattle.fb_schema.proofs.NameLemmas.{table_at, live_in_table, view_not_again}
+use Rattle.fb_schema.proofs.NameLemmas.{table_at, view_not_again}
 use Rattle.fb_schema.proofs.Numbers.{slice_get_some}
 use Rattle.fb_schema.proofs.PlaceLemmas.{place_position}
 use Rattle.fb_schema.proofs.UnionLemmas.{read_within}
@@ -28,8 +28,7 @@ returns g c =
     let order = c.self.invariant.fields.names.at n views.0 c.get.result.now views.1 c.get.ensures in
     let value = live_read rows rows.objects (map (map live_of_view) lists) n (map live_of_view views.0) c.self.invariant.fields.live (mapped_at (map live_of_view) lists n views.0 views.1) in
     let at = mapped_at object_of s.objects.items n t.0 t.1 in
-    let fields = map field_of t.0.fields.items in
-    let same : map live_of_view views.0 ≡ map (live_of rows (by_slot (filter is_live fields))) (by_slot (filter is_live fields)) = value ∙ ap (live_in rows) at ∙ live_in_table rows t.0 t.2 in
+    let same : map live_of_view views.0 ≡ live_in rows (Some (object_of t.0)) = value ∙ ap (live_in rows) at in
     let found = c.place_of.ensures (map view_name views.0) order in
     place_position name_cmp names_total view_name live_of_view views.0 name (λ (f : Live). bytes_eq f.name name.now) (λ v. names_agree v.name.now name.now)
     (view_not_again rows n t.0 c.self.invariant.legal at t.2 views.0 same) c.place_of.result found

@@ -3,7 +3,7 @@ use Rattle.std.proofs.lemmas.List.{length-map}
 use Rattle.fb_schema.specs.FlatLists.{lists_of}
 use Rattle.fb_schema.specs.Live.{live_fields, live_of_view, widest}
 use Rattle.fb_schema.specs.Rows.{rows_of}
-use Rattle.fb_schema.proofs.LookLemmas.{live_read, within_widest}
+use Rattle.fb_schema.proofs.LookLemmas.{live_read, within_widest, few_read}
 use Rattle.fb_schema.proofs.WalkLemmas.{mapped_at}
 use Rattle.fb_schema.proofs.schema.Schema.fields_of.Goals as goal
 use Rattle.fb_schema.proofs.schema.Schema.fields_of.Goals.{After-get}
@@ -26,14 +26,7 @@ returns-clause-value g c = value g (goal.at.returns-clause-value g c).After-get
 pub returns-clause-within : goal.returns-clause-within
 returns-clause-within g c = counted g (goal.at.returns-clause-within g c).After-get
 
-widest_read : (g : _) (c : After-get g) → c.self.inside.live.widest ≡ widest c.args.self.now
-unfolding widest
-widest_read g c = c.self.invariant.fields.widest ∙ ap widest c.self.view_is
-
 pub returns-clause-few : goal.returns-clause-few
 returns-clause-few g c =
-    let d = (goal.at.returns-clause-few g c).After-get in
-    let few = c.self.invariant.fields.few in
-    let a = counted g d in
-    let b = widest_read g d in
-    omega arith
+    let s = c.self.inside in
+    few_read (rows_of s.objects.items s.enums.items) c.args.self.now s.live.widest (length c.get.result.now) c.self.invariant.fields.widest c.self.invariant.fields.few c.self.view_is (counted g (goal.at.returns-clause-few g c).After-get)

@@ -1,21 +1,18 @@
-use Rattle.std.proofs.Common.{◌≡◌, ◌<◌, pos, List, Some, None, map, length, slice_get, get_or, IsTrue, true, ℕ, find, filter, FitsSigned, w64, refl, sym, ap, subst, ◌∙◌, arith, rules}
+use Rattle.std.proofs.Common.{◌≡◌, ◌<◌, pos, List, Option, Some, None, map, length, slice_get, get_or, IsTrue, true, ℕ, find, filter, FitsSigned, w64, refl, sym, ap, subst, ◌∙◌, arith, rules}
 use Rattle.std.proofs.lemmas.Int.{to_z-of_z}
 use Rattle.std.proofs.lemmas.List.{length-map, get_or-map}
 use Rattle.std.specs.Option.{option_and_then}
 use Rattle.std.specs.Ordering.{int_cmp, int_eq}
 use Rattle.fb_schema.specs.declared.kinds.Kind.{Kind}
-use Rattle.fb_schema.specs.declared.kinds.Kind.TheVariants.{Scalar}
-use Rattle.fb_schema.specs.declared.kinds.Scalar.TheVariants.{UType}
 use Rattle.fb_schema.specs.declared.rows.EnumRow.{EnumRow}
 use Rattle.fb_schema.specs.FlatLists.{lists_of}
-use Rattle.fb_schema.specs.Index.{member_kind}
 use Rattle.fb_schema.specs.Kinds.{kind_of}
 use Rattle.fb_schema.specs.Members.{member_of, is_member_value}
 use Rattle.fb_schema.specs.Demands.{first_code, members_asked}
 use Rattle.fb_schema.specs.Sorting.{IsOrderOf, IsPlaceOf, member_value}
 use Rattle.fb_schema.specs.Rows.{Rows, Member, rows_of, is_union, member_of_row}
 use Rattle.fb_schema.proofs.Blank.{blank_member}
-use Rattle.fb_schema.proofs.UnionLemmas.{union_at, members_clear, member_of_row_is, member_of_zero, value_found, value_missing, value_at, kind_found}
+use Rattle.fb_schema.proofs.UnionLemmas.{union_at, members_clear, member_of_row_is, member_of_zero, value_found, value_missing}
 use Rattle.fb_schema.proofs.schema.Schema.member_of.Goals as goal
 use Rattle.fb_schema.proofs.schema.Schema.member_of.Goals.{After-place_of}
 
@@ -56,7 +53,7 @@ returns-in-None g c =
     sym (ap (option_and_then (λ (m : Member). kind_of (rows g d) m.ty)) (value_missing (rows g d) (union_row g d).0.members.items (clear g d) c.args.value (λ k x lt. h k x (rw length-map lt))))
     ∙ sym (read g d) ∙ seen g d
 
-found : (g : _) (c : After-place_of g) (place : ℕ) → c.place_of.result ≡ Some place → (place < length (union_row g c).0.members.items) × (member_of c.args.self.now c.args.e c.args.value ≡ Some (member_kind (rows g c) (member_of_row (get_or (union_row g c).0.members.items place blank_member))))
+found : (g : _) (c : After-place_of g) (place : ℕ) → c.place_of.result ≡ Some place → (place < length (union_row g c).0.members.items) × (member_of c.args.self.now c.args.e c.args.value ≡ kind_of (rows g c) (get_or (union_row g c).0.members.items place blank_member).ty)
 found g c place is =
     let members = (union_row g c).0.members.items in
     let h : IsPlaceOf int_cmp (map member_value members) (pos c.args.value) (Some place) = subst (IsPlaceOf int_cmp (map member_value members) (pos c.args.value)) is (placed g c) in
@@ -65,11 +62,10 @@ found g c place is =
     let small : c.args.value < 256 = omega arith in (
       lt,
       sym (seen g c) ∙ read g c
-          ∙ ap (option_and_then (λ (m : Member). kind_of (rows g c) m.ty)) (value_found (rows g c) members (clear g c) c.args.value place blank_member real small lt h.1)
-          ∙ kind_found (rows g c) members (clear g c) c.args.value place blank_member real lt (value_at (rows g c) members (clear g c) c.args.value place blank_member lt h.1),
+          ∙ ap (option_and_then (λ (m : Member). kind_of (rows g c) m.ty)) (value_found (rows g c) members (clear g c) c.args.value place blank_member real small lt h.1),
     )
 
-kinds : (g : _) (c : After-place_of g) (got : List Kind) → slice_get (lists_of c.self.inside.members.kinds) c.args.e ≡ Some got → got ≡ map (λ m. member_kind (rows g c) (member_of_row m)) (union_row g c).0.members.items
+kinds : (g : _) (c : After-place_of g) (got : List (Option Kind)) → slice_get (lists_of c.self.inside.members.kinds) c.args.e ≡ Some got → got ≡ map (λ m. kind_of (rows g c) (member_of_row m).ty) (union_row g c).0.members.items
 unfolding rows
 kinds g c got at = c.self.invariant.kinds.kinds.at c.args.e (union_row g c).0 got (union_row g c).1 at
 
@@ -78,7 +74,7 @@ bounds-get-place g c =
     let d = (goal.at.bounds-get-place g c).After-place_of in
     let f = found g d c.in-Some.place c.in-Some.is in
     let k = ap length (kinds g d c.get.result.now c.get.ensures) in
-    let n = length-map (union_row g d).0.members.items (λ m. member_kind (rows g d) (member_of_row m)) in
+    let n = length-map (union_row g d).0.members.items (λ m. kind_of (rows g d) (member_of_row m).ty) in
     let lt = f.0 in
     omega arith
 
@@ -87,5 +83,5 @@ returns-in-Some g c =
     let d = (goal.at.returns-in-Some g c).After-place_of in
     let place = c.in-Some.place in
     let f = found g d place c.in-Some.is in
-    ap Some (ap (λ ks. get_or ks place (Scalar UType)) (kinds g d c.get.result.now c.get.ensures) ∙ get_or-map (λ m. member_kind (rows g d) (member_of_row m)) (union_row g d).0.members.items place blank_member (Scalar UType) f.0)
+    ap (λ ks. get_or ks place None) (kinds g d c.get.result.now c.get.ensures) ∙ get_or-map (λ m. kind_of (rows g d) (member_of_row m).ty) (union_row g d).0.members.items place blank_member None f.0
     ∙ sym f.1

@@ -1,10 +1,10 @@
-use Rattle.std.proofs.Common.{◌≡◌, length, map, ◌∙◌, ap, arith}
+use Rattle.std.proofs.Common.{◌≡◌, ◌≤◌, length, map, ◌∙◌, ap, arith}
 use Rattle.std.proofs.lemmas.List.{length-map}
 use Rattle.fb_schema.specs.FlatLists.{lists_of}
 use Rattle.fb_schema.specs.Live.{live_fields, widest}
 use Rattle.fb_schema.specs.Rows.{rows_of}
 use Rattle.fb_schema.specs.Steps.{step_of}
-use Rattle.fb_schema.proofs.LookLemmas.{steps_read, within_widest}
+use Rattle.fb_schema.proofs.LookLemmas.{steps_read, within_widest, few_read}
 use Rattle.fb_schema.proofs.schema.Schema.steps_of.Goals as goal
 use Rattle.fb_schema.proofs.schema.Schema.steps_of.Goals.{After-get}
 
@@ -17,16 +17,10 @@ value g c =
 pub returns-clause-value : goal.returns-clause-value
 returns-clause-value g c = value g (goal.at.returns-clause-value g c).After-get
 
-widest_read : (g : _) (c : After-get g) → c.self.inside.live.widest ≡ widest c.args.self.now
-unfolding widest
-widest_read g c = c.self.invariant.fields.widest ∙ ap widest c.self.view_is
+counted : (g : _) (c : After-get g) → length c.get.result.now ≤ widest c.args.self.now
+counted g c = omega (arith, ap length (value g c), length-map (live_fields c.args.self.now c.args.n) step_of, within_widest c.args.self.now c.args.n)
 
 pub returns-clause-few : goal.returns-clause-few
 returns-clause-few g c =
-    let d = (goal.at.returns-clause-few g c).After-get in
-    let few = c.self.invariant.fields.few in
-    let a = ap length (value g d) in
-    let l = length-map (live_fields c.args.self.now c.args.n) step_of in
-    let w = within_widest c.args.self.now c.args.n in
-    let b = widest_read g d in
-    omega arith
+    let s = c.self.inside in
+    few_read (rows_of s.objects.items s.enums.items) c.args.self.now s.live.widest (length c.get.result.now) c.self.invariant.fields.widest c.self.invariant.fields.few c.self.view_is (counted g (goal.at.returns-clause-few g c).After-get)

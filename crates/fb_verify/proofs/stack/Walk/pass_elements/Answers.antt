@@ -1,22 +1,36 @@
 use Rattle.std.proofs.Common.{◌+◌, refl, sym, ◌∙◌, ap, arith}
-use Rattle.fb_verify.specs.declared.field.Table.{Table}
 use Rattle.fb_verify.specs.declared.stack.Walk.{Walk}
-use Rattle.fb_verify.proofs.Frames.{if_err_exit}
-use Rattle.fb_verify.proofs.Standings.{stop_at_element, stop_at_table}
-use Rattle.fb_verify.proofs.Walking.{leaf_passed, leaf_work, table_opened, open_work, lead_work, close_work}
+use Rattle.fb_verify.proofs.Children.{words_fall, word_few, child_stops, child_opened, opening_falls, leading_falls, closing_falls}
+use Rattle.fb_verify.proofs.Frames.{if_err_exit, row_types_near}
 use Rattle.fb_verify.proofs.stack.Walk.pass_elements.Goals as goal
 
 pub returns-in_err-child-clause-err : goal.returns-in_err-child-clause-err
 returns-in_err-child-clause-err g c =
     let i = c.loop-top.invariant in
-    let w = c.loop-top.self in
     let checks = ap (λ (x : Walk). x.checks) i.same in
     let schema = ap (λ (x : Walk). x.schema) i.same in
     let limits = ap (λ (x : Walk). x.limits) i.same in
-    let h = i.walking in
-    if_err_exit _ _ _ c.from_residual.ensures.1
-    (rw (sym checks, sym schema, sym limits, sym i.bytes)
-    (stop_at_element w.checks c.loop-top.meter.bytes w.schema.now w.limits (g.under).start (g.under).frames c.loop-top.top w.tables w.deepest c.loop-top.meter.count h.standing h.tables h.deepest h.reads _ c.loop-top-test.true c.in_err-child.ensures.err))
+    if_err_exit _ _ _ c.from_residual.ensures.1 (rw (sym checks, sym schema, sym limits, sym i.bytes) c.in_err-child.ensures.err)
+
+pub advance-requires-clause-more : goal.advance-requires-clause-more
+advance-requires-clause-more g c = let o = rw c.in-Some.is at c.in_ok-child.ensures.table in o.more
+
+pub advance-requires-clause-near : goal.advance-requires-clause-near
+advance-requires-clause-near g c = let o = rw c.in-Some.is at c.in_ok-child.ensures.table in omega (arith, (((o.walking).frame).row).place)
+
+pub advance-requires-clause-types : goal.advance-requires-clause-types
+advance-requires-clause-types g c =
+    let w = c.loop-top.self in
+    let o = rw c.in-Some.is at c.in_ok-child.ensures.table in
+    row_types_near w.checks c.next_child.new.meter.bytes w.schema.now c.next_child.new.top.row o.more ((o.walking).frame).row
+
+pub open_table-requires : goal.open_table-requires
+open_table-requires g c =
+    let i = c.loop-top.invariant in
+    let w = c.loop-top.self in
+    let o = rw c.in-Some.is at c.in_ok-child.ensures.table in
+    let few = word_few w c.next_child.new.meter.bytes c.next_child.new.meter.count (g.under).start (g.under).frames c.next_child.new.top _ c.in-Some.child o in
+    omega (arith, few, i.budget, c.requires.1.1.1, (((i.walking).frame).row).left)
 
 pub returns-in_err-table-clause-err : goal.returns-in_err-table-clause-err
 returns-in_err-table-clause-err g c =
@@ -25,116 +39,85 @@ returns-in_err-table-clause-err g c =
     let checks = ap (λ (x : Walk). x.checks) i.same in
     let schema = ap (λ (x : Walk). x.schema) i.same in
     let limits = ap (λ (x : Walk). x.limits) i.same in
-    let h = i.walking in
-    let child = rw c.in-Some.is at c.in_ok-child.ensures.child in
-    let bytes = ap (λ m. m.bytes) c.in_ok-child.ensures.counted in
+    let o = rw c.in-Some.is at c.in_ok-child.ensures.table in
+    let bytes = c.in_ok-child.ensures.bytes ∙ i.bytes in
     if_err_exit _ _ _ c.from_residual-in_err-table.ensures.1
-    (rw (sym checks, sym schema, sym limits, sym i.bytes)
-    (stop_at_table w.checks c.loop-top.meter.bytes w.schema.now w.limits (g.under).start (g.under).frames c.loop-top.top w.tables w.deepest c.loop-top.meter.count h.standing h.tables h.deepest h.reads
-    (c.args.waiting + 1) _ c.in-Some.child.object c.in-Some.child.at (omega (arith, c.requires.0)) c.loop-top-test.true c.in_ok-child.ensures.ok child.0 child.1 _ (ap (λ m. m.count) c.in_ok-child.ensures.counted) (rw bytes at c.in_err-table.ensures.err)))
+    (rw (sym checks, sym schema, sym limits, sym bytes)
+    (child_stops w c.next_child.new.meter.bytes c.next_child.new.meter.count (g.under).start (g.under).frames c.next_child.new.top _ c.in-Some.child o
+    (c.args.waiting + 1) (omega (arith, c.requires.0)) c.site-site.result c.site-site.ensures _ c.in_err-table.ensures.err))
 
 pub pass_below-requires : goal.pass_below-requires
 pass_below-requires g c =
     let i = c.loop-top.invariant in
     let w = c.loop-top.self in
-    let checks = ap (λ (x : Walk). x.checks) i.same in
-    let schema = ap (λ (x : Walk). x.schema) i.same in
-    let limits = ap (λ (x : Walk). x.limits) i.same in
-    let child = rw c.in-Some.is at c.in_ok-child.ensures.child in
-    let is_table = rw c.in-Some.is at c.in_ok-child.ensures.table in
-    let near = rw c.in-Some.is at c.in_ok-child.ensures.near in
-    let bytes = ap (λ m. m.bytes) c.in_ok-child.ensures.counted in
-    let t = c.in_ok-table.ensures.table in
-    let object = ap (λ (x : Table). x.object) t in
-    let at = ap (λ (x : Table). x.at) t in
-    let head = rw bytes at c.in_ok-table.ensures.head in
-    let ok = rw bytes at c.in_ok-table.ensures.ok in
-    let cheap = rw (c.in_ok-table.ensures.counted, c.in_ok-child.ensures.counted) at c.in_ok-table.ensures.reads in
-    let less = rw (schema, limits) at (open_work w.checks c.loop-top.meter.bytes w.schema.now w.limits (g.under).start (g.under).frames c.loop-top.top w.tables w.deepest c.loop-top.meter.count i.walking
-    c.advance.new.self _ c.advance.ensures c.loop-top-test.true c.in_ok-child.ensures.ok (ap (λ m. m.count) c.in_ok-child.ensures.counted) (c.args.waiting + 1) c.in-Some.child.object c.in_ok-table.table (omega (arith, c.requires.0)) child.0 object (at ∙ child.1) (rw (sym at) at ok)
-    c.in_ok-table.ensures.fewer c.in_ok-table.ensures.shallow c.in_ok-table.ensures.low) in (
-      rw (c.in_ok-table.ensures.opened, c.in_ok-table.ensures.counted, c.in_ok-child.ensures.counted)
-          (table_opened w.checks c.loop-top.meter.bytes w.schema.now w.limits (g.under).start (g.under).frames c.loop-top.top w.tables w.deepest c.loop-top.meter.count i.walking
-          c.advance.new.self _ c.advance.ensures c.loop-top-test.true c.in_ok-child.ensures.ok refl (c.args.waiting + 1) c.in-Some.child.object c.in_ok-table.table (omega (arith, c.requires.0)) child.0 object (at ∙ child.1) (rw (sym at) at ok)
-          c.in_ok-table.ensures.fewer c.in_ok-table.ensures.shallow c.in_ok-table.ensures.low is_table (rw (sym at) at near) (rw (sym at) at head) cheap),
-      rw c.in_ok-table.ensures.counted (omega (arith, less, i.budget, c.requires.1.1.1)),
+    let e = c.in_ok-child.ensures in
+    let t = c.in_ok-table.ensures in
+    let m = c.next_child.new.meter in
+    let less = opening_falls w c.args.self.now.schema.now c.args.self.now.limits (ap (λ (x : Walk). x.schema.now) i.same) (ap (λ (x : Walk). x.limits) i.same) m.bytes m.count c.loop-top.meter.count (g.under).start (g.under).frames c.loop-top.top c.next_child.new.top c.in-Some.child e.top e.fewer (rw c.in-Some.is at e.table)
+    (c.args.waiting + 1) (omega (arith, c.requires.0)) c.advance.new.self c.advance.ensures c.in_ok-table.table t.table t.ok t.fewer t.shallow t.low in (
+      rw (t.opened, t.counted)
+          (child_opened w m.bytes m.count (g.under).start (g.under).frames c.next_child.new.top _ c.in-Some.child (rw c.in-Some.is at e.table) (c.args.waiting + 1) (omega (arith, c.requires.0)) c.advance.new.self c.advance.ensures c.in_ok-table.table t.table t.ok t.fewer t.shallow t.low
+          t.head (rw t.counted at t.reads)),
+      rw t.counted (omega (arith, less, i.budget, c.requires.1.1.1)),
     )
 
 pub returns-in_err-below-clause-err : goal.returns-in_err-below-clause-err
 returns-in_err-below-clause-err g c =
     let i = c.loop-top.invariant in
-    let w = c.loop-top.self in
     let checks = ap (λ (x : Walk). x.checks) i.same in
     let schema = ap (λ (x : Walk). x.schema) i.same in
     let limits = ap (λ (x : Walk). x.limits) i.same in
+    let bytes = c.in_ok-child.ensures.bytes ∙ i.bytes in
     if_err_exit _ _ _ c.from_residual-in_err-below.ensures.1
-    (rw (sym checks, sym schema, sym limits, sym i.bytes) (rw (c.in_ok-table.ensures.opened, c.in_ok-table.ensures.counted, c.in_ok-child.ensures.counted) at c.in_err-below.ensures.err))
+    (rw (sym checks, sym schema, sym limits, sym bytes) (rw (c.in_ok-table.ensures.opened, c.in_ok-table.ensures.counted) at c.in_err-below.ensures.err))
 
 pub loop-top-preserved : goal.loop-top-preserved
 loop-top-preserved g c =
     let i = c.loop-top.invariant in
     let w = c.loop-top.self in
-    let checks = ap (λ (x : Walk). x.checks) i.same in
     let schema = ap (λ (x : Walk). x.schema) i.same in
     let limits = ap (λ (x : Walk). x.limits) i.same in
-    let leaf = rw c.in_default.is at c.in_ok-child.ensures.child in
-    let count = ap (λ m. m.count) c.in_ok-child.ensures.counted in
-    let cheap = rw c.in_ok-child.ensures.counted at (c.in_ok-child.ensures.reads c.in_default.is) in
-    let less = rw (schema, limits) at (leaf_work w.checks c.loop-top.meter.bytes w.schema.now w.limits (g.under).start (g.under).frames c.loop-top.top w.tables w.deepest c.loop-top.meter.count i.walking
-    c.advance.new.self _ c.advance.ensures c.loop-top-test.true c.in_ok-child.ensures.ok count) in
+    let e = c.in_ok-child.ensures in
+    let none = c.in_default.is in
+    let fall = words_fall w.schema.now w.limits (g.under).frames c.loop-top.top c.next_child.new.top w.tables c.loop-top.meter.count c.next_child.new.meter.count e.top (e.paid none) (e.passed none) in
+    let less = rw (schema, limits) at fall in
     record {
-      bytes = ap (λ m. m.bytes) c.in_ok-child.ensures.counted ∙ i.bytes;
+      bytes = e.bytes ∙ i.bytes;
       same = i.same;
-      walking =
-          rw c.in_ok-child.ensures.counted
-          (leaf_passed w.checks c.loop-top.meter.bytes w.schema.now w.limits (g.under).start (g.under).frames c.loop-top.top w.tables w.deepest c.loop-top.meter.count i.walking
-          c.advance.new.self _ c.advance.ensures c.loop-top-test.true c.in_ok-child.ensures.ok refl leaf cheap);
+      walking = e.walking none;
       budget = omega (arith, less, i.budget);
       began = λ _. omega (arith, less, i.budget);
-      grows = omega (arith, i.grows, count);
+      grows = omega (arith, i.grows, e.grows);
     }
 
 pub returns-in-Some-2-clause-falls : goal.returns-in-Some-2-clause-falls
 returns-in-Some-2-clause-falls g c =
     let i = c.loop-top.invariant in
     let w = c.loop-top.self in
-    let checks = ap (λ (x : Walk). x.checks) i.same in
-    let schema = ap (λ (x : Walk). x.schema) i.same in
-    let limits = ap (λ (x : Walk). x.limits) i.same in
-    let child = rw c.in-Some.is at c.in_ok-child.ensures.child in
-    let bytes = ap (λ m. m.bytes) c.in_ok-child.ensures.counted in
-    let t = c.in_ok-table.ensures.table in
-    let object = ap (λ (x : Table). x.object) t in
-    let at = ap (λ (x : Table). x.at) t in
-    let ok = rw bytes at c.in_ok-table.ensures.ok in
-    let falls = rw (c.in-Some-2.is, c.in_ok-table.ensures.opened, c.in_ok-table.ensures.counted, c.in_ok-child.ensures.counted) at c.in_ok-below.ensures.falls in
-    let less = rw (schema, limits) at (lead_work w.checks c.loop-top.meter.bytes w.schema.now w.limits (g.under).start (g.under).frames c.loop-top.top w.tables w.deepest c.loop-top.meter.count i.walking
-    c.advance.new.self _ c.advance.ensures c.loop-top-test.true c.in_ok-child.ensures.ok refl (c.args.waiting + 1) c.in-Some.child.object c.in_ok-table.table (omega (arith, c.requires.0)) child.0 object (at ∙ child.1) (rw (sym at) at ok)
-    c.in_ok-table.ensures.fewer c.in_ok-table.ensures.shallow c.in_ok-table.ensures.low c.in-Some-2.below c.pass_below.new.meter.count falls) in
-    rw c.in_ok-table.ensures.opened (omega (arith, less, i.budget))
+    let e = c.in_ok-child.ensures in
+    let t = c.in_ok-table.ensures in
+    let m = c.next_child.new.meter in
+    let less = leading_falls w c.args.self.now.schema.now c.args.self.now.limits (ap (λ (x : Walk). x.schema.now) i.same) (ap (λ (x : Walk). x.limits) i.same) m.bytes m.count c.loop-top.meter.count (g.under).start (g.under).frames c.loop-top.top c.next_child.new.top c.in-Some.child e.top e.fewer (rw c.in-Some.is at e.table)
+    (c.args.waiting + 1) (omega (arith, c.requires.0)) c.advance.new.self c.advance.ensures c.in_ok-table.table t.table t.ok t.fewer t.shallow t.low
+    c.in-Some-2.below c.pass_below.new.meter.count (rw (c.in-Some-2.is, t.opened, t.counted) at c.in_ok-below.ensures.falls) in
+    rw t.opened (omega (arith, less, i.budget))
 
 pub loop-top-preserved-in_default-2 : goal.loop-top-preserved-in_default-2
 loop-top-preserved-in_default-2 g c =
     let i = c.loop-top.invariant in
+    let none = c.in_default-2.is in
     let w = c.loop-top.self in
-    let checks = ap (λ (x : Walk). x.checks) i.same in
-    let schema = ap (λ (x : Walk). x.schema) i.same in
-    let limits = ap (λ (x : Walk). x.limits) i.same in
-    let child = rw c.in-Some.is at c.in_ok-child.ensures.child in
-    let bytes = ap (λ m. m.bytes) c.in_ok-child.ensures.counted in
-    let t = c.in_ok-table.ensures.table in
-    let object = ap (λ (x : Table). x.object) t in
-    let at = ap (λ (x : Table). x.at) t in
-    let ok = rw bytes at c.in_ok-table.ensures.ok in
-    let falls = rw (c.in_default-2.is, c.in_ok-table.ensures.opened, c.in_ok-table.ensures.counted, c.in_ok-child.ensures.counted) at c.in_ok-below.ensures.falls in
-    let less = rw (schema, limits) at (close_work w.checks c.loop-top.meter.bytes w.schema.now w.limits (g.under).start (g.under).frames c.loop-top.top w.tables w.deepest c.loop-top.meter.count i.walking
-    c.advance.new.self _ c.advance.ensures c.loop-top-test.true c.in_ok-child.ensures.ok refl (c.args.waiting + 1) c.in-Some.child.object c.in_ok-table.table (omega (arith, c.requires.0)) child.0 object (at ∙ child.1) (rw (sym at) at ok)
-    c.in_ok-table.ensures.fewer c.in_ok-table.ensures.shallow c.in_ok-table.ensures.low _ falls) in
+    let e = c.in_ok-child.ensures in
+    let t = c.in_ok-table.ensures in
+    let m = c.next_child.new.meter in
+    let less = closing_falls w c.args.self.now.schema.now c.args.self.now.limits (ap (λ (x : Walk). x.schema.now) i.same) (ap (λ (x : Walk). x.limits) i.same) m.bytes m.count c.loop-top.meter.count (g.under).start (g.under).frames c.loop-top.top c.next_child.new.top c.in-Some.child e.top e.fewer (rw c.in-Some.is at e.table)
+    (c.args.waiting + 1) (omega (arith, c.requires.0)) c.advance.new.self c.advance.ensures c.in_ok-table.table t.table t.ok t.fewer t.shallow t.low
+    _ (rw (none, t.opened, t.counted) at c.in_ok-below.ensures.falls) in
     record {
-      bytes = c.in_ok-below.ensures.bytes ∙ c.in_ok-table.ensures.bytes ∙ c.in_ok-child.ensures.bytes ∙ i.bytes;
-      same = rw (c.in_ok-table.ensures.opened, checks, schema, limits) refl;
-      walking = c.in_ok-below.ensures.ends c.in_default-2.is (g.under).frames refl;
-      budget = rw c.in_ok-table.ensures.opened (omega (arith, less, i.budget));
-      began = λ _. rw c.in_ok-table.ensures.opened (omega (arith, less, i.budget));
-      grows = omega (arith, i.grows, ap (λ m. m.count) c.in_ok-child.ensures.counted, ap (λ m. m.count) c.in_ok-table.ensures.counted, c.in_ok-below.ensures.grows);
+      bytes = c.in_ok-below.ensures.bytes ∙ t.bytes ∙ e.bytes ∙ i.bytes;
+      same = rw (t.opened, ap (λ (x : Walk). x.checks) i.same, ap (λ (x : Walk). x.schema) i.same, ap (λ (x : Walk). x.limits) i.same) refl;
+      walking = c.in_ok-below.ensures.ends none (g.under).frames refl;
+      budget = rw t.opened (omega (arith, less, i.budget));
+      began = λ _. rw t.opened (omega (arith, less, i.budget));
+      grows = omega (arith, i.grows, e.grows, ap (λ x. x.count) t.counted, c.in_ok-below.ensures.grows);
     }

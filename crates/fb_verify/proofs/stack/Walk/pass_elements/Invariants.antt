@@ -19,3 +19,7 @@ invariant-loop-top g l = record {
 
 abbrev pub decreases-loop-top : goal.decreases-loop-top
 decreases-loop-top g l = (l.top.row).left
+
+-- the same frames wait
+abbrev pub ghost-next_child : goal.ghost-next_child
+ghost-next_child g a = g.under

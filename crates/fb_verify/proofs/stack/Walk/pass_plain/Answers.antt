@@ -1,14 +1,14 @@
-use Rattle.std.proofs.Common.{◌≡◌, ◌+◌, ◌-◌, ◌*◌, ◌<◌, length, true, false, slice_get, None, refl, sym, ◌∙◌, ap, arith}
+use Rattle.std.proofs.Common.{◌≡◌, ◌+◌, ◌-◌, ◌*◌, ◌<◌, length, slice_get, None, refl, sym, ◌∙◌, ap, arith}
 use Rattle.std.proofs.lemmas.List.{length-map}
 use Rattle.fb_schema.specs.declared.views.Act.TheVariants.{Other}
 use Rattle.fb_schema.specs.Live.{live_fields}
 use Rattle.fb_schema.specs.Steps.{step_of}
 use Rattle.fb_verify.specs.declared.scratch.Frame.{Frame}
 use Rattle.fb_verify.specs.Places.{vtable_size, field_place}
-use Rattle.fb_verify.specs.Plain.{tested_by, step_reads_at}
+use Rattle.fb_verify.specs.Plain.{tested_by, place_from, step_reads_at}
 use Rattle.fb_verify.proofs.Budgets.{fewer_reads}
 use Rattle.fb_verify.proofs.Frames.{item_some, slot_few}
-use Rattle.fb_verify.proofs.Plains.{is_step, act_free, plain_few, plain_told, plain_counted, fails_absent}
+use Rattle.fb_verify.proofs.Plains.{is_step, act_free, plain_few, plain_told, plain_counted, fails_absent, place_near}
 use Rattle.fb_verify.proofs.Passing.{next_within, rest_passed, step_passed, step_stops, at_field}
 use Rattle.fb_verify.proofs.stack.Walk.pass_plain.Goals as goal
 
@@ -44,8 +44,8 @@ returns-then-others_are_absent-clause-paid g c =
     let fields = live_fields c.args.self.now.schema.now (c.args.top.now.table).object in
     omega (arith, i.paid, ap length c.steps_of-steps.ensures.value, length-map fields step_of, ((i.walking).frame).next)
 
-pub test_at-answer-requires-clause-step : goal.test_at-answer-requires-clause-step
-test_at-answer-requires-clause-step g c =
+pub test_at-failed-requires-clause-step : goal.test_at-failed-requires-clause-step
+test_at-failed-requires-clause-step g c =
     let S = c.args.self.now.schema.now in
     let k = (c.args.top.now.table).object in
     is_step S (live_fields S k) c.loop-step.next c.in-Some.step.now (λ f got. (((c.requires.0).served).kinds) k c.loop-step.next f got)
@@ -83,10 +83,10 @@ returns-in-Some-failed-clause-err g c =
     let step = c.in-Some.step.now in
     let slot = c.slot_at-place.ensures in
     let bytes = ap (λ m. m.bytes) slot.counted in
-    let told = plain_told w.checks b t c.loop-step.reads.count c.slot_at-place.new.reads.count c.test_at-answer.new.reads.count step c.slot_at-place.result slot.value (ap (λ m. m.count) slot.counted) _ (rw bytes at c.test_at-answer.ensures.told) in
+    let told = plain_told w.checks b t c.loop-step.reads.count c.slot_at-place.new.reads.count c.test_at-failed.new.reads.count step (place_from (c.args.top.now.table).at c.slot_at-place.result) slot.value (ap (λ m. m.count) slot.counted) _ (rw bytes at c.test_at-failed.ensures.told) in
     let failed = c.in-Some-failed.is in
-    let absent : step.act ≡ Other → field_place b t step.slot ≡ None = fails_absent w.checks b t c.loop-step.reads.count c.slot_at-place.new.reads.count c.test_at-answer.new.reads.count step c.slot_at-place.result slot.value (ap (λ m. m.count) slot.counted)
-    _ (sym (rw bytes at c.test_at-answer.ensures.told) ∙ ap (tested_by c.test_at-answer.result.at c.test_at-answer.new.reads.count) failed) in
+    let absent : step.act ≡ Other → field_place b t step.slot ≡ None = fails_absent w.checks b t c.loop-step.reads.count c.slot_at-place.new.reads.count c.test_at-failed.new.reads.count step (place_from (c.args.top.now.table).at c.slot_at-place.result) slot.value (ap (λ m. m.count) slot.counted)
+    _ (sym (rw bytes at c.test_at-failed.ensures.told) ∙ ap (tested_by c.test_at-failed.new.at c.test_at-failed.new.reads.count) failed) in
     let within = next_within w.checks b S w.limits (g.under).start (g.under).frames top w.tables w.deepest r i.walking rests steps all c.in-Some.step.now got in
     let room = fewer_reads (w.limits).reads (r + 6) (c.args.lender.now.count + c.args.reads.now.count + 6 * (length (live_fields S (T.table).object) - T.next)) (omega (arith, i.paid, within)) c.requires.1.1.0 in
     rw i.bytes at
@@ -109,10 +109,10 @@ returns-then-leads_on-clause-field g c =
     let step = c.in-Some.step.now in
     let slot = c.slot_at-place.ensures in
     let bytes = ap (λ m. m.bytes) slot.counted in
-    let count = c.test_at-answer.ensures.counted c.in_default-failed.is ∙ ap (λ m. m.count + step_reads_at step c.slot_at-place.result) slot.counted in
-    rw i.same
-    (at_field w c.args.lender.now.count c.loop-step.reads c.test_at-answer.new.reads (g.under).start (g.under).frames top i.walking rests steps all step got
-    c.slot_at-place.result slot.value slot.within slot.near (c.test_at-answer.ensures.bytes ∙ bytes) count (c.leads_on.ensures.open c.if-leads_on.true))
+    let count = c.test_at-failed.ensures.counted c.in_default-failed.is ∙ ap (λ m. m.count + step_reads_at step (place_from (c.args.top.now.table).at c.slot_at-place.result)) slot.counted in
+    let here = at_field w c.args.lender.now.count c.loop-step.reads c.test_at-failed.new.reads (g.under).start (g.under).frames top i.walking rests steps all step got
+    (place_from (T.table).at c.slot_at-place.result) slot.value slot.within (place_near (T.table).at c.slot_at-place.result _ slot.near) (c.test_at-failed.ensures.bytes ∙ bytes) count (c.leads_on.ensures.open c.if-leads_on.true) in
+    rw i.same (rw (c.leads_on.ensures.there c.if-leads_on.true) at here)
 
 pub returns-then-leads_on-clause-top : goal.returns-then-leads_on-clause-top
 returns-then-leads_on-clause-top g c = rw c.loop-step.invariant.same refl
@@ -125,8 +125,8 @@ returns-then-leads_on-clause-paid g c =
     let i = c.loop-step.invariant in
     let step = c.in-Some.step.now in
     let slot = c.slot_at-place.ensures in
-    let count = c.test_at-answer.ensures.counted c.in_default-failed.is in
-    let none = act_free step c.slot_at-place.result (c.leads_on.ensures.open c.if-leads_on.true) in
+    let count = c.test_at-failed.ensures.counted c.in_default-failed.is in
+    let none = act_free step (place_from (c.args.top.now.table).at c.slot_at-place.result) (c.leads_on.ensures.open c.if-leads_on.true) in
     omega (arith, i.paid, count, none, ap (λ m. m.count) slot.counted, slot_few c.loop-step.reads.bytes (c.args.top.now.table).at step.slot)
 
 pub loop-step-preserved : goal.loop-step-preserved
@@ -146,14 +146,14 @@ loop-step-preserved g c =
     let step = c.in-Some.step.now in
     let slot = c.slot_at-place.ensures in
     let bytes = ap (λ m. m.bytes) slot.counted in
-    let told = plain_told w.checks b t c.loop-step.reads.count c.slot_at-place.new.reads.count c.test_at-answer.new.reads.count step c.slot_at-place.result slot.value (ap (λ m. m.count) slot.counted) _ (rw bytes at c.test_at-answer.ensures.told) in
+    let told = plain_told w.checks b t c.loop-step.reads.count c.slot_at-place.new.reads.count c.test_at-failed.new.reads.count step (place_from (c.args.top.now.table).at c.slot_at-place.result) slot.value (ap (λ m. m.count) slot.counted) _ (rw bytes at c.test_at-failed.ensures.told) in
     let none = c.in_default-failed.is in
     let plain : step.act ≡ Other → field_place b t step.slot ≡ None = λ e. sym slot.value ∙ c.leads_on.ensures.plain c.if-leads_on.false e in
-    let counted = plain_counted w.checks b t c.loop-step.reads.count c.slot_at-place.new.reads.count c.test_at-answer.new.reads.count step c.slot_at-place.result slot.value (ap (λ m. m.count) slot.counted) (c.test_at-answer.ensures.counted none) in
+    let counted = plain_counted w.checks b t c.loop-step.reads.count c.slot_at-place.new.reads.count c.test_at-failed.new.reads.count step (place_from (c.args.top.now.table).at c.slot_at-place.result) slot.value (ap (λ m. m.count) slot.counted) (c.test_at-failed.ensures.counted none) in
     let few = plain_few b t step in
     let within = next_within w.checks b S w.limits (g.under).start (g.under).frames top w.tables w.deepest r i.walking rests steps all c.in-Some.step.now got in
-    let cheap = fewer_reads (w.limits).reads (c.args.lender.now.count + c.test_at-answer.new.reads.count) (c.args.lender.now.count + c.args.reads.now.count + 6 * (length (live_fields S (T.table).object) - T.next)) (omega (arith, counted, few, i.paid, within)) c.requires.1.1.0 in
-    let kept = c.test_at-answer.ensures.bytes ∙ bytes in
+    let cheap = fewer_reads (w.limits).reads (c.args.lender.now.count + c.test_at-failed.new.reads.count) (c.args.lender.now.count + c.args.reads.now.count + 6 * (length (live_fields S (T.table).object) - T.next)) (omega (arith, counted, few, i.paid, within)) c.requires.1.1.0 in
+    let kept = c.test_at-failed.ensures.bytes ∙ bytes in
     record {
       bytes = kept ∙ i.bytes;
       same = i.same;
@@ -161,7 +161,7 @@ loop-step-preserved g c =
       walking =
           rw kept
           (step_passed w.checks b S w.limits (g.under).start (g.under).frames top w.tables w.deepest r i.walking rests steps all c.in-Some.step.now got plain _ _ _ _ told none
-          (c.args.lender.now.count + c.test_at-answer.new.reads.count) (omega (arith, counted)) cheap);
+          (c.args.lender.now.count + c.test_at-failed.new.reads.count) (omega (arith, counted)) cheap);
       paid = omega (arith, counted, few, i.paid, within);
     }
 

@@ -6,10 +6,10 @@ use Rattle.fbcheck.specs.Stream.{Halts, standing}
 use Rattle.fbcheck.proofs.StreamLemmas.{halts_memory, onward_message}
 use Rattle.fbcheck.proofs.stream.Carried.pass_some.Goals as goal
 
-pub returns-in_err-add_line-clause-halts : goal.returns-in_err-add_line-clause-halts
-returns-in_err-add_line-clause-halts g c =
+pub returns-in_err-add-clause-halts : goal.returns-in_err-add-clause-halts
+returns-in_err-add-clause-halts g c =
     if_err_exit c.from_residual.result _ (Halts _ (standing c.args.self.now) _ _) c.from_residual.ensures.1
-    (halts_memory _ (standing c.args.self.now) _ _ c.in_err-add_line.ensures.err_text)
+    (halts_memory _ (standing c.args.self.now) _ _ c.in_err-add.ensures.err_text)
 
 pub returns-in-Some-clause-onward : goal.returns-in-Some-clause-onward
 returns-in-Some-clause-onward g c =
@@ -17,4 +17,4 @@ returns-in-Some-clause-onward g c =
     let none : c.args.self.now.framer.held ≡ [] = nil_from_length c.args.self.now.framer.held (omega (arith, c.held.ensures.value)) in
     onward_message _ (standing c.args.self.now) _ _ message
     (c.in-Some.ensures.front ∙ ap (λ (l : List ℕ). l ++ take (length message) c.args.rest.now) (sym none))
-    (subst (λ (n : ℕ). IsMessage n message) c.limit.ensures.value c.in-Some.ensures.whole) none c.in_ok-add_line.ensures.ok
+    (subst (λ (n : ℕ). IsMessage n message) c.limit.ensures.value c.in-Some.ensures.whole) none c.in_ok-add.ensures.ok

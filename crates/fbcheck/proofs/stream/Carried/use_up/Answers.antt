@@ -6,7 +6,7 @@ use Rattle.fbcheck.proofs.StreamLemmas.{gathers_halts, gathers_onward, halts_aft
 use Rattle.fbcheck.proofs.stream.Carried.use_up.Goals as goal
 
 pub loop-rest-init : goal.loop-rest-init
-loop-rest-init g c = record { ready = c.requires.ready; passed = passed_none _ _ _; few = search rules; written = search rules }
+loop-rest-init g c = record { ready = c.requires.ready; passed = passed_none _ _ _; few = search rules; written = search rules; noted = search rules }
 
 pub loop-rest-preserved : goal.loop-rest-preserved
 loop-rest-preserved g c =
@@ -17,6 +17,7 @@ loop-rest-preserved g c =
       passed = passed_more _ _ _ _ c.in_ok-used.used _ c.loop-rest.rest.now _ (take_rest c.loop-rest.rest.now c.in_ok-used.used) before.passed some.onward;
       few = search rules;
       written = search rules;
+      noted = search rules;
     }
 
 pub returns-in_err-used-clause-halts : goal.returns-in_err-used-clause-halts

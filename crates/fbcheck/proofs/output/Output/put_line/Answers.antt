@@ -1,6 +1,6 @@
 use Rattle.std.proofs.lemmas.Result.{on_ok_weaker}
 use Rattle.fbcheck.proofs.AnswerLemmas.{shown_value, told_value}
-use Rattle.fbcheck.proofs.output.Output.tell.Goals as goal
+use Rattle.fbcheck.proofs.output.Output.put_line.Goals as goal
 
 pub returns-in-Some-clause-ok : goal.returns-in-Some-clause-ok
 returns-in-Some-clause-ok g c =

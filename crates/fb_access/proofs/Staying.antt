@@ -1,0 +1,128 @@
+-- Wherever steps lead in a buffer that unfolds, what is there lies in the buffer.
+use Rattle.std.proofs.Common.{◌≡◌, ℕ, suc, ◌+◌, ◌*◌, ◌<◌, ◌≤◌, ◌==◌, nat_lt, if◌then◌else◌, Bool, true, false, List, [], ◌∷◌, length, refl, subst, ap, ◌∙◌, arith, Option, Some, None}
+use Rattle.std.specs.Prelude.{option_map}
+use Rattle.std.proofs.Math.Nat.{mul-le-mul_right, suc-mul, mul_comm}
+use Rattle.std.proofs.lemmas.Bool.Decides.{nat_tests}
+use Rattle.fb_bytes.specs.Word.{word}
+use Rattle.fb_schema.specs.declared.kinds.Kind.{Kind}
+use Rattle.fb_schema.specs.declared.kinds.Kind.TheVariants.{Text, Struct, Table}
+use Rattle.fb_schema.specs.Rows.{Rows}
+use Rattle.fb_schema.specs.Kinds.{scalar_size, struct_size, struct_align}
+use Rattle.fb_schema.specs.Live.{Live}
+use Rattle.fb_schema.specs.Members.{member_of}
+use Rattle.fb_schema.specs.Served.{MemberHolds, IsServed}
+use Rattle.fb_verify.specs.Places.{target}
+use Rattle.fb_verify.specs.Fields.{lead_of}
+use Rattle.fb_verify.specs.WellFormed.{base}
+use Rattle.fb_access.specs.declared.step.Step.{Step}
+use Rattle.fb_access.specs.declared.step.Step.TheVariants.{Field, Element, Member}
+use Rattle.fb_access.specs.declared.spot.Spot.{Spot}
+use Rattle.fb_access.specs.declared.spot.Spot.TheVariants.{AtTable, AtInline, AtStruct, AtText, AtScalars, AtStructs, AtTexts, AtTables, AtUnions, AtUnion, AtAbsent, AtNoElement, AtOtherMember}
+use Rattle.fb_access.specs.Fitting.{numbered}
+use Rattle.fb_access.specs.Spots.{field_spot, spot_of_field, if_element, spot_of_element, member_spot, spot_of_member}
+use Rattle.fb_access.specs.Denotes.{next_spot, Reaches, root_spot}
+use Rattle.fb_access.specs.Held.{IsTableAt, IsLed, IsUnionAt, IsSpot}
+use Rattle.fb_access.specs.Inside.{LiesInside, ValuesLieInside}
+use Rattle.fb_access.proofs.FieldSpots.{field_spot_holds}
+use Rattle.fb_access.proofs.Leading.{led_to_table, led_to_string, led_to_struct}
+use Rattle.fb_access.proofs.TableFields.{table_has_vtable}
+use Rattle.fb_access.proofs.Walks.{root_placed}
+
+some_same : {A : Type 0} {x y : A} → Some x ≡ Some y → x ≡ y
+some_same h = cc
+
+-- an element below the count ends within the elements
+element_ends : (size j n : ℕ) → j < n → size * j + size ≤ n * size
+element_ends size j n lt = let m : suc j * size ≤ n * size = mul-le-mul_right size lt in omega (arith, m, suc-mul j size, mul_comm size j)
+
+if_equal : (y m : ℕ) → (y == m) ≡ true → y ≡ m
+if_equal y m h = grind (arith, nat_tests)
+
+if_less : (j n : ℕ) → nat_lt j n ≡ true → j < n
+if_less j n h = grind (arith, nat_tests)
+
+module _ (b : List ℕ) (S : Rows) where
+  -- of two spots the one that the test takes
+  one_of : (t : Bool) (q other : Spot) → (t ≡ true → IsSpot b S q) → IsSpot b S other → IsSpot b S (if t then q else other)
+  one_of true q other h o = h refl
+  one_of false q other h o = o
+
+  -- a field of a table
+  field_of : (k t n : ℕ) (f : Option Live) (q : Spot) → IsServed S → IsTableAt b S k t → numbered S k n ≡ f → option_map (field_spot b t) f ≡ Some q → IsSpot b S q
+  field_of k t n None q served h e l = absurd cc
+  field_of k t n (Some f) q served h e l = subst (IsSpot b S) (some_same l) (field_spot_holds b S k t n f served h e)
+
+  from_field : (p : Spot) (n : ℕ) (q : Spot) → IsServed S → IsSpot b S p → spot_of_field b S p n ≡ Some q → IsSpot b S q
+  unfolding IsSpot
+  from_field (AtTable k t) n q served h l = field_of k t n (numbered S k n) q served h refl l
+  from_field p n q served h l = absurd cc
+
+  -- an element of a vector, or nothing past its count
+  if_below : (c j : ℕ) (p q : Spot) → (j < word b c 4 → IsSpot b S p) → Some (if_element b c j p) ≡ Some q → IsSpot b S q
+  unfolding IsSpot
+  if_below c j p q h l = subst (IsSpot b S) (some_same l) (one_of (nat_lt j (word b c 4)) p AtNoElement (λ t. h (if_less j (word b c 4) t)) tt)
+
+  -- an element that stands in place
+  in_place : (c size j : ℕ) → c + 4 + word b c 4 * size ≤ length b → j < word b c 4 → c + 4 + size * j + size ≤ length b
+  in_place c size j h lt = let e = element_ends size j (word b c 4) lt in omega (arith, h, e)
+
+  from_element : (p : Spot) (j : ℕ) (q : Spot) → IsSpot b S p → spot_of_element b S p j ≡ Some q → IsSpot b S q
+  unfolding IsSpot spot_of_element
+  from_element (AtScalars s c) j q h l = if_below c j (AtInline s (c + 4 + scalar_size s * j)) q (λ lt. in_place c (scalar_size s) j h.within lt) l
+  from_element (AtStructs k c) j q h l = if_below c j (AtStruct k (c + 4 + struct_size S k * j)) q (λ lt. record { object = h.object; within = in_place c (struct_size S k) j h.counted.within lt }) l
+  from_element (AtTexts c) j q h l = if_below c j (AtText (target b (c + 4 + 4 * j))) q (λ lt. (led_to_string b S (c + 4 + 4 * j) (h.led.at j lt)).1) l
+  from_element (AtTables k c) j q h l = if_below c j (AtTable k (target b (c + 4 + 4 * j))) q (λ lt. (led_to_table b S (c + 4 + 4 * j) k h.object (h.led.at j lt)).1) l
+  from_element (AtUnions e y c) j q h l = if_below c j (AtUnion e (word b (y + j) 1) (c + 4 + 4 * j)) q (λ lt. record { union = h.union; led = h.led.at j lt }) l
+  from_element p j q h l = absurd cc
+
+  -- what a union's offset word leads to
+  member_lies : (p : ℕ) (kind : Kind) → MemberHolds S (Some kind) → IsLed b S p (lead_of S (Some kind)) → IsSpot b S (member_spot b p kind)
+  unfolding IsSpot member_spot
+  member_lies p (Table k) m l = (led_to_table b S p k m l).1
+  member_lies p (Struct k) m l = record { object = m.0; within = (led_to_struct b S p (struct_size S k) (struct_align S k) l).1 }
+  member_lies p Text m l = (led_to_string b S p l).1
+  member_lies p kind m l = tt
+
+  member_of_union : (e y p m : ℕ) (member : Option Kind) (q : Spot) → MemberHolds S member → IsUnionAt b S e y p → member_of S e m ≡ member → option_map (λ kind. if y == m then member_spot b p kind else AtOtherMember) member ≡ Some q → IsSpot b S q
+  unfolding IsSpot
+  member_of_union e y p m None q holds h i l = absurd cc
+  member_of_union e y p m (Some kind) q holds h i l =
+      let led = λ (t : (y == m) ≡ true). subst (λ x. IsLed b S p (lead_of S x)) (ap (member_of S e) (if_equal y m t) ∙ i) h.led in
+      subst (IsSpot b S) (some_same l) (one_of (y == m) (member_spot b p kind) AtOtherMember (λ t. member_lies p kind holds (led t)) tt)
+
+  from_union : (p : Spot) (m : ℕ) (q : Spot) → IsServed S → IsSpot b S p → spot_of_member b S p m ≡ Some q → IsSpot b S q
+  unfolding IsSpot
+  from_union (AtUnion e y p) m q served h l = member_of_union e y p m (member_of S e m) q (served.members e m) h refl l
+  from_union p m q served h l = absurd cc
+
+  -- one step, and all of them
+  step_stays : (p : Spot) (s : Step) (q : Spot) → IsServed S → IsSpot b S p → next_spot b S p s ≡ Some q → IsSpot b S q
+  unfolding next_spot
+  step_stays AtAbsent s q served h l = subst (IsSpot b S) (some_same l) h
+  step_stays AtNoElement s q served h l = subst (IsSpot b S) (some_same l) h
+  step_stays AtOtherMember s q served h l = subst (IsSpot b S) (some_same l) h
+  step_stays p (Field n) q served h l = from_field p n q served h l
+  step_stays p (Element j) q served h l = from_element p j q h l
+  step_stays p (Member m) q served h l = from_union p m q served h l
+
+  steps_stay : (p : Spot) (steps : List Step) (q : Spot) → IsServed S → IsSpot b S p → Reaches b S p steps q → IsSpot b S q
+  steps_stay p [] q served h r = subst (IsSpot b S) r h
+  steps_stay p (s ∷ steps) q served h r = steps_stay r.0 steps q served (step_stays p s r.0 served h r.1) r.2
+
+  lies : (q : Spot) → IsSpot b S q → LiesInside b S q
+  unfolding IsSpot
+  lies (AtTable k t) h = table_has_vtable b S k t h
+  lies (AtInline s p) h = h
+  lies (AtStruct k p) h = h.within
+  lies (AtText c) h = h
+  lies (AtScalars s c) h = h
+  lies (AtStructs k c) h = h.counted
+  lies (AtTexts c) h = h.counted
+  lies (AtTables k c) h = h.counted
+  lies (AtUnions e y c) h = (h.types, h.counted)
+  lies q h = tt
+
+pub values_lie_inside : ValuesLieInside
+values_lie_inside v steps q served h r =
+    let root = root_placed v v.root (target v.bytes (base v.start)) h refl refl in
+    lies v.bytes v.schema q (steps_stay v.bytes v.schema (root_spot v.bytes v.start v.root) steps q served root.spot r)

@@ -1,0 +1,34 @@
+-- What a reader of a good buffer relies on: wherever steps lead from the root table, the bytes of what is there lie in the buffer.
+use Rattle.std.specs.Prelude.{ℕ, ◌+◌, ◌≤◌, List, length}
+use Rattle.fb_bytes.specs.Word.{word}
+use Rattle.fb_schema.specs.Rows.{Rows}
+use Rattle.fb_schema.specs.Kinds.{scalar_size, struct_size}
+use Rattle.fb_schema.specs.Served.{IsServed}
+use Rattle.fb_verify.specs.Sealed.{Sealed, IsUnfolded}
+use Rattle.fb_access.specs.declared.step.Step.{Step}
+use Rattle.fb_access.specs.declared.spot.Spot.{Spot}
+use Rattle.fb_access.specs.declared.spot.Spot.TheVariants.{AtTable, AtInline, AtStruct, AtText, AtScalars, AtStructs, AtTexts, AtTables, AtUnions, AtUnion, AtDefault, AtAbsent, AtNoElement, AtOtherMember}
+use Rattle.fb_access.specs.Denotes.{Reaches, root_spot}
+use Rattle.fb_access.specs.Held.{IsCounted, HasVtable}
+
+-- of a table its soffset and its vtable; of a value in place all its bytes; of a string or a vector its count and so many bytes or
+-- elements behind it, an offset word being 4 bytes, and of unions their types too; what stands behind an offset word is a spot of its own
+abbrev pub LiesInside : List ℕ → Rows → Spot → Type 0
+LiesInside b S (AtTable k t) = HasVtable b t
+LiesInside b S (AtInline s p) = p + scalar_size s ≤ length b
+LiesInside b S (AtStruct k p) = p + struct_size S k ≤ length b
+LiesInside b S (AtText c) = IsCounted b c 1
+LiesInside b S (AtScalars s c) = IsCounted b c (scalar_size s)
+LiesInside b S (AtStructs k c) = IsCounted b c (struct_size S k)
+LiesInside b S (AtTexts c) = IsCounted b c 4
+LiesInside b S (AtTables k c) = IsCounted b c 4
+LiesInside b S (AtUnions e q c) = (q + word b c 4 ≤ length b) × IsCounted b c 4
+LiesInside b S (AtUnion e y p) = Unit {0}
+LiesInside b S (AtDefault s d) = Unit {0}
+LiesInside b S AtAbsent = Unit {0}
+LiesInside b S AtNoElement = Unit {0}
+LiesInside b S AtOtherMember = Unit {0}
+
+-- whatever steps lead to in a buffer that was verified lies in it
+abbrev pub ValuesLieInside : Type 0
+ValuesLieInside = (v : Sealed) (steps : List Step) (q : Spot) → IsServed v.schema → IsUnfolded v → Reaches v.bytes v.schema (root_spot v.bytes v.start v.root) steps q → LiesInside v.bytes v.schema q

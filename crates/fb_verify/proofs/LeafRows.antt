@@ -1,0 +1,70 @@
+-- The offset words that are left of a field are passed one by one.
+use Rattle.std.proofs.Common.{◌≡◌, ℕ, ◌+◌, ◌<◌, List, refl, sym, ◌∙◌, ap, subst, Option, Some, None}
+use Rattle.fb_schema.specs.Rows.{Rows}
+use Rattle.fb_verify.specs.declared.checks.Checks.{Checks}
+use Rattle.fb_verify.specs.declared.leaves.KnownType.{KnownType}
+use Rattle.fb_verify.specs.declared.offset_row.Leads.{Leads}
+use Rattle.fb_verify.specs.declared.offset_row.Leads.TheVariants.{All, ByType}
+use Rattle.fb_verify.specs.declared.offset_row.Referent.{Referent}
+use Rattle.fb_verify.specs.declared.offset_row.Referent.TheVariants.{Text as AText, Table as ATable, Struct as AStruct, Nothing}
+use Rattle.fb_verify.specs.declared.scratch.Frame.{Frame}
+use Rattle.fb_verify.specs.declared.site.Refusal.{Refusal}
+use Rattle.fb_verify.specs.declared.site.Site.{Site}
+use Rattle.fb_verify.specs.declared.site.Stop.{Stop}
+use Rattle.fb_verify.specs.Bounds.{Bounds}
+use Rattle.fb_verify.specs.Fields.{Lead, Entry}
+use Rattle.fb_verify.specs.Order.{Failure, after, lead_failure, element_failure}
+use Rattle.fb_verify.specs.Known.{IsLookedUp, IsKnown}
+use Rattle.fb_verify.specs.OffsetRows.{lead_to, first_word, leads_after, IsReferent, IsSized, IsLeafLead}
+use Rattle.fb_verify.specs.Stack.{Origin, IsUnderWay}
+use Rattle.fb_verify.specs.Stops.{StopsFrom, lead_reads_failure}
+use Rattle.fb_verify.specs.Told.{refused, stopped}
+use Rattle.fb_verify.proofs.Plains.{after_twice}
+use Rattle.fb_verify.proofs.Passing.{failed_after}
+use Rattle.fb_verify.proofs.Refusals.{told_after, told_first}
+use Rattle.fb_verify.proofs.Standings.{stop_at_element}
+use Rattle.fb_verify.proofs.Words.{first_place}
+
+module _ (c : Checks) (b : List ℕ) (S : Rows) (L : Bounds) (s : Origin) (below : List Frame) (top : Frame) (n d r : ℕ) (h : IsUnderWay c b S L s below top n d r) where
+  -- the first word that is left
+  abbrev word : Entry
+  word = first_word b S top.row
+
+  -- its type is read, and then it is tested with what it leads to
+  pub word_told : (lead : Lead) → lead ≡ word.lead → (m mid : ℕ) → mid ≡ m + word.reads → (x : Option Failure) → x ≡ after mid (lead_failure c b (top.row).place lead) → x ≡ after m (element_failure c b word)
+  unfolding element_failure
+  word_told lead e m mid z x told =
+      told ∙ ap (λ k. after k (lead_failure c b (top.row).place lead)) z ∙ ap (λ y. after (m + word.reads) (lead_failure c b (top.row).place y)) e
+      ∙ ap (λ p. after (m + word.reads) (lead_failure c b p word.lead)) (sym (first_place b S top.row)) ∙ sym (after_twice m word.reads (lead_failure c b word.place word.lead))
+
+  -- where it fails
+  pub word_stops : 0 < (top.row).left → (e : Refusal) → (k m q : ℕ) → r ≡ k + m → after m (element_failure c b word) ≡ Some (refused e q) → (stop : Stop) → stop ≡ record { refusal = e; site = record { object = (top.table).object; field = Some top.number } } → StopsFrom c b S L s.object s.position s.way (stopped stop (k + q))
+  word_stops l e k m q z x stop is =
+      let site : Site = record { object = (top.table).object; field = Some top.number } in
+      let told = ap (λ w. after w (element_failure c b word)) z ∙ failed_after k m q e (element_failure c b word) x in
+      subst (λ (y : Stop). StopsFrom c b S L s.object s.position s.way (stopped y (k + q))) (sym is)
+      (stop_at_element c b S L s below top n d r h.standing h.tables h.deepest h.reads (stopped (record { refusal = e; site = site }) (k + q)) l
+      (told_first site r (element_failure c b word) (lead_reads_failure L r word word.lead) (stopped (record { refusal = e; site = site }) (k + q)) (told_after site r (k + q) (element_failure c b word) e told)))
+
+-- what is no table is a leaf
+pub is_leaf : (referent : Referent) → ((k : ℕ) → referent ≡ ATable k → ⊥) → IsLeafLead (lead_to referent)
+is_leaf AText n = tt
+is_leaf (ATable k) n = n k refl
+is_leaf (AStruct size align) n = tt
+is_leaf Nothing n = tt
+
+-- what can be asked of the schema has an alignment
+pub is_sized : (S : Rows) (referent : Referent) → IsReferent S referent → IsSized referent
+is_sized S AText h = tt
+is_sized S (ATable k) h = tt
+is_sized S (AStruct size align) h = h
+is_sized S Nothing h = tt
+
+-- what is known stays so behind the first word
+looked_up_on : (S : Rows) (k : KnownType) (leads : Leads) → IsLookedUp S k leads → IsLookedUp S k (leads_after leads)
+looked_up_on S k (All referent) h = h
+looked_up_on S k (ByType e q) h = h
+
+pub known_on : (S : Rows) (leads : Leads) (known : Option KnownType) → IsKnown S leads known → IsKnown S (leads_after leads) known
+known_on S leads None h = tt
+known_on S leads (Some k) h = looked_up_on S k leads h

@@ -1,0 +1,46 @@
+use Rattle.std.proofs.Common.{ap, arith}
+use Rattle.fb_verify.proofs.Frames.{if_err_exit, row_types_near}
+use Rattle.fb_verify.proofs.Standings.{stop_at_element}
+use Rattle.fb_verify.proofs.Walking.{leaf_passed}
+use Rattle.fb_verify.proofs.stack.Walk.next_child.Goals as goal
+
+pub returns-in_err-child-clause-err : goal.returns-in_err-child-clause-err
+returns-in_err-child-clause-err g c =
+    let w = c.args.self.now in
+    let m = c.args.meter.now in
+    let h = c.requires.0 in
+    if_err_exit _ _ _ c.from_residual.ensures.1
+    (stop_at_element w.checks m.bytes w.schema.now w.limits (g.under).start (g.under).frames c.args.top.now w.tables w.deepest m.count h.standing h.tables h.deepest h.reads _ c.requires.1.0 (rw c.site-site.ensures at c.in_err-child.ensures.err))
+
+pub returns-in-Some-clause-table : goal.returns-in-Some-clause-table
+returns-in-Some-clause-table g c =
+    let e = c.in_ok-child.ensures in
+    let child = rw c.in-Some.is at e.child in
+    rw e.bytes
+    (record {
+      before = c.args.meter.now.count;
+      count = ap (λ x. x.count) e.counted;
+      walking = c.requires.0;
+      more = c.requires.1.0;
+      holds = e.ok;
+      leads = child.0;
+      table = rw c.in-Some.is at e.table;
+      at = child.1;
+      near = rw c.in-Some.is at e.near;
+      paid = omega arith;
+    })
+
+pub advance-requires-clause-types : goal.advance-requires-clause-types
+advance-requires-clause-types g c =
+    let w = c.args.self.now in
+    row_types_near w.checks c.args.meter.now.bytes w.schema.now c.args.top.now.row c.requires.1.0 ((c.requires.0).frame).row
+
+pub returns-clause-walking : goal.returns-clause-walking
+returns-clause-walking g c _ =
+    let w = c.args.self.now in
+    let m = c.args.meter.now in
+    let e = c.in_ok-child.ensures in
+    let leaf = rw c.in_default.is at e.child in
+    rw e.bytes
+    (leaf_passed w.checks m.bytes w.schema.now w.limits (g.under).start (g.under).frames c.args.top.now w.tables w.deepest m.count c.requires.0
+    c.advance.new.self _ c.advance.ensures c.requires.1.0 e.ok (ap (λ x. x.count) e.counted) leaf (e.reads c.in_default.is))

@@ -1,0 +1,174 @@
+// The offset words by which a field leads on, passed by reads that are counted in a register.
+
+ghost use Rattle.std.specs.Prelude.{◌≡◌, ◌+◌, ◌*◌, ◌^◌, ◌<◌, ◌≤◌, IfOk, IfErr, IfSome, Some, None, true};
+ghost use Rattle.fb_schema.specs.Served.{IsServed};
+ghost use Rattle.fb_verify.specs.Bounds.{AreAllowed};
+ghost use Rattle.fb_verify.specs.Known.{IsKnown};
+ghost use Rattle.fb_verify.specs.OffsetRows.{lead_to, first_word, IsReferent, IsRow};
+ghost use Rattle.fb_verify.specs.Stack.{Waiting, IsWalking, IsWalkingBy, IsAtTable, IsStopped};
+ghost use Rattle.fb_verify.specs.Stops.{StopsFrom};
+ghost use Rattle.fb_verify.specs.Told.{stopped};
+
+use crate::element::{Child, pass_element};
+use crate::fault::Reason;
+use crate::field::referent_of;
+use crate::offset_row::{Leads, Referent, Row};
+use crate::plain::test_lead;
+use crate::scratch::Frame;
+use crate::site::{Refusal, Stop};
+use crate::stack::Walk;
+use fb_bytes::{Meter, Reads};
+use fb_schema::Schema;
+
+/// A type of a union that was looked up, and what an offset word of that type refers to.
+#[derive(Clone, Copy, Debug, PartialEq, Eq)]
+struct KnownType {
+    value: u8,
+    referent: Referent,
+}
+
+/// What the first offset word of a row refers to. Where the types of a union tell that, its type is read, and looked up
+/// where it isn't the one that is known.
+#[inline(always)]
+fn first_referent(
+    reads: &mut Reads<'_>,
+    schema: &Schema<'_>,
+    row: Row,
+    known: &mut Option<KnownType>,
+) -> Referent
+    requires served { IsServed schema.now }
+    requires more { 0 < row.left }
+    requires row { IsRow reads.old.bytes schema.now row }
+    requires known { IsKnown schema.now row.leads known.old }
+    requires few { reads.old.count < 2 ^ 60 }
+    ensures lead { lead_to result ≡ (first_word reads.old.bytes schema.now row).lead }
+    ensures referent { IsReferent schema.now result }
+    ensures known { IsKnown schema.now row.leads known.new }
+    ensures counted { reads.new ≡ record reads.old { count = reads.old.count + (first_word reads.old.bytes schema.now row).reads } }
+{
+    let (union, types) = match row.leads {
+        Leads::All(referent) => return referent,
+        Leads::ByType(union, types) => (union, types),
+    };
+    let value = reads.u8_at(types);
+    if let Some(last) = *known {
+        if last.value == value {
+            return last.referent;
+        }
+    }
+    let referent = referent_of(schema, schema.member_of(union, value));
+    *known = Some(KnownType { value, referent });
+    referent
+}
+
+/// Where the walk stops at an offset word of the top table's field.
+#[cold]
+#[inline(never)]
+fn stop_at_word(top: &Frame, at: u64, reason: Reason) -> Stop
+    ensures { result ≡ record { refusal = record { at = at; reason = reason }; site = record { object = (top.now.table).object; field = Some top.now.number } } }
+{
+    Stop {
+        refusal: Refusal { at, reason },
+        site: top.site(),
+    }
+}
+
+impl Walk<'_, '_> {
+    /// Whether the offset words that are left of the top table's field are passed in a loop: where the budget allows
+    /// whatever they may cost, four reads each, and not each of them leads to a table.
+    #[inline(always)]
+    fn may_pass_words(&self, meter: &Meter<'_>, top: &Frame) -> bool
+        requires few { meter.now.count < 2 ^ 96 }
+        ensures { result ≡ true → AreAllowed (self.now.limits).reads (meter.now.count + 4 * (top.now.row).left) }
+    {
+        if let Leads::All(Referent::Table(_)) = top.row.leads {
+            return false;
+        }
+        self.limits
+            .allows(meter.reads() + u128::from(4 * u64::from(top.row.left)))
+    }
+
+    /// Passes offset words that are left of the top table's field, with the strings and structs that they lead to,
+    /// until one leads to a table, and answers that table; none where no word is left. The budget allows whatever they
+    /// cost. Only the contract speaks of the meter that lent the bytes.
+    #[inline(always)]
+    fn pass_words(
+        &self,
+        lender: &Meter<'_>,
+        reads: &mut Reads<'_>,
+        top: &mut Frame,
+    ) -> Result<Option<Child>, Stop>
+        ghost under: { Waiting }
+        requires walking { IsWalkingBy self.now lender.now.count reads.old under.start under.frames top.old }
+        requires room { AreAllowed (self.now.limits).reads (lender.now.count + reads.old.count + 4 * (top.old.row).left) }
+        requires few { reads.old.count < 2 ^ 40 }
+        ensures walking { IfOk result (λ o. o ≡ None → IsWalkingBy self.now lender.now.count reads.new under.start under.frames top.new) }
+        ensures table { IfOk result (λ o. IfSome o (λ child. IsAtTable self.now reads.new.bytes (lender.now.count + reads.new.count) under.start under.frames top.new (lender.now.count + reads.old.count + 4 * (top.old.row).left) child)) }
+        ensures top { IfOk result (λ _. top.new ≡ record top.old { row = top.new.row }) }
+        ensures fewer { IfOk result (λ _. (top.new.row).left ≤ (top.old.row).left) }
+        ensures none { IfOk result (λ o. o ≡ None → (top.new.row).left ≡ 0) }
+        ensures paid { IfOk result (λ o. o ≡ None → reads.new.count ≤ reads.old.count + 4 * (top.old.row).left) }
+        ensures bytes { reads.new.bytes ≡ reads.old.bytes }
+        ensures err { IfErr result (λ s. StopsFrom self.now.checks reads.old.bytes self.now.schema.now self.now.limits (under.start).object (under.start).position (under.start).way (stopped s (lender.now.count + reads.new.count))) }
+    {
+        let _lender = lender;
+        let checks = self.checks;
+        let mut row = top.row;
+        let mut known = None;
+        while row.left > 0 {
+            let referent = first_referent(reads, self.schema, row, &mut known);
+            let mut at = row.place;
+            let failed = test_lead(reads, checks, &mut at, referent);
+            if let Some(reason) = failed {
+                return Err(stop_at_word(top, at, reason));
+            }
+            if let Referent::Table(object) = referent {
+                top.row = row;
+                return Ok(Some(Child { object, at }));
+            }
+            row.advance();
+        }
+        top.row = row;
+        Ok(None)
+    }
+
+    /// Passes one or more offset words that are left of the top table's field, with the strings and structs that they
+    /// lead to, or comes to one that leads to a table, and answers that table. The word that leads to it is still left.
+    #[inline(always)]
+    pub fn next_child(&self, meter: &mut Meter<'_>, top: &mut Frame) -> Result<Option<Child>, Stop>
+        ghost under: { Waiting }
+        requires walking { IsWalking self.now meter.old under.start under.frames top.old }
+        requires leads { 0 < (top.old.row).left }
+        requires few { meter.old.count < 2 ^ 96 }
+        ensures walking { IfOk result (λ o. o ≡ None → IsWalking self.now meter.new under.start under.frames top.new) }
+        ensures table { IfOk result (λ o. IfSome o (λ child. IsAtTable self.now meter.new.bytes meter.new.count under.start under.frames top.new (meter.old.count + 4 * (top.old.row).left) child)) }
+        ensures top { IfOk result (λ _. top.new ≡ record top.old { row = top.new.row }) }
+        ensures fewer { IfOk result (λ _. (top.new.row).left ≤ (top.old.row).left) }
+        ensures passed { IfOk result (λ o. o ≡ None → (top.new.row).left < (top.old.row).left) }
+        ensures paid { IfOk result (λ o. o ≡ None → meter.new.count + 4 * (top.new.row).left ≤ meter.old.count + 4 * (top.old.row).left) }
+        ensures grows { IfOk result (λ _. meter.old.count ≤ meter.new.count) }
+        ensures bytes { meter.new.bytes ≡ meter.old.bytes }
+        ensures err { IfErr result (λ s. IsStopped self.now meter.old under.start (stopped s meter.new.count)) }
+    {
+        if self.may_pass_words(meter, top) {
+            let mut reads = meter.lend();
+            let answer = self.pass_words(meter, &mut reads, top);
+            meter.settle(reads);
+            return answer;
+        }
+        let site = top.site();
+        let row = top.row;
+        if let Some(child) = pass_element(
+            meter,
+            self.schema,
+            self.limits,
+            self.checks,
+            site,
+            row,
+        )? {
+            return Ok(Some(child));
+        }
+        top.row.advance();
+        Ok(None)
+    }
+}

@@ -1,0 +1,52 @@
+//! Where the bytes of a schema file come from.
+
+ghost use Rattle.std.specs.Prelude.{IfOk, IfErr, Ok, Err, ℕ, List, Option, Result, option_map, string_bytes, vec_items};
+ghost use Rattle.fbcheck.specs.Serving.{IsFile, IsFileFault};
+ghost use Rattle.fbcheck.specs.declared.files.FileFault.{FileFault};
+
+use std::io;
+use std::io::ErrorKind;
+use thiserror::Error;
+
+/// Why a schema file can't be read.
+#[derive(Clone, Copy, Debug, PartialEq, Eq, Error)]
+pub enum FileFault {
+    /// It isn't there, or a read of it failed.
+    #[error("cannot read schema")]
+    Unreadable,
+    /// Memory was refused.
+    #[error("out of memory")]
+    OutOfMemory,
+}
+
+impl FileFault {
+    /// What an error means that came while a file was read.
+    pub fn of(error: io::Error) -> FileFault {
+        match error.kind() {
+            ErrorKind::OutOfMemory => FileFault::OutOfMemory,
+            _ => FileFault::Unreadable,
+        }
+    }
+}
+
+/// Files that are read by their names.
+pub trait Files {
+    /// What a read of the file of this name may answer: its bytes, or a fault.
+    ghost gives: { Self → List ℕ → Result (List ℕ) FileFault → Type 0 };
+
+    /// The bytes of the file of this name, at most 2^31 of them: one that has as many is too long for a buffer.
+    fn read(&self, name: &str) -> Result<Vec<u8>, FileFault>
+        ensures bytes { IfOk result (λ bytes. gives self.now name.now (Ok bytes.items)) }
+        ensures fault { IfErr result (λ fault. gives self.now name.now (Err fault)) };
+}
+
+/// The bytes of the schema file, where one is named.
+pub fn read_schema<F: Files>(files: &F, name: &Option<String>) -> Result<Option<Vec<u8>>, FileFault>
+    ensures bytes { IfOk result (λ file. IsFile (F.gives files.now) (option_map string_bytes name.now) (option_map vec_items file)) }
+    ensures fault { IfErr result (IsFileFault (F.gives files.now) (option_map string_bytes name.now)) }
+{
+    match name {
+        Some(name) => Ok(Some(files.read(name.as_str())?)),
+        None => Ok(None),
+    }
+}

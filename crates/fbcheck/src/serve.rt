@@ -1,0 +1,100 @@
+//! What the program does, from its words to its exit status.
+
+ghost use Rattle.std.specs.Prelude.{◌+◌, ◌-◌, ◌<◌, ◌≤◌, ◌^◌, false};
+ghost use Rattle.fbcheck.specs.Serving.{ComesTo, EndsSo, IsServed, Unserved, words_of};
+
+use crate::check::check_beside;
+use crate::choices::SettingsFault;
+use crate::files::{Files, read_schema};
+use crate::reading::MOST_TURNS;
+use crate::stop::{Ending, Stop, WordsFault, exit_status, tell};
+use crate::words::settings;
+use crate::writing::push_all;
+use fb_bytes::{Sink, Source};
+use std::alloc::Global;
+
+/// Does what the words ask, the program's name first, and answers the exit status: reads the schema file that they name,
+/// checks the buffers of the reader by it, and tells of them as [`check_beside`](crate::check::check_beside) does; or
+/// writes help, where it is asked for. Why it came to rest before the end is told to the notes, behind what they have.
+pub fn serve<F: Files, S: Source, K: Sink, N: Sink>(
+    alloc: Global,
+    words: Result<Vec<String>, WordsFault>,
+    files: &F,
+    reader: &mut S,
+    writer: &mut K,
+    notes: &mut N,
+) -> u8
+    requires reads { S.calls reader.old < 2 ^ 64 }
+    requires writes { K.calls writer.old < 2 ^ 64 }
+    requires tells { N.calls notes.old < 2 ^ 64 }
+
+    ensures served { IsServed (F.gives files.now) (words_of words)
+        (S.remaining reader.old) (S.remaining reader.new) (K.contents writer.old) (K.contents writer.new) (N.contents notes.old) (N.contents notes.new)
+        (S.failures reader.old) (S.failures reader.new) (K.failures writer.old) (K.failures writer.new) (N.failures notes.old) (N.failures notes.new)
+        (S.calls reader.old + MOST_TURNS - S.calls reader.new) (S.ended reader.new) result }
+    ensures turns { S.calls reader.new ≤ S.calls reader.old + MOST_TURNS }
+{
+    let outcome = come_to(alloc, words, files, reader, writer, notes);
+    tell(&outcome, notes);
+    exit_status(&outcome)
+}
+
+/// What the program comes to.
+fn come_to<F: Files, S: Source, K: Sink, N: Sink>(
+    alloc: Global,
+    words: Result<Vec<String>, WordsFault>,
+    files: &F,
+    reader: &mut S,
+    writer: &mut K,
+    notes: &mut N,
+) -> Result<Ending, Stop>
+    requires reads { S.calls reader.old < 2 ^ 64 }
+    requires writes { K.calls writer.old < 2 ^ 64 }
+    requires tells { N.calls notes.old < 2 ^ 64 }
+
+    ensures comes { ComesTo (F.gives files.now) (words_of words) (S.remaining reader.old) (S.remaining reader.new)
+        (K.contents writer.old) (K.contents writer.new) (N.contents notes.old) (N.contents notes.new) result }
+    ensures ends { EndsSo (S.failures reader.old) (S.failures reader.new) (K.failures writer.old) (K.failures writer.new)
+        (N.failures notes.old) (N.failures notes.new) (S.calls reader.old + MOST_TURNS - S.calls reader.new) (S.ended reader.new) result }
+    ensures turns { S.calls reader.new ≤ S.calls reader.old + MOST_TURNS }
+    ensures noted { N.calls notes.new < 2 ^ 98 }
+{
+    let words = match words {
+        Ok(words) => words,
+        Err(fault) => return Err(Stop::Words(fault)),
+    };
+    let settings = match settings(alloc, words.as_slice()) {
+        Ok(settings) => settings,
+        Err(fault) => return without_settings(alloc, fault, writer),
+    };
+    let file = read_schema(files, &settings.schema)?;
+    match check_beside(alloc, file.as_deref(), &settings, reader, writer, notes) {
+        Ok(tally) => Ok(Ending::Checked(tally)),
+        Err(fault) => Err(Stop::Run(fault)),
+    }
+}
+
+/// What the program comes to where the words give no settings: help is written where they ask for it.
+fn without_settings<K: Sink>(
+    alloc: Global,
+    fault: SettingsFault,
+    writer: &mut K,
+) -> Result<Ending, Stop>
+    requires { K.calls writer.old < 2 ^ 64 }
+    ensures comes { Unserved fault (K.contents writer.old) (K.contents writer.new) result }
+    ensures ends { EndsSo 0 0 (K.failures writer.old) (K.failures writer.new) 0 0 0 false result }
+{
+    let status = fault.status();
+    let SettingsFault::Usage(error) = &fault else {
+        return Err(Stop::Settings(fault));
+    };
+    let text = format!(in alloc; "{error}")?;
+    if status != 0 {
+        return Err(Stop::Usage(text));
+    }
+    let written = push_all(writer, text.as_bytes());
+    if written < text.len() {
+        return Err(Stop::CutOff { written });
+    }
+    Ok(Ending::Helped)
+}

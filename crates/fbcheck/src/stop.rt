@@ -1,0 +1,146 @@
+//! How the program comes to its end: well, or for a cause.
+
+ghost use Rattle.std.specs.Prelude.{OnOk, ◌≤◌, ◌≡◌, ◌<◌, ◌^◌};
+ghost use Rattle.fbcheck.specs.Serving.{Complains, IsComplaint, exit_status, stop_status};
+ghost use Rattle.fbcheck.specs.declared.choices.SettingsFault.TheVariants as refusal;
+ghost use Rattle.fbcheck.specs.declared.stop.Stop.TheVariants as stop;
+
+use crate::choices::SettingsFault;
+use crate::fault::{RunFault, status};
+use crate::files::FileFault;
+use crate::output::Tally;
+use crate::writing::push_all;
+use arrayvec::ArrayString;
+use fb_bytes::Sink;
+use std::alloc::AllocError;
+use std::fmt::Write;
+use std::io;
+use std::io::ErrorKind;
+use thiserror::Error;
+
+/// More bytes than the line of any stop has, but for the text of `clap`.
+const ROOM: usize = 256;
+
+/// Why the words of the command line can't be read.
+#[derive(Clone, Copy, Debug, PartialEq, Eq, Error)]
+pub enum WordsFault {
+    /// A word isn't a text.
+    #[error("a word is not UTF-8")]
+    NotText,
+    /// Memory was refused.
+    #[error("out of memory")]
+    OutOfMemory,
+}
+
+impl WordsFault {
+    /// What an error means that came while the words were read.
+    pub fn of(error: io::Error) -> WordsFault {
+        match error.kind() {
+            ErrorKind::OutOfMemory => WordsFault::OutOfMemory,
+            _ => WordsFault::NotText,
+        }
+    }
+}
+
+/// How the program ends well.
+#[derive(Clone, Copy, Debug, PartialEq, Eq)]
+pub enum Ending {
+    /// Help was asked for, and written.
+    Helped,
+    /// The buffers of the input were checked.
+    Checked(Tally),
+}
+
+/// Why the program comes to rest before that.
+#[derive(Debug, Drop, Error)]
+pub enum Stop {
+    /// The words can't be read.
+    #[error("{0}")]
+    Words(WordsFault),
+    /// `clap` refuses the words, by this text.
+    #[error("{0}")]
+    Usage(String),
+    /// The words give no settings for another cause.
+    #[error("{0}")]
+    Settings(SettingsFault),
+    /// Help was asked for, and the writer took only its first `written` bytes.
+    #[error("write failed after {written} bytes")]
+    CutOff { written: usize },
+    /// The schema file can't be read.
+    #[error("{0}")]
+    File(FileFault),
+    /// The run came to rest.
+    #[error("{0}")]
+    Run(RunFault),
+}
+
+impl From<AllocError> for Stop {
+    ghost from_gives = { λ _ s. s ≡ stop.Settings refusal.OutOfMemory };
+
+    fn from(_: AllocError) -> Self {
+        Self::Settings(SettingsFault::OutOfMemory)
+    }
+}
+
+impl From<FileFault> for Stop {
+    ghost from_gives = { λ cause s. s ≡ stop.File cause };
+
+    fn from(cause: FileFault) -> Self {
+        Self::File(cause)
+    }
+}
+
+impl Stop {
+    /// The exit status: 2 where the words, the schema file, the root or the path are wrong, and 3 after any other fault.
+    fn status(&self) -> u8
+        ensures { result ≡ stop_status self.now }
+    {
+        match self {
+            Stop::Words(WordsFault::NotText) | Stop::Usage(_) | Stop::File(FileFault::Unreadable) =>
+                2,
+            Stop::Words(WordsFault::OutOfMemory) | Stop::File(FileFault::OutOfMemory) => 3,
+            Stop::CutOff { .. } => 3,
+            Stop::Settings(fault) => fault.status(),
+            Stop::Run(fault) => status(&Err(*fault)),
+        }
+    }
+
+    /// Writes the text of `clap`, or else a line that begins with the program's name. What can't be written is left.
+    fn tell<N: Sink>(&self, notes: &mut N)
+        requires { N.calls notes.old < 2 ^ 99 }
+        ensures told { IsComplaint (N.contents notes.old) (N.contents notes.new) }
+        ensures failures { N.failures notes.old ≤ N.failures notes.new }
+    {
+        if let Stop::Usage(text) = self {
+            push_all(notes, text.as_bytes());
+            return;
+        }
+        let mut line = ArrayString::<ROOM>::new();
+        let _ = writeln!(line, "fbcheck: {self}");
+        push_all(notes, line.as_str().as_bytes());
+    }
+}
+
+/// Tells on standard error why the program came to rest, if it did, and nothing else.
+pub fn tell<N: Sink>(outcome: &Result<Ending, Stop>, notes: &mut N)
+    requires { N.calls notes.old < 2 ^ 99 }
+    ensures told { Complains outcome.now (N.contents notes.old) (N.contents notes.new) }
+    ensures failures { N.failures notes.old ≤ N.failures notes.new }
+    ensures unfailed { OnOk outcome.now (N.failures notes.new ≡ N.failures notes.old) }
+{
+    if let Err(stop) = outcome {
+        stop.tell(notes);
+    }
+}
+
+/// The program's exit status: 0 where every buffer had a yes or help was written, 1 where a buffer had a no, 2 where the
+/// words, the schema file, the root or the path are wrong, and 3 for every other fault.
+pub fn exit_status(outcome: &Result<Ending, Stop>) -> u8
+    ensures { result ≡ exit_status outcome.now }
+{
+    match outcome {
+        Ok(Ending::Helped) => 0,
+        Ok(Ending::Checked(tally)) => status(&Ok(*tally)),
+        Err(stop) => stop.status(),
+    }
+}

@@ -1,0 +1,104 @@
+/*
+ * Checks the messages of a stream, each with its size in front, as they come through a pipe or a socket.
+ *
+ *     cc stream.c $(pkg-config --cflags --libs fbcheck) -o stream
+ *     ./stream SCHEMA.bfbs [ROOT] < PIPE
+ *
+ * Each message gets a line as soon as it is whole, as of the program fbcheck. The status is 0 where all were good, 1
+ * where one was bad, 2 where there was nothing to check them by, and 3 where the stream breaks off or a message is too
+ * long.
+ */
+#include "telling.h"
+
+#include <string.h>
+#include <unistd.h>
+
+/* What a message may have at most, its prefix included. */
+static uint8_t room[1 << 24];
+
+/* What a stream is checked by, and what was found so far. */
+struct checker {
+    fbcheck_handle handle;
+    fbcheck_options options;
+    fbcheck_framer framer;
+    size_t messages;
+    int status;
+};
+
+/* Tells the verdict on the message that is held. */
+static void check_message(struct checker *checker)
+{
+    fbcheck_verdict verdict;
+    fbcheck_verify(&checker->handle, &checker->options, room, checker->framer.held, &verdict);
+    printf("%zu ", ++checker->messages);
+    tell(&verdict);
+    if (verdict.status != FBCHECK_OK)
+        checker->status = 1;
+}
+
+/* Checks the messages that end in a piece of the stream. What the last call answered. */
+static uint32_t check_piece(struct checker *checker, const uint8_t *piece, size_t length)
+{
+    uint32_t status = FBCHECK_MORE;
+    while (length > 0) {
+        size_t used = 0;
+        status = fbcheck_framer_feed(&checker->framer, room, sizeof room, piece, length, &used);
+        piece += used;
+        length -= used;
+        if (status == FBCHECK_OK) {
+            check_message(checker);
+            fbcheck_framer_next(&checker->framer, room, sizeof room);
+        } else if (status != FBCHECK_MORE) {
+            break;
+        }
+    }
+    fflush(stdout);
+    return status;
+}
+
+/* Checks the stream of standard input to its end. The status of the program. */
+static int check_stream(struct checker *checker)
+{
+    static uint8_t piece[65536];
+    ssize_t length;
+    uint32_t status = FBCHECK_OK;
+    while ((length = read(STDIN_FILENO, piece, sizeof piece)) > 0) {
+        status = check_piece(checker, piece, (size_t)length);
+        if (status == FBCHECK_OVERSIZE)
+            break;
+    }
+    if (length == 0)
+        status = fbcheck_framer_finish(&checker->framer, room, sizeof room);
+    if (status == FBCHECK_OVERSIZE)
+        fprintf(stderr, "stream: a message of %" PRIu32 " bytes is too long\n", checker->framer.declared);
+    else if (status == FBCHECK_TRUNCATED)
+        fprintf(stderr, "stream: it breaks off after %zu bytes of a message\n", checker->framer.held);
+    else if (length == 0)
+        return checker->status;
+    else
+        perror("stream");
+    return 3;
+}
+
+int main(int count, char **words)
+{
+    struct checker checker = { FBCHECK_HANDLE_INIT, FBCHECK_OPTIONS_INIT, FBCHECK_FRAMER_INIT, 0, 0 };
+    FILE *file = count > 1 ? fopen(words[1], "rb") : NULL;
+    size_t length;
+    uint8_t *schema = bytes_of(file, &length);
+    int status = 2;
+    if (file != NULL)
+        fclose(file);
+    checker.options.prefixed = 1;
+    if (schema == NULL || count > 3)
+        fprintf(stderr, "usage: stream SCHEMA.bfbs [ROOT] < PIPE\n");
+    else if (fbcheck_load(&checker.handle, schema, length, NULL, NULL) != FBCHECK_OK)
+        fprintf(stderr, "stream: %s is no schema\n", words[1]);
+    else if (count == 3 && fbcheck_choose_root(&checker.handle, words[2], strlen(words[2])) != FBCHECK_OK)
+        fprintf(stderr, "stream: no table %s\n", words[2]);
+    else
+        status = check_stream(&checker);
+    fbcheck_free(&checker.handle);
+    free(schema);
+    return status;
+}

@@ -1,0 +1,124 @@
+/*
+ * Checks each message of a Kafka topic by a schema file before anything else reads it, in the consumer's own process.
+ *
+ *     cc consumer.c $(pkg-config --cflags --libs fbcheck rdkafka) -o consumer
+ *     ./consumer BROKERS GROUP TOPIC SCHEMA.bfbs
+ *
+ * Each message is told by a line on standard output, with its partition and offset. It runs until SIGINT or SIGTERM. The
+ * status is 0 then, 2 where it couldn't begin, and 3 where the client has failed for good. Consumers of one group share
+ * the topic's partitions, as processes or machines; each loads the schema for itself.
+ */
+#include <fbcheck.h>
+#include <inttypes.h>
+#include <librdkafka/rdkafka.h>
+#include <signal.h>
+#include <stdio.h>
+
+/* At most so many reads of one message, so that none holds up its partition: some ten times those of the largest honest
+ * one (`reads=` in the line that the program fbcheck has for it). */
+#define MOST_READS 1000000
+
+static uint8_t schema[1 << 20]; /* it stays while the handle is used, which borrows it */
+static volatile sig_atomic_t stopped;
+
+static void stop(int signal)
+{
+    (void)signal;
+    stopped = 1;
+}
+
+/* A good message: its fields may be read as generated code reads them. The rest of a server begins here. */
+static void take(const rd_kafka_message_t *message, const fbcheck_verdict *verdict)
+{
+    printf("%" PRId32 "@%" PRId64 " ok tables=%" PRIu32 "\n", message->partition, message->offset, verdict->tables);
+}
+
+/* A message that nothing may read. It is passed over: the verdict would be the same another time. Who wants to look at
+ * such messages later writes them to a topic of their own here. */
+static void refuse(fbcheck_handle *handle, const rd_kafka_message_t *message, const fbcheck_verdict *verdict)
+{
+    char reason[21] = "", table[256] = "";
+    fbcheck_reason_name(verdict->reason, reason, sizeof reason - 1);
+    fbcheck_object_name(handle, verdict->object, table, sizeof table - 1);
+    printf("%" PRId32 "@%" PRId64 " bad %s at=%" PRIu64 " in %s\n", message->partition, message->offset, reason,
+           verdict->at, table);
+}
+
+/* Checks messages until the process is asked to stop, or the client has failed for good. */
+static int consume(rd_kafka_t *client, fbcheck_handle *handle)
+{
+    fbcheck_options options = FBCHECK_OPTIONS_INIT;
+    fbcheck_verdict verdict;
+    options.max_reads = MOST_READS;
+    while (!stopped && !rd_kafka_fatal_error(client, NULL, 0)) {
+        rd_kafka_message_t *message = rd_kafka_consumer_poll(client, 500);
+        if (message == NULL)
+            continue;
+        if (message->err)
+            fprintf(stderr, "consumer: %s\n", rd_kafka_message_errstr(message));
+        else if (fbcheck_verify(handle, &options, message->payload, message->len, &verdict) == FBCHECK_OK)
+            take(message, &verdict);
+        else
+            refuse(handle, message, &verdict);
+        rd_kafka_message_destroy(message);
+        fflush(stdout);
+    }
+    return stopped ? 0 : 3;
+}
+
+/* A client of the group that gets the topic from its beginning on, or null, which is told. */
+static rd_kafka_t *client_of(const char *brokers, const char *group, const char *topic)
+{
+    const char *settings[][2] = { { "bootstrap.servers", brokers }, { "group.id", group },
+                                  { "auto.offset.reset", "earliest" } };
+    char why[256] = "";
+    rd_kafka_conf_t *conf = rd_kafka_conf_new();
+    rd_kafka_topic_partition_list_t *topics = rd_kafka_topic_partition_list_new(1);
+    rd_kafka_t *client;
+    for (size_t at = 0; at < sizeof settings / sizeof *settings; at++)
+        if (rd_kafka_conf_set(conf, settings[at][0], settings[at][1], why, sizeof why) != RD_KAFKA_CONF_OK)
+            fprintf(stderr, "consumer: %s\n", why);
+    client = rd_kafka_new(RD_KAFKA_CONSUMER, conf, why, sizeof why);
+    if (client == NULL) {
+        fprintf(stderr, "consumer: %s\n", why);
+        rd_kafka_conf_destroy(conf);
+    } else {
+        rd_kafka_poll_set_consumer(client);
+        rd_kafka_topic_partition_list_add(topics, topic, RD_KAFKA_PARTITION_UA);
+        if (rd_kafka_subscribe(client, topics))
+            fprintf(stderr, "consumer: %s: no such topic can be asked for\n", topic);
+    }
+    rd_kafka_topic_partition_list_destroy(topics);
+    return client;
+}
+
+/* Loads the schema, and tells whether checks can be made by it: an empty buffer gets a verdict, which is a no. */
+static int is_loaded(fbcheck_handle *handle, const char *path)
+{
+    FILE *file = fopen(path, "rb");
+    size_t length = file == NULL ? 0 : fread(schema, 1, sizeof schema, file);
+    if (file != NULL)
+        fclose(file);
+    return length < sizeof schema && fbcheck_load(handle, schema, length, NULL, NULL) == FBCHECK_OK
+           && fbcheck_verify(handle, NULL, NULL, 0, NULL) == FBCHECK_BAD;
+}
+
+int main(int count, char **words)
+{
+    fbcheck_handle handle = FBCHECK_HANDLE_INIT;
+    rd_kafka_t *client;
+    int status = 2;
+    if (count != 5)
+        return fprintf(stderr, "usage: consumer BROKERS GROUP TOPIC SCHEMA.bfbs\n"), 2;
+    signal(SIGINT, stop);
+    signal(SIGTERM, stop);
+    if (!is_loaded(&handle, words[4])) {
+        fprintf(stderr, "consumer: %s is no schema with a root table\n", words[4]);
+    } else if ((client = client_of(words[1], words[2], words[3])) != NULL) {
+        status = consume(client, &handle);
+        rd_kafka_consumer_close(client);
+        rd_kafka_destroy(client);
+    }
+    fbcheck_free(&handle);
+    return status;
+}

@@ -1,0 +1,119 @@
+"""The table of docs/REFERENCE.md of what may have gone wrong where every message is refused: each of its lines is what
+the program prints first of what was given."""
+
+import gzip
+import io
+import re
+import shutil
+import struct
+import subprocess
+import zipfile
+
+import outside
+from outside import TOP, file_of, prefixed, run
+
+EXAMPLES = TOP / "examples"
+SCHEMA = EXAMPLES / "deliveries.bfbs"
+BARE = SCHEMA.read_bytes()
+STREAM = (EXAMPLES / "deliveries.bin").read_bytes()
+FIRST, SECOND = STREAM[:512], STREAM[512:576]
+JSON = (EXAMPLES / "deliveries.jsonl").read_bytes()
+BY_POST = ("--schema", SCHEMA)
+
+
+def gzipped(data):
+    """As gzip packs a file: with its name."""
+    packed = io.BytesIO()
+    with gzip.GzipFile("deliveries.bin", "wb", fileobj=packed) as file:
+        file.write(data)
+    return packed.getvalue()
+
+
+def zipped(data):
+    packed = io.BytesIO()
+    with zipfile.ZipFile(packed, "w") as file:
+        file.writestr("deliveries.bin", data)
+    return packed.getvalue()
+
+
+def by_zstd(data):
+    """As zstd packs it, where it's there; else how each of its files begins."""
+    if not shutil.which("zstd"):
+        return b"\x28\xb5\x2f\xfd" + data
+    return subprocess.run(["zstd", "-q", "-c", file_of("deliveries.bin", data)], capture_output=True, check=True).stdout
+
+
+def turned(stream):
+    """The stream with its prefixes in big-endian."""
+    length = struct.unpack_from("<I", stream)[0] if stream else 0
+    return stream and struct.pack(">I", length) + stream[4 : 4 + length] + turned(stream[4 + length :])
+
+
+def framed(message):
+    """Behind the five bytes of gRPC."""
+    return struct.pack(">BI", 0, len(message)) + message
+
+
+# By the text of the table's second column: the words, and standard input.
+CALLS = {
+    "as the schema its text (`.fbs`), JSON, or messages": [
+        (("--schema", EXAMPLES / name), STREAM) for name in ("deliveries.fbs", "deliveries.jsonl", "deliveries.bin")
+    ],
+    "as the schema an empty file": [(("--schema", file_of("empty.bfbs", b"")), STREAM)],
+    "a root without its namespace (`--root Delivery`), or a struct": [
+        ((*BY_POST, "--root", name), STREAM) for name in ("Delivery", "post.Spot")
+    ],
+    "JSON; any text declares more than 100,000,000": [(BY_POST, JSON)],
+    "a file packed by `gzip`": [(BY_POST, gzipped(STREAM))],
+    "a file packed by `zstd`": [(BY_POST, by_zstd(STREAM))],
+    "a file packed by `zip`": [(BY_POST, zipped(STREAM))],
+    "prefixes with their bytes turned round (big-endian)": [(BY_POST, turned(STREAM))],
+    "a message behind the five bytes of gRPC (a zero, and its size in big-endian)": [(BY_POST, framed(FIRST))],
+    "the same with a message below 256 bytes; from 1,024 on it is `S1 Oversize`": [(BY_POST, framed(SECOND))],
+    "a bare buffer as a stream: what follows its first four bytes is taken for an offset": [((), BARE)],
+    "with `--bare` a message that has its prefix, which is taken for an offset": [
+        ((*BY_POST, "--bare"), FIRST), ((*BY_POST, "--bare"), STREAM)
+    ],
+    "a prefix before a message that has one already": [(BY_POST, prefixed(FIRST))],
+    "a prefix put before a finished bare buffer, so that all positions moved by four": [((), prefixed(BARE))],
+    "with `--bare` a message whose prefix was taken off": [((*BY_POST, "--bare"), FIRST[4:])],
+    "no `--schema`, so that the messages are checked as schema files, whose tables are `object=0` to `9`": [
+        ((), STREAM)
+    ],
+}
+
+
+def rows():
+    """The first two columns of the table."""
+    page = (TOP / "docs/REFERENCE.md").read_text()
+    section = page.split("## Where every message is refused")[1].split("\n## ")[0]
+    return re.findall(r"^\| `(.+?)` \| (.+?) \| .+ \|$", section, re.M)
+
+
+def each_line_is_what_is_printed(cases):
+    cases.same("the table's rows", sorted(given for _, given in rows()), sorted(CALLS))
+    for line, given in rows():
+        for words, stream in CALLS.get(given, []):
+            ran = run(*words, given=stream)
+            cases.same(f"{given}: {words}", (ran.out + ran.err).decode().splitlines()[0], line)
+
+
+def what_is_said_beside_them(cases):
+    for name, words, stream, want in [
+        ("a bare buffer with --bare", ["--bare"], BARE, 0),
+        ("a prefix put before it, without alignment", ["--no-alignment"], prefixed(BARE), 0),
+        ("a prefix taken off, without alignment", [*BY_POST, "--bare", "--no-alignment"], FIRST[4:], 0),
+        ("the message without --bare", BY_POST, FIRST, 0),
+        ("the root with its namespace", [*BY_POST, "--root", "post.Delivery"], FIRST, 0),
+        ("a text that begins with the least of characters", BY_POST, b"\t\t\t\t", 3),
+        ("gRPC before 1,024 bytes", BY_POST, framed(bytes(1024)), 3),
+    ]:
+        ran = run(*words, given=stream)
+        cases.same(name, ran.status, want)
+        cases.same(f"{name}: S1", b"S1 Oversize" in ran.err, want == 3)
+    declared = struct.unpack("<I", b"\t\t\t\t")[0]
+    cases.holds("the least that a text declares", declared > 100_000_000, declared)
+
+
+if __name__ == "__main__":
+    outside.main(each_line_is_what_is_printed, what_is_said_beside_them)

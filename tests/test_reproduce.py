@@ -1,0 +1,143 @@
+"""The script ./reproduce: what it compares, what it says, and its status.
+
+It runs in a small repository, in which the command rt is a script that makes a program of a file. That the program
+itself is the same each time takes two builds to show, which ./reproduce does where it is called.
+"""
+
+import hashlib
+import os
+import shutil
+import subprocess
+
+import outside
+
+# Stands for rt: the program is a file of the sources, with what the variable ADDS names in the place where it's built.
+RT = """#!/bin/bash
+[ "$1" != version ] || { echo "a kit"; exit; }
+echo "rt $* in $PWD, $(umask), $TZ, $LC_ALL" >> "$CALLS"
+[ -z "${FAILS:-}" ] || { echo "a proof is open"; exit 1; }
+mkdir -p out
+{ cat src/main.rt; [ -z "${ADDS:-}" ] || eval "echo \\"# $ADDS\\""; } > out/fbcheck
+chmod +x out/fbcheck
+"""
+PROGRAM = "#!/bin/bash\necho the program\n"
+
+
+class Repository:
+    """A repository with the scripts and one file of sources, and its own rt."""
+
+    def __init__(self, name, committed=True):
+        self.top = outside.FOLDER / name
+        self.bin = outside.FOLDER / f"{name} bin"
+        self.calls = outside.FOLDER / f"{name} calls"
+        (self.top / "crates/fbcheck/src").mkdir(parents=True)
+        self.bin.mkdir()
+        for script in ("fbcheck", "reproduce", ".gitignore"):
+            shutil.copy(outside.TOP / script, self.top / script)
+        (self.top / "crates.txt").write_text("fbcheck:\n")
+        (self.top / "crates/fbcheck/stdin").write_text("")
+        self.source = self.top / "crates/fbcheck/src/main.rt"
+        self.source.write_text(PROGRAM)
+        (self.bin / "rt").write_text(RT)
+        (self.bin / "rt").chmod(0o755)
+        if committed:
+            self.git("init", "--quiet")
+            self.git("add", ".")
+            self.git("-c", "user.name=a", "-c", "user.email=a@example.org", "commit", "--quiet", "-m", "all")
+
+    def git(self, *words):
+        return subprocess.run(["git", *words], cwd=self.top, check=True, capture_output=True, text=True).stdout
+
+    def call(self, *words, **more):
+        """The status of a call, the lines that it prints, and what it tells."""
+        path = f"{self.bin}:{os.environ['PATH']}"
+        environment = {**os.environ, "PATH": path, "CALLS": str(self.calls), **more}
+        ran = subprocess.run([self.top / "reproduce", *words], capture_output=True, text=True, timeout=60,
+                             cwd=self.top, env=environment)
+        return ran.returncode, ran.stdout.splitlines(), ran.stderr
+
+
+def sum_of(data):
+    return hashlib.sha256(data.encode()).hexdigest()
+
+
+def sums_of(lines):
+    return [line.split()[0] for line in lines[1:-1]]
+
+
+def two_builds(cases):
+    here = Repository("two")
+    status, lines, err = here.call()
+    cases.same("the same", (status, lines[-1]), (0, "the same"))
+    cases.same("commit and kit", lines[0], f"commit {here.git('rev-parse', 'HEAD').strip()}, a kit")
+    cases.same("both sums", sums_of(lines), [sum_of(PROGRAM)] * 2)
+    calls = here.calls.read_text().splitlines()
+    cases.same("rt is called twice", [call.split(" in ")[0] for call in calls], ["rt run"] * 2)
+    differing = [len({call.split(" in ")[1].split(", ")[place] for call in calls}) for place in range(4)]
+    cases.same("in other folders, with other masks, times and languages", differing, [2] * 4)
+    folders = [call.split(" in ")[1].split(",")[0] for call in calls]
+    cases.same("which are gone, with all that was in them", [os.path.exists(folder) for folder in folders], [False] * 2)
+    left = [(here.top / f"out/reproduced-{number}").read_text() for number in (1, 2)]
+    cases.same("the programs are left in out", left, [PROGRAM] * 2)
+    cases.same("and nothing else has changed", here.git("status", "--porcelain"), "")
+
+
+def builds_that_differ(cases):
+    for name, adds in [("the folder", "$PWD"), ("the time", "$(date +%N)"), ("the mask", "$(umask)"),
+                       ("the language", "$LC_ALL"), ("the zone", "$TZ")]:
+        status, lines, _ = Repository(f"differs by {name}").call(ADDS=adds)
+        cases.same(f"{name} in the program", (status, lines[-1], len(set(sums_of(lines)))), (1, "they differ", 2))
+
+
+def a_program_from_elsewhere(cases):
+    here = Repository("elsewhere")
+    file = outside.file_of("downloaded", PROGRAM.encode())
+    status, lines, _ = here.call(file)
+    cases.same("the same", (status, lines[-1], sums_of(lines)), (0, "the same", [sum_of(PROGRAM)] * 2))
+    cases.same("is told by its name", lines[1], f"{sum_of(PROGRAM)}  {file}")
+    cases.same("of one build", here.calls.read_text().count("rt run"), 1)
+    other = outside.file_of("bent", PROGRAM.replace("the", "a").encode())
+    status, lines, _ = here.call(other)
+    cases.same("another", (status, lines[-1], len(set(sums_of(lines)))), (1, "they differ", 2))
+
+
+def what_is_committed(cases):
+    here = Repository("committed")
+    here.source.write_text(PROGRAM + "# changed\n")
+    status, lines, err = here.call()
+    cases.same("what isn't committed is left out", (status, sums_of(lines)), (0, [sum_of(PROGRAM)] * 2))
+    cases.same("and that is told", err.splitlines()[0], "reproduce: what isn't committed here is left out")
+
+
+def what_can_not_be_told(cases):
+    here = Repository("faults")
+    for name, words, more, text in [
+        ("two words", ["a", "b"], {}, "usage: ./reproduce [FILE]"),
+        ("no such file", ["nothing"], {}, "there is no file nothing"),
+        ("a folder", ["crates"], {}, "there is no file crates"),
+        ("a build that fails", [], {"FAILS": "1"}, "has failed; what it says stands above"),
+        ("no room for a clone", [], {"TMPDIR": "/dev/null"}, "no folder for the builds can be made"),
+    ]:
+        status, lines, err = here.call(*words, **more)
+        cases.same(f"{name}: the status", (status, len(lines) <= 1), (2, True))
+        cases.holds(f"{name}: is told", text in err, err)
+    outer = Repository("no clone", committed=False)
+    status, lines, err = outer.call(GIT_CEILING_DIRECTORIES=str(outside.FOLDER))
+    cases.same("a folder without a repository", (status, lines), (2, []))
+    cases.holds("is told", "isn't a clone of the repository" in err, err)
+    (here.bin / "rt").unlink()
+    status, _, err = here.call(PATH=os.pathsep.join(["/usr/bin", "/bin"]))
+    if not shutil.which("rt", path="/usr/bin:/bin"):
+        cases.same("no rt", (status, "rt is needed" in err), (2, True))
+
+
+def the_program_names_no_folder(cases):
+    """The program itself holds nothing of the places where it was built."""
+    data = outside.PROGRAM.read_bytes()
+    for name in (str(outside.TOP), "crates/", "/out/"):
+        cases.holds(f"{name} isn't in it", name.encode() not in data)
+
+
+if __name__ == "__main__":
+    outside.main(two_builds, builds_that_differ, a_program_from_elsewhere, what_is_committed, what_can_not_be_told,
+                 the_program_names_no_folder)

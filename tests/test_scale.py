@@ -1,0 +1,136 @@
+"""The commands of docs/SCALE.md, each in a folder of its own: together they tell of a stream what one process tells.
+
+Each is run as it stands in the document. For ssh there is a stand-in, which gives the words to a shell as ssh does.
+"""
+
+import os
+import re
+import shutil
+import subprocess
+import sys
+
+import outside
+from outside import FOLDER, TOP
+
+SECONDS = 300  # a recipe starts some sixty processes, and others may keep the machine busy
+PAGE = (TOP / "docs/SCALE.md").read_text()
+SCHEMA = (TOP / "examples/deliveries.bfbs").read_bytes()
+DELIVERIES = (TOP / "examples/deliveries.bin").read_bytes()
+GOOD = DELIVERIES[:840]  # the first four messages
+
+# Stands for ssh: leaves the host out, and has a shell run the other words in the folder that stands for the host's.
+SSH = """#!/bin/sh
+echo "$1" >> "$HOSTS"
+shift
+exec sh -c "$*"
+"""
+
+
+def blocks(section):
+    """The commands of a section, as the document has them."""
+    return re.findall(r"```sh\n(.*?)```", PAGE.split(f"\n## {section}\n")[1].split("\n## ")[0], re.S)
+
+
+CUT, = blocks("Cutting a stream")
+NUMBERS, STATUS = blocks("Numbers and status of the whole")
+RECIPES = {
+    "xargs": (blocks("On one machine")[0], ["xargs"]),
+    "parallel": (blocks("On one machine")[1], ["parallel"]),
+    "no files": (blocks("On one machine")[2], ["xargs", "tail", "head"]),
+    "pipes": (blocks("On one machine")[3], ["mkfifo"]),
+    "ssh": (blocks("Over ssh")[0], []),
+}
+
+
+def shell(commands, folder, **more):
+    """What the shell writes that runs these commands in a folder: its status, output and what it tells."""
+    environment = {**os.environ, "PATH": f"{folder}/bin:{os.environ['PATH']}", "HOSTS": f"{folder}/hosts", **more}
+    ran = subprocess.run(["sh", "-c", commands], cwd=folder, capture_output=True, text=True, timeout=SECONDS,
+                         env=environment)
+    return ran.returncode, ran.stdout, ran.stderr
+
+
+def folder_with(name, stream):
+    """A folder with what the document's commands are for."""
+    folder = FOLDER / name
+    (folder / "bin").mkdir(parents=True)
+    (folder / "bin/fbcheck").symlink_to(outside.PROGRAM)
+    (folder / "fbcheck").symlink_to(outside.PROGRAM)
+    (folder / "examples").symlink_to(TOP / "examples")
+    (folder / "bin/ssh").write_text(SSH)
+    (folder / "bin/ssh").chmod(0o755)
+    (folder / "my.bfbs").write_bytes(SCHEMA)
+    (folder / "stream.bin").write_bytes(stream)
+    return folder
+
+
+def streams():
+    """Streams by name: good and bad messages, four good ones, and one that is cut."""
+    yield "many", DELIVERIES * 300
+    yield "four", GOOD
+    yield "cut", DELIVERIES * 20 + DELIVERIES[:700]
+
+
+def each_recipe(cases):
+    for recipe, (commands, tools) in RECIPES.items():
+        lacking = [tool for tool in tools if not shutil.which(tool)]
+        if lacking:
+            print(f"skipped: by {recipe}: {', '.join(lacking)} isn't there")
+            continue
+        for stream_name, stream in streams():
+            name = f"{stream_name} by {recipe}"
+            folder = folder_with(name, stream)
+            whole = outside.run("--schema", folder / "my.bfbs", given=stream)
+            _, out, err = shell(commands, folder)
+            cases.same(f"{name}: what is told", (out, err), ("", whole.err.decode().replace("fbcheck:", "split:")))
+            shell(NUMBERS, folder)
+            cases.holds(f"{name}: the lines", (folder / "lines.txt").read_bytes() == whole.out)
+            want = 1 if b" bad " in whole.out else 0
+            cases.same(f"{name}: the status of the parts", shell(STATUS, folder)[1], f"{want}\n")
+            if recipe == "ssh":
+                hosts = sorted((folder / "hosts").read_text().split())
+                cases.same(f"{name}: the hosts in turn", hosts, ["alpha", "alpha", "beta", "beta"])
+
+
+def a_part_that_fails(cases):
+    """A process that ends early is seen in the status, and its part can be checked again."""
+    for recipe in ("xargs", "ssh"):
+        folder = folder_with(f"a fault by {recipe}", DELIVERIES * 20)
+        fails = '#!/bin/sh\nmkdir once 2> /dev/null && exit 255\nexec real "$@"\n'
+        (folder / "bin/real").symlink_to(outside.PROGRAM)
+        for place in ("bin/fbcheck", "fbcheck"):
+            (folder / place).unlink()
+            (folder / place).write_text(fails)
+            (folder / place).chmod(0o755)
+        shell(RECIPES[recipe][0].replace("-P 4", "-P 1"), folder)
+        cases.same(f"{recipe}: the status", shell(STATUS, folder)[1], "255\n")
+        empty = [path.name for path in (folder / "lines").iterdir() if not path.stat().st_size]
+        cases.same(f"{recipe}: one part has no lines", len(empty), 1)
+        shell(f"fbcheck --schema my.bfbs < parts/{empty[0]} > lines/{empty[0]}; {NUMBERS}", folder)
+        whole = outside.run("--schema", folder / "my.bfbs", given=DELIVERIES * 20)
+        cases.holds(f"{recipe}: checked again, it is whole", (folder / "lines.txt").read_bytes() == whole.out)
+
+
+def what_the_page_shows(cases):
+    folder = folder_with("shown", DELIVERIES)
+    cases.same("a cut into four", shell(CUT, folder), (0, "", ""))
+    cases.same("makes four files", sorted(os.listdir(folder / "parts")), [f"part-{n}" for n in range(1, 5)])
+    shown, = re.findall(r"```text\n(.*?)```", PAGE.split("\n## Cutting a stream\n")[1].split("\n## ")[0], re.S)
+    cases.same("deliveries in two", shell("examples/split 2 < stream.bin", folder), (0, shown, ""))
+
+
+def measured(cases):
+    """bench/scale measures, on streams of a megabyte."""
+    ran = subprocess.run([sys.executable, TOP / "bench/scale", "--megabytes", "1", "--runs", "1"], capture_output=True,
+                         text=True, timeout=SECONDS)
+    cases.same("it ends well", (ran.returncode, ran.stderr), (0, ""))
+    figures = re.findall(r"^  (.{36}) +(\d+) MB/s +(\d+) messages/s$", ran.stdout, re.M)
+    cases.same("with so many figures", len(figures), 3 * 14)
+    for name, program in [("no program", FOLDER / "nothing"), ("one that refuses all", shutil.which("false"))]:
+        ran = subprocess.run([sys.executable, TOP / "bench/scale", "--megabytes", "1", "--runs", "1"], timeout=SECONDS,
+                             capture_output=True, env={**os.environ, "FBCHECK_PROGRAM": str(program)})
+        cases.holds(f"{name}: a fault, and no figure", ran.returncode != 0 and b"MB/s" not in ran.stdout, ran)
+
+
+if __name__ == "__main__":
+    outside.main(each_recipe, a_part_that_fails, what_the_page_shows, measured)
