@@ -8,7 +8,7 @@ import subprocess
 
 import outside
 
-TOOLS = ["bash", "env", "dirname", "mktemp", "rm", "tee", "tail", "cat", "sleep"]
+TOOLS = ["bash", "env", "dirname", "mktemp", "rm", "tee", "tail", "cat", "sleep", "readlink", "sed", "mkdir", "touch"]
 
 
 def folder_of(name, commands):
@@ -22,6 +22,7 @@ def folder_of(name, commands):
         if text is not None:
             write(top / "bin" / command, text)
     shutil.copy(outside.TOP / "test", top / "test")
+    write(top / "build_c", "touch library")
     return top
 
 
@@ -91,6 +92,34 @@ def tests_stand_side_by_side(cases):
     cases.same("they are shown in their order", shown, ["I am 0", "I am 1", "I am 2"])
 
 
+def the_library_comes_first(cases):
+    finds = f"[ -e library ] || exit 1\n{tells(1, 0)}"
+    top = folder_of("library", {"rt": tells(1, 0)})
+    write(top / "tests" / "test_0.py", finds)
+    cases.same("it is built before the tests from outside", called(top)[1][-1], "2 passed, 0 failed")
+    write(top / "build_c", "exit 1")
+    write(top / "tests" / "test_0.py", tells(1, 0))
+    status, out, _ = called(top)
+    cases.same("where it can't be, that is a failure", (status, out[-1]), (1, "2 passed, 1 failed"))
+
+
+def the_library_is_made_of_what_was_proved(cases):
+    kit = outside.FOLDER / "kit"
+    (kit / "bin").mkdir(parents=True)
+    write(kit / "bin" / "rt", f"mkdir -p crates/fbcheck_c crates/low\n{tells(1, 0)}")
+    write(kit / "bin" / "rattle", 'echo "$@" >words')
+    top = folder_of("archive", {"rt": None, "nproc": "echo 1"})
+    (top / "bin" / "rt").symlink_to(kit / "bin" / "rt")
+    (top / "crates.txt").write_text("low: core\nfbcheck_c staticlib: core low\nother: low\n")
+    write(top / "tests" / "test_0.py", tells(1, 0))
+    cases.same("all is well", called(top)[0], 0)
+    words = (top / "crates/fbcheck_c/words").read_text().split()
+    libraries = [word for at, word in enumerate(words) if words[at - 1] == "--extern"]
+    cases.same("by what rt ci left of each crate", libraries,
+               [f"core={kit}/rlibs/core.rlib", f"low={top}/crates/low/out/rlib/low.rlib"])
+    cases.same("into the place where ./build_c looks", words[-2:], ["-o", "out/libfbcheck_c.a"])
+
+
 def what_is_missing_is_named(cases):
     for missing, text in [("rt", "rt, the command of the Rattle toolchain"), ("python3", "python3, which runs"),
                           ("cc", "cc, a C compiler")]:
@@ -107,9 +136,9 @@ def from_outside_alone(cases):
     status, out, _ = called(top, "--outside")
     cases.same("no rt ci", (status, out),
                (0, ["== python3 tests/test_0.py", "some text", "5 passed, 0 failed", "5 passed, 0 failed"]))
-    write(top / "fbcheck", "exit 2")
-    status, out, _ = called(top, "--outside")
-    cases.same("a program that can't be built", (status, out), (2, []))
+    for command in ("build_c", "fbcheck"):
+        write(top / command, "exit 2")
+        cases.same(f"what {command} can't build", called(top, "--outside")[:2], (2, []))
 
 
 def other_words_are_refused(cases):
@@ -120,6 +149,6 @@ def other_words_are_refused(cases):
 
 if __name__ == "__main__":
     outside.main(
-        counts_are_added, checks_stand_side_by_side, tests_stand_side_by_side, what_is_missing_is_named,
-        from_outside_alone, other_words_are_refused,
+        counts_are_added, checks_stand_side_by_side, tests_stand_side_by_side, the_library_comes_first,
+        the_library_is_made_of_what_was_proved, what_is_missing_is_named, from_outside_alone, other_words_are_refused,
     )
