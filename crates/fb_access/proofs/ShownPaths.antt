@@ -1,11 +1,18 @@
 -- The examples of texts of paths, by computing.
-use Rattle.std.proofs.Common.{ℕ, [], ◌∷◌, codes, refl, inl, inr, arith}
+use Rattle.std.proofs.Common.{◌≡◌, ℕ, List, [], ◌∷◌, ◌++◌, length, Err, codes, refl, inl, inr, arith}
+use Rattle.std.specs.List.{AllByRecursion}
 use Rattle.std.proofs.lemmas.Bool.{false≢true}
+use Rattle.fb_schema.specs.declared.kinds.Kind.{Kind}
+use Rattle.fb_schema.specs.declared.kinds.Kind.TheVariants.{Table}
 use Rattle.fb_schema.specs.Live.{live_fields}
 use Rattle.fb_schema.specs.Kinds.{shape_of, kind_of, base_types}
 use Rattle.fb_schema.specs.Members.{member_of, member_named}
-use Rattle.fb_access.specs.Grammar.{field, element, member, IsNumber}
-use Rattle.fb_access.specs.PathTests.{Words, Spellings, Resolved, Unfit}
+use Rattle.fb_access.specs.declared.step.Step.{Step}
+use Rattle.fb_access.specs.declared.misfit.Misfit.{Misfit}
+use Rattle.fb_access.specs.Grammar.{Part, field, element, member, spelling, IsName, IsPart, IsNumber, IsReading}
+use Rattle.fb_access.specs.Resolving.{fitting, Follows}
+use Rattle.fb_access.specs.Samples.{rows}
+use Rattle.fb_access.specs.PathTests.{Words, Spellings, LeadsBy, IsUnfit, Resolved, Unfit}
 
 -- all that is computed
 computing : ℕ
@@ -15,6 +22,21 @@ computing = 0
 begins_with_zero : IsNumber (codes "07") → ⊥
 begins_with_zero (inl h) = absurd cc
 begins_with_zero (inr h) = h.0 refl
+
+-- a name and parts, and the text that they spell
+reads : (name : List ℕ) (parts : List Part) → IsName name → AllByRecursion IsPart parts → IsReading (name ++ spelling parts) name parts
+reads name parts is_name are_parts = record { is_name = is_name; are_parts = are_parts; spelled = refl }
+
+-- parts that follow one another
+leads : {text name : List ℕ} {parts : List Part} {steps : List Step} (last : Kind) → IsReading text name parts → Follows rows (Table 0) (field name ∷ parts) steps last → LeadsBy text steps
+leads {name = name} {parts = parts} last reading follows = record { name = name; parts = parts; last = last; reading = reading; follows = follows }
+
+-- parts of which one doesn't fit behind those before it
+misfits : {text name : List ℕ} {parts : List Part} {misfit : Misfit} (steps : List Step) (last : Kind) (before : List Part) (part : Part) (after : List Part) → IsReading text name parts → field name ∷ parts ≡ before ++ part ∷ after → Follows rows (Table 0) before steps last → fitting rows last part ≡ Err misfit → IsUnfit text misfit (length before)
+misfits {name = name} {parts = parts} steps last before part after reading all follows unfit = record { name = name; parts = parts; reading = reading; before = before; part = part; after = after; all = all; number = refl; steps = steps; last = last; follows = follows; unfit = unfit }
+
+ten : IsNumber (codes "10")
+ten = inr (λ e. absurd (omega (arith, e)), (refl, (refl, tt)), omega arith)
 
 pub words_shown : Words
 words_shown = record {
@@ -34,127 +56,25 @@ spellings_shown = record {
   field_in_a_table = refl;
   element_of_a_vector = refl;
   member_of_a_union = refl;
-  reading = record { is_name = (refl, (refl, tt)); are_parts = (inr (λ e. absurd (omega (arith, e)), (refl, (refl, tt)), omega arith), ((refl, tt), ((refl, (refl, (refl, (refl, tt)))), tt))); spelled = refl };
+  reading = reads (codes "us") (element (codes "10") ∷ member (codes "A") ∷ field (codes "byte") ∷ []) (refl, (refl, tt)) (ten, ((refl, tt), ((refl, (refl, (refl, (refl, tt)))), tt)));
 }
 
 pub resolved_shown : Resolved
 unfolding computing
 resolved_shown = record {
-  a_field = record {
-    name = codes "text";
-    parts = [];
-    last = _;
-    reading = record { is_name = (refl, (refl, (refl, (refl, tt)))); are_parts = tt; spelled = refl };
-    follows = (_, refl, _, refl, (refl, refl));
-  };
-  behind_a_deprecated_field = record {
-    name = codes "longs";
-    parts = element (codes "7") ∷ [];
-    last = _;
-    reading = record { is_name = (refl, (refl, (refl, (refl, (refl, tt))))); are_parts = (inr (λ e. absurd (omega (arith, e)), (refl, tt), omega arith), tt); spelled = refl };
-    follows = (_, refl, _, refl, (_, refl, _, refl, (refl, refl)));
-  };
-  of_a_table = record {
-    name = codes "table";
-    parts = field (codes "ubyte") ∷ [];
-    last = _;
-    reading = record { is_name = (refl, (refl, (refl, (refl, (refl, tt))))); are_parts = ((refl, (refl, (refl, (refl, (refl, tt))))), tt); spelled = refl };
-    follows = (_, refl, _, refl, (_, refl, _, refl, (refl, refl)));
-  };
-  of_a_member = record {
-    name = codes "us";
-    parts = element (codes "1") ∷ member (codes "A") ∷ field (codes "byte") ∷ [];
-    last = _;
-    reading = record { is_name = (refl, (refl, tt)); are_parts = (inr (λ e. absurd (omega (arith, e)), (refl, tt), omega arith), ((refl, tt), ((refl, (refl, (refl, (refl, tt)))), tt))); spelled = refl };
-    follows = (_, refl, _, refl, (_, refl, _, refl, (_, refl, _, refl, (_, refl, _, refl, (refl, refl)))));
-  };
+  a_field = leads _ (reads (codes "text") [] (refl, (refl, (refl, (refl, tt)))) tt) (_, refl, _, refl, (refl, refl));
+  behind_a_deprecated_field = leads _ (reads (codes "longs") (element (codes "7") ∷ []) (refl, (refl, (refl, (refl, (refl, tt))))) (inr (λ e. absurd (omega (arith, e)), (refl, tt), omega arith), tt)) (_, refl, _, refl, (_, refl, _, refl, (refl, refl)));
+  of_a_table = leads _ (reads (codes "table") (field (codes "ubyte") ∷ []) (refl, (refl, (refl, (refl, (refl, tt))))) ((refl, (refl, (refl, (refl, (refl, tt))))), tt)) (_, refl, _, refl, (_, refl, _, refl, (refl, refl)));
+  of_a_member = leads _ (reads (codes "us") (element (codes "1") ∷ member (codes "A") ∷ field (codes "byte") ∷ []) (refl, (refl, tt)) (inr (λ e. absurd (omega (arith, e)), (refl, tt), omega arith), ((refl, tt), ((refl, (refl, (refl, (refl, tt)))), tt)))) (_, refl, _, refl, (_, refl, _, refl, (_, refl, _, refl, (_, refl, _, refl, (refl, refl)))));
 }
 
 pub unfit_shown : Unfit
 unfolding computing
 unfit_shown = record {
-  no_field = record {
-    name = codes "table";
-    parts = field (codes "none") ∷ [];
-    reading = record { is_name = (refl, (refl, (refl, (refl, (refl, tt))))); are_parts = ((refl, (refl, (refl, (refl, tt)))), tt); spelled = refl };
-    before = field (codes "table") ∷ [];
-    part = field (codes "none");
-    after = [];
-    all = refl;
-    number = refl;
-    steps = _;
-    last = _;
-    follows = (_, refl, _, refl, (refl, refl));
-    unfit = refl;
-  };
-  a_deprecated_field = record {
-    name = codes "old";
-    parts = [];
-    reading = record { is_name = (refl, (refl, (refl, tt))); are_parts = tt; spelled = refl };
-    before = [];
-    part = field (codes "old");
-    after = [];
-    all = refl;
-    number = refl;
-    steps = _;
-    last = _;
-    follows = (refl, refl);
-    unfit = refl;
-  };
-  no_vector = record {
-    name = codes "table";
-    parts = element (codes "0") ∷ [];
-    reading = record { is_name = (refl, (refl, (refl, (refl, (refl, tt))))); are_parts = (inl (refl, refl), tt); spelled = refl };
-    before = field (codes "table") ∷ [];
-    part = element (codes "0");
-    after = [];
-    all = refl;
-    number = refl;
-    steps = _;
-    last = _;
-    follows = (_, refl, _, refl, (refl, refl));
-    unfit = refl;
-  };
-  no_union = record {
-    name = codes "tables";
-    parts = element (codes "0") ∷ member (codes "A") ∷ [];
-    reading = record { is_name = (refl, (refl, (refl, (refl, (refl, (refl, tt)))))); are_parts = (inl (refl, refl), ((refl, tt), tt)); spelled = refl };
-    before = field (codes "tables") ∷ element (codes "0") ∷ [];
-    part = member (codes "A");
-    after = [];
-    all = refl;
-    number = refl;
-    steps = _;
-    last = _;
-    follows = (_, refl, _, refl, (_, refl, _, refl, (refl, refl)));
-    unfit = refl;
-  };
-  no_member = record {
-    name = codes "us";
-    parts = element (codes "0") ∷ member (codes "B") ∷ [];
-    reading = record { is_name = (refl, (refl, tt)); are_parts = (inl (refl, refl), ((refl, tt), tt)); spelled = refl };
-    before = field (codes "us") ∷ element (codes "0") ∷ [];
-    part = member (codes "B");
-    after = [];
-    all = refl;
-    number = refl;
-    steps = _;
-    last = _;
-    follows = (_, refl, _, refl, (_, refl, _, refl, (refl, refl)));
-    unfit = refl;
-  };
-  no_table = record {
-    name = codes "us";
-    parts = element (codes "0") ∷ member (codes "W") ∷ field (codes "x") ∷ [];
-    reading = record { is_name = (refl, (refl, tt)); are_parts = (inl (refl, refl), ((refl, tt), ((refl, tt), tt))); spelled = refl };
-    before = field (codes "us") ∷ element (codes "0") ∷ member (codes "W") ∷ [];
-    part = field (codes "x");
-    after = [];
-    all = refl;
-    number = refl;
-    steps = _;
-    last = _;
-    follows = (_, refl, _, refl, (_, refl, _, refl, (_, refl, _, refl, (refl, refl))));
-    unfit = refl;
-  };
+  no_field = misfits _ _ (field (codes "table") ∷ []) (field (codes "none")) [] (reads (codes "table") (field (codes "none") ∷ []) (refl, (refl, (refl, (refl, (refl, tt))))) ((refl, (refl, (refl, (refl, tt)))), tt)) refl (_, refl, _, refl, (refl, refl)) refl;
+  a_deprecated_field = misfits _ _ [] (field (codes "old")) [] (reads (codes "old") [] (refl, (refl, (refl, tt))) tt) refl (refl, refl) refl;
+  no_vector = misfits _ _ (field (codes "table") ∷ []) (element (codes "0")) [] (reads (codes "table") (element (codes "0") ∷ []) (refl, (refl, (refl, (refl, (refl, tt))))) (inl (refl, refl), tt)) refl (_, refl, _, refl, (refl, refl)) refl;
+  no_union = misfits _ _ (field (codes "tables") ∷ element (codes "0") ∷ []) (member (codes "A")) [] (reads (codes "tables") (element (codes "0") ∷ member (codes "A") ∷ []) (refl, (refl, (refl, (refl, (refl, (refl, tt)))))) (inl (refl, refl), ((refl, tt), tt))) refl (_, refl, _, refl, (_, refl, _, refl, (refl, refl))) refl;
+  no_member = misfits _ _ (field (codes "us") ∷ element (codes "0") ∷ []) (member (codes "B")) [] (reads (codes "us") (element (codes "0") ∷ member (codes "B") ∷ []) (refl, (refl, tt)) (inl (refl, refl), ((refl, tt), tt))) refl (_, refl, _, refl, (_, refl, _, refl, (refl, refl))) refl;
+  no_table = misfits _ _ (field (codes "us") ∷ element (codes "0") ∷ member (codes "W") ∷ []) (field (codes "x")) [] (reads (codes "us") (element (codes "0") ∷ member (codes "W") ∷ field (codes "x") ∷ []) (refl, (refl, tt)) (inl (refl, refl), ((refl, tt), ((refl, tt), tt)))) refl (_, refl, _, refl, (_, refl, _, refl, (_, refl, _, refl, (refl, refl)))) refl;
 }

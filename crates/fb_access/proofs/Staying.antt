@@ -26,17 +26,13 @@ use Rattle.fb_access.specs.Inside.{LiesInside, ValuesLieInside}
 use Rattle.fb_access.proofs.FieldSpots.{field_spot_holds}
 use Rattle.fb_access.proofs.Leading.{led_to_table, led_to_string, led_to_struct}
 use Rattle.fb_access.proofs.TableFields.{table_has_vtable}
+use Rattle.fb_access.proofs.ScanSteps.{is_equal}
+use Rattle.fb_access.proofs.StepLaws.{some_same}
 use Rattle.fb_access.proofs.Walks.{root_placed}
-
-some_same : {A : Type 0} {x y : A} → Some x ≡ Some y → x ≡ y
-some_same h = cc
 
 -- an element below the count ends within the elements
 element_ends : (size j n : ℕ) → j < n → size * j + size ≤ n * size
 element_ends size j n lt = let m : suc j * size ≤ n * size = mul-le-mul_right size lt in omega (arith, m, suc-mul j size, mul_comm size j)
-
-if_equal : (y m : ℕ) → (y == m) ≡ true → y ≡ m
-if_equal y m h = grind (arith, nat_tests)
 
 if_less : (j n : ℕ) → nat_lt j n ≡ true → j < n
 if_less j n h = grind (arith, nat_tests)
@@ -87,7 +83,7 @@ module _ (b : List ℕ) (S : Rows) where
   unfolding IsSpot
   member_of_union e y p m None q holds h i l = absurd cc
   member_of_union e y p m (Some kind) q holds h i l =
-      let led = λ (t : (y == m) ≡ true). subst (λ x. IsLed b S p (lead_of S x)) (ap (member_of S e) (if_equal y m t) ∙ i) h.led in
+      let led = λ (t : (y == m) ≡ true). subst (λ x. IsLed b S p (lead_of S x)) (ap (member_of S e) (is_equal y m t) ∙ i) h.led in
       subst (IsSpot b S) (some_same l) (one_of (y == m) (member_spot b p kind) AtOtherMember (λ t. member_lies p kind holds (led t)) tt)
 
   from_union : (p : Spot) (m : ℕ) (q : Spot) → IsServed S → IsSpot b S p → spot_of_member b S p m ≡ Some q → IsSpot b S q

@@ -24,7 +24,7 @@ use Rattle.fb_access.specs.Spots.{kind_at, present_spot, default_spot, absent_sp
 use Rattle.fb_access.specs.Denotes.{next_spot, Leads, Reaches}
 use Rattle.fb_access.specs.StepLaws.{position_of, value_place, IsFieldOf, FieldsStandInPlace, IsLedTo, IsOfEntry, steps_on, StepsFollowEntries, AreOffsets, NoOtherElements, MembersFollowLeads, AreInline, ElementsStandInRow}
 
-some_same : {A : Type 0} {x y : A} → Some x ≡ Some y → x ≡ y
+pub some_same : {A : Type 0} {x y : A} → Some x ≡ Some y → x ≡ y
 some_same h = cc
 
 -- Fields.
