@@ -116,7 +116,7 @@ def the_library_is_made_of_what_was_proved(cases):
     words = (top / "crates/fbcheck_c/words").read_text().split()
     libraries = [word for at, word in enumerate(words) if words[at - 1] == "--extern"]
     cases.same("by what rt ci left of each crate", libraries,
-               [f"core={kit}/rlibs/core.rlib", f"low={top}/crates/low/out/rlib/low.rlib"])
+               [f"std={kit}/rlibs/std.rlib", f"core={kit}/rlibs/core.rlib", f"low={top}/crates/low/out/rlib/low.rlib"])
     cases.same("into the place where ./build_c looks", words[-2:], ["-o", "out/libfbcheck_c.a"])
 
 
