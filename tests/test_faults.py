@@ -155,6 +155,7 @@ def schemas_that_are_not_legal(cases):
 def roots_of_schema_files(cases):
     rootless = file_of("rootless.bfbs", changed(schemas.M, (20, "0000")))
     cases.same("none, and none is asked for", run("--schema", rootless, given=SEVEN), refused("no root table"))
+    cases.same("none, and a path", run("--schema", rootless, "--path", "name", given=ORC), refused("no root table"))
     cases.same("none, but one is asked for", run("--schema", rootless, "--root", "M", "--bare", given=ORC),
                good("1 ok tables=1 depth=1 reads=8"))
     listed = refused("schema: L3 RootNotListed")

@@ -3,7 +3,8 @@
 tells its own want of memory and nothing else.
 
 tests/memory/refuse.c, which `cc` builds here, is loaded before the programs: it counts their requests of the C
-library, and refuses the one with a given number, alone or with all later ones.
+library, and refuses the one with a given number, alone or with all later ones. tests/ends/narrow.c gives the input of
+some of them in pieces.
 """
 
 import concurrent.futures
@@ -29,6 +30,9 @@ AT_ONCE = 4
 # Which later requests are refused beside the one that is asked for.
 ALONE, WITH_LATER = "alone", "with all later ones"
 
+# As many bytes as a read asks for, up to the length of the read buffer.
+WHOLE = 65_536
+
 
 @dataclass
 class Run:
@@ -37,6 +41,8 @@ class Run:
     status: int
     out: bytes
     err: bytes
+    # the requests made before each read of standard input
+    reads: list
     # the requests made before each write to standard output, and the bytes of the write
     writes: list
     asked: int
@@ -64,32 +70,37 @@ class Refuser:
 
     def __init__(self, folder):
         self.folder = pathlib.Path(folder)
-        self.library = self.folder / "refuse.so"
-        source = TOP / "tests" / "memory" / "refuse.c"
-        subprocess.run(["cc", "-O2", "-shared", "-fPIC", "-o", self.library, source], check=True)
+        self.libraries = []
+        for source in ("ends/narrow.c", "memory/refuse.c"):
+            self.libraries.append(self.folder / f"{pathlib.Path(source).stem}.so")
+            subprocess.run(["cc", "-O2", "-shared", "-fPIC", "-o", self.libraries[-1], TOP / "tests" / source],
+                           check=True)
 
-    def run(self, words, given, first=0, extent=ALONE):
-        """One run, in which the request numbered `first` is refused; none where it is 0."""
+    def run(self, words, given, first=0, extent=ALONE, most=WHOLE):
+        """One run, in which the request numbered `first` is refused; none where it is 0. `most` is how many bytes a read
+        of standard input gives."""
         handle, report = tempfile.mkstemp(dir=self.folder)
         os.close(handle)
         settings = {
-            "LD_PRELOAD": str(self.library),
+            "LD_PRELOAD": " ".join(map(str, self.libraries)),
+            "NARROW_READ": str(most),
             "REFUSE_FIRST": str(first),
             "REFUSE_LATER": "1" if extent == WITH_LATER else "0",
             "REFUSE_REPORT": report,
         }
         ran = subprocess.run(words, input=given, capture_output=True, env=settings, timeout=60)
-        *writes, (end, asked, refused) = [line.split() for line in pathlib.Path(report).read_text().splitlines()]
+        *calls, (end, asked, refused) = [line.split() for line in pathlib.Path(report).read_text().splitlines()]
         os.remove(report)
-        assert end == "end", writes
-        told = [(int(before), int(length)) for _, before, length in writes]
-        return Run(ran.returncode, ran.stdout, ran.stderr, told, int(asked), int(refused))
+        assert end == "end", calls
+        reads = [int(before) for call, before, _ in calls if call == "read"]
+        writes = [(int(before), int(length)) for call, before, length in calls if call == "write"]
+        return Run(ran.returncode, ran.stdout, ran.stderr, reads, writes, int(asked), int(refused))
 
-    def sweep(self, words, given, extent):
+    def sweep(self, words, given, extent, most=WHOLE):
         """A run for each request of a run that meets no refusal, in which it is refused."""
-        asked = self.run(words, given).asked
+        asked = self.run(words, given, most=most).asked
         with concurrent.futures.ThreadPoolExecutor(AT_ONCE) as runs:
-            yield from runs.map(lambda first: self.run(words, given, first, extent), range(1, asked + 1))
+            yield from runs.map(lambda first: self.run(words, given, first, extent, most), range(1, asked + 1))
 
 
 @dataclass
@@ -167,7 +178,7 @@ class Case:
 
     `guesses` is how many of its requests may be refused alone without a change. Where a list is collected, the
     toolchain's library first asks for room for as many items as there may be; where that is refused, it asks for what
-    it needs. Every run collects its words so.
+    it needs. Every run collects its words so. `most` is how many bytes of the input one read gives.
     """
 
     name: str
@@ -175,6 +186,7 @@ class Case:
     given: bytes
     status: int
     guesses: int = 1
+    most: int = WHOLE
 
 
 def messages(stream):
@@ -200,7 +212,10 @@ MANY_WORDS = [
 RUNS = [
     Case("a schema and a path, over a stream", [*LOADED, *PATH], STREAM, 1),
     Case("a schema and a path, over a stream of growing messages", [*LOADED, *PATH], GROWING, 1),
+    Case("the same stream of growing messages, by 100 bytes", [*LOADED, *PATH], GROWING, 1, most=100),
+    Case("the same stream of growing messages, byte by byte", [*LOADED, *PATH], GROWING, 1, most=1),
     Case("a schema and a path, over a bare input", [*LOADED, *PATH, "--bare", "--no-alignment"], BARE, 0),
+    Case("the same bare input, by 100 bytes", [*LOADED, *PATH, "--bare", "--no-alignment"], BARE, 0, most=100),
     Case("many words, over a stream", [*LOADED, *MANY_WORDS], STREAM, 1),
     Case("no schema, over a schema file", ["--bare"], SCHEMA.read_bytes(), 0),
 ]
@@ -245,13 +260,17 @@ def is_nothing(out, _whole):
 
 
 def case_faults(refuser, fbcheck, case, extent, may_be_written):
-    """Refuses each request of a run of the program."""
+    """Refuses each request of a run of the program. Nothing is read where one is refused that comes before the first
+    read."""
     words = [fbcheck, *case.words]
-    whole = refuser.run(words, case.given)
+    whole = refuser.run(words, case.given, most=case.most)
     if whole.status != case.status or not whole.out + whole.err:
         return [f"without a refusal: {whole}"]
+    if case.most < WHOLE and len(whole.reads) != -(-len(case.given) // case.most) + 1:
+        return [f"pieces of another length: {whole.reads}"]
+    before_reads = whole.reads[0] if whole.reads else whole.asked
     unchanged, faults, fronts = [], [], set()
-    for first, run in enumerate(refuser.sweep(words, case.given, extent), 1):
+    for first, run in enumerate(refuser.sweep(words, case.given, extent, case.most), 1):
         fronts.add(run.out)
         if run.refused == 0:
             faults.append(f"request {first} was not met")
@@ -259,6 +278,8 @@ def case_faults(refuser, fbcheck, case, extent, may_be_written):
             unchanged.append(first)
         elif (run.status, run.err) != (3, b"fbcheck: out of memory\n") or not may_be_written(run.out, whole.out):
             faults.append(f"request {first}: {run.status}, {run.out!r}, {run.err!r}")
+        elif first <= before_reads and run.reads:
+            faults.append(f"request {first} is refused, and the input is read")
     if len(unchanged) > (case.guesses if extent == ALONE else 0):
         faults.append(f"refused without a change: {unchanged}")
     parts = fronts - {b"", whole.out}
@@ -268,12 +289,26 @@ def case_faults(refuser, fbcheck, case, extent, may_be_written):
     return faults
 
 
-def oversize_faults(refuser, fbcheck):
+def own_memory_faults(refuser, fbcheck):
+    """What a run needs whatever comes is asked for before the first read: a message that stands whole in a piece takes
+    no memory but for its line, and a bare input takes none before it's known to be short enough."""
+    faults = []
+    for words, given, status in [
+        ([*LOADED, "--quiet"], MESSAGES[0], 0),
+        ([*LOADED, "--bare", "--max-bytes", "8"], bytes(9), 3),
+    ]:
+        run = refuser.run([fbcheck, *words], given)
+        if (run.status, run.reads[:1]) != (status, [run.asked]):
+            faults.append(f"{words}: {run}")
+    return faults
+
+
+def oversize_faults(refuser, fbcheck, most):
     """A prefix that declares too much makes no request: the same requests are made without it."""
     message = MESSAGES[0]
     words = [fbcheck, *LOADED]
-    alone = refuser.run(words, message)
-    oversize = refuser.run(words, message + b"\xff" * 4)
+    alone = refuser.run(words, message, most=most)
+    oversize = refuser.run(words, message + b"\xff" * 4, most=most)
     faults = []
     if (alone.status, alone.err) != (0, b""):
         faults.append(f"the message alone: {alone}")
@@ -294,7 +329,9 @@ def main():
             for cases, may_be_written in (RUNS, is_front), (FILTERS, is_front_of_messages), (ANSWERS, is_nothing):
                 for case in cases:
                     tally.case(f"{case.name}, {extent}", case_faults(refuser, fbcheck, case, extent, may_be_written))
-        tally.case("an oversize prefix", oversize_faults(refuser, fbcheck))
+        tally.case("what is asked for before the first read", own_memory_faults(refuser, fbcheck))
+        for most in 1, 511, 512, 513, WHOLE:
+            tally.case(f"an oversize prefix, by {most} bytes", oversize_faults(refuser, fbcheck, most))
     return tally.end()
 
 

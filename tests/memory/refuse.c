@@ -3,9 +3,9 @@
 
    REFUSE_FIRST   the number of the request to refuse, from 1 on; 0 refuses none
    REFUSE_LATER   1: every later request is refused too
-   REFUSE_REPORT  the file that the report goes to: a line `write A N` before each write of N bytes to standard
-                  output, where A is the number of requests made so far, and at the end `end A R`, where R is the
-                  number of those refused
+   REFUSE_REPORT  the file that the report goes to: a line `read A N` before each read of up to N bytes of standard
+                  input and `write A N` before each write of N bytes to standard output, where A is the number of
+                  requests made so far, and at the end `end A R`, where R is the number of those refused
 
    Requests that the loader makes before the program starts aren't counted, and neither are releases. */
 #define _GNU_SOURCE
@@ -88,10 +88,17 @@ int posix_memalign(void **made, size_t alignment, size_t size) {
     return 0;
 }
 
+ssize_t read(int from, void *bytes, size_t count) {
+    if (from == STDIN_FILENO) tell("read", asked, count);
+    return syscall(SYS_read, from, bytes, count);
+}
+
 ssize_t write(int to, const void *bytes, size_t count) {
     if (to == STDOUT_FILENO) tell("write", asked, count);
     return syscall(SYS_write, to, bytes, count);
 }
 
-/* The name by which the programs call it. */
+/* The names by which the programs call them. */
+ssize_t __read(int from, void *bytes, size_t count) { return read(from, bytes, count); }
+
 ssize_t __write(int to, const void *bytes, size_t count) { return write(to, bytes, count); }

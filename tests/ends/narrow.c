@@ -1,0 +1,72 @@
+/* A library that is loaded before a program's others (LD_PRELOAD) and stands between it and its standard input and
+   output: a call gives or takes only so many bytes, or fails. Each variable that isn't set changes nothing.
+
+   NARROW_READ     the most bytes that one read gives
+   NARROW_FAILS    the number of the read that fails, from 1 on
+   NARROW_WRITE    the most bytes that one write takes
+   NARROW_ROOM     how many bytes are taken in all; from then on a write fails
+   NARROW_FULL     1: such a write doesn't fail, but takes nothing
+   NARROW_REPORT   the file to which the number of reads goes at the end
+
+   What is left of a call goes on to the next library, or to the C library. */
+#define _GNU_SOURCE
+#include <dlfcn.h>
+#include <errno.h>
+#include <fcntl.h>
+#include <limits.h>
+#include <stdio.h>
+#include <stdlib.h>
+#include <unistd.h>
+
+static ssize_t (*read_on)(int, void *, size_t);
+static ssize_t (*write_on)(int, const void *, size_t);
+static unsigned long most_read, fails, reads, most_written, room;
+static int full;
+
+static unsigned long number_in(const char *name, unsigned long otherwise) {
+    const char *text = getenv(name);
+    return text ? strtoul(text, NULL, 10) : otherwise;
+}
+
+static size_t least(size_t one, size_t other) { return one < other ? one : other; }
+
+__attribute__((constructor)) static void start(void) {
+    read_on = dlsym(RTLD_NEXT, "read");
+    write_on = dlsym(RTLD_NEXT, "write");
+    most_read = number_in("NARROW_READ", ULONG_MAX);
+    fails = number_in("NARROW_FAILS", 0);
+    most_written = number_in("NARROW_WRITE", ULONG_MAX);
+    room = number_in("NARROW_ROOM", ULONG_MAX);
+    full = number_in("NARROW_FULL", 0) == 1;
+}
+
+__attribute__((destructor)) static void end(void) {
+    const char *path = getenv("NARROW_REPORT");
+    int report = path ? open(path, O_WRONLY | O_CREAT | O_TRUNC | O_CLOEXEC, 0600) : -1;
+    if (report >= 0) dprintf(report, "%lu\n", reads);
+}
+
+ssize_t read(int from, void *bytes, size_t count) {
+    if (from != STDIN_FILENO) return read_on(from, bytes, count);
+    if (++reads == fails) {
+        errno = EIO;
+        return -1;
+    }
+    return read_on(from, bytes, least(count, most_read));
+}
+
+ssize_t write(int to, const void *bytes, size_t count) {
+    if (to != STDOUT_FILENO) return write_on(to, bytes, count);
+    if (count > 0 && room == 0 && !full) {
+        errno = EIO;
+        return -1;
+    }
+    ssize_t taken = write_on(to, bytes, least(least(count, most_written), room));
+    if (taken > 0) room -= taken;
+    return taken;
+}
+
+/* The names by which the programs call them. */
+ssize_t __read(int from, void *bytes, size_t count) { return read(from, bytes, count); }
+
+ssize_t __write(int to, const void *bytes, size_t count) { return write(to, bytes, count); }
