@@ -13,8 +13,6 @@ mod asked;
 mod bare;
 mod check;
 mod check_laws;
-#[cfg(test)]
-mod check_tests;
 mod checker;
 mod choices;
 mod command;
@@ -22,25 +20,15 @@ mod fault;
 mod files;
 mod front;
 mod line;
-#[cfg(test)]
-mod memory_tests;
 mod options;
 mod output;
 mod reading;
 mod run;
-#[cfg(test)]
-mod schema_files;
 mod serve;
 mod stop;
 mod stream;
-#[cfg(test)]
-mod tests;
 mod value_text;
-#[cfg(test)]
-mod value_text_tests;
 mod words;
-#[cfg(test)]
-mod words_tests;
 mod writing;
 
 use fb_bytes::Counted;
