@@ -26,10 +26,3 @@ pub fn four(case: &str) -> Result<(&str, &str, &str, &str), Fail> {
     let (second, third, fourth) = three(rest)?;
     Ok((first, second, third, fourth))
 }
-
-/// The five columns of a case.
-pub fn five(case: &str) -> Result<(&str, &str, &str, &str, &str), Fail> {
-    let (first, rest) = two(case)?;
-    let (second, third, fourth, fifth) = four(rest)?;
-    Ok((first, second, third, fourth, fifth))
-}
