@@ -73,6 +73,9 @@ def what_is_built(cases):
         cases.holds(f"{library} needs the C library's heap and memory alone",
                     wanted <= {"malloc", "free", "realloc", "memcpy", "memmove", "memset", "memcmp", "bcmp"}, wanted)
     cases.same("a word is refused", ran(TOP / "build_c", "here")[0], 2)
+    before = (OUT / "libfbcheck.a").stat().st_mtime_ns
+    cases.same("once all is made, nothing is done, and no rt is needed",
+               (ran(TOP / "build_c", PATH="/usr/bin:/bin")[0], (OUT / "libfbcheck.a").stat().st_mtime_ns), (0, before))
 
 
 NUMBERS = r"""
@@ -584,14 +587,15 @@ def texts_of_the_pages(cases):
     file_of("good/my.bfbs", schemas.M)
     file_of("bad/my.bfbs", ORC)
     for page, good, no_schema in [
-        ("README.md", "good: 1 tables\n", ""),
+        ("README.md", "good: 1 tables\n", "no schema: 8\n"),
         ("docs/REFERENCE.md", "good: 1 tables, 8 reads\n", "no schema: 8\n"),
     ]:
         text = re.search(r"```c\n(.*?)```", (TOP / page).read_text(), re.S)[1]
         program = compiled(cases, "pasted from " + page.replace("/", " "), file_of("pasted.c", text.encode()), *SHARED)
         for name, rows, given, want in [
             ("a good buffer", "good", ORC, (0, good)),
-            ("one whose last text is torn", "good", ORC[:-1], (1, "bad: V2 at 28\n")),
+            ("one whose last text is torn", "good", ORC[:-1], (1, "bad: 1, V2 at 28\n")),
+            ("a longer one than there is room for", "good", ORC + bytes(1 << 16), (2, "too long\n")),
             ("no schema", "bad", ORC, (2, no_schema)),
         ]:
             told = ran("env", "-C", FOLDER / rows, program, "my.bfbs", given=given)

@@ -25,7 +25,7 @@ PAGE = (TOP / "docs/fbcheck.1").read_text()
 
 def installed(*words, **environment):
     """How ./install ends, with what it wrote. It finds the program and the library built."""
-    ran = subprocess.run([TOP / "install", *words], capture_output=True, text=True, timeout=600,
+    ran = subprocess.run([TOP / "install", *words], capture_output=True, text=True, timeout=600, cwd=outside.FOLDER,
                          env={"PATH": os.environ["PATH"], **environment})
     return ran.returncode, ran.stdout.splitlines(), ran.stderr
 
@@ -51,6 +51,7 @@ def what_is_put(cases):
     for name, environment, top in [
         ("PREFIX", {"PREFIX": f"{outside.FOLDER}/local"}, outside.FOLDER / "local"),
         ("DESTDIR", {"DESTDIR": f"{outside.FOLDER}/pkg", "PREFIX": "/usr"}, outside.FOLDER / "pkg/usr"),
+        ("a PREFIX below this folder", {"PREFIX": "here"}, outside.FOLDER / "here"),
         ("neither PREFIX", {"DESTDIR": f"{outside.FOLDER}/own"}, outside.FOLDER / "own/usr/local"),
     ]:
         told = installed(**environment)
@@ -61,6 +62,8 @@ def what_is_put(cases):
     ran = subprocess.run([program, "--help"], capture_output=True, timeout=60)
     cases.same("the program runs where it was put", (ran.returncode, ran.stdout), (0, outside.run("--help").out))
     a_program_in_c(cases, outside.FOLDER / "local")
+    page = (outside.FOLDER / "here/lib/pkgconfig/fbcheck.pc").read_text()
+    cases.holds("a file for pkg-config has a whole path", f"libdir={outside.FOLDER}/here/lib\n" in page, page)
     page = (outside.FOLDER / "pkg/usr/lib/pkgconfig/fbcheck.pc").read_text()
     cases.holds("a package's file for pkg-config knows nothing of DESTDIR", "libdir=/usr/lib\n" in page, page)
 

@@ -47,9 +47,18 @@ def links():
                for target in re.findall(r"\]\(((?!http)[^)#]+)", page.read_text()))
 
 
+def field_by_its_id():
+    """The loop of docs/REFERENCE.md finds the name of a field by its number."""
+    page = (TOP / "docs" / "REFERENCE.md").read_text()
+    loop = re.search(r"```sh\n(for i in .*?)```", page, re.S)[1].replace("my.bfbs", "examples/deliveries.bfbs")
+    run = subprocess.run(["sh", "-c", loop.replace("./fbcheck", str(PROGRAM))], cwd=TOP, capture_output=True, text=True,
+                         timeout=60)
+    return [line.split()[-1] for line in run.stdout.splitlines()] == ['"items"']
+
+
 def main():
     failed = 0
-    checks = [first_example, library_example, crates_line, links]
+    checks = [first_example, library_example, crates_line, links, field_by_its_id]
     for check in checks:
         if not check():
             failed += 1
