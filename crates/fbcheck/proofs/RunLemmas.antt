@@ -3,9 +3,11 @@ use Rattle.std.proofs.Common.{◌≡◌, ℕ, ◌+◌, Bool, true, false, List, 
 use Rattle.std.specs.Io.KnownBytes.{Consumes, Appends}
 use Rattle.std.proofs.KnownBytes.{Consumes-nil, Consumes-trans, Appends-kept, Appends-nil, Appends-trans}
 use Rattle.fb_schema.specs.Rows.{Rows}
+use Rattle.fb_verify.specs.declared.start.Start.{Start}
 use Rattle.fb_bytes.specs.declared.stream_fault.StreamFault.TheVariants as stream
 use Rattle.fbcheck.specs.Faults.{IsCaused}
 use Rattle.fbcheck.specs.Job.{Job, job_of, start_of}
+use Rattle.fbcheck.specs.Prompt.{IsBarePrompt, IsPrompt, IsPromptFrom, IsStreamPrompt}
 use Rattle.fbcheck.specs.Run.{IsBareRun, IsRunBeside, IsRunFrom, IsStreamRun}
 use Rattle.fbcheck.specs.Lines.{WritesFronts}
 use Rattle.fbcheck.specs.Texts.{Texts, followed, silent, to_notes}
@@ -145,16 +147,26 @@ caused_flush f f' w w' w0 k k' k0 left ended run.TooManyTurns sw sk caused = cau
 caused_flush f f' w w' w0 k k' k0 left ended (run.Stream (stream.Truncated held)) sw sk caused = caused 0 left ended
 caused_flush f f' w w' w0 k k' k0 left ended _ sw sk caused = caused 0 left ended
 
-module _ (rows : Rows) (options : Options) (job : Job) (r r' s s' n n' : Option (List ℕ)) (answer : Result Tally RunFault) where
-  -- a run over one bare input is the run of options that say so
-  pub runs_bare : options.bare ≡ true → job ≡ job_of rows options → IsBareRun job r r' s s' n n' answer → IsRunBeside (job_of rows options) r r' s s' n n' answer
-  runs_bare is same ran =
-      subst (λ (b : Bool). IsRunFrom (start_of b) (job_of rows options) r r' s s' n n' answer) (sym is) (subst (λ (j : Job). IsBareRun j r r' s s' n n' answer) same ran)
+module _ (rows : Rows) (options : Options) (job : Job) (r r' s s' n n' : Option (List ℕ)) where
+  -- what is so by a start and a job is so by those of the options
+  by_options : {b : Bool} (P : Start → Job → Type 0) → options.bare ≡ b → job ≡ job_of rows options → P (start_of b) job → P (start_of options.bare) (job_of rows options)
+  by_options {b} P is same p = subst (λ (x : Bool). P (start_of x) (job_of rows options)) (sym is) (subst (λ (j : Job). P (start_of b) j) same p)
 
-  -- so is one over a stream
-  pub runs_stream : options.bare ≡ false → job ≡ job_of rows options → IsStreamRun job r r' s s' n n' answer → IsRunBeside (job_of rows options) r r' s s' n n' answer
-  runs_stream is same ran =
-      subst (λ (b : Bool). IsRunFrom (start_of b) (job_of rows options) r r' s s' n n' answer) (sym is) (subst (λ (j : Job). IsStreamRun j r r' s s' n n' answer) same ran)
+  module _ (answer : Result Tally RunFault) where
+    -- a run over one bare input is the run of options that say so
+    pub runs_bare : options.bare ≡ true → job ≡ job_of rows options → IsBareRun job r r' s s' n n' answer → IsRunBeside (job_of rows options) r r' s s' n n' answer
+    runs_bare = by_options (λ from j. IsRunFrom from j r r' s s' n n' answer)
+
+    -- so is one over a stream
+    pub runs_stream : options.bare ≡ false → job ≡ job_of rows options → IsStreamRun job r r' s s' n n' answer → IsRunBeside (job_of rows options) r r' s s' n n' answer
+    runs_stream = by_options (λ from j. IsRunFrom from j r r' s s' n n' answer)
+
+  -- each is prompt where that run is
+  pub prompt_bare : options.bare ≡ true → job ≡ job_of rows options → IsBarePrompt job r r' s s' n n' → IsPrompt (job_of rows options) r r' s s' n n'
+  prompt_bare = by_options (λ from j. IsPromptFrom from j r r' s s' n n')
+
+  pub prompt_stream : options.bare ≡ false → job ≡ job_of rows options → IsStreamPrompt job r r' s s' n n' → IsPrompt (job_of rows options) r r' s s' n n'
+  prompt_stream = by_options (λ from j. IsPromptFrom from j r r' s s' n n')
 
 -- the exit of a `?`
 pub err_exit : {A E : Type 0} (answer : Result A E) (x : E) (P : Result A E → Type 0) → IsErrAnd answer (λ e. e ≡ x) → P (Err x) → P answer

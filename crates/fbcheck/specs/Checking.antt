@@ -11,6 +11,7 @@ use Rattle.fb_bfbs.specs.declared.load_fault.LoadFault.{LoadFault}
 use Rattle.fb_bfbs.specs.declared.load_fault.LoadFault.TheVariants as load
 use Rattle.fbcheck.specs.Asked.{AsksBy}
 use Rattle.fbcheck.specs.Job.{Job}
+use Rattle.fbcheck.specs.Prompt.{IsPrompt}
 use Rattle.fbcheck.specs.Run.{IsRunBeside}
 use Rattle.fbcheck.specs.declared.choices.Settings.{Settings}
 use Rattle.fbcheck.specs.declared.fault.RunFault.{RunFault}
@@ -71,3 +72,7 @@ IsCheckedBeside file settings source source' sink sink' notes notes' answer = Ru
 -- the same where no notes are known
 abbrev pub IsChecked : Option (Bor (List ℕ)) → Settings → Option (List ℕ) → Option (List ℕ) → Option (List ℕ) → Option (List ℕ) → Result Tally RunFault → Type 0
 IsChecked file settings source source' sink sink' answer = IsCheckedBeside file settings source source' sink sink' None None answer
+
+-- all that was read by now is told, of a run that was asked for
+abbrev pub IsPromptAsAsked : Option (Bor (List ℕ)) → Settings → Option (List ℕ) → Option (List ℕ) → Option (List ℕ) → Option (List ℕ) → Option (List ℕ) → Option (List ℕ) → Type 0
+IsPromptAsAsked file settings source source' sink sink' notes notes' = (job : Job) × Asks file settings (Ok job) × IsPrompt job source source' sink sink' notes notes'

@@ -8,6 +8,7 @@ pub mod LineTests
 pub mod Stream
 pub mod Bare
 pub mod Run
+pub mod Prompt
 pub mod Faults
 pub mod CommandLine
 pub mod Values

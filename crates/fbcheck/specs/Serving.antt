@@ -4,7 +4,7 @@ use Rattle.std.specs.Borrow.{Bor}
 use Rattle.std.specs.Io.KnownBytes.{Appends, Keeps}
 use Rattle.clap.specs.Walk.{Text}
 use Rattle.clap.specs.Faults.{fault_of}
-use Rattle.fbcheck.specs.Checking.{IsCheckedBeside, IsRefusal}
+use Rattle.fbcheck.specs.Checking.{IsCheckedBeside, IsPromptAsAsked, IsRefusal}
 use Rattle.fbcheck.specs.CommandLine.{program}
 use Rattle.fbcheck.specs.Faults.{EndsBeside, fault_status, status_of}
 use Rattle.fbcheck.specs.Lines.{WritesFront}
@@ -62,13 +62,24 @@ IsFileFault gives (Some name) fault = gives name (Err fault)
 abbrev pub lent_bytes : Option (Bor (List ℕ)) → Option (List ℕ)
 lent_bytes file = option_map (λ (b : Bor (List ℕ)). b.now) file
 
--- the buffers were checked as the words ask, by the bytes of the schema file that they name
-pub record ChecksAsGiven (gives : Text → Result (List ℕ) FileFault → Type 0) (given : List Text) (source source' sink sink' notes notes' : Option (List ℕ)) (answer : Result Tally RunFault) : Type 0 where
+-- the words give settings, and the schema file that they name has bytes, or there is none, of which this holds
+pub record HoldsAsGiven (gives : Text → Result (List ℕ) FileFault → Type 0) (given : List Text) (Holds : Option (Bor (List ℕ)) → Settings → Type 0) : Type 0 where
   pub settings : Settings
   pub file : Option (Bor (List ℕ))
   pub are_given : AreGiven given settings
   pub is_file : IsFile gives (text_of (codes "schema") given) (lent_bytes file)
-  pub checked : IsCheckedBeside file settings source source' sink sink' notes notes' answer
+  pub holds : Holds file settings
+
+-- the buffers were checked as the words ask
+abbrev pub ChecksAsGiven : (Text → Result (List ℕ) FileFault → Type 0) → List Text → Option (List ℕ) → Option (List ℕ) → Option (List ℕ) → Option (List ℕ) → Option (List ℕ) → Option (List ℕ) → Result Tally RunFault → Type 0
+ChecksAsGiven gives given source source' sink sink' notes notes' answer =
+    HoldsAsGiven gives given (λ file settings. IsCheckedBeside file settings source source' sink sink' notes notes' answer)
+
+-- all that was read by now is told, of a run that the words ask for; they could be read
+abbrev pub IsPromptAsGiven : (Text → Result (List ℕ) FileFault → Type 0) → Result (List Text) WordsFault → Option (List ℕ) → Option (List ℕ) → Option (List ℕ) → Option (List ℕ) → Option (List ℕ) → Option (List ℕ) → Type 0
+IsPromptAsGiven gives (Ok given) source source' sink sink' notes notes' =
+    HoldsAsGiven gives given (λ file settings. IsPromptAsAsked file settings source source' sink sink' notes notes')
+IsPromptAsGiven gives (Err fault) source source' sink sink' notes notes' = ⊥
 
 -- what was written where the words give no settings: a text where they ask for one, all of it or the front that the sink took; else nothing
 abbrev pub Unserved : SettingsFault → Option (List ℕ) → Option (List ℕ) → Result Ending Stop → Type 0

@@ -1,14 +1,16 @@
 //! A run over one bare input.
 
-ghost use Rattle.std.specs.Prelude.{◌+◌, ◌-◌, ◌<◌, ◌≤◌, ◌^◌};
+ghost use Rattle.std.specs.Prelude.{◌+◌, ◌-◌, ◌<◌, ◌≤◌, ◌^◌, ℕ, List, Option};
 ghost use Rattle.fbcheck.specs.Faults.{EndsBeside};
+ghost use Rattle.fbcheck.specs.Prompt.{IsBarePrompt};
 ghost use Rattle.fbcheck.specs.Run.{IsBareRun};
 
 use crate::checker::Checker;
 use crate::fault::RunFault;
+use crate::input::Input;
 use crate::output::{Output, Tally};
 use crate::reading::{MOST_TURNS, read_buffer, read_whole};
-use fb_bytes::{Sink, Source};
+use fb_bytes::Sink;
 use std::alloc::Allocator;
 
 /// Checks one bare buffer, and writes what the mode tells of it, with at most `turns` reads.
@@ -16,7 +18,7 @@ use std::alloc::Allocator;
 /// The whole input is read, of at most `max_bytes` of the options; then its line is written, or all of it is passed on.
 /// On `ReadFault`, `TooManyTurns`, `OutOfMemory` and `BareTooLong` nothing is written, and on `WriteFault` and
 /// `NoteFault` a front of that.
-pub fn run_bare<A: Allocator, S: Source, K: Sink, N: Sink>(
+pub fn run_bare<A: Allocator, S: Input<K, N>, K: Sink, N: Sink>(
     alloc: A,
     reader: &mut S,
     writer: &mut K,
@@ -28,6 +30,8 @@ pub fn run_bare<A: Allocator, S: Source, K: Sink, N: Sink>(
     requires reads { S.calls reader.old < 2 ^ 64 }
     requires writes { K.calls writer.old < 2 ^ 64 }
     requires tells { N.calls notes.old < 2 ^ 64 }
+    requires leave { (source sink note : Option (List ℕ)) → IsBarePrompt checker.now (S.remaining reader.old) source
+        (K.contents writer.old) sink (N.contents notes.old) note → S.may_ask source sink note }
     ensures run { IsBareRun checker.now
         (S.remaining reader.old) (S.remaining reader.new) (K.contents writer.old) (K.contents writer.new)
         (N.contents notes.old) (N.contents notes.new) result }
@@ -38,7 +42,15 @@ pub fn run_bare<A: Allocator, S: Source, K: Sink, N: Sink>(
 {
     let mut piece = read_buffer(&alloc)?;
     let mut scratch = checker.scratch(&alloc)?;
-    let bytes = read_whole(&alloc, reader, &mut piece, checker.limit(), turns)?;
+    let bytes = read_whole(
+        &alloc,
+        reader,
+        &mut piece,
+        writer,
+        notes,
+        checker.limit(),
+        turns,
+    )?;
     let mut output = Output::new(&alloc);
     output.add(checker, &mut scratch, bytes.as_slice())?;
     output.flush(writer, notes)?;

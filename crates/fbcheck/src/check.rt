@@ -1,18 +1,19 @@
 //! A run by a schema file, as the settings of the command line ask.
 
-ghost use Rattle.std.specs.Prelude.{IfErr, ◌≡◌, ◌+◌, ◌-◌, ◌<◌, ◌≤◌, ◌^◌};
+ghost use Rattle.std.specs.Prelude.{IfErr, ◌≡◌, ◌+◌, ◌-◌, ◌<◌, ◌≤◌, ◌^◌, ℕ, List, Option, None};
 ghost use Rattle.fbcheck.specs.Asked.{AreInRange};
-ghost use Rattle.fbcheck.specs.Checking.{IsChecked, IsCheckedBeside, IsRefusal};
+ghost use Rattle.fbcheck.specs.Checking.{IsChecked, IsCheckedBeside, IsPromptAsAsked, IsRefusal};
 ghost use Rattle.fbcheck.specs.Faults.{EndsBeside, EndsBy};
 
 use crate::asked::asked_of;
 use crate::choices::Settings;
 use crate::fault::RunFault;
+use crate::input::Input;
 use crate::output::Tally;
 use crate::reading::MOST_TURNS;
 use crate::run::run_beside;
 use crate::writing::Nowhere;
-use fb_bytes::{Sink, Source};
+use fb_bytes::Sink;
 use std::alloc::Global;
 
 /// Checks the buffers of an input by the schema of a schema file (`.bfbs`), as the settings ask; without a file they are checked as schema
@@ -27,7 +28,7 @@ use std::alloc::Global;
 /// `Load` where the schema file gives no schema, then `NoRoot` where there is no root table, then `Path` where the path
 /// isn't one from there; all before anything is read of the input, and `OutOfMemory` in place of any where memory was
 /// refused. Then as [`run_beside`](crate::run::run_beside), with at most 2^32 reads.
-pub fn check_beside<S: Source, K: Sink, N: Sink>(
+pub fn check_beside<S: Input<K, N>, K: Sink, N: Sink>(
     alloc: Global,
     schema_bytes: Option<&[u8]>,
     settings: &Settings,
@@ -39,6 +40,8 @@ pub fn check_beside<S: Source, K: Sink, N: Sink>(
     requires reads { S.calls reader.old < 2 ^ 64 }
     requires writes { K.calls writer.old < 2 ^ 64 }
     requires tells { N.calls notes.old < 2 ^ 64 }
+    requires leave { (source sink note : Option (List ℕ)) → IsPromptAsAsked schema_bytes settings.now (S.remaining reader.old) source
+        (K.contents writer.old) sink (N.contents notes.old) note → S.may_ask source sink note }
 
     ensures run { IsCheckedBeside schema_bytes.entry settings.now (S.remaining reader.old) (S.remaining reader.new)
         (K.contents writer.old) (K.contents writer.new) (N.contents notes.old) (N.contents notes.new) result }
@@ -64,7 +67,7 @@ pub fn check_beside<S: Source, K: Sink, N: Sink>(
 }
 
 /// The same without notes: what would be noted is dropped, and only a filter notes anything.
-pub fn check<S: Source, K: Sink>(
+pub fn check<S: Input<K, Nowhere>, K: Sink>(
     alloc: Global,
     schema_bytes: Option<&[u8]>,
     settings: &Settings,
@@ -74,6 +77,8 @@ pub fn check<S: Source, K: Sink>(
     requires ranges { AreInRange settings.now }
     requires reads { S.calls reader.old < 2 ^ 64 }
     requires writes { K.calls writer.old < 2 ^ 64 }
+    requires leave { (source sink note : Option (List ℕ)) → IsPromptAsAsked schema_bytes settings.now (S.remaining reader.old) source
+        (K.contents writer.old) sink None note → S.may_ask source sink note }
 
     ensures run { IsChecked schema_bytes.entry settings.now
         (S.remaining reader.old) (S.remaining reader.new) (K.contents writer.old) (K.contents writer.new) result }

@@ -19,6 +19,7 @@ mod command;
 mod fault;
 mod files;
 mod front;
+mod input;
 mod line;
 mod options;
 mod output;

@@ -8,7 +8,8 @@ ghost use Rattle.fbcheck.specs.Faults.{IsCaused};
 ghost use Rattle.fbcheck.specs.Job.{Job};
 
 use crate::fault::RunFault;
-use fb_bytes::Source;
+use crate::input::Input;
+use fb_bytes::Sink;
 use std::alloc::{AllocError, Allocator};
 use std::io;
 
@@ -27,13 +28,16 @@ pub fn read_buffer<A: Allocator>(alloc: A) -> Result<Vec<u8, A>, AllocError>
     Ok(piece)
 }
 
-/// One read into the read buffer, and how many bytes came: none only at the end of the input.
-pub fn pull_piece<A: Allocator, S: Source>(
+/// One read into the read buffer, beside these outputs, and how many bytes came: none only at the end of the input.
+pub fn pull_piece<A: Allocator, S: Input<K, N>, K: Sink, N: Sink>(
     source: &mut S,
     piece: &mut Vec<u8, A>,
+    writer: &K,
+    notes: &N,
 ) -> io::Result<usize>
     requires room { 0 < length piece.old.items }
     requires calls { S.calls source.old < 2 ^ 100 }
+    requires leave { S.may_ask (S.remaining source.old) (K.contents writer.now) (N.contents notes.now) }
     ensures room { length piece.new.items ≡ length piece.old.items }
     ensures fits { IfOk result (λ n. n ≤ length piece.new.items) }
     ensures ok { IfOk result (λ n. Consumes (S.remaining source.old) (S.remaining source.new) (take n piece.new.items)) }
@@ -42,25 +46,30 @@ pub fn pull_piece<A: Allocator, S: Source>(
     ensures counted { S.calls source.new ≡ S.calls source.old + 1 }
     ensures failure { S.failures source.new ≡ S.failures source.old + failed result }
 {
-    source.pull(piece.as_mut_slice())
+    source.ask(piece.as_mut_slice(), writer, notes)
 }
 
-/// Reads the whole input, of at most `limit` bytes, in at most `turns` reads. Whatever the sinks hold, they keep.
-pub fn read_whole<A: Allocator, B: Allocator, S: Source>(
+/// Reads the whole input, of at most `limit` bytes, in at most `turns` reads, beside these outputs. Whatever they hold,
+/// they keep.
+pub fn read_whole<A: Allocator, B: Allocator, S: Input<K, N>, K: Sink, N: Sink>(
     alloc: A,
     source: &mut S,
     piece: &mut Vec<u8, B>,
+    writer: &K,
+    notes: &N,
     limit: u32,
     turns: u64,
 ) -> Result<Vec<u8, A>, RunFault>
     requires room { length piece.old.items ≡ PIECE }
     requires calls { S.calls source.old + turns < 2 ^ 100 }
+    requires leave { (left : Option (List ℕ)) (bytes : List ℕ) → Consumes (S.remaining source.old) left bytes → length bytes ≤ limit
+        → S.may_ask left (K.contents writer.now) (N.contents notes.now) }
     ensures ok { IfOk result (λ whole. Consumes (S.remaining source.old) (S.remaining source.new) whole.items) }
     ensures within { IfOk result (λ whole. length whole.items ≤ limit) }
     ensures end { OnOk result (S.ended source.new ≡ true) }
     ensures unfailed { OnOk result (S.failures source.new ≡ S.failures source.old) }
-    ensures fault { IfErr result (λ fault. (job : Job) (sink notes : Option (List ℕ))
-        → FailsBare job limit (S.remaining source.old) (S.remaining source.new) sink sink notes notes fault) }
+    ensures fault { IfErr result (λ fault. (job : Job) (sink note : Option (List ℕ))
+        → FailsBare job limit (S.remaining source.old) (S.remaining source.new) sink sink note note fault) }
     ensures cause { IfErr result (λ fault. (refusals complaints : ℕ) → IsCaused (S.failures source.old) (S.failures source.new)
         refusals refusals complaints complaints (S.calls source.old + turns - S.calls source.new) (S.ended source.new) fault) }
     ensures turns { S.calls source.new ≤ S.calls source.old + turns }
@@ -69,7 +78,7 @@ pub fn read_whole<A: Allocator, B: Allocator, S: Source>(
     let mut left = turns;
     while left > 0 {
         left -= 1;
-        let read = match pull_piece(source, piece) {
+        let read = match pull_piece(source, piece, writer, notes) {
             Ok(0) => return Ok(whole),
             Ok(read) => read,
             Err(_) => return Err(RunFault::ReadFault),

@@ -1,19 +1,21 @@
 //! A run over an input, by a schema.
 
-ghost use Rattle.std.specs.Prelude.{◌+◌, ◌-◌, ◌<◌, ◌≤◌, ◌^◌};
+ghost use Rattle.std.specs.Prelude.{◌+◌, ◌-◌, ◌<◌, ◌≤◌, ◌^◌, ℕ, List, Option, None};
 ghost use Rattle.fbcheck.specs.Faults.{EndsBeside, EndsBy};
 ghost use Rattle.fbcheck.specs.Job.{Serves, job_of};
+ghost use Rattle.fbcheck.specs.Prompt.{IsPrompt};
 ghost use Rattle.fbcheck.specs.Run.{IsRun, IsRunBeside};
 
 use crate::bare::run_bare;
 use crate::checker::Checker;
 use crate::fault::RunFault;
+use crate::input::Input;
 use crate::options::Options;
 use crate::output::Tally;
 use crate::reading::MOST_TURNS;
 use crate::stream::run_stream;
 use crate::writing::Nowhere;
-use fb_bytes::{Sink, Source};
+use fb_bytes::Sink;
 use fb_schema::Schema;
 use std::alloc::Allocator;
 
@@ -22,7 +24,7 @@ use std::alloc::Allocator;
 ///
 /// The input is a stream of size-prefixed buffers (FlatBuffers Internals), or with `bare` of the options one bare buffer.
 /// What is told of all messages that are whole is written before the next read, and before any answer: first to the
-/// writer, then to the notes.
+/// writer, then to the notes. A reader that may be asked for more only where this is so can be run over (`leave`).
 ///
 /// # Errors
 ///
@@ -33,7 +35,7 @@ use std::alloc::Allocator;
 ///   is the same of the notes.
 /// - `OutOfMemory` where memory was refused: what is told of the first messages is written, of a bare input nothing.
 /// - `BareTooLong` where more than `max_bytes` bytes of a bare input were read: nothing is written.
-pub fn run_beside<A: Allocator, S: Source, K: Sink, N: Sink>(
+pub fn run_beside<A: Allocator, S: Input<K, N>, K: Sink, N: Sink>(
     alloc: A,
     reader: &mut S,
     writer: &mut K,
@@ -47,6 +49,8 @@ pub fn run_beside<A: Allocator, S: Source, K: Sink, N: Sink>(
     requires reads { S.calls reader.old < 2 ^ 64 }
     requires writes { K.calls writer.old < 2 ^ 64 }
     requires tells { N.calls notes.old < 2 ^ 64 }
+    requires leave { (source sink note : Option (List ℕ)) → IsPrompt (job_of schema.now options.now) (S.remaining reader.old) source
+        (K.contents writer.old) sink (N.contents notes.old) note → S.may_ask source sink note }
 
     ensures run { IsRunBeside (job_of schema.now options.now) (S.remaining reader.old) (S.remaining reader.new)
         (K.contents writer.old) (K.contents writer.new) (N.contents notes.old) (N.contents notes.new) result }
@@ -66,7 +70,7 @@ pub fn run_beside<A: Allocator, S: Source, K: Sink, N: Sink>(
 
 /// The same without notes: what would be noted is dropped, and only [`Filter`](crate::options::Mode::Filter) notes
 /// anything.
-pub fn run_within<A: Allocator, S: Source, K: Sink>(
+pub fn run_within<A: Allocator, S: Input<K, Nowhere>, K: Sink>(
     alloc: A,
     reader: &mut S,
     writer: &mut K,
@@ -78,6 +82,8 @@ pub fn run_within<A: Allocator, S: Source, K: Sink>(
     requires turns { turns ≤ MOST_TURNS }
     requires reads { S.calls reader.old < 2 ^ 64 }
     requires writes { K.calls writer.old < 2 ^ 64 }
+    requires leave { (source sink note : Option (List ℕ)) → IsPrompt (job_of schema.now options.now) (S.remaining reader.old) source
+        (K.contents writer.old) sink None note → S.may_ask source sink note }
 
     ensures run { IsRun (job_of schema.now options.now)
         (S.remaining reader.old) (S.remaining reader.new) (K.contents writer.old) (K.contents writer.new) result }
@@ -90,7 +96,7 @@ pub fn run_within<A: Allocator, S: Source, K: Sink>(
 }
 
 /// The same without notes, with at most 2^32 reads.
-pub fn run<A: Allocator, S: Source, K: Sink>(
+pub fn run<A: Allocator, S: Input<K, Nowhere>, K: Sink>(
     alloc: A,
     reader: &mut S,
     writer: &mut K,
@@ -100,6 +106,8 @@ pub fn run<A: Allocator, S: Source, K: Sink>(
     requires serves { Serves schema.now options.now }
     requires reads { S.calls reader.old < 2 ^ 64 }
     requires writes { K.calls writer.old < 2 ^ 64 }
+    requires leave { (source sink note : Option (List ℕ)) → IsPrompt (job_of schema.now options.now) (S.remaining reader.old) source
+        (K.contents writer.old) sink None note → S.may_ask source sink note }
 
     ensures run { IsRun (job_of schema.now options.now)
         (S.remaining reader.old) (S.remaining reader.new) (K.contents writer.old) (K.contents writer.new) result }

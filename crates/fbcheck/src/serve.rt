@@ -1,22 +1,23 @@
 //! What the program does, from its words to its exit status.
 
-ghost use Rattle.std.specs.Prelude.{◌+◌, ◌-◌, ◌<◌, ◌≤◌, ◌^◌, false};
-ghost use Rattle.fbcheck.specs.Serving.{ComesTo, EndsSo, IsServed, Unserved, words_of};
+ghost use Rattle.std.specs.Prelude.{◌+◌, ◌-◌, ◌<◌, ◌≤◌, ◌^◌, ℕ, List, Option, false};
+ghost use Rattle.fbcheck.specs.Serving.{ComesTo, EndsSo, IsPromptAsGiven, IsServed, Unserved, words_of};
 
 use crate::check::check_beside;
 use crate::choices::SettingsFault;
 use crate::files::{Files, read_schema};
+use crate::input::Input;
 use crate::reading::MOST_TURNS;
 use crate::stop::{Ending, Stop, WordsFault, exit_status, tell};
 use crate::words::settings;
 use crate::writing::push_all;
-use fb_bytes::{Sink, Source};
+use fb_bytes::Sink;
 use std::alloc::Global;
 
 /// Does what the words ask, the program's name first, and answers the exit status: reads the schema file that they name,
 /// checks the buffers of the reader by it, and tells of them as [`check_beside`](crate::check::check_beside) does; or
 /// writes help, where it is asked for. Why it came to rest before the end is told to the notes, behind what they have.
-pub fn serve<F: Files, S: Source, K: Sink, N: Sink>(
+pub fn serve<F: Files, S: Input<K, N>, K: Sink, N: Sink>(
     alloc: Global,
     words: Result<Vec<String>, WordsFault>,
     files: &F,
@@ -27,6 +28,8 @@ pub fn serve<F: Files, S: Source, K: Sink, N: Sink>(
     requires reads { S.calls reader.old < 2 ^ 64 }
     requires writes { K.calls writer.old < 2 ^ 64 }
     requires tells { N.calls notes.old < 2 ^ 64 }
+    requires leave { (source sink note : Option (List ℕ)) → IsPromptAsGiven (F.gives files.now) (words_of words) (S.remaining reader.old) source
+        (K.contents writer.old) sink (N.contents notes.old) note → S.may_ask source sink note }
 
     ensures served { IsServed (F.gives files.now) (words_of words)
         (S.remaining reader.old) (S.remaining reader.new) (K.contents writer.old) (K.contents writer.new) (N.contents notes.old) (N.contents notes.new)
@@ -40,7 +43,7 @@ pub fn serve<F: Files, S: Source, K: Sink, N: Sink>(
 }
 
 /// What the program comes to.
-fn come_to<F: Files, S: Source, K: Sink, N: Sink>(
+fn come_to<F: Files, S: Input<K, N>, K: Sink, N: Sink>(
     alloc: Global,
     words: Result<Vec<String>, WordsFault>,
     files: &F,
@@ -51,6 +54,8 @@ fn come_to<F: Files, S: Source, K: Sink, N: Sink>(
     requires reads { S.calls reader.old < 2 ^ 64 }
     requires writes { K.calls writer.old < 2 ^ 64 }
     requires tells { N.calls notes.old < 2 ^ 64 }
+    requires leave { (source sink note : Option (List ℕ)) → IsPromptAsGiven (F.gives files.now) (words_of words) (S.remaining reader.old) source
+        (K.contents writer.old) sink (N.contents notes.old) note → S.may_ask source sink note }
 
     ensures comes { ComesTo (F.gives files.now) (words_of words) (S.remaining reader.old) (S.remaining reader.new)
         (K.contents writer.old) (K.contents writer.new) (N.contents notes.old) (N.contents notes.new) result }

@@ -1,7 +1,8 @@
 //! A run over a stream of size-prefixed buffers.
 
-ghost use Rattle.std.specs.Prelude.{IfOk, IfErr, OnOk, ◌≡◌, ◌+◌, ◌-◌, ◌<◌, ◌≤◌, ◌^◌, [], length, take};
+ghost use Rattle.std.specs.Prelude.{IfOk, IfErr, OnOk, ◌≡◌, ◌+◌, ◌-◌, ◌<◌, ◌≤◌, ◌^◌, ℕ, List, Option, [], length, take};
 ghost use Rattle.fbcheck.specs.Faults.{EndsBeside};
+ghost use Rattle.fbcheck.specs.Prompt.{IsStreamPrompt};
 ghost use Rattle.fbcheck.specs.Run.{IsStreamRun};
 ghost use Rattle.fbcheck.specs.Stream.{Gathers, Halts, IsFeedFault, IsReady, Onward, standing};
 ghost use Rattle.fbcheck.specs.Texts.{silent, waiting};
@@ -9,9 +10,10 @@ ghost use Rattle.fbcheck.specs.Texts.{silent, waiting};
 use crate::checker::Checker;
 use crate::fault::RunFault;
 use crate::front::front_message;
+use crate::input::Input;
 use crate::output::{Output, Tally};
 use crate::reading::{MOST_TURNS, PIECE, pull_piece, read_buffer};
-use fb_bytes::{Framer, Sink, Source};
+use fb_bytes::{Framer, Sink};
 use fb_verify::Scratch;
 use std::alloc::{AllocError, Allocator};
 
@@ -134,10 +136,10 @@ impl<A: Allocator> Carried<A> {
 /// Checks a stream of size-prefixed buffers, each of at most `max_bytes` of the options, and writes what the mode tells
 /// of each, with at most `turns` reads.
 ///
-/// What is told of all messages that are whole is written before the next read, and before any answer. On a fault that
-/// of all whole messages that were read is written, but for `OutOfMemory`, where it is that of the first ones, and for
-/// `WriteFault` and `NoteFault`, where `written` bytes of it are.
-pub fn run_stream<A: Allocator, S: Source, K: Sink, N: Sink>(
+/// What is told of all messages that are whole is written before the next read (`leave`), and before any answer. On a
+/// fault that of all whole messages that were read is written, but for `OutOfMemory`, where it is that of the first ones,
+/// and for `WriteFault` and `NoteFault`, where `written` bytes of it are.
+pub fn run_stream<A: Allocator, S: Input<K, N>, K: Sink, N: Sink>(
     alloc: A,
     reader: &mut S,
     writer: &mut K,
@@ -149,6 +151,8 @@ pub fn run_stream<A: Allocator, S: Source, K: Sink, N: Sink>(
     requires reads { S.calls reader.old < 2 ^ 64 }
     requires writes { K.calls writer.old < 2 ^ 64 }
     requires tells { N.calls notes.old < 2 ^ 64 }
+    requires leave { (source sink note : Option (List ℕ)) → IsStreamPrompt checker.now (S.remaining reader.old) source
+        (K.contents writer.old) sink (N.contents notes.old) note → S.may_ask source sink note }
     ensures run { IsStreamRun checker.now
         (S.remaining reader.old) (S.remaining reader.new) (K.contents writer.old) (K.contents writer.new)
         (N.contents notes.old) (N.contents notes.new) result }
@@ -162,7 +166,7 @@ pub fn run_stream<A: Allocator, S: Source, K: Sink, N: Sink>(
     let mut left = turns;
     while left > 0 {
         left -= 1;
-        let read = match pull_piece(reader, &mut piece) {
+        let read = match pull_piece(reader, &mut piece, writer, notes) {
             Ok(0) => {
                 carried.framer.finish()?;
                 return Ok(carried.output.tally());

@@ -1,4 +1,4 @@
-use Rattle.fbcheck.proofs.RunLemmas.{runs_bare, runs_stream}
+use Rattle.fbcheck.proofs.RunLemmas.{prompt_bare, prompt_stream, runs_bare, runs_stream}
 use Rattle.fbcheck.proofs.run.run_beside.Goals as goal
 
 pub returns-then-options-clause-run : goal.returns-then-options-clause-run
@@ -6,3 +6,11 @@ returns-then-options-clause-run g c = runs_bare _ _ _ _ _ _ _ _ _ _ c.if-options
 
 pub returns-else-options-clause-run : goal.returns-else-options-clause-run
 returns-else-options-clause-run g c = runs_stream _ _ _ _ _ _ _ _ _ _ c.if-options.false c.new-checker.ensures c.run_stream.ensures.run
+
+pub run_bare-requires-clause-leave : goal.run_bare-requires-clause-leave
+run_bare-requires-clause-leave g c source sink note prompt =
+    c.requires.leave source sink note (prompt_bare _ _ _ _ _ _ _ _ _ c.if-options.true c.new-checker.ensures prompt)
+
+pub run_stream-requires-clause-leave : goal.run_stream-requires-clause-leave
+run_stream-requires-clause-leave g c source sink note prompt =
+    c.requires.leave source sink note (prompt_stream _ _ _ _ _ _ _ _ _ c.if-options.false c.new-checker.ensures prompt)

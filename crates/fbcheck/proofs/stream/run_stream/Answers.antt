@@ -9,13 +9,13 @@ use Rattle.fbcheck.proofs.stream.run_stream.Goals as goal
 pub returns-in_err-piece-clause-run : goal.returns-in_err-piece-clause-run
 returns-in_err-piece-clause-run g c =
     err_exit c.from_residual.result _
-    (IsStreamRun c.args.checker.now (g.S.Source.remaining c.args.reader.now) (g.S.Source.remaining c.args.reader.now) (g.K.Sink.contents c.args.writer.now) (g.K.Sink.contents c.args.writer.now) (g.N.Sink.contents c.args.notes.now) (g.N.Sink.contents c.args.notes.now))
+    (IsStreamRun c.args.checker.now (g.S.Input.remaining c.args.reader.now) (g.S.Input.remaining c.args.reader.now) (g.K.Sink.contents c.args.writer.now) (g.K.Sink.contents c.args.writer.now) (g.N.Sink.contents c.args.notes.now) (g.N.Sink.contents c.args.notes.now))
     c.from_residual.ensures.1 (fails_empty _ _ _ _ _)
 
 pub returns-in_err-carried-clause-run : goal.returns-in_err-carried-clause-run
 returns-in_err-carried-clause-run g c =
     err_exit c.from_residual-in_err-carried.result _
-    (IsStreamRun c.args.checker.now (g.S.Source.remaining c.args.reader.now) (g.S.Source.remaining c.args.reader.now) (g.K.Sink.contents c.args.writer.now) (g.K.Sink.contents c.args.writer.now) (g.N.Sink.contents c.args.notes.now) (g.N.Sink.contents c.args.notes.now))
+    (IsStreamRun c.args.checker.now (g.S.Input.remaining c.args.reader.now) (g.S.Input.remaining c.args.reader.now) (g.K.Sink.contents c.args.writer.now) (g.K.Sink.contents c.args.writer.now) (g.N.Sink.contents c.args.notes.now) (g.N.Sink.contents c.args.notes.now))
     c.from_residual-in_err-carried.ensures.1 (fails_empty _ _ _ _ _)
 
 pub loop-left-init : goal.loop-left-init
@@ -65,7 +65,7 @@ pub returns-in_err-flush-clause-run : goal.returns-in_err-flush-clause-run
 returns-in_err-flush-clause-run g c =
     let before = c.loop-left.invariant in
     err_exit c.from_residual-in_err-flush.result _
-    (IsStreamRun c.args.checker.now (g.S.Source.remaining c.args.reader.now) (g.S.Source.remaining c.pull_piece.new.source) (g.K.Sink.contents c.args.writer.now) (g.K.Sink.contents c.flush.new.writer) (g.N.Sink.contents c.args.notes.now) (g.N.Sink.contents c.flush.new.notes))
+    (IsStreamRun c.args.checker.now (g.S.Input.remaining c.args.reader.now) (g.S.Input.remaining c.pull_piece.new.source) (g.K.Sink.contents c.args.writer.now) (g.K.Sink.contents c.flush.new.writer) (g.N.Sink.contents c.args.notes.now) (g.N.Sink.contents c.flush.new.notes))
     c.from_residual-in_err-flush.ensures.1
     (fails_write _ (standing c.loop-left.carried) _ _ _ _ _ _ _ _ _ _ _ _ _ _ _ _ _ _ c.as_slice.ensures.value before.empty c.use_up-used.ensures.written c.use_up-used.ensures.noted before.told c.in-Ok.ensures.ok c.use_up-used.ensures.gathers c.in_err-flush.ensures.err)
 
@@ -73,8 +73,8 @@ pub returns-in_err-flush-clause-end : goal.returns-in_err-flush-clause-end
 returns-in_err-flush-clause-end g c =
     let before = c.loop-left.invariant in
     err_exit c.from_residual-in_err-flush.result _
-    (EndsBeside (g.S.Source.failures c.args.reader.now) (g.S.Source.failures c.pull_piece.new.source) (g.K.Sink.failures c.args.writer.now) (g.K.Sink.failures c.flush.new.writer) (g.N.Sink.failures c.args.notes.now) (g.N.Sink.failures c.flush.new.notes)
-    (g.S.Source.calls c.args.reader.now + c.args.turns - g.S.Source.calls c.pull_piece.new.source) (g.S.Source.ended c.pull_piece.new.source))
+    (EndsBeside (g.S.Input.failures c.args.reader.now) (g.S.Input.failures c.pull_piece.new.source) (g.K.Sink.failures c.args.writer.now) (g.K.Sink.failures c.flush.new.writer) (g.N.Sink.failures c.args.notes.now) (g.N.Sink.failures c.flush.new.notes)
+    (g.S.Input.calls c.args.reader.now + c.args.turns - g.S.Input.calls c.pull_piece.new.source) (g.S.Input.ended c.pull_piece.new.source))
     c.from_residual-in_err-flush.ensures.1
     (caused_flush _ _ _ _ _ _ _ _ _ _ c.in_err-flush.field-0.0 before.refusals before.complaints c.in_err-flush.ensures.failed)
 
@@ -82,6 +82,6 @@ pub returns-in_err-used-clause-run : goal.returns-in_err-used-clause-run
 returns-in_err-used-clause-run g c =
     let before = c.loop-left.invariant in
     err_exit c.from_residual-in_err-used.result _
-    (IsStreamRun c.args.checker.now (g.S.Source.remaining c.args.reader.now) (g.S.Source.remaining c.pull_piece.new.source) (g.K.Sink.contents c.args.writer.now) (g.K.Sink.contents c.flush.new.writer) (g.N.Sink.contents c.args.notes.now) (g.N.Sink.contents c.flush.new.notes))
+    (IsStreamRun c.args.checker.now (g.S.Input.remaining c.args.reader.now) (g.S.Input.remaining c.pull_piece.new.source) (g.K.Sink.contents c.args.writer.now) (g.K.Sink.contents c.flush.new.writer) (g.N.Sink.contents c.args.notes.now) (g.N.Sink.contents c.flush.new.notes))
     c.from_residual-in_err-used.ensures.1
     (fails_used _ (standing c.loop-left.carried) _ _ _ _ _ _ _ _ _ _ _ _ _ _ _ _ c.as_slice.ensures.value before.empty before.told c.in-Ok.ensures.ok c.in_err-used.ensures.halts c.in_ok-flush.ensures.wrote c.in_ok-flush.ensures.told)
