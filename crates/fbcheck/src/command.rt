@@ -88,7 +88,7 @@ fn named<'a>(alloc: Global) -> Command<'a>
     ensures app { app_of result ≡ named }
 {
     Command::new(alloc, "fbcheck")
-        .about("Checks a stream of size-prefixed FlatBuffers by a binary schema")
+        .about("Checks size-prefixed FlatBuffers on standard input against a binary schema")
         .version(VERSION)
         .long_version(LONG_VERSION)
 }
@@ -101,13 +101,13 @@ fn with_texts<'a>(alloc: Global) -> Result<Command<'a>, AllocError>
             alloc,
             "schema",
             "FILE",
-            "The binary schema (.bfbs); without one, schema files are checked",
+            "The binary schema (.bfbs); without it, the input is taken to be schema files",
         ))?
         .arg(text_arg(
             alloc,
             "root",
             "NAME",
-            "The root table; without one, that of the schema",
+            "The root table with its namespace; without it, the schema's own",
         ))?
         .arg(text_arg(
             alloc,
@@ -119,7 +119,7 @@ fn with_texts<'a>(alloc: Global) -> Result<Command<'a>, AllocError>
             alloc,
             "path",
             "P",
-            "Prints the value at this path of each good buffer",
+            "Append the value at this path to the line of each good buffer",
         ))
 }
 
@@ -140,13 +140,13 @@ fn with_switches<'a>(alloc: Global) -> Result<Command<'a>, AllocError>
         .arg(flag_arg(
             alloc,
             "bare",
-            "Standard input is one bare buffer, and no stream",
+            "Standard input is one bare buffer, not a stream",
         ))?
-        .arg(flag_arg(alloc, "no-alignment", "Check no alignment"))?
+        .arg(flag_arg(alloc, "no-alignment", "Don't check alignment"))?
         .arg(flag_arg(
             alloc,
             "inline-size",
-            "Hold fields against their table's inline size",
+            "Require each field to end within its table's inline size",
         ))
 }
 
@@ -155,7 +155,7 @@ pub(crate) fn command<'a>(alloc: Global) -> Result<Command<'a>, AllocError>
     ensures app { IfOk result (λ c. app_of c ≡ program) }
 {
     with_switches(alloc)?
-        .arg(flag_arg(alloc, "quiet", "Write no line of a good buffer"))?
+        .arg(flag_arg(alloc, "quiet", "Print no lines for good buffers"))?
         .arg(flag_arg(
             alloc,
             "filter",
