@@ -92,6 +92,20 @@ def each_recipe(cases):
                 cases.same(f"{name}: the hosts in turn", hosts, ["alpha", "alpha", "beta", "beta"])
 
 
+def a_second_run(cases):
+    """Where a stream with bad messages was checked before, a good one has its own status."""
+    clear, = re.findall(r"`(rm [^`]*)`", PAGE)
+    for recipe, (commands, tools) in RECIPES.items():
+        if not all(map(shutil.which, tools)):
+            continue  # each_recipe tells it
+        folder = folder_with(f"two by {recipe}", DELIVERIES)
+        shell(f"{clear}\n{commands}", folder)
+        cases.same(f"{recipe}: the status of the first", shell(STATUS, folder)[1], "1\n")
+        (folder / "stream.bin").write_bytes(GOOD)
+        cases.same(f"{recipe}: a second run", shell(f"{clear}\n{commands}", folder)[1:], ("", ""))
+        cases.same(f"{recipe}: its status", shell(STATUS, folder)[1], "0\n")
+
+
 def a_part_that_fails(cases):
     """A process that ends early is seen in the status, and its part can be checked again."""
     for recipe in ("xargs", "ssh"):
@@ -133,4 +147,4 @@ def measured(cases):
 
 
 if __name__ == "__main__":
-    outside.main(each_recipe, a_part_that_fails, what_the_page_shows, measured)
+    outside.main(each_recipe, a_second_run, a_part_that_fails, what_the_page_shows, measured)
