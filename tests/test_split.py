@@ -145,6 +145,12 @@ def faults_of_files(cases):
     status, lines, told = split(3, folder, given=POST)
     cases.same("a folder with files", (status, lines), (3, []))
     cases.holds("is told by a name", re.fullmatch(r"split: .*/taken/part-[12]: is there already", told[0]), told)
+    folder = FOLDER / "left over"
+    folder.mkdir()
+    os.mkfifo(folder / "part-2")
+    text = f"split: {folder}/part-2: is a named pipe, which only --deal writes to"
+    cases.same("a named pipe without --deal", split(2, folder, given=POST), (3, [], [text]))
+    cases.same("by which no file is made", os.listdir(folder), ["part-2"])
     cases.same("a folder that can't be made", split(3, "/dev/null/x", given=POST),
                (3, [], ["split: /dev/null/x: Not a directory"]))
     cases.same("a folder in one that isn't there", split(3, FOLDER / "no/x", given=POST),
