@@ -4,6 +4,7 @@ The program is the other voice: a buffer must get the same verdict of the librar
 both libraries, and under the address sanitizer too.
 """
 
+import array
 import ctypes
 import importlib.util
 import os
@@ -258,6 +259,61 @@ def framers(cases):
         if place < 2:
             cases.same("none either at the end", calls.fbcheck_framer_finish(*words[:3]), status.NULL)
             cases.same("or to give up", calls.fbcheck_framer_next(*words[:3]), status.NULL)
+
+
+def framers_of_python(cases):
+    """What a loop leaves is kept for the next one, and a fault has what is known of it."""
+    python, three = module(), [prefixed(b"1"), prefixed(b"22"), prefixed(b"333")]
+    framer, stream = python.Framer(8), b"".join(three)
+    for message in framer.messages(stream):
+        break
+    cases.same("a loop that is left", message, three[0])
+    cases.same("leaves the rest of the piece", why(ValueError, framer.finish),
+               ("not all of the stream was gone through: messages() still has some of it",))
+    cases.same("to the next loop", list(framer.messages(stream[:3])), three[1:])
+    framer.messages(stream[3:])
+    cases.same("also where none was begun", list(framer.messages()), three)
+    cases.same("and then it may end", framer.finish(), None)
+    for kind in (bytes, bytearray, memoryview, lambda given: array.array("B", given)):
+        cases.same(f"a piece that is {type(kind(b'')).__name__}", list(framer.messages(kind(stream))), three)
+    declared = lambda: list(framer.messages(three[0] + b"\5\0\0\0" + stream))
+    cases.same("one that is too long", why(python.Error, declared), ("OVERSIZE", "declared=5"))
+    cases.same("has failed", why(python.Error, framer.finish)[0], "FAILED")
+    failed = python.Framer(8)
+    list(failed.messages(b"\4\0\0\0abc"))
+    try:
+        failed.finish()
+    except python.Error as error:
+        cases.same("another fault declares nothing", (error.verdict.status, error.declared), (15, None))
+
+
+def why(kind, call):
+    """The words of the exception of this kind that a call ends by, or None."""
+    try:
+        call()
+    except kind as error:
+        return error.args
+    return None
+
+
+def given_to_python(cases):
+    """Bytes may be given as anything that has bytes, and what has none is refused, as are wrong identifiers."""
+    python = module()
+    for kind in (bytes, bytearray, memoryview, lambda given: array.array("B", given)):
+        name = type(kind(b"")).__name__
+        with python.Verifier(kind(schemas.M)) as verifier:
+            cases.same(f"{name}: verify", verifier.verify(kind(ORC)).ok, True)
+            told = verifier.verify_each(kind(ORC), [(0, len(ORC))])
+            cases.same(f"{name}: verify_each", [verdict.ok for verdict in told], [True])
+            told = verifier.read(kind(ORC), verifier.resolve("name"))
+            cases.same(f"{name}: read", told, (python.Kind.TEXT, b"Orc"))
+            cases.same(f"{name}: an identifier", verifier.verify(ORC, python.Options(kind(b"NONE"))).reason, 5)
+    for given, text in [(b"abc", "b'abc' has 3"), (b"", "b'' has 0"), (b"abcde", "b'abcde' has 5")]:
+        told = why(ValueError, lambda: python.Options(ident=given))
+        cases.same(f"the identifier {given}", told, (f"a file identifier has 4 bytes, and {text}",))
+    for given in (5, "text", None):
+        for name, call in [("a schema", python.Verifier), ("a piece", python.Framer().messages)]:
+            cases.holds(f"{name} that is {given!r} is refused", why(TypeError, lambda: call(given)))
 
 
 def through_pipes(cases):
@@ -564,6 +620,7 @@ def examples(cases):
     for name, words, wanted, line in [
         ("good", [small, orc], 0, "ok tables=1 depth=1 reads=8"), ("with its root", [small, orc, "M"], 0, None),
         ("torn", [small, torn], 1, "bad V2 OutOfBuffer at=28 object=0 field=1 reads=7\nin M.name"),
+        ("empty", [small, file_of("empty", b"")], 1, "bad V2 OutOfBuffer at=0 object=0 field=- reads=0\nin M"),
         ("no such table", [small, orc, "N"], 2, ""),
         ("no schema", [orc, orc], 2, ""), ("no buffer", [small, FOLDER / "nowhere"], 2, ""), ("no words", [], 2, ""),
     ]:
@@ -573,11 +630,22 @@ def examples(cases):
         for program in (check, FOLDER / "check_sane"):
             status, out, err = ran(program, *words)
             cases.same(f"{name}, {program.name}", (status, out.strip(), bool(err)), (wanted, line, wanted == 2))
-        if CPP and name != "no buffer":
+        if CPP:
             status, out, err = ran(check_cpp, *words)
             shown = without_names(line.encode()).decode()
             told = (status, shown.startswith(out.strip()), bool(err))
             cases.same(f"{name}, check_cpp", told, (wanted, True, wanted == 2))
+    for name, words, text in [
+        ("no schema", [orc, orc], "check: no schema: 8, reason 5 at 4\n"),
+        ("no schema file", [FOLDER / "nowhere", orc], f"check: {FOLDER}/nowhere can't be read\n"),
+        ("no buffer", [small, FOLDER / "nowhere"], f"check: {FOLDER}/nowhere can't be read\n"),
+        ("a folder", [small, FOLDER], f"check: {FOLDER} can't be read\n"),
+    ]:
+        for program in [check, check_cpp] if CPP else [check]:
+            cases.same(f"{name}, told by {program.name}", ran(program, *words), (2, "", text))
+    if CPP:
+        moved = compiled(cases, "moved", TOP / "tests/c/moved.cpp", *SANITIZED, *STATIC, **CPP)
+        cases.same("a Verifier that is moved", ran(moved, small, orc), (0, "5 0 0 5 0 M\n", ""))
 
 
 def texts_of_the_pages(cases):
@@ -604,6 +672,6 @@ def texts_of_the_pages(cases):
 
 if __name__ == "__main__":
     outside.main(
-        what_is_built, the_header, verdicts, batches, framers, through_pipes, paths, under_valgrind, memory, nulls,
-        names, loads, examples, texts_of_the_pages,
+        what_is_built, the_header, verdicts, batches, framers, framers_of_python, given_to_python, through_pipes, paths,
+        under_valgrind, memory, nulls, names, loads, examples, texts_of_the_pages,
     )

@@ -22,7 +22,7 @@ static uint8_t *contents(const char *path, size_t *length)
     return bytes;
 }
 
-/* Tells by name where a fault is. */
+/* Tells by name where a fault is: in which table, and in which of its fields, if in one. */
 static void tell_names(fbcheck_handle *handle, const fbcheck_verdict *verdict)
 {
     char table[256], field[256];
@@ -30,7 +30,7 @@ static void tell_names(fbcheck_handle *handle, const fbcheck_verdict *verdict)
     lengths[0] = fbcheck_object_name(handle, verdict->object, table, sizeof table);
     lengths[1] = fbcheck_field_name(handle, verdict->object, verdict->field, field, sizeof field);
     if (lengths[0] <= sizeof table && lengths[1] <= sizeof field)
-        printf("in %.*s.%.*s\n", (int)lengths[0], table, (int)lengths[1], field);
+        printf("in %.*s%s%.*s\n", (int)lengths[0], table, lengths[1] > 0 ? "." : "", (int)lengths[1], field);
 }
 
 /* Checks the buffer of a file by the schema that the handle holds. */

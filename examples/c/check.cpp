@@ -7,9 +7,14 @@
 #include <iostream>
 #include <iterator>
 
-static std::vector<std::uint8_t> bytes_of(const char *path) {
-    std::ifstream file(path, std::ios::binary);
+// The bytes of a file by its name, which is thrown where it can't be read.
+static std::vector<std::uint8_t> bytes_of(const char *path) try {
+    std::ifstream file;
+    file.exceptions(std::ios::failbit);
+    file.open(path, std::ios::binary);
     return {std::istreambuf_iterator<char>(file), std::istreambuf_iterator<char>()};
+} catch (const std::ios::failure &) {
+    throw std::runtime_error(std::string(path) + " can't be read");
 }
 
 int main(int count, char **words) try {
@@ -17,8 +22,7 @@ int main(int count, char **words) try {
         std::cerr << "usage: check SCHEMA.bfbs BUFFER [ROOT]\n";
         return 2;
     }
-    fbcheck::Verifier loaded(bytes_of(words[1]));
-    fbcheck::Verifier verifier(std::move(loaded));
+    fbcheck::Verifier verifier(bytes_of(words[1]));
     if (count == 4 && !verifier.choose_root(words[3])) {
         std::cerr << "check: no table " << words[3] << "\n";
         return 2;
@@ -31,7 +35,7 @@ int main(int count, char **words) try {
         std::cout << "bad V" << verdict.reason << " at=" << verdict.at << "\n";
     }
     return static_cast<int>(verdict.status);
-} catch (const fbcheck::LoadError &error) {
-    std::cerr << error.what() << "\n";
+} catch (const std::exception &error) {
+    std::cerr << "check: " << error.what() << "\n";
     return 2;
 }

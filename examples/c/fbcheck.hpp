@@ -1,4 +1,7 @@
 // The library for C as a class: what a Verifier holds is freed with it, and the bytes of the schema file live as long.
+//
+// It loads and checks. Paths, values and names have no methods here: the calls of fbcheck.h take handle(). Nor has a
+// framer, which needs no handle: examples/c/stream.c shows how one is fed.
 #pragma once
 
 #include <fbcheck.h>
@@ -22,7 +25,9 @@ inline fbcheck_options options() {
 class LoadError : public std::runtime_error {
   public:
     explicit LoadError(const fbcheck_verdict &why)
-        : std::runtime_error("fbcheck: no schema: " + std::to_string(why.status)), why(why) {}
+        : std::runtime_error("no schema: " + std::to_string(why.status) + ", reason " + std::to_string(why.reason) +
+                             " at " + std::to_string(why.at)),
+          why(why) {}
     fbcheck_verdict why;
 };
 
@@ -75,6 +80,9 @@ class Verifier {
     bool operator()(const void *buffer, std::size_t length) noexcept {
         return verify(buffer, length).status == FBCHECK_OK;
     }
+
+    // The handle, for the other calls of fbcheck.h; it stays this Verifier's, which loads and frees it.
+    fbcheck_handle *handle() noexcept { return &handle_; }
 
   private:
     std::vector<std::uint8_t> file_;

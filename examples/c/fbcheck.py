@@ -78,6 +78,11 @@ class Kind(enum.IntEnum):
     UNION = 11
 
 
+def _bytes(given) -> bytes:
+    """The bytes of what has some: of bytes, a bytearray, a memoryview, an array."""
+    return given if isinstance(given, bytes) else memoryview(given).tobytes()
+
+
 class Options(ctypes.Structure):
     """fbcheck_options. Made with no words it is what the library begins with."""
 
@@ -101,7 +106,10 @@ class Options(ctypes.Structure):
                 raise TypeError(f"no option {name}")
             setattr(self, name, value)
         if ident is not None:
-            self.ident[:] = ident
+            given = _bytes(ident)
+            if len(given) != 4:
+                raise ValueError(f"a file identifier has 4 bytes, and {given} has {len(given)}")
+            self.ident[:] = given
             self.has_ident = 1
 
 
@@ -162,11 +170,11 @@ class Verdict(typing.NamedTuple):
 
 
 class Error(Exception):
-    """A call couldn't be served; `verdict` tells why."""
+    """A call couldn't be served; `verdict` tells why. With OVERSIZE `declared` is what the prefix declared."""
 
-    def __init__(self, verdict: Verdict):
-        super().__init__(Status(verdict.status).name, verdict)
-        self.verdict = verdict
+    def __init__(self, verdict: Verdict, declared: int | None = None):
+        super().__init__(Status(verdict.status).name, verdict if declared is None else f"declared={declared}")
+        self.verdict, self.declared = verdict, declared
 
 
 def _told(verdict: _Verdict) -> Verdict:
@@ -216,10 +224,10 @@ def _library():
     return found
 
 
-def _done(status: int) -> int:
+def _done(status: int, declared: int | None = None) -> int:
     """The status of a call that was done."""
     if status not in (Status.OK, Status.MORE):
-        raise Error(Verdict(status, 0, 0, None, 0, 0, 0, 0))
+        raise Error(Verdict(status, 0, 0, None, 0, 0, 0, 0), declared if status == Status.OVERSIZE else None)
     return status
 
 
@@ -237,7 +245,7 @@ class Verifier:
     def __init__(self, schema: bytes, root: str | None = None, options: Options | None = None):
         self._calls = _library()
         self._handle = _Handle()
-        self._schema = bytes(schema)  # the handle borrows these bytes
+        self._schema = _bytes(schema)  # the handle borrows these bytes
         why = _Verdict()
         if self._calls.fbcheck_load(self._handle, self._schema, len(self._schema), options, why) != Status.OK:
             raise Error(_told(why))
@@ -251,15 +259,14 @@ class Verifier:
 
     def verify(self, buffer, options: Options | None = None) -> Verdict:
         """The verdict on a buffer: status OK or BAD."""
-        data = bytes(buffer)
-        verdict = _Verdict()
+        data, verdict = _bytes(buffer), _Verdict()
         if self._calls.fbcheck_verify(self._handle, options, data, len(data), verdict) > Status.BAD:
             raise Error(_told(verdict))
         return _told(verdict)
 
     def verify_each(self, block, spans, options: Options | None = None) -> list[Verdict]:
         """The verdict on each buffer of a block, by its first byte's place and its length; of any status."""
-        data, spans = bytes(block), list(spans)
+        data, spans = _bytes(block), list(spans)
         given, verdicts = (_Span * len(spans))(*spans), (_Verdict * len(spans))()
         self._calls.fbcheck_verify_each(self._handle, options, data, len(data), given, verdicts, len(spans))
         return [_told(verdict) for verdict in verdicts]
@@ -276,7 +283,7 @@ class Verifier:
 
     def read(self, buffer, steps, options: Options | None = None):
         """The kind of the value at the end of these steps in a good buffer, and the value: a number or bytes."""
-        data, value, verdict = bytes(buffer), _Value(), _Verdict()
+        data, value, verdict = _bytes(buffer), _Value(), _Verdict()
         room = ctypes.create_string_buffer(len(data) + 1)
         given = (self._handle, options, data, len(data), steps, len(steps), value, room, len(data), verdict)
         if self._calls.fbcheck_read(*given) != Status.OK:
@@ -326,17 +333,25 @@ class Framer:
         self._calls = _library()
         self._framer = _Framer()
         self._room = (self._framer, (ctypes.c_uint8 * limit)(), limit)
+        self._rest = b""  # what was given and isn't fed yet
 
-    def messages(self, piece: bytes):
-        """The messages that end in the next piece, one after another."""
+    def messages(self, piece=b""):
+        """The messages that end in the next piece, one after another. What isn't taken comes with the next call."""
+        self._rest += _bytes(piece)
+        return self._taken()
+
+    def _taken(self):
         used = ctypes.c_size_t()
-        while piece:
-            status = _done(self._calls.fbcheck_framer_feed(*self._room, piece, len(piece), used))
-            piece = piece[used.value:]
-            if status == Status.OK:
-                yield bytes(self._room[1][: self._framer.held])
+        while self._rest:
+            given, self._rest = self._rest, b""
+            answer = self._calls.fbcheck_framer_feed(*self._room, given, len(given), used)
+            if _done(answer, self._framer.declared) == Status.OK:
+                self._rest, message = given[used.value:], bytes(self._room[1][: self._framer.held])
                 self._calls.fbcheck_framer_next(*self._room)
+                yield message
 
     def finish(self):
-        """Says that the stream has ended, which it may not inside a message."""
+        """Says that the stream has ended, which it may not inside a message, nor before each message is taken."""
+        if self._rest:
+            raise ValueError("not all of the stream was gone through: messages() still has some of it")
         _done(self._calls.fbcheck_framer_finish(*self._room))
