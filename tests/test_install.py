@@ -40,6 +40,20 @@ def reasons():
     return re.findall(r"V\d+ [A-Z]\w+", (TOP / "docs/REFERENCE.md").read_text().split("## Reasons")[1].split("\n## ")[0])
 
 
+def faults():
+    """The texts of faults that the reference has, those of paths each by itself."""
+    reference = (TOP / "docs/REFERENCE.md").read_text()
+    texts = re.findall(r"^\| `([^`]+)`.* \| [23] \|", reference.split("| text of a fault")[1].split("\n## ")[0], re.M)
+    paths = re.findall(r"^\| P\d \| `(P[1-6] [^`]+)` \|", reference, re.M)
+    return [text for text in texts if text != "path: .."] + [f"path: {text}" for text in paths]
+
+
+def codes():
+    """The codes of what is no legal schema, as the reference has them."""
+    demands = (TOP / "docs/REFERENCE.md").read_text().split("## What a legal schema is")[1].split("\n## ")[0]
+    return re.findall(r"^\| `(C\d \w+)` \|", demands, re.M)
+
+
 def plain(page):
     """A manual page without its marks."""
     return re.sub(r"\\f[BIPR]", "", page.replace(r"\-", "-"))
@@ -100,6 +114,10 @@ def the_page(cases):
     page = plain(PAGE)
     for reason in reasons():
         cases.holds(f"the page has {reason}", f".B {reason}\n" in page)
+    told = re.findall(r"^\.TP\n(?:\.B )?(.+)$", page.split(".SH DIAGNOSTICS")[1].split("\n.SH ")[0], re.M)
+    cases.same("the page has each fault and no other", sorted(told), sorted(faults()))
+    for code in codes():
+        cases.holds(f"the page has {code}", f".B {code}\n" in page)
     cases.same("the page has each exit status", re.findall(r"^\.B (\d)$", page, re.M), ["0", "1", "2", "3"])
     if shutil.which("groff"):
         ran = subprocess.run(["groff", "-man", "-Tutf8", "-ww", "-z", TOP / "docs/fbcheck.1"], capture_output=True)
