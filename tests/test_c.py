@@ -640,6 +640,7 @@ def examples(cases):
         ("no schema file", [FOLDER / "nowhere", orc], f"check: {FOLDER}/nowhere can't be read\n"),
         ("no buffer", [small, FOLDER / "nowhere"], f"check: {FOLDER}/nowhere can't be read\n"),
         ("a folder", [small, FOLDER], f"check: {FOLDER} can't be read\n"),
+        ("no root table", [file_of("rootless", schema([bent.table("T")])), orc], "check: nothing was checked: 6\n"),
     ]:
         for program in [check, check_cpp] if CPP else [check]:
             cases.same(f"{name}, told by {program.name}", ran(program, *words), (2, "", text))

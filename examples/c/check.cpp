@@ -29,6 +29,10 @@ int main(int count, char **words) try {
     }
     const std::vector<std::uint8_t> buffer = bytes_of(words[2]);
     const fbcheck_verdict verdict = verifier.verify(buffer.data(), buffer.size());
+    if (verdict.status > FBCHECK_BAD) {
+        std::cerr << "check: nothing was checked: " << verdict.status << "\n";
+        return 2;
+    }
     if (verdict.status == FBCHECK_OK) {
         std::cout << "ok tables=" << verdict.tables << " depth=" << verdict.depth << " reads=" << verdict.reads << "\n";
     } else {
