@@ -151,6 +151,7 @@ impl Handle {
     }
 
     /// Checks a buffer, as [`Session::check`] does.
+    #[inline(always)]
     pub fn check(&mut self, alloc: Global, options: &Options, buffer: &[u8]) -> Answer
         ensures answer { IfHeld self.old.session result (λ s. IsChecked s options.now buffer.now result) }
         ensures kept { self.new.session ≡ self.old.session }

@@ -102,6 +102,7 @@ impl Session {
     }
 
     /// Checks a buffer as the options ask.
+    #[inline(always)]
     pub fn check(&mut self, options: &Options, buffer: &[u8]) -> Answer
         ensures answer { IsChecked self.old options.now buffer.now result }
         ensures kept { self.new ≡ self.old }
