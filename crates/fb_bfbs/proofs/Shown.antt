@@ -1,7 +1,9 @@
 -- The files of the examples describe their rows, table by table.
-use Rattle.std.proofs.Common.{◌≡◌, ℕ, zero, suc, List, [], ◌∷◌, refl, subst, Some, inl, inr}
+use Rattle.std.proofs.Common.{◌≡◌, ℕ, zero, suc, List, [], ◌∷◌, refl, sym, subst, Option, Some, None, option_map, inl, inr}
 use Rattle.std.specs.Prelude.{slice_get}
 use Rattle.fb_bytes.specs.Word.{word}
+use Rattle.fb_schema.specs.declared.rows.TypeRow.{TypeRow}
+use Rattle.fb_schema.specs.Rows.{Field, Object, Enum}
 use Rattle.fb_schema.specs.Kinds.{shape_of, kind_of, base_types}
 use Rattle.fb_schema.specs.Live.{live_fields}
 use Rattle.fb_verify.specs.Places.{has_vtable, vtable, field_place}
@@ -10,7 +12,7 @@ use Rattle.fb_access.specs.declared.step.Step.TheVariants.{Field as ToField, Ele
 use Rattle.fb_access.specs.declared.spot.Spot.{Spot}
 use Rattle.fb_access.specs.declared.spot.Spot.TheVariants.{AtTable, AtTables}
 use Rattle.fb_access.specs.Spots.{present_spot, default_spot, absent_spot, spot_of_element, member_spot}
-use Rattle.fb_access.specs.Denotes.{Leads, next_spot, number, inline_value, default_value, value}
+use Rattle.fb_access.specs.Denotes.{Shown, Leads, next_spot, truth, signed, unsigned, text, number, inline_value, default_value, value}
 use Rattle.fb_access.specs.Here.{Shows}
 use Rattle.fb_bfbs.specs.Fixed.{fixed}
 use Rattle.fb_bfbs.specs.Says.{Says, after, AreRows}
@@ -46,41 +48,75 @@ each_of P [] a j r e = absurd cc
 each_of P (x ∷ xs) a zero r e = subst (P 0) (some_same e) a.0
 each_of P (x ∷ xs) a (suc j) r e = each_of (λ k. P (suc k)) xs a.1 j r e
 
+-- the value to which a field of the table here leads
+abbrev told_by : List ℕ → Spot → ℕ → Option Shown
+told_by b p n = option_map (value b fixed) (next_spot b fixed p (ToField n))
+
+said : (b : List ℕ) (p : Spot) (n : ℕ) (x : Shown) → told_by b p n ≡ Some x → From b p (ToField n ∷ []) x
+said b p n x h = go (next_spot b fixed p (ToField n)) refl h where
+  go : (q : Option Spot) → next_spot b fixed p (ToField n) ≡ q → option_map (value b fixed) q ≡ Some x → From b p (ToField n ∷ []) x
+  go None e h = absurd cc
+  go (Some q) e h = (q, (q, e, refl), sym (some_same h))
+
+-- a table Type of a file, by the values of its fields
+type_row : (b : List ℕ) (t : ℕ) (ty : TypeRow) → (told_by b (AtTable 0 t) 0 ≡ Some (signed ty.base)) × (told_by b (AtTable 0 t) 1 ≡ Some (signed ty.element)) × (told_by b (AtTable 0 t) 2 ≡ Some (signed ty.index)) × (told_by b (AtTable 0 t) 3 ≡ Some (unsigned ty.fixed_length)) → IsTypeRow (From b (AtTable 0 t)) ty
+type_row b t ty (base, element, index, length) = record { base = said b _ 0 _ base; element = said b _ 1 _ element; index = said b _ 2 _ index; fixed_length = said b _ 3 _ length }
+
+-- a table Field of a file, by the values of its fields and by its Type at t
+field_row : (b : List ℕ) (p t : ℕ) (f : Field) → Leads b fixed (AtTable 4 p) (ToField 1) (AtTable 0 t) → IsTypeRow (From b (AtTable 0 t)) f.ty
+    → (told_by b (AtTable 4 p) 0 ≡ Some (text f.name)) × (told_by b (AtTable 4 p) 3 ≡ Some (unsigned f.slot)) × (told_by b (AtTable 4 p) 4 ≡ Some (signed f.default))
+    → (told_by b (AtTable 4 p) 6 ≡ Some (truth f.deprecated)) × (told_by b (AtTable 4 p) 7 ≡ Some (truth f.required)) × (told_by b (AtTable 4 p) 11 ≡ Some (truth f.optional)) × (told_by b (AtTable 4 p) 13 ≡ Some (truth f.offset64))
+    → IsFieldRow (From b (AtTable 4 p)) f
+field_row b p t f to ty (name, slot, default) (deprecated, required, optional, offset64) = record {
+  name = said b _ 0 _ name;
+  ty = onward IsTypeRow type_within b (AtTable 4 p) (AtTable 0 t) (ToField 1) f.ty to ty;
+  slot = said b _ 3 _ slot;
+  default = said b _ 4 _ default;
+  deprecated = said b _ 6 _ deprecated;
+  required = said b _ 7 _ required;
+  optional = said b _ 11 _ optional;
+  offset64 = said b _ 13 _ offset64;
+}
+
+-- a table Object of a file, by the values of its fields and by its vector of fields at l
+object_row : (b : List ℕ) (p l : ℕ) (o : Object) → Leads b fixed (AtTable 5 p) (ToField 1) (AtTables 4 l) → AreRows IsFieldRow (From b (AtTables 4 l)) o.fields
+    → (told_by b (AtTable 5 p) 0 ≡ Some (text o.name)) × (told_by b (AtTable 5 p) 2 ≡ Some (truth o.is_struct)) × (told_by b (AtTable 5 p) 3 ≡ Some (signed o.minalign)) × (told_by b (AtTable 5 p) 4 ≡ Some (signed o.bytesize))
+    → IsObjectRow (From b (AtTable 5 p)) o
+object_row b p l o to fields (name, is_struct, minalign, bytesize) = record {
+  name = said b _ 0 _ name;
+  fields = onward (AreRows IsFieldRow) (rows_within IsFieldRow field_within) b (AtTable 5 p) (AtTables 4 l) (ToField 1) o.fields to fields;
+  is_struct = said b _ 2 _ is_struct;
+  minalign = said b _ 3 _ minalign;
+  bytesize = said b _ 4 _ bytesize;
+}
+
+-- a table Enum of a file, by the values of its fields and by its vector of members at l
+enum_row : (b : List ℕ) (p l : ℕ) (e : Enum) → Leads b fixed (AtTable 3 p) (ToField 1) (AtTables 2 l) → AreRows IsMemberRow (From b (AtTables 2 l)) e.members
+    → (told_by b (AtTable 3 p) 0 ≡ Some (text e.name)) × (told_by b (AtTable 3 p) 2 ≡ Some (truth e.is_union))
+    → IsEnumRow (From b (AtTable 3 p)) e
+enum_row b p l e to members (name, is_union) = record {
+  name = said b _ 0 _ name;
+  members = onward (AreRows IsMemberRow) (rows_within IsMemberRow member_within) b (AtTable 3 p) (AtTables 2 l) (ToField 1) e.members to members;
+  is_union = said b _ 2 _ is_union;
+}
+
 -- The plain file.
 
 hp_type : IsTypeRow (From plain (AtTable 0 152)) hp_field.ty
 unfolding computing
-hp_type = record { base = (_, (_, refl, refl), refl); element = (_, (_, refl, refl), refl); index = (_, (_, refl, refl), refl); fixed_length = (_, (_, refl, refl), refl) }
+hp_type = type_row plain 152 hp_field.ty (refl, refl, refl, refl)
 
 name_type : IsTypeRow (From plain (AtTable 0 200)) name_field.ty
 unfolding computing
-name_type = record { base = (_, (_, refl, refl), refl); element = (_, (_, refl, refl), refl); index = (_, (_, refl, refl), refl); fixed_length = (_, (_, refl, refl), refl) }
+name_type = type_row plain 200 name_field.ty (refl, refl, refl, refl)
 
 hp_row : IsFieldRow (From plain (AtTable 4 112)) hp_field
 unfolding computing
-hp_row = record {
-  name = (_, (_, refl, refl), refl);
-  ty = onward IsTypeRow type_within plain (AtTable 4 112) (AtTable 0 152) (ToField 1) hp_field.ty refl hp_type;
-  slot = (_, (_, refl, refl), refl);
-  default = (_, (_, refl, refl), refl);
-  deprecated = (_, (_, refl, refl), refl);
-  required = (_, (_, refl, refl), refl);
-  optional = (_, (_, refl, refl), refl);
-  offset64 = (_, (_, refl, refl), refl);
-}
+hp_row = field_row plain 112 152 hp_field refl hp_type (refl, refl, refl) (refl, refl, refl, refl)
 
 name_row : IsFieldRow (From plain (AtTable 4 172)) name_field
 unfolding computing
-name_row = record {
-  name = (_, (_, refl, refl), refl);
-  ty = onward IsTypeRow type_within plain (AtTable 4 172) (AtTable 0 200) (ToField 1) name_field.ty refl name_type;
-  slot = (_, (_, refl, refl), refl);
-  default = (_, (_, refl, refl), refl);
-  deprecated = (_, (_, refl, refl), refl);
-  required = (_, (_, refl, refl), refl);
-  optional = (_, (_, refl, refl), refl);
-  offset64 = (_, (_, refl, refl), refl);
-}
+name_row = field_row plain 172 200 name_field refl name_type (refl, refl, refl) (refl, refl, refl, refl)
 
 monster_fields : AreRows IsFieldRow (From plain (AtTables 4 80)) (hp_field ∷ name_field ∷ [])
 unfolding computing
@@ -88,13 +124,7 @@ monster_fields = record { count = (_, refl, refl); each = each_of (λ j r. IsFie
 
 monster_row : IsObjectRow (From plain (AtTable 5 60)) monster_object
 unfolding computing
-monster_row = record {
-  name = (_, (_, refl, refl), refl);
-  fields = onward (AreRows IsFieldRow) (rows_within IsFieldRow field_within) plain (AtTable 5 60) (AtTables 4 80) (ToField 1) monster_object.fields refl monster_fields;
-  is_struct = (_, (_, refl, refl), refl);
-  minalign = (_, (_, refl, refl), refl);
-  bytesize = (_, (_, refl, refl), refl);
-}
+monster_row = object_row plain 60 80 monster_object refl monster_fields (refl, refl, refl, refl)
 
 plain_objects : AreRows IsObjectRow (From plain (AtTables 5 44)) (monster_object ∷ [])
 unfolding computing
@@ -115,41 +145,23 @@ plain_described = record {
 
 old_type : IsTypeRow (From detailed (AtTable 0 216)) old_field.ty
 unfolding computing
-old_type = record { base = (_, (_, refl, refl), refl); element = (_, (_, refl, refl), refl); index = (_, (_, refl, refl), refl); fixed_length = (_, (_, refl, refl), refl) }
+old_type = type_row detailed 216 old_field.ty (refl, refl, refl, refl)
 
 far_type : IsTypeRow (From detailed (AtTable 0 296)) far_field.ty
 unfolding computing
-far_type = record { base = (_, (_, refl, refl), refl); element = (_, (_, refl, refl), refl); index = (_, (_, refl, refl), refl); fixed_length = (_, (_, refl, refl), refl) }
+far_type = type_row detailed 296 far_field.ty (refl, refl, refl, refl)
 
 member_type : IsTypeRow (From detailed (AtTable 0 432)) one_member.ty
 unfolding computing
-member_type = record { base = (_, (_, refl, refl), refl); element = (_, (_, refl, refl), refl); index = (_, (_, refl, refl), refl); fixed_length = (_, (_, refl, refl), refl) }
+member_type = type_row detailed 432 one_member.ty (refl, refl, refl, refl)
 
 old_row : IsFieldRow (From detailed (AtTable 4 160)) old_field
 unfolding computing
-old_row = record {
-  name = (_, (_, refl, refl), refl);
-  ty = onward IsTypeRow type_within detailed (AtTable 4 160) (AtTable 0 216) (ToField 1) old_field.ty refl old_type;
-  slot = (_, (_, refl, refl), refl);
-  default = (_, (_, refl, refl), refl);
-  deprecated = (_, (_, refl, refl), refl);
-  required = (_, (_, refl, refl), refl);
-  optional = (_, (_, refl, refl), refl);
-  offset64 = (_, (_, refl, refl), refl);
-}
+old_row = field_row detailed 160 216 old_field refl old_type (refl, refl, refl) (refl, refl, refl, refl)
 
 far_row : IsFieldRow (From detailed (AtTable 4 260)) far_field
 unfolding computing
-far_row = record {
-  name = (_, (_, refl, refl), refl);
-  ty = onward IsTypeRow type_within detailed (AtTable 4 260) (AtTable 0 296) (ToField 1) far_field.ty refl far_type;
-  slot = (_, (_, refl, refl), refl);
-  default = (_, (_, refl, refl), refl);
-  deprecated = (_, (_, refl, refl), refl);
-  required = (_, (_, refl, refl), refl);
-  optional = (_, (_, refl, refl), refl);
-  offset64 = (_, (_, refl, refl), refl);
-}
+far_row = field_row detailed 260 296 far_field refl far_type (refl, refl, refl) (refl, refl, refl, refl)
 
 struct_fields : AreRows IsFieldRow (From detailed (AtTables 4 116)) (old_field ∷ far_field ∷ [])
 unfolding computing
@@ -157,13 +169,7 @@ struct_fields = record { count = (_, refl, refl); each = each_of (λ j r. IsFiel
 
 struct_row : IsObjectRow (From detailed (AtTable 5 84)) struct_object
 unfolding computing
-struct_row = record {
-  name = (_, (_, refl, refl), refl);
-  fields = onward (AreRows IsFieldRow) (rows_within IsFieldRow field_within) detailed (AtTable 5 84) (AtTables 4 116) (ToField 1) struct_object.fields refl struct_fields;
-  is_struct = (_, (_, refl, refl), refl);
-  minalign = (_, (_, refl, refl), refl);
-  bytesize = (_, (_, refl, refl), refl);
-}
+struct_row = object_row detailed 84 116 struct_object refl struct_fields (refl, refl, refl, refl)
 
 detailed_objects : AreRows IsObjectRow (From detailed (AtTables 5 36)) (struct_object ∷ [])
 unfolding computing
@@ -191,19 +197,11 @@ enum_members = record { count = (_, refl, refl); each = each_of (λ j r. IsMembe
 
 union_enum : IsEnumRow (From detailed (AtTable 3 316)) a_union
 unfolding computing
-union_enum = record {
-  name = (_, (_, refl, refl), refl);
-  members = onward (AreRows IsMemberRow) (rows_within IsMemberRow member_within) detailed (AtTable 3 316) (AtTables 2 340) (ToField 1) a_union.members refl union_members;
-  is_union = (_, (_, refl, refl), refl);
-}
+union_enum = enum_row detailed 316 340 a_union refl union_members (refl, refl)
 
 plain_enum : IsEnumRow (From detailed (AtTable 3 452)) an_enum
 unfolding computing
-plain_enum = record {
-  name = (_, (_, refl, refl), refl);
-  members = onward (AreRows IsMemberRow) (rows_within IsMemberRow member_within) detailed (AtTable 3 452) (AtTables 2 472) (ToField 1) an_enum.members refl enum_members;
-  is_union = (_, (_, refl, refl), refl);
-}
+plain_enum = enum_row detailed 452 472 an_enum refl enum_members (refl, refl)
 
 detailed_enums : AreRows IsEnumRow (From detailed (AtTables 3 44)) (a_union ∷ an_enum ∷ [])
 unfolding computing
