@@ -1,21 +1,40 @@
 -- What the kinds of legal rows name.
-use Rattle.std.proofs.Common.{◌≡◌, ℕ, zero, suc, ◌<◌, ℤ, pos, negsuc, Bool, true, false, not, ◌&&◌, ◌||◌, int_lt, length, slice_get, Option, Some, None, IsTrue, refl, sym, ◌∙◌, ap, subst, arith, find, unsigned_abs, if◌then◌else◌}
+use Rattle.std.proofs.Common.{◌≡◌, ℕ, zero, suc, ◌<◌, ℤ, pos, negsuc, Bool, true, false, not, ◌&&◌, ◌||◌, int_lt, length, slice_get, Option, Some, None, IsTrue, refl, sym, ◌∙◌, ap, subst, arith, find, unsigned_abs, option_map, if◌then◌else◌}
 use Rattle.std.specs.Option.{option_and_then}
 use Rattle.std.specs.Ordering.{int_eq}
 use Rattle.fb_schema.specs.declared.kinds.Kind.{Kind}
 use Rattle.fb_schema.specs.declared.kinds.Kind.TheVariants.{Scalar, Text, Struct, Table, Union, Scalars, Texts, Structs, Tables, Unions}
+use Rattle.fb_schema.specs.declared.kinds.Element.{Element}
 use Rattle.fb_schema.specs.declared.kinds.Element.TheVariants.{Scalar as OfScalar, Text as OfText, Object as OfObject, Union as OfUnion}
 use Rattle.fb_schema.specs.declared.kinds.Shape.{Shape}
 use Rattle.fb_schema.specs.declared.kinds.Shape.TheVariants.{One, Vector, Array}
 use Rattle.fb_schema.specs.declared.rows.TypeRow.{TypeRow}
 use Rattle.fb_schema.specs.Demands.{IsLegal, first_code, demands_of_object, object_demands, stands_before, same_object_name, is_alignment, is_union_shape}
-use Rattle.fb_schema.specs.Kinds.{kind_of, shape_of, shape_kind, object_kind, union_kind, struct_align, align_in}
+use Rattle.fb_schema.specs.Kinds.{kind_of, shape_of, shape_kind, object_kind, union_kind, vector_of, struct_align, align_in}
 use Rattle.fb_schema.specs.Members.{member_of, members_of}
 use Rattle.fb_schema.specs.Rows.{Rows, Object, Enum, Member, entry_at, is_table, is_union, is_some_table, is_some_union}
 use Rattle.fb_schema.specs.Served.{MemberHolds}
 use Rattle.fb_schema.proofs.DemandLaws.{clear_line}
 use Rattle.fb_schema.proofs.LegalLemmas.{legal_clear}
 use Rattle.fb_schema.proofs.UnionLemmas.{read_within}
+
+-- a vector has the kind of a vector of what its element alone would have
+pub vector_kind : (rows : Rows) (index : ℤ) (e : Element) → shape_kind rows index (Some (Vector e)) ≡ option_map vector_of (shape_kind rows index (Some (One e)))
+vector_kind rows index (OfScalar s) = refl
+vector_kind rows index OfText = refl
+vector_kind rows index OfObject = go index (entry_at rows.objects index) where
+  go : (i : ℤ) (o : Option Object) → object_kind i Structs Tables o ≡ option_map vector_of (object_kind i Struct Table o)
+  go i None = refl
+  go (negsuc k) (Some o) = refl
+  go (pos k) (Some o) = chosen o.is_struct where
+    chosen : (b : Bool) → Some (if b then Structs k else Tables k) ≡ Some (vector_of (if b then Struct k else Table k))
+    chosen true = refl
+    chosen false = refl
+vector_kind rows index OfUnion = go index (entry_at rows.enums index) where
+  go : (i : ℤ) (e : Option Enum) → union_kind i Unions e ≡ option_map vector_of (union_kind i Union e)
+  go i None = refl
+  go (negsuc k) (Some e) = refl
+  go (pos k) (Some e) = refl
 
 -- a struct that is there, with an alignment
 abbrev pub IsStruct : Rows → ℕ → Type 0

@@ -8,7 +8,7 @@ ghost use Rattle.fb_schema.specs.Demands.{is_at, IsFirstOf, struct_asked, table_
 
 use crate::demands::{Beside, member_fault, object_fault, struct_field_fault, table_field_fault};
 use crate::fault::Code;
-use crate::keys::{field_names, field_slots, is_none, member_names, member_values};
+use crate::keys::{in_order, is_none};
 use crate::kinds::TypeField;
 use crate::rows::{FieldRow, MemberRow, ObjectRow};
 use crate::sorting::first_again;
@@ -26,6 +26,7 @@ pub fn is_at(again: Option<u32>, place: usize) -> bool
 }
 
 /// The first demand that a field of a struct breaks, with the field's place.
+#[tactic(auto, using(crate::proofs::WalkLemmas::past_struct))]
 pub fn struct_fields_fault<A: Allocator + Copy>(
     alloc: A,
     rows: &RowLists,
@@ -35,7 +36,7 @@ pub fn struct_fields_fault<A: Allocator + Copy>(
     requires { length fields.now < 2 ^ 31 }
     ensures { IfOk result (λ first. IsFirstOf (struct_asked (borrowed_rows rows.now) object.now.bytesize (map field_of fields.now)) first) }
 {
-    let order = field_names(alloc, fields)?;
+    let order = in_order(alloc, fields, |field| field.name)?;
     let again = first_again(&order);
     for (p, field) in fields.iter().enumerate() {
         let named = is_at(again, p);
@@ -47,6 +48,7 @@ pub fn struct_fields_fault<A: Allocator + Copy>(
 }
 
 /// The first demand that a field of a table breaks, with the field's place.
+#[tactic(auto, using(crate::proofs::WalkLemmas::past_table))]
 pub fn table_fields_fault<A: Allocator + Copy>(
     alloc: A,
     rows: &RowLists,
@@ -55,8 +57,8 @@ pub fn table_fields_fault<A: Allocator + Copy>(
     requires { length fields.now < 2 ^ 31 }
     ensures { IfOk result (λ first. IsFirstOf (table_asked (borrowed_rows rows.now) (map field_of fields.now)) first) }
 {
-    let names = field_names(alloc, fields)?;
-    let slots = field_slots(alloc, fields)?;
+    let names = in_order(alloc, fields, |field| field.name)?;
+    let slots = in_order(alloc, fields, |field| field.slot)?;
     let bytes = type_slots(alloc, TypeField::ForUnion, fields)?;
     let vectors = type_slots(alloc, TypeField::ForUnions, fields)?;
     let name_again = first_again(&names);
@@ -87,6 +89,7 @@ fn is_named(member: &MemberRow, again: Option<u32>, place: usize) -> bool
 }
 
 /// The first demand that a member of a union breaks, with the member's place.
+#[tactic(auto, using(crate::proofs::MemberLemmas::past_members))]
 pub fn members_fault<A: Allocator + Copy>(
     alloc: A,
     rows: &RowLists,
@@ -95,8 +98,8 @@ pub fn members_fault<A: Allocator + Copy>(
     requires { length members.now < 2 ^ 31 }
     ensures { IfOk result (λ first. IsFirstOf (members_asked (borrowed_rows rows.now) (map member_of_row members.now)) first) }
 {
-    let values = member_values(alloc, members)?;
-    let names = member_names(alloc, members)?;
+    let values = in_order(alloc, members, |member| member.value)?;
+    let names = in_order(alloc, members, |member| (is_none(member), member.name))?;
     let value_again = first_again(&values);
     let name_again = first_again(&names);
     for (p, member) in members.iter().enumerate() {

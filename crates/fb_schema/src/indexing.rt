@@ -9,32 +9,15 @@ ghost use Rattle.fb_schema.specs.Demands.{IsLegal};
 ghost use Rattle.fb_schema.specs.Live.{live_of_view, required_end_of};
 
 use crate::index::{LiveIndex, MemberIndex};
-use crate::keys::{member_names, member_values};
+use crate::keys::{in_order, is_none};
 use crate::kinds::Kind;
 use crate::lists::Lists;
 use crate::live::table_views;
 use crate::rows::MemberRow;
-use crate::sorting::put_in_order;
 use crate::steps::field_steps;
 use crate::types::RowLists;
 use crate::views::FieldView;
 use std::alloc::{AllocError, Allocator};
-
-/// The names of live fields in order.
-fn view_names<'n, A: Allocator>(
-    alloc: A,
-    fields: &[FieldView<'n>],
-) -> Result<Vec<(&'n [u8], u32), A>, AllocError>
-    requires { length fields.now < 2 ^ 31 }
-    ensures { IfOk result (λ order. IsOrderOf name_cmp (map view_name fields.now) order.items) }
-{
-    let mut order = Vec::new(alloc);
-    for (p, field) in fields.iter().enumerate() {
-        order.push((field.name, p as u32))?;
-    }
-    put_in_order(&mut order);
-    Ok(order)
-}
 
 /// How many fields there are up to and with the last required one, 0 where none is.
 fn required_end(fields: &[FieldView]) -> u32
@@ -83,7 +66,7 @@ pub fn live_index<'n, A: Allocator + Copy>(
     };
     for object in rows.objects {
         let fields = table_views(alloc, rows, object)?;
-        let names = view_names(alloc, &fields)?;
+        let names = in_order(alloc, &fields, |field| field.name)?;
         let steps = field_steps(alloc, &fields)?;
         index.widest = index.widest.max(fields.len() as u32);
         index.fields.push(&fields)?;
@@ -110,8 +93,8 @@ pub fn member_index<'n, A: Allocator + Copy>(
     for row in rows.enums {
         let members = row.members.as_slice();
         let kinds = member_kinds(alloc, rows, members)?;
-        let values = member_values(alloc, members)?;
-        let names = member_names(alloc, members)?;
+        let values = in_order(alloc, members, |member| member.value)?;
+        let names = in_order(alloc, members, |member| (is_none(member), member.name))?;
         index.kinds.push(&kinds)?;
         index.values.push(&values)?;
         index.names.push(&names)?;

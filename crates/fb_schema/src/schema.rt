@@ -14,7 +14,7 @@ ghost use Rattle.fb_schema.specs.Steps.{step_of};
 use crate::fault::SchemaFault;
 use crate::index::{LiveIndex, MemberIndex};
 use crate::indexing::{live_index, member_index};
-use crate::keys::object_names;
+use crate::keys::in_order;
 use crate::kinds::Kind;
 use crate::legal::legal;
 use crate::rows::{EnumRow, ObjectRow};
@@ -64,7 +64,7 @@ impl<'n, A: Allocator + Copy> Schema<'n, A> {
             objects: objects.as_slice(),
             enums: enums.as_slice(),
         };
-        let order = object_names(alloc, rows.objects)?;
+        let order = in_order(alloc, rows.objects, |object| object.name)?;
         legal(alloc, &rows, &order)?;
         let live = live_index(alloc, &rows)?;
         let members = member_index(alloc, &rows)?;

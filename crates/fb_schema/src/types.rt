@@ -1,10 +1,11 @@
 // What types are and what they name, read off the rows.
 
-ghost use Rattle.std.specs.Prelude.{◌≡◌, ◌^◌, pos, neg_ℤ, ◌<ℤ◌};
+ghost use Rattle.std.specs.Prelude.{◌≡◌, Some, ◌^◌, pos, neg_ℤ, ◌<ℤ◌};
 ghost use Rattle.fb_schema.specs.Rows.{entry_at, is_some_table, is_some_union, borrowed_rows, found_object, found_enum};
-ghost use Rattle.fb_schema.specs.Kinds.{element_of, shape_of, scalar_size, kind_of, object_kind, union_kind, struct_size, struct_align, kind_size, kind_align};
+ghost use Rattle.fb_schema.specs.Kinds.{element_of, shape_of, scalar_size, kind_of, object_kind, union_kind, shape_kind, vector_of, struct_size, struct_align, kind_size, kind_align};
 ghost use Rattle.fb_schema.specs.Demands.{is_inline, is_supported, is_for_member, is_object, is_union_shape, is_type_field, names_no_object, names_table, names_no_union, inline_bytes, bytes_in, element_bytes};
 ghost use Rattle.fb_schema.specs.declared.kinds.Kind.{Kind};
+ghost use Rattle.fb_schema.specs.declared.kinds.Shape.{Shape};
 
 use crate::base_type;
 use crate::kinds::{Element, Kind, Scalar, Shape, TypeField};
@@ -139,6 +140,20 @@ pub fn is_type_field(wanted: TypeField, shape: Option<Shape>) -> bool
     }
 }
 
+/// The kind of a vector of values of this kind, which isn't itself a vector.
+fn vector_of(kind: Kind) -> Kind
+    ensures { result ≡ vector_of kind }
+{
+    match kind {
+        Kind::Scalar(scalar) => Kind::Scalars(scalar),
+        Kind::Text => Kind::Texts,
+        Kind::Struct(number) => Kind::Structs(number),
+        Kind::Table(number) => Kind::Tables(number),
+        Kind::Union(number) => Kind::Unions(number),
+        _ => kind,
+    }
+}
+
 impl<'r, 'n> RowLists<'r, 'n> {
     /// The object that an index names.
     pub fn object_at(&self, index: i32) -> Option<&'r ObjectRow<'n>>
@@ -240,21 +255,26 @@ impl<'r, 'n> RowLists<'r, 'n> {
     }
 
     /// The kind of a type, none where tables can't have it or its object or enum isn't there.
-    #[tactic(auto, unfolding(crate::specs::Kinds::kind_of))]
+    #[tactic(auto, unfolding(crate::specs::Kinds::kind_of), using(crate::proofs::KindLemmas::vector_kind))]
     pub fn kind_of(&self, ty: TypeRow) -> Option<Kind>
         ensures { result ≡ kind_of (borrowed_rows self.now) ty }
     {
-        let index = ty.index;
         match shape_of(ty)? {
-            Shape::One(Element::Scalar(scalar)) => Some(Kind::Scalar(scalar)),
-            Shape::One(Element::Text) => Some(Kind::Text),
-            Shape::One(Element::Object) => self.object_kind(index),
-            Shape::One(Element::Union) => self.union_kind(index),
-            Shape::Vector(Element::Scalar(scalar)) => Some(Kind::Scalars(scalar)),
-            Shape::Vector(Element::Text) => Some(Kind::Texts),
-            Shape::Vector(Element::Object) => self.objects_kind(index),
-            Shape::Vector(Element::Union) => self.unions_kind(index),
+            Shape::One(element) => self.element_kind(element, ty.index),
+            Shape::Vector(element) => self.element_kind(element, ty.index).map(vector_of),
             Shape::Array(_) => None,
+        }
+    }
+
+    /// The kind of one value of an element whose type has this index, none where its object or enum isn't there.
+    fn element_kind(&self, element: Element, index: i32) -> Option<Kind>
+        ensures { result ≡ shape_kind (borrowed_rows self.now) index (Some (Shape.One element)) }
+    {
+        match element {
+            Element::Scalar(scalar) => Some(Kind::Scalar(scalar)),
+            Element::Text => Some(Kind::Text),
+            Element::Object => self.object_kind(index),
+            Element::Union => self.union_kind(index),
         }
     }
 
@@ -270,30 +290,11 @@ impl<'r, 'n> RowLists<'r, 'n> {
         })
     }
 
-    fn objects_kind(&self, index: i32) -> Option<Kind>
-        ensures { result ≡ object_kind index Kind.Structs Kind.Tables (entry_at (borrowed_rows self.now).objects index) }
-    {
-        let object = self.object_at(index)?;
-        let number = index as u32;
-        Some(if object.is_struct {
-            Kind::Structs(number)
-        } else {
-            Kind::Tables(number)
-        })
-    }
-
     fn union_kind(&self, index: i32) -> Option<Kind>
         ensures { result ≡ union_kind index Kind.Union (entry_at (borrowed_rows self.now).enums index) }
     {
         self.enum_at(index)?;
         Some(Kind::Union(index as u32))
-    }
-
-    fn unions_kind(&self, index: i32) -> Option<Kind>
-        ensures { result ≡ union_kind index Kind.Unions (entry_at (borrowed_rows self.now).enums index) }
-    {
-        self.enum_at(index)?;
-        Some(Kind::Unions(index as u32))
     }
 
     fn struct_layout(&self, number: u32) -> Layout

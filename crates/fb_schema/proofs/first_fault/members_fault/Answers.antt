@@ -1,11 +1,11 @@
-use Rattle.std.proofs.Common.{◌≡◌, map, get_or, sym, ◌∙◌, below_more}
+use Rattle.std.proofs.Common.{◌≡◌, map, get_or, sym, ◌∙◌, below_more, rules}
 use Rattle.std.proofs.lemmas.Option.{slice_get-get_or}
 use Rattle.std.specs.Ordering.{int_cmp}
 use Rattle.fb_schema.specs.Sorting.{IsFirstAgain, member_cmp, member_value, member_key}
 use Rattle.fb_schema.specs.Rows.{member_of_row, borrowed_rows}
 use Rattle.fb_schema.specs.Demands.{first_code, members_asked}
 use Rattle.fb_schema.proofs.Blank.{blank_member}
-use Rattle.fb_schema.proofs.MemberLemmas.{member_code, past_members}
+use Rattle.fb_schema.proofs.MemberLemmas.{member_code}
 use Rattle.fb_schema.proofs.first_fault.members_fault.Goals as goal
 use Rattle.fb_schema.proofs.first_fault.members_fault.Goals.{After-member_fault}
 
@@ -13,8 +13,8 @@ found : (g : _) (c : After-member_fault g) → c.member_fault.result ≡ first_c
 found g c =
     let members = c.args.members.now in
     let p = c.loop-p.p in
-    let values : IsFirstAgain int_cmp (map member_value members) c.first_again-value_again.result = c.first_again-value_again.ensures (map member_value members) (rw c.deref.ensures.value c.in_ok-values.ensures) in
-    let names : IsFirstAgain member_cmp (map member_key members) c.first_again-name_again.result = c.first_again-name_again.ensures (map member_key members) (rw c.deref-2.ensures.value c.in_ok-names.ensures) in
+    let values : IsFirstAgain int_cmp (map member_value members) c.first_again-value_again.result = c.first_again-value_again.ensures (map member_value members) (rw c.deref.ensures.value (c.in_ok-values.ensures member_value (λ x k r. search rules))) in
+    let names : IsFirstAgain member_cmp (map member_key members) c.first_again-name_again.result = c.first_again-name_again.ensures (map member_key members) (rw c.deref-2.ensures.value (c.in_ok-names.ensures member_key (λ x k r. search rules))) in
     c.member_fault.ensures
     ∙ member_code (borrowed_rows c.args.rows.now) members p (get_or members p blank_member) c.first_again-value_again.result c.first_again-name_again.result c.is_at-taken.result c.is_named-named.result (slice_get-get_or members p blank_member c.loop-p-test.true) values names c.loop-p.invariant
     c.is_at-taken.ensures c.is_named-named.ensures
@@ -24,6 +24,3 @@ returns-in-Some g c = (sym (found g (goal.at.returns-in-Some g c).After-member_f
 
 pub loop-p-preserved : goal.loop-p-preserved
 loop-p-preserved g c = below_more _ _ c.loop-p.invariant (sym (found g (goal.at.loop-p-preserved g c).After-member_fault) ∙ c.in_default.is)
-
-pub returns : goal.returns
-returns g c = past_members (borrowed_rows c.args.rows.now) c.args.members.now c.loop-p.p c.loop-p-test.false c.loop-p.invariant

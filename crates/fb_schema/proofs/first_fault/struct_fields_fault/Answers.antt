@@ -1,10 +1,10 @@
-use Rattle.std.proofs.Common.{◌≡◌, map, get_or, sym, ◌∙◌, below_more}
+use Rattle.std.proofs.Common.{◌≡◌, map, get_or, sym, ◌∙◌, below_more, rules}
 use Rattle.std.proofs.lemmas.Option.{slice_get-get_or}
 use Rattle.fb_schema.specs.Sorting.{IsFirstAgain, name_cmp, field_name}
 use Rattle.fb_schema.specs.Rows.{field_of, borrowed_rows}
 use Rattle.fb_schema.specs.Demands.{first_code, struct_asked}
 use Rattle.fb_schema.proofs.Blank.{blank_field}
-use Rattle.fb_schema.proofs.WalkLemmas.{struct_code, past_struct}
+use Rattle.fb_schema.proofs.WalkLemmas.{struct_code}
 use Rattle.fb_schema.proofs.first_fault.struct_fields_fault.Goals as goal
 use Rattle.fb_schema.proofs.first_fault.struct_fields_fault.Goals.{After-struct_field_fault}
 
@@ -12,7 +12,7 @@ found : (g : _) (c : After-struct_field_fault g) → c.struct_field_fault.result
 found g c =
     let fields = c.args.fields.now in
     let p = c.loop-p.p in
-    let first : IsFirstAgain name_cmp (map field_name fields) c.first_again-again.result = c.first_again-again.ensures (map field_name fields) (rw c.deref.ensures.value c.in_ok-order.ensures) in
+    let first : IsFirstAgain name_cmp (map field_name fields) c.first_again-again.result = c.first_again-again.ensures (map field_name fields) (rw c.deref.ensures.value (c.in_ok-order.ensures field_name (λ x k r. search rules))) in
     c.struct_field_fault.ensures
     ∙ struct_code (borrowed_rows c.args.rows.now) c.args.object.now.bytesize fields p (get_or fields p blank_field) c.first_again-again.result c.is_at-named.result (slice_get-get_or fields p blank_field c.loop-p-test.true) first c.loop-p.invariant c.is_at-named.ensures
 
@@ -21,6 +21,3 @@ returns-in-Some g c = (sym (found g (goal.at.returns-in-Some g c).After-struct_f
 
 pub loop-p-preserved : goal.loop-p-preserved
 loop-p-preserved g c = below_more _ _ c.loop-p.invariant (sym (found g (goal.at.loop-p-preserved g c).After-struct_field_fault) ∙ c.in_default.is)
-
-pub returns : goal.returns
-returns g c = past_struct (borrowed_rows c.args.rows.now) c.args.object.now.bytesize c.args.fields.now c.loop-p.p c.loop-p-test.false c.loop-p.invariant

@@ -1,4 +1,4 @@
-use Rattle.std.proofs.Common.{◌≡◌, map, get_or, sym, ◌∙◌, below_more}
+use Rattle.std.proofs.Common.{◌≡◌, map, get_or, sym, ◌∙◌, below_more, rules}
 use Rattle.std.proofs.lemmas.Option.{slice_get-get_or}
 use Rattle.std.specs.Ordering.{nat_cmp}
 use Rattle.fb_schema.specs.declared.kinds.TypeField.TheVariants.{ForUnion, ForUnions}
@@ -6,7 +6,7 @@ use Rattle.fb_schema.specs.Sorting.{IsFirstAgain, name_cmp, field_name, field_sl
 use Rattle.fb_schema.specs.Rows.{field_of, borrowed_rows}
 use Rattle.fb_schema.specs.Demands.{first_code, table_asked}
 use Rattle.fb_schema.proofs.Blank.{blank_field}
-use Rattle.fb_schema.proofs.WalkLemmas.{table_code, past_table}
+use Rattle.fb_schema.proofs.WalkLemmas.{table_code}
 use Rattle.fb_schema.proofs.first_fault.table_fields_fault.Goals as goal
 use Rattle.fb_schema.proofs.first_fault.table_fields_fault.Goals.{After-table_field_fault}
 
@@ -15,8 +15,8 @@ found g c =
     let fields = c.args.fields.now in
     let p = c.loop-p.p in
     let row = get_or fields p blank_field in
-    let names : IsFirstAgain name_cmp (map field_name fields) c.first_again-name_again.result = c.first_again-name_again.ensures (map field_name fields) (rw c.deref.ensures.value c.in_ok-names.ensures) in
-    let slots : IsFirstAgain nat_cmp (map field_slot fields) c.first_again-slot_again.result = c.first_again-slot_again.ensures (map field_slot fields) (rw c.deref-2.ensures.value c.in_ok-slots.ensures) in
+    let names : IsFirstAgain name_cmp (map field_name fields) c.first_again-name_again.result = c.first_again-name_again.ensures (map field_name fields) (rw c.deref.ensures.value (c.in_ok-names.ensures field_name (λ x k r. search rules))) in
+    let slots : IsFirstAgain nat_cmp (map field_slot fields) c.first_again-slot_again.result = c.first_again-slot_again.ensures (map field_slot fields) (rw c.deref-2.ensures.value (c.in_ok-slots.ensures field_slot (λ x k r. search rules))) in
     let bytes : AreTypeSlots ForUnion (map field_of fields) c.deref-in-loop-p.result.now = rw c.deref-in-loop-p.ensures.value c.in_ok-bytes.ensures in
     let vectors : AreTypeSlots ForUnions (map field_of fields) c.deref-in-loop-p-2.result.now = rw c.deref-in-loop-p-2.ensures.value c.in_ok-vectors.ensures in
     c.table_field_fault.ensures
@@ -28,6 +28,3 @@ returns-in-Some g c = (sym (found g (goal.at.returns-in-Some g c).After-table_fi
 
 pub loop-p-preserved : goal.loop-p-preserved
 loop-p-preserved g c = below_more _ _ c.loop-p.invariant (sym (found g (goal.at.loop-p-preserved g c).After-table_field_fault) ∙ c.in_default.is)
-
-pub returns : goal.returns
-returns g c = past_table (borrowed_rows c.args.rows.now) c.args.fields.now c.loop-p.p c.loop-p-test.false c.loop-p.invariant

@@ -1,4 +1,4 @@
-use Rattle.std.proofs.Common.{◌<◌, [], filter, if◌then◌else◌, Some, map, length, sym, ap, subst, ◌∙◌, arith}
+use Rattle.std.proofs.Common.{◌<◌, [], filter, if◌then◌else◌, Some, map, length, sym, ap, subst, ◌∙◌, arith, rules}
 use Rattle.std.proofs.lemmas.List.{length-map}
 use Rattle.fb_schema.specs.Index.{view_name}
 use Rattle.fb_schema.specs.FlatLists.{lists_of}
@@ -31,8 +31,8 @@ table_views-requires-clause-kinds g c = λ table.
     (rows_kinded rows c.requires.legal c.loop-object.object-index o
     (kept_read object_of c.args.rows.now.objects.now c.loop-object.object-index c.object-item.result c.loop-object-test.true c.object-item.is))
 
-pub view_names-requires : goal.view_names-requires
-view_names-requires g c = let few = c.in_ok-fields.ensures.few in rw c.deref.ensures.value (omega (arith, few))
+pub in_order-requires-clause-few : goal.in_order-requires-clause-few
+in_order-requires-clause-few g c = let few = c.in_ok-fields.ensures.few in rw c.deref.ensures.value (omega (arith, few))
 
 pub overflow_cast-len : goal.overflow_cast-len
 overflow_cast-len g c = omega (arith, c.in_ok-fields.ensures.few, c.len.ensures, c.in_ok-fields.fields.ok.0)
@@ -52,7 +52,7 @@ loop-object-preserved g c =
       live = lists_step (map live_of_view) (λ o. live_in rows (Some o)) (map object_of objects) i o (lists_of c.loop-object.index.fields) _ c.deref-in-loop-object-2.result.now low is c.loop-object.invariant.live c.in_ok-push.ensures
           (ap (map live_of_view) c.deref-in-loop-object-2.ensures.value ∙ c.in_ok-fields.ensures.value);
       names = matched_pushed (λ fields order. IsOrderOf name_cmp (map view_name fields) order) (lists_of c.loop-object.index.fields) _ (lists_of c.loop-object.index.names) _ c.deref-in-loop-object-2.result.now c.deref-in-loop-object-3.result.now c.loop-object.invariant.names c.in_ok-push.ensures c.in_ok-push-2.ensures
-          (subst (λ fields. IsOrderOf name_cmp (map view_name fields) c.deref-in-loop-object-3.result.now) (c.deref.ensures.value ∙ sym c.deref-in-loop-object-2.ensures.value) (subst (λ order. IsOrderOf name_cmp (map view_name c.deref.result.now) order) (sym c.deref-in-loop-object-3.ensures.value) c.in_ok-names.ensures));
+          (subst (λ fields. IsOrderOf name_cmp (map view_name fields) c.deref-in-loop-object-3.result.now) (c.deref.ensures.value ∙ sym c.deref-in-loop-object-2.ensures.value) (subst (λ order. IsOrderOf name_cmp (map view_name c.deref.result.now) order) (sym c.deref-in-loop-object-3.ensures.value) (c.in_ok-names.ensures view_name (λ x k r. search rules))));
       steps = value_step (λ o. map step_of (live_in rows (Some o))) (map object_of objects) i o (lists_of c.loop-object.index.steps) _ c.deref-in-loop-object-4.result.now low is c.loop-object.invariant.steps c.in_ok-push-3.ensures
           (c.deref-in-loop-object-4.ensures.value ∙ c.in_ok-steps.ensures ∙ mapped_twice step_of live_of_view c.deref-in-loop-object.result.now
           ∙ ap (λ fields. map step_of (map live_of_view fields)) c.deref-in-loop-object.ensures.value ∙ ap (map step_of) c.in_ok-fields.ensures.value);
