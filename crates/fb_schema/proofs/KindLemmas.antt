@@ -10,7 +10,8 @@ use Rattle.fb_schema.specs.declared.kinds.Shape.{Shape}
 use Rattle.fb_schema.specs.declared.kinds.Shape.TheVariants.{One, Vector, Array}
 use Rattle.fb_schema.specs.declared.rows.TypeRow.{TypeRow}
 use Rattle.fb_schema.specs.Demands.{IsLegal, first_code, demands_of_object, object_demands, stands_before, same_object_name, is_alignment, is_union_shape}
-use Rattle.fb_schema.specs.Kinds.{kind_of, shape_of, shape_kind, object_kind, union_kind, vector_of, struct_align, align_in}
+use Rattle.fb_schema.specs.Kinds.{kind_of, shape_of, shape_kind, object_kind, union_kind, struct_align, align_in}
+use Rattle.fb_schema.specs.Vectors.{vector_of}
 use Rattle.fb_schema.specs.Members.{member_of, members_of}
 use Rattle.fb_schema.specs.Rows.{Rows, Object, Enum, Member, entry_at, is_table, is_union, is_some_table, is_some_union}
 use Rattle.fb_schema.specs.Served.{MemberHolds}

@@ -77,15 +77,6 @@ union_kind index union None = None
 union_kind (negsuc k) union (Some e) = None
 union_kind (pos k) union (Some e) = Some (union k)
 
--- the kind of a vector of values of this kind, which is none of a vector itself
-abbrev pub vector_of : Kind → Kind
-vector_of (AScalar s) = Scalars s
-vector_of Text = Texts
-vector_of (Struct k) = Structs k
-vector_of (Table k) = Tables k
-vector_of (Union e) = Unions e
-vector_of kind = kind
-
 -- the kind that a shape gives, where its type has this index
 abbrev pub shape_kind : Rows → ℤ → Option Shape → Option Kind
 shape_kind rows index None = None

@@ -17,3 +17,4 @@ pub mod Index
 pub mod Indexed
 pub mod Matched
 pub mod Sorting
+pub mod Vectors
