@@ -12,7 +12,7 @@ use Rattle.fb_access.specs.declared.step.Step.TheVariants.{Field as ToField, Ele
 use Rattle.fb_access.specs.declared.spot.Spot.{Spot}
 use Rattle.fb_access.specs.declared.spot.Spot.TheVariants.{AtTable, AtTables}
 use Rattle.fb_access.specs.Spots.{present_spot, default_spot, absent_spot, spot_of_element, member_spot}
-use Rattle.fb_access.specs.Denotes.{Shown, Leads, next_spot, truth, signed, unsigned, text, number, inline_value, default_value, value}
+use Rattle.fb_access.specs.Denotes.{Shown, Leads, next_spot, truth, signed, unsigned, text, vector, number, inline_value, default_value, value}
 use Rattle.fb_access.specs.Here.{Shows}
 use Rattle.fb_bfbs.specs.Fixed.{fixed}
 use Rattle.fb_bfbs.specs.Says.{Says, after, AreRows}
@@ -100,39 +100,32 @@ enum_row b p l e to members (name, is_union) = record {
   is_union = said b _ 2 _ is_union;
 }
 
+-- two tables Field, Object, EnumVal or Enum of a vector of a file at l, and no such table
+two_rows : {Row : Type 0} (Is : Says → Row → Type 0) → Carries Is → (b : List ℕ) (k l p q : ℕ) (x y : Row) → vector 2 ≡ value b fixed (AtTables k l)
+    → Leads b fixed (AtTables k l) (Element 0) (AtTable k p) → Leads b fixed (AtTables k l) (Element 1) (AtTable k q)
+    → Is (From b (AtTable k p)) x → Is (From b (AtTable k q)) y → AreRows Is (From b (AtTables k l)) (x ∷ y ∷ [])
+two_rows Is carries b k l p q x y two to_x to_y here there = record {
+  count = (_, refl, two);
+  each = each_of (λ j r. Is (after (From b (AtTables k l)) (Element j)) r) (x ∷ y ∷ []) (onward Is carries b _ _ (Element 0) x to_x here, (onward Is carries b _ _ (Element 1) y to_y there, tt));
+}
+
+no_rows : {Row : Type 0} (Is : Says → Row → Type 0) (b : List ℕ) (k l : ℕ) → vector 0 ≡ value b fixed (AtTables k l) → AreRows Is (From b (AtTables k l)) []
+no_rows Is b k l none = record { count = (_, refl, none); each = each_of (λ j r. Is (after (From b (AtTables k l)) (Element j)) r) [] tt }
+
+-- a file's one Object at p, in a vector at l
+one_object : (b : List ℕ) (l p : ℕ) (o : Object) → vector 1 ≡ value b fixed (AtTables 5 l) → Leads b fixed (AtTables 5 l) (Element 0) (AtTable 5 p) → IsObjectRow (From b (AtTable 5 p)) o → AreRows IsObjectRow (From b (AtTables 5 l)) (o ∷ [])
+one_object b l p o one to here = record { count = (_, refl, one); each = each_of (λ j r. IsObjectRow (after (From b (AtTables 5 l)) (Element j)) r) (o ∷ []) (onward IsObjectRow object_within b _ _ (Element 0) o to here, tt) }
+
 -- The plain file.
-
-hp_type : IsTypeRow (From plain (AtTable 0 152)) hp_field.ty
-unfolding computing
-hp_type = type_row plain 152 hp_field.ty (refl, refl, refl, refl)
-
-name_type : IsTypeRow (From plain (AtTable 0 200)) name_field.ty
-unfolding computing
-name_type = type_row plain 200 name_field.ty (refl, refl, refl, refl)
-
-hp_row : IsFieldRow (From plain (AtTable 4 112)) hp_field
-unfolding computing
-hp_row = field_row plain 112 152 hp_field refl hp_type (refl, refl, refl) (refl, refl, refl, refl)
-
-name_row : IsFieldRow (From plain (AtTable 4 172)) name_field
-unfolding computing
-name_row = field_row plain 172 200 name_field refl name_type (refl, refl, refl) (refl, refl, refl, refl)
-
-monster_fields : AreRows IsFieldRow (From plain (AtTables 4 80)) (hp_field ∷ name_field ∷ [])
-unfolding computing
-monster_fields = record { count = (_, refl, refl); each = each_of (λ j r. IsFieldRow (after (From plain (AtTables 4 80)) (Element j)) r) (hp_field ∷ name_field ∷ []) (onward IsFieldRow field_within plain (AtTables 4 80) (AtTable 4 112) (Element 0) hp_field refl hp_row, (onward IsFieldRow field_within plain (AtTables 4 80) (AtTable 4 172) (Element 1) name_field refl name_row, tt)) }
-
-monster_row : IsObjectRow (From plain (AtTable 5 60)) monster_object
-unfolding computing
-monster_row = object_row plain 60 80 monster_object refl monster_fields (refl, refl, refl, refl)
 
 plain_objects : AreRows IsObjectRow (From plain (AtTables 5 44)) (monster_object ∷ [])
 unfolding computing
-plain_objects = record { count = (_, refl, refl); each = each_of (λ j r. IsObjectRow (after (From plain (AtTables 5 44)) (Element j)) r) (monster_object ∷ []) (onward IsObjectRow object_within plain (AtTables 5 44) (AtTable 5 60) (Element 0) monster_object refl monster_row, tt) }
+plain_objects = one_object plain 44 60 monster_object refl refl (object_row plain 60 80 monster_object refl (two_rows IsFieldRow field_within plain 4 80 112 172 hp_field name_field refl refl refl
+    (field_row plain 112 152 hp_field refl (type_row plain 152 hp_field.ty (refl, refl, refl, refl)) (refl, refl, refl) (refl, refl, refl, refl)) (field_row plain 172 200 name_field refl (type_row plain 200 name_field.ty (refl, refl, refl, refl)) (refl, refl, refl) (refl, refl, refl, refl))) (refl, refl, refl, refl))
 
 plain_enums : AreRows IsEnumRow (From plain (AtTables 3 40)) []
 unfolding computing
-plain_enums = record { count = (_, refl, refl); each = each_of (λ j r. IsEnumRow (after (From plain (AtTables 3 40)) (Element j)) r) [] tt }
+plain_enums = no_rows IsEnumRow plain 3 40 refl
 
 pub plain_described : Describes (told plain) plain_rows
 unfolding computing
@@ -143,37 +136,14 @@ plain_described = record {
 
 -- The detailed file.
 
-old_type : IsTypeRow (From detailed (AtTable 0 216)) old_field.ty
+detailed_objects : AreRows IsObjectRow (From detailed (AtTables 5 36)) (struct_object ∷ [])
 unfolding computing
-old_type = type_row detailed 216 old_field.ty (refl, refl, refl, refl)
-
-far_type : IsTypeRow (From detailed (AtTable 0 296)) far_field.ty
-unfolding computing
-far_type = type_row detailed 296 far_field.ty (refl, refl, refl, refl)
+detailed_objects = one_object detailed 36 84 struct_object refl refl (object_row detailed 84 116 struct_object refl (two_rows IsFieldRow field_within detailed 4 116 160 260 old_field far_field refl refl refl
+    (field_row detailed 160 216 old_field refl (type_row detailed 216 old_field.ty (refl, refl, refl, refl)) (refl, refl, refl) (refl, refl, refl, refl)) (field_row detailed 260 296 far_field refl (type_row detailed 296 far_field.ty (refl, refl, refl, refl)) (refl, refl, refl) (refl, refl, refl, refl))) (refl, refl, refl, refl))
 
 member_type : IsTypeRow (From detailed (AtTable 0 432)) one_member.ty
 unfolding computing
 member_type = type_row detailed 432 one_member.ty (refl, refl, refl, refl)
-
-old_row : IsFieldRow (From detailed (AtTable 4 160)) old_field
-unfolding computing
-old_row = field_row detailed 160 216 old_field refl old_type (refl, refl, refl) (refl, refl, refl, refl)
-
-far_row : IsFieldRow (From detailed (AtTable 4 260)) far_field
-unfolding computing
-far_row = field_row detailed 260 296 far_field refl far_type (refl, refl, refl) (refl, refl, refl, refl)
-
-struct_fields : AreRows IsFieldRow (From detailed (AtTables 4 116)) (old_field ∷ far_field ∷ [])
-unfolding computing
-struct_fields = record { count = (_, refl, refl); each = each_of (λ j r. IsFieldRow (after (From detailed (AtTables 4 116)) (Element j)) r) (old_field ∷ far_field ∷ []) (onward IsFieldRow field_within detailed (AtTables 4 116) (AtTable 4 160) (Element 0) old_field refl old_row, (onward IsFieldRow field_within detailed (AtTables 4 116) (AtTable 4 260) (Element 1) far_field refl far_row, tt)) }
-
-struct_row : IsObjectRow (From detailed (AtTable 5 84)) struct_object
-unfolding computing
-struct_row = object_row detailed 84 116 struct_object refl struct_fields (refl, refl, refl, refl)
-
-detailed_objects : AreRows IsObjectRow (From detailed (AtTables 5 36)) (struct_object ∷ [])
-unfolding computing
-detailed_objects = record { count = (_, refl, refl); each = each_of (λ j r. IsObjectRow (after (From detailed (AtTables 5 36)) (Element j)) r) (struct_object ∷ []) (onward IsObjectRow object_within detailed (AtTables 5 36) (AtTable 5 84) (Element 0) struct_object refl struct_row, tt) }
 
 no_member_row : IsMemberRow (From detailed (AtTable 2 360)) no_member
 unfolding computing
@@ -189,11 +159,7 @@ one_member_row = record {
 
 union_members : AreRows IsMemberRow (From detailed (AtTables 2 340)) (no_member ∷ one_member ∷ [])
 unfolding computing
-union_members = record { count = (_, refl, refl); each = each_of (λ j r. IsMemberRow (after (From detailed (AtTables 2 340)) (Element j)) r) (no_member ∷ one_member ∷ []) (onward IsMemberRow member_within detailed (AtTables 2 340) (AtTable 2 360) (Element 0) no_member refl no_member_row, (onward IsMemberRow member_within detailed (AtTables 2 340) (AtTable 2 392) (Element 1) one_member refl one_member_row, tt)) }
-
-enum_members : AreRows IsMemberRow (From detailed (AtTables 2 472)) []
-unfolding computing
-enum_members = record { count = (_, refl, refl); each = each_of (λ j r. IsMemberRow (after (From detailed (AtTables 2 472)) (Element j)) r) [] tt }
+union_members = two_rows IsMemberRow member_within detailed 2 340 360 392 no_member one_member refl refl refl no_member_row one_member_row
 
 union_enum : IsEnumRow (From detailed (AtTable 3 316)) a_union
 unfolding computing
@@ -201,11 +167,11 @@ union_enum = enum_row detailed 316 340 a_union refl union_members (refl, refl)
 
 plain_enum : IsEnumRow (From detailed (AtTable 3 452)) an_enum
 unfolding computing
-plain_enum = enum_row detailed 452 472 an_enum refl enum_members (refl, refl)
+plain_enum = enum_row detailed 452 472 an_enum refl (no_rows IsMemberRow detailed 2 472 refl) (refl, refl)
 
 detailed_enums : AreRows IsEnumRow (From detailed (AtTables 3 44)) (a_union ∷ an_enum ∷ [])
 unfolding computing
-detailed_enums = record { count = (_, refl, refl); each = each_of (λ j r. IsEnumRow (after (From detailed (AtTables 3 44)) (Element j)) r) (a_union ∷ an_enum ∷ []) (onward IsEnumRow enum_within detailed (AtTables 3 44) (AtTable 3 316) (Element 0) a_union refl union_enum, (onward IsEnumRow enum_within detailed (AtTables 3 44) (AtTable 3 452) (Element 1) an_enum refl plain_enum, tt)) }
+detailed_enums = two_rows IsEnumRow enum_within detailed 3 44 316 452 a_union an_enum refl refl refl union_enum plain_enum
 
 pub detailed_described : Describes (told detailed) detailed_rows
 unfolding computing
