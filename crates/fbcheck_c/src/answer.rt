@@ -47,7 +47,7 @@ pub enum Answer {
 
 /// What is told of an answer in numbers (`fbcheck_verdict`).
 #[repr(C)]
-#[derive(Clone, Copy, Debug, PartialEq, Eq)]
+#[derive(Clone, Copy, Debug, Default, PartialEq, Eq)]
 pub struct Verdict {
     /// The number of the answer, which the call returns too.
     pub status: u32,
@@ -116,13 +116,8 @@ fn blank(status: u32) -> Verdict
 {
     Verdict {
         status,
-        reason: 0,
-        object: 0,
         field: NONE,
-        tables: 0,
-        depth: 0,
-        at: 0,
-        reads: 0,
+        ..Verdict::default()
     }
 }
 
