@@ -11,7 +11,7 @@ use crate::kinds::{
     Kind, Live, Shape, element_at, field_count, kind_of, member_kind, next_live, number,
     scalar_size, signed,
 };
-use crate::tree::{Found, Members, Node};
+use crate::tree::{Found, Kids, Members, Node};
 use fb_schema::{EnumRow, ObjectRow, TypeRow};
 use std::alloc::{AllocError, Global};
 
@@ -147,21 +147,24 @@ enum Slot {
     Missing(Found),
 }
 
-/// A present field under check.
+/// A present field under check. `left` is how many tables may still be opened inside one another below it.
 #[derive(Clone, Copy)]
 struct Place {
     head: Head,
+    left: u32,
     slot: u16,
     word: u64,
     at: u64,
     here: Here,
 }
 
-/// An offset word of a union or of an element: where it stands, where it leads, and whom a fault there names.
+/// An offset word of a union or of an element: where it stands, where it leads, how many tables may still be opened
+/// there inside one another, and whom a fault there names.
 #[derive(Clone, Copy)]
 struct Entry {
     at: u64,
     target: u64,
+    left: u32,
     here: Here,
 }
 
@@ -335,13 +338,7 @@ impl<'r, 'n, 'b> Walk<'r, 'n, 'b> {
 
     /// A live field: a required one is present (V9), and a present one stands as its slot says.
     #[cycle(walk)]
-    fn field(
-        &mut self,
-        head: Head,
-        row: Live,
-        left: u32,
-        kids: &mut Vec<Node>,
-    ) -> Result<Found, Stop> {
+    fn field(&mut self, head: Head, row: Live, left: u32, kids: &mut Kids) -> Result<Found, Stop> {
         let here = Here {
             object: head.object,
             field: Some(row.slot.saturating_sub(4) / 2),
@@ -356,34 +353,29 @@ impl<'r, 'n, 'b> Walk<'r, 'n, 'b> {
         };
         let place = Place {
             head,
+            left,
             slot: row.slot,
             word,
             at: head.at.saturating_add(word),
             here,
         };
-        self.present(place, row.ty, left, kids)
+        self.present(place, row.ty, kids)
     }
 
     /// A present field, by its kind.
     #[cycle(walk)]
-    fn present(
-        &mut self,
-        place: Place,
-        ty: TypeRow,
-        left: u32,
-        kids: &mut Vec<Node>,
-    ) -> Result<Found, Stop> {
+    fn present(&mut self, place: Place, ty: TypeRow, kids: &mut Kids) -> Result<Found, Stop> {
         match kind_of(&self.question, ty) {
             Some(Kind::Scalar(base)) => self.scalar(place, base),
             Some(Kind::Struct(shape)) => self.structure(place, shape),
-            Some(Kind::Table(object)) => self.table_field(place, object, left, kids),
+            Some(Kind::Table(object)) => self.table_field(place, object, kids),
             Some(Kind::Text) => self.text(place),
             Some(Kind::Scalars(base)) => self.scalars(place, base),
             Some(Kind::Structs(shape)) => self.structs(place, shape),
             Some(Kind::Texts) => self.texts(place),
-            Some(Kind::Tables(object)) => self.tables(place, object, left, kids),
-            Some(Kind::Union(union)) => self.union_field(place, union, left, kids),
-            Some(Kind::Unions(union)) => self.unions(place, union, left, kids),
+            Some(Kind::Tables(object)) => self.tables(place, object, kids),
+            Some(Kind::Union(union)) => self.union_field(place, union, kids),
+            Some(Kind::Unions(union)) => self.unions(place, union, kids),
             None => Err(fault(IMPOSSIBLE, place.at, place.here)),
         }
     }
@@ -445,15 +437,9 @@ impl<'r, 'n, 'b> Walk<'r, 'n, 'b> {
 
     /// A table: an offset word, then the table where it leads.
     #[cycle(walk)]
-    fn table_field(
-        &mut self,
-        place: Place,
-        object: u32,
-        left: u32,
-        kids: &mut Vec<Node>,
-    ) -> Result<Found, Stop> {
+    fn table_field(&mut self, place: Place, object: u32, kids: &mut Kids) -> Result<Found, Stop> {
         let target = self.single_word(place)?;
-        let kid = self.table(object, target, left, place.here)?;
+        let kid = self.table(object, target, place.left, place.here)?;
         kids.push(kid).map_err(AllocError::from)?;
         Ok(Found::Table)
     }
@@ -537,18 +523,12 @@ impl<'r, 'n, 'b> Walk<'r, 'n, 'b> {
 
     /// A vector of tables: after the vector each element in turn, an offset word and its table.
     #[cycle(walk)]
-    fn tables(
-        &mut self,
-        place: Place,
-        object: u32,
-        left: u32,
-        kids: &mut Vec<Node>,
-    ) -> Result<Found, Stop> {
+    fn tables(&mut self, place: Place, object: u32, kids: &mut Kids) -> Result<Found, Stop> {
         let (start, count) = self.words(place)?;
         self.field_affordable(place)?;
         for index in 0..count {
             let target = self.offset_word(element_at(start, WORD, index), place.here)?;
-            let kid = self.table(object, target, left, place.here)?;
+            let kid = self.table(object, target, place.left, place.here)?;
             kids.push(kid).map_err(AllocError::from)?;
         }
         Ok(Found::Tables(count))
@@ -564,13 +544,7 @@ impl<'r, 'n, 'b> Walk<'r, 'n, 'b> {
 
     /// A union: the type is read, 0 where it is absent. Where that is a member, an offset word and the value follow.
     #[cycle(walk)]
-    fn union_field(
-        &mut self,
-        place: Place,
-        union: u32,
-        left: u32,
-        kids: &mut Vec<Node>,
-    ) -> Result<Found, Stop> {
+    fn union_field(&mut self, place: Place, union: u32, kids: &mut Kids) -> Result<Found, Stop> {
         let type_at = self.type_field(place)?;
         let typed = type_at.is_some();
         let value = match type_at {
@@ -585,9 +559,10 @@ impl<'r, 'n, 'b> Walk<'r, 'n, 'b> {
         let entry = Entry {
             at: place.at,
             target: self.single_word(place)?,
+            left: place.left,
             here: place.here,
         };
-        self.member(entry, kind, left, kids)?;
+        self.member(entry, kind, kids)?;
         let members = Members::NONE.and(kind);
         Ok(Found::Union { typed, members })
     }
@@ -607,13 +582,7 @@ impl<'r, 'n, 'b> Walk<'r, 'n, 'b> {
 
     /// A vector of unions: as many types as values (V11); then each element in turn, as a union by its type.
     #[cycle(walk)]
-    fn unions(
-        &mut self,
-        place: Place,
-        union: u32,
-        left: u32,
-        kids: &mut Vec<Node>,
-    ) -> Result<Found, Stop> {
+    fn unions(&mut self, place: Place, union: u32, kids: &mut Kids) -> Result<Found, Stop> {
         let type_at = self.type_field(place)?;
         let (types, type_count) = self.type_vector(type_at, place.here)?;
         let (start, count) = self.words(place)?;
@@ -635,9 +604,10 @@ impl<'r, 'n, 'b> Walk<'r, 'n, 'b> {
             let entry = Entry {
                 at,
                 target: self.offset_word(at, place.here)?,
+                left: place.left,
                 here: place.here,
             };
-            self.member(entry, kind, left, kids)?;
+            self.member(entry, kind, kids)?;
             members = members.and(kind);
         }
         let typed = type_at.is_some();
@@ -650,14 +620,13 @@ impl<'r, 'n, 'b> Walk<'r, 'n, 'b> {
 
     /// The value of a union: a table, a string, or a struct that stands where the offset leads.
     #[cycle(walk)]
-    fn member(
-        &mut self,
-        entry: Entry,
-        kind: Kind,
-        left: u32,
-        kids: &mut Vec<Node>,
-    ) -> Result<(), Stop> {
-        let Entry { at, target, here } = entry;
+    fn member(&mut self, entry: Entry, kind: Kind, kids: &mut Kids) -> Result<(), Stop> {
+        let Entry {
+            at,
+            target,
+            left,
+            here,
+        } = entry;
         match kind {
             Kind::Table(object) => {
                 let kid = self.table(object, target, left, here)?;

@@ -7,8 +7,11 @@ use crate::kinds::Kind;
 #[derive(Drop)]
 pub struct Node {
     pub found: Vec<Found>,
-    pub kids: Vec<Node>,
+    pub kids: Kids,
 }
+
+/// The tables to which the fields of a table lead, in order.
+pub type Kids = Vec<Node>;
 
 /// What was found of a live field, as far as its reads depend on it.
 #[derive(Clone, Copy)]
