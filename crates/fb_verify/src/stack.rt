@@ -142,32 +142,33 @@ impl<'s, 'n> Walk<'s, 'n> {
             .allows(meter.reads() + u128::from(6 * u64::from(left)))
     }
 
-    /// Where the walk stops at the next field of the top table.
+    /// Where the walk stops at the next field of a table of this object.
     #[cold]
     #[inline(never)]
-    fn stop_at(&self, top: &Frame, at: u64, reason: Reason) -> Stop
-        requires table { IsTrue (is_table self.now.schema.now (top.now.table).object) }
-        requires next { top.now.next < length (live_fields self.now.schema.now (top.now.table).object) }
+    fn stop_at(&self, object: u32, next: u32, at: u64, reason: Reason) -> Stop
+        requires table { IsTrue (is_table self.now.schema.now object) }
+        requires next { next < length (live_fields self.now.schema.now object) }
         ensures refusal { result.refusal ≡ record { at = at; reason = reason } }
-        ensures object { (result.site).object ≡ (top.now.table).object }
-        ensures field { (f : Live) → slice_get (live_fields self.now.schema.now (top.now.table).object) top.now.next ≡ Some f → (result.site).field ≡ Some f.number }
+        ensures object { (result.site).object ≡ object }
+        ensures field { (f : Live) → slice_get (live_fields self.now.schema.now object) next ≡ Some f → (result.site).field ≡ Some f.number }
     {
-        let field = self.schema.field_at(top.table.object, top.next);
+        let field = self.schema.field_at(object, next);
         Stop {
             refusal: Refusal { at, reason },
             site: Site {
-                object: top.table.object,
+                object,
                 field: Some(field.number),
             },
         }
     }
 
     /// Passes fields of the top table until one is there that may lead to a table, and answers where it stands; none
-    /// where no field is left. The budget allows whatever they cost. Only the contract speaks of the meter that lent
-    /// the bytes.
+    /// where no field is left. The budget allows whatever they cost. These are the walk's own checks, which a caller may
+    /// know as constants. Only the contract speaks of the meter that lent the bytes.
     #[inline(always)]
     fn pass_plain(
         &self,
+        checks: Checks,
         lender: &Meter<'_>,
         reads: &mut Reads<'_>,
         top: &mut Frame,
@@ -177,6 +178,7 @@ impl<'s, 'n> Walk<'s, 'n> {
         requires rests { (top.old.row).left ≡ 0 }
         requires room { AreAllowed (self.now.limits).reads (lender.now.count + reads.old.count + 6 * (length (live_fields self.now.schema.now (top.old.table).object) - top.old.next)) }
         requires few { reads.old.count < 2 ^ 40 }
+        requires same { checks ≡ self.now.checks }
         ensures walking { IfOk result (λ o. o ≡ None → IsWalkingBy self.now lender.now.count reads.new under.start under.frames top.new) }
         ensures field { IfOk result (λ o. IfSome o (λ place. IsAtField self.now lender.now.count reads.new under.start under.frames top.new place)) }
         ensures top { IfOk result (λ _. top.new ≡ record top.old { next = top.new.next }) }
@@ -190,11 +192,10 @@ impl<'s, 'n> Walk<'s, 'n> {
     {
         let _lender = lender;
         let table = top.table;
-        let checks = self.checks;
         let steps = self.schema.steps_of(table.object);
-        let mut next = top.next;
-        while let Some(step) = steps.get(next as usize) {
-            if self.others_are_absent(table, next, step.slot) {
+        let mut next = top.next as usize;
+        while let Some(step) = steps.get(next) {
+            if self.others_are_absent(table, next as u32, step.slot) {
                 top.next = steps.len() as u32;
                 return Ok(None);
             }
@@ -202,20 +203,47 @@ impl<'s, 'n> Walk<'s, 'n> {
             let mut at = place;
             let failed = test_at(reads, checks, table, &mut at, step);
             if let Some(reason) = failed {
-                top.next = next;
-                return Err(self.stop_at(top, at, reason));
+                return Err(self.stop_at(table.object, next as u32, at, reason));
             }
             if leads_on(step, table.at, place) {
-                top.next = next;
+                top.next = next as u32;
                 return Ok(Some(place));
             }
             next += 1;
         }
-        top.next = next;
+        top.next = next as u32;
         Ok(None)
     }
 
-    /// The same by the meter: it lends its bytes meanwhile, and takes them back with the reads that were made.
+    /// The same by the meter, whatever the checks are: it lends its bytes meanwhile, and takes them back with the reads that
+    /// were made.
+    #[cold]
+    #[inline(never)]
+    fn pass_on_by_checks(&self, meter: &mut Meter<'_>, top: &mut Frame) -> Result<Option<u64>, Stop>
+        ghost under: { Waiting }
+        requires walking { IsWalking self.now meter.old under.start under.frames top.old }
+        requires rests { (top.old.row).left ≡ 0 }
+        requires room { AreAllowed (self.now.limits).reads (meter.old.count + 6 * (length (live_fields self.now.schema.now (top.old.table).object) - top.old.next)) }
+        requires few { meter.old.count < 2 ^ 98 }
+        ensures walking { IfOk result (λ o. o ≡ None → IsWalking self.now meter.new under.start under.frames top.new) }
+        ensures field { IfOk result (λ o. IfSome o (λ place. IsAtField self.now 0 meter.new under.start under.frames top.new place)) }
+        ensures top { IfOk result (λ _. top.new ≡ record top.old { next = top.new.next }) }
+        ensures forth { IfOk result (λ _. top.old.next ≤ top.new.next) }
+        ensures within { IfOk result (λ _. top.new.next ≤ length (live_fields self.now.schema.now (top.old.table).object)) }
+        ensures all { IfOk result (λ o. o ≡ None → length (live_fields self.now.schema.now (top.new.table).object) ≤ top.new.next) }
+        ensures falls { IfOk result (λ o. o ≡ None → meter.new.count + frame_work self.now.schema.now top.new ≤ meter.old.count + frame_work self.now.schema.now top.old) }
+        ensures paid { IfOk result (λ _. meter.new.count + 6 * (length (live_fields self.now.schema.now (top.old.table).object) - top.new.next) ≤ meter.old.count + 6 * (length (live_fields self.now.schema.now (top.old.table).object) - top.old.next) + 1) }
+        ensures grows { meter.old.count ≤ meter.new.count }
+        ensures bytes { meter.new.bytes ≡ meter.old.bytes }
+        ensures err { IfErr result (λ s. IsStopped self.now meter.old under.start (stopped s meter.new.count)) }
+    {
+        let mut reads = meter.lend();
+        let answer = self.pass_plain(self.checks, meter, &mut reads, top);
+        meter.settle(reads);
+        answer
+    }
+
+    /// The same, quickly where the checks are the published ones, which are constants in the loop then.
     #[inline(always)]
     fn pass_on(&self, meter: &mut Meter<'_>, top: &mut Frame) -> Result<Option<u64>, Stop>
         ghost under: { Waiting }
@@ -235,8 +263,16 @@ impl<'s, 'n> Walk<'s, 'n> {
         ensures bytes { meter.new.bytes ≡ meter.old.bytes }
         ensures err { IfErr result (λ s. IsStopped self.now meter.old under.start (stopped s meter.new.count)) }
     {
+        let checks = self.checks;
+        if !checks.alignment || checks.inline_size {
+            return self.pass_on_by_checks(meter, top);
+        }
+        let published = Checks {
+            alignment: true,
+            inline_size: false,
+        };
         let mut reads = meter.lend();
-        let answer = self.pass_plain(meter, &mut reads, top);
+        let answer = self.pass_plain(published, meter, &mut reads, top);
         meter.settle(reads);
         answer
     }

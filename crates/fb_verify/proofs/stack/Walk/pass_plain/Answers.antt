@@ -64,7 +64,7 @@ stop_at-requires-clause-next g c =
     let steps = c.steps_of-steps.result.now in
     let all = c.steps_of-steps.ensures.value in
     let got = item_some _ _ _ _ c.get.ensures.lookup c.in-Some.is in
-    rw i.same (omega (arith, next_within w.checks b S w.limits (g.under).start (g.under).frames top w.tables w.deepest r i.walking rests steps all c.in-Some.step.now got))
+    omega (arith, next_within w.checks b S w.limits (g.under).start (g.under).frames top w.tables w.deepest r i.walking rests steps all c.in-Some.step.now got)
 
 pub returns-in-Some-failed-clause-err : goal.returns-in-Some-failed-clause-err
 returns-in-Some-failed-clause-err g c =
@@ -83,15 +83,15 @@ returns-in-Some-failed-clause-err g c =
     let step = c.in-Some.step.now in
     let slot = c.slot_at-place.ensures in
     let bytes = ap (λ m. m.bytes) slot.counted in
-    let told = plain_told w.checks b t c.loop-step.reads.count c.slot_at-place.new.reads.count c.test_at-failed.new.reads.count step (place_from (c.args.top.now.table).at c.slot_at-place.result) slot.value (ap (λ m. m.count) slot.counted) _ (rw bytes at c.test_at-failed.ensures.told) in
+    let told = plain_told w.checks b t c.loop-step.reads.count c.slot_at-place.new.reads.count c.test_at-failed.new.reads.count step (place_from (c.args.top.now.table).at c.slot_at-place.result) slot.value (ap (λ m. m.count) slot.counted) _ (rw (bytes, c.requires.1.1.1.1) at c.test_at-failed.ensures.told) in
     let failed = c.in-Some-failed.is in
     let absent : step.act ≡ Other → field_place b t step.slot ≡ None = fails_absent w.checks b t c.loop-step.reads.count c.slot_at-place.new.reads.count c.test_at-failed.new.reads.count step (place_from (c.args.top.now.table).at c.slot_at-place.result) slot.value (ap (λ m. m.count) slot.counted)
-    _ (sym (rw bytes at c.test_at-failed.ensures.told) ∙ ap (tested_by c.test_at-failed.new.at c.test_at-failed.new.reads.count) failed) in
+    _ (sym (rw (bytes, c.requires.1.1.1.1) at c.test_at-failed.ensures.told) ∙ ap (tested_by c.test_at-failed.new.at c.test_at-failed.new.reads.count) failed) in
     let within = next_within w.checks b S w.limits (g.under).start (g.under).frames top w.tables w.deepest r i.walking rests steps all c.in-Some.step.now got in
     let room = fewer_reads (w.limits).reads (r + 6) (c.args.lender.now.count + c.args.reads.now.count + 6 * (length (live_fields S (T.table).object) - T.next)) (omega (arith, i.paid, within)) c.requires.1.1.0 in
     rw i.bytes at
     (step_stops w.checks b S w.limits (g.under).start (g.under).frames top w.tables w.deepest r i.walking rests steps all c.in-Some.step.now got absent _ _ _ _ told
-    _ failed c.args.lender.now.count refl room c.stop_at.result c.stop_at.ensures.refusal (c.stop_at.ensures.object ∙ ap (λ x. (x.table).object) i.same) (rw i.same at c.stop_at.ensures.field))
+    _ failed c.args.lender.now.count refl room c.stop_at.result c.stop_at.ensures.refusal c.stop_at.ensures.object c.stop_at.ensures.field)
 
 pub returns-then-leads_on-clause-field : goal.returns-then-leads_on-clause-field
 returns-then-leads_on-clause-field g c =
@@ -146,7 +146,7 @@ loop-step-preserved g c =
     let step = c.in-Some.step.now in
     let slot = c.slot_at-place.ensures in
     let bytes = ap (λ m. m.bytes) slot.counted in
-    let told = plain_told w.checks b t c.loop-step.reads.count c.slot_at-place.new.reads.count c.test_at-failed.new.reads.count step (place_from (c.args.top.now.table).at c.slot_at-place.result) slot.value (ap (λ m. m.count) slot.counted) _ (rw bytes at c.test_at-failed.ensures.told) in
+    let told = plain_told w.checks b t c.loop-step.reads.count c.slot_at-place.new.reads.count c.test_at-failed.new.reads.count step (place_from (c.args.top.now.table).at c.slot_at-place.result) slot.value (ap (λ m. m.count) slot.counted) _ (rw (bytes, c.requires.1.1.1.1) at c.test_at-failed.ensures.told) in
     let none = c.in_default-failed.is in
     let plain : step.act ≡ Other → field_place b t step.slot ≡ None = λ e. sym slot.value ∙ c.leads_on.ensures.plain c.if-leads_on.false e in
     let counted = plain_counted w.checks b t c.loop-step.reads.count c.slot_at-place.new.reads.count c.test_at-failed.new.reads.count step (place_from (c.args.top.now.table).at c.slot_at-place.result) slot.value (ap (λ m. m.count) slot.counted) (c.test_at-failed.ensures.counted none) in
