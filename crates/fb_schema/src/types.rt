@@ -1,6 +1,6 @@
 // What types are and what they name, read off the rows.
 
-ghost use Rattle.std.specs.Prelude.{◌≡◌, Some, ◌^◌, pos, neg_ℤ, ◌<ℤ◌};
+ghost use Rattle.std.specs.Prelude.{◌≡◌, Some, ◌^◌, pos, neg_ℤ, ◌*ℤ◌, ◌<ℤ◌};
 ghost use Rattle.fb_schema.specs.Rows.{entry_at, is_some_table, is_some_union, borrowed_rows, found_object, found_enum};
 ghost use Rattle.fb_schema.specs.Kinds.{element_of, shape_of, scalar_size, kind_of, object_kind, union_kind, shape_kind, struct_size, struct_align, kind_size, kind_align};
 ghost use Rattle.fb_schema.specs.Vectors.{vector_of};
@@ -155,6 +155,15 @@ fn vector_of(kind: Kind) -> Kind
     }
 }
 
+/// The bytes of an array of values of so many bytes each.
+fn array_bytes(length: u16, each: i32) -> i64
+    ensures value { result ≡ pos length *ℤ each }
+    ensures low { neg_ℤ (pos (2 ^ 48)) <ℤ result }
+    ensures high { result <ℤ pos (2 ^ 48) }
+{
+    i64::from(length) * i64::from(each)
+}
+
 impl<'r, 'n> RowLists<'r, 'n> {
     /// The object that an index names.
     pub fn object_at(&self, index: i32) -> Option<&'r ObjectRow<'n>>
@@ -249,7 +258,7 @@ impl<'r, 'n> RowLists<'r, 'n> {
         match shape_of(ty) {
             Some(Shape::One(element)) => i64::from(self.element_bytes(element, ty.index)),
             Some(Shape::Array(element)) => {
-                i64::from(ty.fixed_length) * i64::from(self.element_bytes(element, ty.index))
+                array_bytes(ty.fixed_length, self.element_bytes(element, ty.index))
             }
             _ => 0,
         }
