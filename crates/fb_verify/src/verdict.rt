@@ -4,7 +4,6 @@ ghost use Rattle.std.specs.Prelude.{◌≡◌, ◌≤◌, length, IfOk, IfErr, I
 ghost use Rattle.fb_schema.specs.Rows.{is_table};
 ghost use Rattle.fb_verify.specs.MostReads.{most_reads};
 ghost use Rattle.fb_verify.specs.Stops.{Stops};
-ghost use Rattle.fb_verify.specs.Told.{stopped};
 ghost use Rattle.fb_verify.specs.Verdict.{Reports, HasNone};
 
 use crate::begin::read_start;
@@ -13,55 +12,12 @@ use crate::element::Child;
 use crate::fault::{Fault, Report};
 use crate::limits::Limits;
 use crate::scratch::Scratch;
-use crate::site::{Site, Stop};
+use crate::site::Site;
 use crate::stack::Walk;
 use crate::start::{Ident, Start};
 use fb_bytes::Meter;
 use fb_schema::Schema;
 use std::alloc::Allocator;
-
-/// Walks a buffer from its start, and from its root table on: its report, or where it stops.
-fn judge<A: Allocator>(
-    meter: &mut Meter<'_>,
-    schema: &Schema<'_>,
-    root: u32,
-    start: Start,
-    ident: Ident,
-    limits: Limits,
-    checks: Checks,
-    scratch: &mut Scratch<A>,
-) -> Result<Report, Stop>
-    requires fresh { meter.old.count ≡ 0 }
-    requires table { IsTrue (is_table schema.now root) }
-    requires room { limits.depth ≤ scratch.old }
-    ensures yes { IfOk result (λ r. Reports checks meter.old.bytes schema.now root start ident limits r) }
-    ensures none { IfErr result (λ _. HasNone checks meter.old.bytes schema.now root start ident limits) }
-    ensures no { IfErr result (λ s. Stops checks meter.old.bytes schema.now root start ident limits (stopped s meter.new.count)) }
-    ensures price { meter.new.count ≤ most_reads schema.now limits (length meter.old.bytes) }
-    ensures read { IfOk result (λ r. meter.new.count ≡ r.reads) }
-    ensures bytes { meter.new.bytes ≡ meter.old.bytes }
-    ensures scratch { scratch.new ≡ scratch.old }
-{
-    schema.lawful();
-    let site = Site {
-        object: root,
-        field: None,
-    };
-    let at = read_start(meter, limits, checks, site, start, ident)?;
-    let mut walk = Walk {
-        schema,
-        limits,
-        checks,
-        tables: 0,
-        deepest: 0,
-    };
-    walk.run(meter, &mut scratch.frames, site, Child { object: root, at })?;
-    Ok(Report {
-        tables: walk.tables,
-        depth: walk.deepest,
-        reads: meter.reads(),
-    })
-}
 
 /// Checks a buffer of which nothing was read yet: from its start, and from its root table of this object on, by the schema and
 /// within the limits (FlatBuffers Internals). The scratch must have as many levels as the depth limit says, and serves again
@@ -98,8 +54,29 @@ pub fn walk<A: Allocator>(
     ensures bytes { meter.new.bytes ≡ meter.old.bytes }
     ensures scratch { scratch.new ≡ scratch.old }
 {
-    match judge(meter, schema, root, start, ident, limits, checks, scratch) {
-        Ok(report) => Ok(report),
-        Err(stop) => Err(stop.fault(meter)),
+    schema.lawful();
+    let site = Site {
+        object: root,
+        field: None,
+    };
+    let at = match read_start(meter, limits, checks, site, start, ident) {
+        Ok(at) => at,
+        Err(stop) => return Err(stop.fault(meter)),
+    };
+    let mut walk = Walk {
+        schema,
+        limits,
+        checks,
+        tables: 0,
+        deepest: 0,
+    };
+    let root = Child { object: root, at };
+    if let Err(stop) = walk.run(meter, &mut scratch.frames, site, root) {
+        return Err(stop.fault(meter));
     }
+    Ok(Report {
+        tables: walk.tables,
+        depth: walk.deepest,
+        reads: meter.reads(),
+    })
 }
