@@ -1,10 +1,12 @@
-"""The comparison with C++ (bench/compare): that verdicts agree, and that it tells where they don't.
+"""The comparison with C++ (bench/compare): that verdicts agree, and that it tells where they don't; and bench/linear.
 
 It is skipped where flatc, g++ or the headers of flatbuffers aren't there. No time is asked here.
 """
 
 import dataclasses
 import hashlib
+import importlib.machinery
+import importlib.util
 import os
 import shutil
 import subprocess
@@ -14,6 +16,8 @@ import xml.etree.ElementTree
 import outside
 
 COMPARE = outside.TOP / "bench" / "compare"
+LOADER = importlib.machinery.SourceFileLoader("linear", str(outside.TOP / "bench/linear"))
+LINEAR = importlib.util.module_from_spec(importlib.util.spec_from_loader("linear", LOADER))
 sys.path.insert(0, str(outside.TOP / "bench" / "comparison"))
 
 import building
@@ -101,6 +105,17 @@ def verifiers_are_timed_in_process(cases):
             cases.holds(f"{name} is timed on good messages alone", True)
 
 
+def reads_are_timed(cases):
+    LOADER.exec_module(LINEAR)
+    names = next(corpus for corpus in building.CORPORA if corpus.name == "names")
+    one, ten = (dataclasses.replace(names, timed=building.Size(20, parts)) for parts in (1, 10))
+    reads = [LINEAR.reads_of(corpus, outside.PROGRAM) for corpus in (one, ten)]
+    cases.same("three a string: its offset word, its length, its terminator", reads[1] - reads[0], 27)
+    cases.holds("nanoseconds a read", 0 < LINEAR.nanoseconds(ten, reads[1], 2) < 1e6)
+    cases.same("growing sizes", LINEAR.sizes(333), [1, 10, 100, 333])
+    cases.holds("a start", 0 < LINEAR.start(outside.PROGRAM, names.schema, 2) < 10)
+
+
 def a_chart_is_drawn(cases):
     costs = {"fbcheck": timing.Cost(1.0, 1.0, None), "reflection": timing.Cost(2.0, 2.5, None),
              "generated": timing.Cost(0.5, 0.5, None)}
@@ -120,7 +135,7 @@ def main():
         print("0 passed, 0 failed")
         return
     outside.main(verdicts_agree, differences_are_told, what_is_missing_is_named, corpora_are_the_same_each_time,
-                 costs_are_measured, verifiers_are_timed_in_process, a_chart_is_drawn)
+                 costs_are_measured, verifiers_are_timed_in_process, reads_are_timed, a_chart_is_drawn)
 
 
 if __name__ == "__main__":
