@@ -123,13 +123,6 @@ module _ (c : Checks) (b : List ℕ) (t m mid new : ℕ) (s : Step) (place : Opt
   unfolding plain_reads
   plain_counted h = let w = ap (step_reads_at s) here in omega (arith, h, count, w)
 
-  -- a field that leads on doesn't fail where it is there
-  pub fails_absent : (e : Failure) → after mid (step_failure_at c b t s place) ≡ Some e → s.act ≡ Other → field_place b t s.slot ≡ None
-  fails_absent e h other = sym here ∙ go place h where
-    go : (o : Option ℕ) → after mid (step_failure_at c b t s o) ≡ Some e → o ≡ None
-    go None h = refl
-    go (Some p) h = absurd (let w : None ≡ Some e = sym (ap (λ a. after mid (step_failure c b t s p a)) other) ∙ h in cc)
-
 -- A slot that tells a word tells the place so many bytes behind the table, or that there is none.
 same_place : (t w : ℕ) → (w == 0) ≡ true → (t + w == t) ≡ true
 same_place t w h = grind (arith, nat_tests)

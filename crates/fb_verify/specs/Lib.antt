@@ -25,5 +25,6 @@ pub mod OffsetRows
 pub mod Plain
 pub mod Known
 pub mod Stack
+pub mod StopsAt
 pub mod Told
 pub mod Walked

@@ -392,5 +392,5 @@ pub fn leads_on(step: &Step, table: u64, place: u64) -> bool
     ensures there { result ≡ true → place_from table place ≡ Some place }
     ensures open { result ≡ true → (step.now).act ≡ Other }
 {
-    matches!(step.act, Act::Other) && place != table
+    place != table && matches!(step.act, Act::Other)
 }

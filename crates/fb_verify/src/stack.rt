@@ -8,6 +8,7 @@ ghost use Rattle.fb_verify.specs.Bounds.{AreAllowed};
 ghost use Rattle.fb_verify.specs.Cost.{head_reads};
 ghost use Rattle.fb_verify.specs.Order.{◌▷◌, head_failure};
 ghost use Rattle.fb_verify.specs.Stops.{budget_failure, reads_failure, StopsFrom};
+ghost use Rattle.fb_verify.specs.StopsAt.{IsStopAt};
 ghost use Rattle.fb_verify.specs.Told.{told, stopped, way_at, IsHead};
 ghost use Rattle.fb_verify.specs.Walked.{TableWalked, ended};
 ghost use Rattle.fb_verify.specs.Stack.{blank, Origin, Waiting, frame_work, work, opened, IsWalking, IsWalkingBy, IsAtField, IsOver, IsStopped};
@@ -162,8 +163,9 @@ impl<'s, 'n> Walk<'s, 'n> {
         }
     }
 
-    /// Passes fields of the top table until one is there that may lead to a table, and answers where it stands; none
-    /// where no field is left. The budget allows whatever they cost. These are the walk's own checks, which a caller may
+    /// Passes fields of the top table until one is there that may lead to a table, and answers whether one is; the
+    /// position is then moved to where it stands. Where a test fails, that is the next field, and the position is moved
+    /// to where it fails. The budget allows whatever the fields cost. These are the walk's own checks, which a caller may
     /// know as constants. Only the contract speaks of the meter that lent the bytes.
     #[inline(always)]
     fn pass_plain(
@@ -172,23 +174,25 @@ impl<'s, 'n> Walk<'s, 'n> {
         lender: &Meter<'_>,
         reads: &mut Reads<'_>,
         top: &mut Frame,
-    ) -> Result<Option<u64>, Stop>
+        at: &mut u64,
+    ) -> Result<bool, Reason>
         ghost under: { Waiting }
         requires walking { IsWalkingBy self.now lender.now.count reads.old under.start under.frames top.old }
         requires rests { (top.old.row).left ≡ 0 }
         requires room { AreAllowed (self.now.limits).reads (lender.now.count + reads.old.count + 6 * (length (live_fields self.now.schema.now (top.old.table).object) - top.old.next)) }
         requires few { reads.old.count < 2 ^ 40 }
         requires same { checks ≡ self.now.checks }
-        ensures walking { IfOk result (λ o. o ≡ None → IsWalkingBy self.now lender.now.count reads.new under.start under.frames top.new) }
-        ensures field { IfOk result (λ o. IfSome o (λ place. IsAtField self.now lender.now.count reads.new under.start under.frames top.new place)) }
-        ensures top { IfOk result (λ _. top.new ≡ record top.old { next = top.new.next }) }
+        ensures walking { IfOk result (λ more. more ≡ false → IsWalkingBy self.now lender.now.count reads.new under.start under.frames top.new) }
+        ensures field { IfOk result (λ more. more ≡ true → IsAtField self.now lender.now.count reads.new under.start under.frames top.new at.new) }
+        ensures top { top.new ≡ record top.old { next = top.new.next } }
         ensures forth { IfOk result (λ _. top.old.next ≤ top.new.next) }
         ensures within { IfOk result (λ _. top.new.next ≤ length (live_fields self.now.schema.now (top.old.table).object)) }
-        ensures all { IfOk result (λ o. o ≡ None → length (live_fields self.now.schema.now (top.old.table).object) ≤ top.new.next) }
-        ensures ends { IfOk result (λ o. o ≡ None → reads.new.count + 6 * (length (live_fields self.now.schema.now (top.old.table).object) - top.new.next) ≤ reads.old.count + 6 * (length (live_fields self.now.schema.now (top.old.table).object) - top.old.next)) }
+        ensures all { IfOk result (λ more. more ≡ false → length (live_fields self.now.schema.now (top.old.table).object) ≤ top.new.next) }
+        ensures ends { IfOk result (λ more. more ≡ false → reads.new.count + 6 * (length (live_fields self.now.schema.now (top.old.table).object) - top.new.next) ≤ reads.old.count + 6 * (length (live_fields self.now.schema.now (top.old.table).object) - top.old.next)) }
         ensures paid { IfOk result (λ _. reads.new.count + 6 * (length (live_fields self.now.schema.now (top.old.table).object) - top.new.next) ≤ reads.old.count + 6 * (length (live_fields self.now.schema.now (top.old.table).object) - top.old.next) + 1) }
         ensures bytes { reads.new.bytes ≡ reads.old.bytes }
-        ensures err { IfErr result (λ s. StopsFrom self.now.checks reads.old.bytes self.now.schema.now self.now.limits (under.start).object (under.start).position (under.start).way (stopped s (lender.now.count + reads.new.count))) }
+        ensures next { IfErr result (λ _. top.new.next < length (live_fields self.now.schema.now (top.old.table).object)) }
+        ensures err { IfErr result (λ reason. (s : Stop) → IsStopAt self.now.schema.now top.new at.new reason s → StopsFrom self.now.checks reads.old.bytes self.now.schema.now self.now.limits (under.start).object (under.start).position (under.start).way (stopped s (lender.now.count + reads.new.count))) }
     {
         let _lender = lender;
         let table = top.table;
@@ -197,82 +201,92 @@ impl<'s, 'n> Walk<'s, 'n> {
         while let Some(step) = steps.get(next) {
             if self.others_are_absent(table, next as u32, step.slot) {
                 top.next = steps.len() as u32;
-                return Ok(None);
+                return Ok(false);
             }
             let place = slot_at(reads, table.at, table.head, step.slot);
-            let mut at = place;
-            let failed = test_at(reads, checks, table, &mut at, step);
-            if let Some(reason) = failed {
-                return Err(self.stop_at(table.object, next as u32, at, reason));
-            }
             if leads_on(step, table.at, place) {
                 top.next = next as u32;
-                return Ok(Some(place));
+                *at = place;
+                return Ok(true);
+            }
+            let mut tested = place;
+            let failed = test_at(reads, checks, table, &mut tested, step);
+            if let Some(reason) = failed {
+                top.next = next as u32;
+                *at = tested;
+                return Err(reason);
             }
             next += 1;
         }
         top.next = next as u32;
-        Ok(None)
+        Ok(false)
     }
 
     /// The same by the meter, whatever the checks are: it lends its bytes meanwhile, and takes them back with the reads that
     /// were made.
     #[cold]
     #[inline(never)]
-    fn pass_on_by_checks(&self, meter: &mut Meter<'_>, top: &mut Frame) -> Result<Option<u64>, Stop>
+    fn pass_on_by_checks(
+        &self,
+        meter: &mut Meter<'_>,
+        top: &mut Frame,
+        at: &mut u64,
+    ) -> Result<bool, Reason>
         ghost under: { Waiting }
         requires walking { IsWalking self.now meter.old under.start under.frames top.old }
         requires rests { (top.old.row).left ≡ 0 }
         requires room { AreAllowed (self.now.limits).reads (meter.old.count + 6 * (length (live_fields self.now.schema.now (top.old.table).object) - top.old.next)) }
         requires few { meter.old.count < 2 ^ 98 }
-        ensures walking { IfOk result (λ o. o ≡ None → IsWalking self.now meter.new under.start under.frames top.new) }
-        ensures field { IfOk result (λ o. IfSome o (λ place. IsAtField self.now 0 meter.new under.start under.frames top.new place)) }
-        ensures top { IfOk result (λ _. top.new ≡ record top.old { next = top.new.next }) }
+        ensures walking { IfOk result (λ more. more ≡ false → IsWalking self.now meter.new under.start under.frames top.new) }
+        ensures field { IfOk result (λ more. more ≡ true → IsAtField self.now 0 meter.new under.start under.frames top.new at.new) }
+        ensures top { top.new ≡ record top.old { next = top.new.next } }
         ensures forth { IfOk result (λ _. top.old.next ≤ top.new.next) }
         ensures within { IfOk result (λ _. top.new.next ≤ length (live_fields self.now.schema.now (top.old.table).object)) }
-        ensures all { IfOk result (λ o. o ≡ None → length (live_fields self.now.schema.now (top.new.table).object) ≤ top.new.next) }
-        ensures falls { IfOk result (λ o. o ≡ None → meter.new.count + frame_work self.now.schema.now top.new ≤ meter.old.count + frame_work self.now.schema.now top.old) }
+        ensures all { IfOk result (λ more. more ≡ false → length (live_fields self.now.schema.now (top.new.table).object) ≤ top.new.next) }
+        ensures falls { IfOk result (λ more. more ≡ false → meter.new.count + frame_work self.now.schema.now top.new ≤ meter.old.count + frame_work self.now.schema.now top.old) }
         ensures paid { IfOk result (λ _. meter.new.count + 6 * (length (live_fields self.now.schema.now (top.old.table).object) - top.new.next) ≤ meter.old.count + 6 * (length (live_fields self.now.schema.now (top.old.table).object) - top.old.next) + 1) }
         ensures grows { meter.old.count ≤ meter.new.count }
         ensures bytes { meter.new.bytes ≡ meter.old.bytes }
-        ensures err { IfErr result (λ s. IsStopped self.now meter.old under.start (stopped s meter.new.count)) }
+        ensures next { IfErr result (λ _. top.new.next < length (live_fields self.now.schema.now (top.old.table).object)) }
+        ensures err { IfErr result (λ reason. (s : Stop) → IsStopAt self.now.schema.now top.new at.new reason s → IsStopped self.now meter.old under.start (stopped s meter.new.count)) }
     {
         let mut reads = meter.lend();
-        let answer = self.pass_plain(self.checks, meter, &mut reads, top);
+        let answer = self.pass_plain(self.checks, meter, &mut reads, top, at);
         meter.settle(reads);
         answer
     }
 
     /// The same, quickly where the checks are the published ones, which are constants in the loop then.
     #[inline(always)]
-    fn pass_on(&self, meter: &mut Meter<'_>, top: &mut Frame) -> Result<Option<u64>, Stop>
+    fn pass_on(&self, meter: &mut Meter<'_>, top: &mut Frame, at: &mut u64) -> Result<bool, Reason>
         ghost under: { Waiting }
         requires walking { IsWalking self.now meter.old under.start under.frames top.old }
         requires rests { (top.old.row).left ≡ 0 }
         requires room { AreAllowed (self.now.limits).reads (meter.old.count + 6 * (length (live_fields self.now.schema.now (top.old.table).object) - top.old.next)) }
         requires few { meter.old.count < 2 ^ 98 }
-        ensures walking { IfOk result (λ o. o ≡ None → IsWalking self.now meter.new under.start under.frames top.new) }
-        ensures field { IfOk result (λ o. IfSome o (λ place. IsAtField self.now 0 meter.new under.start under.frames top.new place)) }
-        ensures top { IfOk result (λ _. top.new ≡ record top.old { next = top.new.next }) }
+        ensures walking { IfOk result (λ more. more ≡ false → IsWalking self.now meter.new under.start under.frames top.new) }
+        ensures field { IfOk result (λ more. more ≡ true → IsAtField self.now 0 meter.new under.start under.frames top.new at.new) }
+        ensures top { top.new ≡ record top.old { next = top.new.next } }
         ensures forth { IfOk result (λ _. top.old.next ≤ top.new.next) }
         ensures within { IfOk result (λ _. top.new.next ≤ length (live_fields self.now.schema.now (top.old.table).object)) }
-        ensures all { IfOk result (λ o. o ≡ None → length (live_fields self.now.schema.now (top.new.table).object) ≤ top.new.next) }
-        ensures falls { IfOk result (λ o. o ≡ None → meter.new.count + frame_work self.now.schema.now top.new ≤ meter.old.count + frame_work self.now.schema.now top.old) }
+        ensures all { IfOk result (λ more. more ≡ false → length (live_fields self.now.schema.now (top.new.table).object) ≤ top.new.next) }
+        ensures falls { IfOk result (λ more. more ≡ false → meter.new.count + frame_work self.now.schema.now top.new ≤ meter.old.count + frame_work self.now.schema.now top.old) }
         ensures paid { IfOk result (λ _. meter.new.count + 6 * (length (live_fields self.now.schema.now (top.old.table).object) - top.new.next) ≤ meter.old.count + 6 * (length (live_fields self.now.schema.now (top.old.table).object) - top.old.next) + 1) }
         ensures grows { meter.old.count ≤ meter.new.count }
         ensures bytes { meter.new.bytes ≡ meter.old.bytes }
-        ensures err { IfErr result (λ s. IsStopped self.now meter.old under.start (stopped s meter.new.count)) }
+        ensures next { IfErr result (λ _. top.new.next < length (live_fields self.now.schema.now (top.old.table).object)) }
+        ensures err { IfErr result (λ reason. (s : Stop) → IsStopAt self.now.schema.now top.new at.new reason s → IsStopped self.now meter.old under.start (stopped s meter.new.count)) }
     {
         let checks = self.checks;
         if !checks.alignment || checks.inline_size {
-            return self.pass_on_by_checks(meter, top);
+            return self.pass_on_by_checks(meter, top, at);
         }
         let published = Checks {
             alignment: true,
             inline_size: false,
         };
         let mut reads = meter.lend();
-        let answer = self.pass_plain(published, meter, &mut reads, top);
+        let answer = self.pass_plain(published, meter, &mut reads, top, at);
         meter.settle(reads);
         answer
     }
@@ -297,7 +311,13 @@ impl<'s, 'n> Walk<'s, 'n> {
             return self.pass_each(meter, top);
         }
         let fields = self.schema.fields_of(top.table.object);
-        while let Some(place) = self.pass_on(meter, top)? {
+        let mut at = 0;
+        loop {
+            match self.pass_on(meter, top, &mut at) {
+                Ok(true) => {}
+                Ok(false) => return Ok(false),
+                Err(reason) => return Err(self.stop_at(top.table.object, top.next, at, reason)),
+            }
             let Some(field) = fields.get(top.next as usize) else {
                 return Ok(false);
             };
@@ -308,7 +328,7 @@ impl<'s, 'n> Walk<'s, 'n> {
                 self.limits,
                 self.checks,
                 top.table,
-                place,
+                at,
                 field,
                 &mut top.row,
             )? {
@@ -316,7 +336,6 @@ impl<'s, 'n> Walk<'s, 'n> {
                 return Ok(true);
             }
         }
-        Ok(false)
     }
 
     /// Passes fields of a table that was opened below this frame: the table's frame where a field leads on, and none where the

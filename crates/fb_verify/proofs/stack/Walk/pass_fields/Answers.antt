@@ -14,32 +14,38 @@ use Rattle.fb_verify.proofs.stack.Walk.pass_fields.Goals.{After-get}
 -- a field that stands somewhere is there
 there : (g : _) (c : After-get g) → c.get.result ≡ None → ⊥
 there g c none =
-    let i = c.loop-place.invariant in
-    let p = c.in_ok-place.ensures in
-    let o = rw c.in-Some.is at p.field in
+    let i = c.loop-reason.invariant in
+    let p = c.pass_on.ensures in
+    let o = (rw c.in-Ok-true.is at p.field) c.in-Ok-true.field-0-test in
     let S = c.args.self.now.schema.now in
     let fields = c.fields_of-fields.result.now in
     let past = item_none _ _ _ c.get.ensures.lookup none in
     let long = ap (λ x. length (live_fields S x.object)) (ap (λ x. x.table) p.top ∙ i.table) in
     omega (arith, past, o.within, ap length c.fields_of-fields.ensures.value, length_map live_of_view fields, long)
 
-pub returns-in_default-get-clause-walking : goal.returns-in_default-get-clause-walking
-returns-in_default-get-clause-walking g c = absurd (there g (goal.at.returns-in_default-get-clause-walking g c).After-get c.in_default-get.is)
+pub returns-in_default-clause-walking : goal.returns-in_default-clause-walking
+returns-in_default-clause-walking g c = absurd (there g (goal.at.returns-in_default-clause-walking g c).After-get c.in_default.is)
 
-pub returns-in_default-get-clause-falls : goal.returns-in_default-get-clause-falls
-returns-in_default-get-clause-falls g c = absurd (there g (goal.at.returns-in_default-get-clause-falls g c).After-get c.in_default-get.is)
+pub returns-in_default-clause-falls : goal.returns-in_default-clause-falls
+returns-in_default-clause-falls g c = absurd (there g (goal.at.returns-in_default-clause-falls g c).After-get c.in_default.is)
+
+pub returns-in-Err-clause-err : goal.returns-in-Err-clause-err
+returns-in-Err-clause-err g c =
+    let i = c.loop-reason.invariant in
+    let s = c.stop_at.ensures in
+    rw i.bytes at ((rw c.in-Err.is at c.pass_on.ensures.err) c.stop_at.result (record { refusal = s.refusal; object = s.object; field = s.field }))
 
 pub pass_present-requires-clause-kind : goal.pass_present-requires-clause-kind
 pass_present-requires-clause-kind g c =
-    let i = c.loop-place.invariant in
-    let here = field_at live_of_view c.fields_of-fields.result.now _ _ _ c.fields_of-fields.ensures.value (item_some _ _ _ _ c.get.ensures.lookup c.in-Some-get.is) in
+    let i = c.loop-reason.invariant in
+    let here = field_at live_of_view c.fields_of-fields.result.now _ _ _ c.fields_of-fields.ensures.value (item_some _ _ _ _ c.get.ensures.lookup c.in-Some.is) in
     ((i.walking).served).kinds _ _ _ here
 
 pub pass_present-requires-clause-typed : goal.pass_present-requires-clause-typed
 pass_present-requires-clause-typed g c =
-    let i = c.loop-place.invariant in
-    let p = c.in_ok-place.ensures in
-    let o = rw c.in-Some.is at p.field in
+    let i = c.loop-reason.invariant in
+    let p = c.pass_on.ensures in
+    let o = (rw c.in-Ok-true.is at p.field) c.in-Ok-true.field-0-test in
     let h = o.walking in
     let w = c.args.self.now in
     let S = w.schema.now in
@@ -47,16 +53,16 @@ pass_present-requires-clause-typed g c =
     let b = c.pass_on.new.meter.bytes in
     let rests : (top.row).left ≡ 0 = ap (λ x. (x.row).left) p.top ∙ i.rests in
     let e = sym (ap (λ x. x.table) p.top ∙ i.table) in
-    let field = live_of_view c.in-Some-get.field.now in
-    let here = rw e at (field_at live_of_view c.fields_of-fields.result.now _ _ _ c.fields_of-fields.ensures.value (item_some _ _ _ _ c.get.ensures.lookup c.in-Some-get.is)) in
+    let field = live_of_view c.in-Some.field.now in
+    let here = rw e at (field_at live_of_view c.fields_of-fields.result.now _ _ _ c.fields_of-fields.ensures.value (item_some _ _ _ _ c.get.ensures.lookup c.in-Some.is)) in
     let before : c.pass_on.new.meter.count - 1 ≡ o.before = omega (arith, o.count) in
     next_typed w.checks b S w.limits (g.under).start (g.under).frames top w.tables w.deepest o.before h.standing field h.served rests here
 
 pub pass_present-requires-clause-present : goal.pass_present-requires-clause-present
 pass_present-requires-clause-present g c =
-    let i = c.loop-place.invariant in
-    let p = c.in_ok-place.ensures in
-    let o = rw c.in-Some.is at p.field in
+    let i = c.loop-reason.invariant in
+    let p = c.pass_on.ensures in
+    let o = (rw c.in-Ok-true.is at p.field) c.in-Ok-true.field-0-test in
     let h = o.walking in
     let w = c.args.self.now in
     let S = w.schema.now in
@@ -64,16 +70,16 @@ pass_present-requires-clause-present g c =
     let b = c.pass_on.new.meter.bytes in
     let rests : (top.row).left ≡ 0 = ap (λ x. (x.row).left) p.top ∙ i.rests in
     let e = sym (ap (λ x. x.table) p.top ∙ i.table) in
-    let field = live_of_view c.in-Some-get.field.now in
-    let here = rw e at (field_at live_of_view c.fields_of-fields.result.now _ _ _ c.fields_of-fields.ensures.value (item_some _ _ _ _ c.get.ensures.lookup c.in-Some-get.is)) in
+    let field = live_of_view c.in-Some.field.now in
+    let here = rw e at (field_at live_of_view c.fields_of-fields.result.now _ _ _ c.fields_of-fields.ensures.value (item_some _ _ _ _ c.get.ensures.lookup c.in-Some.is)) in
     let before : c.pass_on.new.meter.count - 1 ≡ o.before = omega (arith, o.count) in
     (o.present field here).0
 
 pub pass_present-requires-clause-slot : goal.pass_present-requires-clause-slot
 pass_present-requires-clause-slot g c =
-    let i = c.loop-place.invariant in
-    let p = c.in_ok-place.ensures in
-    let o = rw c.in-Some.is at p.field in
+    let i = c.loop-reason.invariant in
+    let p = c.pass_on.ensures in
+    let o = (rw c.in-Ok-true.is at p.field) c.in-Ok-true.field-0-test in
     let h = o.walking in
     let w = c.args.self.now in
     let S = w.schema.now in
@@ -81,16 +87,16 @@ pass_present-requires-clause-slot g c =
     let b = c.pass_on.new.meter.bytes in
     let rests : (top.row).left ≡ 0 = ap (λ x. (x.row).left) p.top ∙ i.rests in
     let e = sym (ap (λ x. x.table) p.top ∙ i.table) in
-    let field = live_of_view c.in-Some-get.field.now in
-    let here = rw e at (field_at live_of_view c.fields_of-fields.result.now _ _ _ c.fields_of-fields.ensures.value (item_some _ _ _ _ c.get.ensures.lookup c.in-Some-get.is)) in
+    let field = live_of_view c.in-Some.field.now in
+    let here = rw e at (field_at live_of_view c.fields_of-fields.result.now _ _ _ c.fields_of-fields.ensures.value (item_some _ _ _ _ c.get.ensures.lookup c.in-Some.is)) in
     let before : c.pass_on.new.meter.count - 1 ≡ o.before = omega (arith, o.count) in
     (o.present field here).1
 
 pub returns-in_err-pass_present-clause-err : goal.returns-in_err-pass_present-clause-err
 returns-in_err-pass_present-clause-err g c =
-    let i = c.loop-place.invariant in
-    let p = c.in_ok-place.ensures in
-    let o = rw c.in-Some.is at p.field in
+    let i = c.loop-reason.invariant in
+    let p = c.pass_on.ensures in
+    let o = (rw c.in-Ok-true.is at p.field) c.in-Ok-true.field-0-test in
     let h = o.walking in
     let w = c.args.self.now in
     let S = w.schema.now in
@@ -98,18 +104,18 @@ returns-in_err-pass_present-clause-err g c =
     let b = c.pass_on.new.meter.bytes in
     let rests : (top.row).left ≡ 0 = ap (λ x. (x.row).left) p.top ∙ i.rests in
     let e = sym (ap (λ x. x.table) p.top ∙ i.table) in
-    let field = live_of_view c.in-Some-get.field.now in
-    let here = rw e at (field_at live_of_view c.fields_of-fields.result.now _ _ _ c.fields_of-fields.ensures.value (item_some _ _ _ _ c.get.ensures.lookup c.in-Some-get.is)) in
+    let field = live_of_view c.in-Some.field.now in
+    let here = rw e at (field_at live_of_view c.fields_of-fields.result.now _ _ _ c.fields_of-fields.ensures.value (item_some _ _ _ _ c.get.ensures.lookup c.in-Some.is)) in
     let before : c.pass_on.new.meter.count - 1 ≡ o.before = omega (arith, o.count) in
-    if_err_exit _ _ _ c.from_residual-in_err-pass_present.ensures.1
+    if_err_exit _ _ _ c.from_residual.ensures.1
     (rw (p.bytes ∙ i.bytes) at
     (stop_at_field w.checks b S w.limits (g.under).start (g.under).frames top w.tables w.deepest o.before h.standing h.tables h.deepest h.reads _ field rests here (rw before at c.in_err-pass_present.ensures.err)))
 
 pub returns-then-branch-clause-walking : goal.returns-then-branch-clause-walking
 returns-then-branch-clause-walking g c =
-    let i = c.loop-place.invariant in
-    let p = c.in_ok-place.ensures in
-    let o = rw c.in-Some.is at p.field in
+    let i = c.loop-reason.invariant in
+    let p = c.pass_on.ensures in
+    let o = (rw c.in-Ok-true.is at p.field) c.in-Ok-true.field-0-test in
     let h = o.walking in
     let w = c.args.self.now in
     let S = w.schema.now in
@@ -117,8 +123,8 @@ returns-then-branch-clause-walking g c =
     let b = c.pass_on.new.meter.bytes in
     let rests : (top.row).left ≡ 0 = ap (λ x. (x.row).left) p.top ∙ i.rests in
     let e = sym (ap (λ x. x.table) p.top ∙ i.table) in
-    let field = live_of_view c.in-Some-get.field.now in
-    let here = rw e at (field_at live_of_view c.fields_of-fields.result.now _ _ _ c.fields_of-fields.ensures.value (item_some _ _ _ _ c.get.ensures.lookup c.in-Some-get.is)) in
+    let field = live_of_view c.in-Some.field.now in
+    let here = rw e at (field_at live_of_view c.fields_of-fields.result.now _ _ _ c.fields_of-fields.ensures.value (item_some _ _ _ _ c.get.ensures.lookup c.in-Some.is)) in
     let before : c.pass_on.new.meter.count - 1 ≡ o.before = omega (arith, o.count) in
     let row = c.in_ok-pass_present.ensures.row c.if-branch.true in
     let entries = c.in_ok-pass_present.ensures.entries c.if-branch.true in
@@ -128,9 +134,9 @@ returns-then-branch-clause-walking g c =
 
 pub returns-then-branch-clause-falls : goal.returns-then-branch-clause-falls
 returns-then-branch-clause-falls g c =
-    let i = c.loop-place.invariant in
-    let p = c.in_ok-place.ensures in
-    let o = rw c.in-Some.is at p.field in
+    let i = c.loop-reason.invariant in
+    let p = c.pass_on.ensures in
+    let o = (rw c.in-Ok-true.is at p.field) c.in-Ok-true.field-0-test in
     let h = o.walking in
     let w = c.args.self.now in
     let S = w.schema.now in
@@ -138,21 +144,21 @@ returns-then-branch-clause-falls g c =
     let b = c.pass_on.new.meter.bytes in
     let rests : (top.row).left ≡ 0 = ap (λ x. (x.row).left) p.top ∙ i.rests in
     let e = sym (ap (λ x. x.table) p.top ∙ i.table) in
-    let field = live_of_view c.in-Some-get.field.now in
-    let here = rw e at (field_at live_of_view c.fields_of-fields.result.now _ _ _ c.fields_of-fields.ensures.value (item_some _ _ _ _ c.get.ensures.lookup c.in-Some-get.is)) in
+    let field = live_of_view c.in-Some.field.now in
+    let here = rw e at (field_at live_of_view c.fields_of-fields.result.now _ _ _ c.fields_of-fields.ensures.value (item_some _ _ _ _ c.get.ensures.lookup c.in-Some.is)) in
     let before : c.pass_on.new.meter.count - 1 ≡ o.before = omega (arith, o.count) in
     let long = ap (λ x. length (live_fields S (x.table).object)) p.top in
     let left = ap (λ x. (x.row).left) p.top in
-    let mid : o.before + frame_work S top ≤ c.loop-place.meter.count + frame_work S c.loop-place.top = omega (arith, p.paid, p.forth, p.within, o.count, long, left) in
+    let mid : o.before + frame_work S top ≤ c.loop-reason.meter.count + frame_work S c.loop-reason.top = omega (arith, (rw c.in-Ok-true.is at p.paid), (rw c.in-Ok-true.is at p.forth), (rw c.in-Ok-true.is at p.within), o.count, long, left) in
     let row = c.in_ok-pass_present.ensures.row c.if-branch.true in
     let less = field_work w.checks b S w.limits (g.under).start (g.under).frames top w.tables w.deepest o.before h field c.pass_present.new.row field.number (c.pass_on.new.meter.count - 1 + own_reads b (top.table).at field) rests here (ap (λ n. n + own_reads b (top.table).at field) before) row.0 in
     omega (arith, less, mid, i.budget, ap (λ m. m.count) c.in_ok-pass_present.ensures.counted)
 
 pub returns-then-branch-clause-grows : goal.returns-then-branch-clause-grows
 returns-then-branch-clause-grows g c =
-    let i = c.loop-place.invariant in
-    let p = c.in_ok-place.ensures in
-    let o = rw c.in-Some.is at p.field in
+    let i = c.loop-reason.invariant in
+    let p = c.pass_on.ensures in
+    let o = (rw c.in-Ok-true.is at p.field) c.in-Ok-true.field-0-test in
     let h = o.walking in
     let w = c.args.self.now in
     let S = w.schema.now in
@@ -160,17 +166,17 @@ returns-then-branch-clause-grows g c =
     let b = c.pass_on.new.meter.bytes in
     let rests : (top.row).left ≡ 0 = ap (λ x. (x.row).left) p.top ∙ i.rests in
     let e = sym (ap (λ x. x.table) p.top ∙ i.table) in
-    let field = live_of_view c.in-Some-get.field.now in
-    let here = rw e at (field_at live_of_view c.fields_of-fields.result.now _ _ _ c.fields_of-fields.ensures.value (item_some _ _ _ _ c.get.ensures.lookup c.in-Some-get.is)) in
+    let field = live_of_view c.in-Some.field.now in
+    let here = rw e at (field_at live_of_view c.fields_of-fields.result.now _ _ _ c.fields_of-fields.ensures.value (item_some _ _ _ _ c.get.ensures.lookup c.in-Some.is)) in
     let before : c.pass_on.new.meter.count - 1 ≡ o.before = omega (arith, o.count) in
     let least = own_least b (top.table).at field (o.present field here).1 in
     omega (arith, i.grows, p.grows, least, ap (λ m. m.count) c.in_ok-pass_present.ensures.counted)
 
-pub loop-place-preserved : goal.loop-place-preserved
-loop-place-preserved g c =
-    let i = c.loop-place.invariant in
-    let p = c.in_ok-place.ensures in
-    let o = rw c.in-Some.is at p.field in
+pub loop-reason-preserved : goal.loop-reason-preserved
+loop-reason-preserved g c =
+    let i = c.loop-reason.invariant in
+    let p = c.pass_on.ensures in
+    let o = (rw c.in-Ok-true.is at p.field) c.in-Ok-true.field-0-test in
     let h = o.walking in
     let w = c.args.self.now in
     let S = w.schema.now in
@@ -178,12 +184,12 @@ loop-place-preserved g c =
     let b = c.pass_on.new.meter.bytes in
     let rests : (top.row).left ≡ 0 = ap (λ x. (x.row).left) p.top ∙ i.rests in
     let e = sym (ap (λ x. x.table) p.top ∙ i.table) in
-    let field = live_of_view c.in-Some-get.field.now in
-    let here = rw e at (field_at live_of_view c.fields_of-fields.result.now _ _ _ c.fields_of-fields.ensures.value (item_some _ _ _ _ c.get.ensures.lookup c.in-Some-get.is)) in
+    let field = live_of_view c.in-Some.field.now in
+    let here = rw e at (field_at live_of_view c.fields_of-fields.result.now _ _ _ c.fields_of-fields.ensures.value (item_some _ _ _ _ c.get.ensures.lookup c.in-Some.is)) in
     let before : c.pass_on.new.meter.count - 1 ≡ o.before = omega (arith, o.count) in
     let long = ap (λ x. length (live_fields S (x.table).object)) p.top in
     let left = ap (λ x. (x.row).left) p.top in
-    let mid : o.before + frame_work S top ≤ c.loop-place.meter.count + frame_work S c.loop-place.top = omega (arith, p.paid, p.forth, p.within, o.count, long, left) in
+    let mid : o.before + frame_work S top ≤ c.loop-reason.meter.count + frame_work S c.loop-reason.top = omega (arith, (rw c.in-Ok-true.is at p.paid), (rw c.in-Ok-true.is at p.forth), (rw c.in-Ok-true.is at p.within), o.count, long, left) in
     let own = own_reads b (top.table).at field in
     let counted = c.in_ok-pass_present.ensures.counted in
     let count = ap (λ m. m.count) counted in
@@ -200,7 +206,7 @@ loop-place-preserved g c =
       walking =
           rw (counted, none.1)
           (field_skipped w.checks b S w.limits (g.under).start (g.under).frames top w.tables w.deepest o.before h field blank.row field.number _ rests here z (no_row w.checks b S) cheap refl c.in_ok-pass_present.ensures.ok (none.0 ∙ sym (row_none b S blank.row refl)));
-      room = fewer_reads (w.limits).reads _ _ (omega (arith, p.paid, count, few, o.within, o.count, long)) i.room;
+      room = fewer_reads (w.limits).reads _ _ (omega (arith, (rw c.in-Ok-true.is at p.paid), count, few, o.within, o.count, long)) i.room;
       budget = rw none.1 (omega (arith, less, mid, i.budget, count));
       grows = omega (arith, i.grows, p.grows, least, count);
     }

@@ -5,8 +5,8 @@ use Rattle.fb_verify.specs.Stack.{IsWalking, frame_work}
 use Rattle.fb_verify.proofs.stack.Walk.pass_fields.Given as goal
 
 -- the walk goes on in the same table, between two fields, and the budget allows the others
-abbrev pub invariant-loop-place : goal.invariant-loop-place
-invariant-loop-place g l = record {
+abbrev pub invariant-loop-reason : goal.invariant-loop-reason
+invariant-loop-reason g l = record {
   bytes : l.meter.bytes ≡ l.fn.meter.bytes;
   table : l.top.table ≡ l.fn.top.table;
   rests : (l.top.row).left ≡ 0;
@@ -16,8 +16,8 @@ invariant-loop-place g l = record {
   grows : l.fn.meter.count ≤ l.meter.count;
 }
 
-abbrev pub decreases-loop-place : goal.decreases-loop-place
-decreases-loop-place g l = length l.fields - l.top.next
+abbrev pub decreases-loop-reason : goal.decreases-loop-reason
+decreases-loop-reason g l = length l.fields - l.top.next
 
 -- the same frames wait
 abbrev pub ghost-pass_each : goal.ghost-pass_each

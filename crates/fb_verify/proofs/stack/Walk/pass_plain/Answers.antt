@@ -5,10 +5,11 @@ use Rattle.fb_schema.specs.Live.{live_fields}
 use Rattle.fb_schema.specs.Steps.{step_of}
 use Rattle.fb_verify.specs.declared.scratch.Frame.{Frame}
 use Rattle.fb_verify.specs.Places.{vtable_size, field_place}
-use Rattle.fb_verify.specs.Plain.{tested_by, place_from, step_reads_at}
+use Rattle.fb_verify.specs.Cost.{slot_reads}
+use Rattle.fb_verify.specs.Plain.{place_from, step_reads_at}
 use Rattle.fb_verify.proofs.Budgets.{fewer_reads}
 use Rattle.fb_verify.proofs.Frames.{item_some, slot_few}
-use Rattle.fb_verify.proofs.Plains.{is_step, act_free, plain_few, plain_told, plain_counted, fails_absent, place_near}
+use Rattle.fb_verify.proofs.Plains.{is_step, act_free, plain_few, plain_told, plain_counted, place_near}
 use Rattle.fb_verify.proofs.Passing.{next_within, rest_passed, step_passed, step_stops, at_field}
 use Rattle.fb_verify.proofs.stack.Walk.pass_plain.Goals as goal
 
@@ -51,8 +52,8 @@ test_at-failed-requires-clause-step g c =
     is_step S (live_fields S k) c.loop-step.next c.in-Some.step.now (λ f got. (((c.requires.0).served).kinds) k c.loop-step.next f got)
     (ap (λ xs. slice_get xs c.loop-step.next) (sym c.steps_of-steps.ensures.value) ∙ item_some _ _ _ _ c.get.ensures.lookup c.in-Some.is)
 
-pub stop_at-requires-clause-next : goal.stop_at-requires-clause-next
-stop_at-requires-clause-next g c =
+pub returns-in-Some-failed-clause-next : goal.returns-in-Some-failed-clause-next
+returns-in-Some-failed-clause-next g c =
     let i = c.loop-step.invariant in
     let w = c.args.self.now in
     let S = w.schema.now in
@@ -66,8 +67,11 @@ stop_at-requires-clause-next g c =
     let got = item_some _ _ _ _ c.get.ensures.lookup c.in-Some.is in
     omega (arith, next_within w.checks b S w.limits (g.under).start (g.under).frames top w.tables w.deepest r i.walking rests steps all c.in-Some.step.now got)
 
+pub returns-in-Some-failed-clause-top : goal.returns-in-Some-failed-clause-top
+returns-in-Some-failed-clause-top g c = rw c.loop-step.invariant.same refl
+
 pub returns-in-Some-failed-clause-err : goal.returns-in-Some-failed-clause-err
-returns-in-Some-failed-clause-err g c =
+returns-in-Some-failed-clause-err g c stop here =
     let i = c.loop-step.invariant in
     let w = c.args.self.now in
     let S = w.schema.now in
@@ -85,16 +89,15 @@ returns-in-Some-failed-clause-err g c =
     let bytes = ap (λ m. m.bytes) slot.counted in
     let told = plain_told w.checks b t c.loop-step.reads.count c.slot_at-place.new.reads.count c.test_at-failed.new.reads.count step (place_from (c.args.top.now.table).at c.slot_at-place.result) slot.value (ap (λ m. m.count) slot.counted) _ (rw (bytes, c.requires.1.1.1.1) at c.test_at-failed.ensures.told) in
     let failed = c.in-Some-failed.is in
-    let absent : step.act ≡ Other → field_place b t step.slot ≡ None = fails_absent w.checks b t c.loop-step.reads.count c.slot_at-place.new.reads.count c.test_at-failed.new.reads.count step (place_from (c.args.top.now.table).at c.slot_at-place.result) slot.value (ap (λ m. m.count) slot.counted)
-    _ (sym (rw (bytes, c.requires.1.1.1.1) at c.test_at-failed.ensures.told) ∙ ap (tested_by c.test_at-failed.new.at c.test_at-failed.new.reads.count) failed) in
+    let absent : step.act ≡ Other → field_place b t step.slot ≡ None = λ e. sym slot.value ∙ c.leads_on.ensures.plain c.if-leads_on.false e in
     let within = next_within w.checks b S w.limits (g.under).start (g.under).frames top w.tables w.deepest r i.walking rests steps all c.in-Some.step.now got in
     let room = fewer_reads (w.limits).reads (r + 6) (c.args.lender.now.count + c.args.reads.now.count + 6 * (length (live_fields S (T.table).object) - T.next)) (omega (arith, i.paid, within)) c.requires.1.1.0 in
     rw i.bytes at
     (step_stops w.checks b S w.limits (g.under).start (g.under).frames top w.tables w.deepest r i.walking rests steps all c.in-Some.step.now got absent _ _ _ _ told
-    _ failed c.args.lender.now.count refl room c.stop_at.result c.stop_at.ensures.refusal c.stop_at.ensures.object c.stop_at.ensures.field)
+    _ failed c.args.lender.now.count refl room stop here.refusal (rw i.same at here.object) (rw i.same at here.field))
 
 pub returns-then-leads_on-clause-field : goal.returns-then-leads_on-clause-field
-returns-then-leads_on-clause-field g c =
+returns-then-leads_on-clause-field g c _ =
     let i = c.loop-step.invariant in
     let w = c.args.self.now in
     let S = w.schema.now in
@@ -109,9 +112,10 @@ returns-then-leads_on-clause-field g c =
     let step = c.in-Some.step.now in
     let slot = c.slot_at-place.ensures in
     let bytes = ap (λ m. m.bytes) slot.counted in
-    let count = c.test_at-failed.ensures.counted c.in_default-failed.is ∙ ap (λ m. m.count + step_reads_at step (place_from (c.args.top.now.table).at c.slot_at-place.result)) slot.counted in
-    let here = at_field w c.args.lender.now.count c.loop-step.reads c.test_at-failed.new.reads (g.under).start (g.under).frames top i.walking rests steps all step got
-    (place_from (T.table).at c.slot_at-place.result) slot.value slot.within (place_near (T.table).at c.slot_at-place.result _ slot.near) (c.test_at-failed.ensures.bytes ∙ bytes) count (c.leads_on.ensures.open c.if-leads_on.true) in
+    let none = act_free step (place_from (c.args.top.now.table).at c.slot_at-place.result) (c.leads_on.ensures.open c.if-leads_on.true) in
+    let count : c.slot_at-place.new.reads.count ≡ c.loop-step.reads.count + slot_reads b (T.table).at step.slot + step_reads_at step (place_from (T.table).at c.slot_at-place.result) = omega (arith, ap (λ m. m.count) slot.counted, none) in
+    let here = at_field w c.args.lender.now.count c.loop-step.reads c.slot_at-place.new.reads (g.under).start (g.under).frames top i.walking rests steps all step got
+    (place_from (T.table).at c.slot_at-place.result) slot.value slot.within (place_near (T.table).at c.slot_at-place.result _ slot.near) bytes count (c.leads_on.ensures.open c.if-leads_on.true) in
     rw i.same (rw (c.leads_on.ensures.there c.if-leads_on.true) at here)
 
 pub returns-then-leads_on-clause-top : goal.returns-then-leads_on-clause-top
@@ -125,9 +129,7 @@ returns-then-leads_on-clause-paid g c =
     let i = c.loop-step.invariant in
     let step = c.in-Some.step.now in
     let slot = c.slot_at-place.ensures in
-    let count = c.test_at-failed.ensures.counted c.in_default-failed.is in
-    let none = act_free step (place_from (c.args.top.now.table).at c.slot_at-place.result) (c.leads_on.ensures.open c.if-leads_on.true) in
-    omega (arith, i.paid, count, none, ap (λ m. m.count) slot.counted, slot_few c.loop-step.reads.bytes (c.args.top.now.table).at step.slot)
+    omega (arith, i.paid, ap (λ m. m.count) slot.counted, slot_few c.loop-step.reads.bytes (c.args.top.now.table).at step.slot)
 
 pub loop-step-preserved : goal.loop-step-preserved
 loop-step-preserved g c =

@@ -1,0 +1,4 @@
+use Rattle.fb_verify.proofs.stack.Walk.pass_on_by_checks.Goals as goal
+
+pub returns-clause-err : goal.returns-clause-err
+returns-clause-err g c = rw c.settle.ensures (rw c.lend-reads.ensures.lent at c.pass_plain-answer.ensures.err)
