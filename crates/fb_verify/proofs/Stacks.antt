@@ -1,8 +1,8 @@
 -- A stack in a row of frames: what is pushed onto it and popped off it.
-use Rattle.std.proofs.Common.{◌≡◌, ℕ, ◌+◌, ◌-◌, ◌≤◌, ◌<◌, List, [], ◌∷◌, ◌++◌, length, take, get_or, ◌∙◌, ap, arith}
-use Rattle.std.proofs.Math.ListN.{set}
+use Rattle.std.proofs.Common.{◌≡◌, ℕ, ◌+◌, ◌-◌, ◌≤◌, ◌<◌, List, [], ◌∷◌, ◌++◌, length, take, get_or, sym, ◌∙◌, ap, arith}
+use Rattle.std.proofs.Math.ListN.{set, length-set, get_or-append}
 use Rattle.std.specs.List.{All, sum_by}
-use Rattle.std.proofs.lemmas.List.{take_more, take_more_set, take-take, get_or-take, length-take}
+use Rattle.std.proofs.lemmas.List.{take_more, take_more_set, take-take, take-set, take-append-le, set-append_left, get_or-take, get_or-set_same, get_or-append-add, length-take}
 use Rattle.std.proofs.lemmas.List.Sums.{sum_by_push}
 use Rattle.std.proofs.lemmas.List.Elements.{All-take, All-get_or}
 
@@ -24,3 +24,33 @@ module _ {X : Type 0} (xs : List X) (m : ℕ) (d : X) (some : 0 < m) (room : m �
 -- one more after the first m
 pub take_grown : {X : Type 0} (xs : List X) (m : ℕ) (y : X) → m < length xs → take (m + 1) (set xs m y) ≡ take m xs ++ y ∷ []
 take_grown xs m y more = take_more_set xs m y more
+
+-- A row in two parts, of which the first ends with the frame that is written.
+module _ {X : Type 0} (xs low high : List X) (m : ℕ) (y : X) (parts : xs ≡ low ++ high) (front : length low ≡ m + 1) where
+  within : m < length (set low m y)
+  within = omega (arith, length-set low m y, front)
+
+  front_kept : take m low ≡ take m xs
+  front_kept = sym (take-append-le m low high (omega (arith, front))) ∙ ap (take m) (sym parts)
+
+  -- it was the same in the whole row
+  pub top_is : (d : X) → get_or low m d ≡ get_or xs m d
+  top_is d = sym (get_or-append low high d m (omega (arith, front))) ∙ ap (λ zs. get_or zs m d) (sym parts)
+
+  pub joined : set low m y ++ high ≡ set xs m y
+  joined = sym (set-append_left low high m y (omega (arith, front))) ∙ ap (λ zs. set zs m y) (sym parts)
+
+  -- where the second part was written, too
+  module _ (other : List X) (d : X) where
+    pub below_joined : take m (set low m y ++ other) ≡ take m xs
+    below_joined = take-append-le m (set low m y) other (omega (arith, within)) ∙ take-set low m y ∙ front_kept
+
+    pub grown_joined : take (m + 1) (set low m y ++ other) ≡ take m xs ++ y ∷ []
+    grown_joined =
+        take-append-le (m + 1) (set low m y) other (omega (arith, within)) ∙ take_more_set low m y (omega (arith, front)) ∙ ap (λ zs. zs ++ y ∷ []) front_kept
+
+    pub top_joined : get_or (set low m y ++ other) m d ≡ y
+    top_joined = get_or-append (set low m y) other d m within ∙ get_or-set_same low m y d (omega (arith, front))
+
+    pub next_joined : get_or (set low m y ++ other) (m + 1) d ≡ get_or other 0 d
+    next_joined = let e : length (set low m y) + 0 ≡ m + 1 = omega (arith, length-set low m y, front) in rw e at (get_or-append-add (set low m y) other 0 d)

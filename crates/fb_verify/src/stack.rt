@@ -338,57 +338,55 @@ impl<'s, 'n> Walk<'s, 'n> {
         }
     }
 
-    /// Passes fields of a table that was opened below this frame: the table's frame where a field leads on, and none where the
-    /// table is passed to its end, so that the walk goes on in the frame above.
+    /// Opens the frame of a table that was opened below another frame, and passes its fields until one leads on. Answers
+    /// whether one does; else the table is passed to its end, so that the walk goes on in the frame above.
     #[inline(always)]
     fn pass_below(
         &self,
         meter: &mut Meter<'_>,
         above: &Frame,
         table: Table,
-    ) -> Result<Option<Frame>, Stop>
+        below: &mut Frame,
+    ) -> Result<bool, Stop>
         ghost under: { Waiting }
         requires walking { IsWalking self.now meter.old under.start under.frames (opened table) }
         requires few { meter.old.count < 2 ^ 96 }
-        ensures leads { IfOk result (λ o. IfSome o (λ frame. IsWalking self.now meter.new under.start under.frames frame)) }
-        ensures ends { IfOk result (λ o. o ≡ None → (rest : List Frame) → under.frames ≡ rest ++ above.now ∷ [] → IsWalking self.now meter.new under.start rest above.now) }
-        ensures falls { IfOk result (λ o. MatchOption o
-            (meter.new.count ≤ meter.old.count + frame_work self.now.schema.now (opened table))
-            (λ frame. meter.new.count + frame_work self.now.schema.now frame ≤ meter.old.count + frame_work self.now.schema.now (opened table))) }
+        ensures leads { IfOk result (λ more. more ≡ true → IsWalking self.now meter.new under.start under.frames below.new) }
+        ensures ends { IfOk result (λ more. more ≡ false → (rest : List Frame) → under.frames ≡ rest ++ above.now ∷ [] → IsWalking self.now meter.new under.start rest above.now) }
+        ensures least { IfOk result (λ more. more ≡ false → meter.new.count ≤ meter.old.count + frame_work self.now.schema.now (opened table)) }
+        ensures falls { IfOk result (λ more. more ≡ true → meter.new.count + frame_work self.now.schema.now below.new ≤ meter.old.count + frame_work self.now.schema.now (opened table)) }
         ensures grows { IfOk result (λ _. meter.old.count ≤ meter.new.count) }
         ensures bytes { meter.new.bytes ≡ meter.old.bytes }
         ensures err { IfErr result (λ s. IsStopped self.now meter.old under.start (stopped s meter.new.count)) }
     {
         // Only the contract speaks of the frame above.
         let _above = above;
-        let mut below = Frame::opened(table);
-        if !self.pass_fields(meter, &mut below)? {
-            return Ok(None);
-        }
-        Ok(Some(below))
+        *below = Frame::opened(table);
+        self.pass_fields(meter, below)
     }
 
     /// Passes offset words that are left of the top table's field, each with all that it leads to, until one leads to a table
-    /// with a field that leads on in its turn: that table's frame. So many frames wait below the top.
+    /// with a field that leads on in its turn, and answers whether one does: the frame of that table is the first of the room
+    /// then. So many frames wait below the top.
     #[inline(always)]
     fn pass_elements(
         &mut self,
         meter: &mut Meter<'_>,
         waiting: u32,
         top: &mut Frame,
-    ) -> Result<Option<Frame>, Stop>
+        room: &mut [Frame],
+    ) -> Result<bool, Stop>
         ghost under: { Waiting }
         requires waiting { waiting ≡ length under.frames }
         requires walking { IsWalking self.old meter.old under.start under.frames top.old }
         requires leads { 0 < (top.old.row).left }
+        requires room { (self.old.limits).depth ≤ waiting + 1 + length room.old }
         requires few { meter.old.count + work self.old.schema.now self.old.limits under.frames top.old self.old.tables ≤ 2 ^ 95 }
         ensures same { IfOk result (λ _. self.new ≡ record self.old { tables = self.new.tables; deepest = self.new.deepest }) }
-        ensures walking { IfOk result (λ o. MatchOption o
-            (IsWalking self.new meter.new under.start under.frames top.new)
-            (λ frame. IsWalking self.new meter.new under.start (under.frames ++ top.new ∷ []) frame)) }
-        ensures falls { IfOk result (λ o. MatchOption o
-            (meter.new.count + work self.old.schema.now self.old.limits under.frames top.new self.new.tables < meter.old.count + work self.old.schema.now self.old.limits under.frames top.old self.old.tables)
-            (λ frame. meter.new.count + work self.old.schema.now self.old.limits (under.frames ++ top.new ∷ []) frame self.new.tables < meter.old.count + work self.old.schema.now self.old.limits under.frames top.old self.old.tables)) }
+        ensures over { IfOk result (λ more. more ≡ false → IsWalking self.new meter.new under.start under.frames top.new) }
+        ensures leads { IfOk result (λ more. more ≡ true → IsWalking self.new meter.new under.start (under.frames ++ top.new ∷ []) (slice_index_or room.new 0 blank)) }
+        ensures least { IfOk result (λ more. more ≡ false → meter.new.count + work self.old.schema.now self.old.limits under.frames top.new self.new.tables < meter.old.count + work self.old.schema.now self.old.limits under.frames top.old self.old.tables) }
+        ensures falls { IfOk result (λ more. more ≡ true → meter.new.count + work self.old.schema.now self.old.limits (under.frames ++ top.new ∷ []) (slice_index_or room.new 0 blank) self.new.tables < meter.old.count + work self.old.schema.now self.old.limits under.frames top.old self.old.tables) }
         ensures grows { IfOk result (λ _. meter.old.count ≤ meter.new.count) }
         ensures bytes { meter.new.bytes ≡ meter.old.bytes }
         ensures err { IfErr result (λ s. IsStopped self.old meter.old under.start (stopped s meter.new.count)) }
@@ -400,12 +398,12 @@ impl<'s, 'n> Walk<'s, 'n> {
                 top.row.advance();
                 let site = top.site();
                 let table = self.open_table(meter, waiting + 1, site, child)?;
-                if let Some(below) = self.pass_below(meter, top, table)? {
-                    return Ok(Some(below));
+                if self.pass_below(meter, top, table, &mut room[0])? {
+                    return Ok(true);
                 }
             }
         }
-        Ok(None)
+        Ok(false)
     }
 
     /// One step of the walk: goes on in the top table to a table below it, which becomes the top, or to its end, where the
@@ -436,18 +434,18 @@ impl<'s, 'n> Walk<'s, 'n> {
     {
         let _schema = self.schema;
         let at = waiting as usize;
-        let top = &mut frames[at];
+        let (low, room) = frames.split_at_mut(at + 1);
+        let top = &mut low[at];
         if top.row.left == 0 && !self.pass_fields(meter, top)? {
             if waiting == 0 {
                 return Ok(None);
             }
             return Ok(Some(waiting - 1));
         }
-        let Some(below) = self.pass_elements(meter, waiting, top)? else {
-            return Ok(Some(waiting));
-        };
-        frames[at + 1] = below;
-        Ok(Some(waiting + 1))
+        if self.pass_elements(meter, waiting, top, room)? {
+            return Ok(Some(waiting + 1));
+        }
+        Ok(Some(waiting))
     }
 
     /// Walks a table and all below it, over these frames.

@@ -1,9 +1,16 @@
+use Rattle.std.proofs.Common.{Bool, Result, Ok, Err, IfOk}
 use Rattle.fb_verify.proofs.Walking.{table_closed}
 use Rattle.fb_verify.proofs.stack.Walk.pass_below.Goals as goal
 
-pub returns-then-not-branch-clause-ends : goal.returns-then-not-branch-clause-ends
-returns-then-not-branch-clause-ends g c _ rest above =
+-- what follows of an answer from three things that are said of it
+of_three : {E : Type 0} (r : Result Bool E) (P Q R X : Bool → Type 0) → ((b : Bool) → P b → Q b → R b → X b) → IfOk r P → IfOk r Q → IfOk r R → IfOk r X
+of_three (Ok b) P Q R X f p q r = f b p q r
+of_three (Err e) P Q R X f p q r = tt
+
+pub returns-clause-ends : goal.returns-clause-ends
+returns-clause-ends g c =
     let m = c.pass_fields.new.meter in
     let w = c.args.self.now in
-    let e = c.in_ok-pass_fields.ensures in
-    table_closed w.checks m.bytes w.schema.now w.limits (g.under).start (g.under).frames c.pass_fields.new.top w.tables w.deepest m.count e.walking rest c.args.above.now above (e.rests c.if-not-branch.true) (e.all c.if-not-branch.true)
+    let e = c.pass_fields.ensures in
+    of_three c.pass_fields.result _ _ _ _ (λ more walking rests all ended rest above.
+    table_closed w.checks m.bytes w.schema.now w.limits (g.under).start (g.under).frames c.pass_fields.new.top w.tables w.deepest m.count walking rest c.args.above.now above (rests ended) (all ended)) e.walking e.rests e.all

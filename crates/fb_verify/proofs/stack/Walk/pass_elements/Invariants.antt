@@ -1,4 +1,4 @@
-use Rattle.std.proofs.Common.{◌≡◌, ◌+◌, ◌<◌, ◌≤◌, [], ◌∷◌, ◌++◌}
+use Rattle.std.proofs.Common.{◌≡◌, ◌+◌, ◌<◌, ◌≤◌, [], ◌∷◌, ◌++◌, length}
 use Rattle.fb_verify.specs.Stack.{IsWalking, work}
 use Rattle.fb_verify.proofs.stack.Walk.pass_elements.Given as goal
 
@@ -15,6 +15,7 @@ invariant-loop-top g l = record {
   budget : l.meter.count + work l.fn.self.schema.now l.fn.self.limits (g.under).frames l.top l.self.tables ≤ l.fn.meter.count + work l.fn.self.schema.now l.fn.self.limits (g.under).frames l.fn.top l.fn.self.tables;
   began : (l.top.row).left ≡ 0 → l.meter.count + work l.fn.self.schema.now l.fn.self.limits (g.under).frames l.top l.self.tables < l.fn.meter.count + work l.fn.self.schema.now l.fn.self.limits (g.under).frames l.fn.top l.fn.self.tables;
   grows : l.fn.meter.count ≤ l.meter.count;
+  room : length l.room ≡ length l.fn.room;
 }
 
 abbrev pub decreases-loop-top : goal.decreases-loop-top
