@@ -1,5 +1,5 @@
 -- A run that was asked for, or wasn't.
-use Rattle.std.proofs.Common.{ℕ, Bool, List, Option, Result, Ok, Err, IfErr}
+use Rattle.std.proofs.Common.{ℕ, Bool, List, Option, Result, Ok, Err, IfErr, refl}
 use mathlib.Core.Logic.{inl, inr}
 use Rattle.std.specs.Borrow.{Bor}
 use Rattle.std.proofs.KnownBytes.{Keeps-refl}
@@ -10,39 +10,40 @@ use Rattle.fbcheck.specs.Texts.{Texts}
 use Rattle.fbcheck.specs.Bare.{FailsBare}
 use Rattle.fbcheck.specs.Stream.{Rests}
 use Rattle.fbcheck.specs.Run.{IsRunBeside, IsRunFrom}
+use Rattle.fbcheck.specs.Sums.{no_tally}
 use Rattle.fbcheck.specs.Faults.{IsCaused}
 use Rattle.fbcheck.specs.Checking.{Asks, IsCheckedBeside, IsRefusal, LacksJob}
 use Rattle.fbcheck.specs.declared.choices.Settings.{Settings}
 use Rattle.fbcheck.specs.declared.fault.RunFault.{RunFault}
 use Rattle.fbcheck.specs.declared.fault.RunFault.TheVariants as run
-use Rattle.fbcheck.specs.declared.output.Tally.{Tally}
+use Rattle.fbcheck.specs.declared.tally.Tally.{Tally}
 
 -- a run never comes to rest for want of a schema, a root or a path
-refused_bare : (job : Job) (limit : ℕ) (r r' s s' n n' : Option (List ℕ)) (fault : RunFault) → IsRefusal fault → FailsBare job limit r r' s s' n n' fault → ⊥
-refused_bare job limit r r' s s' n n' run.NoRoot refusal (bytes, read, why) = why
-refused_bare job limit r r' s s' n n' (run.Load cause) refusal (bytes, read, why) = why
-refused_bare job limit r r' s s' n n' (run.Path cause) refusal (bytes, read, why) = why
-refused_bare job limit r r' s s' n n' _ refusal fails = refusal
+refused_bare : (job : Job) (limit : ℕ) (r r' s s' n n' : Option (List ℕ)) (t : Tally) (fault : RunFault) → IsRefusal fault → FailsBare job limit r r' s s' n n' t fault → ⊥
+refused_bare job limit r r' s s' n n' t run.NoRoot refusal (bytes, read, why) = why
+refused_bare job limit r r' s s' n n' t (run.Load cause) refusal (bytes, read, why) = why
+refused_bare job limit r r' s s' n n' t (run.Path cause) refusal (bytes, read, why) = why
+refused_bare job limit r r' s s' n n' t _ refusal fails = refusal
 
-refused_rest : (job : Job) (limit : ℕ) (bytes : List ℕ) (text : Texts) (fault : RunFault) → IsRefusal fault → Rests job limit bytes text fault → ⊥
-refused_rest job limit bytes text run.NoRoot refusal (messages, rest, splits, why) = why
-refused_rest job limit bytes text (run.Load cause) refusal (messages, rest, splits, why) = why
-refused_rest job limit bytes text (run.Path cause) refusal (messages, rest, splits, why) = why
-refused_rest job limit bytes text _ refusal rests = refusal
+refused_rest : (job : Job) (limit : ℕ) (bytes : List ℕ) (text : Texts) (t : Tally) (fault : RunFault) → IsRefusal fault → Rests job limit bytes text t fault → ⊥
+refused_rest job limit bytes text t run.NoRoot refusal (messages, rest, splits, why) = why
+refused_rest job limit bytes text t (run.Load cause) refusal (messages, rest, splits, why) = why
+refused_rest job limit bytes text t (run.Path cause) refusal (messages, rest, splits, why) = why
+refused_rest job limit bytes text t _ refusal rests = refusal
 
-refused : (from : Start) (job : Job) (r r' s s' n n' : Option (List ℕ)) (fault : RunFault) → IsRefusal fault → IsRunFrom from job r r' s s' n n' (Err fault) → ⊥
-refused start.Bare job r r' s s' n n' fault refusal ran = refused_bare job job.limit r r' s s' n n' fault refusal ran
-refused start.Prefixed job r r' s s' n n' fault refusal ran = refused_rest job job.limit ran.bytes ran.text fault refusal ran.rests
+refused : (from : Start) (job : Job) (r r' s s' n n' : Option (List ℕ)) (t : Tally) (fault : RunFault) → IsRefusal fault → IsRunFrom from job r r' s s' n n' t (Err fault) → ⊥
+refused start.Bare job r r' s s' n n' t fault refusal ran = refused_bare job job.limit r r' s s' n n' t fault refusal ran
+refused start.Prefixed job r r' s s' n n' t fault refusal ran = refused_rest job job.limit ran.bytes ran.text t fault refusal ran.rests
 
-pub never_refused : (P : Type 0) (job : Job) (r r' s s' n n' : Option (List ℕ)) (answer : Result Tally RunFault) → IsRunBeside job r r' s s' n n' answer
+pub never_refused : (P : Type 0) (job : Job) (r r' s s' n n' : Option (List ℕ)) (t : Tally) (answer : Result Tally RunFault) → IsRunBeside job r r' s s' n n' t answer
     → IfErr answer (λ fault. IsRefusal fault → P)
-never_refused P job r r' s s' n n' (Ok tally) ran = tt
-never_refused P job r r' s s' n n' (Err fault) ran = λ refusal. absurd (refused job.start job r r' s s' n n' fault refusal ran)
+never_refused P job r r' s s' n n' t (Ok tally) ran = tt
+never_refused P job r r' s s' n n' t (Err fault) ran = λ refusal. absurd (refused job.start job r r' s s' n n' t fault refusal ran)
 
 module _ (file : Option (Bor (List ℕ))) (settings : Settings) where
   -- where nothing was asked for, nothing was read or written
-  pub unasked : (r s n : Option (List ℕ)) (fault : RunFault) → LacksJob file settings fault → IsCheckedBeside file settings r r s s n n (Err fault)
-  unasked r s n run.OutOfMemory lacks = inl (Keeps-refl r, Keeps-refl s, Keeps-refl n)
+  pub unasked : (r s n : Option (List ℕ)) (fault : RunFault) → LacksJob file settings fault → IsCheckedBeside file settings r r s s n n no_tally (Err fault)
+  unasked r s n run.OutOfMemory lacks = inl (Keeps-refl r, Keeps-refl s, Keeps-refl n, refl)
   unasked r s n (run.Load cause) lacks = lacks
   unasked r s n (run.Path cause) lacks = lacks
   unasked r s n run.NoRoot lacks = lacks
@@ -56,11 +57,11 @@ module _ (file : Option (Bor (List ℕ))) (settings : Settings) where
   unasked_cause n m k left ended _ lacks = absurd lacks.3
 
   -- a run by the job that was asked for
-  pub checked : (job : Job) (r r' s s' n n' : Option (List ℕ)) (answer : Result Tally RunFault) → Asks file settings (Ok job) → IsRunBeside job r r' s s' n n' answer
-      → IsCheckedBeside file settings r r' s s' n n' answer
-  checked job r r' s s' n n' (Ok tally) asks ran = (job, asks, ran)
-  checked job r r' s s' n n' (Err run.OutOfMemory) asks ran = inr (job, asks, ran)
-  checked job r r' s s' n n' (Err (run.Load cause)) asks ran = absurd (refused job.start job r r' s s' n n' (run.Load cause) tt ran)
-  checked job r r' s s' n n' (Err (run.Path cause)) asks ran = absurd (refused job.start job r r' s s' n n' (run.Path cause) tt ran)
-  checked job r r' s s' n n' (Err run.NoRoot) asks ran = absurd (refused job.start job r r' s s' n n' run.NoRoot tt ran)
-  checked job r r' s s' n n' (Err _) asks ran = (job, asks, ran)
+  pub checked : (job : Job) (r r' s s' n n' : Option (List ℕ)) (t : Tally) (answer : Result Tally RunFault) → Asks file settings (Ok job) → IsRunBeside job r r' s s' n n' t answer
+      → IsCheckedBeside file settings r r' s s' n n' t answer
+  checked job r r' s s' n n' t (Ok tally) asks ran = (job, asks, ran)
+  checked job r r' s s' n n' t (Err run.OutOfMemory) asks ran = inr (job, asks, ran)
+  checked job r r' s s' n n' t (Err (run.Load cause)) asks ran = absurd (refused job.start job r r' s s' n n' t (run.Load cause) tt ran)
+  checked job r r' s s' n n' t (Err (run.Path cause)) asks ran = absurd (refused job.start job r r' s s' n n' t (run.Path cause) tt ran)
+  checked job r r' s s' n n' t (Err run.NoRoot) asks ran = absurd (refused job.start job r r' s s' n n' t run.NoRoot tt ran)
+  checked job r r' s s' n n' t (Err _) asks ran = (job, asks, ran)

@@ -14,5 +14,6 @@ mod RunLemmas
 mod ServingLemmas
 mod Shown
 mod StreamLemmas
+mod SumsLemmas
 mod TextsLemmas
 mod WordsLemmas

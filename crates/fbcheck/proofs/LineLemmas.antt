@@ -9,7 +9,7 @@ pub drop_whole : (room : List ℕ) (n : ℕ) → length room ≡ n → drop n ro
 drop_whole room n long = drop_of_length-le room (omega (arith, long))
 
 -- twenty places are room for a number of 64 bits
-pub digits_fit : (line room : List ℕ) (number start : ℕ) → line ≡ drop start room → length room ≡ 192 → start ≤ 192 → length line + 20 ≤ 192 → number < 2 ^ 64
+pub digits_fit : (line room : List ℕ) (number start : ℕ) → line ≡ drop start room → length room ≡ 640 → start ≤ 640 → length line + 20 ≤ 640 → number < 2 ^ 64
     → length (decimal number) ≤ start
 digits_fit line room number start is long within free bits =
     let digits = length-decimal-le 20 number (omega arith) (omega arith) bits in

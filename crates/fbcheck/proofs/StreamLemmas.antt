@@ -13,6 +13,8 @@ use Rattle.fbcheck.specs.Job.{Job}
 use Rattle.fbcheck.specs.Lines.{AreTold, AddsTold}
 use Rattle.fbcheck.specs.Stream.{Gathers, Halts, IsFeedFault, Onward, Rests, Standing, Tells, TellsSome}
 use Rattle.fbcheck.specs.Texts.{Texts, followed, silent}
+use Rattle.fbcheck.specs.Sums.{no_tally}
+use Rattle.fbcheck.specs.declared.tally.Tally.{Tally}
 use Rattle.fbcheck.specs.Faults.{feed_fault}
 use Rattle.fbcheck.specs.declared.fault.RunFault.{RunFault}
 use Rattle.fbcheck.specs.declared.fault.RunFault.TheVariants as run
@@ -46,56 +48,56 @@ splits_one limit m is = record {
   last = inl (empty_partial limit);
 }
 
-pub tells_nothing : (job : Job) (limit : ℕ) → Tells job limit [] silent 0 0 []
-tells_nothing job limit = ([], splits_rest limit [] (inl (empty_partial limit)), (refl, refl, refl))
+pub tells_nothing : (job : Job) (limit : ℕ) → Tells job limit [] silent no_tally []
+tells_nothing job limit = ([], splits_rest limit [] (inl (empty_partial limit)), (refl, refl))
 
 -- more bytes are held
-tells_held : (job : Job) (limit good bad : ℕ) (bytes more held held' : List ℕ) (text : Texts) → held' ≡ held ++ more → IsPartial limit held'
-    → Tells job limit bytes text good bad held → Tells job limit (bytes ++ more) text good bad held'
-tells_held job limit good bad bytes more held held' text is part (xs, splits, lines) =
+tells_held : (job : Job) (limit : ℕ) (tally : Tally) (bytes more held held' : List ℕ) (text : Texts) → held' ≡ held ++ more → IsPartial limit held'
+    → Tells job limit bytes text tally held → Tells job limit (bytes ++ more) text tally held'
+tells_held job limit tally bytes more held held' text is part (xs, splits, lines) =
     let behind : Splits limit (held ++ more) [] held' = subst (λ (l : List ℕ). Splits limit l [] held') is (splits_rest limit held' (inl part)) in
     (xs, subst (λ (l : List (List ℕ)). Splits limit (bytes ++ more) l held') (append-nil xs) (splits_then limit bytes more held held' xs [] splits behind), lines)
 
 -- a message was whole and got its line
-pub tells_line : (job : Job) (limit good bad good' bad' : ℕ) (bytes more held message : List ℕ) (text text' : Texts) → message ≡ held ++ more → IsMessage limit message
-    → AddsTold job (1 + (good + bad)) message text good bad text' good' bad' → (written : Texts)
-    → Tells job limit bytes (followed written text) good bad held → Tells job limit (bytes ++ more) (followed written text') good' bad' []
-tells_line job limit good bad good' bad' bytes more held message text text' at is adds written (xs, splits, lines) =
+pub tells_line : (job : Job) (limit : ℕ) (tally tally' : Tally) (bytes more held message : List ℕ) (text text' : Texts) → message ≡ held ++ more → IsMessage limit message
+    → AddsTold job (1 + (tally.yes + tally.no)) message text tally text' tally' → (written : Texts)
+    → Tells job limit bytes (followed written text) tally held → Tells job limit (bytes ++ more) (followed written text') tally' []
+tells_line job limit tally tally' bytes more held message text text' at is adds written (xs, splits, lines) =
     let one : Splits limit (held ++ more) (message ∷ []) [] = subst (λ (l : List ℕ). Splits limit l (message ∷ []) []) at (splits_one limit message is) in
     let whole : text' ≡ followed text adds.line = same_texts _ _ _ _ adds.out_is adds.notes_are in
     let grown : followed (followed written text) adds.line ≡ followed written text' = followed_assoc written text adds.line ∙ ap (λ l. followed written l) (sym whole) in (
       xs ++ message ∷ [],
       splits_then limit bytes more held [] xs (message ∷ []) splits one,
-      subst (λ (l : Texts). AreTold job 1 (xs ++ message ∷ []) l good' bad') grown
-          (lines_more job xs message (followed written text) adds.line good bad good' bad' adds.verdict adds.yes_is adds.no_is lines adds.is_line),
+      subst (λ (l : Texts). AreTold job 1 (xs ++ message ∷ []) l tally') grown
+          (lines_more job xs message (followed written text) adds.line tally tally' adds.verdict adds.tally_is lines adds.is_line),
     )
 
 -- what was told is that of the first messages, whatever comes
-tells_some : (job : Job) (limit good bad : ℕ) (bytes more held : List ℕ) (text : Texts) → Tells job limit bytes text good bad held → TellsSome job limit (bytes ++ more) text
-tells_some job limit good bad bytes more held text (xs, splits, lines) =
+tells_some : (job : Job) (limit : ℕ) (tally : Tally) (bytes more held : List ℕ) (text : Texts) → Tells job limit bytes text tally held → TellsSome job limit (bytes ++ more) text tally
+tells_some job limit tally bytes more held text (xs, splits, lines) =
     let further = readings_some limit (held ++ more) in
-    (xs ++ further.0, further.1, xs, further.0, splits_then limit bytes more held further.1 xs further.0 splits further.2, refl, (good, bad, lines))
+    (xs ++ further.0, further.1, xs, further.0, splits_then limit bytes more held further.1 xs further.0 splits further.2, refl, lines)
 
 -- no memory was left
-pub rests_memory : (job : Job) (limit good bad : ℕ) (bytes more held : List ℕ) (text : Texts) → Tells job limit bytes text good bad held → Rests job limit (bytes ++ more) text run.OutOfMemory
-rests_memory job limit good bad bytes more held text tells =
-    let some = tells_some job limit good bad bytes more held text tells in
+pub rests_memory : (job : Job) (limit : ℕ) (tally : Tally) (bytes more held : List ℕ) (text : Texts) → Tells job limit bytes text tally held → Rests job limit (bytes ++ more) text tally run.OutOfMemory
+rests_memory job limit tally bytes more held text tells =
+    let some = tells_some job limit tally bytes more held text tells in
     (some.0, some.1, some.4, some)
 
 -- the framer failed at a piece
 pub halts_feed : (job : Job) (before : Standing) (old new : Framing) (piece : List ℕ) (fault : StreamFault) (told : RunFault) → old.limit ≡ job.limit → old.held ≡ before.held
-    → told ≡ feed_fault fault → FeedFails old new piece fault → Halts job before piece before.text told
+    → told ≡ feed_fault fault → FeedFails old new piece fault → Halts job before piece before.text before.tally told
 halts_feed job before old new piece (stream.Oversize number) told limit held is refused bytes written (xs, splits, lines) =
     let over : IsOversize job.limit (before.held ++ piece) =
     subst (λ (n : ℕ). IsOversize n (before.held ++ piece)) limit (subst (λ (l : List ℕ). IsOversize old.limit (l ++ piece)) held refused.oversize) in
     let whole : Splits job.limit (bytes ++ piece) xs (before.held ++ piece) =
     subst (λ (l : List (List ℕ)). Splits job.limit (bytes ++ piece) l (before.held ++ piece)) (append-nil xs)
     (splits_then job.limit bytes piece before.held (before.held ++ piece) xs [] splits (splits_rest job.limit (before.held ++ piece) (inr over))) in
-    subst (Rests job job.limit (bytes ++ piece) (followed written before.text)) (sym is)
-    (xs, before.held ++ piece, whole, (over, refused.number ∙ ap (λ l. declared (l ++ piece)) held, (before.good, before.bad, lines)))
+    subst (Rests job job.limit (bytes ++ piece) (followed written before.text) before.tally) (sym is)
+    (xs, before.held ++ piece, whole, (over, refused.number ∙ ap (λ l. declared (l ++ piece)) held, lines))
 halts_feed job before old new piece stream.OutOfMemory told limit held is starved bytes written tells =
-    subst (Rests job job.limit (bytes ++ piece) (followed written before.text)) (sym is)
-    (rests_memory job job.limit before.good before.bad bytes piece before.held (followed written before.text) tells)
+    subst (Rests job job.limit (bytes ++ piece) (followed written before.text) before.tally) (sym is)
+    (rests_memory job job.limit before.tally bytes piece before.held (followed written before.text) tells)
 halts_feed job before old new piece (stream.Truncated held) told limit same is never bytes written tells = absurd never
 halts_feed job before old new piece stream.Failed told limit held is never bytes written tells = absurd never
 
@@ -106,34 +108,34 @@ feed_kind old new piece (stream.Truncated held) told is never = absurd never
 feed_kind old new piece stream.Failed told is never = absurd never
 
 -- there was no memory for a line
-pub halts_memory : (job : Job) (before : Standing) (piece : List ℕ) (text : Texts) → text ≡ before.text → Halts job before piece text run.OutOfMemory
-halts_memory job before piece text same bytes written tells =
-    rests_memory job job.limit before.good before.bad bytes piece before.held (followed written text)
-    (subst (λ (l : Texts). Tells job job.limit bytes (followed written l) before.good before.bad before.held) (sym same) tells)
+pub halts_memory : (job : Job) (before : Standing) (piece : List ℕ) (text : Texts) (tally : Tally) → text ≡ before.text → tally ≡ before.tally → Halts job before piece text tally run.OutOfMemory
+halts_memory job before piece text tally same counted bytes written tells =
+    rests_memory job job.limit tally bytes piece before.held (followed written text)
+    (subst (λ (l : Texts). Tells job job.limit bytes (followed written l) tally before.held) (sym same)
+    (subst (λ (t : Tally). Tells job job.limit bytes (followed written before.text) t before.held) (sym counted) tells))
 
 -- the front of a piece was fed, and no message was whole
 pub onward_partial : (job : Job) (before after : Standing) (old new : Framing) (piece : List ℕ) (used : ℕ) (whole : Bool) → old.limit ≡ job.limit → old.held ≡ before.held
-    → Feeds old new piece used whole → IsPartial new.limit new.held → new.held ≡ after.held → after.text ≡ before.text → after.good ≡ before.good → after.bad ≡ before.bad
+    → Feeds old new piece used whole → IsPartial new.limit new.held → new.held ≡ after.held → after.text ≡ before.text → after.tally ≡ before.tally
     → Onward job before (take used piece) after
-onward_partial job before after old new piece used whole limit held feeds part is same gs bs bytes written tells =
+onward_partial job before after old new piece used whole limit held feeds part is same counted bytes written tells =
     let grown : after.held ≡ before.held ++ take used piece = sym is ∙ feeds.held ∙ ap (λ l. l ++ take used piece) held in
     let part' : IsPartial job.limit after.held = subst (IsPartial job.limit) is (subst (λ (n : ℕ). IsPartial n new.held) (feeds.limit ∙ limit) part) in
-    let more = tells_held job job.limit before.good before.bad bytes (take used piece) before.held after.held (followed written before.text) grown part' tells in
-    subst (λ (l : Texts). Tells job job.limit (bytes ++ take used piece) (followed written l) after.good after.bad after.held) (sym same)
-    (subst (λ (n : ℕ). Tells job job.limit (bytes ++ take used piece) (followed written before.text) n after.bad after.held) (sym gs)
-    (subst (λ (n : ℕ). Tells job job.limit (bytes ++ take used piece) (followed written before.text) before.good n after.held) (sym bs) more))
+    let more = tells_held job job.limit before.tally bytes (take used piece) before.held after.held (followed written before.text) grown part' tells in
+    subst (λ (l : Texts). Tells job job.limit (bytes ++ take used piece) (followed written l) after.tally after.held) (sym same)
+    (subst (λ (t : Tally). Tells job job.limit (bytes ++ take used piece) (followed written before.text) t after.held) (sym counted) more)
 
 -- bytes came by which a message was whole, and it got its line
 pub onward_message : (job : Job) (before after : Standing) (piece message : List ℕ) → message ≡ before.held ++ piece → IsMessage job.limit message → after.held ≡ []
-    → AddsTold job (1 + (before.good + before.bad)) message before.text before.good before.bad after.text after.good after.bad → Onward job before piece after
+    → AddsTold job (1 + (before.tally.yes + before.tally.no)) message before.text before.tally after.text after.tally → Onward job before piece after
 onward_message job before after piece message at is gone adds bytes written tells =
-    subst (λ (l : List ℕ). Tells job job.limit (bytes ++ piece) (followed written after.text) after.good after.bad l) (sym gone)
-    (tells_line job job.limit before.good before.bad after.good after.bad bytes piece before.held message before.text after.text at is adds written tells)
+    subst (λ (l : List ℕ). Tells job job.limit (bytes ++ piece) (followed written after.text) after.tally l) (sym gone)
+    (tells_line job job.limit before.tally after.tally bytes piece before.held message before.text after.text at is adds written tells)
 
 -- the framer came to hold it
 pub onward_line : (job : Job) (before after : Standing) (old new : Framing) (piece message : List ℕ) (used : ℕ) (whole : Bool) → old.limit ≡ job.limit → old.held ≡ before.held
     → Feeds old new piece used whole → message ≡ new.held → IsMessage new.limit new.held → after.held ≡ []
-    → AddsTold job (1 + (before.good + before.bad)) message before.text before.good before.bad after.text after.good after.bad → Onward job before (take used piece) after
+    → AddsTold job (1 + (before.tally.yes + before.tally.no)) message before.text before.tally after.text after.tally → Onward job before (take used piece) after
 onward_line job before after old new piece message used whole limit held feeds at is gone adds =
     let is' : IsMessage job.limit message = subst (λ (n : ℕ). IsMessage n message) (feeds.limit ∙ limit) (subst (IsMessage new.limit) (sym at) is) in
     onward_message job before after (take used piece) message (at ∙ feeds.held ∙ ap (λ l. l ++ take used piece) held) is' gone adds
@@ -145,7 +147,7 @@ HasPassed job before piece rest after = (front : List ℕ) × (piece ≡ front +
 -- at first nothing was
 pub passed_none : (job : Job) (before : Standing) (piece : List ℕ) → HasPassed job before piece piece before
 passed_none job before piece =
-    ([], refl, λ bytes written tells. subst (λ (l : List ℕ). Tells job job.limit l (followed written before.text) before.good before.bad before.held) (sym (append-nil bytes)) tells)
+    ([], refl, λ bytes written tells. subst (λ (l : List ℕ). Tells job job.limit l (followed written before.text) before.tally before.held) (sym (append-nil bytes)) tells)
 
 -- n bytes more
 pub passed_more : (job : Job) (before between after : Standing) (n : ℕ) (piece rest rest' : List ℕ) → rest' ≡ drop n rest
@@ -153,7 +155,7 @@ pub passed_more : (job : Job) (before between after : Standing) (n : ℕ) (piece
 passed_more job before between after n piece rest rest' is (front, whole, first) second = (
   front ++ take n rest,
   front-more piece front rest rest' n whole is,
-  λ bytes written tells. subst (λ (l : List ℕ). Tells job job.limit l (followed written after.text) after.good after.bad after.held) (append_assoc bytes front (take n rest))
+  λ bytes written tells. subst (λ (l : List ℕ). Tells job job.limit l (followed written after.text) after.tally after.held) (append_assoc bytes front (take n rest))
       (second (bytes ++ front) written (first bytes written tells)),
 )
 
@@ -163,33 +165,35 @@ onward_all job before after piece [] none (front, whole, onward) = subst (λ (l 
 onward_all job before after piece (x ∷ xs) none passed = absurd (omega arith)
 
 -- and then the run came to rest
-pub halts_after : (job : Job) (before after : Standing) (piece rest : List ℕ) (text : Texts) (fault : RunFault) → HasPassed job before piece rest after → Halts job after rest text fault
-    → Halts job before piece text fault
-halts_after job before after piece rest text fault (front, whole, first) second bytes written tells =
-    subst (λ (l : List ℕ). Rests job job.limit l (followed written text) fault) (append_assoc bytes front rest ∙ ap (λ l. bytes ++ l) (sym whole))
+pub halts_after : (job : Job) (before after : Standing) (piece rest : List ℕ) (text : Texts) (tally : Tally) (fault : RunFault) → HasPassed job before piece rest after → Halts job after rest text tally fault
+    → Halts job before piece text tally fault
+halts_after job before after piece rest text tally fault (front, whole, first) second bytes written tells =
+    subst (λ (l : List ℕ). Rests job job.limit l (followed written text) tally fault) (append_assoc bytes front rest ∙ ap (λ l. bytes ++ l) (sym whole))
     (second (bytes ++ front) written (first bytes written tells))
 
 -- a piece that was fed whole gathers lines
-pub gathers_onward : (job : Job) (before after : Standing) (piece : List ℕ) → Onward job before piece after → Gathers job before piece after.text
+pub gathers_onward : (job : Job) (before after : Standing) (piece : List ℕ) → Onward job before piece after → Gathers job before piece after.text after.tally
 gathers_onward job before after piece onward bytes written tells =
-    subst (λ (l : List ℕ). TellsSome job job.limit l (followed written after.text)) (append-nil (bytes ++ piece))
-    (tells_some job job.limit after.good after.bad (bytes ++ piece) [] after.held (followed written after.text) (onward bytes written tells))
+    subst (λ (l : List ℕ). TellsSome job job.limit l (followed written after.text) after.tally) (append-nil (bytes ++ piece))
+    (tells_some job job.limit after.tally (bytes ++ piece) [] after.held (followed written after.text) (onward bytes written tells))
 
-some_of : (job : Job) (limit : ℕ) (bytes : List ℕ) (text : Texts) (fault : RunFault) → IsFeedFault fault → Rests job limit bytes text fault → TellsSome job limit bytes text
-some_of job limit bytes text (run.Stream (stream.Oversize number)) kind (xs, rest, splits, (over, is, lines)) = (xs, rest, xs, [], splits, sym (append-nil xs), lines)
-some_of job limit bytes text run.OutOfMemory kind (xs, rest, splits, some) = some
-some_of job limit bytes text (run.Stream (stream.Truncated held)) kind rests = absurd kind
-some_of job limit bytes text (run.Stream stream.OutOfMemory) kind rests = absurd kind
-some_of job limit bytes text (run.Stream stream.Failed) kind rests = absurd kind
-some_of job limit bytes text run.ReadFault kind rests = absurd kind
-some_of job limit bytes text run.TooManyTurns kind rests = absurd kind
-some_of job limit bytes text (run.WriteFault written) kind rests = absurd kind
-some_of job limit bytes text (run.NoteFault written) kind rests = absurd kind
-some_of job limit bytes text (run.BareTooLong most) kind rests = absurd kind
-some_of job limit bytes text (run.Load fault) kind rests = absurd kind
-some_of job limit bytes text (run.Path fault) kind rests = absurd kind
-some_of job limit bytes text run.NoRoot kind rests = absurd kind
+some_of : (job : Job) (limit : ℕ) (bytes : List ℕ) (text : Texts) (tally : Tally) (fault : RunFault) → IsFeedFault fault → Rests job limit bytes text tally fault
+    → TellsSome job limit bytes text tally
+some_of job limit bytes text tally (run.Stream (stream.Oversize number)) kind (xs, rest, splits, (over, is, lines)) = (xs, rest, xs, [], splits, sym (append-nil xs), lines)
+some_of job limit bytes text tally run.OutOfMemory kind (xs, rest, splits, some) = some
+some_of job limit bytes text tally (run.Stream (stream.Truncated held)) kind rests = absurd kind
+some_of job limit bytes text tally (run.Stream stream.OutOfMemory) kind rests = absurd kind
+some_of job limit bytes text tally (run.Stream stream.Failed) kind rests = absurd kind
+some_of job limit bytes text tally run.ReadFault kind rests = absurd kind
+some_of job limit bytes text tally run.TooManyTurns kind rests = absurd kind
+some_of job limit bytes text tally (run.WriteFault written) kind rests = absurd kind
+some_of job limit bytes text tally (run.NoteFault written) kind rests = absurd kind
+some_of job limit bytes text tally (run.BareTooLong most) kind rests = absurd kind
+some_of job limit bytes text tally (run.Load fault) kind rests = absurd kind
+some_of job limit bytes text tally (run.Path fault) kind rests = absurd kind
+some_of job limit bytes text tally run.NoRoot kind rests = absurd kind
 
 -- so does one in which the run came to rest
-pub gathers_halts : (job : Job) (before : Standing) (piece : List ℕ) (text : Texts) (fault : RunFault) → IsFeedFault fault → Halts job before piece text fault → Gathers job before piece text
-gathers_halts job before piece text fault kind halts bytes written tells = some_of job job.limit (bytes ++ piece) (followed written text) fault kind (halts bytes written tells)
+pub gathers_halts : (job : Job) (before : Standing) (piece : List ℕ) (text : Texts) (tally : Tally) (fault : RunFault) → IsFeedFault fault → Halts job before piece text tally fault
+    → Gathers job before piece text tally
+gathers_halts job before piece text tally fault kind halts bytes written tells = some_of job job.limit (bytes ++ piece) (followed written text) tally fault kind (halts bytes written tells)

@@ -1,5 +1,5 @@
 -- What is told, one after another.
-use Rattle.std.proofs.Common.{◌≡◌, List, ℕ, [], ap, ◌∙◌, append-nil, append_assoc}
+use Rattle.std.proofs.Common.{◌≡◌, List, ℕ, ap, ◌∙◌, append-nil, append_assoc}
 use Rattle.fbcheck.specs.Texts.{Texts, followed, silent}
 
 abbrev both : List ℕ → List ℕ → Texts

@@ -13,10 +13,11 @@ use Rattle.fbcheck.specs.Asked.{AsksBy}
 use Rattle.fbcheck.specs.Job.{Job}
 use Rattle.fbcheck.specs.Prompt.{IsPrompt}
 use Rattle.fbcheck.specs.Run.{IsRunBeside}
+use Rattle.fbcheck.specs.Sums.{no_tally}
 use Rattle.fbcheck.specs.declared.choices.Settings.{Settings}
 use Rattle.fbcheck.specs.declared.fault.RunFault.{RunFault}
 use Rattle.fbcheck.specs.declared.fault.RunFault.TheVariants.{Load, NoRoot, OutOfMemory, Path}
-use Rattle.fbcheck.specs.declared.output.Tally.{Tally}
+use Rattle.fbcheck.specs.declared.tally.Tally.{Tally}
 
 -- the limits by which schema files are verified: the published ones, with a budget of reads
 abbrev pub schema_limits : Bounds
@@ -56,22 +57,22 @@ IsRefusal NoRoot = Unit {0}
 IsRefusal (Path fault) = Unit {0}
 IsRefusal _ = ⊥
 
--- what was read, written and noted by a run that was asked for and answered this
-abbrev pub RunsAsAsked : Option (Bor (List ℕ)) → Settings → Option (List ℕ) → Option (List ℕ) → Option (List ℕ) → Option (List ℕ) → Option (List ℕ) → Option (List ℕ) → Result Tally RunFault → Type 0
-RunsAsAsked file settings source source' sink sink' notes notes' answer = (job : Job) × Asks file settings (Ok job) × IsRunBeside job source source' sink sink' notes notes' answer
+-- what was read, written and noted by a run that was asked for and answered this, and what it came to before its fault
+abbrev pub RunsAsAsked : Option (Bor (List ℕ)) → Settings → Option (List ℕ) → Option (List ℕ) → Option (List ℕ) → Option (List ℕ) → Option (List ℕ) → Option (List ℕ) → Tally → Result Tally RunFault → Type 0
+RunsAsAsked file settings source source' sink sink' notes notes' so_far answer = (job : Job) × Asks file settings (Ok job) × IsRunBeside job source source' sink sink' notes notes' so_far answer
 
 -- the same where it may be that nothing was asked for, or that memory was refused before the run began
-abbrev pub IsCheckedBeside : Option (Bor (List ℕ)) → Settings → Option (List ℕ) → Option (List ℕ) → Option (List ℕ) → Option (List ℕ) → Option (List ℕ) → Option (List ℕ) → Result Tally RunFault → Type 0
-IsCheckedBeside file settings source source' sink sink' notes notes' (Err (Load fault)) = Asks file settings (Err (Load fault))
-IsCheckedBeside file settings source source' sink sink' notes notes' (Err NoRoot) = Asks file settings (Err NoRoot)
-IsCheckedBeside file settings source source' sink sink' notes notes' (Err (Path fault)) = Asks file settings (Err (Path fault))
-IsCheckedBeside file settings source source' sink sink' notes notes' (Err OutOfMemory) =
-    (Keeps source source' × Keeps sink sink' × Keeps notes notes') ⊎ RunsAsAsked file settings source source' sink sink' notes notes' (Err OutOfMemory)
-IsCheckedBeside file settings source source' sink sink' notes notes' answer = RunsAsAsked file settings source source' sink sink' notes notes' answer
+abbrev pub IsCheckedBeside : Option (Bor (List ℕ)) → Settings → Option (List ℕ) → Option (List ℕ) → Option (List ℕ) → Option (List ℕ) → Option (List ℕ) → Option (List ℕ) → Tally → Result Tally RunFault → Type 0
+IsCheckedBeside file settings source source' sink sink' notes notes' so_far (Err (Load fault)) = Asks file settings (Err (Load fault))
+IsCheckedBeside file settings source source' sink sink' notes notes' so_far (Err NoRoot) = Asks file settings (Err NoRoot)
+IsCheckedBeside file settings source source' sink sink' notes notes' so_far (Err (Path fault)) = Asks file settings (Err (Path fault))
+IsCheckedBeside file settings source source' sink sink' notes notes' so_far (Err OutOfMemory) =
+    (Keeps source source' × Keeps sink sink' × Keeps notes notes' × (so_far ≡ no_tally)) ⊎ RunsAsAsked file settings source source' sink sink' notes notes' so_far (Err OutOfMemory)
+IsCheckedBeside file settings source source' sink sink' notes notes' so_far answer = RunsAsAsked file settings source source' sink sink' notes notes' so_far answer
 
--- the same where no notes are known
+-- the same where no notes are known, nor what it came to before its fault
 abbrev pub IsChecked : Option (Bor (List ℕ)) → Settings → Option (List ℕ) → Option (List ℕ) → Option (List ℕ) → Option (List ℕ) → Result Tally RunFault → Type 0
-IsChecked file settings source source' sink sink' answer = IsCheckedBeside file settings source source' sink sink' None None answer
+IsChecked file settings source source' sink sink' answer = (so_far : Tally) × IsCheckedBeside file settings source source' sink sink' None None so_far answer
 
 -- all that was read by now is told, of a run that was asked for
 abbrev pub IsPromptAsAsked : Option (Bor (List ℕ)) → Settings → Option (List ℕ) → Option (List ℕ) → Option (List ℕ) → Option (List ℕ) → Option (List ℕ) → Option (List ℕ) → Type 0

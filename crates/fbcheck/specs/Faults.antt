@@ -8,7 +8,7 @@ use Rattle.fb_bytes.specs.declared.stream_fault.StreamFault.{StreamFault}
 use Rattle.fb_bytes.specs.declared.stream_fault.StreamFault.TheVariants as stream
 use Rattle.fbcheck.specs.declared.fault.RunFault.{RunFault}
 use Rattle.fbcheck.specs.declared.fault.RunFault.TheVariants.{ReadFault, WriteFault, NoteFault, Stream, TooManyTurns, OutOfMemory, BareTooLong, Load, Path, NoRoot}
-use Rattle.fbcheck.specs.declared.output.Tally.{Tally}
+use Rattle.fbcheck.specs.declared.tally.Tally.{Tally}
 
 -- a fault of the framer
 abbrev pub feed_fault : StreamFault → RunFault

@@ -4,10 +4,12 @@ use Rattle.fb_bytes.specs.Messages.{Splits}
 use Rattle.fbcheck.specs.Job.{Job}
 use Rattle.fbcheck.specs.Lines.{AreTold}
 use Rattle.fbcheck.specs.Texts.{Texts, to_out}
+use Rattle.fbcheck.specs.declared.tally.Tally.{Tally}
 use Rattle.fbcheck.specs.declared.options.Mode.TheVariants.{Filter}
 
 -- what a filter passes on of a stream is itself a stream of whole messages, of which it passes all on and notes nothing
 abbrev pub PassesAgain : Type 0
-PassesAgain = (job : Job) (limit : ℕ) (bytes rest : List ℕ) (messages : List (List ℕ)) (text : Texts) (good bad : ℕ)
-    → job.mode ≡ Filter → Splits limit bytes messages rest → AreTold job 1 messages text good bad
-    → (passed : List (List ℕ)) × Splits limit text.out passed [] × AreTold job 1 passed (to_out text.out) good 0
+PassesAgain = (job : Job) (limit : ℕ) (bytes rest : List ℕ) (messages : List (List ℕ)) (text : Texts) (tally : Tally)
+    → job.mode ≡ Filter → Splits limit bytes messages rest → AreTold job 1 messages text tally
+    → (passed : List (List ℕ)) × (good : Tally) × Splits limit text.out passed [] × AreTold job 1 passed (to_out text.out) good
+    × (good.yes ≡ tally.yes) × (good.no ≡ 0)

@@ -3,6 +3,7 @@ pub mod Job
 pub mod AnswerText
 pub mod Texts
 pub mod Line
+pub mod Sums
 pub mod Lines
 pub mod LineTests
 pub mod Stream

@@ -60,15 +60,6 @@ told_of BadLines k message (Err fault) = to_out (verdict_line k (Err fault))
 told_of Filter k message (Ok found) = to_out message
 told_of Filter k message (Err fault) = to_notes (verdict_line k (Err fault))
 
--- how many yes, and how many no
-abbrev pub yes_count : Verdict → ℕ
-yes_count (Ok found) = 1
-yes_count (Err fault) = 0
-
-abbrev pub no_count : Verdict → ℕ
-no_count (Ok found) = 0
-no_count (Err fault) = 1
-
 -- what is told of the message with number k, by this verdict
 pub record IsTold (job : Job) (k : ℕ) (bytes : List ℕ) (verdict : Verdict) (line : Texts) : Type 0 where
   pub verdict_is : IsVerdict job bytes verdict

@@ -9,9 +9,9 @@ use crate::asked::asked_of;
 use crate::choices::Settings;
 use crate::fault::RunFault;
 use crate::input::Input;
-use crate::output::Tally;
 use crate::reading::MOST_TURNS;
 use crate::run::run_beside;
+use crate::tally::Tally;
 use crate::writing::Nowhere;
 use fb_bytes::Sink;
 use std::alloc::Global;
@@ -35,6 +35,7 @@ pub fn check_beside<S: Input<K, N>, K: Sink, N: Sink>(
     reader: &mut S,
     writer: &mut K,
     notes: &mut N,
+    so_far: &mut Tally,
 ) -> Result<Tally, RunFault>
     requires ranges { AreInRange settings.now }
     requires reads { S.calls reader.old < 2 ^ 64 }
@@ -44,7 +45,7 @@ pub fn check_beside<S: Input<K, N>, K: Sink, N: Sink>(
         (K.contents writer.old) sink (N.contents notes.old) note → S.may_ask source sink note }
 
     ensures run { IsCheckedBeside schema_bytes.entry settings.now (S.remaining reader.old) (S.remaining reader.new)
-        (K.contents writer.old) (K.contents writer.new) (N.contents notes.old) (N.contents notes.new) result }
+        (K.contents writer.old) (K.contents writer.new) (N.contents notes.old) (N.contents notes.new) so_far.new result }
     ensures unread { IfErr result (λ fault. IsRefusal fault → reader.new ≡ reader.old) }
     ensures unwritten { IfErr result (λ fault. IsRefusal fault → writer.new ≡ writer.old) }
     ensures unnoted { IfErr result (λ fault. IsRefusal fault → notes.new ≡ notes.old) }
@@ -54,6 +55,7 @@ pub fn check_beside<S: Input<K, N>, K: Sink, N: Sink>(
     ensures pushes { N.calls notes.new ≤ N.calls notes.old + 2 ^ 96 }
     ensures turns { S.calls reader.new ≤ S.calls reader.old + MOST_TURNS }
 {
+    *so_far = Tally::new();
     let asked = asked_of(alloc, schema_bytes, settings)?;
     run_beside(
         alloc,
@@ -63,6 +65,7 @@ pub fn check_beside<S: Input<K, N>, K: Sink, N: Sink>(
         &asked.schema,
         &asked.options,
         MOST_TURNS,
+        so_far,
     )
 }
 
@@ -89,5 +92,14 @@ pub fn check<S: Input<K, Nowhere>, K: Sink>(
     ensures turns { S.calls reader.new ≤ S.calls reader.old + MOST_TURNS }
 {
     let mut notes = Nowhere::new();
-    check_beside(alloc, schema_bytes, settings, reader, writer, &mut notes)
+    let mut so_far = Tally::new();
+    check_beside(
+        alloc,
+        schema_bytes,
+        settings,
+        reader,
+        writer,
+        &mut notes,
+        &mut so_far,
+    )
 }

@@ -38,6 +38,8 @@ pub struct Settings {
     pub quiet: bool,
     /// Whether the good buffers themselves are written (`--filter`); there is no path then.
     pub filter: bool,
+    /// Whether the notes get a line of what the run came to (`--summary`).
+    pub summary: bool,
 }
 
 impl Settings {

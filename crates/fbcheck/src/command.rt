@@ -160,5 +160,10 @@ pub(crate) fn command<'a>(alloc: Global) -> Result<Command<'a>, AllocError>
             alloc,
             "filter",
             "Pass good buffers on, and write lines of bad ones to standard error",
+        ))?
+        .arg(flag_arg(
+            alloc,
+            "summary",
+            "Write a line of what was counted to standard error at the end",
         ))
 }

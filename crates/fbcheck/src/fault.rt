@@ -4,7 +4,7 @@ ghost use Rattle.std.specs.Prelude.{◌≡◌};
 ghost use Rattle.fbcheck.specs.Faults.{feed_fault, load_fault, path_fault, status_of};
 ghost use Rattle.fbcheck.specs.declared.fault.RunFault.TheVariants.{OutOfMemory};
 
-use crate::output::Tally;
+use crate::tally::Tally;
 use fb_access::PathFault;
 use fb_bfbs::LoadFault;
 use fb_bytes::StreamFault;

@@ -11,10 +11,10 @@ use fb_verify::{Fault, Report};
 use itoa::{Buffer, write_digits};
 use std::marker::Model;
 
-/// More bytes than the longest line has, but for a value.
-const ROOM: usize = 192;
+/// More bytes than the longest line has, but for a value, and more than the summary.
+const ROOM: usize = 640;
 
-/// The line of one verdict but for a value, written from its end to its front. It takes no memory.
+/// The line of one verdict but for a value, or of a summary, written from its end to its front. It takes no memory.
 #[derive(Drop)]
 pub struct Line {
     room: [u8; ROOM],
@@ -28,7 +28,7 @@ impl Model for Line {
 
     ghost view = { λ l. drop l.start l.room };
 
-    ghost invariant = { λ l. (length l.room ≡ 192) × (l.start ≤ 192) };
+    ghost invariant = { λ l. (length l.room ≡ 640) × (l.start ≤ 640) };
 }
 
 impl Line {
@@ -114,7 +114,7 @@ impl Line {
 
     /// Puts a text in front.
     #[inline]
-    fn put_text(&mut self, text: &str)
+    pub fn put_text(&mut self, text: &str)
         requires room { length text.now + length self.old ≤ ROOM }
         ensures text { self.new ≡ text.now ++ self.old }
         ensures length { length self.new ≡ length text.now + length self.old }
@@ -126,7 +126,7 @@ impl Line {
 
     /// Puts a number in front.
     #[inline]
-    fn put_number(&mut self, number: u64)
+    pub fn put_number(&mut self, number: u64)
         requires room { length self.old + 20 ≤ ROOM }
         ensures text { self.new ≡ decimal number ++ self.old }
         ensures length { length self.new ≤ length self.old + 20 }
@@ -136,7 +136,7 @@ impl Line {
 
     /// Puts a number in front that may have up to 128 bits.
     #[inline]
-    fn put_wide(&mut self, number: u128)
+    pub fn put_wide(&mut self, number: u128)
         requires room { length self.old + 40 ≤ ROOM }
         ensures text { self.new ≡ decimal number ++ self.old }
         ensures length { length self.new ≤ length self.old + 40 }

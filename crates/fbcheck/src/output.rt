@@ -8,12 +8,15 @@ ghost use Rattle.fbcheck.specs.Faults.{IsCaused};
 ghost use Rattle.fbcheck.specs.Job.{verdict_of};
 ghost use Rattle.fbcheck.specs.Line.{told_of, verdict_line};
 ghost use Rattle.fbcheck.specs.Lines.{AddsTold, WritesFronts};
+ghost use Rattle.fbcheck.specs.Sums.{no_tally};
 ghost use Rattle.fbcheck.specs.Texts.{silent, waiting};
 
 use crate::checker::{Checker, Found};
+use crate::counter::Counter;
 use crate::fault::RunFault;
 use crate::line::Line;
 use crate::options::Mode;
+use crate::tally::Tally;
 use crate::value_text::put_answer;
 use crate::writing::{Pending, Unwritten};
 use fb_access::Answer;
@@ -21,18 +24,10 @@ use fb_bytes::Sink;
 use fb_verify::{Fault, Scratch};
 use std::alloc::{AllocError, Allocator};
 
-/// How many buffers had a yes, and how many a no.
-#[derive(Clone, Copy, Debug, PartialEq, Eq)]
-pub struct Tally {
-    pub yes: u64,
-    pub no: u64,
-}
-
 /// What a run has told so far: the verdicts, and what waits to be written to the writer and to the notes.
 #[derive(Drop)]
 pub struct Output<A: Allocator> {
-    pub yes: u64,
-    pub no: u64,
+    pub counter: Counter,
     /// Whole lines, or whole messages that are passed on.
     pub out: Pending<A>,
     /// Whole lines.
@@ -47,14 +42,12 @@ impl<'a, A: Allocator> Output<&'a A> {
     /// Nothing is told.
     pub fn new(alloc: &'a A) -> Self
         ensures text { waiting result ≡ silent }
-        ensures yes { result.yes ≡ 0 }
-        ensures no { result.no ≡ 0 }
+        ensures counted { result.counter ≡ no_tally }
         ensures written { result.out.written ≡ 0 }
         ensures noted { result.notes.written ≡ 0 }
     {
         Output {
-            yes: 0,
-            no: 0,
+            counter: Counter::new(),
             out: Pending::new(alloc),
             notes: Pending::new(alloc),
             line: Line::new(),
@@ -72,22 +65,21 @@ impl<A: Allocator> Output<A> {
         message: &[u8],
     ) -> Result<(), AllocError>
         requires room { checker.now.limits.depth ≤ scratch.old }
-        requires few { self.old.yes + self.old.no < 2 ^ 63 }
+        requires few { self.old.counter.yes + self.old.counter.no < 2 ^ 63 }
         requires short { length message.now < 2 ^ 31 }
-        ensures ok { OnOk result (AddsTold checker.now (1 + (self.old.yes + self.old.no)) message.now
-            (waiting self.old) self.old.yes self.old.no (waiting self.new) self.new.yes self.new.no) }
-        ensures one { OnOk result (self.new.yes + self.new.no ≡ self.old.yes + self.old.no + 1) }
+        ensures ok { OnOk result (AddsTold checker.now (1 + (self.old.counter.yes + self.old.counter.no)) message.now
+            (waiting self.old) self.old.counter (waiting self.new) self.new.counter) }
+        ensures one { OnOk result (self.new.counter.yes + self.new.counter.no ≡ self.old.counter.yes + self.old.counter.no + 1) }
         ensures err_text { OnErr result (waiting self.new ≡ waiting self.old) }
+        ensures err_counted { OnErr result (self.new.counter ≡ self.old.counter) }
         ensures written { self.new.out.written ≡ self.old.out.written }
         ensures noted { self.new.notes.written ≡ self.old.notes.written }
         ensures scratch { scratch.new ≡ scratch.old }
     {
         let verdict = checker.verdict(scratch, message);
-        self.tell(checker.mode(), 1 + (self.yes + self.no), message, &verdict)?;
-        match verdict {
-            Ok(_) => self.yes += 1,
-            Err(_) => self.no += 1,
-        }
+        let number = 1 + self.counter.messages();
+        self.tell(checker.mode(), number, message, &verdict)?;
+        self.counter.count(message, &verdict);
         Ok(())
     }
 
@@ -102,8 +94,7 @@ impl<A: Allocator> Output<A> {
         ensures out { OnOk result ((waiting self.new).out ≡ (waiting self.old).out ++ (told_of mode number message.now (verdict_of verdict.now)).out) }
         ensures notes { OnOk result ((waiting self.new).notes ≡ (waiting self.old).notes ++ (told_of mode number message.now (verdict_of verdict.now)).notes) }
         ensures err_text { OnErr result (waiting self.new ≡ waiting self.old) }
-        ensures yes { self.new.yes ≡ self.old.yes }
-        ensures no { self.new.no ≡ self.old.no }
+        ensures counted { self.new.counter ≡ self.old.counter }
         ensures written { self.new.out.written ≡ self.old.out.written }
         ensures noted { self.new.notes.written ≡ self.old.notes.written }
     {
@@ -132,8 +123,7 @@ impl<A: Allocator> Output<A> {
         ensures ok { OnOk result (self.new.out.bytes.items ≡ self.old.out.bytes.items ++ verdict_line number (verdict_of verdict.now)) }
         ensures err_text { OnErr result (self.new.out.bytes.items ≡ self.old.out.bytes.items) }
         ensures notes { self.new.notes ≡ self.old.notes }
-        ensures yes { self.new.yes ≡ self.old.yes }
-        ensures no { self.new.no ≡ self.old.no }
+        ensures counted { self.new.counter ≡ self.old.counter }
         ensures written { self.new.out.written ≡ self.old.out.written }
     {
         self.line.set(number, verdict);
@@ -151,8 +141,7 @@ impl<A: Allocator> Output<A> {
         ensures ok { OnOk result (self.new.out.bytes.items ≡ self.old.out.bytes.items ++ (self.old.line ++ (answer_text (shown answer.now) ++ codes "\n"))) }
         ensures err_text { OnErr result (self.new.out.bytes.items ≡ self.old.out.bytes.items) }
         ensures notes { self.new.notes ≡ self.old.notes }
-        ensures yes { self.new.yes ≡ self.old.yes }
-        ensures no { self.new.no ≡ self.old.no }
+        ensures counted { self.new.counter ≡ self.old.counter }
         ensures written { self.new.out.written ≡ self.old.out.written }
     {
         self.value.clear();
@@ -184,8 +173,7 @@ impl<A: Allocator> Output<A> {
             (K.failures writer.old) (K.failures writer.new) (N.failures notes.old) (N.failures notes.new) left ended fault) }
         ensures unfailed { OnOk result (K.failures writer.new ≡ K.failures writer.old) }
         ensures unrefused { OnOk result (N.failures notes.new ≡ N.failures notes.old) }
-        ensures yes { self.new.yes ≡ self.old.yes }
-        ensures no { self.new.no ≡ self.old.no }
+        ensures counted { self.new.counter ≡ self.old.counter }
         ensures little { self.new.out.written ≤ self.old.out.written + 2 ^ 64 }
         ensures less { self.new.notes.written ≤ self.old.notes.written + 2 ^ 64 }
         ensures writes { K.calls writer.new ≤ K.calls writer.old + 2 ^ 64 }
@@ -200,14 +188,10 @@ impl<A: Allocator> Output<A> {
         Ok(())
     }
 
-    /// The verdicts so far.
+    /// What was counted so far.
     pub fn tally(&self) -> Tally
-        ensures yes { result.yes ≡ self.now.yes }
-        ensures no { result.no ≡ self.now.no }
+        ensures { result ≡ self.now.counter }
     {
-        Tally {
-            yes: self.yes,
-            no: self.no,
-        }
+        self.counter.tally()
     }
 }

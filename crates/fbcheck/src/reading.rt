@@ -6,6 +6,7 @@ ghost use Rattle.fb_bytes.specs.Ends.{failed};
 ghost use Rattle.fbcheck.specs.Bare.{FailsBare};
 ghost use Rattle.fbcheck.specs.Faults.{IsCaused};
 ghost use Rattle.fbcheck.specs.Job.{Job};
+ghost use Rattle.fbcheck.specs.Sums.{no_tally};
 
 use crate::fault::RunFault;
 use crate::input::Input;
@@ -69,7 +70,7 @@ pub fn read_whole<A: Allocator, B: Allocator, S: Input<K, N>, K: Sink, N: Sink>(
     ensures end { OnOk result (S.ended source.new ≡ true) }
     ensures unfailed { OnOk result (S.failures source.new ≡ S.failures source.old) }
     ensures fault { IfErr result (λ fault. (job : Job) (sink note : Option (List ℕ))
-        → FailsBare job limit (S.remaining source.old) (S.remaining source.new) sink sink note note fault) }
+        → FailsBare job limit (S.remaining source.old) (S.remaining source.new) sink sink note note no_tally fault) }
     ensures cause { IfErr result (λ fault. (refusals complaints : ℕ) → IsCaused (S.failures source.old) (S.failures source.new)
         refusals refusals complaints complaints (S.calls source.old + turns - S.calls source.new) (S.ended source.new) fault) }
     ensures turns { S.calls source.new ≤ S.calls source.old + turns }

@@ -11,9 +11,9 @@ use crate::checker::Checker;
 use crate::fault::RunFault;
 use crate::input::Input;
 use crate::options::Options;
-use crate::output::Tally;
 use crate::reading::MOST_TURNS;
 use crate::stream::run_stream;
+use crate::tally::Tally;
 use crate::writing::Nowhere;
 use fb_bytes::Sink;
 use fb_schema::Schema;
@@ -25,6 +25,9 @@ use std::alloc::Allocator;
 /// The input is a stream of size-prefixed buffers (FlatBuffers Internals), or with `bare` of the options one bare buffer.
 /// What is told of all messages that are whole is written before the next read, and before any answer: first to the
 /// writer, then to the notes. A reader that may be asked for more only where this is so can be run over (`leave`).
+///
+/// After a fault `so_far` has what was counted by then: that of the messages that are told, or in a write that failed
+/// were to be.
 ///
 /// # Errors
 ///
@@ -43,6 +46,7 @@ pub fn run_beside<A: Allocator, S: Input<K, N>, K: Sink, N: Sink>(
     schema: &Schema<'_>,
     options: &Options,
     turns: u64,
+    so_far: &mut Tally,
 ) -> Result<Tally, RunFault>
     requires serves { Serves schema.now options.now }
     requires turns { turns ≤ MOST_TURNS }
@@ -53,7 +57,7 @@ pub fn run_beside<A: Allocator, S: Input<K, N>, K: Sink, N: Sink>(
         (K.contents writer.old) sink (N.contents notes.old) note → S.may_ask source sink note }
 
     ensures run { IsRunBeside (job_of schema.now options.now) (S.remaining reader.old) (S.remaining reader.new)
-        (K.contents writer.old) (K.contents writer.new) (N.contents notes.old) (N.contents notes.new) result }
+        (K.contents writer.old) (K.contents writer.new) (N.contents notes.old) (N.contents notes.new) so_far.new result }
     ensures end { EndsBeside (S.failures reader.old) (S.failures reader.new)
         (K.failures writer.old) (K.failures writer.new) (N.failures notes.old) (N.failures notes.new)
         (S.calls reader.old + turns - S.calls reader.new) (S.ended reader.new) result }
@@ -62,9 +66,9 @@ pub fn run_beside<A: Allocator, S: Input<K, N>, K: Sink, N: Sink>(
 {
     let checker = Checker::new(schema, options);
     if options.bare {
-        run_bare(alloc, reader, writer, notes, &checker, turns)
+        run_bare(alloc, reader, writer, notes, &checker, turns, so_far)
     } else {
-        run_stream(alloc, reader, writer, notes, &checker, turns)
+        run_stream(alloc, reader, writer, notes, &checker, turns, so_far)
     }
 }
 
@@ -92,7 +96,17 @@ pub fn run_within<A: Allocator, S: Input<K, Nowhere>, K: Sink>(
     ensures turns { S.calls reader.new ≤ S.calls reader.old + turns }
 {
     let mut notes = Nowhere::new();
-    run_beside(alloc, reader, writer, &mut notes, schema, options, turns)
+    let mut so_far = Tally::new();
+    run_beside(
+        alloc,
+        reader,
+        writer,
+        &mut notes,
+        schema,
+        options,
+        turns,
+        &mut so_far,
+    )
 }
 
 /// The same without notes, with at most 2^32 reads.

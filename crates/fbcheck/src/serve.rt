@@ -1,14 +1,16 @@
 //! What the program does, from its words to its exit status.
 
-ghost use Rattle.std.specs.Prelude.{◌+◌, ◌-◌, ◌<◌, ◌≤◌, ◌^◌, ℕ, List, Option, false};
-ghost use Rattle.fbcheck.specs.Serving.{ComesTo, EndsSo, IsPromptAsGiven, IsServed, Unserved, words_of};
+ghost use Rattle.std.specs.Prelude.{IfSome, ◌≡◌, ◌+◌, ◌-◌, ◌<◌, ◌≤◌, ◌^◌, ℕ, List, Option, false, length};
+ghost use Rattle.fbcheck.specs.Serving.{ComesTo, EndsSo, IsPromptAsGiven, IsServed, Unserved, summed, words_of};
 
 use crate::check::check_beside;
 use crate::choices::SettingsFault;
+use crate::fault::RunFault;
 use crate::files::{Files, read_schema};
 use crate::input::Input;
 use crate::reading::MOST_TURNS;
-use crate::stop::{Ending, Stop, WordsFault, exit_status, tell};
+use crate::stop::{Ending, Stop, WordsFault, exit_status, sum_up, tell};
+use crate::tally::Tally;
 use crate::words::settings;
 use crate::writing::push_all;
 use fb_bytes::Sink;
@@ -16,7 +18,8 @@ use std::alloc::Global;
 
 /// Does what the words ask, the program's name first, and answers the exit status: reads the schema file that they name,
 /// checks the buffers of the reader by it, and tells of them as [`check_beside`](crate::check::check_beside) does; or
-/// writes help, where it is asked for. Why it came to rest before the end is told to the notes, behind what they have.
+/// writes help, where it is asked for. Behind what they have the notes get a line of what was counted, where the words ask
+/// for it, and then why it came to rest before the end.
 pub fn serve<F: Files, S: Input<K, N>, K: Sink, N: Sink>(
     alloc: Global,
     words: Result<Vec<String>, WordsFault>,
@@ -37,12 +40,14 @@ pub fn serve<F: Files, S: Input<K, N>, K: Sink, N: Sink>(
         (S.calls reader.old + MOST_TURNS - S.calls reader.new) (S.ended reader.new) result }
     ensures turns { S.calls reader.new ≤ S.calls reader.old + MOST_TURNS }
 {
-    let outcome = come_to(alloc, words, files, reader, writer, notes);
-    tell(&outcome, notes);
-    exit_status(&outcome)
+    let mut sums = None;
+    let outcome = come_to(alloc, words, files, reader, writer, notes, &mut sums);
+    let ending = sum_up(outcome, &sums, notes);
+    tell(&ending, notes);
+    exit_status(&ending)
 }
 
-/// What the program comes to.
+/// What the program comes to, and the numbers of the run, where these are to be told.
 fn come_to<F: Files, S: Input<K, N>, K: Sink, N: Sink>(
     alloc: Global,
     words: Result<Vec<String>, WordsFault>,
@@ -50,6 +55,7 @@ fn come_to<F: Files, S: Input<K, N>, K: Sink, N: Sink>(
     reader: &mut S,
     writer: &mut K,
     notes: &mut N,
+    sums: &mut Option<Tally>,
 ) -> Result<Ending, Stop>
     requires reads { S.calls reader.old < 2 ^ 64 }
     requires writes { K.calls writer.old < 2 ^ 64 }
@@ -58,12 +64,14 @@ fn come_to<F: Files, S: Input<K, N>, K: Sink, N: Sink>(
         (K.contents writer.old) sink (N.contents notes.old) note → S.may_ask source sink note }
 
     ensures comes { ComesTo (F.gives files.now) (words_of words) (S.remaining reader.old) (S.remaining reader.new)
-        (K.contents writer.old) (K.contents writer.new) (N.contents notes.old) (N.contents notes.new) result }
+        (K.contents writer.old) (K.contents writer.new) (N.contents notes.old) (N.contents notes.new) sums.new result }
+    ensures places { IfSome sums.new (λ tally. length tally.reasons ≡ 13) }
     ensures ends { EndsSo (S.failures reader.old) (S.failures reader.new) (K.failures writer.old) (K.failures writer.new)
         (N.failures notes.old) (N.failures notes.new) (S.calls reader.old + MOST_TURNS - S.calls reader.new) (S.ended reader.new) result }
     ensures turns { S.calls reader.new ≤ S.calls reader.old + MOST_TURNS }
     ensures noted { N.calls notes.new < 2 ^ 98 }
 {
+    *sums = None;
     let words = match words {
         Ok(words) => words,
         Err(fault) => return Err(Stop::Words(fault)),
@@ -73,9 +81,34 @@ fn come_to<F: Files, S: Input<K, N>, K: Sink, N: Sink>(
         Err(fault) => return without_settings(alloc, fault, writer),
     };
     let file = read_schema(files, &settings.schema)?;
-    match check_beside(alloc, file.as_deref(), &settings, reader, writer, notes) {
+    let mut so_far = Tally::new();
+    let answer = check_beside(
+        alloc,
+        file.as_deref(),
+        &settings,
+        reader,
+        writer,
+        notes,
+        &mut so_far,
+    );
+    *sums = summed(settings.summary, &answer, &so_far);
+    match answer {
         Ok(tally) => Ok(Ending::Checked(tally)),
         Err(fault) => Err(Stop::Run(fault)),
+    }
+}
+
+/// The numbers of a run that are told where its settings ask for them.
+fn summed(asked: bool, answer: &Result<Tally, RunFault>, so_far: &Tally) -> Option<Tally>
+    ensures { result ≡ summed asked answer.now so_far.now }
+{
+    if !asked {
+        return None;
+    }
+    match answer {
+        Ok(tally) => Some(*tally),
+        Err(RunFault::Load(_) | RunFault::Path(_) | RunFault::NoRoot) => None,
+        Err(_) => Some(*so_far),
     }
 }
 

@@ -1,14 +1,15 @@
 //! How the program comes to its end: well, or for a cause.
 
-ghost use Rattle.std.specs.Prelude.{OnOk, ◌≤◌, ◌≡◌, ◌<◌, ◌^◌};
-ghost use Rattle.fbcheck.specs.Serving.{Complains, IsComplaint, exit_status, stop_status};
+ghost use Rattle.std.specs.Prelude.{Bool, IfSome, OnOk, ℕ, ◌≤◌, ◌≡◌, ◌<◌, ◌^◌, length};
+ghost use Rattle.fbcheck.specs.Serving.{Complains, EndsSo, IsComplaint, SumsUp, exit_status, stop_status};
 ghost use Rattle.fbcheck.specs.declared.choices.SettingsFault.TheVariants as refusal;
 ghost use Rattle.fbcheck.specs.declared.stop.Stop.TheVariants as stop;
 
 use crate::choices::SettingsFault;
 use crate::fault::{RunFault, status};
 use crate::files::FileFault;
-use crate::output::Tally;
+use crate::summary::summary;
+use crate::tally::Tally;
 use crate::writing::push_all;
 use arrayvec::ArrayString;
 use fb_bytes::Sink;
@@ -66,6 +67,9 @@ pub enum Stop {
     /// Help was asked for, and the writer took only its first `written` bytes.
     #[error("write failed after {written} bytes")]
     CutOff { written: usize },
+    /// The run came to its end, and of its summary only the first `written` bytes were taken.
+    #[error("write to standard error failed after {written} bytes of the summary")]
+    Unsummed { written: usize },
     /// The schema file can't be read.
     #[error("{0}")]
     File(FileFault),
@@ -99,7 +103,7 @@ impl Stop {
             Stop::Words(WordsFault::NotText) | Stop::Usage(_) | Stop::File(FileFault::Unreadable) =>
                 2,
             Stop::Words(WordsFault::OutOfMemory) | Stop::File(FileFault::OutOfMemory) => 3,
-            Stop::CutOff { .. } => 3,
+            Stop::CutOff { .. } | Stop::Unsummed { .. } => 3,
             Stop::Settings(fault) => fault.status(),
             Stop::Run(fault) => status(&Err(*fault)),
         }
@@ -118,6 +122,34 @@ impl Stop {
         let mut line = ArrayString::<ROOM>::new();
         let _ = writeln!(line, "fbcheck: {self}");
         push_all(notes, line.as_str().as_bytes());
+    }
+}
+
+/// Notes a summary of these numbers, where there are some, and answers how the program ends with that.
+pub fn sum_up<N: Sink>(
+    outcome: Result<Ending, Stop>,
+    sums: &Option<Tally>,
+    notes: &mut N,
+) -> Result<Ending, Stop>
+    requires calls { N.calls notes.old < 2 ^ 98 }
+    requires places { IfSome sums.now (λ tally. length tally.reasons ≡ 13) }
+    ensures summed { SumsUp sums.now (N.contents notes.old) (N.contents notes.new) (N.failures notes.new) outcome result }
+    ensures ends { (f f' w w' k left : ℕ) (ended : Bool) → EndsSo f f' w w' k (N.failures notes.old) left ended outcome
+        → EndsSo f f' w w' k (N.failures notes.new) left ended result }
+    ensures calls { N.calls notes.new < 2 ^ 99 }
+{
+    let Some(tally) = sums else {
+        return outcome;
+    };
+    let line = summary(tally);
+    let text = line.bytes();
+    let written = push_all(notes, text);
+    if written == text.len() {
+        return outcome;
+    }
+    match outcome {
+        Ok(Ending::Checked(_)) => Err(Stop::Unsummed { written }),
+        _ => outcome,
     }
 }
 

@@ -5,14 +5,16 @@ ghost use Rattle.fbcheck.specs.Faults.{EndsBeside};
 ghost use Rattle.fbcheck.specs.Prompt.{IsStreamPrompt};
 ghost use Rattle.fbcheck.specs.Run.{IsStreamRun};
 ghost use Rattle.fbcheck.specs.Stream.{Gathers, Halts, IsFeedFault, IsReady, Onward, standing};
+ghost use Rattle.fbcheck.specs.Sums.{no_tally};
 ghost use Rattle.fbcheck.specs.Texts.{silent, waiting};
 
 use crate::checker::Checker;
 use crate::fault::RunFault;
 use crate::front::front_message;
 use crate::input::Input;
-use crate::output::{Output, Tally};
+use crate::output::Output;
 use crate::reading::{MOST_TURNS, PIECE, pull_piece, read_buffer};
+use crate::tally::Tally;
 use fb_bytes::{Framer, Sink};
 use fb_verify::Scratch;
 use std::alloc::{AllocError, Allocator};
@@ -29,7 +31,7 @@ impl<'a, A: Allocator> Carried<&'a A> {
     /// What is carried at first: nothing is told, and nothing is held.
     fn new(alloc: &'a A, checker: &Checker<'_, '_>) -> Result<Self, AllocError>
         ensures ready { IfOk result (λ carried. IsReady checker.now carried.framer carried.scratch) }
-        ensures empty { IfOk result (λ carried. standing carried ≡ record { text = silent; good = 0; bad = 0; held = [] }) }
+        ensures empty { IfOk result (λ carried. standing carried ≡ record { text = silent; tally = no_tally; held = [] }) }
         ensures written { IfOk result (λ carried. carried.output.out.written ≡ 0) }
         ensures noted { IfOk result (λ carried. carried.output.notes.written ≡ 0) }
     {
@@ -51,17 +53,17 @@ impl<A: Allocator> Carried<A> {
     fn use_up(&mut self, checker: &Checker<'_, '_>, piece: &[u8]) -> Result<(), RunFault>
         requires ready { IsReady checker.now self.old.framer self.old.scratch }
         requires piece { length piece.now ≤ PIECE }
-        requires few { self.old.output.yes + self.old.output.no < 2 ^ 62 }
+        requires few { self.old.output.counter.yes + self.old.output.counter.no < 2 ^ 62 }
 
         ensures onward { OnOk result (Onward checker.now (standing self.old) piece.now (standing self.new)) }
         ensures ready { OnOk result (IsReady checker.now self.new.framer self.new.scratch) }
-        ensures few { OnOk result (self.new.output.yes + self.new.output.no
-            ≤ self.old.output.yes + self.old.output.no + PIECE) }
+        ensures few { OnOk result (self.new.output.counter.yes + self.new.output.counter.no
+            ≤ self.old.output.counter.yes + self.old.output.counter.no + PIECE) }
 
-        ensures halts { IfErr result (Halts checker.now (standing self.old) piece.now (waiting self.new.output)) }
+        ensures halts { IfErr result (Halts checker.now (standing self.old) piece.now (waiting self.new.output) self.new.output.counter) }
         ensures kind { IfErr result (λ fault. IsFeedFault fault) }
 
-        ensures gathers { Gathers checker.now (standing self.old) piece.now (waiting self.new.output) }
+        ensures gathers { Gathers checker.now (standing self.old) piece.now (waiting self.new.output) self.new.output.counter }
         ensures written { self.new.output.out.written ≡ self.old.output.out.written }
         ensures noted { self.new.output.notes.written ≡ self.old.output.notes.written }
     {
@@ -79,16 +81,16 @@ impl<A: Allocator> Carried<A> {
     fn pass_some(&mut self, checker: &Checker<'_, '_>, rest: &[u8]) -> Result<usize, RunFault>
         requires rest { 0 < length rest.now }
         requires ready { IsReady checker.now self.old.framer self.old.scratch }
-        requires few { self.old.output.yes + self.old.output.no < 2 ^ 63 }
+        requires few { self.old.output.counter.yes + self.old.output.counter.no < 2 ^ 63 }
 
         ensures some { IfOk result (λ used. 0 < used) }
         ensures within { IfOk result (λ used. used ≤ length rest.now) }
         ensures onward { IfOk result (λ used. Onward checker.now (standing self.old) (take used rest.now) (standing self.new)) }
         ensures ready { OnOk result (IsReady checker.now self.new.framer self.new.scratch) }
-        ensures few { OnOk result (self.new.output.yes + self.new.output.no
-            ≤ self.old.output.yes + self.old.output.no + 1) }
+        ensures few { OnOk result (self.new.output.counter.yes + self.new.output.counter.no
+            ≤ self.old.output.counter.yes + self.old.output.counter.no + 1) }
 
-        ensures halts { IfErr result (Halts checker.now (standing self.old) rest.now (waiting self.new.output)) }
+        ensures halts { IfErr result (Halts checker.now (standing self.old) rest.now (waiting self.new.output) self.new.output.counter) }
         ensures kind { IfErr result (λ fault. IsFeedFault fault) }
 
         ensures written { self.new.output.out.written ≡ self.old.output.out.written }
@@ -108,16 +110,16 @@ impl<A: Allocator> Carried<A> {
     fn feed_some(&mut self, checker: &Checker<'_, '_>, rest: &[u8]) -> Result<usize, RunFault>
         requires rest { 0 < length rest.now }
         requires ready { IsReady checker.now self.old.framer self.old.scratch }
-        requires few { self.old.output.yes + self.old.output.no < 2 ^ 63 }
+        requires few { self.old.output.counter.yes + self.old.output.counter.no < 2 ^ 63 }
 
         ensures some { IfOk result (λ used. 0 < used) }
         ensures within { IfOk result (λ used. used ≤ length rest.now) }
         ensures onward { IfOk result (λ used. Onward checker.now (standing self.old) (take used rest.now) (standing self.new)) }
         ensures ready { OnOk result (IsReady checker.now self.new.framer self.new.scratch) }
-        ensures few { OnOk result (self.new.output.yes + self.new.output.no
-            ≤ self.old.output.yes + self.old.output.no + 1) }
+        ensures few { OnOk result (self.new.output.counter.yes + self.new.output.counter.no
+            ≤ self.old.output.counter.yes + self.old.output.counter.no + 1) }
 
-        ensures halts { IfErr result (Halts checker.now (standing self.old) rest.now (waiting self.new.output)) }
+        ensures halts { IfErr result (Halts checker.now (standing self.old) rest.now (waiting self.new.output) self.new.output.counter) }
         ensures kind { IfErr result (λ fault. IsFeedFault fault) }
 
         ensures written { self.new.output.out.written ≡ self.old.output.out.written }
@@ -138,7 +140,7 @@ impl<A: Allocator> Carried<A> {
 ///
 /// What is told of all messages that are whole is written before the next read (`leave`), and before any answer. On a
 /// fault that of all whole messages that were read is written, but for `OutOfMemory`, where it is that of the first ones,
-/// and for `WriteFault` and `NoteFault`, where `written` bytes of it are.
+/// and for `WriteFault` and `NoteFault`, where `written` bytes of it are. Then `so_far` has what was counted by then.
 pub fn run_stream<A: Allocator, S: Input<K, N>, K: Sink, N: Sink>(
     alloc: A,
     reader: &mut S,
@@ -146,6 +148,7 @@ pub fn run_stream<A: Allocator, S: Input<K, N>, K: Sink, N: Sink>(
     notes: &mut N,
     checker: &Checker<'_, '_>,
     turns: u64,
+    so_far: &mut Tally,
 ) -> Result<Tally, RunFault>
     requires turns { turns ≤ MOST_TURNS }
     requires reads { S.calls reader.old < 2 ^ 64 }
@@ -155,12 +158,13 @@ pub fn run_stream<A: Allocator, S: Input<K, N>, K: Sink, N: Sink>(
         (K.contents writer.old) sink (N.contents notes.old) note → S.may_ask source sink note }
     ensures run { IsStreamRun checker.now
         (S.remaining reader.old) (S.remaining reader.new) (K.contents writer.old) (K.contents writer.new)
-        (N.contents notes.old) (N.contents notes.new) result }
+        (N.contents notes.old) (N.contents notes.new) so_far.new result }
     ensures end { EndsBeside (S.failures reader.old) (S.failures reader.new) (K.failures writer.old) (K.failures writer.new)
         (N.failures notes.old) (N.failures notes.new) (S.calls reader.old + turns - S.calls reader.new) (S.ended reader.new) result }
     ensures pushes { N.calls notes.new ≤ N.calls notes.old + 2 ^ 96 }
     ensures turns { S.calls reader.new ≤ S.calls reader.old + turns }
 {
+    *so_far = Tally::new();
     let mut piece = read_buffer(&alloc)?;
     let mut carried = Carried::new(&alloc, checker)?;
     let mut left = turns;
@@ -176,6 +180,7 @@ pub fn run_stream<A: Allocator, S: Input<K, N>, K: Sink, N: Sink>(
         };
         let piece = &piece.as_slice()[..read];
         let used = carried.use_up(checker, piece);
+        *so_far = carried.output.tally();
         carried.output.flush(writer, notes)?;
         used?;
     }

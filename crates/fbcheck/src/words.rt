@@ -40,6 +40,7 @@ pub fn settings(alloc: Global, words: &[String]) -> Result<Settings, SettingsFau
     ensures inline_size { IfOk result (λ s. IsTrue s.inline_size ↔ IsGiven (codes "inline-size") (map string_bytes words.now)) }
     ensures filter { IfOk result (λ s. IsTrue s.filter ↔ IsGiven (codes "filter") (map string_bytes words.now)) }
     ensures apart { IfOk result (λ s. IsTrue s.filter → s.path ≡ None) }
+    ensures summary { IfOk result (λ s. IsTrue s.summary ↔ IsGiven (codes "summary") (map string_bytes words.now)) }
     ensures quiet { IfOk result (λ s. IsTrue s.quiet ↔ IsGiven (codes "quiet") (map string_bytes words.now)) }
 {
     let Ok(command) = command(alloc) else {
@@ -75,6 +76,7 @@ pub fn settings(alloc: Global, words: &[String]) -> Result<Settings, SettingsFau
     let inline_size = flag(&matches, "inline-size");
     let quiet = flag(&matches, "quiet");
     let filter = flag(&matches, "filter");
+    let summary = flag(&matches, "summary");
     if filter && path.is_some() {
         return Err(SettingsFault::PathInFilter);
     }
@@ -92,6 +94,7 @@ pub fn settings(alloc: Global, words: &[String]) -> Result<Settings, SettingsFau
         inline_size,
         quiet,
         filter,
+        summary,
     })
 }
 

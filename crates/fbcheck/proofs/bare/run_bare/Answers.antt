@@ -1,6 +1,8 @@
-use Rattle.std.proofs.Common.{ℕ, ◌+◌, ◌-◌, ◌≤◌, ◌∙◌, length, arith, refl, subst}
+use Rattle.std.proofs.Common.{ℕ, ◌+◌, ◌-◌, ◌≤◌, ◌∙◌, length, arith, refl, subst, sym}
 use Rattle.fbcheck.specs.Bare.{FailsBare}
 use Rattle.fbcheck.specs.Faults.{EndsBeside}
+use Rattle.fbcheck.specs.Sums.{no_tally}
+use Rattle.fbcheck.specs.declared.tally.Tally.{Tally}
 use Rattle.fbcheck.specs.Run.{IsBareRun}
 use Rattle.fbcheck.proofs.BareLemmas.{fails_part}
 use Rattle.fbcheck.proofs.RunLemmas.{caused_flush, err_exit}
@@ -11,10 +13,12 @@ returns-in_err-bytes-clause-run g c =
     let sink = g.K.Sink.contents c.args.writer.now in
     let notes = g.N.Sink.contents c.args.notes.now in
     err_exit c.from_residual-in_err-bytes.result _
-    (IsBareRun c.args.checker.now (g.S.Input.remaining c.args.reader.now) (g.S.Input.remaining c.read_whole.new.source) sink sink notes notes)
+    (IsBareRun c.args.checker.now (g.S.Input.remaining c.args.reader.now) (g.S.Input.remaining c.read_whole.new.source) sink sink notes notes c.new.result)
     c.from_residual-in_err-bytes.ensures.1
-    (subst (λ (n : ℕ). FailsBare c.args.checker.now n (g.S.Input.remaining c.args.reader.now) (g.S.Input.remaining c.read_whole.new.source) sink sink notes notes c.in_err-bytes.field-0.0)
-    c.limit.ensures.value (c.in_err-bytes.ensures.fault c.args.checker.now sink notes))
+    (subst (λ (t : Tally). FailsBare c.args.checker.now c.args.checker.now.limit (g.S.Input.remaining c.args.reader.now) (g.S.Input.remaining c.read_whole.new.source) sink sink notes notes t c.in_err-bytes.field-0.0)
+    (sym c.new.ensures)
+    (subst (λ (n : ℕ). FailsBare c.args.checker.now n (g.S.Input.remaining c.args.reader.now) (g.S.Input.remaining c.read_whole.new.source) sink sink notes notes no_tally c.in_err-bytes.field-0.0)
+    c.limit.ensures.value (c.in_err-bytes.ensures.fault c.args.checker.now sink notes)))
 
 pub returns-in_err-bytes-clause-end : goal.returns-in_err-bytes-clause-end
 returns-in_err-bytes-clause-end g c =
@@ -33,9 +37,12 @@ returns-in_err-flush-clause-run g c =
     let line = c.in_ok-add.ensures in
     err_exit c.from_residual-in_err-flush.result _
     (IsBareRun c.args.checker.now (g.S.Input.remaining c.args.reader.now) (g.S.Input.remaining c.read_whole.new.source)
-    (g.K.Sink.contents c.args.writer.now) (g.K.Sink.contents c.flush.new.writer) (g.N.Sink.contents c.args.notes.now) (g.N.Sink.contents c.flush.new.notes))
+    (g.K.Sink.contents c.args.writer.now) (g.K.Sink.contents c.flush.new.writer) (g.N.Sink.contents c.args.notes.now) (g.N.Sink.contents c.flush.new.notes) c.tally.result)
     c.from_residual-in_err-flush.ensures.1
-    (fails_part _ _ _ _ _ _ _ _ _ _ _ _ _ _ _ _ _ _ read.ok within c.as_slice.ensures.value none.text none.yes none.no (line.written ∙ none.written) (line.noted ∙ none.noted) line.ok c.in_err-flush.ensures.err)
+    (subst (λ (t : Tally). FailsBare c.args.checker.now c.args.checker.now.limit (g.S.Input.remaining c.args.reader.now) (g.S.Input.remaining c.read_whole.new.source)
+    (g.K.Sink.contents c.args.writer.now) (g.K.Sink.contents c.flush.new.writer) (g.N.Sink.contents c.args.notes.now) (g.N.Sink.contents c.flush.new.notes) t c.in_err-flush.field-0.0)
+    (sym c.tally.ensures)
+    (fails_part _ _ _ _ _ _ _ _ _ _ _ _ _ _ _ _ read.ok within c.as_slice.ensures.value none.text none.counted (line.written ∙ none.written) (line.noted ∙ none.noted) line.ok c.in_err-flush.ensures.err))
 
 pub returns-in_err-flush-clause-end : goal.returns-in_err-flush-clause-end
 returns-in_err-flush-clause-end g c =

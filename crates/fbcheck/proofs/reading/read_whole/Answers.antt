@@ -10,7 +10,7 @@ returns-then-read-limit-clause-fault g c job sink notes =
     let over : c.args.limit < length c.loop-left.whole.items + c.in-Ok.read = search rules in (
       c.loop-left.whole.items ++ take c.in-Ok.read c.pull_piece.new.piece.items,
       Consumes-trans _ _ _ _ _ c.loop-left.invariant.read read.ok,
-      (refl, search rules, (Keeps-refl sink, Keeps-refl notes)),
+      (refl, search rules, ((Keeps-refl sink, Keeps-refl notes), refl)),
     )
 
 pub returns-in_default-clause-fault : goal.returns-in_default-clause-fault
@@ -20,5 +20,5 @@ returns-in_default-clause-fault g c job sink notes =
     let under : length c.loop-left.whole.items + c.in-Ok.read ≤ c.args.limit = search rules in (
       c.loop-left.whole.items ++ take c.in-Ok.read c.pull_piece.new.piece.items,
       Consumes-trans _ _ _ _ _ c.loop-left.invariant.read read.ok,
-      (search rules, (Keeps-refl sink, Keeps-refl notes)),
+      (search rules, ((Keeps-refl sink, Keeps-refl notes), refl)),
     )

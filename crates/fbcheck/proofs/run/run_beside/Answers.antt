@@ -2,10 +2,10 @@ use Rattle.fbcheck.proofs.RunLemmas.{prompt_bare, prompt_stream, runs_bare, runs
 use Rattle.fbcheck.proofs.run.run_beside.Goals as goal
 
 pub returns-then-options-clause-run : goal.returns-then-options-clause-run
-returns-then-options-clause-run g c = runs_bare _ _ _ _ _ _ _ _ _ _ c.if-options.true c.new-checker.ensures c.run_bare.ensures.run
+returns-then-options-clause-run g c = runs_bare _ _ _ _ _ _ _ _ _ _ _ c.if-options.true c.new-checker.ensures c.run_bare.ensures.run
 
 pub returns-else-options-clause-run : goal.returns-else-options-clause-run
-returns-else-options-clause-run g c = runs_stream _ _ _ _ _ _ _ _ _ _ c.if-options.false c.new-checker.ensures c.run_stream.ensures.run
+returns-else-options-clause-run g c = runs_stream _ _ _ _ _ _ _ _ _ _ _ c.if-options.false c.new-checker.ensures c.run_stream.ensures.run
 
 pub run_bare-requires-clause-leave : goal.run_bare-requires-clause-leave
 run_bare-requires-clause-leave g c source sink note prompt =

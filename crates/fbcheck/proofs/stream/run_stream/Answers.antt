@@ -1,7 +1,7 @@
 use Rattle.std.proofs.Common.{◌+◌, ◌-◌, rules, ap, refl}
 use Rattle.fbcheck.specs.Faults.{EndsBeside}
 use Rattle.fbcheck.specs.Run.{IsStreamRun}
-use Rattle.fbcheck.proofs.RunLemmas.{caused_flush, err_exit, fails_empty, fails_used, fails_write, sofar_more, sofar_nothing}
+use Rattle.fbcheck.proofs.RunLemmas.{caused_flush, err_exit, fails_counted, fails_empty, fails_used, fails_write, sofar_more, sofar_nothing}
 use Rattle.fbcheck.specs.Stream.{Standing, standing}
 use Rattle.fbcheck.specs.Texts.{waiting}
 use Rattle.fbcheck.proofs.stream.run_stream.Goals as goal
@@ -9,14 +9,14 @@ use Rattle.fbcheck.proofs.stream.run_stream.Goals as goal
 pub returns-in_err-piece-clause-run : goal.returns-in_err-piece-clause-run
 returns-in_err-piece-clause-run g c =
     err_exit c.from_residual.result _
-    (IsStreamRun c.args.checker.now (g.S.Input.remaining c.args.reader.now) (g.S.Input.remaining c.args.reader.now) (g.K.Sink.contents c.args.writer.now) (g.K.Sink.contents c.args.writer.now) (g.N.Sink.contents c.args.notes.now) (g.N.Sink.contents c.args.notes.now))
-    c.from_residual.ensures.1 (fails_empty _ _ _ _ _)
+    (IsStreamRun c.args.checker.now (g.S.Input.remaining c.args.reader.now) (g.S.Input.remaining c.args.reader.now) (g.K.Sink.contents c.args.writer.now) (g.K.Sink.contents c.args.writer.now) (g.N.Sink.contents c.args.notes.now) (g.N.Sink.contents c.args.notes.now) c.new.result)
+    c.from_residual.ensures.1 (fails_counted _ _ _ _ _ _ _ _ _ _ _ c.new.ensures (fails_empty _ _ _ _ _))
 
 pub returns-in_err-carried-clause-run : goal.returns-in_err-carried-clause-run
 returns-in_err-carried-clause-run g c =
     err_exit c.from_residual-in_err-carried.result _
-    (IsStreamRun c.args.checker.now (g.S.Input.remaining c.args.reader.now) (g.S.Input.remaining c.args.reader.now) (g.K.Sink.contents c.args.writer.now) (g.K.Sink.contents c.args.writer.now) (g.N.Sink.contents c.args.notes.now) (g.N.Sink.contents c.args.notes.now))
-    c.from_residual-in_err-carried.ensures.1 (fails_empty _ _ _ _ _)
+    (IsStreamRun c.args.checker.now (g.S.Input.remaining c.args.reader.now) (g.S.Input.remaining c.args.reader.now) (g.K.Sink.contents c.args.writer.now) (g.K.Sink.contents c.args.writer.now) (g.N.Sink.contents c.args.notes.now) (g.N.Sink.contents c.args.notes.now) c.new.result)
+    c.from_residual-in_err-carried.ensures.1 (fails_counted _ _ _ _ _ _ _ _ _ _ _ c.new.ensures (fails_empty _ _ _ _ _))
 
 pub loop-left-init : goal.loop-left-init
 loop-left-init g c =
@@ -25,6 +25,7 @@ loop-left-init g c =
       room = search rules;
       ready = new.ready;
       empty = ap (λ (s : Standing). s.text) new.empty;
+      counted = search rules;
       told = sofar_nothing _ (standing c.in_ok-carried.carried) _ _ _ _ _ new.empty new.written new.noted;
       fewer = search rules;
       calls = search rules;
@@ -43,12 +44,13 @@ loop-left-preserved g c =
     let before = c.loop-left.invariant in
     let used = c.in_ok-used.ensures in
     let flushed = c.in_ok-flush.ensures in
-    let after : Standing = record { text = waiting c.flush.new.self; good = c.flush.new.self.yes; bad = c.flush.new.self.no; held = c.use_up-used.new.self.framer.held } in
+    let after : Standing = record { text = waiting c.flush.new.self; tally = c.flush.new.self.counter; held = c.use_up-used.new.self.framer.held } in
     record {
       room = search rules;
       ready = used.ready;
       empty = flushed.empty;
-      told = sofar_more _ (standing c.loop-left.carried) (standing c.use_up-used.new.self) after _ _ _ _ _ _ _ _ _ _ _ _ _ _ _ _ c.as_slice.ensures.value before.empty (search rules) (search rules) flushed.yes flushed.no refl before.told c.in-Ok.ensures.ok used.onward flushed.wrote flushed.told;
+      counted = search rules;
+      told = sofar_more _ (standing c.loop-left.carried) (standing c.use_up-used.new.self) after _ _ _ _ _ _ _ _ _ _ _ _ _ _ _ _ c.as_slice.ensures.value before.empty (search rules) (search rules) flushed.counted refl before.told c.in-Ok.ensures.ok used.onward flushed.wrote flushed.told;
       fewer = search rules;
       calls = search rules;
       few = search rules;
@@ -65,9 +67,10 @@ pub returns-in_err-flush-clause-run : goal.returns-in_err-flush-clause-run
 returns-in_err-flush-clause-run g c =
     let before = c.loop-left.invariant in
     err_exit c.from_residual-in_err-flush.result _
-    (IsStreamRun c.args.checker.now (g.S.Input.remaining c.args.reader.now) (g.S.Input.remaining c.pull_piece.new.source) (g.K.Sink.contents c.args.writer.now) (g.K.Sink.contents c.flush.new.writer) (g.N.Sink.contents c.args.notes.now) (g.N.Sink.contents c.flush.new.notes))
+    (IsStreamRun c.args.checker.now (g.S.Input.remaining c.args.reader.now) (g.S.Input.remaining c.pull_piece.new.source) (g.K.Sink.contents c.args.writer.now) (g.K.Sink.contents c.flush.new.writer) (g.N.Sink.contents c.args.notes.now) (g.N.Sink.contents c.flush.new.notes) c.tally-in-loop-left.result)
     c.from_residual-in_err-flush.ensures.1
-    (fails_write _ (standing c.loop-left.carried) _ _ _ _ _ _ _ _ _ _ _ _ _ _ _ _ _ _ c.as_slice.ensures.value before.empty c.use_up-used.ensures.written c.use_up-used.ensures.noted before.told c.in-Ok.ensures.ok c.use_up-used.ensures.gathers c.in_err-flush.ensures.err)
+    (fails_counted _ _ _ _ _ _ _ _ _ _ _ c.tally-in-loop-left.ensures
+    (fails_write _ (standing c.loop-left.carried) _ _ _ _ _ _ _ _ _ _ _ _ _ _ _ _ _ _ _ c.as_slice.ensures.value before.empty c.use_up-used.ensures.written c.use_up-used.ensures.noted before.told c.in-Ok.ensures.ok c.use_up-used.ensures.gathers c.in_err-flush.ensures.err))
 
 pub returns-in_err-flush-clause-end : goal.returns-in_err-flush-clause-end
 returns-in_err-flush-clause-end g c =
@@ -82,6 +85,7 @@ pub returns-in_err-used-clause-run : goal.returns-in_err-used-clause-run
 returns-in_err-used-clause-run g c =
     let before = c.loop-left.invariant in
     err_exit c.from_residual-in_err-used.result _
-    (IsStreamRun c.args.checker.now (g.S.Input.remaining c.args.reader.now) (g.S.Input.remaining c.pull_piece.new.source) (g.K.Sink.contents c.args.writer.now) (g.K.Sink.contents c.flush.new.writer) (g.N.Sink.contents c.args.notes.now) (g.N.Sink.contents c.flush.new.notes))
+    (IsStreamRun c.args.checker.now (g.S.Input.remaining c.args.reader.now) (g.S.Input.remaining c.pull_piece.new.source) (g.K.Sink.contents c.args.writer.now) (g.K.Sink.contents c.flush.new.writer) (g.N.Sink.contents c.args.notes.now) (g.N.Sink.contents c.flush.new.notes) c.tally-in-loop-left.result)
     c.from_residual-in_err-used.ensures.1
-    (fails_used _ (standing c.loop-left.carried) _ _ _ _ _ _ _ _ _ _ _ _ _ _ _ _ c.as_slice.ensures.value before.empty before.told c.in-Ok.ensures.ok c.in_err-used.ensures.halts c.in_ok-flush.ensures.wrote c.in_ok-flush.ensures.told)
+    (fails_counted _ _ _ _ _ _ _ _ _ _ _ c.tally-in-loop-left.ensures
+    (fails_used _ (standing c.loop-left.carried) _ _ _ _ _ _ _ _ _ _ _ _ _ _ _ _ _ c.as_slice.ensures.value before.empty before.told c.in-Ok.ensures.ok c.in_err-used.ensures.halts c.in_ok-flush.ensures.wrote c.in_ok-flush.ensures.told))

@@ -9,11 +9,12 @@ invariant-loop-left g l = record {
   room : length l.piece.items ≡ 65536;
   ready : IsReady l.checker l.carried.framer l.carried.scratch;
   empty : waiting l.carried.output ≡ silent;
+  counted : l.so_far ≡ l.carried.output.counter;
   told : Sofar l.checker (g.S.Input.remaining l.initial.reader) (g.S.Input.remaining l.reader) (g.K.Sink.contents l.initial.writer) (g.K.Sink.contents l.writer)
       (g.N.Sink.contents l.initial.notes) (g.N.Sink.contents l.notes) (standing l.carried) l.carried.output.out.written l.carried.output.notes.written;
   fewer : l.left ≤ l.initial.left;
   calls : g.S.Input.calls l.reader + l.left ≡ g.S.Input.calls l.initial.reader + l.initial.left;
-  few : l.carried.output.yes + l.carried.output.no + 65536 * l.left ≤ 65536 * l.initial.left;
+  few : l.carried.output.counter.yes + l.carried.output.counter.no + 65536 * l.left ≤ 65536 * l.initial.left;
   little : l.carried.output.out.written + 2 ^ 64 * l.left ≤ 2 ^ 64 * l.initial.left;
   less : l.carried.output.notes.written + 2 ^ 64 * l.left ≤ 2 ^ 64 * l.initial.left;
   writes : g.K.Sink.calls l.writer + 2 ^ 64 * l.left ≤ g.K.Sink.calls l.initial.writer + 2 ^ 64 * l.initial.left;

@@ -69,6 +69,10 @@ pub returns-clause-filter : goal.returns-clause-filter
 returns-clause-filter c = subst (λ (o : Option Text). IsTrue c.flag-filter.result ↔ (o ≡ Some (codes "true")))
     (text_of_words _ _ _ (codes "filter") c.in-Ok.ensures.app c.in-Ok-try_get_matches_from.ensures.matches) c.flag-filter.ensures
 
+pub returns-clause-summary : goal.returns-clause-summary
+returns-clause-summary c = subst (λ (o : Option Text). IsTrue c.flag-summary.result ↔ (o ≡ Some (codes "true")))
+    (text_of_words _ _ _ (codes "summary") c.in-Ok.ensures.app c.in-Ok-try_get_matches_from.ensures.matches) c.flag-summary.ensures
+
 pub returns-clause-quiet : goal.returns-clause-quiet
 returns-clause-quiet c = subst (λ (o : Option Text). IsTrue c.flag-quiet.result ↔ (o ≡ Some (codes "true")))
     (text_of_words _ _ _ (codes "quiet") c.in-Ok.ensures.app c.in-Ok-try_get_matches_from.ensures.matches) c.flag-quiet.ensures

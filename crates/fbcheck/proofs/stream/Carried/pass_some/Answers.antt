@@ -8,8 +8,8 @@ use Rattle.fbcheck.proofs.stream.Carried.pass_some.Goals as goal
 
 pub returns-in_err-add-clause-halts : goal.returns-in_err-add-clause-halts
 returns-in_err-add-clause-halts g c =
-    if_err_exit c.from_residual.result _ (Halts _ (standing c.args.self.now) _ _) c.from_residual.ensures.1
-    (halts_memory _ (standing c.args.self.now) _ _ c.in_err-add.ensures.err_text)
+    if_err_exit c.from_residual.result _ (Halts _ (standing c.args.self.now) _ _ _) c.from_residual.ensures.1
+    (halts_memory _ (standing c.args.self.now) _ _ _ c.in_err-add.ensures.err_text c.in_err-add.ensures.err_counted)
 
 pub returns-in-Some-clause-onward : goal.returns-in-Some-clause-onward
 returns-in-Some-clause-onward g c =

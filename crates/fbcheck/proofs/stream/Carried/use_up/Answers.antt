@@ -22,12 +22,12 @@ loop-rest-preserved g c =
 
 pub returns-in_err-used-clause-halts : goal.returns-in_err-used-clause-halts
 returns-in_err-used-clause-halts g c =
-    if_err_exit c.from_residual.result _ (Halts _ (standing c.args.self.now) _ _) c.from_residual.ensures.1
-    (halts_after _ _ _ _ c.loop-rest.rest.now _ _ c.loop-rest.invariant.passed c.in_err-used.ensures.halts)
+    if_err_exit c.from_residual.result _ (Halts _ (standing c.args.self.now) _ _ _) c.from_residual.ensures.1
+    (halts_after _ _ _ _ c.loop-rest.rest.now _ _ _ c.loop-rest.invariant.passed c.in_err-used.ensures.halts)
 
 pub returns-in_err-used-clause-gathers : goal.returns-in_err-used-clause-gathers
 returns-in_err-used-clause-gathers g c =
-    gathers_halts _ _ _ _ c.in_err-used.field-0.0 c.in_err-used.ensures.kind (halts_after _ _ _ _ c.loop-rest.rest.now _ _ c.loop-rest.invariant.passed c.in_err-used.ensures.halts)
+    gathers_halts _ _ _ _ _ c.in_err-used.field-0.0 c.in_err-used.ensures.kind (halts_after _ _ _ _ c.loop-rest.rest.now _ _ _ c.loop-rest.invariant.passed c.in_err-used.ensures.halts)
 
 pub returns-clause-onward : goal.returns-clause-onward
 returns-clause-onward g c = onward_all _ _ _ _ c.loop-rest.rest.now (search rules) c.loop-rest.invariant.passed
