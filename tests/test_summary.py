@@ -2,6 +2,7 @@
 
 import os
 import resource
+import tempfile
 import tty
 
 import buffers
@@ -9,6 +10,8 @@ import outside
 import schemas
 from buffers import ORC, SEVEN
 from outside import Ran, Talk, changed, lines, prefixed, refused, run, run_in_shell, spelled
+from test_ends import narrowed, the_library_is_built
+from test_refused_memory import ALONE, WITH_LATER, Refuser
 
 FILES = schemas.files()
 BY_M = ("--schema", FILES["M"], "--bare", "--summary")
@@ -132,6 +135,61 @@ def after_a_fault(cases):
                Ran(3, b"", lines(ONE, "fbcheck: write failed after 0 bytes")))
 
 
+def of_names(parts):
+    """The summary of these good messages by M, each behind its length."""
+    count = len(parts)
+    return f"summary: messages={count} yes={count} no=0 bytes={len(b''.join(parts))} tables={count} reads={9 * count}"
+
+
+def named_lines(parts):
+    """Their lines with their names."""
+    return b"".join(f'{number} ok tables=1 depth=1 reads=9 "'.encode() + part[32:].rstrip(b"\0") + b'"\n'
+                    for number, part in enumerate(parts, 1))
+
+
+def a_long_line_that_is_cut(cases):
+    """It is written while it is made. Where a write fails within it, its message is counted, and none behind it; so are
+    those whose lines waited with its end."""
+    words = *BY_M[:2], "--path", "name", "--summary"
+    parts = [prefixed(ORC), buffers.named(200_000), prefixed(ORC)]
+    stream, told = b"".join(parts), named_lines(parts)
+    cases.same("a long line", run(*words, given=stream), Ran(0, told, lines(of_names(parts))))
+    short = len(named_lines(parts[:1]))
+    for room, count in [
+        (0, 1), (short - 1, 1), (short, 2), (short + 1, 2), (short + 40, 2), (65_536, 2), (100_000, 2), (180_000, 2),
+        (len(told) - 40, 3), (len(told) - 1, 3),
+    ]:
+        for write in 65_536, 999:
+            cases.same(f"room for {room} bytes, {write} at a write", narrowed(*words, given=stream, room=room, write=write),
+                       Ran(3, told[:room], lines(of_names(parts[:count]), f"fbcheck: write failed after {room} bytes")))
+    bare = buffers.named(200_000, prefix=False)
+    for room in 0, 1, 40, 100_000, 199_999:
+        cases.same(f"room for {room} bytes of the line of a bare input",
+                   narrowed(*words, "--bare", given=bare, room=room)._replace(out=b""),
+                   Ran(3, b"", lines("summary: messages=1 yes=1 no=0 bytes=200000 tables=1 reads=8",
+                                     f"fbcheck: write failed after {room} bytes")))
+
+
+def memory_that_is_refused(cases):
+    """The lines that are written are those of the messages that are counted, whichever request is refused."""
+    words = [outside.PROGRAM, *BY_M[:2], "--path", "name", "--summary"]
+    parts = [buffers.named(length) for length in (48, 400, 120_000, 60, 3_000, 140_000, 52)]
+    fronts = {named_lines(parts[:count]): parts[:count] for count in range(len(parts) + 1)}
+    with tempfile.TemporaryDirectory() as folder:
+        refuser = Refuser(folder)
+        for extent, most in (ALONE, 100), (WITH_LATER, 65_536):
+            counts = set()
+            for first, ran in enumerate(refuser.sweep(words, b"".join(parts), extent, most), 1):
+                front = fronts.get(ran.out, [])
+                summary = [of_names(front)] if front or b"summary" in ran.err else []
+                fault = ["fbcheck: out of memory"] if ran.status else []
+                cases.same(f"request {first} is refused {extent}", (ran.out in fronts, ran.err),
+                           (True, lines(*summary, *fault)))
+                cases.same(f"request {first}, its status", ran.status, 0 if ran.out == max(fronts, key=len) else 3)
+                counts.add(len(front))
+            cases.holds(f"some are counted alone, refused {extent}", len(counts) > 2, counts)
+
+
 def standard_error_that_takes_no_more(cases):
     for name, redirections in [("full", "2>/dev/full"), ("closed", "2>&-")]:
         for told_of, words, given, out in [
@@ -172,6 +230,6 @@ def where_no_run_begins(cases):
 
 if __name__ == "__main__":
     outside.main(
-        the_line_at_the_end, reasons_stand_in_their_order, a_bare_input, after_a_fault,
-        standard_error_that_takes_no_more, where_no_run_begins,
+        the_line_at_the_end, reasons_stand_in_their_order, a_bare_input, after_a_fault, the_library_is_built,
+        a_long_line_that_is_cut, memory_that_is_refused, standard_error_that_takes_no_more, where_no_run_begins,
     )

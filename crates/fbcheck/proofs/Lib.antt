@@ -1,12 +1,14 @@
 mod AnswerLemmas
 mod AskedLemmas
 mod BareLemmas
+mod BehindLemmas
 mod CheckLemmas
 mod DefaultLemmas
 mod FilterLemmas
 mod FrontLemmas
 mod LineLemmas
 mod LinesLemmas
+mod LongLemmas
 mod OneAsk
 mod Pieces
 mod ProgramLemmas
@@ -16,4 +18,5 @@ mod Shown
 mod StreamLemmas
 mod SumsLemmas
 mod TextsLemmas
+mod ThroughLemmas
 mod WordsLemmas

@@ -73,7 +73,7 @@ tells_line job limit tally tally' bytes more held message text text' at is adds 
     )
 
 -- what was told is that of the first messages, whatever comes
-tells_some : (job : Job) (limit : ℕ) (tally : Tally) (bytes more held : List ℕ) (text : Texts) → Tells job limit bytes text tally held → TellsSome job limit (bytes ++ more) text tally
+pub tells_some : (job : Job) (limit : ℕ) (tally : Tally) (bytes more held : List ℕ) (text : Texts) → Tells job limit bytes text tally held → TellsSome job limit (bytes ++ more) text tally
 tells_some job limit tally bytes more held text (xs, splits, lines) =
     let further = readings_some limit (held ++ more) in
     (xs ++ further.0, further.1, xs, further.0, splits_then limit bytes more held further.1 xs further.0 splits further.2, refl, lines)

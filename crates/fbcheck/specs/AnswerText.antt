@@ -3,6 +3,8 @@ use Rattle.std.specs.Prelude.{ℕ, List, [], ◌∷◌, ◌++◌, ◌==◌, ◌|
 use Rattle.std.specs.Fmt.{signed_decimal}
 use Rattle.std.specs.List.{flat_map}
 use Rattle.hex.specs.Hex.{encode_lower}
+use Rattle.fbcheck.specs.declared.value_text.Spelling.{Spelling}
+use Rattle.fbcheck.specs.declared.value_text.Spelling.TheVariants.{Quoted, Digits}
 use Rattle.fb_access.specs.Denotes.{Shown, nothing, no_element, other_member, truth, signed, unsigned, float, text, structure, vector, table, union}
 
 -- a byte of a text: a quote and a backslash stand behind a backslash, and what isn't printable ASCII as two hexadecimal digits
@@ -11,6 +13,11 @@ byte_text b =
     if b == 34 || b == 92 then 92 ∷ b ∷ []
     else if nat_lt b 32 || nat_lt 126 b then codes "\\x" ++ encode_lower (b ∷ [])
     else b ∷ []
+
+-- a byte of a value, by how its bytes are written
+abbrev pub spelled : Spelling → ℕ → List ℕ
+spelled Quoted b = byte_text b
+spelled Digits b = encode_lower (b ∷ [])
 
 -- a text between quotes
 abbrev pub quoted : List ℕ → List ℕ

@@ -2,12 +2,12 @@
 use Rattle.std.specs.Prelude.{◌≡◌, ℕ, ◌+◌, ◌≤◌, List, [], ◌∷◌, ◌++◌, Option, length, take}
 use Rattle.std.specs.Io.KnownBytes.{Appends, Keeps}
 use Rattle.fbcheck.specs.Job.{Job, Verdict}
-use Rattle.fbcheck.specs.Texts.{Texts, followed, silent}
+use Rattle.fbcheck.specs.Texts.{Texts, followed, silent, to_out}
 use Rattle.fbcheck.specs.Line.{IsTold}
 use Rattle.fbcheck.specs.Sums.{no_tally, tally_with}
 use Rattle.fbcheck.specs.declared.tally.Tally.{Tally}
 use Rattle.fbcheck.specs.declared.fault.RunFault.{RunFault}
-use Rattle.fbcheck.specs.declared.fault.RunFault.TheVariants.{WriteFault, NoteFault}
+use Rattle.fbcheck.specs.declared.fault.RunFault.TheVariants.{OutOfMemory, WriteFault, NoteFault}
 
 -- the text is what is told of each message, numbered from k, and the messages come to this by their verdicts
 abbrev pub AreTold : Job → ℕ → List (List ℕ) → Texts → Tally → Type 0
@@ -36,6 +36,38 @@ pub record WritesFront (text : List ℕ) (sink sink' : Option (List ℕ)) (befor
   pub within : taken ≤ length text
   pub wrote : Appends sink sink' (take taken text)
   pub written_is : written ≡ before + taken
+
+-- this text came behind what waited: a front of both is written, with which so many bytes were in all, and the rest waits
+pub record ComesBehind (waits text waits' : List ℕ) (sink sink' : Option (List ℕ)) (before written : ℕ) : Type 0 where
+  pub front : List ℕ
+  pub whole : waits ++ text ≡ front ++ waits'
+  pub wrote : Appends sink sink' front
+  pub written_is : written ≡ before + length front
+
+-- what is told of a message with number k came behind this text, of which a front is written, and its verdict was counted
+pub record AddsThrough (job : Job) (k : ℕ) (message : List ℕ) (text : Texts) (tally : Tally) (text' : Texts) (tally' : Tally)
+    (sink sink' : Option (List ℕ)) (before written : ℕ) : Type 0 where
+  pub front : List ℕ
+  pub adds : AddsTold job k message text tally (followed (to_out front) text') tally'
+  pub wrote : Appends sink sink' front
+  pub written_is : written ≡ before + length front
+
+-- a text that came to rest: with nothing written where there was no memory, or within it where a write failed
+abbrev pub StopsIn : List ℕ → Option (List ℕ) → Option (List ℕ) → ℕ → RunFault → Type 0
+StopsIn text sink sink' before OutOfMemory = Keeps sink sink'
+StopsIn text sink sink' before (WriteFault written) = WritesFront text sink sink' before written
+StopsIn text sink sink' before _ = ⊥
+
+-- what is counted by then: the message too, unless there was no memory to tell of it
+abbrev pub tally_stopped : List ℕ → Verdict → Tally → RunFault → Tally
+tally_stopped message verdict tally OutOfMemory = tally
+tally_stopped message verdict tally _ = tally_with message verdict tally
+
+-- what is told of a message with number k came to rest so, behind this text, and this was counted by then
+abbrev pub StopsBehind : Job → ℕ → List ℕ → Texts → Tally → Tally → Option (List ℕ) → Option (List ℕ) → ℕ → RunFault → Type 0
+StopsBehind job k message text tally tally' sink sink' before fault =
+    (verdict : Verdict) × (line : Texts) × IsTold job k message verdict line × StopsIn (text.out ++ line.out) sink sink' before fault
+    × (tally' ≡ tally_stopped message verdict tally fault)
 
 -- a write came to rest within these texts: within that for the writer, with nothing noted, or behind it within the notes
 abbrev pub WritesFronts : Texts → Option (List ℕ) → Option (List ℕ) → Option (List ℕ) → Option (List ℕ) → ℕ → ℕ → RunFault → Type 0

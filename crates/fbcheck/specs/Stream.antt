@@ -1,12 +1,12 @@
 -- What a run over a stream has read and written, and how it ends.
-use Rattle.std.specs.Prelude.{◌≡◌, ℕ, ◌<◌, ◌≤◌, ◌^◌, false, List, [], ◌++◌, Option, length}
-use Rattle.std.specs.Io.KnownBytes.{Consumes, Appends}
+use Rattle.std.specs.Prelude.{◌≡◌, ℕ, ◌+◌, ◌<◌, ◌≤◌, ◌^◌, false, List, [], ◌++◌, Option, length}
+use Rattle.std.specs.Io.KnownBytes.{Consumes, Appends, Keeps}
 use Rattle.fb_bytes.specs.Framing.{Framing}
 use Rattle.fb_bytes.specs.Messages.{declared, IsPartial, IsOversize, Splits}
 use Rattle.fb_bytes.specs.declared.stream_fault.StreamFault.TheVariants as stream
 use Rattle.fbcheck.specs.Job.{Job}
-use Rattle.fbcheck.specs.Texts.{Texts, followed, to_notes, waiting}
-use Rattle.fbcheck.specs.Lines.{AreTold}
+use Rattle.fbcheck.specs.Texts.{Texts, followed, silent, to_notes, to_out, waiting}
+use Rattle.fbcheck.specs.Lines.{AreTold, WritesFront}
 use Rattle.fbcheck.specs.declared.stream.Carried.{Carried}
 use Rattle.fbcheck.specs.declared.tally.Tally.{Tally}
 use Rattle.fbcheck.specs.declared.fault.RunFault.{RunFault}
@@ -90,6 +90,17 @@ Onward job before piece after =
     (bytes : List ℕ) (written : Texts) → Tells job job.limit bytes (followed written before.text) before.tally before.held
     → Tells job job.limit (bytes ++ piece) (followed written after.text) after.tally after.held
 
+-- where one stands, with what was written by then
+abbrev pub with_written : List ℕ → Standing → Standing
+with_written front stand = record stand { text = followed (to_out front) stand.text }
+
+-- the same, where a front of what is told in the piece is written, with which so many bytes were in all
+pub record OnwardThrough (job : Job) (before : Standing) (piece : List ℕ) (after : Standing) (sink sink' : Option (List ℕ)) (count written : ℕ) : Type 0 where
+  pub front : List ℕ
+  pub onward : Onward job before piece (with_written front after)
+  pub wrote : Appends sink sink' front
+  pub written_is : written ≡ count + length front
+
 -- it comes to rest in the piece, where this text waits and this is counted
 abbrev pub Halts : Job → Standing → List ℕ → Texts → Tally → RunFault → Type 0
 Halts job before piece text tally fault =
@@ -101,6 +112,12 @@ abbrev pub Gathers : Job → Standing → List ℕ → Texts → Tally → Type 
 Gathers job before piece text tally =
     (bytes : List ℕ) (written : Texts) → Tells job job.limit bytes (followed written before.text) before.tally before.held
     → TellsSome job job.limit (bytes ++ piece) (followed written text) tally
+
+-- it comes to rest in the piece, where nothing waits and this is counted: within a write of what is told, or with nothing written
+abbrev pub HaltsThrough : Job → Standing → List ℕ → Tally → Option (List ℕ) → Option (List ℕ) → ℕ → RunFault → Type 0
+HaltsThrough job before piece tally sink sink' count (WriteFault written) =
+    (text : Texts) × Gathers job before piece text tally × WritesFront text.out sink sink' count written
+HaltsThrough job before piece tally sink sink' count fault = Halts job before piece silent tally fault × Keeps sink sink'
 
 -- what may end the feeding of a piece
 abbrev pub IsFeedFault : RunFault → Type 0

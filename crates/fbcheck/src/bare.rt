@@ -55,8 +55,9 @@ pub fn run_bare<A: Allocator, S: Input<K, N>, K: Sink, N: Sink>(
         turns,
     )?;
     let mut output = Output::new(&alloc);
-    output.add(checker, &mut scratch, bytes.as_slice())?;
+    let added = output.add_through(checker, &mut scratch, bytes.as_slice(), writer);
     *so_far = output.tally();
+    added?;
     output.flush(writer, notes)?;
     Ok(output.tally())
 }

@@ -22,6 +22,7 @@ mod files;
 mod front;
 mod input;
 mod line;
+mod long_end;
 mod options;
 mod output;
 mod reading;

@@ -7,7 +7,7 @@ ghost use Rattle.fbcheck.specs.AnswerText.{answer_text};
 ghost use Rattle.fbcheck.specs.Faults.{IsCaused};
 ghost use Rattle.fbcheck.specs.Job.{verdict_of};
 ghost use Rattle.fbcheck.specs.Line.{told_of, verdict_line};
-ghost use Rattle.fbcheck.specs.Lines.{AddsTold, WritesFronts};
+ghost use Rattle.fbcheck.specs.Lines.{AddsThrough, AddsTold, ComesBehind, StopsBehind, StopsIn, WritesFronts};
 ghost use Rattle.fbcheck.specs.Sums.{no_tally};
 ghost use Rattle.fbcheck.specs.Texts.{silent, waiting};
 
@@ -15,6 +15,7 @@ use crate::checker::{Checker, Found};
 use crate::counter::Counter;
 use crate::fault::RunFault;
 use crate::line::Line;
+use crate::long_end::long_end;
 use crate::options::Mode;
 use crate::tally::Tally;
 use crate::value_text::put_answer;
@@ -80,6 +81,81 @@ impl<A: Allocator> Output<A> {
         let number = 1 + self.counter.messages();
         self.tell(checker.mode(), number, message, &verdict)?;
         self.counter.count(message, &verdict);
+        Ok(())
+    }
+
+    /// Adds what is told of the next message, and counts its verdict. Where its line ends with a long value, the line is
+    /// written while it is made, and takes no memory; where that can't be written, the verdict is counted too. Where memory
+    /// is refused, nothing is told of the message, nor is it counted.
+    pub fn add_through<B: Allocator, K: Sink>(
+        &mut self,
+        checker: &Checker<'_, '_>,
+        scratch: &mut Scratch<B>,
+        message: &[u8],
+        writer: &mut K,
+    ) -> Result<(), RunFault>
+        requires room { checker.now.limits.depth ≤ scratch.old }
+        requires few { self.old.counter.yes + self.old.counter.no < 2 ^ 63 }
+        requires short { length message.now < 2 ^ 31 }
+        requires writes { K.calls writer.old < 2 ^ 99 + 2 ^ 97 }
+        requires written { self.old.out.written < 2 ^ 99 + 2 ^ 97 }
+        ensures ok { OnOk result (AddsThrough checker.now (1 + (self.old.counter.yes + self.old.counter.no)) message.now
+            (waiting self.old) self.old.counter (waiting self.new) self.new.counter
+            (K.contents writer.old) (K.contents writer.new) self.old.out.written self.new.out.written) }
+        ensures one { OnOk result (self.new.counter.yes + self.new.counter.no ≡ self.old.counter.yes + self.old.counter.no + 1) }
+        ensures err { IfErr result (λ fault. StopsBehind checker.now (1 + (self.old.counter.yes + self.old.counter.no)) message.now
+            (waiting self.old) self.old.counter self.new.counter (K.contents writer.old) (K.contents writer.new) self.old.out.written fault) }
+        ensures failed { IfErr result (λ fault. (failures complaints left : ℕ) (ended : Bool) → IsCaused failures failures
+            (K.failures writer.old) (K.failures writer.new) complaints complaints left ended fault) }
+        ensures unfailed { OnOk result (K.failures writer.new ≡ K.failures writer.old) }
+        ensures little { OnOk result (self.new.out.written ≤ self.old.out.written + 2 ^ 67) }
+        ensures calls { OnOk result (K.calls writer.new ≤ K.calls writer.old + 2 ^ 67) }
+        ensures noted { self.new.notes.written ≡ self.old.notes.written }
+        ensures scratch { scratch.new ≡ scratch.old }
+    {
+        let verdict = checker.verdict(scratch, message);
+        let number = 1 + self.counter.messages();
+        let told = self.tell_through(checker.mode(), number, message, &verdict, writer);
+        if let Err(RunFault::OutOfMemory) = told {
+            return told;
+        }
+        self.counter.count(message, &verdict);
+        told
+    }
+
+    /// Adds what the mode tells of message number `number` with this verdict. A line with a long value at its end is
+    /// written while it is made.
+    fn tell_through<K: Sink>(
+        &mut self,
+        mode: Mode,
+        number: u64,
+        message: &[u8],
+        verdict: &Result<Found<'_>, Fault>,
+        writer: &mut K,
+    ) -> Result<(), RunFault>
+        requires writes { K.calls writer.old < 2 ^ 99 + 2 ^ 97 }
+        requires written { self.old.out.written < 2 ^ 99 + 2 ^ 97 }
+        ensures ok { OnOk result (ComesBehind (waiting self.old).out (told_of mode number message.now (verdict_of verdict.now)).out
+            (waiting self.new).out (K.contents writer.old) (K.contents writer.new) self.old.out.written self.new.out.written) }
+        ensures notes { OnOk result ((waiting self.new).notes ≡ (waiting self.old).notes ++ (told_of mode number message.now (verdict_of verdict.now)).notes) }
+        ensures err { IfErr result (λ fault. StopsIn ((waiting self.old).out ++ (told_of mode number message.now (verdict_of verdict.now)).out)
+            (K.contents writer.old) (K.contents writer.new) self.old.out.written fault) }
+        ensures failed { IfErr result (λ fault. (failures complaints left : ℕ) (ended : Bool) → IsCaused failures failures
+            (K.failures writer.old) (K.failures writer.new) complaints complaints left ended fault) }
+        ensures unfailed { OnOk result (K.failures writer.new ≡ K.failures writer.old) }
+        ensures little { OnOk result (self.new.out.written ≤ self.old.out.written + 2 ^ 67) }
+        ensures calls { OnOk result (K.calls writer.new ≤ K.calls writer.old + 2 ^ 67) }
+        ensures counted { self.new.counter ≡ self.old.counter }
+        ensures noted { self.new.notes.written ≡ self.old.notes.written }
+    {
+        let Some(end) = long_end(mode, verdict) else {
+            return Ok(self.tell(mode, number, message, verdict)?);
+        };
+        self.line.set(number, verdict);
+        let line = self.line.bytes();
+        if let Err(Unwritten { written }) = end.put_behind(line, &mut self.out, writer) {
+            return Err(RunFault::WriteFault { written });
+        }
         Ok(())
     }
 
@@ -158,7 +234,7 @@ impl<A: Allocator> Output<A> {
 
     /// Writes what waits, first for the writer and then for the notes.
     pub fn flush<K: Sink, N: Sink>(&mut self, writer: &mut K, notes: &mut N) -> Result<(), RunFault>
-        requires writes { K.calls writer.old < 2 ^ 99 }
+        requires writes { K.calls writer.old < 2 ^ 99 + 2 ^ 98 }
         requires tells { N.calls notes.old < 2 ^ 99 }
         requires written { self.old.out.written < 2 ^ 100 }
         requires noted { self.old.notes.written < 2 ^ 100 }

@@ -1,10 +1,10 @@
 //! A run over a stream of size-prefixed buffers.
 
-ghost use Rattle.std.specs.Prelude.{IfOk, IfErr, OnOk, ◌≡◌, ◌+◌, ◌-◌, ◌<◌, ◌≤◌, ◌^◌, ℕ, List, Option, [], length, take};
-ghost use Rattle.fbcheck.specs.Faults.{EndsBeside};
+ghost use Rattle.std.specs.Prelude.{IfOk, IfErr, OnOk, ◌≡◌, ◌+◌, ◌-◌, ◌<◌, ◌≤◌, ◌^◌, ℕ, Bool, List, Option, [], length, take};
+ghost use Rattle.fbcheck.specs.Faults.{EndsBeside, IsCaused};
 ghost use Rattle.fbcheck.specs.Prompt.{IsStreamPrompt};
 ghost use Rattle.fbcheck.specs.Run.{IsStreamRun};
-ghost use Rattle.fbcheck.specs.Stream.{Gathers, Halts, IsFeedFault, IsReady, Onward, standing};
+ghost use Rattle.fbcheck.specs.Stream.{Gathers, Halts, HaltsThrough, IsFeedFault, IsReady, Onward, OnwardThrough, standing};
 ghost use Rattle.fbcheck.specs.Sums.{no_tally};
 ghost use Rattle.fbcheck.specs.Texts.{silent, waiting};
 
@@ -49,6 +49,51 @@ impl<'a, A: Allocator> Carried<&'a A> {
 }
 
 impl<A: Allocator> Carried<A> {
+    /// Goes on with the message that is held in part, if one is: feeds the framer bytes from the front of a piece, up to
+    /// the end of that message, and adds what is told of it. Answers how many bytes that were. A long value is written at
+    /// once; nothing is to wait by then.
+    fn pass_held<K: Sink>(
+        &mut self,
+        checker: &Checker<'_, '_>,
+        piece: &[u8],
+        writer: &mut K,
+    ) -> Result<usize, RunFault>
+        requires ready { IsReady checker.now self.old.framer self.old.scratch }
+        requires few { self.old.output.counter.yes + self.old.output.counter.no < 2 ^ 62 }
+        requires empty { waiting self.old.output ≡ silent }
+        requires writes { K.calls writer.old < 2 ^ 99 + 2 ^ 97 }
+        requires little { self.old.output.out.written < 2 ^ 99 + 2 ^ 97 }
+
+        ensures within { IfOk result (λ used. used ≤ length piece.now) }
+        ensures onward { IfOk result (λ used. OnwardThrough checker.now (standing self.old) (take used piece.now) (standing self.new)
+            (K.contents writer.old) (K.contents writer.new) self.old.output.out.written self.new.output.out.written) }
+        ensures ready { OnOk result (IsReady checker.now self.new.framer self.new.scratch) }
+        ensures few { OnOk result (self.new.output.counter.yes + self.new.output.counter.no
+            ≤ self.old.output.counter.yes + self.old.output.counter.no + 1) }
+
+        ensures halts { IfErr result (λ fault. HaltsThrough checker.now (standing self.old) piece.now
+            self.new.output.counter (K.contents writer.old) (K.contents writer.new) self.old.output.out.written fault) }
+        ensures failed { IfErr result (λ fault. (failures complaints left : ℕ) (ended : Bool) → IsCaused failures failures
+            (K.failures writer.old) (K.failures writer.new) complaints complaints left ended fault) }
+        ensures unfailed { OnOk result (K.failures writer.new ≡ K.failures writer.old) }
+        ensures little { OnOk result (self.new.output.out.written ≤ self.old.output.out.written + 2 ^ 67) }
+        ensures calls { OnOk result (K.calls writer.new ≤ K.calls writer.old + 2 ^ 67) }
+        ensures noted { self.new.output.notes.written ≡ self.old.output.notes.written }
+    {
+        let held = self.framer.held();
+        if held == 0 {
+            return Ok(0);
+        }
+        let taken = self.framer.feed(piece)?;
+        let Some(message) = self.framer.message() else {
+            return Ok(taken.used);
+        };
+        self.output
+            .add_through(checker, &mut self.scratch, message, writer)?;
+        self.framer.next();
+        Ok(taken.used)
+    }
+
     /// Passes a whole piece, and adds what is told of the messages that end in it.
     fn use_up(&mut self, checker: &Checker<'_, '_>, piece: &[u8]) -> Result<(), RunFault>
         requires ready { IsReady checker.now self.old.framer self.old.scratch }
@@ -179,7 +224,10 @@ pub fn run_stream<A: Allocator, S: Input<K, N>, K: Sink, N: Sink>(
             Err(_) => return Err(RunFault::ReadFault),
         };
         let piece = &piece.as_slice()[..read];
-        let used = carried.use_up(checker, piece);
+        let held = carried.pass_held(checker, piece, writer);
+        *so_far = carried.output.tally();
+        let held = held?;
+        let used = carried.use_up(checker, &piece[held..]);
         *so_far = carried.output.tally();
         carried.output.flush(writer, notes)?;
         used?;

@@ -1,10 +1,10 @@
 //! The text of a value at the end of a path.
 
-ghost use Rattle.std.specs.Prelude.{OnOk, ◌≡◌, ◌++◌, length};
+ghost use Rattle.std.specs.Prelude.{OnOk, ◌≡◌, ◌≤◌, ◌++◌, ◌∷◌, [], length, take};
 ghost use Rattle.std.specs.List.{flat_map};
 ghost use Rattle.hex.specs.Hex.{encode_lower};
 ghost use Rattle.fb_access.specs.Denotes.{shown};
-ghost use Rattle.fbcheck.specs.AnswerText.{answer_text, byte_text, quoted};
+ghost use Rattle.fbcheck.specs.AnswerText.{answer_text, byte_text, quoted, spelled};
 
 use fb_access::Answer;
 use itoa::{Buffer, Integer};
@@ -105,4 +105,54 @@ fn put_byte<A: Allocator>(text: &mut Vec<u8, A>, byte: u8) -> Result<(), AllocEr
     } else {
         text.extend_from_slice(&[byte])
     }
+}
+
+/// How each byte of a value is written.
+#[derive(Clone, Copy)]
+pub enum Spelling {
+    /// As in a text between quotes.
+    Quoted,
+    /// As two hexadecimal digits.
+    Digits,
+}
+
+/// One byte as it is written: the first of four bytes, and how many of them those are.
+pub fn spell(spelling: Spelling, byte: u8) -> ([u8; 4], usize)
+    ensures text { take result.1 result.0 ≡ spelled spelling byte }
+    ensures fits { result.1 ≤ 4 }
+{
+    match spelling {
+        Spelling::Quoted => quote(byte),
+        Spelling::Digits => {
+            let mut spelled = [0u8; 4];
+            put_digits(&mut spelled[..2], byte);
+            (spelled, 2)
+        }
+    }
+}
+
+/// The same of one byte of a text, as `put_byte` adds it.
+fn quote(byte: u8) -> ([u8; 4], usize)
+    ensures text { take result.1 result.0 ≡ byte_text byte }
+    ensures fits { result.1 ≤ 4 }
+{
+    if byte == b'"' || byte == b'\\' {
+        ([b'\\', byte, 0, 0], 2)
+    } else if byte < b' ' || b'~' < byte {
+        let mut spelled = [b'\\', b'x', 0, 0];
+        put_digits(&mut spelled[2..], byte);
+        (spelled, 4)
+    } else {
+        ([byte, 0, 0, 0], 1)
+    }
+}
+
+/// Puts the two hexadecimal digits of a byte into this place.
+fn put_digits(place: &mut [u8], byte: u8)
+    requires { length place.old ≡ 2 }
+    ensures { place.new ≡ encode_lower (byte ∷ []) }
+{
+    let Ok(()) = hex::encode_to_slice([byte].as_slice(), place) else {
+        unreachable!()
+    };
 }

@@ -1,8 +1,8 @@
 //! Writing to a sink that may take a text in parts, and a sink that keeps nothing.
 
-ghost use Rattle.std.specs.Prelude.{OnOk, OnErr, IfErr, ◌≡◌, ◌+◌, ◌<◌, ◌≤◌, ◌^◌, [], None, length, take};
+ghost use Rattle.std.specs.Prelude.{IfOk, OnOk, OnErr, IfErr, ◌≡◌, ◌+◌, ◌<◌, ◌≤◌, ◌^◌, ◌++◌, [], None, length, take};
 ghost use Rattle.std.specs.Io.KnownBytes.{Appends};
-ghost use Rattle.fbcheck.specs.Lines.{WritesFront};
+ghost use Rattle.fbcheck.specs.Lines.{ComesBehind, WritesFront};
 
 use fb_bytes::Sink;
 use std::alloc::Allocator;
@@ -34,6 +34,28 @@ pub struct Unwritten {
     pub written: u128,
 }
 
+/// Writes the text to a sink that took so many bytes before, and answers how many it took in all.
+fn write_all<K: Sink>(sink: &mut K, text: &[u8], before: u128) -> Result<u128, Unwritten>
+    requires calls { K.calls sink.old < 2 ^ 99 + 2 ^ 98 }
+    requires little { before < 2 ^ 100 }
+    ensures ok { OnOk result (Appends (K.contents sink.old) (K.contents sink.new) text.now) }
+    ensures written { IfOk result (λ written. written ≡ before + length text.now) }
+    ensures err { IfErr result (λ cause. WritesFront text.now (K.contents sink.old) (K.contents sink.new) before cause.written) }
+    ensures failed { OnErr result (K.failures sink.old < K.failures sink.new) }
+    ensures unfailed { OnOk result (K.failures sink.new ≡ K.failures sink.old) }
+    ensures calls { K.calls sink.new ≤ K.calls sink.old + length text.now }
+{
+    let taken = push_all(sink, text);
+    let written = before + taken as u128;
+    if taken < text.len() {
+        return Err(Unwritten { written });
+    }
+    Ok(written)
+}
+
+/// Where as many bytes wait, they are written.
+pub const MOST_WAITING: usize = 65_536;
+
 /// Bytes that wait to be written to one sink, and how many it took before.
 #[derive(Drop)]
 pub struct Pending<A: Allocator> {
@@ -57,7 +79,7 @@ impl<'a, A: Allocator> Pending<&'a A> {
 impl<A: Allocator> Pending<A> {
     /// Writes the bytes that wait.
     pub fn flush<K: Sink>(&mut self, sink: &mut K) -> Result<(), Unwritten>
-        requires calls { K.calls sink.old < 2 ^ 99 }
+        requires calls { K.calls sink.old < 2 ^ 99 + 2 ^ 98 }
         requires little { self.old.written < 2 ^ 100 }
         ensures ok { OnOk result (Appends (K.contents sink.old) (K.contents sink.new) self.old.bytes.items) }
         ensures empty { OnOk result (self.new.bytes.items ≡ []) }
@@ -68,15 +90,35 @@ impl<A: Allocator> Pending<A> {
         ensures unfailed { OnOk result (K.failures sink.new ≡ K.failures sink.old) }
         ensures little { self.new.written ≤ self.old.written + 2 ^ 64 }
         ensures calls { K.calls sink.new ≤ K.calls sink.old + 2 ^ 64 }
+        ensures pushes { K.calls sink.new ≤ K.calls sink.old + length self.old.bytes.items }
     {
-        let taken = push_all(sink, self.bytes.as_slice());
-        self.written += taken as u128;
-        if taken < self.bytes.len() {
-            return Err(Unwritten {
-                written: self.written,
-            });
-        }
+        self.written = write_all(sink, self.bytes.as_slice(), self.written)?;
         self.bytes.clear();
+        Ok(())
+    }
+
+    /// Adds a text behind what waits. Where much waits by then, it is written; where memory is refused, so is the text
+    /// itself.
+    pub fn put<K: Sink>(&mut self, sink: &mut K, text: &[u8]) -> Result<(), Unwritten>
+        requires calls { K.calls sink.old < 2 ^ 99 + 2 ^ 97 + 2 ^ 96 }
+        requires little { self.old.written < 2 ^ 99 + 2 ^ 98 }
+        ensures ok { OnOk result (ComesBehind self.old.bytes.items text.now self.new.bytes.items
+            (K.contents sink.old) (K.contents sink.new) self.old.written self.new.written) }
+        ensures err { IfErr result (λ cause. WritesFront (self.old.bytes.items ++ text.now) (K.contents sink.old) (K.contents sink.new)
+            self.old.written cause.written) }
+        ensures failed { OnErr result (K.failures sink.old < K.failures sink.new) }
+        ensures unfailed { OnOk result (K.failures sink.new ≡ K.failures sink.old) }
+        ensures calls { OnOk result (K.calls sink.new + length self.new.bytes.items ≤ K.calls sink.old + length self.old.bytes.items + length text.now) }
+        ensures count { OnOk result (self.new.written + length self.new.bytes.items ≡ self.old.written + length self.old.bytes.items + length text.now) }
+    {
+        let added = self.bytes.extend_from_slice(text);
+        if added.is_ok() && self.bytes.len() < MOST_WAITING {
+            return Ok(());
+        }
+        self.flush(sink)?;
+        if added.is_err() {
+            self.written = write_all(sink, text, self.written)?;
+        }
         Ok(())
     }
 }

@@ -1,7 +1,9 @@
-use Rattle.std.proofs.Common.{◌+◌, ◌-◌, rules, ap, refl}
+use Rattle.std.proofs.Common.{◌+◌, ◌-◌, ◌∙◌, rules, ap, refl, take}
+use Rattle.std.proofs.lemmas.List.{take_rest}
 use Rattle.fbcheck.specs.Faults.{EndsBeside}
 use Rattle.fbcheck.specs.Run.{IsStreamRun}
-use Rattle.fbcheck.proofs.RunLemmas.{caused_flush, err_exit, fails_counted, fails_empty, fails_used, fails_write, sofar_more, sofar_nothing}
+use Rattle.fbcheck.proofs.RunLemmas.{caused_flush, err_exit, fails_counted, fails_empty, sofar_nothing}
+use Rattle.fbcheck.proofs.ThroughLemmas.{fails_held, sofar_held, used_held, write_held}
 use Rattle.fbcheck.specs.Stream.{Standing, standing}
 use Rattle.fbcheck.specs.Texts.{waiting}
 use Rattle.fbcheck.proofs.stream.run_stream.Goals as goal
@@ -42,6 +44,7 @@ loop-left-init g c =
 pub loop-left-preserved : goal.loop-left-preserved
 loop-left-preserved g c =
     let before = c.loop-left.invariant in
+    let held = c.in_ok-held.ensures in
     let used = c.in_ok-used.ensures in
     let flushed = c.in_ok-flush.ensures in
     let after : Standing = record { text = waiting c.flush.new.self; tally = c.flush.new.self.counter; held = c.use_up-used.new.self.framer.held } in
@@ -50,7 +53,9 @@ loop-left-preserved g c =
       ready = used.ready;
       empty = flushed.empty;
       counted = search rules;
-      told = sofar_more _ (standing c.loop-left.carried) (standing c.use_up-used.new.self) after _ _ _ _ _ _ _ _ _ _ _ _ _ _ _ _ c.as_slice.ensures.value before.empty (search rules) (search rules) flushed.counted refl before.told c.in-Ok.ensures.ok used.onward flushed.wrote flushed.told;
+      told = sofar_held _ (standing c.loop-left.carried) (standing c.pass_held-held.new.self) _ _ _ _ c.in_ok-held.held _ _ _ _ _ _ _ _ _ _ _ _ _
+          c.as_slice.ensures.value before.empty (take_rest (take c.in-Ok.read c.as_slice.result.now) c.in_ok-held.held) before.told c.in-Ok.ensures.ok held.onward (standing c.use_up-used.new.self) after _ _
+          (search rules) (search rules) flushed.counted refl used.onward flushed.wrote flushed.told;
       fewer = search rules;
       calls = search rules;
       few = search rules;
@@ -67,10 +72,12 @@ pub returns-in_err-flush-clause-run : goal.returns-in_err-flush-clause-run
 returns-in_err-flush-clause-run g c =
     let before = c.loop-left.invariant in
     err_exit c.from_residual-in_err-flush.result _
-    (IsStreamRun c.args.checker.now (g.S.Input.remaining c.args.reader.now) (g.S.Input.remaining c.pull_piece.new.source) (g.K.Sink.contents c.args.writer.now) (g.K.Sink.contents c.flush.new.writer) (g.N.Sink.contents c.args.notes.now) (g.N.Sink.contents c.flush.new.notes) c.tally-in-loop-left.result)
+    (IsStreamRun c.args.checker.now (g.S.Input.remaining c.args.reader.now) (g.S.Input.remaining c.pull_piece.new.source) (g.K.Sink.contents c.args.writer.now) (g.K.Sink.contents c.flush.new.writer) (g.N.Sink.contents c.args.notes.now) (g.N.Sink.contents c.flush.new.notes) c.tally-in-loop-left-2.result)
     c.from_residual-in_err-flush.ensures.1
-    (fails_counted _ _ _ _ _ _ _ _ _ _ _ c.tally-in-loop-left.ensures
-    (fails_write _ (standing c.loop-left.carried) _ _ _ _ _ _ _ _ _ _ _ _ _ _ _ _ _ _ _ c.as_slice.ensures.value before.empty c.use_up-used.ensures.written c.use_up-used.ensures.noted before.told c.in-Ok.ensures.ok c.use_up-used.ensures.gathers c.in_err-flush.ensures.err))
+    (fails_counted _ _ _ _ _ _ _ _ _ _ _ c.tally-in-loop-left-2.ensures
+    (write_held _ (standing c.loop-left.carried) (standing c.pass_held-held.new.self) _ _ _ _ c.in_ok-held.held _ _ _ _ _ _ _ _ _ _ _ _ _
+    c.as_slice.ensures.value before.empty (take_rest (take c.in-Ok.read c.as_slice.result.now) c.in_ok-held.held) before.told c.in-Ok.ensures.ok c.in_ok-held.ensures.onward
+    _ _ _ _ _ c.use_up-used.ensures.written (c.use_up-used.ensures.noted ∙ c.pass_held-held.ensures.noted) c.use_up-used.ensures.gathers c.in_err-flush.ensures.err))
 
 pub returns-in_err-flush-clause-end : goal.returns-in_err-flush-clause-end
 returns-in_err-flush-clause-end g c =
@@ -79,13 +86,33 @@ returns-in_err-flush-clause-end g c =
     (EndsBeside (g.S.Input.failures c.args.reader.now) (g.S.Input.failures c.pull_piece.new.source) (g.K.Sink.failures c.args.writer.now) (g.K.Sink.failures c.flush.new.writer) (g.N.Sink.failures c.args.notes.now) (g.N.Sink.failures c.flush.new.notes)
     (g.S.Input.calls c.args.reader.now + c.args.turns - g.S.Input.calls c.pull_piece.new.source) (g.S.Input.ended c.pull_piece.new.source))
     c.from_residual-in_err-flush.ensures.1
-    (caused_flush _ _ _ _ _ _ _ _ _ _ c.in_err-flush.field-0.0 before.refusals before.complaints c.in_err-flush.ensures.failed)
+    (caused_flush _ _ _ _ _ _ _ _ _ _ c.in_err-flush.field-0.0 (c.in_ok-held.ensures.unfailed ∙ before.refusals) before.complaints c.in_err-flush.ensures.failed)
 
 pub returns-in_err-used-clause-run : goal.returns-in_err-used-clause-run
 returns-in_err-used-clause-run g c =
     let before = c.loop-left.invariant in
     err_exit c.from_residual-in_err-used.result _
-    (IsStreamRun c.args.checker.now (g.S.Input.remaining c.args.reader.now) (g.S.Input.remaining c.pull_piece.new.source) (g.K.Sink.contents c.args.writer.now) (g.K.Sink.contents c.flush.new.writer) (g.N.Sink.contents c.args.notes.now) (g.N.Sink.contents c.flush.new.notes) c.tally-in-loop-left.result)
+    (IsStreamRun c.args.checker.now (g.S.Input.remaining c.args.reader.now) (g.S.Input.remaining c.pull_piece.new.source) (g.K.Sink.contents c.args.writer.now) (g.K.Sink.contents c.flush.new.writer) (g.N.Sink.contents c.args.notes.now) (g.N.Sink.contents c.flush.new.notes) c.tally-in-loop-left-2.result)
     c.from_residual-in_err-used.ensures.1
+    (fails_counted _ _ _ _ _ _ _ _ _ _ _ c.tally-in-loop-left-2.ensures
+    (used_held _ (standing c.loop-left.carried) (standing c.pass_held-held.new.self) _ _ _ _ c.in_ok-held.held _ _ _ _ _ _ _ _ _ _ _ _ _
+    c.as_slice.ensures.value before.empty (take_rest (take c.in-Ok.read c.as_slice.result.now) c.in_ok-held.held) before.told c.in-Ok.ensures.ok c.in_ok-held.ensures.onward
+    _ _ _ c.in_err-used.ensures.halts c.in_ok-flush.ensures.wrote c.in_ok-flush.ensures.told))
+
+pub returns-in_err-held-clause-run : goal.returns-in_err-held-clause-run
+returns-in_err-held-clause-run g c =
+    let before = c.loop-left.invariant in
+    err_exit c.from_residual-in_err-held.result _
+    (IsStreamRun c.args.checker.now (g.S.Input.remaining c.args.reader.now) (g.S.Input.remaining c.pull_piece.new.source) (g.K.Sink.contents c.args.writer.now) (g.K.Sink.contents c.pass_held-held.new.writer) (g.N.Sink.contents c.args.notes.now) (g.N.Sink.contents c.loop-left.notes) c.tally-in-loop-left.result)
+    c.from_residual-in_err-held.ensures.1
     (fails_counted _ _ _ _ _ _ _ _ _ _ _ c.tally-in-loop-left.ensures
-    (fails_used _ (standing c.loop-left.carried) _ _ _ _ _ _ _ _ _ _ _ _ _ _ _ _ _ c.as_slice.ensures.value before.empty before.told c.in-Ok.ensures.ok c.in_err-used.ensures.halts c.in_ok-flush.ensures.wrote c.in_ok-flush.ensures.told))
+    (fails_held _ (standing c.loop-left.carried) _ _ _ _ _ _ _ _ _ _ _ _ _ _ c.in_err-held.field-0.0 c.as_slice.ensures.value before.empty before.told c.in-Ok.ensures.ok c.in_err-held.ensures.halts))
+
+pub returns-in_err-held-clause-end : goal.returns-in_err-held-clause-end
+returns-in_err-held-clause-end g c =
+    let before = c.loop-left.invariant in
+    err_exit c.from_residual-in_err-held.result _
+    (EndsBeside (g.S.Input.failures c.args.reader.now) (g.S.Input.failures c.pull_piece.new.source) (g.K.Sink.failures c.args.writer.now) (g.K.Sink.failures c.pass_held-held.new.writer) (g.N.Sink.failures c.args.notes.now) (g.N.Sink.failures c.loop-left.notes)
+    (g.S.Input.calls c.args.reader.now + c.args.turns - g.S.Input.calls c.pull_piece.new.source) (g.S.Input.ended c.pull_piece.new.source))
+    c.from_residual-in_err-held.ensures.1
+    (caused_flush _ _ _ _ _ _ _ _ _ _ c.in_err-held.field-0.0 before.refusals before.complaints (λ x y z. c.in_err-held.ensures.failed x _ y z))

@@ -14,10 +14,10 @@ invariant-loop-left g l = record {
       (g.N.Sink.contents l.initial.notes) (g.N.Sink.contents l.notes) (standing l.carried) l.carried.output.out.written l.carried.output.notes.written;
   fewer : l.left ≤ l.initial.left;
   calls : g.S.Input.calls l.reader + l.left ≡ g.S.Input.calls l.initial.reader + l.initial.left;
-  few : l.carried.output.counter.yes + l.carried.output.counter.no + 65536 * l.left ≤ 65536 * l.initial.left;
-  little : l.carried.output.out.written + 2 ^ 64 * l.left ≤ 2 ^ 64 * l.initial.left;
+  few : l.carried.output.counter.yes + l.carried.output.counter.no + 65537 * l.left ≤ 65537 * l.initial.left;
+  little : l.carried.output.out.written + 9 * 2 ^ 64 * l.left ≤ 9 * 2 ^ 64 * l.initial.left;
   less : l.carried.output.notes.written + 2 ^ 64 * l.left ≤ 2 ^ 64 * l.initial.left;
-  writes : g.K.Sink.calls l.writer + 2 ^ 64 * l.left ≤ g.K.Sink.calls l.initial.writer + 2 ^ 64 * l.initial.left;
+  writes : g.K.Sink.calls l.writer + 9 * 2 ^ 64 * l.left ≤ g.K.Sink.calls l.initial.writer + 9 * 2 ^ 64 * l.initial.left;
   tells : g.N.Sink.calls l.notes + 2 ^ 64 * l.left ≤ g.N.Sink.calls l.initial.notes + 2 ^ 64 * l.initial.left;
   failures : g.S.Input.failures l.reader ≡ g.S.Input.failures l.initial.reader;
   refusals : g.K.Sink.failures l.writer ≡ g.K.Sink.failures l.initial.writer;
