@@ -24,8 +24,11 @@ NOTHING = spelled("00000000")
 NO_OFFSET = changed(SEVEN, (4, "00000000"))
 
 YES = "ok tables=1 depth=1 reads=5"
-NO = {ODD: "bad V3 Misaligned at=7 object=0 field=- reads=3", NOTHING: "bad V2 OutOfBuffer at=4 object=0 field=- reads=1",
-      NO_OFFSET: "bad V4 ZeroOffset at=4 object=0 field=- reads=2"}
+NO = {
+    ODD: "bad V3 Misaligned at=7 object=0 field=- reads=3",
+    NOTHING: "bad V2 OutOfBuffer at=4 object=0 field=- reads=1",
+    NO_OFFSET: "bad V4 ZeroOffset at=4 object=0 field=- reads=2",
+}
 EMPTY = "summary: messages=0 yes=0 no=0 bytes=0 tables=0 reads=0"
 ONE = "summary: messages=1 yes=1 no=0 bytes=32 tables=1 reads=5"
 

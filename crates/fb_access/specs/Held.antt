@@ -1,4 +1,5 @@
--- What holds at a spot of a buffer that was verified, whatever the checks were, so that reading there stays in the buffer.
+-- What holds at a spot of a buffer that was verified, whatever the checks were, so that reading there stays in the
+-- buffer.
 use Rattle.std.specs.Prelude.{ℕ, ◌+◌, ◌*◌, ◌<◌, ◌≤◌, List, length, IsTrue}
 use Rattle.fb_bytes.specs.Word.{word}
 use Rattle.fb_schema.specs.declared.kinds.Kind.{Kind}

@@ -1,4 +1,5 @@
--- What a reader of a good buffer relies on: wherever steps lead from the root table, the bytes of what is there lie in the buffer.
+-- What a reader of a good buffer relies on: wherever steps lead from the root table, the bytes of what is there lie in
+-- the buffer.
 use Rattle.std.specs.Prelude.{ℕ, ◌+◌, ◌≤◌, List, length}
 use Rattle.fb_bytes.specs.Word.{word}
 use Rattle.fb_schema.specs.Rows.{Rows}
@@ -11,8 +12,9 @@ use Rattle.fb_access.specs.declared.spot.Spot.TheVariants.{AtTable, AtInline, At
 use Rattle.fb_access.specs.Denotes.{Reaches, root_spot}
 use Rattle.fb_access.specs.Held.{IsCounted, HasVtable}
 
--- of a table its soffset and its vtable; of a value in place all its bytes; of a string or a vector its count and so many bytes or
--- elements behind it, an offset word being 4 bytes, and of unions their types too; what stands behind an offset word is a spot of its own
+-- of a table its soffset and its vtable; of a value in place all its bytes; of a string or a vector its count and so
+-- many bytes or elements behind it, an offset word being 4 bytes, and of unions their types too; what stands behind an
+-- offset word is a spot of its own
 abbrev pub LiesInside : List ℕ → Rows → Spot → Type 0
 LiesInside b S (AtTable k t) = HasVtable b t
 LiesInside b S (AtInline s p) = p + scalar_size s ≤ length b

@@ -32,7 +32,8 @@ kind_at AtAbsent = None
 kind_at AtNoElement = None
 kind_at AtOtherMember = None
 
--- a field of the table at t with the slot o that is present at p: an offset word there leads to all but scalars, structs and unions
+-- a field of the table at t with the slot o that is present at p: an offset word there leads to all but scalars,
+-- structs and unions
 unfoldable pub present_spot : List ℕ → ℕ → ℕ → ℕ → Kind → Spot
 present_spot b t o p (AScalar s) = AtInline s p
 present_spot b t o p (Struct k) = AtStruct k p

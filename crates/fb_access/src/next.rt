@@ -33,7 +33,8 @@ fn spot_of_field(window: &Window<'_>, schema: &Schema<'_>, spot: Spot, number: u
     }
 }
 
-/// Where element `j` stands of the vector at a position, whose elements have this many bytes; none where there are no more than `j`.
+/// Where element `j` stands of the vector at a position, whose elements have this many bytes; none where there are no
+/// more than `j`.
 fn place_of_element(window: &Window<'_>, at: u64, size: u64, j: u32) -> Option<u64>
     requires short { length window.now < 2 ^ 31 }
     requires counted { IsCounted window.now at size }

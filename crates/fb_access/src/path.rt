@@ -34,14 +34,15 @@ impl<A: Allocator> Model for Path<A> {
 impl<A: Allocator> Path<A> {
     /// The path that a text names from the table `root`.
     ///
-    /// The text is the name of a field, and then any number of `.name` (a field), `[n]` (an element) and `@Name` (the member of
-    /// a union). A name is a letter or `_` and then letters, digits and `_`, all ASCII. n is `0`, or digits of which the first
-    /// isn't `0`, and at most 4294967295. Only live fields can be named, and only members with values from 1 to 255.
+    /// The text is the name of a field, and then any number of `.name` (a field), `[n]` (an element) and `@Name` (the
+    /// member of a union). A name is a letter or `_` and then letters, digits and `_`, all ASCII. n is `0`, or digits
+    /// of which the first isn't `0`, and at most 4294967295. Only live fields can be named, and only members with
+    /// values from 1 to 255.
     ///
     /// # Errors
     ///
-    /// P1 where the text isn't of this grammar. Where it is, P2 to P6 for the first step that doesn't fit. P7 where memory was
-    /// refused, in place of any.
+    /// P1 where the text isn't of this grammar. Where it is, P2 to P6 for the first step that doesn't fit. P7 where
+    /// memory was refused, in place of any.
     pub fn resolve(
         alloc: A,
         schema: &Schema<'_>,

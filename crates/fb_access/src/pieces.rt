@@ -59,8 +59,8 @@ fn split_word<'t>(text: &'t [u8]) -> (&'t [u8], &'t [u8])
     text.split_at(word_length(text))
 }
 
-/// The first part of what is left of a path's text, none where nothing is left. A path's first name, and it alone, stands
-/// without a dot.
+/// The first part of what is left of a path's text, none where nothing is left. A path's first name, and it alone,
+/// stands without a dot.
 pub fn cut_part<'t>(text: &'t [u8]) -> Option<Cut<'t>>
     requires { IsCuttable text.now }
     ensures none { IsNone result ↔ (text.now ≡ []) }

@@ -59,8 +59,8 @@ pub fn at_root<'v, 'b, 's, 'n>(verified: &'v Verified<'b, 's, 'n>) -> Place<'v, 
 }
 
 impl<'v, 'b, 's, 'n> Place<'v, 'b, 's, 'n> {
-    /// Whether what is here has this step: a table its live fields, a vector every element's number, a union the members of its enum.
-    /// Where nothing is, every step is allowed.
+    /// Whether what is here has this step: a table its live fields, a vector every element's number, a union the
+    /// members of its enum. Where nothing is, every step is allowed.
     pub fn allows(&self, step: Step) -> bool
         ensures { result ≡ allows ((self.now).sealed).schema (self.now).spot step }
     {
@@ -68,14 +68,14 @@ impl<'v, 'b, 's, 'n> Place<'v, 'b, 's, 'n> {
         next_spot(verified.window(), verified.schema(), self.spot, step).is_some()
     }
 
-    /// One step on. An absent field without a default, an element past the count and a member of another type lead to where nothing
-    /// is; from there every step leads to the same.
+    /// One step on. An absent field without a default, an element past the count and a member of another type lead to
+    /// where nothing is; from there every step leads to the same.
     pub fn go(&self, step: Step) -> Self
         requires { IsTrue (allows ((self.now).sealed).schema (self.now).spot step) }
         ensures same { result.sealed ≡ (self.now).sealed }
         ensures leads { Leads ((self.now).sealed).bytes ((self.now).sealed).schema (self.now).spot step result.spot }
-        // For who knows the schema: from a spot of a kind it leads to one of the next kind, and to a field that is required or has a
-        // default it leads for certain.
+        // For who knows the schema: from a spot of a kind it leads to one of the next kind, and to a field that is
+        // required or has a default it leads for certain.
         ensures kinds { KindsGoOn ((self.now).sealed).schema (self.now).spot step result.spot }
         ensures here { HereGoesOn ((self.now).sealed).schema (self.now).spot step result.spot }
     {

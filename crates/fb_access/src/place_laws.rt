@@ -1,4 +1,5 @@
-// What follows from the definitions of paths and values alone. These functions have no body: their contracts are the theorems.
+// What follows from the definitions of paths and values alone. These functions have no body: their contracts are the
+// theorems.
 
 ghost use Rattle.fb_access.specs.PlaceLaws.{LeadsWhereAllowed, HasOneValue};
 

@@ -40,8 +40,8 @@ pub fn elements_stand_in_row()
 {}
 
 /// Whatever steps lead to in a buffer that was verified lies in that buffer, with its count and all its elements: a
-/// reader who goes by the schema from the root table, and reads what is there, reads nothing outside. The rows are to be
-/// such as serve, and each schema's are, by the clause `served` of `Schema::lawful`.
+/// reader who goes by the schema from the root table, and reads what is there, reads nothing outside. The rows are to
+/// be such as serve, and each schema's are, by the clause `served` of `Schema::lawful`.
 #[tactic(auto, using(crate::proofs::Staying::values_lie_inside))]
 pub fn values_lie_inside()
     ensures { ValuesLieInside }

@@ -1,4 +1,5 @@
--- What the rows of a schema file are: each is what the paths of its table lead to, by the field numbers of reflection.fbs.
+-- What the rows of a schema file are: each is what the paths of its table lead to, by the field numbers of
+-- reflection.fbs.
 use Rattle.std.specs.Prelude.{◌≡◌, ℕ, pos, negsuc, List, [], ◌∷◌, ◌⊎◌, Option, Some, None}
 use Rattle.std.specs.Borrow.{Bor}
 use Rattle.fb_schema.specs.declared.rows.TypeRow.{TypeRow}

@@ -32,8 +32,8 @@ pub fn objects(alloc: Global) -> Result<Vec<ObjectRow<'static>>, AllocError>
 
 /// The fixed table: what a schema file (`.bfbs`) is verified and read by.
 ///
-/// It has the ten tables of reflection.fbs under their own names, `reflection.Schema` among them, and no enums. It demands of a
-/// file less than reflection.fbs does: only what a reader of rows needs is required.
+/// It has the ten tables of reflection.fbs under their own names, `reflection.Schema` among them, and no enums. It
+/// demands of a file less than reflection.fbs does: only what a reader of rows needs is required.
 ///
 /// # Errors
 ///

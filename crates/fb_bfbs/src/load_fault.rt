@@ -14,7 +14,8 @@ use std::fmt;
 /// Why a schema file gives no schema. They are asked in the order L5, L1, L2, L3; L4 may come in place of any but L5.
 #[derive(Clone, Copy, Debug, PartialEq, Eq)]
 pub enum LoadFault {
-    /// L1: the bytes aren't a bare buffer with the identifier `BFBS` that is well formed by the fixed table, within the limits.
+    /// L1: the bytes aren't a bare buffer with the identifier `BFBS` that is well formed by the fixed table, within the
+    /// limits.
     NotWellFormed(Fault),
     /// L2: the rows that the file describes are no schema. The code is never C9.
     BadSchema(SchemaFault),

@@ -1,4 +1,5 @@
-// What follows from the definitions of schema files alone. These functions have no body: their contracts are the theorems.
+// What follows from the definitions of schema files alone. These functions have no body: their contracts are the
+// theorems.
 
 ghost use Rattle.fb_bfbs.specs.LoadLaws.{DescribesOnce, HasOneAnswer};
 
@@ -7,8 +8,8 @@ pub fn a_file_describes_once()
     ensures { DescribesOnce }
 {}
 
-/// At most one answer applies to bytes: what is loaded of them, or one fault of L1, L2, L3 and L5. So `load`, whose answers apply wherever
-/// they aren't L4, gives each exactly where it applies.
+/// At most one answer applies to bytes: what is loaded of them, or one fault of L1, L2, L3 and L5. So `load`, whose
+/// answers apply wherever they aren't L4, gives each exactly where it applies.
 pub fn one_answer_applies()
     ensures { HasOneAnswer }
 {}

@@ -64,15 +64,17 @@ fn read<'b>(alloc: Global, bytes: &'b [u8], limits: Limits) -> Result<FileRows<'
     Ok(file_rows(alloc, &verified)?)
 }
 
-/// Loads a schema file: verifies it by the fixed table ([`reflection`]) as a bare buffer with the identifier `BFBS`, within these
-/// limits and with the checks of the published verifier, takes its rows by the paths of reflection.fbs, and builds them.
+/// Loads a schema file: verifies it by the fixed table ([`reflection`]) as a bare buffer with the identifier `BFBS`,
+/// within these limits and with the checks of the published verifier, takes its rows by the paths of reflection.fbs,
+/// and builds them.
 ///
 /// The names in the schema, and the identifier, are lent by the bytes.
 ///
 /// # Errors
 ///
-/// L5 where there are 2^31 bytes or more; then L1 where the verifier says no; then L2 where the rows that the file describes are no
-/// schema; then L3 where the file has a root table and no listed table has its name. L4 may come in place of any but L5.
+/// L5 where there are 2^31 bytes or more; then L1 where the verifier says no; then L2 where the rows that the file
+/// describes are no schema; then L3 where the file has a root table and no listed table has its name. L4 may come in
+/// place of any but L5.
 pub fn load<'b>(alloc: Global, bytes: &'b [u8], limits: Limits) -> Result<Loaded<'b>, LoadFault>
     ensures yes { IfOk result (λ loaded. IsLoaded bytes.now limits loaded) }
     ensures root { IfOk result (λ loaded. HasTableForRoot loaded) }

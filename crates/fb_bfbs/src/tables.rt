@@ -1,5 +1,5 @@
-// The ten tables of reflection.fbs in the order of their numbers, each with its fields in the order of theirs. Of what is
-// required only that is demanded which a reader of rows needs.
+// The ten tables of reflection.fbs in the order of their numbers, each with its fields in the order of theirs. Of what
+// is required only that is demanded which a reader of rows needs.
 
 ghost use Rattle.std.specs.Prelude.{◌≡◌, IfOk};
 ghost use Rattle.fb_schema.specs.Rows.{object_of};

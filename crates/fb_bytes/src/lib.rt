@@ -1,9 +1,10 @@
 //! The bytes that a verifier looks at, and the ends that they come from and go to.
 //!
-//! A [`Meter`] counts every number that is read of a buffer; to a loop it lends its bytes as [`Reads`], which count in a
-//! register. Sealed, it is a [`Window`], whose reads are free. [`Source`] and [`Sink`] are readers and writers that tell
-//! how often they were called, how often they failed, and whether the input has ended; [`Counted`] makes one of any
-//! reader or writer of std. A [`Framer`] finds the messages in a stream of size-prefixed buffers that comes in pieces.
+//! A [`Meter`] counts every number that is read of a buffer; to a loop it lends its bytes as [`Reads`], which count in
+//! a register. Sealed, it is a [`Window`], whose reads are free. [`Source`] and [`Sink`] are readers and writers that
+//! tell how often they were called, how often they failed, and whether the input has ended; [`Counted`] makes one of
+//! any reader or writer of std. A [`Framer`] finds the messages in a stream of size-prefixed buffers that comes in
+//! pieces.
 #![tactic(auto)]
 
 pub mod counted;

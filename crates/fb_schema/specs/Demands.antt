@@ -157,8 +157,8 @@ struct_field_demands rows bytesize f named =
     ∷ record { code = BadStruct; broken = passes_end rows bytesize f }
     ∷ []
 
--- of a field of a table, where an earlier one has its name or not, its slot or not, and where a type byte and a vector of
--- type bytes stand in the slot two below or not
+-- of a field of a table, where an earlier one has its name or not, its slot or not, and where a type byte and a vector
+-- of type bytes stand in the slot two below or not
 abbrev pub table_field_demands : Rows → Field → Bool → Bool → Bool → Bool → List Demand
 table_field_demands rows f named taken byte vector =
     record { code = NameTwice; broken = named }
@@ -180,8 +180,8 @@ member_demands rows m taken named =
 
 -- The demands by their keys.
 
--- Where a demand stands: 0 for objects and 1 for enums, the number of the object or enum, 0 before its list and p + 1 at the
--- item at p, and the demand's place among those of the item.
+-- Where a demand stands: 0 for objects and 1 for enums, the number of the object or enum, 0 before its list and p + 1
+-- at the item at p, and the demand's place among those of the item.
 pub record Key : Type 0 where
   pub level : ℕ
   pub number : ℕ

@@ -76,8 +76,8 @@ fn lacks_type_field(shape: Option<Shape>, byte: bool, vector: bool) -> bool
     }
 }
 
-/// What a field of a table is asked beside its own row: whether an earlier field has its name, or its slot, and whether a type
-/// byte, or a vector of type bytes, stands in the slot two below.
+/// What a field of a table is asked beside its own row: whether an earlier field has its name, or its slot, and whether
+/// a type byte, or a vector of type bytes, stands in the slot two below.
 #[derive(Clone, Copy)]
 pub struct Beside {
     pub named: bool,
@@ -110,7 +110,8 @@ pub fn table_field_fault(rows: &RowLists, field: &FieldRow, beside: &Beside) -> 
     }
 }
 
-/// The code of the first demand that a union's member breaks, where an earlier one has its value or not, and its name or not.
+/// The code of the first demand that a union's member breaks, where an earlier one has its value or not, and its name
+/// or not.
 pub fn member_fault(rows: &RowLists, member: &MemberRow, taken: bool, named: bool) -> Option<Code>
     ensures { result ≡ first_code (member_demands (borrowed_rows rows.now) (member_of_row member.now) taken named) }
 {

@@ -19,7 +19,8 @@ pub enum Code {
     NoTypeField,
     /// C6: a struct's size or alignment can't be, or one of its fields is no inline value or passes its end.
     BadStruct,
-    /// C7: a union's member has a value outside 0 to 255 or one that is there twice, or is neither an object nor a string.
+    /// C7: a union's member has a value outside 0 to 255 or one that is there twice, or is neither an object nor a
+    /// string.
     BadMember,
     /// C8: two objects, two fields of an object or two members of a union have one name.
     NameTwice,
@@ -29,8 +30,8 @@ pub enum Code {
 
 /// The first demand that rows don't meet.
 ///
-/// `owner` is the number of the object, or of the enum where a member is at fault; `part` is the place of the field or member
-/// in its list, none where the object itself is at fault.
+/// `owner` is the number of the object, or of the enum where a member is at fault; `part` is the place of the field or
+/// member in its list, none where the object itself is at fault.
 #[derive(Clone, Copy, Debug, PartialEq, Eq)]
 pub struct SchemaFault {
     pub code: Code,

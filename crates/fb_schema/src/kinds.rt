@@ -19,7 +19,8 @@ pub enum Scalar {
 
 /// What a field of a table, or a member of a union, holds.
 ///
-/// The number of a `Struct`, `Table`, `Structs` or `Tables` is that of an object, and of a `Union` or `Unions` that of an enum.
+/// The number of a `Struct`, `Table`, `Structs` or `Tables` is that of an object, and of a `Union` or `Unions` that of
+/// an enum.
 #[derive(Clone, Copy, Debug, PartialEq, Eq)]
 pub enum Kind {
     Scalar(Scalar),

@@ -30,7 +30,8 @@ fn fields_fault<A: Allocator + Copy>(
     }
 }
 
-/// The first demand that a member of an enum breaks, with the member's place. An enum that is no union is asked nothing.
+/// The first demand that a member of an enum breaks, with the member's place. An enum that is no union is asked
+/// nothing.
 fn union_fault<A: Allocator + Copy>(
     alloc: A,
     rows: &RowLists,

@@ -2,9 +2,9 @@
 
 /// The type of a field or member (table `Type` of reflection.fbs).
 ///
-/// `base` and `element` are numbers of `BaseType`. `element` counts only where `base` is a vector or an array, and `index` only
-/// where the type or its element is an object or a union: it is the number of that object or enum. `fixed_length` is the
-/// number of elements of an array.
+/// `base` and `element` are numbers of `BaseType`. `element` counts only where `base` is a vector or an array, and
+/// `index` only where the type or its element is an object or a union: it is the number of that object or enum.
+/// `fixed_length` is the number of elements of an array.
 #[derive(Clone, Copy, Debug, PartialEq, Eq)]
 pub struct TypeRow {
     pub base: i8,
@@ -15,8 +15,8 @@ pub struct TypeRow {
 
 /// A field of a table or struct (table `Field` of reflection.fbs).
 ///
-/// In a table `slot` is the field's place in a vtable, in bytes; in a struct it is the field's place in the struct, in bytes.
-/// `default` is the integer default of a scalar. `deprecated` has no meaning in a struct.
+/// In a table `slot` is the field's place in a vtable, in bytes; in a struct it is the field's place in the struct, in
+/// bytes. `default` is the integer default of a scalar. `deprecated` has no meaning in a struct.
 #[derive(Clone, Copy, Debug)]
 pub struct FieldRow<'n> {
     pub name: &'n [u8],

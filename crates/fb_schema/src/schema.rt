@@ -48,8 +48,8 @@ impl<'n, A: Allocator> Model for Schema<'n, A> {
 }
 
 impl<'n, A: Allocator + Copy> Schema<'n, A> {
-    /// Takes rows that are legal, and refuses others by the first demand that they break (C1 to C8). C9 is answered only where a
-    /// growth was refused. What was handed in is dropped on a refusal.
+    /// Takes rows that are legal, and refuses others by the first demand that they break (C1 to C8). C9 is answered
+    /// only where a growth was refused. What was handed in is dropped on a refusal.
     pub fn build(
         alloc: A,
         objects: Vec<ObjectRow<'n>>,
@@ -77,8 +77,8 @@ impl<'n, A: Allocator + Copy> Schema<'n, A> {
         })
     }
 
-    /// The rows of a schema are legal, and serve a reader of buffers: each live field has a kind, what kinds name is there, and a
-    /// union's type field stands before it. The call does nothing: its contract is what it is for.
+    /// The rows of a schema are legal, and serve a reader of buffers: each live field has a kind, what kinds name is
+    /// there, and a union's type field stands before it. The call does nothing: its contract is what it is for.
     pub fn lawful(&self)
         ensures legal { IsLegal self.now }
         ensures served { IsServed self.now }
@@ -201,7 +201,8 @@ impl<'n, A: Allocator + Copy> Schema<'n, A> {
         self.live.required[n as usize]
     }
 
-    /// The kind of the member of a union with this value, none where no member has it. The value 0 is the union without a value.
+    /// The kind of the member of a union with this value, none where no member has it. The value 0 is the union without
+    /// a value.
     pub fn member_of(&self, e: u32, value: u8) -> Option<Kind>
         requires { IsTrue (is_union self.now e) }
         ensures { result ≡ member_of self.now e value }

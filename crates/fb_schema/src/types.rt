@@ -248,7 +248,8 @@ impl<'r, 'n> RowLists<'r, 'n> {
         }
     }
 
-    /// The bytes that a struct's field of this type takes. They can be negative, where the struct that it names has such a size.
+    /// The bytes that a struct's field of this type takes. They can be negative, where the struct that it names has
+    /// such a size.
     #[tactic(auto, unfolding(crate::specs::Demands::inline_bytes))]
     pub fn inline_bytes(&self, ty: TypeRow) -> i64
         ensures value { result ≡ inline_bytes (borrowed_rows self.now) ty }

@@ -13,9 +13,9 @@ pub struct ObjectView<'n> {
 
 /// A live field of a table, with what a reader of buffers needs.
 ///
-/// `number` is the field number and `slot` the place of its word in a vtable, in bytes. `size` and `align` are, in bytes, those of
-/// a scalar or struct, of one element of a vector of these, and 4 for every other kind. `companion` is, for a union and
-/// a vector of unions, the place of its type field among the live fields of the table.
+/// `number` is the field number and `slot` the place of its word in a vtable, in bytes. `size` and `align` are, in
+/// bytes, those of a scalar or struct, of one element of a vector of these, and 4 for every other kind. `companion` is,
+/// for a union and a vector of unions, the place of its type field among the live fields of the table.
 #[derive(Clone, Copy, Debug)]
 pub struct FieldView<'n> {
     pub number: u16,

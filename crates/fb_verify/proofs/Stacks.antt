@@ -21,10 +21,6 @@ module _ {X : Type 0} (xs : List X) (m : ℕ) (d : X) (some : 0 < m) (room : m �
     pub all_below : All P (take (m - 1) xs)
     all_below = rw (take-take (m - 1) m xs (omega arith)) at (All-take P (m - 1) (take m xs) holds)
 
--- one more after the first m
-pub take_grown : {X : Type 0} (xs : List X) (m : ℕ) (y : X) → m < length xs → take (m + 1) (set xs m y) ≡ take m xs ++ y ∷ []
-take_grown xs m y more = take_more_set xs m y more
-
 -- A row in two parts, of which the first ends with the frame that is written.
 module _ {X : Type 0} (xs low high : List X) (m : ℕ) (y : X) (parts : xs ≡ low ++ high) (front : length low ≡ m + 1) where
   within : m < length (set low m y)

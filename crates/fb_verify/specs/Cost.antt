@@ -22,8 +22,8 @@ abbrev pub reads_if_present : ℕ → Option ℕ → ℕ
 reads_if_present n None = 0
 reads_if_present n (Some q) = n
 
--- a present field, after its own slot: for a union its type field's slot and type, for unions that slot, the types' offset and their
--- count, for each vector its offset and count
+-- a present field, after its own slot: for a union its type field's slot and type, for unions that slot, the types'
+-- offset and their count, for each vector its offset and count
 abbrev pub present_reads : List ℕ → ℕ → ℕ → Kind → ℕ
 present_reads b t o (Scalar s) = 0
 present_reads b t o (Struct k) = 0

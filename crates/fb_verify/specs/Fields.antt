@@ -73,7 +73,8 @@ IsPresentOrAbsent c b S t f (Some p) = IsPresent c b S t f p f.kind
 unfoldable pub IsField : Checks → List ℕ → Rows → ℕ → Live → Type 0
 IsField c b S t f = IsPresentOrAbsent c b S t f (field_place b t f.slot)
 
--- What an offset word leads to: a table of this object, a struct, a string, or nothing, since the type of the union is 0 or unknown.
+-- What an offset word leads to: a table of this object, a struct, a string, or nothing, since the type of the union is
+-- 0 or unknown.
 pub data Lead : Type 0 where
   to_table : (object : ℕ) → Lead
   to_struct : (size align : ℕ) → Lead

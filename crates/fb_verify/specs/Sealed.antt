@@ -18,8 +18,8 @@ pub record Sealed : Type 0 where
   pub report : Report
 
 -- the bytes, of which there are fewer than 2^31, unfold by the schema from the root, which is a table, into a tree that
--- the report counts: its tables, its depth, and its reads with those of the start, of which an identifier that was asked
--- for is one
+-- the report counts: its tables, its depth, and its reads with those of the start, of which an identifier that was
+-- asked for is one
 pub record IsUnfolded (v : Sealed) : Type 0 where
   pub short : length v.bytes < 2 ^ 31
   pub root_is_table : IsTrue (is_table v.schema v.root)

@@ -117,8 +117,9 @@ pub record IsAtField (w : Walk) (counted : ℕ) (m : Metered) (s : Origin) (belo
   pub present : (f : Live) → slice_get (live_fields w.schema.now (top.table).object) top.next ≡ Some f → (field_place m.bytes (top.table).at f.slot ≡ Some place) × IsTrue (has_slot m.bytes (top.table).at f.slot)
   pub near : place < 2 ^ 34
 
--- a walk through these bytes, which came to r reads, where the last ones were those of the first offset word that is left
--- of the top's field: it leads to this table. Before them, with four for each word that is left, there were so many at most
+-- a walk through these bytes, which came to r reads, where the last ones were those of the first offset word that is
+-- left of the top's field: it leads to this table. Before them, with four for each word that is left, there were so
+-- many at most
 pub record IsAtTable (w : Walk) (b : List ℕ) (r : ℕ) (s : Origin) (below : List Frame) (top : Frame) (most : ℕ) (child : Child) : Type 0 where
   pub before : ℕ
   pub count : r ≡ before + (first_word b w.schema.now top.row).reads + lead_reads (first_word b w.schema.now top.row).lead

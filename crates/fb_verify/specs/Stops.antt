@@ -18,8 +18,8 @@ use Rattle.fb_verify.specs.WellFormed.{base, start_reads, IsStart}
 use Rattle.fb_verify.specs.Order.{Failure, check, ◌▷◌, start_failure, head_failure, own_failure, element_failure}
 use Rattle.fb_verify.specs.Way.{Way, way_to_start, way_to_root, way_to_field, way_to_element, way_to_table, StaysWithin}
 
--- a place where conditions are asked: the start, the head of the table at t of the object k, the field g of the table at t before its elements, or an
--- element of a field
+-- a place where conditions are asked: the start, the head of the table at t of the object k, the field g of the table
+-- at t before its elements, or an element of a field
 pub data Place : Type 0 where
   in_start : Start → Ident → Place
   in_head : (k t : ℕ) → Place

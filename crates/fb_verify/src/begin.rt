@@ -106,8 +106,8 @@ fn check_start(
     read_offset(meter, checks, base)
 }
 
-/// Reads all that stands before the root table, asks the budget, and answers where that table stands. What fails does so at
-/// this site.
+/// Reads all that stands before the root table, asks the budget, and answers where that table stands. What fails does
+/// so at this site.
 #[tactic(auto, using(crate::proofs::Refusals::told_after))]
 pub fn read_start(
     meter: &mut Meter<'_>,

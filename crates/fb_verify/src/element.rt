@@ -66,8 +66,8 @@ fn pass_referent(
     }
 }
 
-/// Checks the first offset word of a row, and answers the table to which it leads, if it does; else the budget is asked. What
-/// fails does so at this site.
+/// Checks the first offset word of a row, and answers the table to which it leads, if it does; else the budget is
+/// asked. What fails does so at this site.
 #[tactic(auto, using(crate::proofs::Refusals::told_after), unfolding(crate::specs::Order::element_failure))]
 pub fn pass_element(
     meter: &mut Meter<'_>,

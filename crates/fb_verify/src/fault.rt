@@ -3,8 +3,8 @@
 ghost use Rattle.std.specs.Prelude.{◌≡◌, ◌≤◌, length};
 ghost use Rattle.fb_verify.specs.Reasons.{reason_text};
 
-/// Why a buffer is refused, by the codes V1 to V13 in their order. What is asked is said by FlatBuffers Internals; the order in which it is asked,
-/// and the position that each fault names, by the project.
+/// Why a buffer is refused, by the codes V1 to V13 in their order. What is asked is said by FlatBuffers Internals; the
+/// order in which it is asked, and the position that each fault names, by the project.
 #[derive(Clone, Copy, Debug, PartialEq, Eq)]
 pub enum Reason {
     /// V1: the prefix isn't the number of the bytes after it.

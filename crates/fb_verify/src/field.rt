@@ -78,8 +78,8 @@ fn read_vector_field(
     Ok(Vector { at, count })
 }
 
-/// Checks a present vector of scalars or structs of this size and alignment. What the reader answers has its room in here, where no
-/// other kind of field pays for it.
+/// Checks a present vector of scalars or structs of this size and alignment. What the reader answers has its room in
+/// here, where no other kind of field pays for it.
 #[inline(always)]
 fn check_vector_field(
     meter: &mut Meter<'_>,
@@ -121,8 +121,8 @@ fn read_type(meter: &mut Meter<'_>, spot: FieldSpot, slot: u16) -> u8
     }
 }
 
-/// Reads again where the types of a vector of unions begin, whose field has this slot, and how many they are: none where
-/// their field is absent.
+/// Reads again where the types of a vector of unions begin, whose field has this slot, and how many they are: none
+/// where their field is absent.
 #[inline(never)]
 fn read_types(meter: &mut Meter<'_>, spot: FieldSpot, slot: u16) -> Vector
     requires few { meter.old.count < 2 ^ 98 }
@@ -263,8 +263,8 @@ fn pass_vector(
     })
 }
 
-/// Checks a present field by itself that is a vector or a union, and answers the offset words by which it leads on. It stands
-/// apart, so that fields of other kinds pay nothing for its room.
+/// Checks a present field by itself that is a vector or a union, and answers the offset words by which it leads on. It
+/// stands apart, so that fields of other kinds pay nothing for its room.
 #[inline(never)]
 #[tactic(auto, unfolding(crate::specs::Fields::row))]
 fn check_vector_or_union(
@@ -352,7 +352,8 @@ fn check_present(
 }
 
 /// Goes on with a field of a table that stands at this place, whose slot was the last read: checks it by itself, asks
-/// the budget, and answers whether the field leads on, and then by which offset words. What fails does so at this field.
+/// the budget, and answers whether the field leads on, and then by which offset words. What fails does so at this
+/// field.
 #[inline(always)]
 #[tactic(auto, using(crate::proofs::Refusals::told_after), unfolding(crate::specs::Order::own_failure, crate::specs::Cost::own_reads, crate::specs::Fields::entries))]
 pub fn pass_present(
@@ -402,8 +403,8 @@ pub fn pass_present(
     }
 }
 
-/// Checks a field of a table by itself, asks the budget, and answers whether the field leads on, and then by which offset words.
-/// What fails does so at this field.
+/// Checks a field of a table by itself, asks the budget, and answers whether the field leads on, and then by which
+/// offset words. What fails does so at this field.
 #[inline(always)]
 #[tactic(auto, using(crate::proofs::Refusals::told_after), unfolding(crate::specs::Order::own_failure, crate::specs::Cost::own_reads, crate::specs::Fields::entries))]
 pub fn pass_field(

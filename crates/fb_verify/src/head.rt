@@ -94,8 +94,8 @@ fn check_head(meter: &mut Meter<'_>, checks: Checks, at: u64) -> Result<Head, Re
     })
 }
 
-/// Reads the head of the table at a position, of this object, and asks the budget. What fails does so in this table, before its
-/// first field.
+/// Reads the head of the table at a position, of this object, and asks the budget. What fails does so in this table,
+/// before its first field.
 #[inline(always)]
 #[tactic(auto, using(crate::proofs::Refusals::told_after))]
 pub fn read_head(

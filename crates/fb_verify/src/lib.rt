@@ -1,4 +1,5 @@
-//! Checks a buffer against a schema: the question, its answers, the walk that finds them, and the laws of what they mean.
+//! Checks a buffer against a schema: the question, its answers, the walk that finds them, and the laws of what they
+//! mean.
 #![tactic(auto)]
 
 mod begin;

@@ -11,8 +11,8 @@ const DEEPEST: u32 = 4096;
 /// More reads than any walk makes. In place of a budget, so that with and without one a walk makes the same test.
 const NO_BUDGET: u128 = u128::MAX;
 
-/// How many tables may be open at once, 0 to 4,096, how many may be opened in all, and how many reads may be made, if these
-/// are bounded. A table that is visited again counts again, with its reads.
+/// How many tables may be open at once, 0 to 4,096, how many may be opened in all, and how many reads may be made, if
+/// these are bounded. A table that is visited again counts again, with its reads.
 #[derive(Clone, Copy, Debug, PartialEq, Eq)]
 pub struct Limits {
     depth: u32,
@@ -76,8 +76,8 @@ impl Limits {
         }
     }
 
-    /// The same limits with a budget of so many counted reads: the time of a verification is bounded by them, which depth
-    /// and tables don't do, as each visit of a table may walk the same long vector again.
+    /// The same limits with a budget of so many counted reads: the time of a verification is bounded by them, which
+    /// depth and tables don't do, as each visit of a table may walk the same long vector again.
     pub fn with_reads(self, most: u64) -> Self
         ensures { result ≡ record self { reads = Some most } }
     {

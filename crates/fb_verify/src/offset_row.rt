@@ -17,7 +17,8 @@ pub enum Referent {
     Struct(u32, u32),
 }
 
-/// What the offset words of a row refer to: all to the same, or each to the member of the union with the type at a position.
+/// What the offset words of a row refer to: all to the same, or each to the member of the union with the type at a
+/// position.
 #[derive(Clone, Copy, Debug, PartialEq, Eq)]
 pub enum Leads {
     All(Referent),

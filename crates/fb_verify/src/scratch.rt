@@ -14,7 +14,8 @@ use std::marker::Model;
 /// The greatest depth, in tables.
 const DEEPEST: u32 = 4096;
 
-/// An open table: its next live field, the number of the field before that, and what is left of that field's offset words.
+/// An open table: its next live field, the number of the field before that, and what is left of that field's offset
+/// words.
 #[derive(Clone, Copy)]
 pub struct Frame {
     pub table: Table,

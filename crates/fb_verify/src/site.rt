@@ -31,8 +31,8 @@ pub fn refuse(at: u64, reason: Reason) -> Refusal
     Refusal { at, reason }
 }
 
-/// Where a walk stops, and why. The refusal stands first, so that in an answer that is this or an open table, numbers of eight bytes
-/// share a place with numbers of eight bytes, and none is written in pieces.
+/// Where a walk stops, and why. The refusal stands first, so that in an answer that is this or an open table, numbers
+/// of eight bytes share a place with numbers of eight bytes, and none is written in pieces.
 #[derive(Clone, Copy, Debug, PartialEq, Eq)]
 pub struct Stop {
     pub refusal: Refusal,
@@ -54,7 +54,8 @@ impl Stop {
     }
 }
 
-/// Whether a position is a multiple of an alignment other than 2, 4 and 8. It stands apart, so that these need no table of jumps.
+/// Whether a position is a multiple of an alignment other than 2, 4 and 8. It stands apart, so that these need no table
+/// of jumps.
 #[inline(never)]
 fn is_multiple_of_other(at: u64, align: u32) -> bool
     requires { 0 < align }

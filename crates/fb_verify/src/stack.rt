@@ -25,7 +25,8 @@ use crate::site::{Refusal, Site, Stop, refuse};
 use fb_bytes::{Meter, Reads};
 use fb_schema::Schema;
 
-/// What a walk carries: what it is asked, the tables that it opened, and the greatest number of them that were open at once.
+/// What a walk carries: what it is asked, the tables that it opened, and the greatest number of them that were open at
+/// once.
 #[derive(Drop)]
 pub struct Walk<'s, 'n> {
     pub schema: &'s Schema<'n>,
@@ -165,8 +166,8 @@ impl<'s, 'n> Walk<'s, 'n> {
 
     /// Passes fields of the top table until one is there that may lead to a table, and answers whether one is; the
     /// position is then moved to where it stands. Where a test fails, that is the next field, and the position is moved
-    /// to where it fails. The budget allows whatever the fields cost. These are the walk's own checks, which a caller may
-    /// know as constants. Only the contract speaks of the meter that lent the bytes.
+    /// to where it fails. The budget allows whatever the fields cost. These are the walk's own checks, which a caller
+    /// may know as constants. Only the contract speaks of the meter that lent the bytes.
     #[inline(always)]
     fn pass_plain(
         &self,
@@ -222,8 +223,8 @@ impl<'s, 'n> Walk<'s, 'n> {
         Ok(false)
     }
 
-    /// The same by the meter, whatever the checks are: it lends its bytes meanwhile, and takes them back with the reads that
-    /// were made.
+    /// The same by the meter, whatever the checks are: it lends its bytes meanwhile, and takes them back with the reads
+    /// that were made.
     #[cold]
     #[inline(never)]
     fn pass_on_by_checks(
@@ -338,8 +339,8 @@ impl<'s, 'n> Walk<'s, 'n> {
         }
     }
 
-    /// Opens the frame of a table that was opened below another frame, and passes its fields until one leads on. Answers
-    /// whether one does; else the table is passed to its end, so that the walk goes on in the frame above.
+    /// Opens the frame of a table that was opened below another frame, and passes its fields until one leads on.
+    /// Answers whether one does; else the table is passed to its end, so that the walk goes on in the frame above.
     #[inline(always)]
     fn pass_below(
         &self,
@@ -365,9 +366,9 @@ impl<'s, 'n> Walk<'s, 'n> {
         self.pass_fields(meter, below)
     }
 
-    /// Passes offset words that are left of the top table's field, each with all that it leads to, until one leads to a table
-    /// with a field that leads on in its turn, and answers whether one does: the frame of that table is the first of the room
-    /// then. So many frames wait below the top.
+    /// Passes offset words that are left of the top table's field, each with all that it leads to, until one leads to a
+    /// table with a field that leads on in its turn, and answers whether one does: the frame of that table is the first
+    /// of the room then. So many frames wait below the top.
     #[inline(always)]
     fn pass_elements(
         &mut self,
@@ -406,9 +407,9 @@ impl<'s, 'n> Walk<'s, 'n> {
         Ok(false)
     }
 
-    /// One step of the walk: goes on in the top table to a table below it, which becomes the top, or to its end, where the
-    /// table above it becomes the top. So many frames wait below the top, and the answer says how many do after; none where
-    /// the first table is closed.
+    /// One step of the walk: goes on in the top table to a table below it, which becomes the top, or to its end, where
+    /// the table above it becomes the top. So many frames wait below the top, and the answer says how many do after;
+    /// none where the first table is closed.
     fn turn(
         &mut self,
         meter: &mut Meter<'_>,

@@ -5,8 +5,8 @@
 pub enum Start {
     /// The root offset stands at byte 0.
     Bare,
-    /// A u32 stands at byte 0 that counts the bytes after it, and the root offset at byte 4 (a size-prefixed buffer). Positions and
-    /// alignments count from byte 0, prefix included.
+    /// A u32 stands at byte 0 that counts the bytes after it, and the root offset at byte 4 (a size-prefixed buffer).
+    /// Positions and alignments count from byte 0, prefix included.
     Prefixed,
 }
 

@@ -19,16 +19,16 @@ use fb_bytes::Meter;
 use fb_schema::Schema;
 use std::alloc::Allocator;
 
-/// Checks a buffer of which nothing was read yet: from its start, and from its root table of this object on, by the schema and
-/// within the limits (FlatBuffers Internals). The scratch must have as many levels as the depth limit says, and serves again
-/// after every answer.
+/// Checks a buffer of which nothing was read yet: from its start, and from its root table of this object on, by the
+/// schema and within the limits (FlatBuffers Internals). The scratch must have as many levels as the depth limit says,
+/// and serves again after every answer.
 ///
 /// The report counts the visits of tables, the greatest number of tables open at once, and the reads.
 ///
 /// # Errors
 ///
-/// The first condition that fails, with the reads made up to it. Afterwards the meter has the same bytes, and its count is
-/// the number of reads that the report or the fault tells.
+/// The first condition that fails, with the reads made up to it. Afterwards the meter has the same bytes, and its count
+/// is the number of reads that the report or the fault tells.
 pub fn walk<A: Allocator>(
     meter: &mut Meter<'_>,
     schema: &Schema<'_>,

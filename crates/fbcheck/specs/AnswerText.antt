@@ -7,7 +7,8 @@ use Rattle.fbcheck.specs.declared.value_text.Spelling.{Spelling}
 use Rattle.fbcheck.specs.declared.value_text.Spelling.TheVariants.{Quoted, Digits}
 use Rattle.fb_access.specs.Denotes.{Shown, nothing, no_element, other_member, truth, signed, unsigned, float, text, structure, vector, table, union}
 
--- a byte of a text: a quote and a backslash stand behind a backslash, and what isn't printable ASCII as two hexadecimal digits
+-- a byte of a text: a quote and a backslash stand behind a backslash, and what isn't printable ASCII as two hexadecimal
+-- digits
 abbrev pub byte_text : ℕ → List ℕ
 byte_text b =
     if b == 34 || b == 92 then 92 ∷ b ∷ []

@@ -72,7 +72,8 @@ abbrev pub HasPathFault : Rows → Option ℕ → Settings → PathFault → Typ
 HasPathFault rows own settings fault =
     (root : ℕ) × (asked_root rows own settings ≡ Some root) × IsPathFault rows root (option_map string_bytes settings.path) fault
 
--- by these rows and this own root, the settings ask that the buffers are checked by a job, or have nothing to check them by
+-- by these rows and this own root, the settings ask that the buffers are checked by a job, or have nothing to check
+-- them by
 abbrev pub AsksBy : Rows → Option ℕ → Settings → Result Job RunFault → Type 0
 AsksBy rows own settings (Ok job) = IsAsked rows own settings job
 AsksBy rows own settings (Err NoRoot) = asked_root rows own settings ≡ None

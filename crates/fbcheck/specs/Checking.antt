@@ -34,7 +34,8 @@ IsNoSchema None fault = ⊥
 IsNoSchema (Some bytes) load.OutOfMemory = ⊥
 IsNoSchema (Some bytes) fault = IsLoadFault bytes.now schema_limits fault
 
--- a schema file, or none, and the settings ask that the buffers are checked by a job; or there is nothing to check them by, and why
+-- a schema file, or none, and the settings ask that the buffers are checked by a job; or there is nothing to check them
+-- by, and why
 abbrev pub Asks : Option (Bor (List ℕ)) → Settings → Result Job RunFault → Type 0
 Asks file settings (Err (Load fault)) = IsNoSchema file fault
 Asks file settings answer = (rows : Rows) × (own : Option ℕ) × IsSchema file rows own × AsksBy rows own settings answer

@@ -25,8 +25,8 @@ abbrev pub path_fault : PathFault → RunFault
 path_fault path.OutOfMemory = OutOfMemory
 path_fault cause = Path cause
 
--- the cause of a fault, by the counts: the failures of the reader, the writer and the notes before and after, the reads that were left, and whether
--- the input's end was told
+-- the cause of a fault, by the counts: the failures of the reader, the writer and the notes before and after, the reads
+-- that were left, and whether the input's end was told
 abbrev pub IsCaused : ℕ → ℕ → ℕ → ℕ → ℕ → ℕ → ℕ → Bool → RunFault → Type 0
 IsCaused failures failures' refusals refusals' complaints complaints' left ended ReadFault = failures < failures'
 IsCaused failures failures' refusals refusals' complaints complaints' left ended (WriteFault written) = refusals < refusals'
@@ -40,7 +40,8 @@ IsCaused failures failures' refusals refusals' complaints complaints' left ended
 IsCaused failures failures' refusals refusals' complaints complaints' left ended (Path fault) = Unit {0}
 IsCaused failures failures' refusals refusals' complaints complaints' left ended NoRoot = Unit {0}
 
--- how a run ended, by the same counts: after its end was told, where no read and no write has failed, or by the cause of its fault
+-- how a run ended, by the same counts: after its end was told, where no read and no write has failed, or by the cause
+-- of its fault
 abbrev pub EndsBeside : ℕ → ℕ → ℕ → ℕ → ℕ → ℕ → ℕ → Bool → Result Tally RunFault → Type 0
 EndsBeside failures failures' refusals refusals' complaints complaints' left ended (Ok tally) =
     (ended ≡ true) × (failures' ≡ failures) × (refusals' ≡ refusals) × (complaints' ≡ complaints)

@@ -18,8 +18,8 @@ use Rattle.fbcheck.specs.declared.checker.Found.{Found}
 use Rattle.fbcheck.specs.declared.options.Mode.{Mode}
 use Rattle.fbcheck.specs.declared.options.Options.{Options}
 
--- a schema with its root, how a buffer starts, the identifier, the limits and the checks, the steps to the value that is
--- asked for, the most bytes that a message may have, and what is told of messages
+-- a schema with its root, how a buffer starts, the identifier, the limits and the checks, the steps to the value that
+-- is asked for, the most bytes that a message may have, and what is told of messages
 pub record Job : Type 0 where
   pub rows : Rows
   pub root : ℕ
@@ -46,8 +46,8 @@ IsAnswer bytes rows start root None None = Unit {0}
 IsAnswer bytes rows start root (Some steps) (Some value) = Denotes bytes rows start root steps value
 IsAnswer bytes rows start root _ _ = ⊥
 
--- what a verdict on these bytes says: a yes counts a tree that is well formed and within the limits, and has the value that is asked for; a
--- no is the one fault that stops
+-- what a verdict on these bytes says: a yes counts a tree that is well formed and within the limits, and has the value
+-- that is asked for; a no is the one fault that stops
 abbrev pub IsVerdict : Job → List ℕ → Verdict → Type 0
 IsVerdict job bytes (Ok found) = Reports job.checks bytes job.rows job.root job.start job.ident job.limits found.report × IsAnswer bytes job.rows job.start job.root job.steps found.answer
 IsVerdict job bytes (Err fault) = Stops job.checks bytes job.rows job.root job.start job.ident job.limits fault

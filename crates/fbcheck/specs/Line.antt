@@ -51,8 +51,8 @@ abbrev pub short_line : ℕ → Verdict → List ℕ
 short_line k (Ok found) = decimal k ++ yes_end found.report (short_ending found.answer)
 short_line k (Err fault) = decimal k ++ no_end fault
 
--- what is told of message number k by its verdict: a line of each, one of each bad message alone, or the good message itself and, in the
--- notes, the line of a bad one
+-- what is told of message number k by its verdict: a line of each, one of each bad message alone, or the good message
+-- itself and, in the notes, the line of a bad one
 abbrev pub told_of : Mode → ℕ → List ℕ → Verdict → Texts
 told_of Lines k message verdict = to_out (verdict_line k verdict)
 told_of BadLines k message (Ok found) = silent

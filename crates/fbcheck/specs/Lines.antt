@@ -37,14 +37,16 @@ pub record WritesFront (text : List ℕ) (sink sink' : Option (List ℕ)) (befor
   pub wrote : Appends sink sink' (take taken text)
   pub written_is : written ≡ before + taken
 
--- this text came behind what waited: a front of both is written, with which so many bytes were in all, and the rest waits
+-- this text came behind what waited: a front of both is written, with which so many bytes were in all, and the rest
+-- waits
 pub record ComesBehind (waits text waits' : List ℕ) (sink sink' : Option (List ℕ)) (before written : ℕ) : Type 0 where
   pub front : List ℕ
   pub whole : waits ++ text ≡ front ++ waits'
   pub wrote : Appends sink sink' front
   pub written_is : written ≡ before + length front
 
--- what is told of a message with number k came behind this text, of which a front is written, and its verdict was counted
+-- what is told of a message with number k came behind this text, of which a front is written, and its verdict was
+-- counted
 pub record AddsThrough (job : Job) (k : ℕ) (message : List ℕ) (text : Texts) (tally : Tally) (text' : Texts) (tally' : Tally)
     (sink sink' : Option (List ℕ)) (before written : ℕ) : Type 0 where
   pub front : List ℕ
@@ -69,7 +71,8 @@ StopsBehind job k message text tally tally' sink sink' before fault =
     (verdict : Verdict) × (line : Texts) × IsTold job k message verdict line × StopsIn (text.out ++ line.out) sink sink' before fault
     × (tally' ≡ tally_stopped message verdict tally fault)
 
--- a write came to rest within these texts: within that for the writer, with nothing noted, or behind it within the notes
+-- a write came to rest within these texts: within that for the writer, with nothing noted, or behind it within the
+-- notes
 abbrev pub WritesFronts : Texts → Option (List ℕ) → Option (List ℕ) → Option (List ℕ) → Option (List ℕ) → ℕ → ℕ → RunFault → Type 0
 WritesFronts text sink sink' notes notes' before noted (WriteFault written) = WritesFront text.out sink sink' before written × Keeps notes notes'
 WritesFronts text sink sink' notes notes' before noted (NoteFault written) = Appends sink sink' text.out × WritesFront text.notes notes notes' noted written

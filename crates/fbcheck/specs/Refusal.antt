@@ -11,8 +11,8 @@ use Rattle.fbcheck.specs.Values.{IsGiven, text_of}
 use Rattle.fbcheck.specs.declared.choices.SettingsFault.{SettingsFault}
 use Rattle.fbcheck.specs.declared.choices.SettingsFault.TheVariants.{Usage, BadIdent, PathInFilter, OutOfMemory}
 
--- `clap` refuses the words by an error of that kind; or it reads them, and the identifier isn't four bytes long, or a filter is asked for
--- together with a path; or there was no memory
+-- `clap` refuses the words by an error of that kind; or it reads them, and the identifier isn't four bytes long, or a
+-- filter is asked for together with a path; or there was no memory
 abbrev pub Refuses : List Text → SettingsFault → Type 0
 Refuses words (Usage error) = (kind_of error ≢ kind.OutOfMemory) × HasKind (fault_of program words) error
 Refuses words BadIdent = (fault_of program words ≡ []) × ((t : Text) × (text_of (codes "ident") words ≡ Some t) × (length t ≢ 4))

@@ -73,8 +73,8 @@ pub record HoldsAsGiven (gives : Text → Result (List ℕ) FileFault → Type 0
   pub is_file : IsFile gives (text_of (codes "schema") given) (lent_bytes file)
   pub holds : Holds file settings
 
--- the numbers of a run that are told where its settings ask for them: those that it answers, or after a fault those so far; a run that
--- had nothing to check by has none
+-- the numbers of a run that are told where its settings ask for them: those that it answers, or after a fault those so
+-- far; a run that had nothing to check by has none
 abbrev pub summed : Bool → Result Tally RunFault → Tally → Option Tally
 summed false answer so_far = None
 summed true (Ok tally) so_far = Some tally
@@ -95,7 +95,8 @@ IsPromptAsGiven gives (Ok given) source source' sink sink' notes notes' =
     HoldsAsGiven gives given (λ file settings. IsPromptAsAsked file settings source source' sink sink' notes notes')
 IsPromptAsGiven gives (Err fault) source source' sink sink' notes notes' = ⊥
 
--- what was written where the words give no settings: a text where they ask for one, all of it or the front that the sink took; else nothing
+-- what was written where the words give no settings: a text where they ask for one, all of it or the front that the
+-- sink took; else nothing
 abbrev pub Unserved : SettingsFault → Option (List ℕ) → Option (List ℕ) → Result Ending Stop → Type 0
 Unserved fault sink sink' (Ok Helped) = (refusal_status fault ≡ 0) × ((text : List ℕ) × Appends sink sink' text)
 Unserved fault sink sink' (Err (stop.CutOff written)) = (refusal_status fault ≡ 0) × ((text : List ℕ) × WritesFront text sink sink' 0 written)
@@ -127,7 +128,8 @@ ComesTo gives (Ok given) source source' sink sink' notes notes' sums outcome = C
 ComesTo gives (Err fault) source source' sink sink' notes notes' sums (Err (stop.Words told)) = (told ≡ fault) × IsIdle source source' sink sink' notes notes' × (sums ≡ None)
 ComesTo gives (Err fault) source source' sink sink' notes notes' sums _ = ⊥
 
--- how it ended, by the counts of the reader, the writer and the notes: a run by its end or its cause, help by whether a write failed
+-- how it ended, by the counts of the reader, the writer and the notes: a run by its end or its cause, help by whether a
+-- write failed
 abbrev pub EndsSo : ℕ → ℕ → ℕ → ℕ → ℕ → ℕ → ℕ → Bool → Result Ending Stop → Type 0
 EndsSo failures failures' refusals refusals' complaints complaints' left ended (Ok (Checked tally)) =
     EndsBeside failures failures' refusals refusals' complaints complaints' left ended (Ok tally)
@@ -178,8 +180,8 @@ exit_status (Ok Helped) = 0
 exit_status (Ok (Checked tally)) = status_of (Ok tally)
 exit_status (Err cause) = stop_status cause
 
--- the program did what its words ask, told behind its notes the numbers that they ask for and why it came to rest if it did, and ended with
--- the status of that
+-- the program did what its words ask, told behind its notes the numbers that they ask for and why it came to rest if it
+-- did, and ended with the status of that
 pub record IsServed (gives : Text → Result (List ℕ) FileFault → Type 0) (given : Result (List Text) WordsFault) (source source' sink sink' notes notes' : Option (List ℕ))
     (failures failures' refusals refusals' complaints complaints' left : ℕ) (ended : Bool) (status : ℕ) : Type 0 where
   pub outcome : Result Ending Stop

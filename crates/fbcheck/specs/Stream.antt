@@ -113,7 +113,8 @@ Gathers job before piece text tally =
     (bytes : List ℕ) (written : Texts) → Tells job job.limit bytes (followed written before.text) before.tally before.held
     → TellsSome job job.limit (bytes ++ piece) (followed written text) tally
 
--- it comes to rest in the piece, where nothing waits and this is counted: within a write of what is told, or with nothing written
+-- it comes to rest in the piece, where nothing waits and this is counted: within a write of what is told, or with
+-- nothing written
 abbrev pub HaltsThrough : Job → Standing → List ℕ → Tally → Option (List ℕ) → Option (List ℕ) → ℕ → RunFault → Type 0
 HaltsThrough job before piece tally sink sink' count (WriteFault written) =
     (text : Texts) × Gathers job before piece text tally × WritesFront text.out sink sink' count written

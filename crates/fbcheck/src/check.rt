@@ -16,8 +16,8 @@ use crate::writing::Nowhere;
 use fb_bytes::Sink;
 use std::alloc::Global;
 
-/// Checks the buffers of an input by the schema of a schema file (`.bfbs`), as the settings ask; without a file they are checked as schema
-/// files themselves, by the fixed table.
+/// Checks the buffers of an input by the schema of a schema file (`.bfbs`), as the settings ask; without a file they
+/// are checked as schema files themselves, by the fixed table.
 ///
 /// The schema file is verified under the published limits and checks, and within 1,000,000,000 counted reads, whatever
 /// the settings say; these are for the buffers. The root is the table of the settings' name, or else that of the schema

@@ -32,7 +32,8 @@ pub enum RunFault {
     /// The schema file gives no schema. It is never that fault's own `OutOfMemory`, which is told as this type's.
     #[error("schema: {0}")]
     Load(LoadFault),
-    /// The path isn't one from the root table. It is never that fault's own `OutOfMemory`, which is told as this type's.
+    /// The path isn't one from the root table. It is never that fault's own `OutOfMemory`, which is told as this
+    /// type's.
     #[error("path: {0}")]
     Path(PathFault),
     /// Memory was refused.
@@ -87,8 +88,8 @@ impl From<PathFault> for RunFault {
     }
 }
 
-/// The program's exit status: 0 where every buffer had a yes, 1 where one had a no, 2 where there was nothing to check them by, 3 after
-/// any other fault.
+/// The program's exit status: 0 where every buffer had a yes, 1 where one had a no, 2 where there was nothing to check
+/// them by, 3 after any other fault.
 pub fn status(answer: &Result<Tally, RunFault>) -> u8
     ensures { result ≡ status_of answer.now }
 {

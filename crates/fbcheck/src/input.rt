@@ -28,8 +28,8 @@ pub trait Input<K: Sink, N: Sink> {
     /// The leave to ask, with these bytes left to read, those that the writer has, and those that the notes have.
     ghost may_ask: { Option (List ℕ) → Option (List ℕ) → Option (List ℕ) → Type 0 };
 
-    /// Reads into the front of the piece and answers how many bytes came, as [`Source::pull`] does. The outputs are only
-    /// shown.
+    /// Reads into the front of the piece and answers how many bytes came, as [`Source::pull`] does. The outputs are
+    /// only shown.
     fn ask(&mut self, piece: &mut [u8], writer: &K, notes: &N) -> io::Result<usize>
         requires few { calls self.old < 2 ^ 100 }
         requires leave { may_ask (remaining self.old) (K.contents writer.now) (N.contents notes.now) }

@@ -49,8 +49,8 @@ impl Line {
         &self.room[self.start..]
     }
 
-    /// Makes it the line of message number `number`, whatever it was before. It ends with a newline, and before a value with a
-    /// space.
+    /// Makes it the line of message number `number`, whatever it was before. It ends with a newline, and before a value
+    /// with a space.
     pub fn set(&mut self, number: u64, verdict: &Result<Found<'_>, Fault>)
         ensures { self.new ≡ short_line number (verdict_of verdict.now) }
     {

@@ -84,9 +84,9 @@ impl<A: Allocator> Output<A> {
         Ok(())
     }
 
-    /// Adds what is told of the next message, and counts its verdict. Where its line ends with a long value, the line is
-    /// written while it is made, and takes no memory; where that can't be written, the verdict is counted too. Where memory
-    /// is refused, nothing is told of the message, nor is it counted.
+    /// Adds what is told of the next message, and counts its verdict. Where its line ends with a long value, the line
+    /// is written while it is made, and takes no memory; where that can't be written, the verdict is counted too. Where
+    /// memory is refused, nothing is told of the message, nor is it counted.
     pub fn add_through<B: Allocator, K: Sink>(
         &mut self,
         checker: &Checker<'_, '_>,

@@ -22,9 +22,9 @@ use std::alloc::Allocator;
 /// Checks the buffers of an input by a schema, and writes what the mode of the options tells of each, with at most
 /// `turns` reads. Where the options have a path, the line of a yes ends with the value there.
 ///
-/// The input is a stream of size-prefixed buffers (FlatBuffers Internals), or with `bare` of the options one bare buffer.
-/// What is told of all messages that are whole is written before the next read, and before any answer: first to the
-/// writer, then to the notes. A reader that may be asked for more only where this is so can be run over (`leave`).
+/// The input is a stream of size-prefixed buffers (FlatBuffers Internals), or with `bare` of the options one bare
+/// buffer. What is told of all messages that are whole is written before the next read, and before any answer: first to
+/// the writer, then to the notes. A reader that may be asked for more only where this is so can be run over (`leave`).
 ///
 /// After a fault `so_far` has what was counted by then: that of the messages that are told, or in a write that failed
 /// were to be.
@@ -32,10 +32,10 @@ use std::alloc::Allocator;
 /// # Errors
 ///
 /// - `ReadFault` where the reader failed, `TooManyTurns` where `turns` reads were made and a further one is needed, and
-///   `Stream` where a prefix declares too much or the stream ends in mid-message: what is told of all whole messages that
-///   were read is written, of a bare input nothing.
-/// - `WriteFault` where the writer failed or took nothing: it took `written` bytes, a front of what is told. `NoteFault`
-///   is the same of the notes.
+/// `Stream` where a prefix declares too much or the stream ends in mid-message: what is told of all whole messages that
+/// were read is written, of a bare input nothing.
+/// - `WriteFault` where the writer failed or took nothing: it took `written` bytes, a front of what is told.
+/// `NoteFault` is the same of the notes.
 /// - `OutOfMemory` where memory was refused: what is told of the first messages is written, of a bare input nothing.
 /// - `BareTooLong` where more than `max_bytes` bytes of a bare input were read: nothing is written.
 pub fn run_beside<A: Allocator, S: Input<K, N>, K: Sink, N: Sink>(

@@ -16,10 +16,10 @@ use crate::writing::push_all;
 use fb_bytes::Sink;
 use std::alloc::Global;
 
-/// Does what the words ask, the program's name first, and answers the exit status: reads the schema file that they name,
-/// checks the buffers of the reader by it, and tells of them as [`check_beside`](crate::check::check_beside) does; or
-/// writes help, where it is asked for. Behind what they have the notes get a line of what was counted, where the words ask
-/// for it, and then why it came to rest before the end.
+/// Does what the words ask, the program's name first, and answers the exit status: reads the schema file that they
+/// name, checks the buffers of the reader by it, and tells of them as [`check_beside`](crate::check::check_beside)
+/// does; or writes help, where it is asked for. Behind what they have the notes get a line of what was counted, where
+/// the words ask for it, and then why it came to rest before the end.
 pub fn serve<F: Files, S: Input<K, N>, K: Sink, N: Sink>(
     alloc: Global,
     words: Result<Vec<String>, WordsFault>,

@@ -49,9 +49,9 @@ impl<'a, A: Allocator> Carried<&'a A> {
 }
 
 impl<A: Allocator> Carried<A> {
-    /// Goes on with the message that is held in part, if one is: feeds the framer bytes from the front of a piece, up to
-    /// the end of that message, and adds what is told of it. Answers how many bytes that were. A long value is written at
-    /// once; nothing is to wait by then.
+    /// Goes on with the message that is held in part, if one is: feeds the framer bytes from the front of a piece, up
+    /// to the end of that message, and adds what is told of it. Answers how many bytes that were. A long value is
+    /// written at once; nothing is to wait by then.
     fn pass_held<K: Sink>(
         &mut self,
         checker: &Checker<'_, '_>,
@@ -150,8 +150,8 @@ impl<A: Allocator> Carried<A> {
         self.feed_some(checker, rest)
     }
 
-    /// Feeds the framer bytes from the front of the rest of a piece, up to the end of a message, and adds what is told of
-    /// it. Answers how many bytes that were.
+    /// Feeds the framer bytes from the front of the rest of a piece, up to the end of a message, and adds what is told
+    /// of it. Answers how many bytes that were.
     fn feed_some(&mut self, checker: &Checker<'_, '_>, rest: &[u8]) -> Result<usize, RunFault>
         requires rest { 0 < length rest.now }
         requires ready { IsReady checker.now self.old.framer self.old.scratch }
@@ -184,8 +184,9 @@ impl<A: Allocator> Carried<A> {
 /// of each, with at most `turns` reads.
 ///
 /// What is told of all messages that are whole is written before the next read (`leave`), and before any answer. On a
-/// fault that of all whole messages that were read is written, but for `OutOfMemory`, where it is that of the first ones,
-/// and for `WriteFault` and `NoteFault`, where `written` bytes of it are. Then `so_far` has what was counted by then.
+/// fault that of all whole messages that were read is written, but for `OutOfMemory`, where it is that of the first
+/// ones, and for `WriteFault` and `NoteFault`, where `written` bytes of it are. Then `so_far` has what was counted by
+/// then.
 pub fn run_stream<A: Allocator, S: Input<K, N>, K: Sink, N: Sink>(
     alloc: A,
     reader: &mut S,

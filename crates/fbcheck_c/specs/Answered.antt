@@ -17,7 +17,8 @@ use Rattle.fbcheck_c.specs.Told.{low, told}
 
 -- ---- to load a schema
 
--- a session of the schema that the file describes, with the file's own root, and as many levels as the depth that is asked
+-- a session of the schema that the file describes, with the file's own root, and as many levels as the depth that is
+-- asked
 pub record IsOpened (file : List ℕ) (o : Options) (s : Session) : Type 0 where
   pub known : AreKnown o
   pub loaded : IsLoaded file (limits_of o) s.loaded
@@ -46,7 +47,8 @@ IsChosen s name s' Done = IsSomeAnd (table_named s.loaded.schema name) (λ n. s'
 IsChosen s name s' NoRoot = (table_named s.loaded.schema name ≡ None) × (s' ≡ s)
 IsChosen s name s' _ = ⊥
 
--- some tree of the buffer is well formed by the session's schema from this root, within the limits, and the report counts it
+-- some tree of the buffer is well formed by the session's schema from this root, within the limits, and the report
+-- counts it
 abbrev pub IsGoodFrom : Session → Options → List ℕ → Report → ℕ → Type 0
 IsGoodFrom s o b r root = Reports (checks_asked o) b s.loaded.schema root (start_asked o) (ident_asked o) (limits_of o) r
 

@@ -57,7 +57,8 @@ pub record IsUntold (v v' : Value) (room room' : List ℕ) : Type 0 where
   pub value_is : v' ≡ v
   pub room_is : room' ≡ room
 
--- what is answered where the value in a buffer is asked for: what a check answers, with the value where the buffer is good
+-- what is answered where the value in a buffer is asked for: what a check answers, with the value where the buffer is
+-- good
 abbrev pub IsRead : Session → Options → List ℕ → List PlainStep → Value → Value → List ℕ → List ℕ → Answer → Type 0
 IsRead s o b steps v v' room room' (Good r) = IsChecked s o b (Good r) × IsSomeAnd (root_table s) (IsValue s o b steps v' room room')
 IsRead s o b steps v v' room room' Misfit = HasLimits s o × IsSomeAnd (root_table s) (λ root. DontFit s.loaded.schema root steps) × IsUntold v v' room room'

@@ -13,8 +13,8 @@ const LEAST: usize = 8;
 /// The most room that a message may have.
 const MOST: usize = 0x7FFF_FFFF;
 
-/// How much is held of the message that is coming (`fbcheck_framer`). Its bytes stand at the front of room that the caller
-/// gives to each call; a message may have as many as the room, its prefix included.
+/// How much is held of the message that is coming (`fbcheck_framer`). Its bytes stand at the front of room that the
+/// caller gives to each call; a message may have as many as the room, its prefix included.
 ///
 /// A message is a little-endian `u32` and as many bytes as that number says (FlatBuffers Internals, "size prefixed
 /// buffers").
@@ -48,8 +48,8 @@ fn declared(room: &[u8]) -> u32
     meter.seal().u32_at(0)
 }
 
-/// Copies bytes from the front of a piece behind the first `held` of the room, until these are `goal`, as far as the piece
-/// goes. How many.
+/// Copies bytes from the front of a piece behind the first `held` of the room, until these are `goal`, as far as the
+/// piece goes. How many.
 fn fill(room: &mut [u8], held: usize, goal: usize, piece: &[u8]) -> usize
     requires held { held ≤ length room.old }
     requires goal { goal ≤ length room.old }
@@ -61,13 +61,13 @@ fn fill(room: &mut [u8], held: usize, goal: usize, piece: &[u8]) -> usize
 }
 
 impl Framer {
-    /// Takes bytes from the front of a piece, up to the end of one message. Where a whole message is held already, it takes
-    /// none.
+    /// Takes bytes from the front of a piece, up to the end of one message. Where a whole message is held already, it
+    /// takes none.
     ///
     /// # Errors
     ///
-    /// `OutOfRange` where a message may not have so much room; `BadStream` with S1 once the fourth byte of a prefix came
-    /// that declares more than there is room for, and with S4 where this framer has failed before.
+    /// `OutOfRange` where a message may not have so much room; `BadStream` with S1 once the fourth byte of a prefix
+    /// came that declares more than there is room for, and with S4 where this framer has failed before.
     pub fn feed(&mut self, room: &mut [u8], piece: &[u8]) -> Result<Taken, Answer>
         ensures fed { IsFed room.old self.old piece.now room.new self.new result }
         ensures kept { IsKept room.old self.old → IsKept room.new self.new }
@@ -127,8 +127,8 @@ impl Framer {
 
     /// Says that the stream has ended: `Done` where no byte or a whole message is held.
     ///
-    /// `OutOfRange` as [`Framer::feed`] has it; `BadStream` with S2 where a part of a message is held, and with S4 where
-    /// this framer has failed before.
+    /// `OutOfRange` as [`Framer::feed`] has it; `BadStream` with S2 where a part of a message is held, and with S4
+    /// where this framer has failed before.
     pub fn finish(&mut self, room: &[u8]) -> Answer
         ensures finished { IsFinished room.now self.old self.new result }
         ensures kept { IsKept room.now self.old → IsKept room.now self.new }

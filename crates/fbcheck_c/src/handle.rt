@@ -27,8 +27,8 @@ pub struct Opaque {
     pub unused: u8,
 }
 
-/// A session that was put on the heap, or nothing (`fbcheck_handle`). C sees one pointer, which is null where nothing is
-/// held; the allocator takes no bytes.
+/// A session that was put on the heap, or nothing (`fbcheck_handle`). C sees one pointer, which is null where nothing
+/// is held; the allocator takes no bytes.
 #[repr(C)]
 #[derive(Drop)]
 pub struct Handle {
@@ -176,8 +176,8 @@ impl Handle {
         }
     }
 
-    /// Checks the buffers that spans name in a block of bytes, each as [`Handle::check`] does, and tells each verdict at
-    /// the place of its span. Where there are more of spans or of verdicts than of the others, these are left alone.
+    /// Checks the buffers that spans name in a block of bytes, each as [`Handle::check`] does, and tells each verdict
+    /// at the place of its span. Where there are more of spans or of verdicts than of the others, these are left alone.
     pub fn check_each(
         &mut self,
         alloc: Global,
@@ -268,7 +268,8 @@ impl Handle {
         told(name, room)
     }
 
-    /// Copies the name of the live field with this number, of the table with that one. Its length, 0 where there is none.
+    /// Copies the name of the live field with this number, of the table with that one. Its length, 0 where there is
+    /// none.
     pub fn field_name(&mut self, alloc: Global, object: u32, number: u32, room: &mut [u8]) -> usize
         ensures name { IsNameTold (held_name self.old.session (λ rows. field_name rows object number)) room.old room.new result }
         ensures kept { self.new.session ≡ self.old.session }

@@ -1,7 +1,7 @@
 //! The verifier for C: a handle on a loaded schema, and the calls that load it and check buffers by it.
 //!
-//! `include/fbcheck.h` has the prototypes that a caller sees. `c/fbcheck.c` stands between: it tests each pointer against
-//! null, and then calls these, whose names end in `_proved`.
+//! `include/fbcheck.h` has the prototypes that a caller sees. `c/fbcheck.c` stands between: it tests each pointer
+//! against null, and then calls these, whose names end in `_proved`.
 #![tactic(auto)]
 
 ghost use Rattle.std.specs.Prelude.{◌≡◌, ℕ, List, None, Option, length, take};
@@ -153,8 +153,8 @@ pub extern "C" fn fbcheck_verify_each_proved(
     all_good(verdicts, spans.len())
 }
 
-/// Feeds a framer a piece of its stream, as [`Framer::feed`] does, and tells how many bytes it took. 0 where a whole message
-/// is held then, 13 where it goes on.
+/// Feeds a framer a piece of its stream, as [`Framer::feed`] does, and tells how many bytes it took. 0 where a whole
+/// message is held then, 13 where it goes on.
 #[unsafe(no_mangle)]
 pub extern "C" fn fbcheck_framer_feed_proved(
     framer: &mut Framer,
@@ -192,8 +192,8 @@ pub extern "C" fn fbcheck_framer_finish_proved(framer: &mut Framer, room: &[u8])
     framer.finish(room).told().status
 }
 
-/// Writes the steps of the path that a text names from the root table, where there is room for all of them, and tells how
-/// many they are.
+/// Writes the steps of the path that a text names from the root table, where there is room for all of them, and tells
+/// how many they are.
 #[unsafe(no_mangle)]
 pub extern "C" fn fbcheck_resolve_proved(
     alloc: Global,

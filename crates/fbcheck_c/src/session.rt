@@ -38,8 +38,8 @@ fn scratch_of(alloc: Global, limits: Limits) -> Result<Scratch, AllocError>
 }
 
 impl Session {
-    /// Loads a schema file within the limits of the options, with room for as many levels as their depth. The root is the
-    /// file's own.
+    /// Loads a schema file within the limits of the options, with room for as many levels as their depth. The root is
+    /// the file's own.
     ///
     /// # Errors
     ///
@@ -73,7 +73,8 @@ impl Session {
         }
     }
 
-    /// Chooses the root table by its name, with its namespace. Where there is none of this name, the root stays as it was.
+    /// Chooses the root table by its name, with its namespace. Where there is none of this name, the root stays as it
+    /// was.
     pub fn choose_root(&mut self, name: &[u8]) -> Answer
         ensures { IsChosen self.old name.now self.new result }
     {
@@ -132,8 +133,8 @@ impl Session {
         }
     }
 
-    /// Checks a buffer as [`Session::check`] does, and tells of a good one the value at the end of these steps from the root
-    /// table. Its bytes are copied where there is room for them. `Misfit` where the steps don't fit.
+    /// Checks a buffer as [`Session::check`] does, and tells of a good one the value at the end of these steps from the
+    /// root table. Its bytes are copied where there is room for them. `Misfit` where the steps don't fit.
     pub fn read(
         &mut self,
         options: &Options,
@@ -166,8 +167,8 @@ impl Session {
         Answer::Good(verified.report())
     }
 
-    /// Writes the steps of the path that a text names from the root table, where there is room for all of them, and tells
-    /// how many they are.
+    /// Writes the steps of the path that a text names from the root table, where there is room for all of them, and
+    /// tells how many they are.
     ///
     /// `NoRoot`; `BadPath` as [`Path::resolve`] has it; `NoRoom` where they are more than there is room for.
     pub fn resolve(

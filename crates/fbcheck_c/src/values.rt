@@ -15,8 +15,9 @@ use fb_verify::Verified;
 #[repr(C)]
 #[derive(Clone, Copy, Debug, Default, PartialEq, Eq)]
 pub struct Value {
-    /// What it is, by its number: 0 absent, 1 no such element, 2 another member, 3 a Bool, 4 a Byte, Short, Int or Long, 5
-    /// one of these without a sign, 6 a Float or Double, 7 a string, 8 a struct, 9 a vector, 10 a table, 11 a union.
+    /// What it is, by its number: 0 absent, 1 no such element, 2 another member, 3 a Bool, 4 a Byte, Short, Int or
+    /// Long, 5 one of these without a sign, 6 a Float or Double, 7 a string, 8 a struct, 9 a vector, 10 a table, 11 a
+    /// union.
     pub kind: u32,
     /// 0.
     pub reserved: u32,

@@ -1,4 +1,5 @@
--- The names that the two walks cite, and what both say of a handle's allocator, of the function's code at it, and of a parameter that is only read.
+-- The names that the two walks cite, and what both say of a handle's allocator, of the function's code at it, and of a
+-- parameter that is only read.
 pub use Rattle.std.proofs.Common.{◌≡◌, ℕ, ◌+◌, ◌<◌, ◌^◌, true, false, Bool, List, [], ◌∷◌, Ok, Err, refl, ap, w64}
 pub use Rattle.std.proofs.raw_atomic.Walks.{proved}
 pub use Rattle.std.proofs.alloc.Calls.{Al, α, seen, token, got, Answer, answer_val, Answer-typed, Answer-Ok, Answer-err, Takes, at_takes, Answered, Takes-goes, Takes-gives, answers, Gives, at_gives, Gives-goes, Gives-Gives}

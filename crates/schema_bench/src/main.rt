@@ -1,8 +1,8 @@
-//! Times how a schema is built of one struct of 100,000 fields, of one table of 32,766 fields, the most that a table can have, and
-//! of 10,000 tables.
+//! Times how a schema is built of one struct of 100,000 fields, of one table of 32,766 fields, the most that a table
+//! can have, and of 10,000 tables.
 //!
-//! What was built goes to standard output and is the same on every run. The milliseconds of the fastest and the slowest of
-//! five runs go to standard error.
+//! What was built goes to standard output and is the same on every run. The milliseconds of the fastest and the slowest
+//! of five runs go to standard error.
 #![tactic(auto)]
 
 mod rows;

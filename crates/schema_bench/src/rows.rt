@@ -26,7 +26,8 @@ fn byte(name: &[u8], slot: u16) -> FieldRow<'_> {
     field(name, slot, one(UBYTE))
 }
 
-/// A struct of eight bytes, with a field of one byte for each name. All of them stand at one place, which a struct may do.
+/// A struct of eight bytes, with a field of one byte for each name. All of them stand at one place, which a struct may
+/// do.
 pub fn one_struct(alloc: Global, names: &[u8]) -> Result<Vec<ObjectRow<'_>>, AllocError> {
     let mut fields = Vec::new(alloc);
     for name in names.chunks(NAME) {

@@ -20,8 +20,8 @@ fn put(bytes: &mut Vec<u8>, number: u32) -> Result<(), AllocError> {
     bytes.extend_from_slice(&number.to_le_bytes())
 }
 
-/// A chain of 21 nodes, each of which leads to the next by both of its fields: 2^21 - 1 visits, of which the published limits
-/// allow a million.
+/// A chain of 21 nodes, each of which leads to the next by both of its fields: 2^21 - 1 visits, of which the published
+/// limits allow a million.
 pub fn chain(alloc: Global) -> Result<Vec<u8>, AllocError> {
     let mut bytes = Vec::with_capacity(alloc, 260)?;
     // the root offset, the vtable of a node at 4, and that of the last one at 12

@@ -1,8 +1,8 @@
-//! Times the walk on two buffers: a chain of 21 nodes that shares each child twice, and a flat vector of 999,999 tables with an
-//! int each. Both are a million tables within the published limits.
+//! Times the walk on two buffers: a chain of 21 nodes that shares each child twice, and a flat vector of 999,999 tables
+//! with an int each. Both are a million tables within the published limits.
 //!
-//! What was counted goes to standard output and is the same on every run. Nanoseconds a table and a read, of the fastest of
-//! several walks, go to standard error.
+//! What was counted goes to standard output and is the same on every run. Nanoseconds a table and a read, of the
+//! fastest of several walks, go to standard error.
 #![tactic(auto)]
 
 mod buffers;
@@ -26,7 +26,8 @@ const WALKS: u32 = 9;
 /// The depth of the published limits.
 const DEPTH: u32 = 64;
 
-/// The tables that a walk opens: the root and the items of the vector, or as many as the published limits allow of the chain.
+/// The tables that a walk opens: the root and the items of the vector, or as many as the published limits allow of the
+/// chain.
 const TABLES: u128 = 1_000_000;
 
 /// What a walk answered, and the nanoseconds that it took.

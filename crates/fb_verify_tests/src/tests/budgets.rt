@@ -1,5 +1,5 @@
-//! The budget of reads: a worked buffer with its own cost as the budget is the same yes, and with one read less a no, at
-//! the place that was worked out by hand.
+//! The budget of reads: a worked buffer with its own cost as the budget is the same yes, and with one read less a no,
+//! at the place that was worked out by hand.
 
 use super::question::answered;
 use super::schemas::{LONGS, MEMBERS, MONSTERS, NODES, VECTORS_OF_LONGS};

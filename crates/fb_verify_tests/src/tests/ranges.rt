@@ -40,8 +40,8 @@ fn in_a_union_past_the_end_and_askew_is_past_the_end(rt: HostRuntime) -> Result<
     answered(&rt, rt.alloc(), KINDS, cases)
 }
 
-// A field at 20, of which three bytes are there; an offset word to 20, with 3, 4 and 5 bytes there; a struct of 12 bytes
-// at 24.
+// A field at 20, of which three bytes are there; an offset word to 20, with 3, 4 and 5 bytes there; a struct of 12
+// bytes at 24.
 #[test]
 fn a_range_ends_within_the_buffer(rt: HostRuntime) -> Result<(), Fail> {
     let cases = "\
@@ -60,8 +60,8 @@ fn a_range_ends_within_the_buffer(rt: HostRuntime) -> Result<(), Fail> {
     answered(&rt, rt.alloc(), KINDS, cases)
 }
 
-// A field at 18; an offset word to 18; a vector at 20 whose element leads to 26; then the type byte at 20 and the offset
-// word at 16, to 18, then to 20; last the word at 18.
+// A field at 18; an offset word to 18; a vector at 20 whose element leads to 26; then the type byte at 20 and the
+// offset word at 16, to 18, then to 20; last the word at 18.
 #[test]
 fn words_counts_and_tables_stand_at_multiples_of_4(rt: HostRuntime) -> Result<(), Fail> {
     let cases = "\
