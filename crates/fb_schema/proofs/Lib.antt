@@ -20,6 +20,7 @@ pub mod FindLemmas
 pub mod UnionLemmas
 pub mod NameLemmas
 pub mod MemberNames
+pub mod NamedValues
 pub mod KindLemmas
 pub mod Kept
 pub mod RowLemmas

@@ -3,7 +3,7 @@ use Rattle.std.proofs.Common.{ℕ, refl}
 use Rattle.fb_schema.specs.Kinds.{base_types, shape_of, kind_of}
 use Rattle.fb_schema.specs.Demands.{names_no_object, names_table, names_no_union, inline_bytes}
 use Rattle.fb_schema.specs.Live.{live_fields, widest}
-use Rattle.fb_schema.specs.Members.{member_of, member_named}
+use Rattle.fb_schema.specs.Members.{member_of, member_named, member_name}
 use Rattle.fb_schema.specs.Examples.{StructHeads, ObjectNames, StructFieldNames, StructFieldTypes, StructFieldObjects, StructFieldEnds, Slots, TableFieldTypes, TableFieldObjects, TypeFields, MemberValues, MemberTypes, Firsts}
 use Rattle.fb_schema.specs.LookUps.{ScalarFields, KindFields, UnionMembers}
 use Rattle.fb_schema.proofs.DemandLaws.{levels_end, owners_end, places_end, object_end, enum_end}
@@ -11,7 +11,7 @@ use Rattle.fb_schema.proofs.Judged.{first_below, or_at, in_owner, in_level, in_r
 
 -- all that is computed
 computing : ℕ
-unfolding base_types shape_of kind_of names_no_object names_table names_no_union inline_bytes live_fields widest member_of member_named levels_end owners_end places_end object_end enum_end first_below or_at in_owner in_level in_rows first_fault
+unfolding base_types shape_of kind_of names_no_object names_table names_no_union inline_bytes live_fields widest member_of member_named member_name levels_end owners_end places_end object_end enum_end first_below or_at in_owner in_level in_rows first_fault
 computing = 0
 
 pub struct_heads : StructHeads
@@ -232,4 +232,8 @@ union_members = record {
   by_name = refl;
   named_but_without_value = refl;
   by_another_name = refl;
+  name = refl;
+  no_name_without_value = refl;
+  unknown_name = refl;
+  no_name_of_an_enum = refl;
 }

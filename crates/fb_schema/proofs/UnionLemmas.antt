@@ -133,7 +133,7 @@ none_in : (b : Bool) (ms : List Member) → find (λ m. int_eq m.value (pos 0)) 
 none_in true ms = none_for_zero ms
 none_in false ms = refl
 
-none_of : (e : Option Enum) → find (λ m. int_eq m.value (pos 0)) (members_in e) ≡ None
+pub none_of : (e : Option Enum) → find (λ m. int_eq m.value (pos 0)) (members_in e) ≡ None
 none_of None = refl
 none_of (Some e) = none_in e.is_union e.members
 

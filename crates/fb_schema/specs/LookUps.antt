@@ -5,7 +5,7 @@ use Rattle.fb_schema.specs.declared.kinds.Kind.{Kind}
 use Rattle.fb_schema.specs.declared.kinds.Kind.TheVariants.{Scalar, Text, Struct, Table, Union, Scalars, Texts, Structs, Tables, Unions}
 use Rattle.fb_schema.specs.Rows.{Field, Rows}
 use Rattle.fb_schema.specs.Live.{Live, live_fields, required_end, widest, field_named}
-use Rattle.fb_schema.specs.Members.{member_of, member_named}
+use Rattle.fb_schema.specs.Members.{member_of, member_named, member_name}
 use Rattle.fb_schema.specs.Builders.{type_of_one, type_of_vector, plain_field, plain_table, struct_of, plain_member, union_of, enum_of_values}
 use Rattle.fb_schema.specs.Examples.{type_byte, type_bytes, text, object, objects, union, unions, unused, with_objects}
 
@@ -131,3 +131,7 @@ pub record UnionMembers : Type 0 where
   pub by_name : member_named of_kinds 1 (codes "A") ≡ Some 255
   pub named_but_without_value : member_named of_kinds 1 (codes "N") ≡ None
   pub by_another_name : member_named of_kinds 1 (codes "X") ≡ None
+  pub name : member_name of_kinds 1 255 ≡ Some (codes "A")
+  pub no_name_without_value : member_name of_kinds 1 0 ≡ None
+  pub unknown_name : member_name of_kinds 1 2 ≡ None
+  pub no_name_of_an_enum : member_name of_kinds 0 1 ≡ None

@@ -26,3 +26,7 @@ member_of rows e value = option_and_then (λ m. kind_of rows m.ty) (find (λ m. 
 -- the value of the member of union e with this name
 unfoldable pub member_named : Rows → ℕ → List ℕ → Option ℕ
 member_named rows e name = option_map (λ m. unsigned_abs m.value) (find (λ m. bytes_eq m.name name) (members_of rows e))
+
+-- the name of the member of union e with this value
+unfoldable pub member_name : Rows → ℕ → ℕ → Option (List ℕ)
+member_name rows e value = option_map (λ m. m.name) (find (λ m. int_eq m.value (pos value)) (members_of rows e))

@@ -1,12 +1,13 @@
 // A legal schema.
 
 ghost use Rattle.std.specs.Prelude.{◌≡◌, ◌<◌, map, length, IfOk, OnOk, IfErr, IfSome, IsTrue, option_map, slice_get, Some};
-ghost use Rattle.std.specs.Prelude.{position, ◌≤◌, ◌^◌};
+ghost use Rattle.std.specs.Prelude.{position, ◌≤◌, ◌^◌, find, pos};
+ghost use Rattle.std.specs.Ordering.{int_eq};
 ghost use Rattle.std.specs.Str.{bytes_eq};
-ghost use Rattle.fb_schema.specs.Rows.{AreFew, rows_of, is_table, is_union, table_named};
+ghost use Rattle.fb_schema.specs.Rows.{AreFew, rows_of, is_table, is_union, table_named, member_of_row};
 ghost use Rattle.fb_schema.specs.Heads.{head_of, head_of_view};
 ghost use Rattle.fb_schema.specs.Live.{live_fields, live_of_view, field_named, required_end, widest};
-ghost use Rattle.fb_schema.specs.Members.{member_of, member_named};
+ghost use Rattle.fb_schema.specs.Members.{member_of, member_named, member_name};
 ghost use Rattle.fb_schema.specs.Demands.{IsLegal, Refuses};
 ghost use Rattle.fb_schema.specs.Served.{IsServed, HaveKinds};
 ghost use Rattle.fb_schema.specs.Steps.{step_of};
@@ -17,7 +18,7 @@ use crate::indexing::{live_index, member_index};
 use crate::keys::in_order;
 use crate::kinds::Kind;
 use crate::legal::legal;
-use crate::rows::{EnumRow, ObjectRow};
+use crate::rows::{EnumRow, MemberRow, ObjectRow};
 use crate::sorting::place_of;
 use crate::types::RowLists;
 use crate::views::{FieldView, ObjectView, Step};
@@ -232,10 +233,32 @@ impl<'n, A: Allocator + Copy> Schema<'n, A> {
         }
     }
 
+    /// The name of the member of a union with this value, from 1 to 255, none where no member has it.
+    pub fn member_name(&self, e: u32, value: u8) -> Option<&'n [u8]>
+        ensures { option_map (λ n. n.now) result ≡ member_name self.now e value }
+    {
+        if value == 0 || !self.is_union(e) {
+            return None;
+        }
+        name_of(&self.enums[e as usize].members, value)
+    }
+
     /// The greatest number of live fields of a table, 0 without tables.
     pub fn widest(&self) -> u32
         ensures { result ≡ widest self.now }
     {
         self.live.widest
     }
+}
+
+/// The name of the member with this value.
+fn name_of<'n>(members: &[MemberRow<'n>], value: u8) -> Option<&'n [u8]>
+    ensures { option_map (λ n. n.now) result ≡ option_map (λ m. m.name) (find (λ m. int_eq m.value (pos value)) (map member_of_row members.now)) }
+{
+    for member in members {
+        if member.value == i64::from(value) {
+            return Some(member.name);
+        }
+    }
+    None
 }

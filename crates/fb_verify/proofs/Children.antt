@@ -14,11 +14,11 @@ use Rattle.fb_verify.specs.Bounds.{Bounds, AreAllowed}
 use Rattle.fb_verify.specs.Cost.{head_reads}
 use Rattle.fb_verify.specs.Order.{◌▷◌, head_failure}
 use Rattle.fb_verify.specs.OffsetRows.{past_first}
-use Rattle.fb_verify.specs.Stack.{frame_work, work, opened, Origin, IsUnderWay, IsAtTable}
-use Rattle.fb_verify.specs.Stops.{budget_failure, reads_failure, StopsFrom}
+use Rattle.fb_verify.specs.Stack.{frame_work, work, opened, Origin, IsUnderWay, IsAtTable, StopsIn}
+use Rattle.fb_verify.specs.Stops.{budget_failure, reads_failure}
 use Rattle.fb_verify.specs.Told.{told, way_at, IsHead}
 use Rattle.fb_verify.proofs.Frames.{first_few}
-use Rattle.fb_verify.proofs.Standings.{stop_at_table}
+use Rattle.fb_verify.proofs.Stopping.{table_stops}
 use Rattle.fb_verify.proofs.Walking.{table_opened, open_work, lead_work, close_work}
 
 -- Offset words that were passed leave less work.
@@ -57,12 +57,11 @@ module _ (w : Walk) (b : List ℕ) (q : ℕ) (s : Origin) (below : List Frame) (
 
   module _ (m : ℕ) (mi : m ≡ length below + 1) where
     -- the table can't be opened, or has no head
-    pub child_stops : (site : Site) → site ≡ record { object = (top.table).object; field = Some top.number } → (f : Fault)
+    pub child_stops : (row : Row) → row ≡ past_first top.row → (site : Site) → site ≡ record { object = (top.table).object; field = Some top.number } → (f : Fault)
         → (told site q (budget_failure L (way_at m w.tables w.deepest q site) child.at) ▷ told (record { object = child.object; field = None }) q (head_failure c b child.at ▷ reads_failure L q (head_reads c) child.at)) ≡ Some f
-        → StopsFrom c b S L s.object s.position s.way f
-    child_stops site is f e =
-        let h = o.walking in
-        stop_at_table c b S L s below top w.tables w.deepest o.before h.standing h.tables h.deepest h.reads m f child.object child.at mi o.more o.holds o.leads o.at q o.count (rw is at e)
+        → StopsIn c b S L s (below ++ record { table = top.table; next = top.next; number = top.number; row = row } ∷ []) [] f
+    child_stops row re site is f e =
+        table_stops c b S L s below top w.tables w.deepest o.before o.walking f row re o.more m child.object child.at mi o.holds o.leads o.at q o.count (rw is at e)
 
     module _ (row : Row) (re : row ≡ past_first top.row) (table : Table) (is : table ≡ record { object = child.object; at = child.at; head = table.head }) (ok : head_failure c b child.at ≡ None)
         (fewer : w.tables < (w.limits).tables) (shallow : m < (w.limits).depth) (low : m < 4096) where

@@ -1,11 +1,12 @@
 -- The offset words that are left of a field are passed one by one.
-use Rattle.std.proofs.Common.{◌≡◌, ℕ, ◌+◌, ◌<◌, List, refl, sym, ◌∙◌, ap, subst, Option, Some, None}
+use Rattle.std.proofs.Common.{◌≡◌, ℕ, ◌+◌, ◌<◌, List, [], ◌∷◌, ◌++◌, refl, sym, ◌∙◌, ap, subst, Option, Some, None}
 use Rattle.fb_schema.specs.Rows.{Rows}
 use Rattle.fb_verify.specs.declared.checks.Checks.{Checks}
 use Rattle.fb_verify.specs.declared.leaves.KnownType.{KnownType}
 use Rattle.fb_verify.specs.declared.offset_row.Leads.{Leads}
 use Rattle.fb_verify.specs.declared.offset_row.Leads.TheVariants.{All, ByType}
 use Rattle.fb_verify.specs.declared.offset_row.Referent.{Referent}
+use Rattle.fb_verify.specs.declared.offset_row.Row.{Row}
 use Rattle.fb_verify.specs.declared.offset_row.Referent.TheVariants.{Text as AText, Table as ATable, Struct as AStruct, Nothing}
 use Rattle.fb_verify.specs.declared.scratch.Frame.{Frame}
 use Rattle.fb_verify.specs.declared.site.Refusal.{Refusal}
@@ -15,14 +16,14 @@ use Rattle.fb_verify.specs.Bounds.{Bounds}
 use Rattle.fb_verify.specs.Fields.{Lead, Entry}
 use Rattle.fb_verify.specs.Order.{Failure, after, lead_failure, element_failure}
 use Rattle.fb_verify.specs.Known.{IsLookedUp, IsKnown}
-use Rattle.fb_verify.specs.OffsetRows.{lead_to, first_word, leads_after, IsReferent, IsSized, IsLeafLead}
-use Rattle.fb_verify.specs.Stack.{Origin, IsUnderWay}
-use Rattle.fb_verify.specs.Stops.{StopsFrom, lead_reads_failure}
+use Rattle.fb_verify.specs.OffsetRows.{lead_to, first_word, past_first, leads_after, IsReferent, IsSized, IsLeafLead}
+use Rattle.fb_verify.specs.Stack.{Origin, IsUnderWay, StopsIn}
+use Rattle.fb_verify.specs.Stops.{lead_reads_failure}
 use Rattle.fb_verify.specs.Told.{refused, stopped}
 use Rattle.fb_verify.proofs.Plains.{after_twice}
 use Rattle.fb_verify.proofs.Passing.{failed_after}
 use Rattle.fb_verify.proofs.Refusals.{told_after, told_first}
-use Rattle.fb_verify.proofs.Standings.{stop_at_element}
+use Rattle.fb_verify.proofs.Stopping.{word_stops}
 use Rattle.fb_verify.proofs.Words.{first_place}
 
 module _ (c : Checks) (b : List ℕ) (S : Rows) (L : Bounds) (s : Origin) (below : List Frame) (top : Frame) (n d r : ℕ) (h : IsUnderWay c b S L s below top n d r) where
@@ -38,13 +39,14 @@ module _ (c : Checks) (b : List ℕ) (S : Rows) (L : Bounds) (s : Origin) (below
       ∙ ap (λ p. after (m + word.reads) (lead_failure c b p word.lead)) (sym (first_place b S top.row)) ∙ sym (after_twice m word.reads (lead_failure c b word.place word.lead))
 
   -- where it fails
-  pub word_stops : 0 < (top.row).left → (e : Refusal) → (k m q : ℕ) → r ≡ k + m → after m (element_failure c b word) ≡ Some (refused e q) → (stop : Stop) → stop ≡ record { refusal = e; site = record { object = (top.table).object; field = Some top.number } } → StopsFrom c b S L s.object s.position s.way (stopped stop (k + q))
-  word_stops l e k m q z x stop is =
+  pub word_fails : (row : Row) → row ≡ past_first top.row → 0 < (top.row).left → (e : Refusal) → (k m q : ℕ) → r ≡ k + m → after m (element_failure c b word) ≡ Some (refused e q) → (stop : Stop) → stop ≡ record { refusal = e; site = record { object = (top.table).object; field = Some top.number } }
+      → StopsIn c b S L s (below ++ record { table = top.table; next = top.next; number = top.number; row = row } ∷ []) [] (stopped stop (k + q))
+  word_fails row re l e k m q z x stop is =
       let site : Site = record { object = (top.table).object; field = Some top.number } in
       let told = ap (λ w. after w (element_failure c b word)) z ∙ failed_after k m q e (element_failure c b word) x in
-      subst (λ (y : Stop). StopsFrom c b S L s.object s.position s.way (stopped y (k + q))) (sym is)
-      (stop_at_element c b S L s below top n d r h.standing h.tables h.deepest h.reads (stopped (record { refusal = e; site = site }) (k + q)) l
-      (told_first site r (element_failure c b word) (lead_reads_failure L r word word.lead) (stopped (record { refusal = e; site = site }) (k + q)) (told_after site r (k + q) (element_failure c b word) e told)))
+      let fault = stopped (record { refusal = e; site = site }) (k + q) in
+      subst (λ (y : Stop). StopsIn c b S L s (below ++ record { table = top.table; next = top.next; number = top.number; row = row } ∷ []) [] (stopped y (k + q))) (sym is)
+      (word_stops c b S L s below top n d r h fault row re l (told_first site r (element_failure c b word) (lead_reads_failure L r word word.lead) fault (told_after site r (k + q) (element_failure c b word) e told)))
 
 -- what is no table is a leaf
 pub is_leaf : (referent : Referent) → ((k : ℕ) → referent ≡ ATable k → ⊥) → IsLeafLead (lead_to referent)

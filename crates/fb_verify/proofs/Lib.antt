@@ -14,10 +14,12 @@ pub mod Pushes
 pub mod Steps
 pub mod Stacks
 pub mod Words
+pub mod Linked
 pub mod Contexts
 pub mod Typed
 pub mod Frames
 pub mod Standings
+pub mod Stopping
 pub mod Verdicts
 pub mod Prices
 pub mod Shown

@@ -1,4 +1,4 @@
--- At most one fault is the first.
+-- At most one fault is the first, and one trail leads to it.
 use Rattle.std.proofs.Common.{◌≡◌, ℕ, zero, suc, ◌+◌, ◌<◌, ◌⊎◌, inl, inr, List, take, refl, sym, ◌∙◌, ap, subst, arith, Some}
 use Rattle.std.specs.Prelude.{slice_get}
 use Rattle.std.proofs.lemmas.List.{take-take}
@@ -8,6 +8,7 @@ use Rattle.fb_verify.specs.declared.checks.Checks.{Checks}
 use Rattle.fb_verify.specs.declared.start.Start.{Start}
 use Rattle.fb_verify.specs.declared.start.Ident.{Ident}
 use Rattle.fb_verify.specs.declared.fault.Fault.{Fault}
+use Rattle.fb_verify.specs.declared.links.Link.{Link}
 use Rattle.fb_verify.specs.Bounds.{Bounds}
 use Rattle.fb_verify.specs.Places.{target}
 use Rattle.fb_verify.specs.Facts.{IsTable}
@@ -18,6 +19,7 @@ use Rattle.fb_verify.specs.Cost.{own_reads, kids_cost, elements_cost}
 use Rattle.fb_verify.specs.Order.{start_failure, own_failure, element_failure}
 use Rattle.fb_verify.specs.Way.{Way, way_to_start, way_to_root, way_to_field, way_to_element, way_to_table, StaysWithin}
 use Rattle.fb_verify.specs.Stops.{Place, in_start, in_head, in_field, in_element, fault_at, IsFalseAt, Trail, at_head, at_field, FieldTrail, at_own, at_element, ElementTrail, at_lead, through, IsLink, IsInField, IsTrail, IsFieldTrail, IsElementTrail, Stops}
+use Rattle.fb_verify.specs.Links.{links_of, StopsAlong}
 use Rattle.fb_verify.proofs.Chains.{start_none, own_none, through_passes}
 use Rattle.fb_verify.proofs.Unique.{one_kids, one_elements}
 use Rattle.fb_verify.proofs.Budgets.{fewer_reads, not_both}
@@ -110,8 +112,8 @@ module _ (c : Checks) (b : List ℕ) (S : Rows) (L : Bounds) where
   mutual
     unfolding IsTrail IsFieldTrail IsElementTrail fault_at
 
-    pub one_fault : (s r : Trail) (k t : ℕ) (w : Way) (f g : Fault) → IsTrail s c b S L k t w f → IsTrail r c b S L k t w g → f ≡ g
-    one_fault at_head at_head k t w f g h i = same_fault (in_head k t) w f g h i
+    pub one_fault : (s r : Trail) (k t : ℕ) (w : Way) (f g : Fault) → IsTrail s c b S L k t w f → IsTrail r c b S L k t w g → (s ≡ r) × (f ≡ g)
+    one_fault at_head at_head k t w f g h i = (refl, same_fault (in_head k t) w f g h i)
     one_fault at_head (at_field e r) k t w f g h i =
         absurd (opened_head k t w e i.0 f i.1.head (field_within r t i.0 (way_to_field c b S k t e i.0 w) g i.2) h)
     one_fault (at_field e s) at_head k t w f g h i =
@@ -123,13 +125,14 @@ module _ (c : Checks) (b : List ℕ) (S : Rows) (L : Bounds) where
             | inl same ↦
                 let e : e2 ≡ e1 = one_kids c b S e2 e1 t (take (kids_length e2) (live_fields S k)) i.1.passed (rw same at h.1.passed) in
                 let x : i.0 ≡ h.0 = to_same (live_fields S k) (kids_length e2) (kids_length e1) (sym same) i.1.next h.1.next in
-                one_field_fault s r t h.0 (way_to_field c b S k t e1 h.0 w) f g h.2 (subst (λ y. IsFieldTrail r c b S L t y (way_to_field c b S k t e1 y w) g) x (subst (λ y. IsFieldTrail r c b S L t i.0 (way_to_field c b S k t y i.0 w) g) e i.2))
+                let on = one_field_fault s r t h.0 (way_to_field c b S k t e1 h.0 w) f g h.2 (subst (λ y. IsFieldTrail r c b S L t y (way_to_field c b S k t e1 y w) g) x (subst (λ y. IsFieldTrail r c b S L t i.0 (way_to_field c b S k t y i.0 w) g) e i.2)) in
+                (ap (at_field e1) on.0 ∙ ap (λ y. at_field y r) (sym e), on.1)
             | inr gt ↦ absurd (passed_field k t w e2 e1 i.0 h.0 r g gt i.1 h.1 (field_within s t h.0 (way_to_field c b S k t e1 h.0 w) f h.2) i.2)
           ]
         ]
 
-    one_field_fault : (s r : FieldTrail) (t : ℕ) (x : Live) (w : Way) (f g : Fault) → IsFieldTrail s c b S L t x w f → IsFieldTrail r c b S L t x w g → f ≡ g
-    one_field_fault at_own at_own t x w f g h i = same_fault (in_field t x) w f g h i
+    one_field_fault : (s r : FieldTrail) (t : ℕ) (x : Live) (w : Way) (f g : Fault) → IsFieldTrail s c b S L t x w f → IsFieldTrail r c b S L t x w g → (s ≡ r) × (f ≡ g)
+    one_field_fault at_own at_own t x w f g h i = (refl, same_fault (in_field t x) w f g h i)
     one_field_fault at_own (at_element z r) t x w f g h i = absurd (passed_own t x w z f i.1.own (element_within r i.0 (way_to_element c b S t x z w) g i.2) h)
     one_field_fault (at_element z s) at_own t x w f g h i = absurd (passed_own t x w z g h.1.own (element_within s h.0 (way_to_element c b S t x z w) f h.2) i)
     one_field_fault (at_element z1 s) (at_element z2 r) t x w f g h i =
@@ -139,18 +142,20 @@ module _ (c : Checks) (b : List ℕ) (S : Rows) (L : Bounds) where
             | inl same ↦
                 let e : z2 ≡ z1 = one_elements c b S z2 z1 (take (elements_length z2) (entries b S t x)) i.1.passed (rw same at h.1.passed) in
                 let y : i.0 ≡ h.0 = to_same (entries b S t x) (elements_length z2) (elements_length z1) (sym same) i.1.next h.1.next in
-                one_element_fault s r h.0 (way_to_element c b S t x z1 w) f g h.2 (subst (λ v. IsElementTrail r c b S L v (way_to_element c b S t x z1 w) g) y (subst (λ v. IsElementTrail r c b S L i.0 (way_to_element c b S t x v w) g) e i.2))
+                let on = one_element_fault s r h.0 (way_to_element c b S t x z1 w) f g h.2 (subst (λ v. IsElementTrail r c b S L v (way_to_element c b S t x z1 w) g) y (subst (λ v. IsElementTrail r c b S L i.0 (way_to_element c b S t x v w) g) e i.2)) in
+                (ap (at_element z1) on.0 ∙ ap (λ y. at_element y r) (sym e), on.1)
             | inr gt ↦ absurd (passed_element t x w z2 z1 i.0 h.0 r g gt i.1 h.1 (element_within s h.0 (way_to_element c b S t x z1 w) f h.2) i.2)
           ]
         ]
 
-    one_element_fault : (s r : ElementTrail) (x : Entry) (w : Way) (f g : Fault) → IsElementTrail s c b S L x w f → IsElementTrail r c b S L x w g → f ≡ g
-    one_element_fault at_lead at_lead x w f g h i = same_fault (in_element x) w f g h i
+    one_element_fault : (s r : ElementTrail) (x : Entry) (w : Way) (f g : Fault) → IsElementTrail s c b S L x w f → IsElementTrail r c b S L x w g → (s ≡ r) × (f ≡ g)
+    one_element_fault at_lead at_lead x w f g h i = (refl, same_fault (in_element x) w f g h i)
     one_element_fault at_lead (through r) x w f g h i = absurd (no_lead_fault L w x i.0 x.lead (element_failure c b x) f i.1 (through_passes c b x i.0 i.1 i.2) h.first)
     one_element_fault (through s) at_lead x w f g h i = absurd (no_lead_fault L w x h.0 x.lead (element_failure c b x) g h.1 (through_passes c b x h.0 h.1 h.2) i.first)
     one_element_fault (through s) (through r) x w f g h i =
         let e : i.0 ≡ h.0 = same_table (sym i.1 ∙ h.1) in
-        one_fault s r h.0 (target b x.place) (way_to_table x w) f g h.3 (subst (λ k. IsTrail r c b S L k (target b x.place) (way_to_table x w) g) e i.3)
+        let on = one_fault s r h.0 (target b x.place) (way_to_table x w) f g h.3 (subst (λ k. IsTrail r c b S L k (target b x.place) (way_to_table x w) g) e i.3) in
+        (ap through on.0, on.1)
 
   -- nor is a start that another trail passed
   passed_start : (root t : ℕ) (start : Start) (ident : Ident) (s : Trail) (f g : Fault) → IsStart c b start ident → IsTrail s c b S L root t (way_to_root root start ident) g → IsFalseAt c b S L (in_start start ident) (way_to_start root) f → ⊥
@@ -166,4 +171,13 @@ module _ (c : Checks) (b : List ℕ) (S : Rows) (L : Bounds) where
   stops_once root start ident f g (inl h) (inl i) = same_fault (in_start start ident) (way_to_start root) f g h i
   stops_once root start ident f g (inl h) (inr i) = absurd (passed_start root (target b (base start)) start ident i.1.0 f g i.0 i.1.1 h)
   stops_once root start ident f g (inr h) (inl i) = absurd (passed_start root (target b (base start)) start ident h.1.0 g f h.0 h.1.1 i)
-  stops_once root start ident f g (inr h) (inr i) = one_fault h.1.0 i.1.0 root (target b (base start)) (way_to_root root start ident) f g h.1.1 i.1.1
+  stops_once root start ident f g (inr h) (inr i) = (one_fault h.1.0 i.1.0 root (target b (base start)) (way_to_root root start ident) f g h.1.1 i.1.1).1
+
+  -- nor has it two rows of links
+  pub leads_one_way : (root : ℕ) (start : Start) (ident : Ident) (f g : Fault) (xs ys : List Link) → StopsAlong c b S root start ident L f xs → StopsAlong c b S root start ident L g ys → xs ≡ ys
+  leads_one_way root start ident f g xs ys (inl h) (inl i) = h.1 ∙ sym i.1
+  leads_one_way root start ident f g xs ys (inl h) (inr i) = absurd (passed_start root (target b (base start)) start ident i.1.0 f g i.0 i.1.1 h.0)
+  leads_one_way root start ident f g xs ys (inr h) (inl i) = absurd (passed_start root (target b (base start)) start ident h.1.0 g f h.0 h.1.1 i.0)
+  leads_one_way root start ident f g xs ys (inr h) (inr i) =
+      let same = (one_fault h.1.0 i.1.0 root (target b (base start)) (way_to_root root start ident) f g h.1.1 i.1.1).0 in
+      sym h.1.2 ∙ ap (λ s. links_of s b S root (target b (base start))) same ∙ i.1.2

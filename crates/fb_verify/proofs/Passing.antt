@@ -1,16 +1,18 @@
 -- A walk goes on past fields that lead to no table, or stops at one.
-use Rattle.std.proofs.Common.{◌≡◌, ℕ, ◌+◌, ◌^◌, ◌<◌, ◌≤◌, inl, inr, Bool, true, false, IsTrue, IfSome, if◌then◌else◌, List, map, length, refl, sym, ◌∙◌, ap, subst, arith, Option, Some, None}
+use Rattle.std.proofs.Common.{◌≡◌, ℕ, ◌+◌, ◌-◌, ◌^◌, ◌<◌, ◌≤◌, inl, inr, Bool, true, false, IsTrue, IfSome, if◌then◌else◌, List, [], ◌∷◌, map, length, refl, sym, ◌∙◌, ap, subst, arith, Option, Some, None}
 use Rattle.std.specs.Prelude.{slice_get}
 use Rattle.std.proofs.lemmas.List.{length-map}
 use Rattle.fb_bytes.specs.Word.{Metered}
 use Rattle.fb_schema.specs.declared.views.Act.TheVariants.{Other}
 use Rattle.fb_schema.specs.declared.views.Step.{Step}
+use Rattle.fb_schema.specs.declared.kinds.Kind.{Kind}
 use Rattle.fb_schema.specs.Rows.{Rows}
 use Rattle.fb_schema.specs.Live.{Live, live_fields, required_end}
 use Rattle.fb_schema.specs.Steps.{act_of, step_of}
 use Rattle.fb_verify.specs.declared.checks.Checks.{Checks}
 use Rattle.fb_verify.specs.declared.fault.Fault.{Fault}
 use Rattle.fb_verify.specs.declared.fault.Reason.{Reason}
+use Rattle.fb_verify.specs.declared.links.Link.{Link}
 use Rattle.fb_verify.specs.declared.offset_row.Row.{Row}
 use Rattle.fb_verify.specs.declared.offset_row.Referent.TheVariants.{Text as AText}
 use Rattle.fb_verify.specs.declared.offset_row.Leads.TheVariants.{All}
@@ -26,8 +28,9 @@ use Rattle.fb_verify.specs.Cost.{slot_reads, own_reads}
 use Rattle.fb_verify.specs.Order.{Failure, after, ◌▷◌, lead_failure, own_failure, element_failure}
 use Rattle.fb_verify.specs.OffsetRows.{words_of, first_word, past_first}
 use Rattle.fb_verify.specs.Plain.{step_reads, step_reads_at, tested_by, plain_failure, plain_reads}
-use Rattle.fb_verify.specs.Stack.{blank, Origin, IsUnderWay, IsWalkingBy, IsAtField, Standing}
-use Rattle.fb_verify.specs.Stops.{StopsFrom, reads_failure, lead_reads_failure}
+use Rattle.fb_verify.specs.Stack.{blank, frame_link, link_behind, own_link, Origin, IsUnderWay, IsWalkingBy, IsAtField, Standing, StopsIn}
+use Rattle.fb_verify.specs.Stops.{reads_failure, lead_reads_failure}
+use Rattle.fb_verify.specs.Links.{element_of, type_of, field_link}
 use Rattle.fb_verify.specs.Told.{refused, stopped}
 use Rattle.fb_verify.proofs.Absent.{others_absent}
 use Rattle.fb_verify.proofs.Budgets.{fewer_reads}
@@ -35,7 +38,8 @@ use Rattle.fb_verify.proofs.Chains.{after_none, both_none}
 use Rattle.fb_verify.proofs.Frames.{field_within, frame_next, no_row, own_few}
 use Rattle.fb_verify.proofs.Plains.{LeadsTo, step_at, comes, after_twice}
 use Rattle.fb_verify.proofs.Refusals.{told_after, told_first}
-use Rattle.fb_verify.proofs.Standings.{at_rest, pass_more, pass_leaf, stop_at_field, stop_at_element}
+use Rattle.fb_verify.proofs.Standings.{at_rest, pass_more, pass_leaf, stop_at_element}
+use Rattle.fb_verify.proofs.Stopping.{field_stops, stops_in_field}
 use Rattle.fb_verify.proofs.Walking.{field_skipped}
 use Rattle.fb_verify.proofs.Words.{row_none}
 
@@ -113,13 +117,26 @@ module _ (c : Checks) (b : List ℕ) (S : Rows) (L : Bounds) (s : Origin) (below
     fault = stopped (record { site = site; refusal = e }) q
 
     abbrev Stopped : Type 0
-    Stopped = StopsFrom c b S L s.object s.position s.way fault
+    Stopped = StopsIn c b S L s below (own_link fault) fault
 
     own_stops : after r (own_failure c b S t f) ≡ Some (refused e q) → Stopped
     own_stops x =
         let own = own_failure c b S t f in
-        stop_at_field c b S L s below top n d r h.standing h.tables h.deepest h.reads fault f rests here
+        field_stops c b S L s below top n d r h fault f rests here
         (told_first site r own (reads_failure L r (own_reads b t f) t) fault (told_after site r q own e x))
+
+    abbrev link_of_kind : ℕ → ℕ → Kind → Link
+    link_of_kind k j kind = record { object = k; field = f.number; element = element_of j kind; member = type_of b t f j kind }
+
+    -- the link through a string's word is that to its field
+    text_link : (p : ℕ) → LeadsTo c b S t f p → frame_link b S (record { table = top.table; next = top.next + 1; number = f.number; row = past_first (one_word p) }) ≡ field_link (top.table).object f
+    text_link p to =
+        let k = (top.table).object in
+        let past : Frame = record { table = top.table; next = top.next + 1; number = f.number; row = past_first (one_word p) } in
+        let before : top.next + 1 - 1 ≡ top.next = omega arith in
+        let j = length (entries b S t f) - (past_first (one_word p)).left - 1 in
+        ap (λ i. link_behind b S past (slice_get (live_fields S k) i)) before ∙ ap (link_behind b S past) here
+        ∙ ap (link_of_kind k j) to.kind
 
     string_stops : (p : ℕ) → LeadsTo c b S t f p → own_failure c b S t f ≡ None → after (r + own_reads b t f) (lead_failure c b p to_string) ≡ Some (refused e q) → Stopped
     unfolding element_failure
@@ -127,8 +144,10 @@ module _ (c : Checks) (b : List ℕ) (S : Rows) (L : Bounds) (s : Origin) (below
         let m = r + own_reads b t f in
         let word = first_word b S (one_word p) in
         let y : after m (after 0 (lead_failure c b p to_string)) ≡ Some (refused e q) = after_twice m 0 (lead_failure c b p to_string) ∙ ap (λ k. after k (lead_failure c b p to_string)) (let w : m + 0 ≡ m = omega arith in w) ∙ x in
-        stop_at_element c b S L s below (at_word p) n d m (entered p to own) h.tables h.deepest cheap fault (omega arith)
-        (told_first site m (element_failure c b word) (lead_reads_failure L m word word.lead) fault (told_after site m q (element_failure c b word) e y))
+        let past : Frame = record { table = top.table; next = top.next + 1; number = f.number; row = past_first (one_word p) } in
+        stops_in_field c b S L s below top n d r h fault (frame_link b S past ∷ []) (ap (λ y. y ∷ []) (text_link p to))
+        (stop_at_element c b S L s below (at_word p) n d m (entered p to own) h.tables h.deepest cheap fault (omega arith)
+        (told_first site m (element_failure c b word) (lead_reads_failure L m word word.lead) fault (told_after site m q (element_failure c b word) e y)))
 
     text_stops : (p : ℕ) → LeadsTo c b S t f p → (own : Option Failure) → own_failure c b S t f ≡ own → after r (own ▷ after (own_reads b t f) (lead_failure c b p to_string)) ≡ Some (refused e q) → Stopped
     text_stops p to None is x = string_stops p to is (sym (after_twice r (own_reads b t f) (lead_failure c b p to_string)) ∙ x)
@@ -178,13 +197,13 @@ module _ (c : Checks) (b : List ℕ) (S : Rows) (L : Bounds) (s : Origin) (below
 
     -- or fails, and the walk stops there
     pub step_stops : (reason : Reason) → failed ≡ Some reason → (k : ℕ) → r ≡ k + m → AreAllowed L.reads (r + 6) → (stop : Stop) → stop.refusal ≡ record { at = at; reason = reason } → (stop.site).object ≡ (top.table).object
-        → ((f : Live) → slice_get (live_fields S (top.table).object) top.next ≡ Some f → (stop.site).field ≡ Some f.number) → StopsFrom c b S L s.object s.position s.way (stopped stop (k + new))
+        → ((f : Live) → slice_get (live_fields S (top.table).object) top.next ≡ Some f → (stop.site).field ≡ Some f.number) → StopsIn c b S L s below (own_link (stopped stop (k + new))) (stopped stop (k + new))
     step_stops reason e k z room stop refusal object field =
         let by : Refusal = record { at = at; reason = reason } in
         let here = sym told ∙ ap (tested_by at new) e in
         let x = failed_after k m new by (plain_failure c b (top.table).at (step_of found.0)) (ap (after m) (sym chain_is) ∙ here) in
         let cheap = fewer_reads L.reads (r + own_reads b (top.table).at found.0) (r + 6) (omega (arith, own_few b (top.table).at found.0)) room in
-        subst (λ f. StopsFrom c b S L s.object s.position s.way f) (stop_is stop by (top.table).object (found.0).number (k + new) refusal object (field found.0 found.1))
+        subst (λ f. StopsIn c b S L s below (own_link f) f) (stop_is stop by (top.table).object (found.0).number (k + new) refusal object (field found.0 found.1))
         (plain_stops c b S L s below top n d r h rests found.0 found.1 plain_field cheap by (k + new) (ap (λ w. after w (plain_failure c b (top.table).at (step_of found.0))) z ∙ x))
 
 -- The slot of a field was read that stands there and may lead to a table.

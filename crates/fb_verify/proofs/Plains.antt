@@ -162,6 +162,7 @@ pub record LeadsNowhere (c : Checks) (b : List ℕ) (S : Rows) (t : ℕ) (f : Li
 
 -- one whose offset word at p leads to a string by itself, and then that string
 pub record LeadsTo (c : Checks) (b : List ℕ) (S : Rows) (t : ℕ) (f : Live) (p : ℕ) : Type 0 where
+  pub kind : f.kind ≡ Text
   pub one : entries b S t f ≡ entry to_string p 0 ∷ []
   pub chain : plain_failure c b t (step_of f) ≡ own_failure c b S t f ▷ after (own_reads b t f) (lead_failure c b p to_string)
   pub reads : plain_reads b t (step_of f) ≡ own_reads b t f + 3
@@ -233,6 +234,7 @@ module _ (c : Checks) (b : List ℕ) (S : Rows) (t : ℕ) (f : Live) where
       inr (
         p,
         record {
+          kind = e;
           one = entries_are p here Text e;
           chain = plain_is p here Text e ∙ after_both slot (table_failure c b t p 4) (lead_failure c b p to_string)
               ∙ ap (λ x. x ▷ after slot (lead_failure c b p to_string)) (sym (own_is p here Text e))

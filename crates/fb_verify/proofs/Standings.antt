@@ -1,5 +1,5 @@
 -- The turns of a walk, on the whole stack.
-use Rattle.std.proofs.Common.{◌≡◌, ℕ, ◌+◌, max, ◌<◌, ◌≤◌, ◌⊎◌, inl, inr, List, [], ◌∷◌, ◌++◌, length, refl, sym, ◌∙◌, ap, subst, arith, Option, Some, None}
+use Rattle.std.proofs.Common.{◌≡◌, ℕ, ◌+◌, max, ◌<◌, ◌≤◌, ◌⊎◌, inl, inr, List, [], ◌∷◌, ◌++◌, length, map, refl, sym, ◌∙◌, ap, subst, arith, Option, Some, None}
 use Rattle.std.specs.Prelude.{slice_get}
 use Rattle.fb_schema.specs.Rows.{Rows}
 use Rattle.fb_schema.specs.Live.{Live, live_fields}
@@ -20,15 +20,18 @@ use Rattle.fb_verify.specs.Cost.{head_reads, own_reads, lead_reads, element_cost
 use Rattle.fb_verify.specs.Laws.{IsLead}
 use Rattle.fb_verify.specs.Order.{Failure, ◌▷◌, head_failure, own_failure, element_failure}
 use Rattle.fb_verify.specs.Way.{Way, way_to_table}
-use Rattle.fb_verify.specs.Stops.{in_head, in_field, in_element, fault_of, budget_failure, reads_failure, lead_reads_failure, fault_at, StopsFrom}
+use Rattle.fb_verify.specs.Stops.{in_head, in_field, in_element, fault_of, budget_failure, reads_failure, lead_reads_failure, fault_at}
+use Rattle.fb_verify.specs.declared.links.Link.{Link}
+use Rattle.fb_verify.specs.Links.{field_link, LeadsAlong}
 use Rattle.fb_verify.specs.Told.{told, way_at}
 use Rattle.fb_verify.specs.OffsetRows.{words_of, first_word, past_first, IsLeafLead, IsTyped}
-use Rattle.fb_verify.specs.Walked.{ended, TableWalked, IsInside, IsInField}
-use Rattle.fb_verify.specs.Stack.{opened as opened_frame, reached, Resting, Middle, Goes, Context, Origin, Standing}
+use Rattle.fb_verify.specs.Walked.{ended, TableWalked, IsInside, IsInField, Waits}
+use Rattle.fb_verify.specs.Stack.{opened as opened_frame, reached, Resting, Middle, Goes, Context, Origin, Standing, frame_link}
 use Rattle.fb_verify.proofs.Budgets.{fewer_reads}
 use Rattle.fb_verify.proofs.Chains.{head_none, own_none, element_none}
 use Rattle.fb_verify.proofs.Steps.{same_way, field_deep, opened, entered, passed_on, field_done, closed, waits, resumed, stops_at_head, stops_at_field, stops_at_element, stops_below}
 use Rattle.fb_verify.proofs.Words.{row_front, row_none, first_place}
+use Rattle.fb_verify.proofs.Linked.{linked_by}
 use Rattle.fb_verify.proofs.Typed.{typed_before}
 use Rattle.fb_verify.proofs.Contexts.{context_push, context_pop, context_stop, context_links}
 
@@ -57,7 +60,7 @@ module _ (c : Checks) (b : List ℕ) (S : Rows) where
       let m = rw (row_none b S fr.row e) at h in
       record { none = e; inside = field_done c b S (fr.table).object (fr.table).at w fr.next fr.number v m }
 
-  in_middle : (fr : Frame) (w : Way) (n d r : ℕ) → 0 < (fr.row).left → Resting c b S fr w n d r ⊎ Middle c b S fr w n d r
+  pub in_middle : (fr : Frame) (w : Way) (n d r : ℕ) → 0 < (fr.row).left → Resting c b S fr w n d r ⊎ Middle c b S fr w n d r
       → IsInField c b S (fr.table).object (fr.table).at w fr.next fr.number (first_word b S fr.row ∷ words_of b S (past_first fr.row)) (reached w (fr.table).object (Some fr.number) n d r)
   in_middle fr w n d r l (inl h) = absurd (omega (arith, h.none))
   in_middle fr w n d r l (inr h) = rw (row_front b S fr.row l) at h
@@ -86,7 +89,7 @@ module _ (c : Checks) (b : List ℕ) (S : Rows) where
 
     -- it stops before the first table, or at its head
     pub stop_at_root : (t : ℕ) (site : Site) (n d r : ℕ) (f : Fault) → s.way ≡ way_at 0 n d r site → t ≡ s.position → n ≤ L.tables → d ≤ L.depth → AreAllowed L.reads r
-        → (told site r (budget_failure L (way_at 0 n d r site) t) ▷ told (record { object = s.object; field = None }) r (head_failure c b t ▷ reads_failure L r (head_reads c) t)) ≡ Some f → StopsFrom c b S L s.object s.position s.way f
+        → (told site r (budget_failure L (way_at 0 n d r site) t) ▷ told (record { object = s.object; field = None }) r (head_failure c b t ▷ reads_failure L r (head_reads c) t)) ≡ Some f → LeadsAlong c b S L s.object s.position s.way f []
     unfolding fault_at
     stop_at_root t site n d r f e p a x y h =
         let u = way_at 0 n d r site in
@@ -113,35 +116,43 @@ module _ (c : Checks) (b : List ℕ) (S : Rows) where
       rests e = at_rest top h.v n d r e h.at
 
       -- where the top stops the walk does
-      stop : (f : Fault) → StopsFrom c b S L (top.table).object (top.table).at h.v f → StopsFrom c b S L s.object s.position s.way f
-      stop f g = context_stop c b S L f below s.object s.position (top.table).object (top.table).at s.way h.v h.under g
+      stop : (f : Fault) (links : List Link) → LeadsAlong c b S L (top.table).object (top.table).at h.v f links → LeadsAlong c b S L s.object s.position s.way f (map (frame_link b S) below ++ links)
+      stop f links g = context_stop c b S L f links below s.object s.position (top.table).object (top.table).at s.way h.v h.under g
+
+      -- the top, past the first word that is left
+      abbrev pub past_word : Frame
+      past_word = record { table = top.table; next = top.next; number = top.number; row = past_first top.row }
 
       module _ (few : n ≤ L.tables) (shallow : d ≤ L.depth) (cheap : AreAllowed L.reads r) where
-        pub stop_at_element : (f : Fault) → 0 < (top.row).left → told here r (element_failure c b (first_word b S top.row) ▷ lead_reads_failure L r (first_word b S top.row) (first_word b S top.row).lead) ≡ Some f → StopsFrom c b S L s.object s.position s.way f
+        pub stop_at_element : (f : Fault) → 0 < (top.row).left → told here r (element_failure c b (first_word b S top.row) ▷ lead_reads_failure L r (first_word b S top.row) (first_word b S top.row).lead) ≡ Some f
+            → LeadsAlong c b S L s.object s.position s.way f (map (frame_link b S) below ++ frame_link b S past_word ∷ [])
         unfolding fault_at
         stop_at_element f l e =
             let x = first_word b S top.row in
             let g : fault_at c b S L (in_element x) v' ≡ Some f = sym (told_is v' here (element_failure c b x ▷ lead_reads_failure L r x x.lead) refl refl) ∙ e in
-            stop f (stops_at_element c b S (top.table).object (top.table).at h.v L f top.next top.number x (words_of b S (past_first top.row)) v' (middle l) (record { within = record { tables = few; depth = shallow; reads = fewer_reads L.reads _ r (omega arith) cheap }; first = g }))
+            let r = stops_at_element c b S (top.table).object (top.table).at h.v L f top.next top.number x (words_of b S (past_first top.row)) v' (middle l) (record { within = record { tables = few; depth = shallow; reads = fewer_reads L.reads _ r (omega arith) cheap }; first = g }) in
+            stop f (frame_link b S past_word ∷ []) (r.0, r.1, r.2 ∙ ap (λ y. y ∷ []) (linked_by c b S past_word h.v v' x (middle l)))
 
         pub stop_at_field : (f : Fault) (field : Live) → (top.row).left ≡ 0 → slice_get (live_fields S (top.table).object) top.next ≡ Some field
-            → told (record { object = (top.table).object; field = Some field.number }) r (own_failure c b S (top.table).at field ▷ reads_failure L r (own_reads b (top.table).at field) (top.table).at) ≡ Some f → StopsFrom c b S L s.object s.position s.way f
+            → told (record { object = (top.table).object; field = Some field.number }) r (own_failure c b S (top.table).at field ▷ reads_failure L r (own_reads b (top.table).at field) (top.table).at) ≡ Some f
+            → LeadsAlong c b S L s.object s.position s.way f (map (frame_link b S) below ++ field_link (top.table).object field ∷ [])
         unfolding fault_at
         stop_at_field f field l i e =
             let u = reached h.v (top.table).object (Some field.number) n d r in
             let site : Site = record { object = (top.table).object; field = Some field.number } in
             let g : fault_at c b S L (in_field (top.table).at field) u ≡ Some f = sym (told_is u site (own_failure c b S (top.table).at field ▷ reads_failure L r (own_reads b (top.table).at field) (top.table).at) refl refl) ∙ e in
-            stop f (stops_at_field c b S (top.table).object (top.table).at h.v L f top.next (reached h.v (top.table).object None n d r) field (rests l).inside i (record { within = record { tables = few; depth = shallow; reads = fewer_reads L.reads _ r (omega arith) cheap }; first = g }))
+            stop f (field_link (top.table).object field ∷ []) (stops_at_field c b S (top.table).object (top.table).at h.v L f top.next (reached h.v (top.table).object None n d r) field (rests l).inside i (record { within = record { tables = few; depth = shallow; reads = fewer_reads L.reads _ r (omega arith) cheap }; first = g }))
 
         -- the next offset word leads to a table, which can't be opened or has no head
         pub stop_at_table : (m : ℕ) (f : Fault) (k t : ℕ) → m ≡ length below + 1 → 0 < (top.row).left → element_failure c b (first_word b S top.row) ≡ None → (first_word b S top.row).lead ≡ to_table k → t ≡ target b (top.row).place
             → (q : ℕ) → q ≡ r + (first_word b S top.row).reads + lead_reads (first_word b S top.row).lead
-            → (told here q (budget_failure L (way_at m n d q here) t) ▷ told (record { object = k; field = None }) q (head_failure c b t ▷ reads_failure L q (head_reads c) t)) ≡ Some f → StopsFrom c b S L s.object s.position s.way f
+            → (told here q (budget_failure L (way_at m n d q here) t) ▷ told (record { object = k; field = None }) q (head_failure c b t ▷ reads_failure L q (head_reads c) t)) ≡ Some f
+            → LeadsAlong c b S L s.object s.position s.way f (map (frame_link b S) below ++ frame_link b S past_word ∷ [])
         unfolding fault_at
         stop_at_table m f k t mi l o e p q z g =
             let x = first_word b S top.row in
             let offset = table_lead x.place x.lead k e ((element_none c b x).0 o) in
-            let wait = waits c b S (top.table).object (top.table).at h.v top.next top.number x (words_of b S (past_first top.row)) v' k t (middle l) e offset (rw (first_place b S top.row) p) in
+            let wait : Waits c b S (top.table).object (top.table).at h.v top.next top.number (words_of b S (past_first top.row)) k t (way_to_table x v') = record { x = x; v = v'; in_field = middle l; leads = e; offset = offset; place = rw (first_place b S top.row) p; after = refl } in
             let one : lead_reads x.lead ≡ 1 = rw e refl in
             let u = way_to_table x v' in
             let w : Way = record (way_at m n d q here) { leading = x.reads + 1 } in
@@ -150,7 +161,8 @@ module _ (c : Checks) (b : List ℕ) (S : Rows) where
             let j = told_is (record w { object = k; field = None }) (record { object = k; field = None }) (head_failure c b t ▷ reads_failure L q (head_reads c) t) refl refl in
             let first : fault_at c b S L (in_head k t) w ≡ Some f = rw (i, j) at g in
             let at_head = stops_at_head c b S k t w L f (record { within = record { tables = few; depth = shallow; reads = fewer_reads L.reads _ r (omega (arith, z, one)) cheap }; first = first }) in
-            stop f (stops_below c b S (top.table).object (top.table).at h.v L f top.next top.number (words_of b S (past_first top.row)) k t u wait (rw (sym u_is) at at_head))
+            let r = stops_below c b S (top.table).object (top.table).at h.v L f top.next top.number (words_of b S (past_first top.row)) k t u wait [] (rw (sym u_is) at at_head) in
+            stop f (frame_link b S past_word ∷ []) (r.0, r.1, r.2 ∙ ap (λ y. y ∷ []) (linked_by c b S past_word h.v v' x (middle l)))
 
       -- an offset word that leads to no table is passed
       pub pass_leaf : (row : Row) (q : ℕ) → row ≡ past_first top.row → 0 < (top.row).left → element_failure c b (first_word b S top.row) ≡ None → IsLeafLead (first_word b S top.row).lead

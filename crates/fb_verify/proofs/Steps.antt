@@ -13,7 +13,9 @@ use Rattle.fb_verify.specs.Tree.{node, no_kids, no_elements, Element, table, siz
 use Rattle.fb_verify.specs.Unfolds.{Unfolds, FieldsUnfold, ElementsUnfold, ElementUnfolds}
 use Rattle.fb_verify.specs.Cost.{own_reads, lead_reads, tree_cost, kids_cost, elements_cost, element_cost}
 use Rattle.fb_verify.specs.Way.{Way, paying, opening, passing, way_to_table}
-use Rattle.fb_verify.specs.Stops.{in_head, in_field, in_element, IsFalseAt, at_head, at_field, at_own, at_element, at_lead, through, IsTrail, ElementTrail, IsElementTrail, StopsFrom}
+use Rattle.fb_verify.specs.declared.links.Link.{Link}
+use Rattle.fb_verify.specs.Stops.{in_head, in_field, in_element, IsFalseAt, at_head, at_field, at_own, at_element, at_lead, through, IsTrail, ElementTrail, IsElementTrail}
+use Rattle.fb_verify.specs.Links.{field_link, element_link, object_led_to, links_of, links_in_field, links_in_element, LeadsAlong}
 use Rattle.fb_verify.specs.Walked.{at_number, TableWalked, IsInside, IsInField, Waits}
 use Rattle.fb_verify.proofs.Pushes.{elements_push, kids_push, elements_size-push, elements_depth-push, elements_length-push, kids_size-push, kids_depth-push, kids_length-push, front_of, rest_of, all_of, take_all, ElementsUnfold-push, elements_cost-push, FieldsUnfold-push, kids_cost-push}
 
@@ -145,41 +147,50 @@ module _ (c : Checks) (b : List ℕ) (S : Rows) (k t : ℕ) (w : Way) where
   -- Where it stops.
   module _ (L : Bounds) (f : Fault) where
     -- at the head
-    pub stops_at_head : IsFalseAt c b S L (in_head k t) w f → StopsFrom c b S L k t w f
-    unfolding IsTrail
-    stops_at_head h = (at_head, h)
+    pub stops_at_head : IsFalseAt c b S L (in_head k t) w f → LeadsAlong c b S L k t w f []
+    unfolding IsTrail links_of
+    stops_at_head h = (at_head, h, refl)
 
     -- at a field's own tests
-    pub stops_at_field : (i : ℕ) (v : Way) (field : Live) → IsInside c b S k t w i v → slice_get (live_fields S k) i ≡ Some field → IsFalseAt c b S L (in_field t field) (at_number (Some field.number) v) f → StopsFrom c b S L k t w f
-    unfolding IsTrail
+    pub stops_at_field : (i : ℕ) (v : Way) (field : Live) → IsInside c b S k t w i v → slice_get (live_fields S k) i ≡ Some field → IsFalseAt c b S L (in_field t field) (at_number (Some field.number) v) f → LeadsAlong c b S L k t w f (field_link k field ∷ [])
+    unfolding IsTrail links_of
     stops_at_field i v field h g p =
-        (at_field h.earlier at_own, (field, record { head = h.head; passed = rw h.count h.passed; next = rw h.count g }, rw h.after at p))
+        let next : slice_get (live_fields S k) (kids_length h.earlier) ≡ Some field = rw h.count g in
+        (at_field h.earlier at_own, (field, record { head = h.head; passed = rw h.count h.passed; next = next }, rw h.after at p), ap (links_in_field at_own b S k t) next)
 
     -- at an offset word or further on
-    stops_in_element : (next number : ℕ) (x : Entry) (xs : List Entry) (v : Way) (s : ElementTrail) → IsInField c b S k t w next number (x ∷ xs) v → IsElementTrail s c b S L x v f → StopsFrom c b S L k t w f
-    unfolding IsTrail
+    stops_in_element : (next number : ℕ) (x : Entry) (xs : List Entry) (v : Way) (s : ElementTrail) (h : IsInField c b S k t w next number (x ∷ xs) v) → IsElementTrail s c b S L x v f
+        → LeadsAlong c b S L k t w f (element_link b k t h.field (elements_length h.before) ∷ links_in_element s b S (Some x))
+    unfolding IsTrail links_of
     stops_in_element next number x xs v s h p =
         let i = h.inside in
-        let p' = rw h.after at p in (
+        let p' = rw h.after at p in
+        let here : slice_get (live_fields S k) (kids_length i.earlier) ≡ Some h.field = rw i.count h.found in
+        let word = front_of (entries b S t h.field) (elements_length h.before) x xs h.left_is in (
           at_field i.earlier (at_element h.before s),
           (
             h.field,
-            record { head = i.head; passed = rw i.count i.passed; next = rw i.count h.found },
+            record { head = i.head; passed = rw i.count i.passed; next = here },
             (
               x,
-              record { own = h.own; passed = h.passed; next = front_of (entries b S t h.field) (elements_length h.before) x xs h.left_is },
+              record { own = h.own; passed = h.passed; next = word },
               rw i.after at p',
             ),
           ),
+          ap (links_in_field (at_element h.before s) b S k t) here ∙ ap (λ e. element_link b k t h.field (elements_length h.before) ∷ links_in_element s b S e) word,
         )
 
     -- at an offset word
-    pub stops_at_element : (next number : ℕ) (x : Entry) (xs : List Entry) (v : Way) → IsInField c b S k t w next number (x ∷ xs) v → IsFalseAt c b S L (in_element x) v f → StopsFrom c b S L k t w f
-    unfolding IsElementTrail
+    pub stops_at_element : (next number : ℕ) (x : Entry) (xs : List Entry) (v : Way) (h : IsInField c b S k t w next number (x ∷ xs) v) → IsFalseAt c b S L (in_element x) v f
+        → LeadsAlong c b S L k t w f (element_link b k t h.field (elements_length h.before) ∷ [])
+    unfolding IsElementTrail links_in_element
     stops_at_element next number x xs v h p = stops_in_element next number x xs v at_lead h p
 
     -- in the table to which it leads
-    pub stops_below : (next number : ℕ) (xs : List Entry) (k' t' : ℕ) (u : Way) → Waits c b S k t w next number xs k' t' u → StopsFrom c b S L k' t' u f → StopsFrom c b S L k t w f
-    unfolding IsElementTrail
-    stops_below next number xs k' t' u h s =
-        stops_in_element next number h.x xs h.v (through s.0) h.in_field (k', h.leads, h.offset, rw (h.place, h.after) at s.1)
+    pub stops_below : (next number : ℕ) (xs : List Entry) (k' t' : ℕ) (u : Way) (h : Waits c b S k t w next number xs k' t' u) (links : List Link) → LeadsAlong c b S L k' t' u f links
+        → LeadsAlong c b S L k t w f (element_link b k t (h.in_field).field (elements_length (h.in_field).before) ∷ links)
+    unfolding IsElementTrail links_in_element
+    stops_below next number xs k' t' u h links s =
+        let r = stops_in_element next number h.x xs h.v (through s.0) h.in_field (k', h.leads, h.offset, rw (h.place, h.after) at s.1) in
+        let led = ap (λ lead. links_of s.0 b S (object_led_to lead) (target b (h.x).place)) h.leads ∙ ap (links_of s.0 b S k') (sym h.place) ∙ s.2 in
+        (r.0, r.1, r.2 ∙ ap (λ xs. element_link b k t (h.in_field).field (elements_length (h.in_field).before) ∷ xs) led)

@@ -33,7 +33,7 @@ module _ (c : Checks) (b : List ℕ) (S : Rows) (t : ℕ) where
   field_met (kid ys kids) (f ∷ fs) (suc j) h u e = field_met kids fs j h u.2 e
 
   -- a field that is present holds where it is
-  present : (f : Live) (p : ℕ) (kind : Kind) → IsField c b S t f → field_place b t f.slot ≡ Some p → f.kind ≡ kind → IsPresent c b S t f p kind
+  pub present : (f : Live) (p : ℕ) (kind : Kind) → IsField c b S t f → field_place b t f.slot ≡ Some p → f.kind ≡ kind → IsPresent c b S t f p kind
   unfolding IsField
   present f p kind h e k = subst (λ x. IsPresent c b S t f p x) k (subst (λ x. IsPresentOrAbsent c b S t f x) e h)
 

@@ -1,5 +1,5 @@
 -- From the walk of the root table to the verdict.
-use Rattle.std.proofs.Common.{◌≡◌, ℕ, ◌+◌, ◌≤◌, inl, inr, List, length, refl, sym, ◌∙◌, ap, arith, Some, None}
+use Rattle.std.proofs.Common.{◌≡◌, ℕ, ◌+◌, ◌≤◌, inl, inr, List, [], length, refl, sym, ◌∙◌, ap, arith, Some, None}
 use Rattle.fb_schema.specs.Rows.{Rows}
 use Rattle.fb_verify.specs.declared.checks.Checks.{Checks}
 use Rattle.fb_verify.specs.declared.fault.Fault.{Fault}
@@ -13,7 +13,9 @@ use Rattle.fb_verify.specs.Cost.{tree_cost}
 use Rattle.fb_verify.specs.WellFormed.{base, start_reads}
 use Rattle.fb_verify.specs.Order.{◌▷◌, start_failure}
 use Rattle.fb_verify.specs.Way.{way_to_start, way_to_root}
-use Rattle.fb_verify.specs.Stops.{in_start, reads_failure, fault_at, StopsFrom, Stops}
+use Rattle.fb_verify.specs.declared.links.Link.{Link}
+use Rattle.fb_verify.specs.Stops.{in_start, reads_failure, fault_at, Stops}
+use Rattle.fb_verify.specs.Links.{LeadsAlong, StopsAlong}
 use Rattle.fb_verify.specs.Told.{told, way_at}
 use Rattle.fb_verify.specs.Walked.{TableWalked, ended}
 use Rattle.fb_verify.specs.MostReads.{most_reads}
@@ -33,17 +35,22 @@ module _ (c : Checks) (b : List ℕ) (S : Rows) (root : ℕ) (start : Start) (id
   pub root_way : (r : ℕ) → r ≡ start_reads start ident → way_at 0 0 0 r root_site ≡ way_to_root root start ident
   root_way r e = same_way _ _ refl refl refl (omega (arith, e)) refl refl refl
 
-  -- a fault before the root table
-  pub stops_at_start : (f : Fault) → told root_site 0 (start_failure c b start ident ▷ reads_failure L 0 (start_reads start ident) (base start)) ≡ Some f → Stops c b S root start ident L f
+  -- a fault before the root table, to which no link leads
+  pub stops_at_start : (f : Fault) → told root_site 0 (start_failure c b start ident ▷ reads_failure L 0 (start_reads start ident) (base start)) ≡ Some f → StopsAlong c b S root start ident L f []
   unfolding fault_at
   stops_at_start f h =
       let w = way_to_start root in
       let g : fault_at c b S L (in_start start ident) w ≡ Some f = sym (told_is w root_site (start_failure c b start ident ▷ reads_failure L 0 (start_reads start ident) (base start)) refl refl) ∙ h in
-      inl (record { within = record { tables = omega arith; depth = omega arith; reads = no_reads L.reads }; first = g })
+      inl (record { within = record { tables = omega arith; depth = omega arith; reads = no_reads L.reads }; first = g }, refl)
 
   -- a fault at the root table or below
-  pub stops_below_start : (t r : ℕ) (f : Fault) → start_failure c b start ident ≡ None → t ≡ target b (base start) → r ≡ start_reads start ident → StopsFrom c b S L root t (way_at 0 0 0 r root_site) f → Stops c b S root start ident L f
-  stops_below_start t r f o p e h = inr ((start_none c b start ident).0 o, rw (p, root_way r e) at h)
+  pub stops_below_start : (t r : ℕ) (f : Fault) (links : List Link) → start_failure c b start ident ≡ None → t ≡ target b (base start) → r ≡ start_reads start ident → LeadsAlong c b S L root t (way_at 0 0 0 r root_site) f links → StopsAlong c b S root start ident L f links
+  stops_below_start t r f links o p e h = inr ((start_none c b start ident).0 o, rw (p, root_way r e) at h)
+
+  -- where links lead to a fault, there is one
+  pub stops_along : (f : Fault) (links : List Link) → StopsAlong c b S root start ident L f links → Stops c b S root start ident L f
+  stops_along f links (inl h) = inl h.0
+  stops_along f links (inr h) = let s = h.1 in inr (h.0, (s.0, s.1))
 
   -- the root table was walked
   pub reports : (t r n d q count : ℕ) → start_failure c b start ident ≡ None → t ≡ target b (base start) → r ≡ start_reads start ident
@@ -66,6 +73,10 @@ module _ (c : Checks) (b : List ℕ) (S : Rows) (root : ℕ) (start : Start) (id
   -- where there is a fault, there is no tree
   pub has_none : (f : Fault) → Stops c b S root start ident L f → HasNone c b S root start ident L
   has_none f h y i j = stops_nowhere c b S L root start ident y f i j h
+
+  -- the same where links lead to one
+  pub none_along : (f : Fault) (links : List Link) → StopsAlong c b S root start ident L f links → HasNone c b S root start ident L
+  none_along f links h = has_none f (stops_along f links h)
 
   -- the price
   pub price_of_no : (f : Fault) → Stops c b S root start ident L f → f.reads ≤ most_reads S L (length b)

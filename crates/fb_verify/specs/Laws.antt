@@ -8,6 +8,7 @@ use Rattle.fb_verify.specs.declared.start.Start.{Start}
 use Rattle.fb_verify.specs.declared.start.Ident.{Ident}
 use Rattle.fb_verify.specs.declared.fault.Reason.TheVariants.{TooDeep, TooManyTables, TooManyReads}
 use Rattle.fb_verify.specs.declared.fault.Fault.{Fault}
+use Rattle.fb_verify.specs.declared.links.Link.{Link}
 use Rattle.fb_verify.specs.Bounds.{Bounds, AreTooMany}
 use Rattle.fb_verify.specs.Places.{target}
 use Rattle.fb_verify.specs.Facts.{IsTable, IsOffset, IsString, IsVector, IsInline}
@@ -18,6 +19,7 @@ use Rattle.fb_verify.specs.Cost.{tree_cost}
 use Rattle.fb_verify.specs.WellFormed.{IsStart, IsWellFormed, IsWithin, cost}
 use Rattle.fb_verify.specs.Way.{Way}
 use Rattle.fb_verify.specs.Stops.{Trail, IsTrail, Stops}
+use Rattle.fb_verify.specs.Links.{StopsAlong}
 use Rattle.fb_verify.specs.MostReads.{most_reads}
 use Rattle.fb_verify.specs.Order.{start_failure, head_failure, offset_failure, string_failure, vector_failure, inline_failure, own_failure, element_failure}
 
@@ -78,6 +80,11 @@ StopsOnlyAtLimits =
 abbrev pub StopsOnce : Type 0
 StopsOnce =
     (c : Checks) (b : List ℕ) (S : Rows) (root : ℕ) (start : Start) (ident : Ident) (L : Bounds) (f g : Fault) → Stops c b S root start ident L f → Stops c b S root start ident L g → f ≡ g
+
+-- at most one row of links leads to it
+abbrev pub LeadsOneWay : Type 0
+LeadsOneWay =
+    (c : Checks) (b : List ℕ) (S : Rows) (root : ℕ) (start : Start) (ident : Ident) (L : Bounds) (f g : Fault) (xs ys : List Link) → StopsAlong c b S root start ident L f xs → StopsAlong c b S root start ident L g ys → xs ≡ ys
 
 -- none is, where a tree is well formed and within the limits
 abbrev pub StopsNowhereWithin : Type 0

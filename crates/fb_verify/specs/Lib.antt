@@ -10,6 +10,7 @@ pub mod WellFormed
 pub mod Order
 pub mod Way
 pub mod Stops
+pub mod Links
 pub mod Reasons
 pub mod MostReads
 pub mod Verdict

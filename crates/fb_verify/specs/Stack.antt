@@ -1,27 +1,35 @@
 -- The frames of a walk: what they say of the walk so far, and the work that is left to it.
-use Rattle.std.specs.Prelude.{◌≡◌, ℕ, ◌+◌, ◌-◌, ◌*◌, ◌^◌, ◌<◌, ◌≤◌, ◌⊎◌, IsTrue, List, [], ◌∷◌, length, Option, Some, None, slice_get}
+use Rattle.std.specs.Prelude.{◌≡◌, ℕ, ◌+◌, ◌-◌, ◌*◌, ◌^◌, ◌<◌, ◌≤◌, ◌⊎◌, IsTrue, List, [], ◌∷◌, ◌++◌, length, map, Option, Some, None, slice_get}
 use Rattle.std.specs.List.{All, sum_by}
+use Rattle.fb_schema.specs.declared.kinds.Kind.{Kind}
+use Rattle.fb_schema.specs.declared.kinds.Kind.TheVariants.{Union, Texts, Tables, Unions}
 use Rattle.fb_schema.specs.Rows.{Rows, is_table}
 use Rattle.fb_schema.specs.Live.{Live, live_fields}
 use Rattle.fb_schema.specs.Served.{IsServed}
-use Rattle.fb_bytes.specs.Word.{Metered}
+use Rattle.fb_bytes.specs.Word.{Metered, word}
 use Rattle.fb_verify.specs.declared.checks.Checks.{Checks}
 use Rattle.fb_verify.specs.declared.fault.Fault.{Fault}
 use Rattle.fb_verify.specs.declared.offset_row.Referent.TheVariants.{Nothing}
 use Rattle.fb_verify.specs.declared.offset_row.Leads.TheVariants.{All as AllTo}
 use Rattle.fb_verify.specs.declared.scratch.Frame.{Frame}
+use Rattle.fb_verify.specs.declared.site.Halt.{Halt}
+use Rattle.fb_verify.specs.declared.site.LastLink.{LastLink}
+use Rattle.fb_verify.specs.declared.site.LastLink.TheVariants.{Behind, InField}
 use Rattle.fb_verify.specs.declared.element.Child.{Child}
 use Rattle.fb_verify.specs.declared.field.Table.{Table}
+use Rattle.fb_verify.specs.declared.links.Link.{Link}
 use Rattle.fb_verify.specs.declared.stack.Walk.{Walk}
+use Rattle.fb_verify.specs.declared.start.Start.{Start}
+use Rattle.fb_verify.specs.declared.start.Ident.{Ident}
 use Rattle.fb_verify.specs.Bounds.{Bounds, AreAllowed}
 use Rattle.fb_verify.specs.Places.{target, has_slot, field_place}
-use Rattle.fb_verify.specs.Fields.{to_table}
+use Rattle.fb_verify.specs.Fields.{IsField, to_table, entries, type_place, type_count}
 use Rattle.fb_verify.specs.Cost.{lead_reads}
 use Rattle.fb_verify.specs.Order.{element_failure}
 use Rattle.fb_verify.specs.Way.{Way}
-use Rattle.fb_verify.specs.Told.{IsHead}
-use Rattle.fb_verify.specs.OffsetRows.{words_of, first_word, IsRow}
-use Rattle.fb_verify.specs.Stops.{StopsFrom}
+use Rattle.fb_verify.specs.Told.{IsHead, stopped}
+use Rattle.fb_verify.specs.OffsetRows.{words_of, first_word, IsRow, IsTyped, TypeFits, TypesFit}
+use Rattle.fb_verify.specs.Links.{element_link, LeadsAlong, StopsAlong}
 use Rattle.fb_verify.specs.Walked.{ended, TableWalked, IsInside, IsInField, Waits}
 
 -- what no walk has written
@@ -136,9 +144,90 @@ pub record IsAtTable (w : Walk) (b : List ℕ) (r : ℕ) (s : Origin) (below : L
 abbrev pub IsOver : Walk → Metered → Origin → Type 0
 IsOver w m s = TableWalked w.checks m.bytes w.schema.now s.object s.position s.way (ended s.way w.tables w.deepest m.count)
 
--- it stops at this fault
-abbrev pub IsStopped : Walk → Metered → Origin → Fault → Type 0
-IsStopped w m s f = StopsFrom w.checks m.bytes w.schema.now w.limits s.object s.position s.way f
+-- A walk that stops: the words behind which the frames' rows were left lead to the fault, link by link.
+
+-- the link through the word before a frame's row, which is one of this field
+abbrev pub link_behind : List ℕ → Rows → Frame → Option Live → Link
+link_behind b S fr None = record { object = (fr.table).object; field = 0; element = None; member = None }
+link_behind b S fr (Some g) = element_link b (fr.table).object (fr.table).at g (length (entries b S (fr.table).at g) - (fr.row).left - 1)
+
+-- the same, of the field before the frame's next
+abbrev pub frame_link : List ℕ → Rows → Frame → Link
+frame_link b S fr = link_behind b S fr (slice_get (live_fields S (fr.table).object) (fr.next - 1))
+
+-- the field before the frame's next holds by itself, and a word of it stands before the row that was left
+pub record IsLinked (c : Checks) (b : List ℕ) (S : Rows) (fr : Frame) : Type 0 where
+  pub frame : IsFrame c b S fr
+  pub some : 0 < fr.next
+  pub field : Live
+  pub found : slice_get (live_fields S (fr.table).object) (fr.next - 1) ≡ Some field
+  pub own : IsField c b S (fr.table).at field
+  pub typed : IsTyped b (fr.table).at field.slot field.kind
+  pub more : (fr.row).left < length (entries b S (fr.table).at field)
+
+-- how many offset words a field of this kind at p has that leads on
+abbrev pub word_count : List ℕ → ℕ → Kind → ℕ
+word_count b p Texts = word b (target b p) 4
+word_count b p (Tables k) = word b (target b p) 4
+word_count b p (Unions e) = word b (target b p) 4
+word_count b p _ = 1
+
+-- where it is a vector, its count can be read
+pub record CountIsIn (b : List ℕ) (p : ℕ) : Type 0 where
+  pub offset : p + 4 ≤ length b
+  pub count : target b p + 4 ≤ length b
+
+abbrev pub CountStands : List ℕ → ℕ → Kind → Type 0
+CountStands b p Texts = CountIsIn b p
+CountStands b p (Tables k) = CountIsIn b p
+CountStands b p (Unions e) = CountIsIn b p
+CountStands b p _ = Unit {0}
+
+-- where it is a union, or a vector of these of which j are passed, the type can be read
+abbrev pub TypeStands : List ℕ → ℕ → ℕ → ℕ → Kind → Type 0
+TypeStands b t o j (Union e) = TypeFits b t o
+TypeStands b t o j (Unions e) = TypesFit b t o × (j < type_count b (type_place b t o))
+TypeStands b t o j _ = Unit {0}
+
+-- the link to the field that a fault names
+abbrev pub link_to_number : ℕ → Option ℕ → List Link
+link_to_number k None = []
+link_to_number k (Some n) = record { object = k; field = n; element = None; member = None } ∷ []
+
+abbrev pub own_link : Fault → List Link
+own_link f = link_to_number f.object f.field
+
+-- a walk from there stops at this fault: the links of these frames lead to it, and then these
+pub record StopsIn (c : Checks) (b : List ℕ) (S : Rows) (L : Bounds) (s : Origin) (frames : List Frame) (last : List Link) (f : Fault) : Type 0 where
+  pub along : LeadsAlong c b S L s.object s.position s.way f (map (frame_link b S) frames ++ last)
+  pub linked : All (IsLinked c b S) frames
+
+-- what the links of frames leave of the way to a fault
+abbrev pub last_link : LastLink → Fault → List Link
+last_link Behind f = []
+last_link InField f = own_link f
+
+-- how many links these are at most
+abbrev pub links_left : LastLink → ℕ
+links_left Behind = 0
+links_left InField = 1
+
+-- it stops in a field of the table to which these frames lead
+abbrev pub IsStopped : Walk → Metered → Origin → List Frame → Fault → Type 0
+IsStopped w m s frames f = StopsIn w.checks m.bytes w.schema.now w.limits s frames (own_link f) f
+
+-- it stops behind the words of these frames
+abbrev pub IsStoppedBehind : Walk → Metered → Origin → List Frame → Fault → Type 0
+IsStoppedBehind w m s frames f = StopsIn w.checks m.bytes w.schema.now w.limits s frames [] f
+
+-- it came to this halt after so many reads, by the links of these frames
+abbrev pub HaltsIn : Walk → Metered → Origin → List Frame → Halt → ℕ → Type 0
+HaltsIn w m s frames h reads = StopsIn w.checks m.bytes w.schema.now w.limits s frames (last_link h.last (stopped h.stop reads)) (stopped h.stop reads)
+
+-- a whole walk came to this fault by the links of these frames
+pub record HaltsAlong (c : Checks) (b : List ℕ) (S : Rows) (root : ℕ) (start : Start) (ident : Ident) (L : Bounds) (frames : List Frame) (last : LastLink) (f : Fault) : Type 0 where
+  pub along : StopsAlong c b S root start ident L f (map (frame_link b S) frames ++ last_link last f)
+  pub linked : All (IsLinked c b S) frames
 
 -- the frame of a table that was opened
 abbrev pub opened : Table → Frame

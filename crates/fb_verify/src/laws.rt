@@ -1,6 +1,6 @@
 //! Laws of the definitions: each is the contract of a function that does nothing.
 
-ghost use Rattle.fb_verify.specs.Laws.{StartLaw, HeadLaw, OffsetLaw, StringLaw, VectorLaw, InlineLaw, FieldLaw, ElementLaw, IdentifierLaw, HasOneTree, StopsOnlyAtLimits, StopsOnce, StopsNowhereWithin, CostIsBounded, ReadsAreBounded};
+ghost use Rattle.fb_verify.specs.Laws.{StartLaw, HeadLaw, OffsetLaw, StringLaw, VectorLaw, InlineLaw, FieldLaw, ElementLaw, IdentifierLaw, HasOneTree, StopsOnlyAtLimits, StopsOnce, LeadsOneWay, StopsNowhereWithin, CostIsBounded, ReadsAreBounded};
 ghost use Rattle.fb_verify.specs.Answers.{HasOneVerdict};
 ghost use Rattle.fb_verify.specs.TrueReasons.{StopsTruly, TablesRunOut};
 
@@ -73,6 +73,11 @@ pub fn stops_only_at_limits()
 /// At most one fault is the first.
 pub fn stops_once()
     ensures { StopsOnce }
+{}
+
+/// At most one row of links leads to it.
+pub fn leads_one_way()
+    ensures { LeadsOneWay }
 {}
 
 /// None is, where a tree is well formed and within the limits.

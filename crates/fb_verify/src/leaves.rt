@@ -1,12 +1,11 @@
 // The offset words by which a field leads on, passed by reads that are counted in a register.
 
-ghost use Rattle.std.specs.Prelude.{◌≡◌, ◌+◌, ◌*◌, ◌^◌, ◌<◌, ◌≤◌, IfOk, IfErr, IfSome, Some, None, true};
+ghost use Rattle.std.specs.Prelude.{◌≡◌, ◌+◌, ◌*◌, ◌^◌, ◌<◌, ◌≤◌, [], ◌∷◌, ◌++◌, IfOk, IfErr, IfSome, Some, None, true};
 ghost use Rattle.fb_schema.specs.Served.{IsServed};
 ghost use Rattle.fb_verify.specs.Bounds.{AreAllowed};
 ghost use Rattle.fb_verify.specs.Known.{IsKnown};
-ghost use Rattle.fb_verify.specs.OffsetRows.{lead_to, first_word, IsReferent, IsRow};
-ghost use Rattle.fb_verify.specs.Stack.{Waiting, IsWalking, IsWalkingBy, IsAtTable, IsStopped};
-ghost use Rattle.fb_verify.specs.Stops.{StopsFrom};
+ghost use Rattle.fb_verify.specs.OffsetRows.{lead_to, first_word, past_first, IsReferent, IsRow, AreTypesNear};
+ghost use Rattle.fb_verify.specs.Stack.{Waiting, IsWalking, IsWalkingBy, IsAtTable, IsStoppedBehind};
 ghost use Rattle.fb_verify.specs.Told.{stopped};
 
 use crate::element::{Child, pass_element};
@@ -61,12 +60,19 @@ fn first_referent(
     referent
 }
 
-/// Where the walk stops at an offset word of the top table's field.
+/// Where the walk stops at the first offset word that is left of the top table's field. The top is left past that word,
+/// as it is where the word leads to a table.
 #[cold]
 #[inline(never)]
-fn stop_at_word(top: &Frame, at: u64, reason: Reason) -> Stop
-    ensures { result ≡ record { refusal = record { at = at; reason = reason }; site = record { object = (top.now.table).object; field = Some top.now.number } } }
+fn stop_at_word(top: &mut Frame, left: Row, at: u64, reason: Reason) -> Stop
+    requires more { 0 < left.left }
+    requires near { left.place < 2 ^ 36 }
+    requires types { AreTypesNear left.leads }
+    ensures stop { result ≡ record { refusal = record { at = at; reason = reason }; site = record { object = (top.old.table).object; field = Some top.old.number } } }
+    ensures past { top.new ≡ record top.old { row = past_first left } }
 {
+    top.row = left;
+    top.row.advance();
     Stop {
         refusal: Refusal { at, reason },
         site: top.site(),
@@ -89,8 +95,8 @@ impl Walk<'_, '_> {
     }
 
     /// Passes offset words that are left of the top table's field, with the strings and structs that they lead to,
-    /// until one leads to a table, and answers that table; none where no word is left. The budget allows whatever they
-    /// cost. Only the contract speaks of the meter that lent the bytes.
+    /// until one leads to a table, and answers that table; none where no word is left. Where one fails, the row is left
+    /// past it. The budget allows whatever they cost. Only the contract speaks of the meter that lent the bytes.
     #[inline(always)]
     fn pass_words(
         &self,
@@ -109,7 +115,7 @@ impl Walk<'_, '_> {
         ensures none { IfOk result (λ o. o ≡ None → (top.new.row).left ≡ 0) }
         ensures paid { IfOk result (λ o. o ≡ None → reads.new.count ≤ reads.old.count + 4 * (top.old.row).left) }
         ensures bytes { reads.new.bytes ≡ reads.old.bytes }
-        ensures err { IfErr result (λ s. StopsFrom self.now.checks reads.old.bytes self.now.schema.now self.now.limits (under.start).object (under.start).position (under.start).way (stopped s (lender.now.count + reads.new.count))) }
+        ensures err { IfErr result (λ s. IsStoppedBehind self.now reads.old under.start (under.frames ++ top.new ∷ []) (stopped s (lender.now.count + reads.new.count))) }
     {
         let _lender = lender;
         let checks = self.checks;
@@ -120,7 +126,7 @@ impl Walk<'_, '_> {
             let mut at = row.place;
             let failed = test_lead(reads, checks, &mut at, referent);
             if let Some(reason) = failed {
-                return Err(stop_at_word(top, at, reason));
+                return Err(stop_at_word(top, row, at, reason));
             }
             if let Referent::Table(object) = referent {
                 top.row = row;
@@ -133,7 +139,8 @@ impl Walk<'_, '_> {
     }
 
     /// Passes one or more offset words that are left of the top table's field, with the strings and structs that they
-    /// lead to, or comes to one that leads to a table, and answers that table. The word that leads to it is still left.
+    /// lead to, or comes to one that leads to a table, and answers that table. The word that leads to it is still left;
+    /// one that fails is not.
     #[inline(always)]
     pub fn next_child(&self, meter: &mut Meter<'_>, top: &mut Frame) -> Result<Option<Child>, Stop>
         ghost under: { Waiting }
@@ -148,7 +155,7 @@ impl Walk<'_, '_> {
         ensures paid { IfOk result (λ o. o ≡ None → meter.new.count + 4 * (top.new.row).left ≤ meter.old.count + 4 * (top.old.row).left) }
         ensures grows { IfOk result (λ _. meter.old.count ≤ meter.new.count) }
         ensures bytes { meter.new.bytes ≡ meter.old.bytes }
-        ensures err { IfErr result (λ s. IsStopped self.now meter.old under.start (stopped s meter.new.count)) }
+        ensures err { IfErr result (λ s. IsStoppedBehind self.now meter.old under.start (under.frames ++ top.new ∷ []) (stopped s meter.new.count)) }
     {
         if self.may_pass_words(meter, top) {
             let mut reads = meter.lend();
@@ -158,14 +165,15 @@ impl Walk<'_, '_> {
         }
         let site = top.site();
         let row = top.row;
-        if let Some(child) = pass_element(
-            meter,
-            self.schema,
-            self.limits,
-            self.checks,
-            site,
-            row,
-        )? {
+        let passed = pass_element(meter, self.schema, self.limits, self.checks, site, row);
+        let child = match passed {
+            Ok(child) => child,
+            Err(stop) => {
+                top.row.advance();
+                return Err(stop);
+            }
+        };
+        if let Some(child) = child {
             return Ok(Some(child));
         }
         top.row.advance();

@@ -3,6 +3,7 @@
 ghost use Rattle.std.specs.Prelude.{◌≡◌, ◌<◌, ◌%◌, ◌==◌};
 ghost use Rattle.fb_verify.specs.Places.{is_aligned};
 ghost use Rattle.fb_verify.specs.Told.{stopped};
+ghost use Rattle.fb_verify.specs.declared.site.LastLink.TheVariants.{Behind, InField};
 
 use crate::checks::Checks;
 use crate::fault::{Fault, Reason};
@@ -39,7 +40,46 @@ pub struct Stop {
     pub site: Site,
 }
 
+/// What the links of the frames leave to be told of the way to a stop.
+#[derive(Clone, Copy, Debug, PartialEq, Eq)]
+pub enum LastLink {
+    /// Nothing: the last of the frames was left past the offset word under check. There may be none of them.
+    Behind,
+    /// The field that the stop names, which is under check itself.
+    InField,
+}
+
+/// A stop, the number of the frames whose links lead to it, and what these leave.
+#[derive(Clone, Copy, Debug, PartialEq, Eq)]
+pub struct Halt {
+    pub stop: Stop,
+    pub links: u32,
+    pub last: LastLink,
+}
+
 impl Stop {
+    /// A halt behind the words of so many frames.
+    pub fn behind(self, links: u32) -> Halt
+        ensures { result ≡ record { stop = self; links = links; last = Behind } }
+    {
+        Halt {
+            stop: self,
+            links,
+            last: LastLink::Behind,
+        }
+    }
+
+    /// A halt in a field of the table to which the words of so many frames lead.
+    pub fn in_field(self, links: u32) -> Halt
+        ensures { result ≡ record { stop = self; links = links; last = InField } }
+    {
+        Halt {
+            stop: self,
+            links,
+            last: LastLink::InField,
+        }
+    }
+
     /// The fault that this is, after the reads that were made.
     pub fn fault(self, meter: &Meter<'_>) -> Fault
         ensures { result ≡ stopped self meter.now.count }

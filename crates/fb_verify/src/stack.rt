@@ -7,11 +7,11 @@ ghost use Rattle.fb_schema.specs.Served.{IsServed};
 ghost use Rattle.fb_verify.specs.Bounds.{AreAllowed};
 ghost use Rattle.fb_verify.specs.Cost.{head_reads};
 ghost use Rattle.fb_verify.specs.Order.{◌▷◌, head_failure};
-ghost use Rattle.fb_verify.specs.Stops.{budget_failure, reads_failure, StopsFrom};
+ghost use Rattle.fb_verify.specs.Stops.{budget_failure, reads_failure};
 ghost use Rattle.fb_verify.specs.StopsAt.{IsStopAt};
 ghost use Rattle.fb_verify.specs.Told.{told, stopped, way_at, IsHead};
 ghost use Rattle.fb_verify.specs.Walked.{TableWalked, ended};
-ghost use Rattle.fb_verify.specs.Stack.{blank, Origin, Waiting, frame_work, work, opened, IsWalking, IsWalkingBy, IsAtField, IsOver, IsStopped};
+ghost use Rattle.fb_verify.specs.Stack.{blank, Origin, Waiting, frame_work, work, opened, IsWalking, IsWalkingBy, IsAtField, IsOver, IsStopped, HaltsIn, links_left};
 
 use crate::checks::Checks;
 use crate::element::Child;
@@ -21,7 +21,7 @@ use crate::head::read_head;
 use crate::limits::Limits;
 use crate::plain::{leads_on, slot_at, test_at};
 use crate::scratch::Frame;
-use crate::site::{Refusal, Site, Stop, refuse};
+use crate::site::{Halt, Refusal, Site, Stop, refuse};
 use fb_bytes::{Meter, Reads};
 use fb_schema::Schema;
 
@@ -105,7 +105,7 @@ impl<'s, 'n> Walk<'s, 'n> {
         ensures falls { IfOk result (λ _. meter.new.count + frame_work self.now.schema.now top.new ≤ meter.old.count + frame_work self.now.schema.now top.old) }
         ensures grows { IfOk result (λ _. meter.old.count ≤ meter.new.count) }
         ensures bytes { meter.new.bytes ≡ meter.old.bytes }
-        ensures err { IfErr result (λ s. IsStopped self.now meter.old under.start (stopped s meter.new.count)) }
+        ensures err { IfErr result (λ s. IsStopped self.now meter.old under.start under.frames (stopped s meter.new.count)) }
     {
         let fields = self.schema.fields_of(top.table.object);
         while let Some(field) = fields.get(top.next as usize) {
@@ -193,7 +193,7 @@ impl<'s, 'n> Walk<'s, 'n> {
         ensures paid { IfOk result (λ _. reads.new.count + 6 * (length (live_fields self.now.schema.now (top.old.table).object) - top.new.next) ≤ reads.old.count + 6 * (length (live_fields self.now.schema.now (top.old.table).object) - top.old.next) + 1) }
         ensures bytes { reads.new.bytes ≡ reads.old.bytes }
         ensures next { IfErr result (λ _. top.new.next < length (live_fields self.now.schema.now (top.old.table).object)) }
-        ensures err { IfErr result (λ reason. (s : Stop) → IsStopAt self.now.schema.now top.new at.new reason s → StopsFrom self.now.checks reads.old.bytes self.now.schema.now self.now.limits (under.start).object (under.start).position (under.start).way (stopped s (lender.now.count + reads.new.count))) }
+        ensures err { IfErr result (λ reason. (s : Stop) → IsStopAt self.now.schema.now top.new at.new reason s → IsStopped self.now reads.old under.start under.frames (stopped s (lender.now.count + reads.new.count))) }
     {
         let _lender = lender;
         let table = top.table;
@@ -249,7 +249,7 @@ impl<'s, 'n> Walk<'s, 'n> {
         ensures grows { meter.old.count ≤ meter.new.count }
         ensures bytes { meter.new.bytes ≡ meter.old.bytes }
         ensures next { IfErr result (λ _. top.new.next < length (live_fields self.now.schema.now (top.old.table).object)) }
-        ensures err { IfErr result (λ reason. (s : Stop) → IsStopAt self.now.schema.now top.new at.new reason s → IsStopped self.now meter.old under.start (stopped s meter.new.count)) }
+        ensures err { IfErr result (λ reason. (s : Stop) → IsStopAt self.now.schema.now top.new at.new reason s → IsStopped self.now meter.old under.start under.frames (stopped s meter.new.count)) }
     {
         let mut reads = meter.lend();
         let answer = self.pass_plain(self.checks, meter, &mut reads, top, at);
@@ -276,7 +276,7 @@ impl<'s, 'n> Walk<'s, 'n> {
         ensures grows { meter.old.count ≤ meter.new.count }
         ensures bytes { meter.new.bytes ≡ meter.old.bytes }
         ensures next { IfErr result (λ _. top.new.next < length (live_fields self.now.schema.now (top.old.table).object)) }
-        ensures err { IfErr result (λ reason. (s : Stop) → IsStopAt self.now.schema.now top.new at.new reason s → IsStopped self.now meter.old under.start (stopped s meter.new.count)) }
+        ensures err { IfErr result (λ reason. (s : Stop) → IsStopAt self.now.schema.now top.new at.new reason s → IsStopped self.now meter.old under.start under.frames (stopped s meter.new.count)) }
     {
         let checks = self.checks;
         if !checks.alignment || checks.inline_size {
@@ -306,7 +306,7 @@ impl<'s, 'n> Walk<'s, 'n> {
         ensures falls { IfOk result (λ _. meter.new.count + frame_work self.now.schema.now top.new ≤ meter.old.count + frame_work self.now.schema.now top.old) }
         ensures grows { IfOk result (λ _. meter.old.count ≤ meter.new.count) }
         ensures bytes { meter.new.bytes ≡ meter.old.bytes }
-        ensures err { IfErr result (λ s. IsStopped self.now meter.old under.start (stopped s meter.new.count)) }
+        ensures err { IfErr result (λ s. IsStopped self.now meter.old under.start under.frames (stopped s meter.new.count)) }
     {
         if !self.has_room(meter, top) {
             return self.pass_each(meter, top);
@@ -358,7 +358,7 @@ impl<'s, 'n> Walk<'s, 'n> {
         ensures falls { IfOk result (λ more. more ≡ true → meter.new.count + frame_work self.now.schema.now below.new ≤ meter.old.count + frame_work self.now.schema.now (opened table)) }
         ensures grows { IfOk result (λ _. meter.old.count ≤ meter.new.count) }
         ensures bytes { meter.new.bytes ≡ meter.old.bytes }
-        ensures err { IfErr result (λ s. IsStopped self.now meter.old under.start (stopped s meter.new.count)) }
+        ensures err { IfErr result (λ s. IsStopped self.now meter.old under.start under.frames (stopped s meter.new.count)) }
     {
         // Only the contract speaks of the frame above.
         let _above = above;
@@ -376,7 +376,7 @@ impl<'s, 'n> Walk<'s, 'n> {
         waiting: u32,
         top: &mut Frame,
         room: &mut [Frame],
-    ) -> Result<bool, Stop>
+    ) -> Result<bool, Halt>
         ghost under: { Waiting }
         requires waiting { waiting ≡ length under.frames }
         requires walking { IsWalking self.old meter.old under.start under.frames top.old }
@@ -390,17 +390,28 @@ impl<'s, 'n> Walk<'s, 'n> {
         ensures falls { IfOk result (λ more. more ≡ true → meter.new.count + work self.old.schema.now self.old.limits (under.frames ++ top.new ∷ []) (slice_index_or room.new 0 blank) self.new.tables < meter.old.count + work self.old.schema.now self.old.limits under.frames top.old self.old.tables) }
         ensures grows { IfOk result (λ _. meter.old.count ≤ meter.new.count) }
         ensures bytes { meter.new.bytes ≡ meter.old.bytes }
-        ensures err { IfErr result (λ s. IsStopped self.old meter.old under.start (stopped s meter.new.count)) }
+        ensures links { IfErr result (λ h. h.links ≡ waiting + 1) }
+        ensures deep { IfErr result (λ h. h.links + links_left h.last ≤ (self.old.limits).depth) }
+        ensures err { IfErr result (λ h. HaltsIn self.old meter.old under.start (under.frames ++ top.new ∷ []) h meter.new.count) }
+        ensures length { length room.new ≡ length room.old }
     {
         let _schema = self.schema;
         while top.row.left > 0 {
-            let child = self.next_child(meter, top)?;
+            let child = match self.next_child(meter, top) {
+                Ok(child) => child,
+                Err(stop) => return Err(stop.behind(waiting + 1)),
+            };
             if let Some(child) = child {
                 top.row.advance();
                 let site = top.site();
-                let table = self.open_table(meter, waiting + 1, site, child)?;
-                if self.pass_below(meter, top, table, &mut room[0])? {
-                    return Ok(true);
+                let table = match self.open_table(meter, waiting + 1, site, child) {
+                    Ok(table) => table,
+                    Err(stop) => return Err(stop.behind(waiting + 1)),
+                };
+                match self.pass_below(meter, top, table, &mut room[0]) {
+                    Ok(true) => return Ok(true),
+                    Ok(false) => {}
+                    Err(stop) => return Err(stop.in_field(waiting + 1)),
                 }
             }
         }
@@ -415,7 +426,7 @@ impl<'s, 'n> Walk<'s, 'n> {
         meter: &mut Meter<'_>,
         frames: &mut [Frame],
         waiting: u32,
-    ) -> Result<Option<u32>, Stop>
+    ) -> Result<Option<u32>, Halt>
         ghost under: { Waiting }
         requires under { under.frames ≡ take waiting frames.old }
         requires walking { IsWalking self.old meter.old under.start under.frames (slice_index_or frames.old waiting blank) }
@@ -431,17 +442,24 @@ impl<'s, 'n> Walk<'s, 'n> {
         ensures falls { IfOk result (λ o. IfSome o (λ after. meter.new.count + work self.old.schema.now self.old.limits (take after frames.new) (slice_index_or frames.new after blank) self.new.tables < meter.old.count + work self.old.schema.now self.old.limits under.frames (slice_index_or frames.old waiting blank) self.old.tables)) }
         ensures grows { IfOk result (λ _. meter.old.count ≤ meter.new.count) }
         ensures bytes { meter.new.bytes ≡ meter.old.bytes }
-        ensures err { IfErr result (λ s. IsStopped self.old meter.old under.start (stopped s meter.new.count)) }
+        ensures deep { IfErr result (λ h. h.links + links_left h.last ≤ (self.old.limits).depth) }
+        ensures err { IfErr result (λ h. HaltsIn self.old meter.old under.start (take h.links frames.new) h meter.new.count) }
     {
         let _schema = self.schema;
         let at = waiting as usize;
         let (low, room) = frames.split_at_mut(at + 1);
         let top = &mut low[at];
-        if top.row.left == 0 && !self.pass_fields(meter, top)? {
-            if waiting == 0 {
-                return Ok(None);
+        if top.row.left == 0 {
+            let leads = match self.pass_fields(meter, top) {
+                Ok(leads) => leads,
+                Err(stop) => return Err(stop.in_field(waiting)),
+            };
+            if !leads {
+                if waiting == 0 {
+                    return Ok(None);
+                }
+                return Ok(Some(waiting - 1));
             }
-            return Ok(Some(waiting - 1));
         }
         if self.pass_elements(meter, waiting, top, room)? {
             return Ok(Some(waiting + 1));
@@ -456,7 +474,7 @@ impl<'s, 'n> Walk<'s, 'n> {
         frames: &mut [Frame],
         site: Site,
         root: Child,
-    ) -> Result<(), Stop>
+    ) -> Result<(), Halt>
         ghost start: { Origin }
         requires here { start ≡ record { object = root.object; position = root.at; way = way_at 0 self.old.tables self.old.deepest meter.old.count site } }
         requires served { IsServed self.old.schema.now }
@@ -471,10 +489,14 @@ impl<'s, 'n> Walk<'s, 'n> {
         ensures within { IfOk result (λ _. self.new.tables ≤ (self.old.limits).tables) }
         ensures shallow { IfOk result (λ _. self.new.deepest ≤ (self.old.limits).depth) }
         ensures reads { IfOk result (λ _. AreAllowed (self.old.limits).reads meter.new.count) }
-        ensures err { IfErr result (λ s. StopsFrom self.old.checks meter.old.bytes self.old.schema.now self.old.limits start.object start.position start.way (stopped s meter.new.count)) }
+        ensures deep { IfErr result (λ h. h.links + links_left h.last ≤ (self.old.limits).depth) }
+        ensures err { IfErr result (λ h. HaltsIn self.old meter.old start (take h.links frames.new) h meter.new.count) }
         ensures bytes { meter.new.bytes ≡ meter.old.bytes }
     {
-        let table = self.open_table(meter, 0, site, root)?;
+        let table = match self.open_table(meter, 0, site, root) {
+            Ok(table) => table,
+            Err(stop) => return Err(stop.behind(0)),
+        };
         frames[0] = Frame::opened(table);
         let mut waiting = 0;
         while let Some(after) = self.turn(meter, frames, waiting)? {

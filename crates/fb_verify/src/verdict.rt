@@ -1,9 +1,11 @@
 // The verdict on a buffer.
 
-ghost use Rattle.std.specs.Prelude.{◌≡◌, ◌≤◌, length, IfOk, IfErr, IsTrue};
+ghost use Rattle.std.specs.Prelude.{◌≡◌, ◌+◌, ◌≤◌, length, take, IfOk, IfErr, IsTrue};
 ghost use Rattle.fb_schema.specs.Rows.{is_table};
 ghost use Rattle.fb_verify.specs.MostReads.{most_reads};
 ghost use Rattle.fb_verify.specs.Stops.{Stops};
+ghost use Rattle.fb_verify.specs.Stack.{HaltsAlong, links_left};
+ghost use Rattle.fb_verify.specs.Told.{stopped};
 ghost use Rattle.fb_verify.specs.Verdict.{Reports, HasNone};
 
 use crate::begin::read_start;
@@ -11,8 +13,8 @@ use crate::checks::Checks;
 use crate::element::Child;
 use crate::fault::{Fault, Report};
 use crate::limits::Limits;
-use crate::scratch::Scratch;
-use crate::site::Site;
+use crate::scratch::{Frame, Scratch};
+use crate::site::{Halt, Site};
 use crate::stack::Walk;
 use crate::start::{Ident, Start};
 use fb_bytes::Meter;
@@ -54,6 +56,43 @@ pub fn walk<A: Allocator>(
     ensures bytes { meter.new.bytes ≡ meter.old.bytes }
     ensures scratch { scratch.new ≡ scratch.old }
 {
+    match trace(
+        meter,
+        schema,
+        root,
+        start,
+        ident,
+        limits,
+        checks,
+        &mut scratch.frames,
+    ) {
+        Ok(report) => Ok(report),
+        Err(halt) => Err(halt.stop.fault(meter)),
+    }
+}
+
+/// The same over these frames. Where there is a fault, the frames are left whose links lead to it.
+pub(crate) fn trace(
+    meter: &mut Meter<'_>,
+    schema: &Schema<'_>,
+    root: u32,
+    start: Start,
+    ident: Ident,
+    limits: Limits,
+    checks: Checks,
+    frames: &mut [Frame],
+) -> Result<Report, Halt>
+    requires fresh { meter.old.count ≡ 0 }
+    requires table { IsTrue (is_table schema.now root) }
+    requires room { limits.depth ≤ length frames.old }
+    ensures yes { IfOk result (λ r. Reports checks meter.old.bytes schema.now root start ident limits r) }
+    ensures none { IfErr result (λ _. HasNone checks meter.old.bytes schema.now root start ident limits) }
+    ensures deep { IfErr result (λ h. h.links + links_left h.last ≤ limits.depth) }
+    ensures along { IfErr result (λ h. HaltsAlong checks meter.old.bytes schema.now root start ident limits (take h.links frames.new) h.last (stopped h.stop meter.new.count)) }
+    ensures price { meter.new.count ≤ most_reads schema.now limits (length meter.old.bytes) }
+    ensures read { IfOk result (λ r. meter.new.count ≡ r.reads) }
+    ensures bytes { meter.new.bytes ≡ meter.old.bytes }
+{
     schema.lawful();
     let site = Site {
         object: root,
@@ -61,7 +100,7 @@ pub fn walk<A: Allocator>(
     };
     let at = match read_start(meter, limits, checks, site, start, ident) {
         Ok(at) => at,
-        Err(stop) => return Err(stop.fault(meter)),
+        Err(stop) => return Err(stop.behind(0)),
     };
     let mut walk = Walk {
         schema,
@@ -71,9 +110,7 @@ pub fn walk<A: Allocator>(
         deepest: 0,
     };
     let root = Child { object: root, at };
-    if let Err(stop) = walk.run(meter, &mut scratch.frames, site, root) {
-        return Err(stop.fault(meter));
-    }
+    walk.run(meter, frames, site, root)?;
     Ok(Report {
         tables: walk.tables,
         depth: walk.deepest,

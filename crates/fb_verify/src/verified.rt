@@ -1,7 +1,8 @@
 // A buffer that was verified, with its schema.
 
-ghost use Rattle.std.specs.Prelude.{◌≡◌, ◌+◌, ◌*◌, ◌^◌, ◌<◌, ◌≤◌, length, IfOk, IfErr, IsTrue};
+ghost use Rattle.std.specs.Prelude.{◌≡◌, ◌+◌, ◌*◌, ◌^◌, ◌<◌, ◌≤◌, length, take, IfOk, IfErr, IsTrue};
 ghost use Rattle.fb_schema.specs.Rows.{is_table};
+ghost use Rattle.fb_verify.specs.Links.{StopsAlong};
 ghost use Rattle.fb_verify.specs.MostReads.{most_reads};
 ghost use Rattle.fb_verify.specs.Stops.{Stops};
 ghost use Rattle.fb_verify.specs.Verdict.{Reports, HasNone};
@@ -10,9 +11,10 @@ ghost use Rattle.fb_verify.specs.Sealed.{IsUnfolded};
 use crate::checks::Checks;
 use crate::fault::{Fault, Report};
 use crate::limits::Limits;
+use crate::links::{Link, Located, put_links};
 use crate::scratch::Scratch;
 use crate::start::{Ident, Start};
-use crate::verdict::walk;
+use crate::verdict::{trace, walk};
 use fb_bytes::{Meter, Window};
 use fb_schema::Schema;
 use std::alloc::Allocator;
@@ -130,4 +132,66 @@ pub fn verify<'b, 's, 'n, A: Allocator>(
         checks,
         report,
     })
+}
+
+/// The same, and where there is a fault, the links that lead to it are put at the front of `links`, the root's first.
+/// There must be room for as many as the depth limit says. No link leads to a fault at the start of a buffer or at the
+/// head of its root table.
+///
+/// # Errors
+///
+/// The fault that [`verify`] answers, with the number of these links.
+pub fn verify_and_locate<'b, 's, 'n, A: Allocator>(
+    meter: Meter<'b>,
+    schema: &'s Schema<'n>,
+    root: u32,
+    start: Start,
+    ident: Ident,
+    limits: Limits,
+    checks: Checks,
+    scratch: &mut Scratch<A>,
+    links: &mut [Link],
+) -> Result<Verified<'b, 's, 'n>, Located>
+    requires fresh { meter.count ≡ 0 }
+    requires table { IsTrue (is_table schema.now root) }
+    requires room { limits.depth ≤ scratch.old }
+    requires links { limits.depth ≤ length links.old }
+    ensures yes { IfOk result (λ v. Reports checks meter.entry.bytes schema.now root start ident limits v.report) }
+    ensures kept { IfOk result (λ v. v ≡ record { bytes = meter.entry.bytes; schema = schema.now; root = root; start = start; checks = checks; report = v.report }) }
+    ensures none { IfErr result (λ _. HasNone checks meter.entry.bytes schema.now root start ident limits) }
+    ensures no { IfErr result (λ l. Stops checks meter.entry.bytes schema.now root start ident limits l.fault) }
+    ensures along { IfErr result (λ l. StopsAlong checks meter.entry.bytes schema.now root start ident limits l.fault (take l.links links.new)) }
+    ensures few { IfErr result (λ l. l.links ≤ length links.new) }
+    ensures price_of_yes { IfOk result (λ v. (v.report).reads ≤ most_reads schema.now limits (length meter.entry.bytes)) }
+    ensures price_of_no { IfErr result (λ l. (l.fault).reads ≤ most_reads schema.now limits (length meter.entry.bytes)) }
+    ensures scratch { scratch.new ≡ scratch.old }
+    ensures room { length links.new ≡ length links.old }
+{
+    let mut meter = meter;
+    match trace(
+        &mut meter,
+        schema,
+        root,
+        start,
+        ident,
+        limits,
+        checks,
+        &mut scratch.frames,
+    ) {
+        Ok(report) => Ok(Verified {
+            window: meter.seal(),
+            schema,
+            root,
+            start,
+            checks,
+            report,
+        }),
+        Err(halt) => {
+            let fault = halt.stop.fault(&meter);
+            let window = meter.seal();
+            let frames = &scratch.frames[..halt.links as usize];
+            let links = put_links(&window, schema, checks, frames, halt.last, &fault, links);
+            Err(Located { fault, links })
+        }
+    }
 }

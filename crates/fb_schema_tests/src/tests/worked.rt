@@ -97,5 +97,8 @@ fn members_are_found_by_value_and_by_name(rt: HostRuntime) -> Result<(), Fail> {
     assert_eq!(rt; schema.member_of(0, 9), None);
     assert_eq!(rt; schema.member_named(0, b"T"), Some(3));
     assert_eq!(rt; schema.member_named(0, b"Z"), None);
+    assert_eq!(rt; schema.member_name(0, 3), Some(b"T".as_slice()));
+    assert_eq!(rt; schema.member_name(0, 0), None);
+    assert_eq!(rt; schema.member_name(0, 9), None);
     Ok(())
 }

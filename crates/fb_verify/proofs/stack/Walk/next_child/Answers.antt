@@ -1,20 +1,19 @@
 use Rattle.std.proofs.Common.{ap, arith}
-use Rattle.fb_verify.proofs.Frames.{if_err_exit, row_types_near}
-use Rattle.fb_verify.proofs.Standings.{stop_at_element}
+use Rattle.fb_verify.proofs.Frames.{row_types_near}
+use Rattle.fb_verify.proofs.Stopping.{word_stops}
 use Rattle.fb_verify.proofs.Walking.{leaf_passed}
 use Rattle.fb_verify.proofs.stack.Walk.next_child.Goals as goal
 
-pub returns-in_err-child-clause-err : goal.returns-in_err-child-clause-err
-returns-in_err-child-clause-err g c =
+pub returns-in-Err-clause-err : goal.returns-in-Err-clause-err
+returns-in-Err-clause-err g c =
     let w = c.args.self.now in
     let m = c.args.meter.now in
     let h = c.requires.0 in
-    if_err_exit _ _ _ c.from_residual.ensures.1
-    (stop_at_element w.checks m.bytes w.schema.now w.limits (g.under).start (g.under).frames c.args.top.now w.tables w.deepest m.count h.standing h.tables h.deepest h.reads _ c.requires.1.0 (rw c.site-site.ensures at c.in_err-child.ensures.err))
+    word_stops w.checks m.bytes w.schema.now w.limits (g.under).start (g.under).frames c.args.top.now w.tables w.deepest m.count h _ c.advance.new.self c.advance.ensures c.requires.1.0 (rw c.site-site.ensures at c.in-Err.ensures.err)
 
 pub returns-in-Some-clause-table : goal.returns-in-Some-clause-table
 returns-in-Some-clause-table g c =
-    let e = c.in_ok-child.ensures in
+    let e = c.in-Ok.ensures in
     let child = rw c.in-Some.is at e.child in
     rw e.bytes
     (record {
@@ -39,8 +38,8 @@ pub returns-clause-walking : goal.returns-clause-walking
 returns-clause-walking g c _ =
     let w = c.args.self.now in
     let m = c.args.meter.now in
-    let e = c.in_ok-child.ensures in
+    let e = c.in-Ok.ensures in
     let leaf = rw c.in_default.is at e.child in
     rw e.bytes
     (leaf_passed w.checks m.bytes w.schema.now w.limits (g.under).start (g.under).frames c.args.top.now w.tables w.deepest m.count c.requires.0
-    c.advance.new.self _ c.advance.ensures c.requires.1.0 e.ok (ap (λ x. x.count) e.counted) leaf (e.reads c.in_default.is))
+    c.advance-2.new.self _ c.advance-2.ensures c.requires.1.0 e.ok (ap (λ x. x.count) e.counted) leaf (e.reads c.in_default.is))

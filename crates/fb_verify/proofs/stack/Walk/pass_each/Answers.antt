@@ -5,7 +5,8 @@ use Rattle.fb_verify.specs.Stack.{blank}
 use Rattle.fb_verify.proofs.Absent.{others_absent}
 use Rattle.fb_verify.proofs.Words.{row_none}
 use Rattle.fb_verify.proofs.Frames.{if_err_exit, item_some, field_at, length_map, no_row}
-use Rattle.fb_verify.proofs.Standings.{stop_at_field, next_typed}
+use Rattle.fb_verify.proofs.Standings.{next_typed}
+use Rattle.fb_verify.proofs.Stopping.{field_stops}
 use Rattle.fb_verify.proofs.Walking.{field_passed, field_work, field_skipped, skip_work}
 use Rattle.fb_verify.proofs.stack.Walk.pass_each.Goals as goal
 
@@ -31,8 +32,8 @@ returns-in_err-pass_field-clause-err g c =
     let here = rw e at (field_at live_of_view c.fields_of-fields.result.now _ _ _ c.fields_of-fields.ensures.value (item_some _ _ _ _ c.get.ensures.lookup c.in-Some.is)) in
     if_err_exit _ _ _ c.from_residual.ensures.1
     (rw i.bytes at
-    (stop_at_field c.args.self.now.checks c.loop-field.meter.bytes c.args.self.now.schema.now c.args.self.now.limits (g.under).start (g.under).frames c.loop-field.top c.args.self.now.tables c.args.self.now.deepest c.loop-field.meter.count h.standing
-    h.tables h.deepest h.reads _ _ i.rests here c.in_err-pass_field.ensures.err))
+    (field_stops c.args.self.now.checks c.loop-field.meter.bytes c.args.self.now.schema.now c.args.self.now.limits (g.under).start (g.under).frames c.loop-field.top c.args.self.now.tables c.args.self.now.deepest c.loop-field.meter.count h
+    _ _ i.rests here c.in_err-pass_field.ensures.err))
 
 pub returns-then-others_are_absent-clause-walking : goal.returns-then-others_are_absent-clause-walking
 returns-then-others_are_absent-clause-walking g c =

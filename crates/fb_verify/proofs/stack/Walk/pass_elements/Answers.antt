@@ -4,75 +4,57 @@ use Rattle.std.proofs.lemmas.List.{get_or-set_same}
 use Rattle.fb_verify.specs.declared.stack.Walk.{Walk}
 use Rattle.fb_verify.specs.Stack.{blank}
 use Rattle.fb_verify.proofs.Children.{words_fall, word_few, child_stops, child_opened, opening_falls, leading_falls, closing_falls}
-use Rattle.fb_verify.proofs.Frames.{if_err_exit, row_types_near}
+use Rattle.fb_verify.proofs.Frames.{row_types_near}
 use Rattle.fb_verify.proofs.stack.Walk.pass_elements.Goals as goal
 
-pub returns-in_err-child-clause-err : goal.returns-in_err-child-clause-err
-returns-in_err-child-clause-err g c =
-    let i = c.loop-top.invariant in
-    let checks = ap (λ (x : Walk). x.checks) i.same in
-    let schema = ap (λ (x : Walk). x.schema) i.same in
-    let limits = ap (λ (x : Walk). x.limits) i.same in
-    if_err_exit _ _ _ c.from_residual.ensures.1 (rw (sym checks, sym schema, sym limits, sym i.bytes) c.in_err-child.ensures.err)
-
 pub advance-requires-clause-more : goal.advance-requires-clause-more
-advance-requires-clause-more g c = let o = rw c.in-Some.is at c.in_ok-child.ensures.table in o.more
+advance-requires-clause-more g c = let o = rw c.in-Some.is at c.in-Ok.ensures.table in o.more
 
 pub advance-requires-clause-near : goal.advance-requires-clause-near
-advance-requires-clause-near g c = let o = rw c.in-Some.is at c.in_ok-child.ensures.table in omega (arith, (((o.walking).frame).row).place)
+advance-requires-clause-near g c = let o = rw c.in-Some.is at c.in-Ok.ensures.table in omega (arith, (((o.walking).frame).row).place)
 
 pub advance-requires-clause-types : goal.advance-requires-clause-types
 advance-requires-clause-types g c =
     let w = c.loop-top.self in
-    let o = rw c.in-Some.is at c.in_ok-child.ensures.table in
+    let o = rw c.in-Some.is at c.in-Ok.ensures.table in
     row_types_near w.checks c.next_child.new.meter.bytes w.schema.now c.next_child.new.top.row o.more ((o.walking).frame).row
 
 pub open_table-requires : goal.open_table-requires
 open_table-requires g c =
     let i = c.loop-top.invariant in
     let w = c.loop-top.self in
-    let o = rw c.in-Some.is at c.in_ok-child.ensures.table in
+    let o = rw c.in-Some.is at c.in-Ok.ensures.table in
     let few = word_few w c.next_child.new.meter.bytes c.next_child.new.meter.count (g.under).start (g.under).frames c.next_child.new.top _ c.in-Some.child o in
     omega (arith, few, i.budget, c.requires.1.1.1.1, (((i.walking).frame).row).left)
 
-pub returns-in_err-table-clause-err : goal.returns-in_err-table-clause-err
-returns-in_err-table-clause-err g c =
+pub returns-in-Err-open_table-clause-err : goal.returns-in-Err-open_table-clause-err
+returns-in-Err-open_table-clause-err g c =
     let i = c.loop-top.invariant in
     let w = c.loop-top.self in
     let checks = ap (λ (x : Walk). x.checks) i.same in
     let schema = ap (λ (x : Walk). x.schema) i.same in
     let limits = ap (λ (x : Walk). x.limits) i.same in
-    let o = rw c.in-Some.is at c.in_ok-child.ensures.table in
-    let bytes = c.in_ok-child.ensures.bytes ∙ i.bytes in
-    if_err_exit _ _ _ c.from_residual-in_err-table.ensures.1
+    let o = rw c.in-Some.is at c.in-Ok.ensures.table in
+    let bytes = c.in-Ok.ensures.bytes ∙ i.bytes in
+    rw c.behind-in-Err-open_table.ensures
     (rw (sym checks, sym schema, sym limits, sym bytes)
     (child_stops w c.next_child.new.meter.bytes c.next_child.new.meter.count (g.under).start (g.under).frames c.next_child.new.top _ c.in-Some.child o
-    (c.args.waiting + 1) (omega (arith, c.requires.0)) c.site-site.result c.site-site.ensures _ c.in_err-table.ensures.err))
+    (c.args.waiting + 1) (omega (arith, c.requires.0)) c.advance.new.self c.advance.ensures c.site-site.result c.site-site.ensures _ c.in-Err-open_table.ensures.err))
 
 pub pass_below-requires : goal.pass_below-requires
 pass_below-requires g c =
     let i = c.loop-top.invariant in
     let w = c.loop-top.self in
-    let e = c.in_ok-child.ensures in
-    let t = c.in_ok-table.ensures in
+    let e = c.in-Ok.ensures in
+    let t = c.in-Ok-open_table.ensures in
     let m = c.next_child.new.meter in
     let less = opening_falls w c.args.self.now.schema.now c.args.self.now.limits (ap (λ (x : Walk). x.schema.now) i.same) (ap (λ (x : Walk). x.limits) i.same) m.bytes m.count c.loop-top.meter.count (g.under).start (g.under).frames c.loop-top.top c.next_child.new.top c.in-Some.child e.top e.fewer (rw c.in-Some.is at e.table)
-    (c.args.waiting + 1) (omega (arith, c.requires.0)) c.advance.new.self c.advance.ensures c.in_ok-table.table t.table t.ok t.fewer t.shallow t.low in (
+    (c.args.waiting + 1) (omega (arith, c.requires.0)) c.advance.new.self c.advance.ensures c.in-Ok-open_table.table t.table t.ok t.fewer t.shallow t.low in (
       rw (t.opened, t.counted)
-          (child_opened w m.bytes m.count (g.under).start (g.under).frames c.next_child.new.top _ c.in-Some.child (rw c.in-Some.is at e.table) (c.args.waiting + 1) (omega (arith, c.requires.0)) c.advance.new.self c.advance.ensures c.in_ok-table.table t.table t.ok t.fewer t.shallow t.low
+          (child_opened w m.bytes m.count (g.under).start (g.under).frames c.next_child.new.top _ c.in-Some.child (rw c.in-Some.is at e.table) (c.args.waiting + 1) (omega (arith, c.requires.0)) c.advance.new.self c.advance.ensures c.in-Ok-open_table.table t.table t.ok t.fewer t.shallow t.low
           t.head (rw t.counted at t.reads)),
       rw t.counted (omega (arith, less, i.budget, c.requires.1.1.1.1)),
     )
-
-pub returns-in_err-pass_below-clause-err : goal.returns-in_err-pass_below-clause-err
-returns-in_err-pass_below-clause-err g c =
-    let i = c.loop-top.invariant in
-    let checks = ap (λ (x : Walk). x.checks) i.same in
-    let schema = ap (λ (x : Walk). x.schema) i.same in
-    let limits = ap (λ (x : Walk). x.limits) i.same in
-    let bytes = c.in_ok-child.ensures.bytes ∙ i.bytes in
-    if_err_exit _ _ _ c.from_residual-in_err-pass_below.ensures.1
-    (rw (sym checks, sym schema, sym limits, sym bytes) (rw (c.in_ok-table.ensures.opened, c.in_ok-table.ensures.counted) at c.in_err-pass_below.ensures.err))
 
 pub loop-top-preserved : goal.loop-top-preserved
 loop-top-preserved g c =
@@ -80,7 +62,7 @@ loop-top-preserved g c =
     let w = c.loop-top.self in
     let schema = ap (λ (x : Walk). x.schema) i.same in
     let limits = ap (λ (x : Walk). x.limits) i.same in
-    let e = c.in_ok-child.ensures in
+    let e = c.in-Ok.ensures in
     let none = c.in_default.is in
     let fall = words_fall w.schema.now w.limits (g.under).frames c.loop-top.top c.next_child.new.top w.tables c.loop-top.meter.count c.next_child.new.meter.count e.top (e.paid none) (e.passed none) in
     let less = rw (schema, limits) at fall in
@@ -94,37 +76,37 @@ loop-top-preserved g c =
       room = i.room;
     }
 
-pub returns-then-branch-clause-falls : goal.returns-then-branch-clause-falls
-returns-then-branch-clause-falls g c _ =
+pub returns-in-Ok-true-clause-falls : goal.returns-in-Ok-true-clause-falls
+returns-in-Ok-true-clause-falls g c _ =
     let i = c.loop-top.invariant in
     let w = c.loop-top.self in
-    let e = c.in_ok-child.ensures in
-    let t = c.in_ok-table.ensures in
+    let e = c.in-Ok.ensures in
+    let t = c.in-Ok-open_table.ensures in
     let m = c.next_child.new.meter in
     let limits = ap (λ (x : Walk). x.limits.depth) i.same in
     let less = leading_falls w c.args.self.now.schema.now c.args.self.now.limits (ap (λ (x : Walk). x.schema.now) i.same) (ap (λ (x : Walk). x.limits) i.same) m.bytes m.count c.loop-top.meter.count (g.under).start (g.under).frames c.loop-top.top c.next_child.new.top c.in-Some.child e.top e.fewer (rw c.in-Some.is at e.table)
-    (c.args.waiting + 1) (omega (arith, c.requires.0)) c.advance.new.self c.advance.ensures c.in_ok-table.table t.table t.ok t.fewer t.shallow t.low
-    c.pass_below.new.below c.pass_below.new.meter.count (rw (t.opened, t.counted) at (c.in_ok-pass_below.ensures.falls c.if-branch.true)) in
+    (c.args.waiting + 1) (omega (arith, c.requires.0)) c.advance.new.self c.advance.ensures c.in-Ok-open_table.table t.table t.ok t.fewer t.shallow t.low
+    c.pass_below.new.below c.pass_below.new.meter.count (rw (t.opened, t.counted) at (c.in-Ok-true.ensures.falls c.in-Ok-true.field-0-test)) in
     let first = get_or-set_same c.loop-top.room 0 c.pass_below.new.below blank (omega (arith, t.shallow, limits, i.room, c.requires.1.1.1.0)) in
     rw (t.opened, first) (omega (arith, less, i.budget))
 
-pub loop-top-preserved-else-branch : goal.loop-top-preserved-else-branch
-loop-top-preserved-else-branch g c =
+pub loop-top-preserved-in-Ok-false : goal.loop-top-preserved-in-Ok-false
+loop-top-preserved-in-Ok-false g c =
     let i = c.loop-top.invariant in
-    let none = c.if-branch.false in
+    let none = c.in-Ok-false.field-0-test in
     let w = c.loop-top.self in
-    let e = c.in_ok-child.ensures in
-    let t = c.in_ok-table.ensures in
+    let e = c.in-Ok.ensures in
+    let t = c.in-Ok-open_table.ensures in
     let m = c.next_child.new.meter in
     let less = closing_falls w c.args.self.now.schema.now c.args.self.now.limits (ap (λ (x : Walk). x.schema.now) i.same) (ap (λ (x : Walk). x.limits) i.same) m.bytes m.count c.loop-top.meter.count (g.under).start (g.under).frames c.loop-top.top c.next_child.new.top c.in-Some.child e.top e.fewer (rw c.in-Some.is at e.table)
-    (c.args.waiting + 1) (omega (arith, c.requires.0)) c.advance.new.self c.advance.ensures c.in_ok-table.table t.table t.ok t.fewer t.shallow t.low
-    _ (rw (t.opened, t.counted) at (c.in_ok-pass_below.ensures.least none)) in
+    (c.args.waiting + 1) (omega (arith, c.requires.0)) c.advance.new.self c.advance.ensures c.in-Ok-open_table.table t.table t.ok t.fewer t.shallow t.low
+    _ (rw (t.opened, t.counted) at (c.in-Ok-false.ensures.least none)) in
     record {
-      bytes = c.in_ok-pass_below.ensures.bytes ∙ t.bytes ∙ e.bytes ∙ i.bytes;
+      bytes = c.in-Ok-false.ensures.bytes ∙ t.bytes ∙ e.bytes ∙ i.bytes;
       same = rw (t.opened, ap (λ (x : Walk). x.checks) i.same, ap (λ (x : Walk). x.schema) i.same, ap (λ (x : Walk). x.limits) i.same) refl;
-      walking = c.in_ok-pass_below.ensures.ends none (g.under).frames refl;
+      walking = c.in-Ok-false.ensures.ends none (g.under).frames refl;
       budget = rw t.opened (omega (arith, less, i.budget));
       began = λ _. rw t.opened (omega (arith, less, i.budget));
-      grows = omega (arith, i.grows, e.grows, ap (λ x. x.count) t.counted, c.in_ok-pass_below.ensures.grows);
+      grows = omega (arith, i.grows, e.grows, ap (λ x. x.count) t.counted, c.in-Ok-false.ensures.grows);
       room = length-set c.loop-top.room 0 c.pass_below.new.below ∙ i.room;
     }

@@ -6,7 +6,8 @@ use Rattle.fb_verify.proofs.Budgets.{fewer_reads}
 use Rattle.fb_verify.proofs.Words.{row_none}
 use Rattle.fb_verify.proofs.Frames.{if_err_exit, item_some, item_none, field_at, length_map, no_row, own_few}
 use Rattle.fb_verify.proofs.Passing.{own_least}
-use Rattle.fb_verify.proofs.Standings.{stop_at_field, next_typed}
+use Rattle.fb_verify.proofs.Standings.{next_typed}
+use Rattle.fb_verify.proofs.Stopping.{field_stops}
 use Rattle.fb_verify.proofs.Walking.{field_passed, field_work, field_skipped, skip_work}
 use Rattle.fb_verify.proofs.stack.Walk.pass_fields.Goals as goal
 use Rattle.fb_verify.proofs.stack.Walk.pass_fields.Goals.{After-get}
@@ -109,7 +110,7 @@ returns-in_err-pass_present-clause-err g c =
     let before : c.pass_on.new.meter.count - 1 ≡ o.before = omega (arith, o.count) in
     if_err_exit _ _ _ c.from_residual.ensures.1
     (rw (p.bytes ∙ i.bytes) at
-    (stop_at_field w.checks b S w.limits (g.under).start (g.under).frames top w.tables w.deepest o.before h.standing h.tables h.deepest h.reads _ field rests here (rw before at c.in_err-pass_present.ensures.err)))
+    (field_stops w.checks b S w.limits (g.under).start (g.under).frames top w.tables w.deepest o.before h _ field rests here (rw before at c.in_err-pass_present.ensures.err)))
 
 pub returns-then-branch-clause-walking : goal.returns-then-branch-clause-walking
 returns-then-branch-clause-walking g c =

@@ -3,12 +3,12 @@ use Rattle.fb_verify.specs.declared.scratch.Frame.{Frame}
 use Rattle.fb_verify.specs.declared.offset_row.Row.{Row}
 use Rattle.fb_verify.specs.Cost.{lead_reads}
 use Rattle.fb_verify.specs.Order.{after, element_failure}
-use Rattle.fb_verify.specs.OffsetRows.{lead_to, first_word, IsReferent, IsLeafLead}
+use Rattle.fb_verify.specs.OffsetRows.{lead_to, first_word, past_first, IsReferent, IsLeafLead}
 use Rattle.fb_verify.specs.Plain.{tested_by}
 use Rattle.fb_verify.proofs.Budgets.{fewer_reads}
 use Rattle.fb_verify.proofs.Chains.{after_none}
 use Rattle.fb_verify.proofs.Frames.{first_few, row_types_near}
-use Rattle.fb_verify.proofs.LeafRows.{word_told, word_stops, is_leaf, is_sized, known_on}
+use Rattle.fb_verify.proofs.LeafRows.{word_told, word_fails, is_leaf, is_sized, known_on}
 use Rattle.fb_verify.proofs.Walking.{leaf_passed}
 use Rattle.fb_verify.proofs.stack.Walk.pass_words.Goals as goal
 use Rattle.fb_verify.proofs.stack.Walk.pass_words.Goals.{After-test_lead-failed}
@@ -42,9 +42,9 @@ returns-in-Some-clause-err g c =
     let top = top_at g d in
     let b = c.loop-row.reads.bytes in
     let first = c.first_referent-referent.ensures in
-    rw i.bytes at
-    (word_stops w.checks b w.schema.now w.limits (g.under).start (g.under).frames top w.tables w.deepest (c.args.lender.now.count + c.loop-row.reads.count) i.walking c.loop-row-test.true (record { at = c.test_lead-failed.new.at; reason = c.in-Some.reason }) c.args.lender.now.count c.loop-row.reads.count c.test_lead-failed.new.reads.count refl
-    (sym (told g d) ∙ ap (tested_by c.test_lead-failed.new.at c.test_lead-failed.new.reads.count) c.in-Some.is) c.stop_at_word.result (rw i.same at c.stop_at_word.ensures))
+    rw (c.stop_at_word.ensures.past, i.same) (rw i.bytes at
+    (word_fails w.checks b w.schema.now w.limits (g.under).start (g.under).frames top w.tables w.deepest (c.args.lender.now.count + c.loop-row.reads.count) i.walking (past_first c.loop-row.row) refl c.loop-row-test.true (record { at = c.test_lead-failed.new.at; reason = c.in-Some.reason }) c.args.lender.now.count c.loop-row.reads.count c.test_lead-failed.new.reads.count refl
+    (sym (told g d) ∙ ap (tested_by c.test_lead-failed.new.at c.test_lead-failed.new.reads.count) c.in-Some.is) c.stop_at_word.result (rw i.same at c.stop_at_word.ensures.stop)))
 
 pub returns-in-Table-clause-table : goal.returns-in-Table-clause-table
 returns-in-Table-clause-table g c =

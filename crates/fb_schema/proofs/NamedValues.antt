@@ -1,0 +1,51 @@
+-- The name of a union's member is that of the row with its value.
+use Rattle.std.proofs.Common.{◌≡◌, ℕ, ◌<◌, ℤ, pos, Bool, true, false, ◌&&◌, if◌then◌else◌, List, [], map, filter, slice_get, Option, Some, None, refl, ◌∙◌, ap, arith, find}
+use Rattle.std.proofs.lemmas.Bool.Decides.{nat_tests}
+use Rattle.std.specs.Cmp.{signed_Decides}
+use Rattle.std.specs.Option.{option_map}
+use Rattle.std.specs.Ordering.{int_eq}
+use Rattle.fb_schema.specs.declared.rows.EnumRow.{EnumRow}
+use Rattle.fb_schema.specs.Members.{is_member_value, members_in, member_name}
+use Rattle.fb_schema.specs.Rows.{Rows, Member, Enum, member_of_row, enum_of, is_union, is_some_union}
+use Rattle.fb_schema.proofs.FindLemmas.{find_filter}
+use Rattle.fb_schema.proofs.UnionLemmas.{members_read, none_of}
+
+-- a test that implies another, asked with it
+with_implied : (a b : Bool) → (b ≡ true → a ≡ true) → (a && b) ≡ b
+with_implied true b h = refl
+with_implied false true h = h refl
+with_implied false false h = refl
+
+real_value : (v : ℕ) → 0 < v → v < 256 → is_member_value (pos v) ≡ true
+real_value v a b = grind (arith, nat_tests)
+
+-- a row with a member's value is a member's
+asked_once : (v : ℕ) → 0 < v → v < 256 → (z : ℤ) → (is_member_value z && int_eq z (pos v)) ≡ int_eq z (pos v)
+asked_once v a b z = with_implied (is_member_value z) (int_eq z (pos v)) (λ e. ap is_member_value ((signed_Decides z (pos v)).0 e) ∙ real_value v a b)
+
+-- the name that is looked up of a union, over its row
+pub member_name_is : (rows : Rows) (enums : List EnumRow) → rows.enums ≡ map enum_of enums → (n : ℕ) (row : EnumRow) → slice_get enums n ≡ Some row → row.is_union ≡ true → (v : ℕ) → 0 < v → v < 256
+    → member_name rows n v ≡ option_map (λ m. m.name) (find (λ m. int_eq m.value (pos v)) (map member_of_row row.members.items))
+unfolding member_name
+member_name_is rows enums same n row at union v a b =
+    ap (λ ms. option_map (λ (m : Member). m.name) (find (λ m. int_eq m.value (pos v)) ms)) (members_read rows enums same n row at union)
+    ∙ ap (option_map (λ (m : Member). m.name)) (
+    find_filter (λ m. int_eq m.value (pos v)) (λ m. is_member_value m.value) (map member_of_row row.members.items)
+    ∙ ap (λ t. find t (map member_of_row row.members.items)) (λ i m. asked_once v a b m.value i))
+
+-- the value 0 has no name
+pub no_name_of_zero : (rows : Rows) (n : ℕ) → member_name rows n 0 ≡ None
+unfolding member_name
+no_name_of_zero rows n = ap (option_map (λ (m : Member). m.name)) (none_of (slice_get rows.enums n))
+
+no_members : (e : Option Enum) → is_some_union e ≡ false → members_in e ≡ []
+no_members None h = refl
+no_members (Some e) h = go e.is_union h where
+  go : (b : Bool) → b ≡ false → (if b then filter (λ m. is_member_value m.value) e.members else []) ≡ []
+  go true h = absurd (let w : true ≡ false = h in cc)
+  go false h = refl
+
+-- nor has what is no union's
+pub no_name_of_other : (rows : Rows) (n v : ℕ) → is_union rows n ≡ false → member_name rows n v ≡ None
+unfolding member_name
+no_name_of_other rows n v h = ap (λ ms. option_map (λ (m : Member). m.name) (find (λ m. int_eq m.value (pos v)) ms)) (no_members (slice_get rows.enums n) h)

@@ -1,0 +1,148 @@
+-- Frames whose row was left behind a word, and the links through these words.
+use Rattle.std.proofs.Common.{◌≡◌, ℕ, zero, suc, ◌+◌, ◌-◌, ◌<◌, List, [], ◌∷◌, length, refl, sym, ◌∙◌, ap, subst, arith, Option, Some, None}
+use Rattle.std.specs.Prelude.{slice_get}
+use Rattle.std.proofs.lemmas.List.{length-drop}
+use Rattle.fb_bytes.specs.Word.{word}
+use Rattle.fb_schema.specs.declared.kinds.Kind.{Kind}
+use Rattle.fb_schema.specs.declared.kinds.Kind.TheVariants.{Scalar, Text, Struct, Table, Union, Scalars, Texts, Structs, Tables, Unions}
+use Rattle.fb_schema.specs.Rows.{Rows}
+use Rattle.fb_schema.specs.Members.{member_of}
+use Rattle.fb_schema.specs.Live.{Live, live_fields}
+use Rattle.fb_schema.specs.Served.{IsServed}
+use Rattle.fb_verify.specs.declared.checks.Checks.{Checks}
+use Rattle.fb_verify.specs.declared.offset_row.Leads.{Leads}
+use Rattle.fb_verify.specs.declared.offset_row.Leads.TheVariants.{All, ByType}
+use Rattle.fb_verify.specs.declared.offset_row.Row.{Row}
+use Rattle.fb_verify.specs.declared.scratch.Frame.{Frame}
+use Rattle.fb_verify.specs.Fields.{IsVectorField, IsPresent, IsField, type_place, union_type, types_begin, Lead, to_table, to_string, Entry, row, union_row, union_entry, entries_of, entries_at, entries}
+use Rattle.fb_verify.specs.Places.{target, field_place}
+use Rattle.fb_verify.specs.Tree.{elements_length}
+use Rattle.fb_verify.specs.Way.{Way}
+use Rattle.fb_verify.specs.Links.{element_of, type_of, element_link}
+use Rattle.fb_verify.specs.OffsetRows.{words, words_of, IsTyped}
+use Rattle.fb_verify.specs.Walked.{IsInField}
+use Rattle.fb_verify.specs.Stack.{word_count, CountIsIn, CountStands, TypeStands, frame_link, link_behind, IsFrame, IsLinked}
+use Rattle.fb_verify.proofs.Typed.{present, typed_before}
+
+module _ (b : List ℕ) (S : Rows) where
+  row_length : (lead : Lead) (p n : ℕ) → length (row lead p n) ≡ n
+  unfolding row
+  row_length lead p zero = refl
+  row_length lead p (suc n) = ap suc (row_length lead (p + 4) n)
+
+  union_row_length : (e q p n : ℕ) → length (union_row b S e q p n) ≡ n
+  unfolding union_row
+  union_row_length e q p zero = refl
+  union_row_length e q p (suc n) = ap suc (union_row_length e (q + 1) (p + 4) n)
+
+  words_length : (leads : Leads) (p n : ℕ) → length (words b S leads p n) ≡ n
+  words_length (All referent) p n = row_length _ p n
+  words_length (ByType e q) p n = union_row_length e q p n
+
+  -- a row has as many words as are left of it
+  pub row_words : (r : Row) → length (words_of b S r) ≡ r.left
+  row_words r = words_length r.leads r.place r.left
+
+module _ (c : Checks) (b : List ℕ) (S : Rows) (fr : Frame) (w v : Way) (x : Entry) (h : IsInField c b S (fr.table).object (fr.table).at w fr.next fr.number (x ∷ words_of b S fr.row) v) where
+  here : slice_get (live_fields S (fr.table).object) (fr.next - 1) ≡ Some h.field
+  here = let e : fr.next - 1 ≡ h.i = omega (arith, h.next_is) in rw e h.found
+
+  -- the words before one are those that are neither it nor left behind it
+  count : length (entries b S (fr.table).at h.field) ≡ elements_length h.before + 1 + (fr.row).left
+  count =
+      let es = entries b S (fr.table).at h.field in
+      omega (arith, length-drop (elements_length h.before) es, ap length h.left_is, row_words b S fr.row)
+
+  -- the link through the word behind which the frame's row was left
+  pub linked_by : element_link b (fr.table).object (fr.table).at h.field (elements_length h.before) ≡ frame_link b S fr
+  linked_by =
+      let e : elements_length h.before ≡ length (entries b S (fr.table).at h.field) - (fr.row).left - 1 = omega (arith, count) in
+      ap (λ j. element_link b (fr.table).object (fr.table).at h.field j) e ∙ ap (link_behind b S fr) (sym here)
+
+  pub is_linked : IsServed S → IsFrame c b S fr → IsLinked c b S fr
+  is_linked serves frame =
+      let i = h.inside in
+      record {
+        frame = frame;
+        some = omega (arith, h.next_is);
+        field = h.field;
+        found = here;
+        own = h.own;
+        typed = typed_before c b S (fr.table).at i.earlier (live_fields S (fr.table).object) h.i (h.field).slot i.passed (h.field).kind (serves.typed (fr.table).object h.i h.field h.found);
+        more = omega (arith, count);
+      }
+
+-- What of a field that holds can be read again where it leads on.
+module _ (c : Checks) (b : List ℕ) (S : Rows) (t p : ℕ) (g : Live) (left : ℕ) where
+  -- how many words it has, that the count can be read, and that as many types are there
+  record Stands (kind : Kind) : Type 0 where
+    pub words : length (entries_of b S t g p kind) ≡ word_count b p kind
+    pub count : CountStands b p kind
+    pub types : (j : ℕ) → j < word_count b p kind → IsTyped b t g.slot kind → TypeStands b t g.slot j kind
+
+  vector_count : IsVectorField c b t p 4 4 → CountIsIn b p
+  vector_count h = record { offset = (h.offset).within; count = (h.vector).count }
+
+  union_words : (member : Option Kind) → left < length (union_entry S p member) → length (union_entry S p member) ≡ 1
+  union_words None more = absurd (omega (arith, more))
+  union_words (Some k) more = refl
+
+  stands_by : (kind : Kind) → IsPresent c b S t g p kind → left < length (entries_of b S t g p kind) → Stands kind
+  stands_by (Scalar s) h more = absurd (omega (arith, more))
+  stands_by (Struct k) h more = absurd (omega (arith, more))
+  stands_by Text h more = record { words = refl; count = tt; types = λ j l typed. tt }
+  stands_by (Table k) h more = record { words = refl; count = tt; types = λ j l typed. tt }
+  stands_by (Union e) h more = record { words = union_words (member_of S e (union_type b (type_place b t g.slot))) more; count = tt; types = λ j l typed. typed }
+  stands_by (Scalars s) h more = absurd (omega (arith, more))
+  stands_by (Structs k) h more = absurd (omega (arith, more))
+  stands_by Texts h more = record { words = row_length b S to_string (target b p + 4) (word b (target b p) 4); count = vector_count h; types = λ j l typed. tt }
+  stands_by (Tables k) h more = record { words = row_length b S (to_table k) (target b p + 4) (word b (target b p) 4); count = vector_count h; types = λ j l typed. tt }
+  stands_by (Unions e) h more = record {
+    words = union_row_length b S e (types_begin b (type_place b t g.slot)) (target b p + 4) (word b (target b p) 4);
+    count = vector_count h.field;
+    types = λ j l typed. (typed, omega (arith, l, h.counts_agree));
+  }
+
+-- The same of the field of a frame that is linked.
+module _ (c : Checks) (b : List ℕ) (S : Rows) (fr : Frame) (h : IsLinked c b S fr) (g : Live) (found : slice_get (live_fields S (fr.table).object) (fr.next - 1) ≡ Some g) where
+  abbrev t : ℕ
+  t = (fr.table).at
+
+  is_field : h.field ≡ g
+  is_field = let e : Some h.field ≡ Some g = sym h.found ∙ found in cc
+
+  -- it stands somewhere
+  pub is_there : field_place b t g.slot ≡ None → ⊥
+  unfolding entries
+  is_there none =
+      let e : entries b S t h.field ≡ [] = ap (λ x. entries b S t x) is_field ∙ ap (entries_at b S t g) none in
+      absurd (omega (arith, h.more, ap length e))
+
+  module _ (p : ℕ) (place : field_place b t g.slot ≡ Some p) where
+    words_are : entries b S t h.field ≡ entries_of b S t g p g.kind
+    unfolding entries
+    words_are = ap (λ x. entries b S t x) is_field ∙ ap (entries_at b S t g) place
+
+    own : IsField c b S t g
+    own = subst (λ x. IsField c b S t x) is_field h.own
+
+    stands : Stands c b S t p g (fr.row).left g.kind
+    stands = stands_by c b S t p g (fr.row).left g.kind (present c b S t g p g.kind own place refl) (omega (arith, h.more, ap length words_are))
+
+    pub count_stands : CountStands b p g.kind
+    count_stands = stands.count
+
+    pub count_is : length (entries b S t h.field) ≡ word_count b p g.kind
+    count_is = ap length words_are ∙ stands.words
+
+    pub more_left : (fr.row).left < word_count b p g.kind
+    more_left = omega (arith, h.more, count_is)
+
+    pub type_stands : (j : ℕ) → j < word_count b p g.kind → TypeStands b t g.slot j g.kind
+    type_stands j l = stands.types j l (subst (λ x. IsTyped b t x.slot x.kind) is_field h.typed)
+
+    -- the link, by what is read
+    pub link_read : (j : ℕ) → j ≡ word_count b p g.kind - (fr.row).left - 1 → record { object = (fr.table).object; field = g.number; element = element_of j g.kind; member = type_of b t g j g.kind } ≡ frame_link b S fr
+    link_read j e =
+        let n : j ≡ length (entries b S t g) - (fr.row).left - 1 = omega (arith, e, count_is, ap (λ x. length (entries b S t x)) is_field) in
+        ap (λ i. element_link b (fr.table).object t g i) n ∙ ap (link_behind b S fr) (sym found)
