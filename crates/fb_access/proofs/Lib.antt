@@ -18,6 +18,7 @@ pub mod CutPieces
 pub mod Found
 pub mod MemberKinds
 pub mod NumberedFields
+pub mod LiveFields
 pub mod Fits
 pub mod Following
 pub mod OneReading
@@ -28,3 +29,5 @@ pub mod Staying
 pub mod Shown
 pub mod ShownTree
 pub mod ShownPaths
+pub mod ShownLocations
+pub mod Ways

@@ -11,7 +11,10 @@ pub mod Samples
 pub mod Examples
 pub mod Grammar
 pub mod Resolving
+pub mod Location
 pub mod PathTests
+pub mod LocationTests
+pub mod LocationLaws
 -- What proofs alone need.
 pub mod Cutting
 pub mod Kept

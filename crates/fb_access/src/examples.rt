@@ -1,6 +1,7 @@
 //! Examples of the definitions: each is a clause of a function that does nothing.
 
 ghost use Rattle.fb_access.specs.PathTests.{Words, Spellings, Resolved, Unfit};
+ghost use Rattle.fb_access.specs.LocationTests.{Told, Nameless, Masked};
 ghost use Rattle.fb_access.specs.Examples.{SampleUnfolds, FieldValues, ElementValues, MemberValues, ScalarValues, DefaultValues, StayingValues, LackingFields, PrefixedValues};
 
 /// A buffer with a field of each kind is good, and what paths denote in it.
@@ -29,4 +30,13 @@ pub fn paths()
     ensures spellings { Spellings }
     ensures resolved { Resolved }
     ensures unfit { Unfit }
+{}
+
+/// Where faults are, in words: at the root, in a field, an element and a member, in what has no name, and in what has a
+/// name that would forge a line.
+#[tactic(auto, using(crate::proofs::ShownLocations::told_shown, crate::proofs::ShownLocations::nameless_shown, crate::proofs::ShownLocations::masked_shown))]
+pub fn locations()
+    ensures told { Told }
+    ensures nameless { Nameless }
+    ensures masked { Masked }
 {}

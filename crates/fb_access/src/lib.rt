@@ -4,6 +4,8 @@
 mod answer;
 pub mod examples;
 mod field;
+mod location;
+pub mod location_laws;
 mod misfit;
 mod next;
 mod path;
@@ -19,6 +21,7 @@ pub mod step_laws;
 mod value;
 
 pub use answer::Answer;
+pub use location::put_location;
 pub use path::Path;
 pub use path_fault::PathFault;
 pub use place::{Place, at_root, get};

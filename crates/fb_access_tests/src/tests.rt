@@ -2,6 +2,7 @@ mod cases;
 mod fixtures;
 mod get;
 mod grammar;
+mod locations;
 mod paths;
 mod values;
 mod worked;

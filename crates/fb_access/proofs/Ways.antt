@@ -1,0 +1,145 @@
+-- The text of a way is read back as the parts of its links.
+use Rattle.std.proofs.Common.{◌≡◌, ℕ, zero, suc, ◌<◌, ◌≤◌, ◌^◌, Bool, true, false, ◌||◌, ◌==◌, if◌then◌else◌, IsTrue, List, [], ◌∷◌, ◌++◌, length, get_or, Option, Some, None, codes, decimal, refl, sym, ◌∙◌, ap, subst, arith, append_assoc, append-nil, inl, inr}
+use Rattle.std.specs.Int.{IsInRange}
+use Rattle.std.specs.List.{AllByRecursion, flat_map}
+use Rattle.std.proofs.lemmas.Bool.Decides.{nat_tests}
+use Rattle.std.proofs.lemmas.List.Concat.{flat_map-cons}
+use Rattle.std.proofs.lemmas.Fmt.{decimal_digit, decimal_nonempty, first_decimal, digits_decimal, digits_value-decimal}
+use Rattle.std.proofs.lemmas.Str.Parse.{IsDigitsTest, FoldsDigits, IsNumeralModel, numerals_by_fold}
+use Rattle.fb_schema.specs.declared.kinds.Kind.TheVariants.{Table}
+use Rattle.fb_schema.specs.Rows.{Rows}
+use Rattle.fb_verify.specs.declared.links.Link.{Link}
+use Rattle.fb_access.proofs.ScanAccepts.{AreDigits}
+use Rattle.fb_access.specs.Grammar.{begins_name, goes_on, is_digit, number_from, Part, field, element, member, IsName, IsNumber, IsPart, spelling}
+use Rattle.fb_access.specs.Resolving.{Follows}
+use Rattle.fb_access.specs.Location.{name_text, named, link_member, element_text, link_text}
+use Rattle.fb_access.specs.LocationLaws.{field_parts, element_parts, member_parts, link_parts, parts_of, IsShort, IsNameIfAny, IsNamed, AreNamed, WaysResolve}
+
+-- Names of the grammar are written as they are.
+kept_if : (b x : Bool) (c : ℕ) → b ≡ true → (if b || x then c else 63) ≡ c
+kept_if true x c e = refl
+kept_if false x c e = absurd (let w : false ≡ true = e in cc)
+
+begun : (a b : Bool) → a ≡ true → (a || b) ≡ true
+begun true b e = refl
+begun false b e = absurd (let w : false ≡ true = e in cc)
+
+kept_rest : (cs : List ℕ) → AllByRecursion (λ x. IsTrue (goes_on x)) cs → name_text cs ≡ cs
+kept_rest [] h = refl
+kept_rest (c ∷ cs) h = λ i. kept_if (goes_on c) (c == 46) c h.0 i ∷ kept_rest cs h.1 i
+
+kept_name : (name : List ℕ) → IsName name → name_text name ≡ name
+kept_name [] h = absurd h
+kept_name (c ∷ cs) h = λ i. kept_if (goes_on c) (c == 46) c (begun (begins_name c) (is_digit c) h.0) i ∷ kept_rest cs h.1 i
+
+-- Numbers are read back.
+in_range : (c : ℕ) → is_digit c ≡ true → IsInRange 48 57 c
+in_range c e = let low : 48 ≤ c = grind (arith, nat_tests) in let high : c ≤ 57 = grind (arith, nat_tests) in (low, high)
+
+digit_in : (c : ℕ) → IsInRange 48 57 c → is_digit c ≡ true
+digit_in c h = let low : 48 ≤ c = h.0 in let high : c ≤ 57 = h.1 in grind (arith, nat_tests)
+
+tells : IsDigitsTest AreDigits
+tells = record { empty = tt; parts = λ c cs d. (in_range c d.0, d.1); more = λ c cs k d. (digit_in c k, d) }
+
+folds : FoldsDigits number_from
+folds = record { empty = λ n. refl; more = λ n c cs k. ap (λ m. number_from m cs) (omega arith) }
+
+own : IsNumeralModel AreDigits (number_from 0)
+own = numerals_by_fold AreDigits tells number_from folds
+
+is_number : (j : ℕ) → j < 2 ^ 32 → IsNumber (decimal j)
+is_number zero h = subst IsNumber (sym (decimal_digit 0 (omega arith))) (inl (refl, refl))
+is_number (suc k) h = go (decimal (suc k)) refl where
+  big : suc k < 2 ^ 64
+  big = omega arith
+
+  go : (ds : List ℕ) → decimal (suc k) ≡ ds → IsNumber ds
+  go [] e = let some : 0 < length (decimal (suc k)) = decimal_nonempty (suc k) big in absurd (omega (arith, some, ap length e))
+  go (d ∷ ds) e =
+      let first : 48 < d = subst (λ l. 48 < get_or l 0 0) e (first_decimal (suc k) (omega arith) big) in
+      let value : number_from 0 (d ∷ ds) ≡ suc k = ap (number_from 0) (sym e) ∙ digits_value-decimal own (suc k) big in
+      inr (λ same. omega (arith, same, first), subst AreDigits e (digits_decimal own (suc k) big), omega (arith, value))
+
+-- Lists of parts.
+all_append : (ps qs : List Part) → AllByRecursion IsPart ps → AllByRecursion IsPart qs → AllByRecursion IsPart (ps ++ qs)
+all_append [] qs a b = b
+all_append (p ∷ ps) qs a b = (a.0, all_append ps qs a.1 b)
+
+spelling_append : (ps qs : List Part) → spelling (ps ++ qs) ≡ spelling ps ++ spelling qs
+spelling_append [] qs = refl
+spelling_append (field name ∷ ps) qs = ap (λ t. 46 ∷ name ++ t) (spelling_append ps qs) ∙ ap (λ t. 46 ∷ t) (sym (append_assoc name (spelling ps) (spelling qs)))
+spelling_append (element digits ∷ ps) qs = ap (λ t. 91 ∷ digits ++ 93 ∷ t) (spelling_append ps qs) ∙ ap (λ t. 91 ∷ t) (sym (append_assoc digits (93 ∷ spelling ps) (spelling qs)))
+spelling_append (member name ∷ ps) qs = ap (λ t. 64 ∷ name ++ t) (spelling_append ps qs) ∙ ap (λ t. 64 ∷ t) (sym (append_assoc name (spelling ps) (spelling qs)))
+
+-- The parts of a link.
+element_are : (e : Option ℕ) → IsShort e → AllByRecursion IsPart (element_parts e)
+element_are None h = tt
+element_are (Some j) h = (is_number j h, tt)
+
+member_are : (m : Option (List ℕ)) → IsNameIfAny m → AllByRecursion IsPart (member_parts m)
+member_are None h = tt
+member_are (Some name) h = (h, tt)
+
+element_spelled : (e : Option ℕ) → spelling (element_parts e) ≡ element_text e
+element_spelled None = refl
+element_spelled (Some j) = refl
+
+member_spelled : (m : Option (List ℕ)) → IsNameIfAny m → spelling (member_parts m) ≡ named (codes "@") m
+member_spelled None h = refl
+member_spelled (Some name) h = ap (λ t. 64 ∷ t) (append-nil name ∙ sym (kept_name name h))
+
+-- what a link has behind its field's name
+module _ (S : Rows) (link : Link) (h : IsNamed S link) where
+  behind : List Part
+  behind = element_parts link.element ++ member_parts (link_member S link)
+
+  behind_are : AllByRecursion IsPart behind
+  unfolding behind
+  behind_are = all_append (element_parts link.element) (member_parts (link_member S link)) (element_are link.element h.element) (member_are (link_member S link) h.member)
+
+  behind_spelled : spelling behind ≡ element_text link.element ++ named (codes "@") (link_member S link)
+  unfolding behind
+  behind_spelled = spelling_append (element_parts link.element) (member_parts (link_member S link)) ∙ (λ i. element_spelled link.element i ++ member_spelled (link_member S link) h.member i)
+
+  parts_are : link_parts S link ≡ field h.name ∷ behind
+  unfolding behind
+  parts_are = ap (λ n. field_parts n ++ element_parts link.element ++ member_parts (link_member S link)) h.found
+
+  text_is : link_text S link ≡ h.name ++ spelling behind
+  text_is = ap (λ n. named [] n ++ element_text link.element ++ named (codes "@") (link_member S link)) h.found
+      ∙ append_assoc (name_text h.name) (element_text link.element) (named (codes "@") (link_member S link))
+      ∙ (λ i. kept_name h.name h.is_name i ++ sym behind_spelled i)
+
+-- all parts of links, and how they are spelled
+all_are : (S : Rows) (links : List Link) → AreNamed S links → AllByRecursion IsPart (parts_of S links)
+all_are S [] h = tt
+all_are S (link ∷ links) h = all_append (link_parts S link) (parts_of S links) (subst (AllByRecursion IsPart) (sym (parts_are S link h.0)) ((h.0).is_name, behind_are S link h.0)) (all_are S links h.1)
+
+all_spelled : (S : Rows) (links : List Link) → AreNamed S links → spelling (parts_of S links) ≡ flat_map (λ l. codes "." ++ link_text S l) links
+all_spelled S [] h = refl
+all_spelled S (link ∷ links) h =
+    spelling_append (link_parts S link) (parts_of S links)
+    ∙ ap (λ ps. spelling ps ++ spelling (parts_of S links)) (parts_are S link h.0)
+    ∙ (λ i. (46 ∷ sym (text_is S link h.0) i) ++ all_spelled S links h.1 i)
+    ∙ sym (flat_map-cons (λ l. codes "." ++ link_text S l) link links)
+
+pub ways_resolve : WaysResolve
+ways_resolve S root link links steps last h follows =
+    let name = (h.0).name in
+    let parts = behind S link h.0 ++ parts_of S links in
+    let all : parts_of S (link ∷ links) ≡ field name ∷ parts = ap (λ ps. ps ++ parts_of S links) (parts_are S link h.0) in
+    record {
+      name = name;
+      parts = parts;
+      last = last;
+      reading = record {
+        is_name = (h.0).is_name;
+        are_parts = all_append (behind S link h.0) (parts_of S links) (behind_are S link h.0) (all_are S links h.1);
+        spelled = ap (λ t. t ++ flat_map (λ l. codes "." ++ link_text S l) links) (text_is S link h.0)
+            ∙ append_assoc name (spelling (behind S link h.0)) (flat_map (λ l. codes "." ++ link_text S l) links)
+            ∙ ap (λ t. name ++ (spelling (behind S link h.0) ++ t)) (sym (all_spelled S links h.1))
+            ∙ ap (λ t. name ++ t) (sym (spelling_append (behind S link h.0) (parts_of S links)));
+      };
+      follows = subst (λ ps. Follows S (Table root) ps steps last) all follows;
+    }

@@ -1,0 +1,60 @@
+-- Where a fault is, in words.
+use Rattle.std.specs.Prelude.{ℕ, ◌==◌, ◌||◌, if◌then◌else◌, List, [], ◌∷◌, ◌++◌, map, slice_get, Option, Some, None, option_map, option_and_then, codes, decimal}
+use Rattle.std.specs.List.{flat_map}
+use Rattle.fb_schema.specs.declared.kinds.Kind.{Kind}
+use Rattle.fb_schema.specs.declared.kinds.Kind.TheVariants.{Union, Unions}
+use Rattle.fb_schema.specs.Members.{member_name}
+use Rattle.fb_schema.specs.Rows.{Rows}
+use Rattle.fb_verify.specs.declared.fault.Fault.{Fault}
+use Rattle.fb_verify.specs.declared.links.Link.{Link}
+use Rattle.fb_access.specs.Fitting.{numbered}
+use Rattle.fb_access.specs.Grammar.{goes_on}
+
+-- a byte of a name: a letter, a digit, `_` or `.` as it is, and `?` for any other
+abbrev pub name_byte : ℕ → ℕ
+name_byte c = if goes_on c || c == 46 then c else 63
+
+-- a name as it is written
+abbrev pub name_text : List ℕ → List ℕ
+name_text name = map name_byte name
+
+-- a name behind this text, where there is one
+abbrev pub named : List ℕ → Option (List ℕ) → List ℕ
+named before None = []
+named before (Some name) = before ++ name_text name
+
+-- the name of the live field of object k with this number
+abbrev pub field_name : Rows → ℕ → ℕ → Option (List ℕ)
+field_name S k n = option_map (λ f. f.name) (numbered S k n)
+
+-- the name of the member with this value, of the union of this kind
+abbrev pub member_of_kind : Rows → ℕ → Kind → Option (List ℕ)
+member_of_kind S value (Union e) = member_name S e value
+member_of_kind S value (Unions e) = member_name S e value
+member_of_kind S value _ = None
+
+-- the same of a link, whose field has the kind
+abbrev pub link_member : Rows → Link → Option (List ℕ)
+link_member S link = option_and_then (λ f. option_and_then (λ value. member_of_kind S value f.kind) link.member) (numbered S link.object link.field)
+
+-- the number of an element
+abbrev pub element_text : Option ℕ → List ℕ
+element_text None = []
+element_text (Some j) = codes "[" ++ decimal j ++ codes "]"
+
+-- one link: a field, and the element and the member that it has of it
+abbrev pub link_text : Rows → Link → List ℕ
+link_text S link = named [] (field_name S link.object link.field) ++ element_text link.element ++ named (codes "@") (link_member S link)
+
+-- links between dots, and a dot for the root table
+abbrev pub path_text : Rows → List Link → List ℕ
+path_text S [] = codes "."
+path_text S (link ∷ links) = link_text S link ++ flat_map (λ l. codes "." ++ link_text S l) links
+
+-- the full name of an object, and behind a dot that of its field, where the fault has one
+abbrev pub owner_text : Rows → Fault → List ℕ
+owner_text S f = named [] (option_map (λ o. o.name) (slice_get S.objects f.object)) ++ named (codes ".") (option_and_then (field_name S f.object) f.field)
+
+-- what is told of where the fault is to which these links lead
+unfoldable pub location_text : Rows → Fault → List Link → List ℕ
+location_text S f links = codes "in " ++ path_text S links ++ codes " [" ++ owner_text S f ++ codes "]"

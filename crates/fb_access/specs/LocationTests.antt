@@ -1,0 +1,50 @@
+-- Where faults are, in words, by example.
+use Rattle.std.specs.Prelude.{◌≡◌, ℕ, List, [], ◌∷◌, codes, Option, Some, None}
+use Rattle.fb_schema.specs.Rows.{Rows}
+use Rattle.fb_verify.specs.Samples.{short, field, table}
+use Rattle.fb_verify.specs.declared.fault.Fault.{Fault}
+use Rattle.fb_verify.specs.declared.fault.Reason.TheVariants.{OutOfBuffer}
+use Rattle.fb_verify.specs.declared.links.Link.{Link}
+use Rattle.fb_access.specs.Location.{location_text}
+use Rattle.fb_access.specs.Samples.{rows}
+
+-- a fault in a table of this object, at the field with this number if there is one
+abbrev pub fault_in : ℕ → Option ℕ → Fault
+fault_in object field = record { at = 0; object = object; field = field; reads = 0; reason = OutOfBuffer }
+
+-- a link to what a field of this object leads to, and to an element and a member of it
+abbrev pub link : ℕ → ℕ → Option ℕ → Option ℕ → Link
+link object field element member = record { object = object; field = field; element = element; member = member }
+
+-- in the sample's rows this is told of this fault
+abbrev pub IsIn : Fault → List Link → List ℕ → Type 0
+IsIn fault links text = location_text rows fault links ≡ text
+
+-- the root table, a field, an element, a member, and what is behind them
+pub record Told : Type 0 where
+  pub the_root : IsIn (fault_in 0 None) [] (codes "in . [T]")
+  pub a_field : IsIn (fault_in 0 (Some 1)) (link 0 1 None None ∷ []) (codes "in text [T.text]")
+  pub behind_a_deprecated_field : IsIn (fault_in 0 (Some 13)) (link 0 13 None None ∷ []) (codes "in longs [T.longs]")
+  pub a_table : IsIn (fault_in 2 None) (link 0 3 None None ∷ []) (codes "in table [A]")
+  pub of_a_table : IsIn (fault_in 2 (Some 2)) (link 0 3 None None ∷ link 2 2 None None ∷ []) (codes "in table.ubyte [A.ubyte]")
+  pub an_element : IsIn (fault_in 0 (Some 8)) (link 0 8 (Some 3) None ∷ []) (codes "in texts[3] [T.texts]")
+  pub the_last_element : IsIn (fault_in 0 (Some 8)) (link 0 8 (Some 4294967295) None ∷ []) (codes "in texts[4294967295] [T.texts]")
+  pub a_member : IsIn (fault_in 0 (Some 5)) (link 0 5 None (Some 2) ∷ []) (codes "in u@W [T.u]")
+  pub of_a_member : IsIn (fault_in 2 (Some 1)) (link 0 11 (Some 10) (Some 1) ∷ link 2 1 None None ∷ []) (codes "in us[10]@A.byte [A.byte]")
+
+-- nothing stands for what has no name
+pub record Nameless : Type 0 where
+  pub no_type : IsIn (fault_in 0 (Some 5)) (link 0 5 None (Some 0) ∷ []) (codes "in u [T.u]")
+  pub unknown_member : IsIn (fault_in 0 (Some 11)) (link 0 11 (Some 1) (Some 9) ∷ []) (codes "in us[1] [T.us]")
+  pub no_union : IsIn (fault_in 0 (Some 1)) (link 0 1 None (Some 1) ∷ []) (codes "in text [T.text]")
+  pub a_deprecated_field : IsIn (fault_in 0 (Some 12)) (link 0 12 (Some 7) None ∷ []) (codes "in [7] [T]")
+  pub a_struct : IsIn (fault_in 1 (Some 0)) (link 1 0 None None ∷ []) (codes "in  [W]")
+  pub no_object : IsIn (fault_in 3 (Some 0)) [] (codes "in . []")
+
+-- a table and a field whose names would begin a line
+abbrev pub rows_with_lines : Rows
+rows_with_lines = record { objects = table (codes "a.b\n2 ok") (field (codes "x [y]\n") 4 short ∷ []) ∷ []; enums = [] }
+
+-- a byte that no name has is written as `?`
+pub record Masked : Type 0 where
+  pub in_a_line : location_text rows_with_lines (fault_in 0 (Some 0)) (link 0 0 None None ∷ []) ≡ codes "in x??y?? [a.b?2?ok.x??y??]"
