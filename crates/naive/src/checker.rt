@@ -33,6 +33,24 @@ pub struct Question<'r, 'n> {
 
 pub use answer::Verdict;
 
+/// A field on the way to a fault, in a table of this object, and how far into the field the way goes.
+#[derive(Clone, Copy, Debug, PartialEq, Eq)]
+pub struct Step {
+    pub object: u32,
+    pub field: u16,
+    /// The element of a vector of texts, tables or unions, once the walk is past what asks of the field by itself.
+    pub element: Option<u32>,
+    /// The type of a union, once it is past that.
+    pub member: Option<u8>,
+}
+
+/// A verdict, and the steps from the root table to what was under check where it is a no.
+#[derive(Drop)]
+pub struct Outcome {
+    pub verdict: Verdict,
+    pub way: Vec<Step>,
+}
+
 // A module of its own, since `verdict` and `Verdict` may not stand in one.
 mod answer {
     /// What the naive checker answers of a buffer.
@@ -65,6 +83,11 @@ const MOST_TABLES: u64 = 1_000_000;
 
 /// The size of an offset word and of a count, and what they are aligned to.
 const WORD: u64 = 4;
+
+/// The number of the field with this slot.
+fn number_of(slot: u16) -> u16 {
+    slot.saturating_sub(4) / 2
+}
 
 /// The reason of what can't happen under legal rows.
 const IMPOSSIBLE: u8 = 0;
@@ -168,7 +191,7 @@ struct Entry {
     here: Here,
 }
 
-/// A walk through a buffer, with the reads made and the tables opened so far.
+/// A walk through a buffer, with the reads made and the tables opened so far, and the steps to what is under check.
 #[derive(Drop)]
 struct Walk<'r, 'n, 'b> {
     alloc: Global,
@@ -176,6 +199,7 @@ struct Walk<'r, 'n, 'b> {
     bytes: &'b [u8],
     reads: u64,
     opened: u64,
+    way: Vec<Step>,
 }
 
 impl<'r, 'n, 'b> Walk<'r, 'n, 'b> {
@@ -206,6 +230,20 @@ impl<'r, 'n, 'b> Walk<'r, 'n, 'b> {
         let most = self.question.reads;
         let within = most.is_none_or(|most| self.reads <= most);
         ensure(within, TOO_MANY_READS, at, here)
+    }
+
+    /// From here on the element with this number is under check.
+    fn goes_to_element(&mut self, index: u32) {
+        if let Some(step) = self.way.last_mut() {
+            step.element = Some(index);
+        }
+    }
+
+    /// From here on the value of a union of this type is under check.
+    fn goes_to_member(&mut self, value: u64) {
+        if let Some(step) = self.way.last_mut() {
+            step.member = u8::try_from(value).ok();
+        }
     }
 
     /// V13 of a field by itself, whose own tests have held while those of its entries are still to come.
@@ -317,7 +355,15 @@ impl<'r, 'n, 'b> Walk<'r, 'n, 'b> {
                 break;
             };
             last = row.slot;
+            let step = Step {
+                object: head.object,
+                field: number_of(row.slot),
+                element: None,
+                member: None,
+            };
+            self.way.push(step).map_err(AllocError::from)?;
             let one = self.field(head, row, left, &mut kids)?;
+            self.way.pop();
             found.push(one).map_err(AllocError::from)?;
         }
         Ok(Node { found, kids })
@@ -341,7 +387,7 @@ impl<'r, 'n, 'b> Walk<'r, 'n, 'b> {
     fn field(&mut self, head: Head, row: Live, left: u32, kids: &mut Kids) -> Result<Found, Stop> {
         let here = Here {
             object: head.object,
-            field: Some(row.slot.saturating_sub(4) / 2),
+            field: Some(number_of(row.slot)),
         };
         let word = match self.slot(head, row.slot, here)? {
             Slot::Holds(word) => word,
@@ -414,10 +460,15 @@ impl<'r, 'n, 'b> Walk<'r, 'n, 'b> {
         self.offset_word(place.at, place.here)
     }
 
-    /// The one offset word of a table, string or union, before which the field by itself ends. Gives where it leads.
-    fn single_word(&mut self, place: Place) -> Result<u64, Stop> {
+    /// The end of the field by itself, before the one offset word of a table, string or union.
+    fn own_word(&mut self, place: Place) -> Result<(), Stop> {
         self.inside(place, WORD)?;
-        self.field_affordable(place)?;
+        self.field_affordable(place)
+    }
+
+    /// That, and the offset word of a table or string. Gives where it leads.
+    fn single_word(&mut self, place: Place) -> Result<u64, Stop> {
+        self.own_word(place)?;
         self.offset_word(place.at, place.here)
     }
 
@@ -513,6 +564,7 @@ impl<'r, 'n, 'b> Walk<'r, 'n, 'b> {
         let (start, count) = self.words(place)?;
         self.field_affordable(place)?;
         for index in 0..count {
+            self.goes_to_element(index);
             let at = element_at(start, WORD, index);
             let target = self.offset_word(at, place.here)?;
             self.string(target, place.here)?;
@@ -527,6 +579,7 @@ impl<'r, 'n, 'b> Walk<'r, 'n, 'b> {
         let (start, count) = self.words(place)?;
         self.field_affordable(place)?;
         for index in 0..count {
+            self.goes_to_element(index);
             let target = self.offset_word(element_at(start, WORD, index), place.here)?;
             let kid = self.table(object, target, place.left, place.here)?;
             kids.push(kid).map_err(AllocError::from)?;
@@ -556,9 +609,11 @@ impl<'r, 'n, 'b> Walk<'r, 'n, 'b> {
             let members = Members::NONE;
             return Ok(Found::Union { typed, members });
         };
+        self.own_word(place)?;
+        self.goes_to_member(value);
         let entry = Entry {
             at: place.at,
-            target: self.single_word(place)?,
+            target: self.offset_word(place.at, place.here)?,
             left: place.left,
             here: place.here,
         };
@@ -595,8 +650,10 @@ impl<'r, 'n, 'b> Walk<'r, 'n, 'b> {
         self.field_affordable(place)?;
         let mut members = Members::NONE;
         for index in 0..count {
+            self.goes_to_element(index);
             let at = element_at(start, WORD, index);
             let value = self.read(element_at(types, 1, index), 1, place.here)?;
+            self.goes_to_member(value);
             let Some(kind) = member_kind(&self.question, union, value) else {
                 self.affordable(at, place.here)?;
                 continue;
@@ -670,29 +727,43 @@ impl<'r, 'n, 'b> Walk<'r, 'n, 'b> {
     }
 }
 
-/// The verdict on a buffer: the counts of its finished tree, or its first fault.
-pub fn verdict(
+/// The verdict on a buffer: the counts of its finished tree, or its first fault and the way to it.
+pub fn check(
     alloc: Global,
     question: &Question<'_, '_>,
     bytes: &[u8],
-) -> Result<Verdict, AllocError> {
+) -> Result<Outcome, AllocError> {
     let mut walk = Walk {
         alloc,
         question: *question,
         bytes,
         reads: 0,
         opened: 0,
+        way: Vec::new(alloc),
     };
-    match walk.buffer() {
-        Ok(tree) => Ok(walk.counted(&tree)),
-        Err(Stop::Fault { reason, at, here }) => Ok(Verdict::No {
+    let verdict = match walk.buffer() {
+        Ok(tree) => walk.counted(&tree),
+        Err(Stop::Fault { reason, at, here }) => Verdict::No {
             reason,
             at,
             object: here.object,
             field: here.field,
             reads: u128::from(walk.reads),
-        }),
-        Err(Stop::TooLarge) => Ok(Verdict::TooLarge),
-        Err(Stop::NoMemory) => Err(AllocError),
-    }
+        },
+        Err(Stop::TooLarge) => Verdict::TooLarge,
+        Err(Stop::NoMemory) => return Err(AllocError),
+    };
+    Ok(Outcome {
+        verdict,
+        way: walk.way,
+    })
+}
+
+/// The verdict alone.
+pub fn verdict(
+    alloc: Global,
+    question: &Question<'_, '_>,
+    bytes: &[u8],
+) -> Result<Verdict, AllocError> {
+    check(alloc, question, bytes).map(|outcome| outcome.verdict)
 }

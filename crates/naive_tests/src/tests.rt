@@ -3,3 +3,4 @@ mod checker;
 mod common;
 mod rows;
 mod values;
+mod ways;

@@ -1,11 +1,13 @@
 //! The engine, asked as the naive checker is, and its answers in that one's words.
 
+use fb_access::{Path, put_location};
 use fb_bytes::Meter;
 use fb_schema::Schema;
 use fb_verify::{
-    Checks, Fault, Ident, Limits, Reason, Report, Scratch, Start, Verified, most_reads, verify,
+    Checks, Fault, Ident, Limits, Link, Located, Reason, Report, Scratch, Start, Verified,
+    most_reads, verify, verify_and_locate,
 };
-use naive::checker::{Question, Verdict, verdict};
+use naive::checker::{Question, Step, Verdict, check};
 use std::alloc::{AllocError, Global};
 use std::process::Abort;
 use std::test::Fail;
@@ -83,6 +85,16 @@ pub fn answered(answer: &Result<Verified<'_, '_, '_>, Fault>) -> Verdict {
     }
 }
 
+/// A link in the naive checker's words.
+fn step_of(link: Link) -> Step {
+    Step {
+        object: link.object,
+        field: link.field,
+        element: link.element,
+        member: link.member,
+    }
+}
+
 /// The reads of a verdict.
 pub fn reads_of(verdict: Verdict) -> u128 {
     match verdict {
@@ -96,13 +108,31 @@ pub fn reads_of(verdict: Verdict) -> u128 {
 pub struct Engine<'s, 'n> {
     pub schema: &'s Schema<'n>,
     pub scratch: Scratch,
+    links: Vec<Link>,
 }
+
+/// The greatest depth limit that is asked, which is the published one.
+const DEPTH: u32 = 64;
+
+/// What no fault has left.
+const BLANK: Link = Link {
+    object: 0,
+    field: 0,
+    element: None,
+    member: None,
+};
 
 impl<'s, 'n> Engine<'s, 'n> {
     /// An engine for depth limits up to the published one.
     pub fn new(alloc: Global, schema: &'s Schema<'n>) -> Result<Self, Fail> {
-        let scratch = Scratch::new(alloc, 64)?;
-        Ok(Engine { schema, scratch })
+        let scratch = Scratch::new(alloc, DEPTH)?;
+        let mut links = Vec::new(alloc);
+        links.resize(DEPTH as usize, BLANK)?;
+        Ok(Engine {
+            schema,
+            scratch,
+            links,
+        })
     }
 
     /// What `verify` answers.
@@ -116,19 +146,7 @@ impl<'s, 'n> Engine<'s, 'n> {
         let limits = limits_of(rt, question);
         assert!(rt; self.schema.is_table(question.root));
         assert!(rt; limits.depth() <= self.scratch.depth());
-        let start = if question.prefixed {
-            Start::Prefixed
-        } else {
-            Start::Bare
-        };
-        let ident = match question.ident {
-            Some(name) => Ident::Want(name),
-            None => Ident::Any,
-        };
-        let checks = Checks {
-            alignment: question.alignment,
-            inline_size: question.inline_size,
-        };
+        let (start, ident, checks) = asked(question);
         verify(
             meter,
             self.schema,
@@ -141,9 +159,61 @@ impl<'s, 'n> Engine<'s, 'n> {
         )
     }
 
-    /// Asserts that the engine and the naive checker agree in every number, and that the reads are no more than was
-    /// said in advance, and no more than the budget and 7; where the tree is too large for the naive checker, these two
-    /// alone. Answers what the engine does.
+    /// What `verify_and_locate` answers of a buffer to which `verify` said no.
+    fn located(&mut self, rt: &impl Abort, question: &Question<'_, '_>, bytes: &[u8]) -> Located {
+        let meter = Meter::new(bytes).ok().expect(rt, "a short buffer");
+        let limits = limits_of(rt, question);
+        assert!(rt; self.schema.is_table(question.root));
+        assert!(rt; limits.depth() <= self.scratch.depth());
+        assert!(rt; limits.depth() as usize <= self.links.len());
+        let (start, ident, checks) = asked(question);
+        verify_and_locate(
+            meter,
+            self.schema,
+            question.root,
+            start,
+            ident,
+            limits,
+            checks,
+            &mut self.scratch,
+            &mut self.links,
+        )
+        .err()
+        .expect(rt, "a no again")
+    }
+
+    /// Asserts that the engine finds this fault again, by the naive checker's way, and that what is told of its place
+    /// is a path that resolves, or a dot.
+    fn locates(
+        &mut self,
+        rt: &impl Abort,
+        alloc: Global,
+        question: &Question<'_, '_>,
+        bytes: &[u8],
+        fault: Fault,
+        way: &[Step],
+    ) -> Result<(), AllocError> {
+        let located = self.located(rt, question, bytes);
+        assert_eq!(rt; located.fault, fault, "{bytes:?}");
+        let links = self.links.get(..located.links as usize).unwrap_or(&[]);
+        let same = links
+            .iter()
+            .map(|link| step_of(*link))
+            .eq(way.iter().copied());
+        assert!(rt; same, "{links:?} {way:?} {bytes:?}");
+        let mut text = Vec::new(alloc);
+        put_location(&mut text, self.schema, &fault, links)?;
+        let path = path_of(&text);
+        assert!(rt; self.schema.is_table(question.root));
+        let resolves = Path::resolve(alloc, self.schema, question.root, path).is_ok();
+        assert_eq!(rt; resolves, !links.is_empty(), "{text:?}");
+        assert!(rt; resolves || path == b".".as_slice(), "{text:?}");
+        Ok(())
+    }
+
+    /// Asserts that the engine and the naive checker agree in every number and in the way to a fault, and that the
+    /// reads are no more than was said in advance, and no more than the budget and 7; where the tree is too large for
+    /// the naive checker, these two alone. Answers what the engine does.
     pub fn agrees<'b>(
         &mut self,
         rt: &impl Abort,
@@ -153,9 +223,12 @@ impl<'s, 'n> Engine<'s, 'n> {
     ) -> Result<Result<Verified<'b, 's, 'n>, Fault>, AllocError> {
         let answer = self.verified(rt, question, bytes);
         let of_engine = answered(&answer);
-        let naive = verdict(alloc, question, bytes)?;
-        if naive != Verdict::TooLarge {
-            assert_same(rt, question, bytes, of_engine, naive);
+        let naive = check(alloc, question, bytes)?;
+        if naive.verdict != Verdict::TooLarge {
+            assert_same(rt, question, bytes, of_engine, naive.verdict);
+            if let Err(fault) = answer {
+                self.locates(rt, alloc, question, bytes, fault, &naive.way)?;
+            }
         }
         let reads = reads_of(of_engine);
         let most = most_reads(self.schema, limits_of(rt, question), bytes.len() as u64);
@@ -166,6 +239,31 @@ impl<'s, 'n> Engine<'s, 'n> {
         }
         Ok(answer)
     }
+}
+
+/// How a buffer begins by a question, and what is checked of it.
+fn asked(question: &Question<'_, '_>) -> (Start, Ident, Checks) {
+    let start = if question.prefixed {
+        Start::Prefixed
+    } else {
+        Start::Bare
+    };
+    let ident = match question.ident {
+        Some(name) => Ident::Want(name),
+        None => Ident::Any,
+    };
+    let checks = Checks {
+        alignment: question.alignment,
+        inline_size: question.inline_size,
+    };
+    (start, ident, checks)
+}
+
+/// The path in what is told of a place: what stands between `in ` and the brackets.
+fn path_of(text: &[u8]) -> &[u8] {
+    let rest = text.strip_prefix(b"in ").unwrap_or(&[]);
+    let end = rest.iter().position(|byte| *byte == b' ').unwrap_or(0);
+    rest.get(..end).unwrap_or(&[])
 }
 
 /// The limits that a question has.
