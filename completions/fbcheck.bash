@@ -11,7 +11,7 @@ _fbcheck() {
     --root | --ident | --path | --max-depth | --max-tables | --max-reads | --max-bytes) ;;
     *)
         mapfile -t COMPREPLY < <(compgen -W "--schema --root --ident --path --max-depth --max-tables --max-reads \
-            --max-bytes --bare --no-alignment --inline-size --quiet --filter --summary --help --version" -- "$word")
+            --max-bytes --bare --no-alignment --inline-size --quiet --filter --summary --names --help --version" -- "$word")
         ;;
     esac
 }

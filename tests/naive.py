@@ -51,6 +51,7 @@ class Schema:
     """The rows, by number."""
 
     def __init__(self, objects, enums=()):
+        self.names = [row[0] for row in objects]
         self.tables = [None if number_at(row, 2) else live_fields(row) for row in objects]
         self.structs = [(number_at(row, 4), number_at(row, 3)) if number_at(row, 2) else None for row in objects]
         self.unions = [
@@ -79,6 +80,8 @@ class Walk:
         self.alignment, self.inline_size = alignment, inline_size
         self.reads = self.tables = self.open = self.deepest = 0
         self.where = root, None
+        # what is under check, step by step from the root table
+        self.steps = []
 
     def fits(self, at, size, place):
         if at < 0 or at + size > len(self.data):
@@ -107,6 +110,12 @@ class Walk:
             field = "-" if field is None else field
             return f"bad {code} {NAMES[code]} at={at} object={owner} field={field} reads={self.reads}"
         return f"ok tables={self.tables} depth={self.deepest} reads={self.reads}"
+
+    def place(self):
+        """What stands behind the line of a buffer whose verdict was a no, with --names."""
+        owner, number = self.where
+        names = [field.name for field in self.schema.tables[owner] if (field.slot - 4) // 2 == number]
+        return f" in {'.'.join(self.steps) or '.'} [{'.'.join([self.schema.names[owner], *names])}]"
 
     def start(self, ident, base):
         if base:
@@ -138,7 +147,9 @@ class Walk:
         self.passed(at)
         for field in self.schema.tables[number]:
             self.where = number, (field.slot - 4) // 2
+            self.steps.append(field.name)
             self.field(at, vtable, size, inline, field)
+            self.steps.pop()
         self.where = before
         self.open -= 1
 
@@ -180,6 +191,8 @@ class Walk:
             self.vector(self.offset(place), at, field, types)
         else:
             self.passed(at)
+            if field.base == UNION:
+                self.steps[-1] += f"@{member.name}"
             self.value(place, member if field.base == UNION else field)
 
     def types_of(self, at, vtable, field, is_unions):
@@ -238,11 +251,13 @@ class Walk:
         elif field.element == TEXT or field.element == OBJECT and not self.schema.structs[field.index]:
             kind = kind_of(field.element, field.index)
             for number in range(count):
+                self.steps[-1] = f"{field.name}[{number}]"
                 self.value(at + 4 + 4 * number, kind)
 
     def unions(self, at, count, field, types):
         for number in range(count):
             member = self.schema.unions[field.index].get(self.read("B", types + 4 + number))
+            self.steps[-1] = f"{field.name}[{number}]" + (f"@{member.name}" if member else "")
             if member:
                 self.value(at + 4 + 4 * number, member)
             else:

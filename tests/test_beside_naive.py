@@ -9,7 +9,7 @@ import struct
 import outside
 import schemas
 from naive import Reader, Schema, Walk
-from outside import Plain, buffer, file_of, prefixed, run
+from outside import Plain, Ran, buffer, file_of, prefixed, run
 from schemas import (
     BOOL, BYTE, DOUBLE, INT, LONG, SHORT, TEXT, U_BYTE, U_TYPE, a_struct, a_union, an_object, field, schema, table,
     union, vector,
@@ -79,14 +79,31 @@ def told_alike(cases, name, by, schema_and_root, given, options):
     options = {"tables": 500, **options}
     ran = run(*by, *words_of(options), given=b"".join(map(prefixed, given)))
     ident = options.pop("ident", None)
-    wants = [Walk(*schema_and_root, prefixed(data), **options).verdict(ident) for data in given]
+    walks = [Walk(*schema_and_root, prefixed(data), **options) for data in given]
+    wants = [walk.verdict(ident) for walk in walks]
     got = ran.out.decode().splitlines()
     cases.same(f"{name}: a line for each of {len(given)} buffers", (len(got), ran.err), (len(given), b""))
     differing = [(line, want) for line, want in zip(got, wants) if line.partition(" ")[2] != want]
     cases.same(f"{name}: lines that differ, with what is expected", differing[:5], [])
     cases.same(f"{name}: their number", len(differing), 0)
-    sorted_out(cases, name, by, given, options if ident is None else {**options, "ident": ident}, wants)
+    options = options if ident is None else {**options, "ident": ident}
+    sorted_out(cases, name, by, given, options, wants)
+    named(cases, name, by, given, options, [
+        want + (walk.place() if want.startswith("bad") else "") for walk, want in zip(walks, wants)
+    ])
     return wants
+
+
+def named(cases, name, by, given, options, wants):
+    """The same stream with the places in words: each bad line ends with the way that the walk went."""
+    ran = run(*by, "--names", *words_of(options), given=b"".join(map(prefixed, given)))
+    got = [line.partition(" ")[2] for line in ran.out.decode().splitlines()]
+    differing = [pair for pair in zip(got, wants) if pair[0] != pair[1]]
+    cases.same(f"{name}: lines with places that differ, with what is expected", differing[:5], [])
+    cases.same(f"{name}: as many lines with places", len(got), len(wants))
+    paths = {want.partition(" in ")[2].partition(" ")[0] for want in wants if want.startswith("bad")} - {"."}
+    refused = [path for path in sorted(paths) if run(*by, "--path", path, given=b"") != Ran(0, b"", b"")]
+    cases.same(f"{name}: of {len(paths)} places, those that are no path", refused, [])
 
 
 def sorted_out(cases, name, by, given, options, wants):

@@ -5,18 +5,18 @@ use Rattle.std.specs.Borrow.{Bor}
 use Rattle.std.proofs.KnownBytes.{Keeps-refl}
 use Rattle.fb_verify.specs.declared.start.Start.{Start}
 use Rattle.fb_verify.specs.declared.start.Start.TheVariants as start
-use Rattle.fbcheck.specs.Job.{Job}
-use Rattle.fbcheck.specs.Texts.{Texts}
-use Rattle.fbcheck.specs.Bare.{FailsBare}
-use Rattle.fbcheck.specs.Stream.{Rests}
-use Rattle.fbcheck.specs.Run.{IsRunBeside, IsRunFrom}
-use Rattle.fbcheck.specs.Sums.{no_tally}
-use Rattle.fbcheck.specs.Faults.{IsCaused}
+use Rattle.fb_run.specs.Job.{Job}
+use Rattle.fb_run.specs.Texts.{Texts}
+use Rattle.fb_run.specs.Bare.{FailsBare}
+use Rattle.fb_run.specs.Stream.{Rests}
+use Rattle.fb_run.specs.Run.{IsRunBeside, IsRunFrom}
+use Rattle.fb_run.specs.Sums.{no_tally}
+use Rattle.fb_run.specs.Faults.{IsCaused}
 use Rattle.fbcheck.specs.Checking.{Asks, IsCheckedBeside, IsRefusal, LacksJob}
 use Rattle.fbcheck.specs.declared.choices.Settings.{Settings}
-use Rattle.fbcheck.specs.declared.fault.RunFault.{RunFault}
-use Rattle.fbcheck.specs.declared.fault.RunFault.TheVariants as run
-use Rattle.fbcheck.specs.declared.tally.Tally.{Tally}
+use Rattle.fb_run.specs.declared.fault.RunFault.{RunFault}
+use Rattle.fb_run.specs.declared.fault.RunFault.TheVariants as run
+use Rattle.fb_run.specs.declared.tally.Tally.{Tally}
 
 -- a run never comes to rest for want of a schema, a root or a path
 refused_bare : (job : Job) (limit : ℕ) (r r' s s' n n' : Option (List ℕ)) (t : Tally) (fault : RunFault) → IsRefusal fault → FailsBare job limit r r' s s' n n' t fault → ⊥

@@ -9,12 +9,12 @@ use Rattle.fb_bfbs.proofs.OneLoad.{one_answer as one_load}
 use Rattle.fb_bfbs.specs.declared.load_fault.LoadFault.{LoadFault}
 use Rattle.fb_bfbs.specs.declared.load_fault.LoadFault.TheVariants as load
 use Rattle.fb_bfbs.specs.LoadLaws.{Applies}
-use Rattle.fbcheck.specs.Job.{Job, job_of}
+use Rattle.fb_run.specs.Job.{Job, job_of}
 use Rattle.fbcheck.specs.Asked.{AsksBy, IsAsked, IsPath, IsPathFault, HasPathFault, asked_root, options_of}
 use Rattle.fbcheck.specs.Checking.{Asks, IsSchema, IsNoSchema, schema_limits}
 use Rattle.fbcheck.specs.declared.choices.Settings.{Settings}
-use Rattle.fbcheck.specs.declared.fault.RunFault.{RunFault}
-use Rattle.fbcheck.specs.declared.fault.RunFault.TheVariants.{Load, Path, NoRoot}
+use Rattle.fb_run.specs.declared.fault.RunFault.{RunFault}
+use Rattle.fb_run.specs.declared.fault.RunFault.TheVariants.{Load, Path, NoRoot}
 
 module _ (rows : Rows) (root : ℕ) where
   one_path : (text : Option (List ℕ)) (x y : Option (List Step)) → IsPath rows root text x → IsPath rows root text y → x ≡ y

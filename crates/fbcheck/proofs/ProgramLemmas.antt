@@ -72,13 +72,13 @@ abbrev Holds : Option Text → ValueParser → Type 0
 Holds found q = (ignore_case : Bool) × (t : Text) × (found ≡ Some (read_as (reading_of q) t)) × Accepts ignore_case q t
 
 -- the option at place k of the program, of which the rule has this parser and a default
-holds_value : (c : Command) (m : ArgMatches) → app_of c ≡ program → IsParsedFrom c m → (k : ℕ) (q : ValueParser) (name default : Text) → k < 14
+holds_value : (c : Command) (m : ArgMatches) → app_of c ≡ program → IsParsedFrom c m → (k : ℕ) (q : ValueParser) (name default : Text) → k < 15
     → ((d : Rule) → slice_index_or program.top.rules k d ≡ value_rule name q default) → is_id_of name k program.top.rules ≡ true
     → (name ≡ [] → ⊥) → (name ≡ codes "help" → ⊥) → (name ≡ codes "version" → ⊥)
     → Holds (one_text (found_of m) name) q
 holds_value c m is p k q name default lt at alone named help version =
     let rules : map rule_of (args_of c) ≡ program.top.rules = ap (λ (a : App). a.top.rules) is in
-    let long : length (args_of c) ≡ 14 = sym (length-map (args_of c) rule_of) ∙ ap length rules in
+    let long : length (args_of c) ≡ 15 = sym (length-map (args_of c) rule_of) ∙ ap length rules in
     let low : k < length (args_of c) = omega arith in
     let d = some_arg (args_of c) (omega arith) in
     let a = slice_index_or (args_of c) k d in
@@ -104,7 +104,7 @@ holds_value c m is p k q name default lt at alone named help version =
     (a.ignore_case, read.0, subst (λ (t : Text). one_text (found_of m) t ≡ Some (read_as (reading_of q) read.0)) id read.1, read.2)
 
 -- the option at place k of the program, of which the rule is that of a number
-pub holds_number : (c : Command) (m : ArgMatches) → app_of c ≡ program → IsParsedFrom c m → (k least most : ℕ) (name default : Text) → k < 14
+pub holds_number : (c : Command) (m : ArgMatches) → app_of c ≡ program → IsParsedFrom c m → (k least most : ℕ) (name default : Text) → k < 15
     → ((d : Rule) → slice_index_or program.top.rules k d ≡ number_rule name least most default) → is_id_of name k program.top.rules ≡ true
     → (name ≡ [] → ⊥) → (name ≡ codes "help" → ⊥) → (name ≡ codes "version" → ⊥)
     → HoldsNumber (one_text (found_of m) name) least most
@@ -113,7 +113,7 @@ holds_number c m is p k least most name default lt at alone named help version =
     (held.1, held.2, held.3)
 
 -- the same of any number
-pub holds_wide_number : (c : Command) (m : ArgMatches) → app_of c ≡ program → IsParsedFrom c m → (k : ℕ) (name default : Text) → k < 14
+pub holds_wide_number : (c : Command) (m : ArgMatches) → app_of c ≡ program → IsParsedFrom c m → (k : ℕ) (name default : Text) → k < 15
     → ((d : Rule) → slice_index_or program.top.rules k d ≡ wide_number_rule name default) → is_id_of name k program.top.rules ≡ true
     → (name ≡ [] → ⊥) → (name ≡ codes "help" → ⊥) → (name ≡ codes "version" → ⊥)
     → HoldsWideNumber (one_text (found_of m) name)

@@ -13,15 +13,15 @@ use Rattle.fb_bytes.specs.declared.stream_fault.StreamFault.TheVariants as strea
 use Rattle.fbcheck.specs.CommandLine.{program}
 use Rattle.fbcheck.specs.Refusal.{Refuses}
 use Rattle.fbcheck.specs.Checking.{IsCheckedBeside}
-use Rattle.fbcheck.specs.Sums.{summary_line}
+use Rattle.fb_run.specs.Sums.{summary_line}
 use Rattle.fbcheck.specs.Serving.{AreGiven, ChecksAsGiven, ComesBy, ComesTo, EndsSo, HoldsAsGiven, IsFile, IsPromptAsGiven, SumsUp, Unserved, lent_bytes, summed, unsummed, words_of}
 use Rattle.fbcheck.specs.Values.{IsGiven, IsNumberOf, text_of}
 use Rattle.fbcheck.specs.declared.choices.Settings.{Settings}
 use Rattle.fbcheck.specs.declared.choices.SettingsFault.{SettingsFault}
-use Rattle.fbcheck.specs.declared.fault.RunFault.{RunFault}
-use Rattle.fbcheck.specs.declared.fault.RunFault.TheVariants as run
+use Rattle.fb_run.specs.declared.fault.RunFault.{RunFault}
+use Rattle.fb_run.specs.declared.fault.RunFault.TheVariants as run
 use Rattle.fbcheck.specs.declared.files.FileFault.{FileFault}
-use Rattle.fbcheck.specs.declared.tally.Tally.{Tally}
+use Rattle.fb_run.specs.declared.tally.Tally.{Tally}
 use Rattle.fbcheck.specs.declared.stop.Ending.{Ending}
 use Rattle.fbcheck.specs.declared.stop.Ending.TheVariants.{Helped, Checked}
 use Rattle.fbcheck.specs.declared.stop.Stop.{Stop}
@@ -39,8 +39,8 @@ pub are_given : (given : List Text) (s : Settings) → fault_of program given �
     → IsNumberOf (codes "max-reads") 0 18446744073709551615 given s.reads → IsNumberOf (codes "max-bytes") 8 2147483647 given s.max_bytes
     → IsTrue s.bare ↔ IsGiven (codes "bare") given → (s.alignment ≡ false) ↔ IsGiven (codes "no-alignment") given → IsTrue s.inline_size ↔ IsGiven (codes "inline-size") given
     → IsTrue s.filter ↔ IsGiven (codes "filter") given → (IsTrue s.filter → s.path ≡ None) → IsTrue s.quiet ↔ IsGiven (codes "quiet") given
-    → IsTrue s.summary ↔ IsGiven (codes "summary") given → AreGiven given s
-are_given given s read schema root ident path depth tables reads bytes bare alignment inline_size filter apart quiet summary = record {
+    → IsTrue s.summary ↔ IsGiven (codes "summary") given → IsTrue s.names ↔ IsGiven (codes "names") given → AreGiven given s
+are_given given s read schema root ident path depth tables reads bytes bare alignment inline_size filter apart quiet summary names = record {
   read = read;
   schema = schema;
   root = root;
@@ -57,6 +57,7 @@ are_given given s read schema root ident path depth tables reads bytes bare alig
   apart = apart;
   quiet = quiet;
   summary = summary;
+  names = names;
 }
 
 -- what holds of a fault holds of the one that an answer has

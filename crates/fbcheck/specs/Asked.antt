@@ -6,13 +6,15 @@ use Rattle.fb_access.specs.declared.path_fault.PathFault.{PathFault}
 use Rattle.fb_access.specs.Resolving.{Resolves, IsFault}
 use Rattle.fb_verify.specs.declared.start.Ident.{Ident}
 use Rattle.fb_verify.specs.declared.start.Ident.TheVariants.{Any, Want}
-use Rattle.fbcheck.specs.Job.{Job, job_of}
+use Rattle.fb_run.specs.Job.{Job, job_of}
 use Rattle.fbcheck.specs.declared.choices.Settings.{Settings}
-use Rattle.fbcheck.specs.declared.options.Mode.{Mode}
-use Rattle.fbcheck.specs.declared.options.Mode.TheVariants.{Lines, BadLines, Filter}
-use Rattle.fbcheck.specs.declared.options.Options.{Options}
-use Rattle.fbcheck.specs.declared.fault.RunFault.{RunFault}
-use Rattle.fbcheck.specs.declared.fault.RunFault.TheVariants.{Path, NoRoot, OutOfMemory}
+use Rattle.fb_run.specs.declared.options.Mode.{Mode}
+use Rattle.fb_run.specs.declared.options.Mode.TheVariants.{Lines, BadLines, Filter}
+use Rattle.fb_run.specs.declared.options.Places.{Places}
+use Rattle.fb_run.specs.declared.options.Places.TheVariants.{Numbers, Words}
+use Rattle.fb_run.specs.declared.options.Options.{Options}
+use Rattle.fb_run.specs.declared.fault.RunFault.{RunFault}
+use Rattle.fb_run.specs.declared.fault.RunFault.TheVariants.{Path, NoRoot, OutOfMemory}
 
 -- the root table: the listed one of the name that is asked for, or else the schema's own
 abbrev pub root_of : Rows → Option (List ℕ) → Option ℕ → Option ℕ
@@ -45,6 +47,11 @@ mode_of true quiet = Filter
 mode_of false true = BadLines
 mode_of false false = Lines
 
+-- how the places of faults are told, by whether words are asked for
+abbrev pub places_of : Bool → Places
+places_of true = Words
+places_of false = Numbers
+
 -- what the settings ask of each buffer, from this root and with these steps to the value
 abbrev pub options_of : Settings → ℕ → Option (List Step) → Options
 options_of settings root steps = record {
@@ -57,6 +64,7 @@ options_of settings root steps = record {
   alignment = settings.alignment;
   inline_size = settings.inline_size;
   mode = mode_of settings.filter settings.quiet;
+  names = places_of settings.names;
 }
 
 -- the buffers are checked from the root and with the path that the settings ask for

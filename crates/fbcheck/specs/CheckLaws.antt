@@ -1,10 +1,10 @@
 -- The law of what a schema file and the settings ask.
 use Rattle.std.specs.Prelude.{◌≡◌, ℕ, List, Option, Result}
 use Rattle.std.specs.Borrow.{Bor}
-use Rattle.fbcheck.specs.Job.{Job}
+use Rattle.fb_run.specs.Job.{Job}
 use Rattle.fbcheck.specs.Checking.{Asks}
 use Rattle.fbcheck.specs.declared.choices.Settings.{Settings}
-use Rattle.fbcheck.specs.declared.fault.RunFault.{RunFault}
+use Rattle.fb_run.specs.declared.fault.RunFault.{RunFault}
 
 -- a schema file and the settings ask at most one thing
 abbrev pub AsksOnce : Type 0

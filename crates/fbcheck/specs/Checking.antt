@@ -10,14 +10,14 @@ use Rattle.fb_bfbs.specs.declared.loading.Loaded.{Loaded}
 use Rattle.fb_bfbs.specs.declared.load_fault.LoadFault.{LoadFault}
 use Rattle.fb_bfbs.specs.declared.load_fault.LoadFault.TheVariants as load
 use Rattle.fbcheck.specs.Asked.{AsksBy}
-use Rattle.fbcheck.specs.Job.{Job}
-use Rattle.fbcheck.specs.Prompt.{IsPrompt}
-use Rattle.fbcheck.specs.Run.{IsRunBeside}
-use Rattle.fbcheck.specs.Sums.{no_tally}
+use Rattle.fb_run.specs.Job.{Job}
+use Rattle.fb_run.specs.Prompt.{IsPrompt}
+use Rattle.fb_run.specs.Run.{IsRunBeside}
+use Rattle.fb_run.specs.Sums.{no_tally}
 use Rattle.fbcheck.specs.declared.choices.Settings.{Settings}
-use Rattle.fbcheck.specs.declared.fault.RunFault.{RunFault}
-use Rattle.fbcheck.specs.declared.fault.RunFault.TheVariants.{Load, NoRoot, OutOfMemory, Path}
-use Rattle.fbcheck.specs.declared.tally.Tally.{Tally}
+use Rattle.fb_run.specs.declared.fault.RunFault.{RunFault}
+use Rattle.fb_run.specs.declared.fault.RunFault.TheVariants.{Load, NoRoot, OutOfMemory, Path}
+use Rattle.fb_run.specs.declared.tally.Tally.{Tally}
 
 -- the limits by which schema files are verified: the published ones, with a budget of reads
 abbrev pub schema_limits : Bounds

@@ -58,4 +58,4 @@ abbrev pub switches : App
 switches = with_rule (with_rule (with_rule numbers (flag_rule (codes "bare"))) (flag_rule (codes "no-alignment"))) (flag_rule (codes "inline-size"))
 
 abbrev pub program : App
-program = with_rule (with_rule (with_rule switches (flag_rule (codes "quiet"))) (flag_rule (codes "filter"))) (flag_rule (codes "summary"))
+program = with_rule (with_rule (with_rule (with_rule switches (flag_rule (codes "quiet"))) (flag_rule (codes "filter"))) (flag_rule (codes "summary"))) (flag_rule (codes "names"))

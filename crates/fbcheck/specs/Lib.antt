@@ -1,16 +1,4 @@
 -- What public contracts say, in reading order.
-pub mod Job
-pub mod AnswerText
-pub mod Texts
-pub mod Line
-pub mod Sums
-pub mod Lines
-pub mod LineTests
-pub mod Stream
-pub mod Bare
-pub mod Run
-pub mod Prompt
-pub mod Faults
 pub mod CommandLine
 pub mod Values
 pub mod Refusal
@@ -18,4 +6,3 @@ pub mod Asked
 pub mod Checking
 pub mod Serving
 pub mod CheckLaws
-pub mod FilterLaws

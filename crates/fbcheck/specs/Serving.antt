@@ -6,19 +6,19 @@ use Rattle.clap.specs.Walk.{Text}
 use Rattle.clap.specs.Faults.{fault_of}
 use Rattle.fbcheck.specs.Checking.{IsCheckedBeside, IsPromptAsAsked, IsRefusal}
 use Rattle.fbcheck.specs.CommandLine.{program}
-use Rattle.fbcheck.specs.Faults.{EndsBeside, fault_status, status_of}
-use Rattle.fbcheck.specs.Lines.{WritesFront}
+use Rattle.fb_run.specs.Faults.{EndsBeside, fault_status, status_of}
+use Rattle.fb_run.specs.Lines.{WritesFront}
 use Rattle.fbcheck.specs.Refusal.{Refuses, refusal_status}
-use Rattle.fbcheck.specs.Sums.{summary_line}
+use Rattle.fb_run.specs.Sums.{summary_line}
 use Rattle.fbcheck.specs.Values.{IsGiven, IsNumberOf, text_of}
 use Rattle.fbcheck.specs.declared.choices.Settings.{Settings}
 use Rattle.fbcheck.specs.declared.choices.SettingsFault.{SettingsFault}
 use Rattle.fbcheck.specs.declared.choices.SettingsFault.TheVariants as refusal
-use Rattle.fbcheck.specs.declared.fault.RunFault.{RunFault}
-use Rattle.fbcheck.specs.declared.fault.RunFault.TheVariants as run
+use Rattle.fb_run.specs.declared.fault.RunFault.{RunFault}
+use Rattle.fb_run.specs.declared.fault.RunFault.TheVariants as run
 use Rattle.fbcheck.specs.declared.files.FileFault.{FileFault}
 use Rattle.fbcheck.specs.declared.files.FileFault.TheVariants as file_fault
-use Rattle.fbcheck.specs.declared.tally.Tally.{Tally}
+use Rattle.fb_run.specs.declared.tally.Tally.{Tally}
 use Rattle.fbcheck.specs.declared.stop.Ending.{Ending}
 use Rattle.fbcheck.specs.declared.stop.Ending.TheVariants.{Helped, Checked}
 use Rattle.fbcheck.specs.declared.stop.Stop.{Stop}
@@ -44,6 +44,7 @@ pub record AreGiven (given : List Text) (settings : Settings) : Type 0 where
   pub apart : IsTrue settings.filter → settings.path ≡ None
   pub quiet : IsTrue settings.quiet ↔ IsGiven (codes "quiet") given
   pub summary : IsTrue settings.summary ↔ IsGiven (codes "summary") given
+  pub names : IsTrue settings.names ↔ IsGiven (codes "names") given
 
 -- the words as texts, where they could be read
 abbrev pub words_of : {A B : Type 0} → Result (Vec (String A) B) WordsFault → Result (List Text) WordsFault

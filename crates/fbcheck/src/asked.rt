@@ -4,13 +4,12 @@ ghost use Rattle.std.specs.Prelude.{IfOk, IfErr, IfSome, IsTrue, Ok, ◌≡◌, 
 ghost use Rattle.fb_schema.specs.Rows.{is_table};
 ghost use Rattle.fbcheck.specs.Asked.{AreInRange, IsPath, PathFails, ident_of, options_of, root_of};
 ghost use Rattle.fbcheck.specs.Checking.{Asks, IsSchema, LacksJob, LacksSchema, schema_limits};
-ghost use Rattle.fbcheck.specs.Job.{PathFits, Serves, job_of};
+ghost use Rattle.fb_run.specs.Job.{PathFits, Serves, job_of};
 
 use crate::choices::Settings;
-use crate::fault::RunFault;
-use crate::options::Options;
 use fb_access::Path;
 use fb_bfbs::{Loaded, load, reflection};
+use fb_run::{Options, RunFault};
 use fb_schema::Schema;
 use fb_verify::{Ident, Limits};
 use std::alloc::Global;
@@ -101,6 +100,7 @@ fn options(settings: &Settings, root: u32, path: Option<Path>) -> Options
         alignment: settings.alignment,
         inline_size: settings.inline_size,
         mode: settings.mode(),
+        names: settings.places(),
     }
 }
 

@@ -3,17 +3,12 @@
 ghost use Rattle.std.specs.Prelude.{IfErr, ◌≡◌, ◌+◌, ◌-◌, ◌<◌, ◌≤◌, ◌^◌, ℕ, List, Option, None};
 ghost use Rattle.fbcheck.specs.Asked.{AreInRange};
 ghost use Rattle.fbcheck.specs.Checking.{IsChecked, IsCheckedBeside, IsPromptAsAsked, IsRefusal};
-ghost use Rattle.fbcheck.specs.Faults.{EndsBeside, EndsBy};
+ghost use Rattle.fb_run.specs.Faults.{EndsBeside, EndsBy};
 
 use crate::asked::asked_of;
 use crate::choices::Settings;
-use crate::fault::RunFault;
-use crate::input::Input;
-use crate::reading::MOST_TURNS;
-use crate::run::run_beside;
-use crate::tally::Tally;
-use crate::writing::Nowhere;
 use fb_bytes::Sink;
+use fb_run::{Input, MOST_TURNS, Nowhere, RunFault, Tally, run_beside};
 use std::alloc::Global;
 
 /// Checks the buffers of an input by the schema of a schema file (`.bfbs`), as the settings ask; without a file they
@@ -27,7 +22,7 @@ use std::alloc::Global;
 ///
 /// `Load` where the schema file gives no schema, then `NoRoot` where there is no root table, then `Path` where the path
 /// isn't one from there; all before anything is read of the input, and `OutOfMemory` in place of any where memory was
-/// refused. Then as [`run_beside`](crate::run::run_beside), with at most 2^32 reads.
+/// refused. Then as [`run_beside`](fb_run::run_beside), with at most 2^32 reads.
 pub fn check_beside<S: Input<K, N>, K: Sink, N: Sink>(
     alloc: Global,
     schema_bytes: Option<&[u8]>,

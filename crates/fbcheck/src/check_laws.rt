@@ -1,28 +1,11 @@
-//! What follows from the definitions of what is checked and told alone. These functions have no body: their contracts
-//! are the theorems.
+//! What follows from the definitions of what is asked alone. These functions have no body: their contracts are the
+//! theorems.
 
 ghost use Rattle.fbcheck.specs.CheckLaws.{AsksOnce};
-ghost use Rattle.fbcheck.specs.FilterLaws.{PassesAgain};
-ghost use Rattle.fbcheck.specs.LineTests.{Lines, Values, Texts};
 
 /// A schema file, or none, and the settings ask at most one thing: that the buffers are checked by one job, or that
 /// nothing is checked, for one cause: the file gives no schema, there is no root table, or the path isn't one from
 /// there. So [`check`](crate::check::check) tells each of these exactly where it is so, or want of memory in its place.
 pub fn settings_ask_once()
     ensures { AsksOnce }
-{}
-
-/// The lines of some verdicts, and how values of each kind are written, texts at the bounds of what is escaped.
-#[tactic(auto, using(crate::proofs::Shown::lines_shown, crate::proofs::Shown::values_shown, crate::proofs::Shown::texts_shown))]
-pub fn lines_by_example()
-    ensures lines { Lines }
-    ensures values { Values }
-    ensures texts { Texts }
-{}
-
-/// What a filter passes on of a stream is itself a stream of whole messages: it ends with one. A filter that checks it
-/// the same way passes all of it on and notes nothing. So what reads behind a filter reads a stream of which each
-/// message has a yes.
-pub fn passed_on_passes_again()
-    ensures { PassesAgain }
 {}

@@ -1,11 +1,11 @@
 //! What the command line may ask for.
 
 ghost use Rattle.std.specs.Prelude.{◌≡◌};
-ghost use Rattle.fbcheck.specs.Asked.{mode_of};
+ghost use Rattle.fbcheck.specs.Asked.{mode_of, places_of};
 ghost use Rattle.fbcheck.specs.Refusal.{refusal_status};
 
-use crate::options::Mode;
 use clap::Error;
+use fb_run::{Mode, Places};
 use thiserror::Error as DeriveError;
 
 /// What the words of the command line ask for.
@@ -40,9 +40,22 @@ pub struct Settings {
     pub filter: bool,
     /// Whether the notes get a line of what the run came to (`--summary`).
     pub summary: bool,
+    /// Whether lines of bad buffers end with the place in words (`--names`).
+    pub names: bool,
 }
 
 impl Settings {
+    /// How the places of faults are told.
+    pub fn places(&self) -> Places
+        ensures { result ≡ places_of self.now.names }
+    {
+        if self.names {
+            Places::Words
+        } else {
+            Places::Numbers
+        }
+    }
+
     /// What is told of the buffers.
     pub fn mode(&self) -> Mode
         ensures { result ≡ mode_of self.now.filter self.now.quiet }

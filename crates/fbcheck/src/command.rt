@@ -165,5 +165,10 @@ pub(crate) fn command<'a>(alloc: Global) -> Result<Command<'a>, AllocError>
             alloc,
             "summary",
             "Write a line of what was counted to standard error at the end",
+        ))?
+        .arg(flag_arg(
+            alloc,
+            "names",
+            "End lines of bad buffers with the place in words",
         ))
 }

@@ -10,31 +10,14 @@
 ghost use Rattle.std.specs.Prelude.{⊤};
 
 mod asked;
-mod bare;
 mod check;
 mod check_laws;
-mod checker;
 mod choices;
 mod command;
-mod counter;
-mod fault;
 mod files;
-mod front;
-mod input;
-mod line;
-mod long_end;
-mod options;
-mod output;
-mod reading;
-mod run;
 mod serve;
 mod stop;
-mod stream;
-mod summary;
-mod tally;
-mod value_text;
 mod words;
-mod writing;
 
 use fb_bytes::Counted;
 use files::{FileFault, Files};

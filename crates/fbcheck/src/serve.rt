@@ -5,15 +5,11 @@ ghost use Rattle.fbcheck.specs.Serving.{ComesTo, EndsSo, IsPromptAsGiven, IsServ
 
 use crate::check::check_beside;
 use crate::choices::SettingsFault;
-use crate::fault::RunFault;
 use crate::files::{Files, read_schema};
-use crate::input::Input;
-use crate::reading::MOST_TURNS;
 use crate::stop::{Ending, Stop, WordsFault, exit_status, sum_up, tell};
-use crate::tally::Tally;
 use crate::words::settings;
-use crate::writing::push_all;
 use fb_bytes::Sink;
+use fb_run::{Input, MOST_TURNS, RunFault, Tally, push_all};
 use std::alloc::Global;
 
 /// Does what the words ask, the program's name first, and answers the exit status: reads the schema file that they

@@ -6,13 +6,11 @@ ghost use Rattle.fbcheck.specs.declared.choices.SettingsFault.TheVariants as ref
 ghost use Rattle.fbcheck.specs.declared.stop.Stop.TheVariants as stop;
 
 use crate::choices::SettingsFault;
-use crate::fault::{RunFault, status};
 use crate::files::FileFault;
-use crate::summary::summary;
-use crate::tally::Tally;
-use crate::writing::push_all;
 use arrayvec::ArrayString;
 use fb_bytes::Sink;
+use fb_run::summary::summary;
+use fb_run::{RunFault, Tally, push_all, status};
 use std::alloc::AllocError;
 use std::fmt::Write;
 use std::io;

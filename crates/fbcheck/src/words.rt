@@ -41,6 +41,7 @@ pub fn settings(alloc: Global, words: &[String]) -> Result<Settings, SettingsFau
     ensures filter { IfOk result (λ s. IsTrue s.filter ↔ IsGiven (codes "filter") (map string_bytes words.now)) }
     ensures apart { IfOk result (λ s. IsTrue s.filter → s.path ≡ None) }
     ensures summary { IfOk result (λ s. IsTrue s.summary ↔ IsGiven (codes "summary") (map string_bytes words.now)) }
+    ensures names { IfOk result (λ s. IsTrue s.names ↔ IsGiven (codes "names") (map string_bytes words.now)) }
     ensures quiet { IfOk result (λ s. IsTrue s.quiet ↔ IsGiven (codes "quiet") (map string_bytes words.now)) }
 {
     let Ok(command) = command(alloc) else {
@@ -77,6 +78,7 @@ pub fn settings(alloc: Global, words: &[String]) -> Result<Settings, SettingsFau
     let quiet = flag(&matches, "quiet");
     let filter = flag(&matches, "filter");
     let summary = flag(&matches, "summary");
+    let names = flag(&matches, "names");
     if filter && path.is_some() {
         return Err(SettingsFault::PathInFilter);
     }
@@ -95,6 +97,7 @@ pub fn settings(alloc: Global, words: &[String]) -> Result<Settings, SettingsFau
         quiet,
         filter,
         summary,
+        names,
     })
 }
 

@@ -5,7 +5,7 @@ use Rattle.clap.specs.Walk.{Text}
 use Rattle.fbcheck.specs.Serving.{ComesTo, IsFileFault, words_of}
 use Rattle.fbcheck.specs.declared.stop.Ending.{Ending}
 use Rattle.fbcheck.specs.declared.stop.Stop.{Stop}
-use Rattle.fbcheck.proofs.RunLemmas.{err_exit}
+use Rattle.fb_run.proofs.RunLemmas.{err_exit}
 use Rattle.fbcheck.proofs.ServingLemmas.{are_given, checks_given, comes_read, comes_unserved, holds_given, kept, of_fault, prompt_read}
 use Rattle.fbcheck.proofs.serve.come_to.Goals as goal
 
@@ -33,7 +33,7 @@ returns-in-Ok-answer-clause-comes g c =
     let set = c.in-Ok-settings.ensures in
     comes_read _ c.args.words c.in-Ok.words c.as_slice.result.now _ _ _ _ _ _ _ _ c.in-Ok.is c.as_slice.ensures.value
     (checks_given _ _ c.in-Ok-settings.settings c.as_deref.result _ _ _ _ _ _ _ c.check_beside-answer.new.so_far _ _ _ c.in-Ok-answer.is
-    (are_given _ _ set.read set.schema set.root set.ident set.path set.depth set.tables set.reads set.bytes set.bare set.alignment set.inline_size set.filter set.apart set.quiet set.summary)
+    (are_given _ _ set.read set.schema set.root set.ident set.path set.depth set.tables set.reads set.bytes set.bare set.alignment set.inline_size set.filter set.apart set.quiet set.summary set.names)
     c.as_deref.ensures.value c.in_ok-file.ensures.bytes c.check_beside-answer.ensures.run c.summed.ensures)
 
 pub returns-clause-comes : goal.returns-clause-comes
@@ -41,7 +41,7 @@ returns-clause-comes g c =
     let set = c.in-Ok-settings.ensures in
     comes_read _ c.args.words c.in-Ok.words c.as_slice.result.now _ _ _ _ _ _ _ _ c.in-Ok.is c.as_slice.ensures.value (
       (checks_given _ _ c.in-Ok-settings.settings c.as_deref.result _ _ _ _ _ _ _ c.check_beside-answer.new.so_far _ _ _ c.in-Err-answer.is
-          (are_given _ _ set.read set.schema set.root set.ident set.path set.depth set.tables set.reads set.bytes set.bare set.alignment set.inline_size set.filter set.apart set.quiet set.summary)
+          (are_given _ _ set.read set.schema set.root set.ident set.path set.depth set.tables set.reads set.bytes set.bare set.alignment set.inline_size set.filter set.apart set.quiet set.summary set.names)
           c.as_deref.ensures.value c.in_ok-file.ensures.bytes c.check_beside-answer.ensures.run c.summed.ensures),
       λ refusal. (
         kept g.S.Input.remaining _ _ (of_fault _ _ _ c.in-Err-answer.is c.check_beside-answer.ensures.unread refusal),
@@ -56,5 +56,5 @@ check_beside-answer-requires-clause-leave g c source sink note prompt =
     c.requires.leave source sink note
     (prompt_read _ c.args.words c.in-Ok.words c.as_slice.result.now _ _ _ _ _ _ c.in-Ok.is c.as_slice.ensures.value
     (holds_given _ _ c.in-Ok-settings.settings c.as_deref.result _ _
-    (are_given _ _ set.read set.schema set.root set.ident set.path set.depth set.tables set.reads set.bytes set.bare set.alignment set.inline_size set.filter set.apart set.quiet set.summary)
+    (are_given _ _ set.read set.schema set.root set.ident set.path set.depth set.tables set.reads set.bytes set.bare set.alignment set.inline_size set.filter set.apart set.quiet set.summary set.names)
     c.as_deref.ensures.value c.in_ok-file.ensures.bytes prompt))

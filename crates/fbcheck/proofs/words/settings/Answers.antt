@@ -73,6 +73,10 @@ pub returns-clause-summary : goal.returns-clause-summary
 returns-clause-summary c = subst (λ (o : Option Text). IsTrue c.flag-summary.result ↔ (o ≡ Some (codes "true")))
     (text_of_words _ _ _ (codes "summary") c.in-Ok.ensures.app c.in-Ok-try_get_matches_from.ensures.matches) c.flag-summary.ensures
 
+pub returns-clause-names : goal.returns-clause-names
+returns-clause-names c = subst (λ (o : Option Text). IsTrue c.flag-names.result ↔ (o ≡ Some (codes "true")))
+    (text_of_words _ _ _ (codes "names") c.in-Ok.ensures.app c.in-Ok-try_get_matches_from.ensures.matches) c.flag-names.ensures
+
 pub returns-clause-quiet : goal.returns-clause-quiet
 returns-clause-quiet c = subst (λ (o : Option Text). IsTrue c.flag-quiet.result ↔ (o ≡ Some (codes "true")))
     (text_of_words _ _ _ (codes "quiet") c.in-Ok.ensures.app c.in-Ok-try_get_matches_from.ensures.matches) c.flag-quiet.ensures

@@ -1,0 +1,107 @@
+-- What comes behind what waits, and of which a front is written.
+use Rattle.std.proofs.Common.{◌≡◌, ℕ, ◌+◌, ◌<◌, List, [], ◌∷◌, ◌++◌, Option, length, take, drop, get_or, refl, sym, ap, subst, ◌∙◌, arith, append-nil, append_assoc, length-append, take-append-drop}
+use Rattle.std.proofs.Math.Seq.{take-append-add}
+use Rattle.std.proofs.lemmas.Grind.{flat_map-append}
+use Rattle.std.proofs.lemmas.List.{take-append-le, take_more}
+use Rattle.std.specs.List.{flat_map}
+use Rattle.std.specs.Io.KnownBytes.{Appends}
+use Rattle.std.proofs.KnownBytes.{Appends-nil, Appends-trans}
+use Rattle.fb_run.specs.Lines.{ComesBehind, WritesFront, WritesFronts}
+use Rattle.fb_run.specs.Texts.{Texts, followed, to_out}
+use Rattle.fb_run.specs.declared.fault.RunFault.{RunFault}
+use Rattle.fb_run.specs.declared.fault.RunFault.TheVariants as run
+
+-- nothing came
+pub behind_none : (w : List ℕ) (s : Option (List ℕ)) (b : ℕ) → ComesBehind w [] w s s b b
+behind_none w s b = record { front = []; whole = append-nil w; wrote = Appends-nil s; written_is = omega arith }
+
+-- what came waits
+pub behind_waits : (w a w' : List ℕ) (s : Option (List ℕ)) (b b' : ℕ) → w' ≡ w ++ a → b' ≡ b → ComesBehind w a w' s s b b'
+behind_waits w a w' s b b' is same = record { front = []; whole = sym is; wrote = Appends-nil s; written_is = omega (arith, same) }
+
+-- nothing waited, and what came was written
+pub behind_written : (w a w' : List ℕ) (s s' : Option (List ℕ)) (b b' : ℕ) → w ≡ [] → w' ≡ [] → Appends s s' a → b' ≡ b + length a → ComesBehind w a w' s s' b b'
+behind_written w a w' s s' b b' none none' wrote count = record {
+  front = a;
+  whole = ap (λ l. l ++ a) none ∙ sym (append-nil a) ∙ ap (λ l. a ++ l) (sym none');
+  wrote = wrote;
+  written_is = count;
+}
+
+-- what waited was written
+pub behind_flushed : (w w0 w' : List ℕ) (s s' : Option (List ℕ)) (b b' : ℕ) → w0 ≡ w → w' ≡ [] → Appends s s' w0 → b' ≡ b + length w0 → ComesBehind w [] w' s s' b b'
+behind_flushed w w0 w' s s' b b' same none wrote count = record {
+  front = w0;
+  whole = ap (λ l. l ++ []) (sym same) ∙ ap (λ l. w0 ++ l) (sym none);
+  wrote = wrote;
+  written_is = count;
+}
+
+-- two texts
+pub behind_more : (w a w' c w'' : List ℕ) (s s' s'' : Option (List ℕ)) (b b' b'' : ℕ) → ComesBehind w a w' s s' b b' → ComesBehind w' c w'' s' s'' b' b''
+    → ComesBehind w (a ++ c) w'' s s'' b b''
+behind_more w a w' c w'' s s' s'' b b' b'' first second = record {
+  front = first.front ++ second.front;
+  whole =
+      sym (append_assoc w a c) ∙ ap (λ l. l ++ c) first.whole ∙ append_assoc first.front w' c ∙ ap (λ l. first.front ++ l) second.whole
+      ∙ sym (append_assoc first.front second.front w'');
+  wrote = Appends-trans s s' s'' first.front second.front first.wrote second.wrote;
+  written_is = omega (arith, first.written_is, second.written_is, length-append first.front second.front);
+}
+
+-- a write came to rest in the second of two texts
+pub front_behind : (w a w' c : List ℕ) (s s' s'' : Option (List ℕ)) (b b' n : ℕ) → ComesBehind w a w' s s' b b' → WritesFront (w' ++ c) s' s'' b' n
+    → WritesFront (w ++ (a ++ c)) s s'' b n
+front_behind w a w' c s s' s'' b b' n first second =
+    let whole : w ++ (a ++ c) ≡ first.front ++ (w' ++ c) = sym (append_assoc w a c) ∙ ap (λ l. l ++ c) first.whole ∙ append_assoc first.front w' c in
+    record {
+      taken = length first.front + second.taken;
+      within = omega (arith, second.within, ap length whole, length-append first.front (w' ++ c));
+      wrote = subst (Appends s s'')
+          (sym (ap (take (length first.front + second.taken)) whole ∙ take-append-add first.front (w' ++ c) second.taken))
+          (Appends-trans s s' s'' first.front (take second.taken (w' ++ c)) first.wrote second.wrote);
+      written_is = omega (arith, second.written_is, first.written_is);
+    }
+
+-- or in the first
+pub front_more : (w a c : List ℕ) (s s' : Option (List ℕ)) (b n : ℕ) → WritesFront (w ++ a) s s' b n → WritesFront (w ++ (a ++ c)) s s' b n
+front_more w a c s s' b n front =
+    let whole = append_assoc w a c in
+    record {
+      taken = front.taken;
+      within = omega (arith, front.within, ap length whole, length-append (w ++ a) c);
+      wrote = subst (Appends s s') (sym (ap (take front.taken) (sym whole) ∙ take-append-le front.taken (w ++ a) c front.within)) front.wrote;
+      written_is = front.written_is;
+    }
+
+module _ (f : ℕ → List ℕ) (bytes : List ℕ) (i : ℕ) (inside : i < length bytes) where
+  one_more : flat_map f (take (i + 1) bytes) ≡ flat_map f (take i bytes) ++ f (get_or bytes i 0)
+  one_more =
+      ap (flat_map f) (take_more bytes i 0 inside) ∙ flat_map-append f (take i bytes) (get_or bytes i 0 ∷ [])
+      ∙ ap (λ l. flat_map f (take i bytes) ++ l) (append-nil (f (get_or bytes i 0)))
+
+  -- the next of many came behind the first ones
+  pub each_more : (w w' w'' x : List ℕ) (s s' s'' : Option (List ℕ)) (b b' b'' : ℕ) → x ≡ f (get_or bytes i 0)
+      → ComesBehind w (flat_map f (take i bytes)) w' s s' b b' → ComesBehind w' x w'' s' s'' b' b'' → ComesBehind w (flat_map f (take (i + 1) bytes)) w'' s s'' b b''
+  each_more w w' w'' x s s' s'' b b' b'' is first second =
+      subst (λ l. ComesBehind w l w'' s s'' b b'') (ap (λ l. flat_map f (take i bytes) ++ l) is ∙ sym one_more)
+      (behind_more w (flat_map f (take i bytes)) w' x w'' s s' s'' b b' b'' first second)
+
+  -- a write came to rest in it
+  pub each_fails : (w w' x : List ℕ) (s s' s'' : Option (List ℕ)) (b b' n : ℕ) → x ≡ f (get_or bytes i 0)
+      → ComesBehind w (flat_map f (take i bytes)) w' s s' b b' → WritesFront (w' ++ x) s' s'' b' n → WritesFront (w ++ flat_map f bytes) s s'' b n
+  each_fails w w' x s s' s'' b b' n is first second =
+      let rest = flat_map f (drop (i + 1) bytes) in
+      let front = front_more w (flat_map f (take i bytes) ++ x) rest s s'' b n (front_behind w (flat_map f (take i bytes)) w' x s s' s'' b b' n first second) in
+      let all : (flat_map f (take i bytes) ++ x) ++ rest ≡ flat_map f bytes =
+      ap (λ l. l ++ rest) (ap (λ l. flat_map f (take i bytes) ++ l) is ∙ sym one_more) ∙ sym (flat_map-append f (take (i + 1) bytes) (drop (i + 1) bytes))
+      ∙ ap (flat_map f) (take-append-drop (i + 1) bytes) in
+      subst (λ l. WritesFront (w ++ l) s s'' b n) all front
+
+-- a write that came to rest behind a front came to rest within the whole
+pub fronts_behind : (front : List ℕ) (text : Texts) (s s' s'' n n' : Option (List ℕ)) (b b' noted : ℕ) (fault : RunFault) → Appends s s' front → b' ≡ b + length front
+    → WritesFronts text s' s'' n n' b' noted fault → WritesFronts (followed (to_out front) text) s s'' n n' b noted fault
+fronts_behind front text s s' s'' n n' b b' noted (run.WriteFault written) wrote count (within, keeps) =
+    (front_behind [] front [] text.out s s' s'' b b' written (behind_written [] front [] s s' b b' refl refl wrote count) within, keeps)
+fronts_behind front text s s' s'' n n' b b' noted (run.NoteFault written) wrote count (more, within) = (Appends-trans s s' s'' front text.out wrote more, within)
+fronts_behind front text s s' s'' n n' b b' noted _ wrote count never = absurd never

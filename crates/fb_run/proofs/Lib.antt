@@ -1,0 +1,16 @@
+pub mod AnswerLemmas
+pub mod PlaceLemmas
+pub mod BareLemmas
+pub mod BehindLemmas
+pub mod FilterLemmas
+pub mod FrontLemmas
+pub mod LineLemmas
+pub mod LinesLemmas
+pub mod LongLemmas
+pub mod Pieces
+pub mod RunLemmas
+pub mod Shown
+pub mod StreamLemmas
+pub mod SumsLemmas
+pub mod TextsLemmas
+pub mod ThroughLemmas

@@ -1,0 +1,179 @@
+-- A run over a stream: what was read and written, and then one piece more.
+use Rattle.std.proofs.Common.{◌≡◌, ℕ, ◌+◌, Bool, true, false, List, [], ◌++◌, Option, length, take, drop, refl, sym, ap, subst, ◌∙◌, arith, append-nil, append_assoc, length-append, length-take-le, take-append-drop, Result, Ok, Err, IsErrAnd}
+use Rattle.std.specs.Io.KnownBytes.{Consumes, Appends}
+use Rattle.std.proofs.KnownBytes.{Consumes-nil, Consumes-trans, Appends-kept, Appends-nil, Appends-trans}
+use Rattle.fb_schema.specs.Rows.{Rows}
+use Rattle.fb_verify.specs.declared.start.Start.{Start}
+use Rattle.fb_bytes.specs.declared.stream_fault.StreamFault.TheVariants as stream
+use Rattle.fb_run.specs.Faults.{IsCaused}
+use Rattle.fb_run.specs.Job.{Job, job_of, start_of}
+use Rattle.fb_run.specs.Sums.{no_tally}
+use Rattle.fb_run.specs.Prompt.{IsBarePrompt, IsPrompt, IsPromptFrom, IsStreamPrompt}
+use Rattle.fb_run.specs.Run.{IsBareRun, IsRunBeside, IsRunFrom, IsStreamRun}
+use Rattle.fb_run.specs.Lines.{WritesFronts}
+use Rattle.fb_run.specs.Texts.{Texts, followed, silent, to_notes}
+use Rattle.fb_run.specs.Stream.{FailsStream, Gathers, Halts, Onward, Standing, Tells, TellsSome}
+use Rattle.fb_run.specs.declared.fault.RunFault.{RunFault}
+use Rattle.fb_run.specs.declared.fault.RunFault.TheVariants as run
+use Rattle.fb_run.specs.declared.options.Options.{Options}
+use Rattle.fb_run.specs.declared.tally.Tally.{Tally}
+use Rattle.fb_run.proofs.StreamLemmas.{rests_memory, tells_nothing}
+use Rattle.fb_run.proofs.TextsLemmas.{followed_silent, same_texts}
+
+-- what was read from the reader, written to the writer and noted so far, where nothing waits
+abbrev pub Sofar : Job → Option (List ℕ) → Option (List ℕ) → Option (List ℕ) → Option (List ℕ) → Option (List ℕ) → Option (List ℕ) → Standing → ℕ → ℕ → Type 0
+Sofar job r r' s s' n n' stand count noted =
+    (bytes : List ℕ) × (text : Texts) × Consumes r r' bytes × Appends s s' text.out × Appends n n' text.notes
+    × (count ≡ length text.out) × (noted ≡ length text.notes) × Tells job job.limit bytes text stand.tally stand.held
+
+-- nothing was told
+pub sofar_nothing : (job : Job) (stand : Standing) (count noted : ℕ) (r s n : Option (List ℕ)) → stand ≡ record { text = silent; tally = no_tally; held = [] } → count ≡ 0 → noted ≡ 0
+    → Sofar job r r s s n n stand count noted
+sofar_nothing job stand count noted r s n is c0 n0 =
+    subst (λ (m : ℕ). Sofar job r r s s n n stand count m) (sym n0)
+    (subst (λ (m : ℕ). Sofar job r r s s n n stand m 0) (sym c0)
+    (subst (λ (t : Standing). Sofar job r r s s n n t 0 0) (sym is) ([], silent, Consumes-nil r, Appends-nil s, Appends-nil n, refl, refl, tells_nothing job job.limit)))
+
+pub fails_empty : (job : Job) (limit : ℕ) (r s n : Option (List ℕ)) → FailsStream job limit r r s s n n no_tally run.OutOfMemory
+fails_empty job limit r s n = record {
+  bytes = [];
+  text = silent;
+  read = Consumes-nil r;
+  wrote = Appends-nil s;
+  noted = Appends-nil n;
+  rests = rests_memory job limit no_tally [] [] [] silent (tells_nothing job limit);
+}
+
+-- with nothing that waits, what was told is all that was written
+told_empty : (job : Job) (stand : Standing) (bytes : List ℕ) (text : Texts) → stand.text ≡ silent → Tells job job.limit bytes text stand.tally stand.held
+    → Tells job job.limit bytes (followed text stand.text) stand.tally stand.held
+told_empty job stand bytes text none tells =
+    subst (λ (t : Texts). Tells job job.limit bytes t stand.tally stand.held) (sym (ap (λ t. followed text t) none ∙ followed_silent text)) tells
+
+-- a piece was read and fed, and what is told of it was written
+pub sofar_more : (job : Job) (before between after : Standing) (count count' noted noted' k : ℕ) (piece slice : List ℕ) (r r' r'' s s' s'' n n' n'' : Option (List ℕ))
+    → slice ≡ piece → before.text ≡ silent → count' ≡ count + length between.text.out → noted' ≡ noted + length between.text.notes
+    → after.tally ≡ between.tally → after.held ≡ between.held
+    → Sofar job r r' s s' n n' before count noted → Consumes r' r'' (take k piece) → Onward job before (take k slice) between
+    → Appends s' s'' between.text.out → Appends n' n'' between.text.notes → Sofar job r r'' s s'' n n'' after count' noted'
+sofar_more job before between after count count' noted noted' k piece slice r r' r'' s s' s'' n n' n'' all none counts notes counted hs (bytes, text, read, wrote, told, long, broad, tells) second onward more further =
+    let onward' = subst (λ (l : List ℕ). Onward job before (take k l) between) all onward in (
+      bytes ++ take k piece,
+      followed text between.text,
+      Consumes-trans r r' r'' bytes (take k piece) read second,
+      Appends-trans s s' s'' text.out between.text.out wrote more,
+      Appends-trans n n' n'' text.notes between.text.notes told further,
+      omega (arith, length-append text.out between.text.out),
+      omega (arith, length-append text.notes between.text.notes),
+      subst (λ (t : Tally). Tells job job.limit (bytes ++ take k piece) (followed text between.text) t after.held) (sym counted)
+          (subst (λ (l : List ℕ). Tells job job.limit (bytes ++ take k piece) (followed text between.text) between.tally l) (sym hs)
+          (onward' bytes text (told_empty job before bytes text none tells))),
+    )
+
+-- the run came to rest in the piece, and what waited was written
+pub fails_used : (job : Job) (before : Standing) (count noted k : ℕ) (piece slice : List ℕ) (waits : Texts) (tally : Tally) (r r' r'' s s' s'' n n' n'' : Option (List ℕ)) (fault : RunFault)
+    → slice ≡ piece → before.text ≡ silent → Sofar job r r' s s' n n' before count noted → Consumes r' r'' (take k piece) → Halts job before (take k slice) waits tally fault
+    → Appends s' s'' waits.out → Appends n' n'' waits.notes → FailsStream job job.limit r r'' s s'' n n'' tally fault
+fails_used job before count noted k piece slice waits tally r r' r'' s s' s'' n n' n'' fault all none (bytes, text, read, wrote, told, long, broad, tells) second halts more further =
+    let halts' = subst (λ (l : List ℕ). Halts job before (take k l) waits tally fault) all halts in record {
+      bytes = bytes ++ take k piece;
+      text = followed text waits;
+      read = Consumes-trans r r' r'' bytes (take k piece) read second;
+      wrote = Appends-trans s s' s'' text.out waits.out wrote more;
+      noted = Appends-trans n n' n'' text.notes waits.notes told further;
+      rests = halts' bytes text (told_empty job before bytes text none tells);
+    }
+
+-- what was counted is the same
+pub fails_counted : (job : Job) (limit : ℕ) (r r' s s' n n' : Option (List ℕ)) (told tally : Tally) (fault : RunFault) → told ≡ tally
+    → FailsStream job limit r r' s s' n n' tally fault → FailsStream job limit r r' s s' n n' told fault
+fails_counted job limit r r' s s' n n' told tally fault is fails = subst (λ (t : Tally). FailsStream job limit r r' s s' n n' t fault) (sym is) fails
+
+-- a text with the front of more behind it, and then the rest
+front_of : (text more : List ℕ) (taken : ℕ) → text ++ more ≡ (text ++ take taken more) ++ drop taken more
+front_of text more taken = ap (λ l. text ++ l) (sym (take-append-drop taken more)) ∙ sym (append_assoc text (take taken more) (drop taken more))
+
+-- the writer or the notes failed at what waited
+pub fails_write : (job : Job) (before : Standing) (count count' noted noted' k : ℕ) (piece slice : List ℕ) (waits : Texts) (tally : Tally) (r r' r'' s s' s'' n n' n'' : Option (List ℕ)) (fault : RunFault)
+    → slice ≡ piece → before.text ≡ silent → count' ≡ count → noted' ≡ noted → Sofar job r r' s s' n n' before count noted → Consumes r' r'' (take k piece)
+    → Gathers job before (take k slice) waits tally → WritesFronts waits s' s'' n' n'' count' noted' fault → FailsStream job job.limit r r'' s s'' n n'' tally fault
+fails_write job before count count' noted noted' k piece slice waits tally r r' r'' s s' s'' n n' n'' (run.WriteFault written) all none counts notes (bytes, text, read, wrote, told, long, broad, tells) second gathers (front, keeps) =
+    let gathers' = subst (λ (l : List ℕ). Gathers job before (take k l) waits tally) all gathers in
+    let some = gathers' bytes text (told_empty job before bytes text none tells) in
+    let rest : Texts = record { out = drop front.taken waits.out; notes = waits.notes } in
+    let gone : Texts = record { out = text.out ++ take front.taken waits.out; notes = text.notes } in
+    let whole : followed text waits ≡ followed gone rest = same_texts _ _ _ _ (front_of text.out waits.out front.taken) refl in record {
+      bytes = bytes ++ take k piece;
+      text = gone;
+      read = Consumes-trans r r' r'' bytes (take k piece) read second;
+      wrote = Appends-trans s s' s'' text.out (take front.taken waits.out) wrote front.wrote;
+      noted = Appends-kept n n' n'' text.notes told keeps;
+      rests = (
+        some.0,
+        some.1,
+        some.4,
+        (
+          omega (arith, front.written_is, length-append text.out (take front.taken waits.out), length-take-le front.taken waits.out front.within),
+          (rest, subst (λ (t : Texts). TellsSome job job.limit (bytes ++ take k piece) t tally) whole some),
+        ),
+      );
+    }
+fails_write job before count count' noted noted' k piece slice waits tally r r' r'' s s' s'' n n' n'' (run.NoteFault written) all none counts notes (bytes, text, read, wrote, told, long, broad, tells) second gathers (more, front) =
+    let gathers' = subst (λ (l : List ℕ). Gathers job before (take k l) waits tally) all gathers in
+    let some = gathers' bytes text (told_empty job before bytes text none tells) in
+    let rest = drop front.taken waits.notes in
+    let gone : Texts = record { out = text.out ++ waits.out; notes = text.notes ++ take front.taken waits.notes } in
+    let whole : followed text waits ≡ followed gone (to_notes rest) =
+    same_texts _ _ _ _ (sym (append-nil (text.out ++ waits.out))) (front_of text.notes waits.notes front.taken) in record {
+      bytes = bytes ++ take k piece;
+      text = gone;
+      read = Consumes-trans r r' r'' bytes (take k piece) read second;
+      wrote = Appends-trans s s' s'' text.out waits.out wrote more;
+      noted = Appends-trans n n' n'' text.notes (take front.taken waits.notes) told front.wrote;
+      rests = (
+        some.0,
+        some.1,
+        some.4,
+        (
+          omega (arith, front.written_is, length-append text.notes (take front.taken waits.notes), length-take-le front.taken waits.notes front.within),
+          (rest, subst (λ (t : Texts). TellsSome job job.limit (bytes ++ take k piece) t tally) whole some),
+        ),
+      );
+    }
+fails_write job before count count' noted noted' k piece slice waits tally r r' r'' s s' s'' n n' n'' _ all none counts notes sofar second gathers never = absurd never
+
+-- a flush that failed is the cause of its fault, whatever else was counted
+pub caused_flush : (f f' w w' w0 k k' k0 left : ℕ) (ended : Bool) (fault : RunFault) → w ≡ w0 → k ≡ k0
+    → ((x y : ℕ) (z : Bool) → IsCaused x x w w' k k' y z fault) → IsCaused f f' w0 w' k0 k' left ended fault
+caused_flush f f' w w' w0 k k' k0 left ended run.ReadFault sw sk caused = absurd (omega (arith, caused 0 left ended))
+caused_flush f f' w w' w0 k k' k0 left ended (run.WriteFault written) sw sk caused = omega (arith, sw, caused 0 left ended)
+caused_flush f f' w w' w0 k k' k0 left ended (run.NoteFault written) sw sk caused = omega (arith, sk, caused 0 left ended)
+caused_flush f f' w w' w0 k k' k0 left ended run.TooManyTurns sw sk caused = caused 0 left ended
+caused_flush f f' w w' w0 k k' k0 left ended (run.Stream (stream.Truncated held)) sw sk caused = caused 0 left ended
+caused_flush f f' w w' w0 k k' k0 left ended _ sw sk caused = caused 0 left ended
+
+module _ (rows : Rows) (options : Options) (job : Job) (r r' s s' n n' : Option (List ℕ)) where
+  -- what is so by a start and a job is so by those of the options
+  by_options : {b : Bool} (P : Start → Job → Type 0) → options.bare ≡ b → job ≡ job_of rows options → P (start_of b) job → P (start_of options.bare) (job_of rows options)
+  by_options {b} P is same p = subst (λ (x : Bool). P (start_of x) (job_of rows options)) (sym is) (subst (λ (j : Job). P (start_of b) j) same p)
+
+  module _ (so_far : Tally) (answer : Result Tally RunFault) where
+    -- a run over one bare input is the run of options that say so
+    pub runs_bare : options.bare ≡ true → job ≡ job_of rows options → IsBareRun job r r' s s' n n' so_far answer → IsRunBeside (job_of rows options) r r' s s' n n' so_far answer
+    runs_bare = by_options (λ from j. IsRunFrom from j r r' s s' n n' so_far answer)
+
+    -- so is one over a stream
+    pub runs_stream : options.bare ≡ false → job ≡ job_of rows options → IsStreamRun job r r' s s' n n' so_far answer → IsRunBeside (job_of rows options) r r' s s' n n' so_far answer
+    runs_stream = by_options (λ from j. IsRunFrom from j r r' s s' n n' so_far answer)
+
+  -- each is prompt where that run is
+  pub prompt_bare : options.bare ≡ true → job ≡ job_of rows options → IsBarePrompt job r r' s s' n n' → IsPrompt (job_of rows options) r r' s s' n n'
+  prompt_bare = by_options (λ from j. IsPromptFrom from j r r' s s' n n')
+
+  pub prompt_stream : options.bare ≡ false → job ≡ job_of rows options → IsStreamPrompt job r r' s s' n n' → IsPrompt (job_of rows options) r r' s s' n n'
+  prompt_stream = by_options (λ from j. IsPromptFrom from j r r' s s' n n')
+
+-- the exit of a `?`
+pub err_exit : {A E : Type 0} (answer : Result A E) (x : E) (P : Result A E → Type 0) → IsErrAnd answer (λ e. e ≡ x) → P (Err x) → P answer
+err_exit (Ok a) x P h p = absurd h
+err_exit (Err e) x P h p = subst (λ e. P (Err e)) (sym h) p

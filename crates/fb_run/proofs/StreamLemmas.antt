@@ -1,0 +1,199 @@
+-- What was read and told, and then more of the stream.
+use Rattle.std.proofs.Common.{◌≡◌, ℕ, ◌+◌, ◌⊎◌, Bool, List, [], ◌∷◌, ◌++◌, length, take, drop, refl, sym, ap, subst, ◌∙◌, arith, append-nil, append_assoc}
+use mathlib.Core.Logic.{inl, inr}
+use Rattle.std.specs.List.{concat}
+use Rattle.std.proofs.lemmas.List.Elements.{All-nil, All-cons, All-append}
+use Rattle.std.proofs.lemmas.List.Folds.{concat-append}
+use Rattle.fb_bytes.specs.Messages.{declared, IsMessage, IsPartial, IsOversize, Splits}
+use Rattle.fb_bytes.specs.Framing.{Framing, Feeds, FeedFails}
+use Rattle.fb_bytes.specs.declared.stream_fault.StreamFault.{StreamFault}
+use Rattle.fb_bytes.specs.declared.stream_fault.StreamFault.TheVariants as stream
+use Rattle.fb_bytes.proofs.MessageLemmas.{readings_some}
+use Rattle.fb_run.specs.Job.{Job}
+use Rattle.fb_run.specs.Lines.{AreTold, AddsTold}
+use Rattle.fb_run.specs.Stream.{Gathers, Halts, IsFeedFault, Onward, Rests, Standing, Tells, TellsSome}
+use Rattle.fb_run.specs.Texts.{Texts, followed, silent}
+use Rattle.fb_run.specs.Sums.{no_tally}
+use Rattle.fb_run.specs.declared.tally.Tally.{Tally}
+use Rattle.fb_run.specs.Faults.{feed_fault}
+use Rattle.fb_run.specs.declared.fault.RunFault.{RunFault}
+use Rattle.fb_run.specs.declared.fault.RunFault.TheVariants as run
+use Rattle.fb_run.proofs.LinesLemmas.{lines_more}
+use Rattle.fb_run.proofs.Pieces.{front-more}
+use Rattle.fb_run.proofs.TextsLemmas.{followed_assoc, same_texts}
+
+-- the rest with more bytes is split further
+pub splits_then : (limit : ℕ) (bytes more held rest : List ℕ) (xs ys : List (List ℕ))
+    → Splits limit bytes xs held → Splits limit (held ++ more) ys rest → Splits limit (bytes ++ more) (xs ++ ys) rest
+splits_then limit bytes more held rest xs ys first second = record {
+  joined =
+      ap (λ l. l ++ more) first.joined ∙ append_assoc (concat xs) held more ∙ ap (λ l. concat xs ++ l) second.joined
+      ∙ sym (append_assoc (concat xs) (concat ys) rest) ∙ sym (ap (λ l. l ++ rest) (concat-append xs ys));
+  each = All-append (IsMessage limit) xs ys first.each second.each;
+  last = second.last;
+}
+
+-- no message, and a rest
+pub splits_rest : (limit : ℕ) (rest : List ℕ) → IsPartial limit rest ⊎ IsOversize limit rest → Splits limit rest [] rest
+splits_rest limit rest last = record { joined = refl; each = All-nil (IsMessage limit); last = last }
+
+pub empty_partial : (limit : ℕ) → IsPartial limit []
+empty_partial limit = λ four. absurd (omega arith)
+
+-- one message, and nothing behind it
+pub splits_one : (limit : ℕ) (m : List ℕ) → IsMessage limit m → Splits limit m (m ∷ []) []
+splits_one limit m is = record {
+  joined = sym (append-nil (m ++ []) ∙ append-nil m);
+  each = All-cons (IsMessage limit) m [] is (All-nil (IsMessage limit));
+  last = inl (empty_partial limit);
+}
+
+pub tells_nothing : (job : Job) (limit : ℕ) → Tells job limit [] silent no_tally []
+tells_nothing job limit = ([], splits_rest limit [] (inl (empty_partial limit)), (refl, refl))
+
+-- more bytes are held
+tells_held : (job : Job) (limit : ℕ) (tally : Tally) (bytes more held held' : List ℕ) (text : Texts) → held' ≡ held ++ more → IsPartial limit held'
+    → Tells job limit bytes text tally held → Tells job limit (bytes ++ more) text tally held'
+tells_held job limit tally bytes more held held' text is part (xs, splits, lines) =
+    let behind : Splits limit (held ++ more) [] held' = subst (λ (l : List ℕ). Splits limit l [] held') is (splits_rest limit held' (inl part)) in
+    (xs, subst (λ (l : List (List ℕ)). Splits limit (bytes ++ more) l held') (append-nil xs) (splits_then limit bytes more held held' xs [] splits behind), lines)
+
+-- a message was whole and got its line
+pub tells_line : (job : Job) (limit : ℕ) (tally tally' : Tally) (bytes more held message : List ℕ) (text text' : Texts) → message ≡ held ++ more → IsMessage limit message
+    → AddsTold job (1 + (tally.yes + tally.no)) message text tally text' tally' → (written : Texts)
+    → Tells job limit bytes (followed written text) tally held → Tells job limit (bytes ++ more) (followed written text') tally' []
+tells_line job limit tally tally' bytes more held message text text' at is adds written (xs, splits, lines) =
+    let one : Splits limit (held ++ more) (message ∷ []) [] = subst (λ (l : List ℕ). Splits limit l (message ∷ []) []) at (splits_one limit message is) in
+    let whole : text' ≡ followed text adds.line = same_texts _ _ _ _ adds.out_is adds.notes_are in
+    let grown : followed (followed written text) adds.line ≡ followed written text' = followed_assoc written text adds.line ∙ ap (λ l. followed written l) (sym whole) in (
+      xs ++ message ∷ [],
+      splits_then limit bytes more held [] xs (message ∷ []) splits one,
+      subst (λ (l : Texts). AreTold job 1 (xs ++ message ∷ []) l tally') grown
+          (lines_more job xs message (followed written text) adds.line tally tally' adds.verdict adds.tally_is lines adds.is_line),
+    )
+
+-- what was told is that of the first messages, whatever comes
+pub tells_some : (job : Job) (limit : ℕ) (tally : Tally) (bytes more held : List ℕ) (text : Texts) → Tells job limit bytes text tally held → TellsSome job limit (bytes ++ more) text tally
+tells_some job limit tally bytes more held text (xs, splits, lines) =
+    let further = readings_some limit (held ++ more) in
+    (xs ++ further.0, further.1, xs, further.0, splits_then limit bytes more held further.1 xs further.0 splits further.2, refl, lines)
+
+-- no memory was left
+pub rests_memory : (job : Job) (limit : ℕ) (tally : Tally) (bytes more held : List ℕ) (text : Texts) → Tells job limit bytes text tally held → Rests job limit (bytes ++ more) text tally run.OutOfMemory
+rests_memory job limit tally bytes more held text tells =
+    let some = tells_some job limit tally bytes more held text tells in
+    (some.0, some.1, some.4, some)
+
+-- the framer failed at a piece
+pub halts_feed : (job : Job) (before : Standing) (old new : Framing) (piece : List ℕ) (fault : StreamFault) (told : RunFault) → old.limit ≡ job.limit → old.held ≡ before.held
+    → told ≡ feed_fault fault → FeedFails old new piece fault → Halts job before piece before.text before.tally told
+halts_feed job before old new piece (stream.Oversize number) told limit held is refused bytes written (xs, splits, lines) =
+    let over : IsOversize job.limit (before.held ++ piece) =
+    subst (λ (n : ℕ). IsOversize n (before.held ++ piece)) limit (subst (λ (l : List ℕ). IsOversize old.limit (l ++ piece)) held refused.oversize) in
+    let whole : Splits job.limit (bytes ++ piece) xs (before.held ++ piece) =
+    subst (λ (l : List (List ℕ)). Splits job.limit (bytes ++ piece) l (before.held ++ piece)) (append-nil xs)
+    (splits_then job.limit bytes piece before.held (before.held ++ piece) xs [] splits (splits_rest job.limit (before.held ++ piece) (inr over))) in
+    subst (Rests job job.limit (bytes ++ piece) (followed written before.text) before.tally) (sym is)
+    (xs, before.held ++ piece, whole, (over, refused.number ∙ ap (λ l. declared (l ++ piece)) held, lines))
+halts_feed job before old new piece stream.OutOfMemory told limit held is starved bytes written tells =
+    subst (Rests job job.limit (bytes ++ piece) (followed written before.text) before.tally) (sym is)
+    (rests_memory job job.limit before.tally bytes piece before.held (followed written before.text) tells)
+halts_feed job before old new piece (stream.Truncated held) told limit same is never bytes written tells = absurd never
+halts_feed job before old new piece stream.Failed told limit held is never bytes written tells = absurd never
+
+pub feed_kind : (old new : Framing) (piece : List ℕ) (fault : StreamFault) (told : RunFault) → told ≡ feed_fault fault → FeedFails old new piece fault → IsFeedFault told
+feed_kind old new piece (stream.Oversize number) told is refused = subst IsFeedFault (sym is) tt
+feed_kind old new piece stream.OutOfMemory told is starved = subst IsFeedFault (sym is) tt
+feed_kind old new piece (stream.Truncated held) told is never = absurd never
+feed_kind old new piece stream.Failed told is never = absurd never
+
+-- there was no memory for a line
+pub halts_memory : (job : Job) (before : Standing) (piece : List ℕ) (text : Texts) (tally : Tally) → text ≡ before.text → tally ≡ before.tally → Halts job before piece text tally run.OutOfMemory
+halts_memory job before piece text tally same counted bytes written tells =
+    rests_memory job job.limit tally bytes piece before.held (followed written text)
+    (subst (λ (l : Texts). Tells job job.limit bytes (followed written l) tally before.held) (sym same)
+    (subst (λ (t : Tally). Tells job job.limit bytes (followed written before.text) t before.held) (sym counted) tells))
+
+-- the front of a piece was fed, and no message was whole
+pub onward_partial : (job : Job) (before after : Standing) (old new : Framing) (piece : List ℕ) (used : ℕ) (whole : Bool) → old.limit ≡ job.limit → old.held ≡ before.held
+    → Feeds old new piece used whole → IsPartial new.limit new.held → new.held ≡ after.held → after.text ≡ before.text → after.tally ≡ before.tally
+    → Onward job before (take used piece) after
+onward_partial job before after old new piece used whole limit held feeds part is same counted bytes written tells =
+    let grown : after.held ≡ before.held ++ take used piece = sym is ∙ feeds.held ∙ ap (λ l. l ++ take used piece) held in
+    let part' : IsPartial job.limit after.held = subst (IsPartial job.limit) is (subst (λ (n : ℕ). IsPartial n new.held) (feeds.limit ∙ limit) part) in
+    let more = tells_held job job.limit before.tally bytes (take used piece) before.held after.held (followed written before.text) grown part' tells in
+    subst (λ (l : Texts). Tells job job.limit (bytes ++ take used piece) (followed written l) after.tally after.held) (sym same)
+    (subst (λ (t : Tally). Tells job job.limit (bytes ++ take used piece) (followed written before.text) t after.held) (sym counted) more)
+
+-- bytes came by which a message was whole, and it got its line
+pub onward_message : (job : Job) (before after : Standing) (piece message : List ℕ) → message ≡ before.held ++ piece → IsMessage job.limit message → after.held ≡ []
+    → AddsTold job (1 + (before.tally.yes + before.tally.no)) message before.text before.tally after.text after.tally → Onward job before piece after
+onward_message job before after piece message at is gone adds bytes written tells =
+    subst (λ (l : List ℕ). Tells job job.limit (bytes ++ piece) (followed written after.text) after.tally l) (sym gone)
+    (tells_line job job.limit before.tally after.tally bytes piece before.held message before.text after.text at is adds written tells)
+
+-- the framer came to hold it
+pub onward_line : (job : Job) (before after : Standing) (old new : Framing) (piece message : List ℕ) (used : ℕ) (whole : Bool) → old.limit ≡ job.limit → old.held ≡ before.held
+    → Feeds old new piece used whole → message ≡ new.held → IsMessage new.limit new.held → after.held ≡ []
+    → AddsTold job (1 + (before.tally.yes + before.tally.no)) message before.text before.tally after.text after.tally → Onward job before (take used piece) after
+onward_line job before after old new piece message used whole limit held feeds at is gone adds =
+    let is' : IsMessage job.limit message = subst (λ (n : ℕ). IsMessage n message) (feeds.limit ∙ limit) (subst (IsMessage new.limit) (sym at) is) in
+    onward_message job before after (take used piece) message (at ∙ feeds.held ∙ ap (λ l. l ++ take used piece) held) is' gone adds
+
+-- a piece of which the front was passed, and the rest is still to come
+abbrev pub HasPassed : Job → Standing → List ℕ → List ℕ → Standing → Type 0
+HasPassed job before piece rest after = (front : List ℕ) × (piece ≡ front ++ rest) × Onward job before front after
+
+-- at first nothing was
+pub passed_none : (job : Job) (before : Standing) (piece : List ℕ) → HasPassed job before piece piece before
+passed_none job before piece =
+    ([], refl, λ bytes written tells. subst (λ (l : List ℕ). Tells job job.limit l (followed written before.text) before.tally before.held) (sym (append-nil bytes)) tells)
+
+-- n bytes more
+pub passed_more : (job : Job) (before between after : Standing) (n : ℕ) (piece rest rest' : List ℕ) → rest' ≡ drop n rest
+    → HasPassed job before piece rest between → Onward job between (take n rest) after → HasPassed job before piece rest' after
+passed_more job before between after n piece rest rest' is (front, whole, first) second = (
+  front ++ take n rest,
+  front-more piece front rest rest' n whole is,
+  λ bytes written tells. subst (λ (l : List ℕ). Tells job job.limit l (followed written after.text) after.tally after.held) (append_assoc bytes front (take n rest))
+      (second (bytes ++ front) written (first bytes written tells)),
+)
+
+-- all of the piece
+pub onward_all : (job : Job) (before after : Standing) (piece rest : List ℕ) → length rest ≡ 0 → HasPassed job before piece rest after → Onward job before piece after
+onward_all job before after piece [] none (front, whole, onward) = subst (λ (l : List ℕ). Onward job before l after) (sym (whole ∙ append-nil front)) onward
+onward_all job before after piece (x ∷ xs) none passed = absurd (omega arith)
+
+-- and then the run came to rest
+pub halts_after : (job : Job) (before after : Standing) (piece rest : List ℕ) (text : Texts) (tally : Tally) (fault : RunFault) → HasPassed job before piece rest after → Halts job after rest text tally fault
+    → Halts job before piece text tally fault
+halts_after job before after piece rest text tally fault (front, whole, first) second bytes written tells =
+    subst (λ (l : List ℕ). Rests job job.limit l (followed written text) tally fault) (append_assoc bytes front rest ∙ ap (λ l. bytes ++ l) (sym whole))
+    (second (bytes ++ front) written (first bytes written tells))
+
+-- a piece that was fed whole gathers lines
+pub gathers_onward : (job : Job) (before after : Standing) (piece : List ℕ) → Onward job before piece after → Gathers job before piece after.text after.tally
+gathers_onward job before after piece onward bytes written tells =
+    subst (λ (l : List ℕ). TellsSome job job.limit l (followed written after.text) after.tally) (append-nil (bytes ++ piece))
+    (tells_some job job.limit after.tally (bytes ++ piece) [] after.held (followed written after.text) (onward bytes written tells))
+
+some_of : (job : Job) (limit : ℕ) (bytes : List ℕ) (text : Texts) (tally : Tally) (fault : RunFault) → IsFeedFault fault → Rests job limit bytes text tally fault
+    → TellsSome job limit bytes text tally
+some_of job limit bytes text tally (run.Stream (stream.Oversize number)) kind (xs, rest, splits, (over, is, lines)) = (xs, rest, xs, [], splits, sym (append-nil xs), lines)
+some_of job limit bytes text tally run.OutOfMemory kind (xs, rest, splits, some) = some
+some_of job limit bytes text tally (run.Stream (stream.Truncated held)) kind rests = absurd kind
+some_of job limit bytes text tally (run.Stream stream.OutOfMemory) kind rests = absurd kind
+some_of job limit bytes text tally (run.Stream stream.Failed) kind rests = absurd kind
+some_of job limit bytes text tally run.ReadFault kind rests = absurd kind
+some_of job limit bytes text tally run.TooManyTurns kind rests = absurd kind
+some_of job limit bytes text tally (run.WriteFault written) kind rests = absurd kind
+some_of job limit bytes text tally (run.NoteFault written) kind rests = absurd kind
+some_of job limit bytes text tally (run.BareTooLong most) kind rests = absurd kind
+some_of job limit bytes text tally (run.Load fault) kind rests = absurd kind
+some_of job limit bytes text tally (run.Path fault) kind rests = absurd kind
+some_of job limit bytes text tally run.NoRoot kind rests = absurd kind
+
+-- so does one in which the run came to rest
+pub gathers_halts : (job : Job) (before : Standing) (piece : List ℕ) (text : Texts) (tally : Tally) (fault : RunFault) → IsFeedFault fault → Halts job before piece text tally fault
+    → Gathers job before piece text tally
+gathers_halts job before piece text tally fault kind halts bytes written tells = some_of job job.limit (bytes ++ piece) (followed written text) tally fault kind (halts bytes written tells)

@@ -1,0 +1,66 @@
+-- Sums over messages, in any order.
+use Rattle.std.proofs.Common.{All, rules, zero, suc, ◌≡◌, ℕ, ◌+◌, ◌<◌, ◌≤◌, List, [], ◌∷◌, ◌++◌, Ok, Err, length, refl, sym, ap, ◌∙◌, arith, append_assoc}
+use Rattle.std.specs.Prelude.{slice_index}
+use Rattle.std.proofs.lemmas.List.Elements.{All-cons, All-head, All-nil, All-tail}
+use Rattle.fb_run.specs.Job.{Verdict}
+use Rattle.fb_run.specs.Sums.{IsBounded, no_tally, one_more, sum_of_reads, tally_with}
+use Rattle.fb_run.specs.declared.tally.Tally.{Tally}
+
+abbrev numbers : ℕ → ℕ → List ℕ → ℕ → ℕ → ℕ → Tally
+numbers y n reasons bytes tables reads = record { yes = y; no = n; reasons = reasons; bytes = bytes; tables = tables; reads = reads }
+
+same_numbers : (y n : ℕ) (l l' : List ℕ) (b b' t t' r r' : ℕ) → l ≡ l' → b ≡ b' → t ≡ t' → r ≡ r' → numbers y n l b t r ≡ numbers y n l' b' t' r'
+same_numbers y n l l' b b' t t' r r' el eb et er =
+    ap (λ (x : List ℕ). numbers y n x b t r) el ∙ ap (λ (x : ℕ). numbers y n l' x t r) eb ∙ ap (λ (x : ℕ). numbers y n l' b' x r) et ∙ ap (λ (x : ℕ). numbers y n l' b' t' x) er
+
+-- one more here and there
+one_both : (i j : ℕ) (l : List ℕ) → one_more i (one_more j l) ≡ one_more j (one_more i l)
+one_both i j [] = refl
+one_both zero zero (x ∷ l) = refl
+one_both zero (suc j) (x ∷ l) = refl
+one_both (suc i) zero (x ∷ l) = refl
+one_both (suc i) (suc j) (x ∷ l) = ap (λ (t : List ℕ). x ∷ t) (one_both i j l)
+
+reads_both : (a b c : ℕ) → sum_of_reads (sum_of_reads c b) a ≡ sum_of_reads (sum_of_reads c a) b
+reads_both a b c = omega arith
+
+-- it's the same which of two messages is counted first
+pub with_both : (x y : List ℕ) (v w : Verdict) (t : Tally) → tally_with x v (tally_with y w t) ≡ tally_with y w (tally_with x v t)
+with_both x y (Ok f) (Ok g) t = same_numbers _ _ _ _ _ _ _ _ _ _ refl (omega arith) (omega arith) (reads_both _ _ _)
+with_both x y (Ok f) (Err g) t = same_numbers _ _ _ _ _ _ _ _ _ _ refl (omega arith) refl (reads_both _ _ _)
+with_both x y (Err f) (Ok g) t = same_numbers _ _ _ _ _ _ _ _ _ _ refl (omega arith) refl (reads_both _ _ _)
+with_both x y (Err f) (Err g) t = same_numbers _ _ _ _ _ _ _ _ _ _ (one_both _ _ _) (omega arith) refl (reads_both _ _ _)
+
+-- each message has one verdict
+pub counts_one : (m : List ℕ) (v : Verdict) (t : Tally) → (tally_with m v t).yes + (tally_with m v t).no ≡ 1 + (t.yes + t.no)
+counts_one m (Ok found) t = omega arith
+counts_one m (Err bad) t = omega arith
+
+-- nothing is within any bounds
+pub nothing_bounded : IsBounded no_tally
+nothing_bounded = record { places = refl; reasons = search rules; bytes = omega arith; tables = omega arith }
+
+-- every count is at most that of the noes, also with one more here
+no_more : (k : ℕ) (l : List ℕ) → All (λ n. n ≤ k) l → All (λ n. n ≤ k + 1) l
+no_more k [] each = All-nil (λ n. n ≤ k + 1)
+no_more k (x ∷ l) each =
+    let first = All-head (λ n. n ≤ k) x l each in
+    All-cons (λ n. n ≤ k + 1) x l (omega arith) (no_more k l (All-tail (λ n. n ≤ k) x l each))
+
+pub one_no_more : (i k : ℕ) (l : List ℕ) → All (λ n. n ≤ k) l → All (λ n. n ≤ k + 1) (one_more i l)
+one_no_more i k [] each = All-nil (λ n. n ≤ k + 1)
+one_no_more zero k (x ∷ l) each =
+    let first = All-head (λ n. n ≤ k) x l each in
+    All-cons (λ n. n ≤ k + 1) (x + 1) l (omega arith) (no_more k l (All-tail (λ n. n ≤ k) x l each))
+one_no_more (suc i) k (x ∷ l) each =
+    let first = All-head (λ n. n ≤ k) x l each in
+    All-cons (λ n. n ≤ k + 1) x (one_more i l) (omega arith) (one_no_more i k l (All-tail (λ n. n ≤ k) x l each))
+
+pub count_at : (i k : ℕ) (l : List ℕ) → All (λ n. n ≤ k) l → i < length l → slice_index l i ≤ k
+count_at i k [] each under = absurd (omega arith)
+count_at zero k (x ∷ l) each under = All-head (λ n. n ≤ k) x l each
+count_at (suc i) k (x ∷ l) each under = count_at i k l (All-tail (λ n. n ≤ k) x l each) (omega arith)
+
+-- a name and a number stand in front of the rest
+pub in_front : (name number rest : List ℕ) → name ++ (number ++ rest) ≡ (name ++ number) ++ rest
+in_front name number rest = sym (append_assoc name number rest)

@@ -1,0 +1,36 @@
+use Rattle.std.proofs.Common.{rules}
+use Rattle.std.proofs.lemmas.List.{take_rest}
+use Rattle.fb_verify.proofs.Frames.{if_err_exit}
+use Rattle.fb_run.specs.Stream.{Halts, standing}
+use Rattle.fb_run.proofs.StreamLemmas.{gathers_halts, gathers_onward, halts_after, onward_all, passed_more, passed_none}
+use Rattle.fb_run.proofs.stream.Carried.use_up.Goals as goal
+
+pub loop-rest-init : goal.loop-rest-init
+loop-rest-init g c = record { ready = c.requires.ready; passed = passed_none _ _ _; few = search rules; written = search rules; noted = search rules }
+
+pub loop-rest-preserved : goal.loop-rest-preserved
+loop-rest-preserved g c =
+    let before = c.loop-rest.invariant in
+    let some = c.in_ok-used.ensures in
+    record {
+      ready = some.ready;
+      passed = passed_more _ _ _ _ c.in_ok-used.used _ c.loop-rest.rest.now _ (take_rest c.loop-rest.rest.now c.in_ok-used.used) before.passed some.onward;
+      few = search rules;
+      written = search rules;
+      noted = search rules;
+    }
+
+pub returns-in_err-used-clause-halts : goal.returns-in_err-used-clause-halts
+returns-in_err-used-clause-halts g c =
+    if_err_exit c.from_residual.result _ (Halts _ (standing c.args.self.now) _ _ _) c.from_residual.ensures.1
+    (halts_after _ _ _ _ c.loop-rest.rest.now _ _ _ c.loop-rest.invariant.passed c.in_err-used.ensures.halts)
+
+pub returns-in_err-used-clause-gathers : goal.returns-in_err-used-clause-gathers
+returns-in_err-used-clause-gathers g c =
+    gathers_halts _ _ _ _ _ c.in_err-used.field-0.0 c.in_err-used.ensures.kind (halts_after _ _ _ _ c.loop-rest.rest.now _ _ _ c.loop-rest.invariant.passed c.in_err-used.ensures.halts)
+
+pub returns-clause-onward : goal.returns-clause-onward
+returns-clause-onward g c = onward_all _ _ _ _ c.loop-rest.rest.now (search rules) c.loop-rest.invariant.passed
+
+pub returns-clause-gathers : goal.returns-clause-gathers
+returns-clause-gathers g c = gathers_onward _ _ _ _ (onward_all _ _ _ _ c.loop-rest.rest.now (search rules) c.loop-rest.invariant.passed)

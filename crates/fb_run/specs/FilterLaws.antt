@@ -1,0 +1,15 @@
+-- The law of a filter.
+use Rattle.std.specs.Prelude.{◌≡◌, ℕ, List, []}
+use Rattle.fb_bytes.specs.Messages.{Splits}
+use Rattle.fb_run.specs.Job.{Job}
+use Rattle.fb_run.specs.Lines.{AreTold}
+use Rattle.fb_run.specs.Texts.{Texts, to_out}
+use Rattle.fb_run.specs.declared.tally.Tally.{Tally}
+use Rattle.fb_run.specs.declared.options.Mode.TheVariants.{Filter}
+
+-- what a filter passes on of a stream is itself a stream of whole messages, of which it passes all on and notes nothing
+abbrev pub PassesAgain : Type 0
+PassesAgain = (job : Job) (limit : ℕ) (bytes rest : List ℕ) (messages : List (List ℕ)) (text : Texts) (tally : Tally)
+    → job.mode ≡ Filter → Splits limit bytes messages rest → AreTold job 1 messages text tally
+    → (passed : List (List ℕ)) × (good : Tally) × Splits limit text.out passed [] × AreTold job 1 passed (to_out text.out) good
+    × (good.yes ≡ tally.yes) × (good.no ≡ 0)

@@ -1,0 +1,139 @@
+-- What the buffers of a run are checked by, and what a verdict on one of them says.
+use Rattle.std.specs.Prelude.{◌≡◌, ℕ, ◌<◌, ◌≤◌, ◌^◌, IsTrue, Bool, true, false, List, Option, Some, None, Result, Ok, Err, option_map}
+use Rattle.std.specs.Borrow.{Bor}
+use Rattle.fb_schema.specs.Rows.{Rows, is_table}
+use Rattle.fb_verify.specs.Bounds.{Bounds}
+use Rattle.fb_verify.specs.Stops.{Stops}
+use Rattle.fb_verify.specs.Links.{StopsAlong}
+use Rattle.fb_verify.specs.declared.links.Link.{Link}
+use Rattle.fb_verify.specs.Verdict.{Reports}
+use Rattle.fb_verify.specs.Sealed.{Sealed}
+use Rattle.fb_verify.specs.declared.checks.Checks.{Checks}
+use Rattle.fb_verify.specs.declared.fault.Fault.{Fault}
+use Rattle.fb_verify.specs.declared.fault.Report.{Report}
+use Rattle.fb_verify.specs.declared.start.Ident.{Ident}
+use Rattle.fb_verify.specs.declared.start.Start.{Start}
+use Rattle.fb_verify.specs.declared.start.Start.TheVariants.{Bare, Prefixed}
+use Rattle.fb_schema.specs.declared.kinds.Kind.TheVariants.{Table}
+use Rattle.fb_access.specs.declared.step.Step.{Step}
+use Rattle.fb_access.specs.Denotes.{Denotes, Shown, shown}
+use Rattle.fb_access.specs.Fitting.{StepsFit}
+use Rattle.fb_access.specs.Location.{location_text}
+use Rattle.fb_run.specs.declared.checker.Found.{Found}
+use Rattle.fb_run.specs.declared.checker.Wrong.{Wrong}
+use Rattle.fb_run.specs.declared.options.Mode.{Mode}
+use Rattle.fb_run.specs.declared.options.Places.{Places}
+use Rattle.fb_run.specs.declared.options.Places.TheVariants.{Numbers, Words}
+use Rattle.fb_run.specs.declared.options.Options.{Options}
+
+-- a schema with its root, how a buffer starts, the identifier, the limits and the checks, the steps to the value that
+-- is asked for, the most bytes that a message may have, what is told of messages, and how of the places of faults
+pub record Job : Type 0 where
+  pub rows : Rows
+  pub root : ℕ
+  pub start : Start
+  pub ident : Ident
+  pub limits : Bounds
+  pub checks : Checks
+  pub steps : Option (List Step)
+  pub limit : ℕ
+  pub mode : Mode
+  pub names : Places
+
+-- a yes: what was counted, and the value that was asked for
+pub record Yes : Type 0 where
+  pub report : Report
+  pub answer : Option Shown
+
+-- a no: the fault, and where it is in words, if these were asked for
+pub record No : Type 0 where
+  pub fault : Fault
+  pub place : Option (List ℕ)
+
+-- a yes or a no
+abbrev pub Verdict : Type 0
+Verdict = Result Yes No
+
+-- where steps are asked for, the value is the one to which they lead in these bytes; where none are, there is none
+abbrev pub IsAnswer : List ℕ → Rows → Start → ℕ → Option (List Step) → Option Shown → Type 0
+IsAnswer bytes rows start root None None = Unit {0}
+IsAnswer bytes rows start root (Some steps) (Some value) = Denotes bytes rows start root steps value
+IsAnswer bytes rows start root _ _ = ⊥
+
+-- where words are asked for, they tell the place to which links lead, the links of the trail at whose end the fault is;
+-- where none are, there are none
+abbrev pub IsPlace : Job → List ℕ → Fault → Option (List ℕ) → Type 0
+IsPlace job bytes fault None = job.names ≡ Numbers
+IsPlace job bytes fault (Some text) =
+    (job.names ≡ Words) × (links : List Link) × StopsAlong job.checks bytes job.rows job.root job.start job.ident job.limits fault links × (text ≡ location_text job.rows fault links)
+
+-- what a verdict on these bytes says: a yes counts a tree that is well formed and within the limits, and has the value
+-- that is asked for; a no is the one fault that stops, with its place
+abbrev pub IsVerdict : Job → List ℕ → Verdict → Type 0
+IsVerdict job bytes (Ok found) = Reports job.checks bytes job.rows job.root job.start job.ident job.limits found.report × IsAnswer bytes job.rows job.start job.root job.steps found.answer
+IsVerdict job bytes (Err bad) = Stops job.checks bytes job.rows job.root job.start job.ident job.limits bad.fault × IsPlace job bytes bad.fault bad.place
+
+-- a verdict without where the bytes of its value or place lie in memory
+abbrev pub verdict_of : Result Found Wrong → Verdict
+verdict_of (Ok found) = Ok (record { report = found.report; answer = option_map shown found.answer })
+verdict_of (Err wrong) = Err (record { fault = wrong.fault; place = option_map (λ (text : Bor (List ℕ)). text.now) wrong.place })
+
+-- the words of a place, where they are asked for
+abbrev pub place_beside : Places → List ℕ → Option (List ℕ)
+place_beside Numbers text = None
+place_beside Words text = Some text
+
+-- a verdict, where these are the words of a fault's place
+abbrev pub verdict_beside : Job → List ℕ → Result Found Fault → Verdict
+verdict_beside job text (Ok found) = Ok (record { report = found.report; answer = option_map shown found.answer })
+verdict_beside job text (Err fault) = Err (record { fault = fault; place = place_beside job.names text })
+
+-- a buffer that is well formed by a job, or its fault with these words
+abbrev pub IsVerified : Job → List ℕ → List ℕ → Result Sealed Fault → Type 0
+IsVerified job bytes text (Ok v) =
+    Reports job.checks bytes job.rows job.root job.start job.ident job.limits v.report
+    × (v ≡ record { bytes = bytes; schema = job.rows; root = job.root; start = job.start; checks = job.checks; report = v.report })
+IsVerified job bytes text (Err fault) = IsVerdict job bytes (Err (record { fault = fault; place = place_beside job.names text }))
+
+-- whether a buffer begins bare or with its size
+abbrev pub start_of : Bool → Start
+start_of true = Bare
+start_of false = Prefixed
+
+-- what the options of a run ask of each buffer
+abbrev pub job_of : Rows → Options → Job
+job_of rows options = record {
+  rows = rows;
+  root = options.root;
+  start = start_of options.bare;
+  ident = options.ident;
+  limits = options.limits;
+  checks = record { alignment = options.alignment; inline_size = options.inline_size };
+  steps = options.path;
+  limit = options.max_bytes;
+  mode = options.mode;
+  names = options.names;
+}
+
+-- the steps, where there are any, fit from this table on
+abbrev pub PathFits : Rows → ℕ → Option (List Step) → Type 0
+PathFits rows root None = Unit {0}
+PathFits rows root (Some steps) = StepsFit rows (Table root) steps
+
+-- the options serve the schema: the root is a table of it, the path fits from there, and a framer may have the limit
+pub record Serves (rows : Rows) (options : Options) : Type 0 where
+  pub table : IsTrue (is_table rows options.root)
+  pub fits : PathFits rows options.root options.path
+  pub least : 8 ≤ options.max_bytes
+  pub most : options.max_bytes < 2 ^ 31
+
+-- what a checker needs beside a buffer: so many levels for open tables, so many links, and the words of the last place
+pub record Beside : Type 0 where
+  pub levels : ℕ
+  pub links : ℕ
+  pub text : List ℕ
+
+-- the levels suffice for a job, and where it asks for words the links do
+pub record HasRoom (job : Job) (room : Beside) : Type 0 where
+  pub deep : job.limits.depth ≤ room.levels
+  pub long : job.names ≡ Words → job.limits.depth ≤ room.links

@@ -1,0 +1,47 @@
+-- Lines of verdicts by example.
+use Rattle.std.specs.Prelude.{◌≡◌, pos, negsuc, true, false, [], ◌∷◌, codes, Some, None, Ok, Err}
+use Rattle.fb_access.specs.Denotes.{nothing, no_element, other_member, truth, signed, unsigned, float, text, structure, vector, table, union}
+use Rattle.fb_verify.specs.declared.fault.Fault.{Fault}
+use Rattle.fb_verify.specs.declared.fault.Reason.TheVariants.{Misaligned, NoTerminator}
+use Rattle.fb_verify.specs.declared.fault.Report.{Report}
+use Rattle.fb_run.specs.AnswerText.{answer_text}
+use Rattle.fb_run.specs.Line.{verdict_line}
+
+-- three tables, two open at once, ten reads
+abbrev pub counts : Report
+counts = record { tables = 3; depth = 2; reads = 10 }
+
+-- a string without its last byte, in field 6 of a table of object 1
+abbrev pub unended : Fault
+unended = record { at = 314; object = 1; field = Some 6; reads = 63; reason = NoTerminator }
+
+pub record Lines : Type 0 where
+  pub yes : verdict_line 7 (Ok (record { report = counts; answer = None })) ≡ codes "7 ok tables=3 depth=2 reads=10\n"
+  pub value : verdict_line 12 (Ok (record { report = counts; answer = Some (text (codes "Ada")) })) ≡ codes "12 ok tables=3 depth=2 reads=10 \"Ada\"\n"
+  pub no : verdict_line 5 (Err (record { fault = unended; place = None })) ≡ codes "5 bad V10 NoTerminator at=314 object=1 field=6 reads=63\n"
+  pub no_field : verdict_line 100 (Err (record { fault = record unended { field = None; reason = Misaligned }; place = None })) ≡ codes "100 bad V3 Misaligned at=314 object=1 field=- reads=63\n"
+  pub place : verdict_line 5 (Err (record { fault = unended; place = Some (codes "in tags[0] [Parcel.tags]") })) ≡ codes "5 bad V10 NoTerminator at=314 object=1 field=6 reads=63 in tags[0] [Parcel.tags]\n"
+
+pub record Values : Type 0 where
+  pub absent : answer_text nothing ≡ codes "absent"
+  pub past_the_end : answer_text no_element ≡ codes "no-element"
+  pub another_member : answer_text other_member ≡ codes "other-member"
+  pub yes : answer_text (truth true) ≡ codes "true"
+  pub no : answer_text (truth false) ≡ codes "false"
+  pub below_zero : answer_text (signed (negsuc 299)) ≡ codes "-300"
+  pub above_zero : answer_text (signed (pos 40)) ≡ codes "40"
+  pub unsigned_number : answer_text (unsigned 65535) ≡ codes "65535"
+  pub float_bytes : answer_text (float (0 ∷ 0 ∷ 128 ∷ 63 ∷ [])) ≡ codes "float:0000803f"
+  pub struct_bytes : answer_text (structure (1 ∷ 171 ∷ [])) ≡ codes "struct:01ab"
+  pub elements : answer_text (vector 3) ≡ codes "vector:3"
+  pub a_table : answer_text table ≡ codes "table"
+  pub a_union : answer_text (union 2) ≡ codes "union:2"
+
+-- at both ends of printable ASCII, and where a backslash stands before
+pub record Texts : Type 0 where
+  pub empty : answer_text (text []) ≡ codes "\"\""
+  pub below_a_space : answer_text (text (31 ∷ 32 ∷ [])) ≡ codes "\"\\x1f \""
+  pub above_a_tilde : answer_text (text (126 ∷ 127 ∷ [])) ≡ codes "\"~\\x7f\""
+  pub quote : answer_text (text (33 ∷ 34 ∷ 35 ∷ [])) ≡ codes "\"!\\\"#\""
+  pub backslash : answer_text (text (91 ∷ 92 ∷ 93 ∷ [])) ≡ codes "\"[\\\\]\""
+  pub not_ascii : answer_text (text (195 ∷ 169 ∷ 0 ∷ 255 ∷ [])) ≡ codes "\"\\xc3\\xa9\\x00\\xff\""

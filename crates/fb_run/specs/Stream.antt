@@ -1,0 +1,127 @@
+-- What a run over a stream has read and written, and how it ends.
+use Rattle.std.specs.Prelude.{◌≡◌, ℕ, ◌+◌, ◌<◌, ◌^◌, false, List, [], ◌++◌, Option, length}
+use Rattle.std.specs.Io.KnownBytes.{Consumes, Appends, Keeps}
+use Rattle.fb_bytes.specs.Framing.{Framing}
+use Rattle.fb_bytes.specs.Messages.{declared, IsPartial, IsOversize, Splits}
+use Rattle.fb_bytes.specs.declared.stream_fault.StreamFault.TheVariants as stream
+use Rattle.fb_run.specs.Job.{Beside, HasRoom, Job}
+use Rattle.fb_run.specs.Texts.{Texts, followed, silent, to_notes, to_out, waiting}
+use Rattle.fb_run.specs.Lines.{AreTold, WritesFront}
+use Rattle.fb_run.specs.declared.stream.Carried.{Carried}
+use Rattle.fb_run.specs.declared.tally.Tally.{Tally}
+use Rattle.fb_run.specs.declared.fault.RunFault.{RunFault}
+use Rattle.fb_run.specs.declared.fault.RunFault.TheVariants.{ReadFault, WriteFault, NoteFault, Stream, TooManyTurns, OutOfMemory, BareTooLong, Load, Path, NoRoot}
+
+-- these bytes are messages of which this is told, and the rest is held
+abbrev pub Tells : Job → ℕ → List ℕ → Texts → Tally → List ℕ → Type 0
+Tells job limit bytes text tally held = (messages : List (List ℕ)) × Splits limit bytes messages held × AreTold job 1 messages text tally
+
+-- the text is what is told of the first messages of these bytes, which come to this
+abbrev pub TellsSome : Job → ℕ → List ℕ → Texts → Tally → Type 0
+TellsSome job limit bytes text tally =
+    (messages : List (List ℕ)) × (rest : List ℕ) × (done : List (List ℕ)) × (left : List (List ℕ))
+    × Splits limit bytes messages rest × (messages ≡ done ++ left) × AreTold job 1 done text tally
+
+-- why a run came to rest that has read these messages and the rest, written this text and counted this
+abbrev pub WhyStream : Job → ℕ → List ℕ → List (List ℕ) → List ℕ → Texts → Tally → RunFault → Type 0
+WhyStream job limit bytes messages rest text tally ReadFault = IsPartial limit rest × AreTold job 1 messages text tally
+WhyStream job limit bytes messages rest text tally TooManyTurns = IsPartial limit rest × AreTold job 1 messages text tally
+WhyStream job limit bytes messages rest text tally (Stream (stream.Oversize number)) = IsOversize limit rest × (number ≡ declared rest) × AreTold job 1 messages text tally
+WhyStream job limit bytes messages rest text tally (Stream (stream.Truncated held)) = IsPartial limit rest × (held ≡ length rest) × (0 < held) × AreTold job 1 messages text tally
+WhyStream job limit bytes messages rest text tally (Stream fault) = ⊥
+WhyStream job limit bytes messages rest text tally OutOfMemory = TellsSome job limit bytes text tally
+WhyStream job limit bytes messages rest text tally (WriteFault written) = (written ≡ length text.out) × ((more : Texts) × TellsSome job limit bytes (followed text more) tally)
+WhyStream job limit bytes messages rest text tally (NoteFault written) = (written ≡ length text.notes) × ((more : List ℕ) × TellsSome job limit bytes (followed text (to_notes more)) tally)
+WhyStream job limit bytes messages rest text tally (BareTooLong most) = ⊥
+WhyStream job limit bytes messages rest text tally (Load fault) = ⊥
+WhyStream job limit bytes messages rest text tally (Path fault) = ⊥
+WhyStream job limit bytes messages rest text tally NoRoot = ⊥
+
+-- a run over these bytes came to rest so
+abbrev pub Rests : Job → ℕ → List ℕ → Texts → Tally → RunFault → Type 0
+Rests job limit bytes text tally fault =
+    (messages : List (List ℕ)) × (rest : List ℕ) × Splits limit bytes messages rest × WhyStream job limit bytes messages rest text tally fault
+
+-- all that was read is whole messages, and what is told of them was written
+pub record PassesStream (job : Job) (limit : ℕ) (source source' sink sink' notes notes' : Option (List ℕ)) (tally : Tally) : Type 0 where
+  pub bytes : List ℕ
+  pub messages : List (List ℕ)
+  pub text : Texts
+  pub read : Consumes source source' bytes
+  pub splits : Splits limit bytes messages []
+  pub told : AreTold job 1 messages text tally
+  pub wrote : Appends sink sink' text.out
+  pub noted : Appends notes notes' text.notes
+
+-- these bytes were read, this text was written and this counted, and then came the fault
+pub record FailsStream (job : Job) (limit : ℕ) (source source' sink sink' notes notes' : Option (List ℕ)) (tally : Tally) (fault : RunFault) : Type 0 where
+  pub bytes : List ℕ
+  pub text : Texts
+  pub read : Consumes source source' bytes
+  pub wrote : Appends sink sink' text.out
+  pub noted : Appends notes notes' text.notes
+  pub rests : Rests job limit bytes text tally fault
+
+-- where a run over a stream stands: what waits to be written, what was counted, and what is held of a message
+pub record Standing : Type 0 where
+  pub text : Texts
+  pub tally : Tally
+  pub held : List ℕ
+
+-- where one stands that carries this
+abbrev pub standing : {A : Type 0} → Carried A → Standing
+standing carried = record {
+  text = waiting carried.output;
+  tally = carried.output.counter;
+  held = carried.framer.held;
+}
+
+-- the framer is fit to go on with a job, and there is room for it
+pub record IsReady (job : Job) (framer : Framing) (room : Beside) : Type 0 where
+  pub fits : HasRoom job room
+  pub fine : framer.failed ≡ false
+  pub limit : framer.limit ≡ job.limit
+  pub short : framer.limit < 2 ^ 31
+  pub part : IsPartial framer.limit framer.held
+
+-- A part of a run, told without what was before it: whatever was written and read before, it goes on with the piece.
+abbrev pub Onward : Job → Standing → List ℕ → Standing → Type 0
+Onward job before piece after =
+    (bytes : List ℕ) (written : Texts) → Tells job job.limit bytes (followed written before.text) before.tally before.held
+    → Tells job job.limit (bytes ++ piece) (followed written after.text) after.tally after.held
+
+-- where one stands, with what was written by then
+abbrev pub with_written : List ℕ → Standing → Standing
+with_written front stand = record stand { text = followed (to_out front) stand.text }
+
+-- the same, where a front of what is told in the piece is written, with which so many bytes were in all
+pub record OnwardThrough (job : Job) (before : Standing) (piece : List ℕ) (after : Standing) (sink sink' : Option (List ℕ)) (count written : ℕ) : Type 0 where
+  pub front : List ℕ
+  pub onward : Onward job before piece (with_written front after)
+  pub wrote : Appends sink sink' front
+  pub written_is : written ≡ count + length front
+
+-- it comes to rest in the piece, where this text waits and this is counted
+abbrev pub Halts : Job → Standing → List ℕ → Texts → Tally → RunFault → Type 0
+Halts job before piece text tally fault =
+    (bytes : List ℕ) (written : Texts) → Tells job job.limit bytes (followed written before.text) before.tally before.held
+    → Rests job job.limit (bytes ++ piece) (followed written text) tally fault
+
+-- however it ends, the text that waits is what is told of the first messages, and these are counted
+abbrev pub Gathers : Job → Standing → List ℕ → Texts → Tally → Type 0
+Gathers job before piece text tally =
+    (bytes : List ℕ) (written : Texts) → Tells job job.limit bytes (followed written before.text) before.tally before.held
+    → TellsSome job job.limit (bytes ++ piece) (followed written text) tally
+
+-- it comes to rest in the piece, where nothing waits and this is counted: within a write of what is told, or with
+-- nothing written
+abbrev pub HaltsThrough : Job → Standing → List ℕ → Tally → Option (List ℕ) → Option (List ℕ) → ℕ → RunFault → Type 0
+HaltsThrough job before piece tally sink sink' count (WriteFault written) =
+    (text : Texts) × Gathers job before piece text tally × WritesFront text.out sink sink' count written
+HaltsThrough job before piece tally sink sink' count fault = Halts job before piece silent tally fault × Keeps sink sink'
+
+-- what may end the feeding of a piece
+abbrev pub IsFeedFault : RunFault → Type 0
+IsFeedFault (Stream (stream.Oversize number)) = Unit {0}
+IsFeedFault OutOfMemory = Unit {0}
+IsFeedFault _ = ⊥

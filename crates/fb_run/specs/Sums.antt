@@ -1,0 +1,98 @@
+-- What messages come to by their verdicts, and the line that tells it.
+use Rattle.std.specs.Prelude.{◌≡◌, ℕ, ◌+◌, ◌-◌, ◌*◌, ◌≤◌, ◌^◌, ◌==◌, min, if◌then◌else◌, List, [], ◌∷◌, ◌++◌, All, Ok, Err, length, slice_index, slice_set, codes, decimal}
+use Rattle.fb_verify.specs.declared.fault.Reason.{Reason}
+use Rattle.fb_verify.specs.declared.fault.Reason.TheVariants.{WrongPrefix, OutOfBuffer, Misaligned, ZeroOffset, WrongIdentifier, TooDeep, TooManyTables, BadVtable, MissingRequired, NoTerminator, LengthsDiffer, PastTable, TooManyReads}
+use Rattle.fb_run.specs.Job.{Verdict}
+use Rattle.fb_run.specs.declared.tally.Tally.{Tally}
+
+-- the place of a reason among the counts of all reasons
+abbrev pub place_of : Reason → ℕ
+place_of WrongPrefix = 0
+place_of OutOfBuffer = 1
+place_of Misaligned = 2
+place_of ZeroOffset = 3
+place_of WrongIdentifier = 4
+place_of TooDeep = 5
+place_of TooManyTables = 6
+place_of BadVtable = 7
+place_of MissingRequired = 8
+place_of NoTerminator = 9
+place_of LengthsDiffer = 10
+place_of PastTable = 11
+place_of TooManyReads = 12
+
+-- what no messages come to
+abbrev pub no_tally : Tally
+no_tally = record {
+  yes = 0;
+  no = 0;
+  reasons = 0 ∷ 0 ∷ 0 ∷ 0 ∷ 0 ∷ 0 ∷ 0 ∷ 0 ∷ 0 ∷ 0 ∷ 0 ∷ 0 ∷ 0 ∷ [];
+  bytes = 0;
+  tables = 0;
+  reads = 0;
+}
+
+-- one more at a place
+abbrev pub one_more : ℕ → List ℕ → List ℕ
+one_more place counts = slice_set counts place (slice_index counts place + 1)
+
+-- the sum of two counts of reads, or the most that is told
+abbrev pub sum_of_reads : ℕ → ℕ → ℕ
+sum_of_reads some more = min (some + more) (2 ^ 128 - 1)
+
+-- what messages come to with this one beside them
+abbrev pub tally_with : List ℕ → Verdict → Tally → Tally
+tally_with message (Ok found) others = record {
+  yes = others.yes + 1;
+  no = others.no;
+  reasons = others.reasons;
+  bytes = others.bytes + length message;
+  tables = others.tables + found.report.tables;
+  reads = sum_of_reads others.reads found.report.reads;
+}
+tally_with message (Err bad) others = record {
+  yes = others.yes;
+  no = others.no + 1;
+  reasons = one_more (place_of bad.fault.reason) others.reasons;
+  bytes = others.bytes + length message;
+  tables = others.tables;
+  reads = sum_of_reads others.reads bad.fault.reads;
+}
+
+-- no sum is more than so many messages of up to 2^31 bytes can have
+pub record IsBounded (tally : Tally) : Type 0 where
+  pub places : length tally.reasons ≡ 13
+  pub reasons : All (λ n. n ≤ tally.no) tally.reasons
+  pub bytes : tally.bytes ≤ 2147483648 * (tally.yes + tally.no)
+  pub tables : tally.tables ≤ 4294967296 * (tally.yes + tally.no)
+
+-- how often a reason was given, where it was, in front of the rest
+abbrev pub reason_part : List ℕ → ℕ → List ℕ → List ℕ
+reason_part name count rest = (if count == 0 then [] else (name ++ decimal count)) ++ rest
+
+-- the same of all reasons in their order
+abbrev pub reasons_part : List ℕ → List ℕ → List ℕ
+reasons_part counts rest =
+    reason_part (codes " V1=") (slice_index counts 0) (reason_part (codes " V2=") (slice_index counts 1)
+    (reason_part (codes " V3=") (slice_index counts 2) (reason_part (codes " V4=") (slice_index counts 3)
+    (reason_part (codes " V5=") (slice_index counts 4) (reason_part (codes " V6=") (slice_index counts 5)
+    (reason_part (codes " V7=") (slice_index counts 6) (reason_part (codes " V8=") (slice_index counts 7)
+    (reason_part (codes " V9=") (slice_index counts 8) (reason_part (codes " V10=") (slice_index counts 9)
+    (reason_part (codes " V11=") (slice_index counts 10) (reason_part (codes " V12=") (slice_index counts 11)
+    (reason_part (codes " V13=") (slice_index counts 12) rest))))))))))))
+
+-- what was counted beside the verdicts
+abbrev pub counts_part : Tally → List ℕ
+counts_part tally =
+    codes " bytes=" ++ decimal tally.bytes ++ codes " tables=" ++ decimal tally.tables ++ codes " reads=" ++ decimal tally.reads
+    ++ codes "\n"
+
+-- how many there are, and how many had a yes and a no, in front of the rest
+abbrev pub verdicts_part : Tally → List ℕ → List ℕ
+verdicts_part tally rest =
+    codes "summary: messages=" ++ decimal (tally.yes + tally.no) ++ codes " yes=" ++ decimal tally.yes ++ codes " no=" ++ decimal tally.no
+    ++ rest
+
+-- the line that tells all of it
+abbrev pub summary_line : Tally → List ℕ
+summary_line tally = verdicts_part tally (reasons_part tally.reasons (counts_part tally))

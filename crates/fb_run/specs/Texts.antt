@@ -1,0 +1,26 @@
+-- What is told to two outputs: to the writer, and to the notes beside it.
+use Rattle.std.specs.Prelude.{ℕ, List, [], ◌++◌}
+use Rattle.fb_run.specs.declared.output.Output.{Output}
+
+pub record Texts : Type 0 where
+  pub out : List ℕ
+  pub notes : List ℕ
+
+-- nothing
+abbrev pub silent : Texts
+silent = record { out = []; notes = [] }
+
+-- bytes for the writer alone, and for the notes alone
+abbrev pub to_out : List ℕ → Texts
+to_out bytes = record { out = bytes; notes = [] }
+
+abbrev pub to_notes : List ℕ → Texts
+to_notes bytes = record { out = []; notes = bytes }
+
+-- one and then the other, on each output
+abbrev pub followed : Texts → Texts → Texts
+followed first second = record { out = first.out ++ second.out; notes = first.notes ++ second.notes }
+
+-- what waits to be written
+abbrev pub waiting : {A : Type 0} → Output A → Texts
+waiting output = record { out = output.out.bytes.items; notes = output.notes.bytes.items }

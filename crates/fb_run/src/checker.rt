@@ -1,0 +1,218 @@
+//! The verifier, with what a run hands it for every buffer.
+
+ghost use Rattle.std.specs.Prelude.{IfOk, IfErr, ◌≡◌, ◌<◌, ◌≤◌, ◌^◌, length, option_map};
+ghost use Rattle.fb_access.specs.Denotes.{shown};
+ghost use Rattle.fb_run.specs.declared.options.Places.TheVariants.{Words};
+ghost use Rattle.fb_run.specs.Job.{HasRoom, IsAnswer, IsVerdict, IsVerified, PathFits, Serves, Verdict, job_of, verdict_beside, verdict_of};
+
+use crate::options::{Mode, Options, Places};
+use crate::room::Room;
+use fb_access::{Answer, Path, get, put_location};
+use fb_bytes::Meter;
+use fb_schema::Schema;
+use fb_verify::{Checks, Fault, Located, Report, Start, Verified, verify, verify_and_locate};
+use std::alloc::{AllocError, Allocator};
+use std::marker::Model;
+
+/// What is found in a buffer that is well formed.
+#[derive(Clone, Copy)]
+pub struct Found<'b> {
+    /// What was counted.
+    pub report: Report,
+    /// The value at the end of the path, where the options have one.
+    pub answer: Option<Answer<'b>>,
+}
+
+/// What is wrong in a buffer.
+#[derive(Clone, Copy)]
+pub struct Wrong<'t> {
+    /// The first fault.
+    pub fault: Fault,
+    /// Where it is in words, where the options ask for these.
+    pub place: Option<&'t [u8]>,
+}
+
+/// A schema and the options by which a run checks its buffers: the root is a table, and the path fits from there. A
+/// clause sees the job that they make.
+#[derive(Drop)]
+pub struct Checker<'s, 'n> {
+    schema: &'s Schema<'n>,
+    options: &'s Options,
+}
+
+impl<'s, 'n> Model for Checker<'s, 'n> {
+    ghost use Rattle.fb_run.specs.Job.{Job, Serves, job_of};
+
+    ghost Value = { Job };
+
+    ghost view = { λ c. job_of c.schema.now c.options.now };
+
+    ghost invariant = { λ c. Serves c.schema.now c.options.now };
+}
+
+impl<'s, 'n> Checker<'s, 'n> {
+    /// The checker by this schema and these options.
+    pub fn new(schema: &'s Schema<'n>, options: &'s Options) -> Checker<'s, 'n>
+        requires { Serves schema.now options.now }
+        ensures { result ≡ job_of schema.now options.now }
+    {
+        Checker { schema, options }
+    }
+
+    /// The most bytes of a message, prefix included, or of a bare input.
+    pub fn limit(&self) -> u32
+        ensures value { result ≡ self.now.limit }
+        ensures least { 8 ≤ self.now.limit }
+        ensures most { self.now.limit < 2 ^ 31 }
+    {
+        self.options.max_bytes
+    }
+
+    /// What is told of the buffers.
+    pub fn mode(&self) -> Mode
+        ensures { result ≡ self.now.mode }
+    {
+        self.options.mode
+    }
+
+    /// Room for as many open tables as the limits allow, and for as many links where words are asked for.
+    pub fn room<'a, A: Allocator>(&self, alloc: &'a A) -> Result<Room<&'a A>, AllocError>
+        ensures { IfOk result (HasRoom self.now) }
+    {
+        Room::new(alloc, self.options.limits.depth(), self.options.names)
+    }
+
+    /// The verdict on one buffer: what is found in it, with the value at the end of the path, or the fault, whose place
+    /// in words is left in the room where the options ask for it.
+    ///
+    /// # Errors
+    ///
+    /// `AllocError` where there was no memory for these words, and only where they are asked for.
+    pub fn verdict<'b, A: Allocator>(
+        &self,
+        room: &mut Room<A>,
+        bytes: &'b [u8],
+    ) -> Result<Result<Found<'b>, Fault>, AllocError>
+        requires room { HasRoom self.now room.old }
+        requires short { length bytes.now < 2 ^ 31 }
+        ensures verdict { IfOk result (λ verdict. IsVerdict self.now bytes.now (verdict_beside self.now room.new.text verdict)) }
+        ensures refused { IfErr result (λ _. (verdict : Verdict) × IsVerdict self.now bytes.now verdict) }
+        ensures asked { IfErr result (λ _. self.now.names ≡ Words) }
+        ensures room { HasRoom self.now room.new }
+    {
+        match self.verified(room, bytes)? {
+            Ok(verified) => {
+                let report = verified.report();
+                let answer = answer_in(&verified, &self.options.path);
+                Ok(Ok(Found { report, answer }))
+            }
+            Err(fault) => Ok(Err(fault)),
+        }
+    }
+
+    /// How each buffer begins.
+    fn start(&self) -> Start
+        ensures { result ≡ self.now.start }
+    {
+        if self.options.bare {
+            Start::Bare
+        } else {
+            Start::Prefixed
+        }
+    }
+
+    /// What is checked beside what always is.
+    fn checks(&self) -> Checks
+        ensures { result ≡ self.now.checks }
+    {
+        Checks {
+            alignment: self.options.alignment,
+            inline_size: self.options.inline_size,
+        }
+    }
+
+    /// The buffer, where it is well formed, or its fault.
+    fn verified<'b, A: Allocator>(
+        &self,
+        room: &mut Room<A>,
+        bytes: &'b [u8],
+    ) -> Result<Result<Verified<'b, 's, 'n>, Fault>, AllocError>
+        requires room { HasRoom self.now room.old }
+        requires short { length bytes.now < 2 ^ 31 }
+        ensures verdict { IfOk result (IsVerified self.now bytes.now room.new.text) }
+        ensures refused { IfErr result (λ _. (verdict : Verdict) × IsVerdict self.now bytes.now verdict) }
+        ensures asked { IfErr result (λ _. self.now.names ≡ Words) }
+        ensures room { HasRoom self.now room.new }
+    {
+        let Ok(meter) = Meter::new(bytes) else {
+            unreachable!()
+        };
+        let options = self.options;
+        let start = self.start();
+        let checks = self.checks();
+        match options.names {
+            Places::Numbers => Ok(verify(
+                meter,
+                self.schema,
+                options.root,
+                start,
+                options.ident,
+                options.limits,
+                checks,
+                &mut room.scratch,
+            )),
+            Places::Words => match verify_and_locate(
+                meter,
+                self.schema,
+                options.root,
+                start,
+                options.ident,
+                options.limits,
+                checks,
+                &mut room.scratch,
+                &mut room.links,
+            ) {
+                Ok(verified) => Ok(Ok(verified)),
+                Err(Located { fault, links }) => {
+                    room.text.clear();
+                    let links = &room.links[..links as usize];
+                    match put_location(&mut room.text, self.schema, &fault, links) {
+                        Ok(()) => Ok(Err(fault)),
+                        Err(refused) => Err(refused),
+                    }
+                }
+            },
+        }
+    }
+
+    /// The verdict, where a fault has its place in words from the room if the options ask for them.
+    pub fn told<'b, 't, A: Allocator>(
+        &self,
+        room: &'t Room<A>,
+        verdict: Result<Found<'b>, Fault>,
+    ) -> Result<Found<'b>, Wrong<'t>>
+        ensures { verdict_of result ≡ verdict_beside self.now room.now.text verdict.entry }
+    {
+        match verdict {
+            Ok(found) => Ok(found),
+            Err(fault) => {
+                let place = match self.options.names {
+                    Places::Numbers => None,
+                    Places::Words => Some(room.text.as_slice()),
+                };
+                Err(Wrong { fault, place })
+            }
+        }
+    }
+}
+
+/// The value at the end of the path, where there is one.
+fn answer_in<'b>(verified: &Verified<'b, '_, '_>, path: &Option<Path>) -> Option<Answer<'b>>
+    requires { PathFits (verified.now).schema (verified.now).root path.now }
+    ensures { IsAnswer (verified.now).bytes (verified.now).schema (verified.now).start (verified.now).root path.now (option_map shown result) }
+{
+    match path {
+        Some(path) => Some(get(verified, path)),
+        None => None,
+    }
+}

@@ -1,0 +1,32 @@
+//! Checks the buffers of an input by a schema, and writes a line of each: a stream of size-prefixed buffers, or one
+//! bare buffer. What is told of each by its mode, the numbers of a run, and the faults at which it comes to rest.
+#![tactic(auto)]
+
+mod bare;
+mod checker;
+mod counter;
+mod fault;
+mod front;
+mod input;
+pub mod laws;
+mod line;
+mod long_end;
+mod options;
+mod output;
+mod reading;
+mod room;
+pub mod run;
+mod stream;
+pub mod summary;
+mod tally;
+mod value_text;
+mod writing;
+
+pub use fault::{RunFault, status};
+pub use input::Input;
+pub use line::Line;
+pub use options::{Mode, Options, Places};
+pub use reading::MOST_TURNS;
+pub use run::{run_beside, run_within};
+pub use tally::Tally;
+pub use writing::{Nowhere, push_all};

@@ -1,0 +1,185 @@
+//! The line of a verdict.
+
+ghost use Rattle.std.specs.Prelude.{◌≡◌, ◌+◌, ◌≤◌, ◌++◌, [], length, decimal, option_map};
+ghost use Rattle.fb_access.specs.Denotes.{shown};
+ghost use Rattle.fb_run.specs.Job.{verdict_of};
+ghost use Rattle.fb_run.specs.Line.{field_text, no_end, place_end, short_ending, short_line, yes_end};
+
+use crate::checker::{Found, Wrong};
+use fb_access::Answer;
+use fb_verify::{Fault, Report};
+use itoa::{Buffer, write_digits};
+use std::marker::Model;
+
+/// More bytes than the longest line has, but for a value, and more than the summary.
+const ROOM: usize = 640;
+
+/// The line of one verdict but for a value or a place in words, or of a summary, written from its end to its front. It
+/// takes no memory.
+#[derive(Drop)]
+pub struct Line {
+    room: [u8; ROOM],
+    start: usize,
+}
+
+impl Model for Line {
+    ghost use Rattle.std.specs.Prelude.{◌≡◌, ◌≤◌, ℕ, List, drop, length};
+
+    ghost Value = { List ℕ };
+
+    ghost view = { λ l. drop l.start l.room };
+
+    ghost invariant = { λ l. (length l.room ≡ 640) × (l.start ≤ 640) };
+}
+
+impl Line {
+    /// An empty line.
+    pub fn new() -> Line
+        ensures { result ≡ [] }
+    {
+        Line {
+            room: [0; ROOM],
+            start: ROOM,
+        }
+    }
+
+    /// The bytes of the line.
+    pub fn bytes(&self) -> &[u8]
+        ensures { result.now ≡ self.now }
+    {
+        &self.room[self.start..]
+    }
+
+    /// Makes it the line of message number `number`, whatever it was before. It ends with a newline, and before a value
+    /// or a place with a space.
+    pub fn set(&mut self, number: u64, verdict: &Result<Found<'_>, Wrong<'_>>)
+        ensures { self.new ≡ short_line number (verdict_of verdict.now) }
+    {
+        self.clear();
+        match verdict {
+            Ok(found) => self.put_yes(&found.report, short_end(&found.answer)),
+            Err(wrong) => self.put_no(&wrong.fault, place_end_of(&wrong.place)),
+        }
+        self.put_number(number);
+    }
+
+    fn clear(&mut self)
+        ensures { self.new ≡ [] }
+    {
+        self.start = ROOM;
+    }
+
+    /// What a yes has behind its number.
+    fn put_yes(&mut self, report: &Report, end: &str)
+        requires empty { self.old ≡ [] }
+        requires end { length end.now ≤ 1 }
+        ensures text { self.new ≡ yes_end report.now end.now }
+        ensures short { length self.new ≤ 150 }
+    {
+        self.put_text(end);
+        self.put_wide(report.reads);
+        self.put_text(" reads=");
+        self.put_number(u64::from(report.depth));
+        self.put_text(" depth=");
+        self.put_number(u64::from(report.tables));
+        self.put_text(" ok tables=");
+    }
+
+    /// What a no has behind its number.
+    fn put_no(&mut self, fault: &Fault, end: &str)
+        requires empty { self.old ≡ [] }
+        requires end { length end.now ≤ 1 }
+        ensures text { self.new ≡ no_end fault.now end.now }
+        ensures short { length self.new ≤ 150 }
+    {
+        self.put_place(fault, end);
+        self.put_number(fault.at);
+        self.put_text(" at=");
+        self.put_text(fault.reason.text());
+        self.put_text(" bad ");
+    }
+
+    /// Where in the schema a no is, and its reads.
+    fn put_place(&mut self, fault: &Fault, end: &str)
+        requires empty { self.old ≡ [] }
+        requires end { length end.now ≤ 1 }
+        ensures text { self.new ≡ place_end fault.now end.now }
+        ensures short { length self.new ≤ 103 }
+    {
+        self.put_text(end);
+        self.put_wide(fault.reads);
+        self.put_text(" reads=");
+        self.put_field(fault.field);
+        self.put_text(" field=");
+        self.put_number(u64::from(fault.object));
+        self.put_text(" object=");
+    }
+
+    /// Puts a text in front.
+    #[inline]
+    pub fn put_text(&mut self, text: &str)
+        requires room { length text.now + length self.old ≤ ROOM }
+        ensures text { self.new ≡ text.now ++ self.old }
+        ensures length { length self.new ≡ length text.now + length self.old }
+    {
+        let end = self.start;
+        self.start -= text.len();
+        self.room[self.start..end].copy_from_slice(text.as_bytes());
+    }
+
+    /// Puts a number in front.
+    #[inline]
+    pub fn put_number(&mut self, number: u64)
+        requires room { length self.old + 20 ≤ ROOM }
+        ensures text { self.new ≡ decimal number ++ self.old }
+        ensures length { length self.new ≤ length self.old + 20 }
+    {
+        self.start = write_digits(number, &mut self.room, self.start);
+    }
+
+    /// Puts a number in front that may have up to 128 bits.
+    #[inline]
+    pub fn put_wide(&mut self, number: u128)
+        requires room { length self.old + 40 ≤ ROOM }
+        ensures text { self.new ≡ decimal number ++ self.old }
+        ensures length { length self.new ≤ length self.old + 40 }
+    {
+        match u64::try_from(number) {
+            Ok(number) => self.put_number(number),
+            Err(_) => self.put_text(Buffer::new().format(number)),
+        }
+    }
+
+    fn put_field(&mut self, field: Option<u16>)
+        requires room { length self.old + 20 ≤ ROOM }
+        ensures text { self.new ≡ field_text field ++ self.old }
+        ensures length { length self.new ≤ length self.old + 20 }
+    {
+        match field {
+            Some(number) => self.put_number(u64::from(number)),
+            None => self.put_text("-"),
+        }
+    }
+}
+
+/// What ends the line of a no but for its place in words.
+fn place_end_of(place: &Option<&[u8]>) -> &'static str
+    ensures end { result.now ≡ short_ending place.now }
+    ensures short { length result.now ≤ 1 }
+{
+    match place {
+        Some(_) => " ",
+        None => "\n",
+    }
+}
+
+/// What ends a line but for a value.
+fn short_end(answer: &Option<Answer<'_>>) -> &'static str
+    ensures end { result.now ≡ short_ending (option_map shown answer.now) }
+    ensures short { length result.now ≤ 1 }
+{
+    match answer {
+        Some(_) => " ",
+        None => "\n",
+    }
+}

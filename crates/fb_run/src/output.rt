@@ -1,0 +1,306 @@
+//! What a run tells: gathered, counted, and written together.
+
+ghost use Rattle.std.specs.Prelude.{IfErr, OnOk, OnErr, ◌≡◌, ◌+◌, ◌<◌, ◌≤◌, ◌^◌, ◌++◌, length, codes, take, ℕ, Bool, List, option_map};
+ghost use Rattle.std.specs.Borrow.{Bor};
+ghost use Rattle.std.specs.Io.KnownBytes.{Appends};
+ghost use Rattle.fb_access.specs.Denotes.{shown};
+ghost use Rattle.fb_run.specs.AnswerText.{answer_text};
+ghost use Rattle.fb_run.specs.Faults.{IsCaused};
+ghost use Rattle.fb_run.specs.Job.{HasRoom, verdict_of};
+ghost use Rattle.fb_run.specs.Line.{told_of, verdict_line, with_place};
+ghost use Rattle.fb_run.specs.Lines.{AddsThrough, AddsTold, ComesBehind, StopsBehind, StopsIn, WritesFronts};
+ghost use Rattle.fb_run.specs.Sums.{no_tally};
+ghost use Rattle.fb_run.specs.Texts.{silent, waiting};
+
+use crate::checker::{Checker, Found, Wrong};
+use crate::counter::Counter;
+use crate::fault::RunFault;
+use crate::line::Line;
+use crate::long_end::long_end;
+use crate::options::Mode;
+use crate::room::Room;
+use crate::tally::Tally;
+use crate::value_text::put_answer;
+use crate::writing::{Pending, Unwritten};
+use fb_access::Answer;
+use fb_bytes::Sink;
+use std::alloc::{AllocError, Allocator};
+
+/// What a run has told so far: the verdicts, and what waits to be written to the writer and to the notes.
+#[derive(Drop)]
+pub struct Output<A: Allocator> {
+    pub counter: Counter,
+    /// Whole lines, or whole messages that are passed on.
+    pub out: Pending<A>,
+    /// Whole lines.
+    pub notes: Pending<A>,
+    /// The line that is being made, but for a value or a place in words.
+    line: Line,
+    /// The end of that line: a value and a newline.
+    value: Vec<u8, A>,
+}
+
+impl<'a, A: Allocator> Output<&'a A> {
+    /// Nothing is told.
+    pub fn new(alloc: &'a A) -> Self
+        ensures text { waiting result ≡ silent }
+        ensures counted { result.counter ≡ no_tally }
+        ensures written { result.out.written ≡ 0 }
+        ensures noted { result.notes.written ≡ 0 }
+    {
+        Output {
+            counter: Counter::new(),
+            out: Pending::new(alloc),
+            notes: Pending::new(alloc),
+            line: Line::new(),
+            value: Vec::new(alloc),
+        }
+    }
+}
+
+impl<A: Allocator> Output<A> {
+    /// Adds what is told of the next message, and counts its verdict. Where memory is refused, nothing is told of it.
+    pub fn add<B: Allocator>(
+        &mut self,
+        checker: &Checker<'_, '_>,
+        room: &mut Room<B>,
+        message: &[u8],
+    ) -> Result<(), AllocError>
+        requires room { HasRoom checker.now room.old }
+        requires few { self.old.counter.yes + self.old.counter.no < 2 ^ 63 }
+        requires short { length message.now < 2 ^ 31 }
+        ensures ok { OnOk result (AddsTold checker.now (1 + (self.old.counter.yes + self.old.counter.no)) message.now
+            (waiting self.old) self.old.counter (waiting self.new) self.new.counter) }
+        ensures one { OnOk result (self.new.counter.yes + self.new.counter.no ≡ self.old.counter.yes + self.old.counter.no + 1) }
+        ensures err_text { OnErr result (waiting self.new ≡ waiting self.old) }
+        ensures err_counted { OnErr result (self.new.counter ≡ self.old.counter) }
+        ensures written { self.new.out.written ≡ self.old.out.written }
+        ensures noted { self.new.notes.written ≡ self.old.notes.written }
+        ensures room { HasRoom checker.now room.new }
+    {
+        let verdict = checker.verdict(room, message)?;
+        let verdict = checker.told(room, verdict);
+        let number = 1 + self.counter.messages();
+        self.tell(checker.mode(), number, message, &verdict)?;
+        self.counter.count(message, &verdict);
+        Ok(())
+    }
+
+    /// Adds what is told of the next message, and counts its verdict. Where its line ends with a long value, the line
+    /// is written while it is made, and takes no memory; where that can't be written, the verdict is counted too. Where
+    /// memory is refused, nothing is told of the message, nor is it counted.
+    pub fn add_through<B: Allocator, K: Sink>(
+        &mut self,
+        checker: &Checker<'_, '_>,
+        room: &mut Room<B>,
+        message: &[u8],
+        writer: &mut K,
+    ) -> Result<(), RunFault>
+        requires room { HasRoom checker.now room.old }
+        requires few { self.old.counter.yes + self.old.counter.no < 2 ^ 63 }
+        requires short { length message.now < 2 ^ 31 }
+        requires writes { K.calls writer.old < 2 ^ 99 + 2 ^ 97 }
+        requires written { self.old.out.written < 2 ^ 99 + 2 ^ 97 }
+        ensures ok { OnOk result (AddsThrough checker.now (1 + (self.old.counter.yes + self.old.counter.no)) message.now
+            (waiting self.old) self.old.counter (waiting self.new) self.new.counter
+            (K.contents writer.old) (K.contents writer.new) self.old.out.written self.new.out.written) }
+        ensures one { OnOk result (self.new.counter.yes + self.new.counter.no ≡ self.old.counter.yes + self.old.counter.no + 1) }
+        ensures err { IfErr result (λ fault. StopsBehind checker.now (1 + (self.old.counter.yes + self.old.counter.no)) message.now
+            (waiting self.old) self.old.counter self.new.counter (K.contents writer.old) (K.contents writer.new) self.old.out.written fault) }
+        ensures failed { IfErr result (λ fault. (failures complaints left : ℕ) (ended : Bool) → IsCaused failures failures
+            (K.failures writer.old) (K.failures writer.new) complaints complaints left ended fault) }
+        ensures unfailed { OnOk result (K.failures writer.new ≡ K.failures writer.old) }
+        ensures little { OnOk result (self.new.out.written ≤ self.old.out.written + 2 ^ 67) }
+        ensures calls { OnOk result (K.calls writer.new ≤ K.calls writer.old + 2 ^ 67) }
+        ensures noted { self.new.notes.written ≡ self.old.notes.written }
+        ensures room { HasRoom checker.now room.new }
+    {
+        let verdict = checker.verdict(room, message)?;
+        let verdict = checker.told(room, verdict);
+        let number = 1 + self.counter.messages();
+        let told = self.tell_through(checker.mode(), number, message, &verdict, writer);
+        if let Err(RunFault::OutOfMemory) = told {
+            return told;
+        }
+        self.counter.count(message, &verdict);
+        told
+    }
+
+    /// Adds what the mode tells of message number `number` with this verdict. A line with a long value at its end is
+    /// written while it is made.
+    fn tell_through<K: Sink>(
+        &mut self,
+        mode: Mode,
+        number: u64,
+        message: &[u8],
+        verdict: &Result<Found<'_>, Wrong<'_>>,
+        writer: &mut K,
+    ) -> Result<(), RunFault>
+        requires writes { K.calls writer.old < 2 ^ 99 + 2 ^ 97 }
+        requires written { self.old.out.written < 2 ^ 99 + 2 ^ 97 }
+        ensures ok { OnOk result (ComesBehind (waiting self.old).out (told_of mode number message.now (verdict_of verdict.now)).out
+            (waiting self.new).out (K.contents writer.old) (K.contents writer.new) self.old.out.written self.new.out.written) }
+        ensures notes { OnOk result ((waiting self.new).notes ≡ (waiting self.old).notes ++ (told_of mode number message.now (verdict_of verdict.now)).notes) }
+        ensures err { IfErr result (λ fault. StopsIn ((waiting self.old).out ++ (told_of mode number message.now (verdict_of verdict.now)).out)
+            (K.contents writer.old) (K.contents writer.new) self.old.out.written fault) }
+        ensures failed { IfErr result (λ fault. (failures complaints left : ℕ) (ended : Bool) → IsCaused failures failures
+            (K.failures writer.old) (K.failures writer.new) complaints complaints left ended fault) }
+        ensures unfailed { OnOk result (K.failures writer.new ≡ K.failures writer.old) }
+        ensures little { OnOk result (self.new.out.written ≤ self.old.out.written + 2 ^ 67) }
+        ensures calls { OnOk result (K.calls writer.new ≤ K.calls writer.old + 2 ^ 67) }
+        ensures counted { self.new.counter ≡ self.old.counter }
+        ensures noted { self.new.notes.written ≡ self.old.notes.written }
+    {
+        let Some(end) = long_end(mode, verdict) else {
+            return Ok(self.tell(mode, number, message, verdict)?);
+        };
+        self.line.set(number, verdict);
+        let line = self.line.bytes();
+        if let Err(Unwritten { written }) = end.put_behind(line, &mut self.out, writer) {
+            return Err(RunFault::WriteFault { written });
+        }
+        Ok(())
+    }
+
+    /// Adds what the mode tells of message number `number` with this verdict.
+    fn tell(
+        &mut self,
+        mode: Mode,
+        number: u64,
+        message: &[u8],
+        verdict: &Result<Found<'_>, Wrong<'_>>,
+    ) -> Result<(), AllocError>
+        ensures out { OnOk result ((waiting self.new).out ≡ (waiting self.old).out ++ (told_of mode number message.now (verdict_of verdict.now)).out) }
+        ensures notes { OnOk result ((waiting self.new).notes ≡ (waiting self.old).notes ++ (told_of mode number message.now (verdict_of verdict.now)).notes) }
+        ensures err_text { OnErr result (waiting self.new ≡ waiting self.old) }
+        ensures counted { self.new.counter ≡ self.old.counter }
+        ensures written { self.new.out.written ≡ self.old.out.written }
+        ensures noted { self.new.notes.written ≡ self.old.notes.written }
+    {
+        match mode {
+            Mode::Lines => self.put_line(number, verdict),
+            Mode::BadLines => match verdict {
+                Ok(_) => Ok(()),
+                Err(_) => self.put_line(number, verdict),
+            },
+            Mode::Filter => match verdict {
+                Ok(_) => self.out.bytes.extend_from_slice(message),
+                Err(wrong) => {
+                    self.line.set(number, verdict);
+                    add_line(&mut self.notes.bytes, self.line.bytes(), wrong.place)
+                }
+            },
+        }
+    }
+
+    /// Adds the line of this verdict on message number `number` to what waits for the writer.
+    fn put_line(
+        &mut self,
+        number: u64,
+        verdict: &Result<Found<'_>, Wrong<'_>>,
+    ) -> Result<(), AllocError>
+        ensures ok { OnOk result (self.new.out.bytes.items ≡ self.old.out.bytes.items ++ verdict_line number (verdict_of verdict.now)) }
+        ensures err_text { OnErr result (self.new.out.bytes.items ≡ self.old.out.bytes.items) }
+        ensures notes { self.new.notes ≡ self.old.notes }
+        ensures counted { self.new.counter ≡ self.old.counter }
+        ensures written { self.new.out.written ≡ self.old.out.written }
+    {
+        self.line.set(number, verdict);
+        match verdict {
+            Ok(found) => match &found.answer {
+                Some(value) => self.add_value(value),
+                None => self.out.bytes.extend_from_slice(self.line.bytes()),
+            },
+            Err(wrong) => add_line(&mut self.out.bytes, self.line.bytes(), wrong.place),
+        }
+    }
+
+    /// Adds the line that was made, with a value at its end.
+    fn add_value(&mut self, answer: &Answer<'_>) -> Result<(), AllocError>
+        ensures ok { OnOk result (self.new.out.bytes.items ≡ self.old.out.bytes.items ++ (self.old.line ++ (answer_text (shown answer.now) ++ codes "\n"))) }
+        ensures err_text { OnErr result (self.new.out.bytes.items ≡ self.old.out.bytes.items) }
+        ensures notes { self.new.notes ≡ self.old.notes }
+        ensures counted { self.new.counter ≡ self.old.counter }
+        ensures written { self.new.out.written ≡ self.old.out.written }
+    {
+        self.value.clear();
+        put_answer(&mut self.value, answer)?;
+        self.value.extend_from_slice(b"\n")?;
+        let before = self.out.bytes.len();
+        self.out.bytes.extend_from_slice(self.line.bytes())?;
+        let whole = self.out.bytes.extend_from_slice(self.value.as_slice());
+        if whole.is_err() {
+            self.out.bytes.truncate(before);
+        }
+        whole
+    }
+
+    /// Writes what waits, first for the writer and then for the notes.
+    pub fn flush<K: Sink, N: Sink>(&mut self, writer: &mut K, notes: &mut N) -> Result<(), RunFault>
+        requires writes { K.calls writer.old < 2 ^ 99 + 2 ^ 98 }
+        requires tells { N.calls notes.old < 2 ^ 99 }
+        requires written { self.old.out.written < 2 ^ 100 }
+        requires noted { self.old.notes.written < 2 ^ 100 }
+        ensures wrote { OnOk result (Appends (K.contents writer.old) (K.contents writer.new) (waiting self.old).out) }
+        ensures told { OnOk result (Appends (N.contents notes.old) (N.contents notes.new) (waiting self.old).notes) }
+        ensures empty { OnOk result (waiting self.new ≡ silent) }
+        ensures written { OnOk result (self.new.out.written ≡ self.old.out.written + length (waiting self.old).out) }
+        ensures noted { OnOk result (self.new.notes.written ≡ self.old.notes.written + length (waiting self.old).notes) }
+        ensures err { IfErr result (WritesFronts (waiting self.old) (K.contents writer.old) (K.contents writer.new)
+            (N.contents notes.old) (N.contents notes.new) self.old.out.written self.old.notes.written) }
+        ensures failed { IfErr result (λ fault. (failures left : ℕ) (ended : Bool) → IsCaused failures failures
+            (K.failures writer.old) (K.failures writer.new) (N.failures notes.old) (N.failures notes.new) left ended fault) }
+        ensures unfailed { OnOk result (K.failures writer.new ≡ K.failures writer.old) }
+        ensures unrefused { OnOk result (N.failures notes.new ≡ N.failures notes.old) }
+        ensures counted { self.new.counter ≡ self.old.counter }
+        ensures little { self.new.out.written ≤ self.old.out.written + 2 ^ 64 }
+        ensures less { self.new.notes.written ≤ self.old.notes.written + 2 ^ 64 }
+        ensures writes { K.calls writer.new ≤ K.calls writer.old + 2 ^ 64 }
+        ensures tells { N.calls notes.new ≤ N.calls notes.old + 2 ^ 64 }
+    {
+        if let Err(Unwritten { written }) = self.out.flush(writer) {
+            return Err(RunFault::WriteFault { written });
+        }
+        if let Err(Unwritten { written }) = self.notes.flush(notes) {
+            return Err(RunFault::NoteFault { written });
+        }
+        Ok(())
+    }
+
+    /// What was counted so far.
+    pub fn tally(&self) -> Tally
+        ensures { result ≡ self.now.counter }
+    {
+        self.counter.tally()
+    }
+}
+
+/// Adds a line to a text, with a place in words at its end where there is one. Where memory is refused, the text stays.
+fn add_line<A: Allocator>(
+    text: &mut Vec<u8, A>,
+    line: &[u8],
+    place: Option<&[u8]>,
+) -> Result<(), AllocError>
+    ensures ok { OnOk result (text.new.items ≡ text.old.items ++ with_place line.now (option_map (λ (p : Bor (List ℕ)). p.now) place.entry)) }
+    ensures err_text { OnErr result (text.new.items ≡ text.old.items) }
+{
+    let Some(place) = place else {
+        return text.extend_from_slice(line);
+    };
+    let before = text.len();
+    let whole = add_all(text, line, place);
+    if whole.is_err() {
+        text.truncate(before);
+    }
+    whole
+}
+
+/// Adds a line, a place and a newline behind a text, or a front of them where memory is refused.
+fn add_all<A: Allocator>(text: &mut Vec<u8, A>, line: &[u8], place: &[u8]) -> Result<(), AllocError>
+    ensures ok { OnOk result (text.new.items ≡ text.old.items ++ (line.now ++ (place.now ++ codes "\n"))) }
+    ensures err_text { OnErr result (take (length text.old.items) text.new.items ≡ text.old.items) }
+{
+    text.extend_from_slice(line)?;
+    text.extend_from_slice(place)?;
+    text.extend_from_slice(b"\n")
+}

@@ -1,0 +1,95 @@
+//! Reading from a source, a piece at a time.
+
+ghost use Rattle.std.specs.Prelude.{IfOk, IfErr, OnOk, OnErr, ◌≡◌, ◌+◌, ◌-◌, ◌<◌, ◌≤◌, ◌^◌, length, take, true, ℕ, List, Option};
+ghost use Rattle.std.specs.Io.KnownBytes.{Consumes, Keeps};
+ghost use Rattle.fb_bytes.specs.Ends.{failed};
+ghost use Rattle.fb_run.specs.Bare.{FailsBare};
+ghost use Rattle.fb_run.specs.Faults.{IsCaused};
+ghost use Rattle.fb_run.specs.Job.{Job};
+ghost use Rattle.fb_run.specs.Sums.{no_tally};
+
+use crate::fault::RunFault;
+use crate::input::Input;
+use fb_bytes::Sink;
+use std::alloc::{AllocError, Allocator};
+use std::io;
+
+/// The most reads of one run.
+pub const MOST_TURNS: u64 = 0x1_0000_0000;
+
+/// The length of the read buffer, in bytes.
+pub const PIECE: usize = 65_536;
+
+/// A read buffer.
+pub fn read_buffer<A: Allocator>(alloc: A) -> Result<Vec<u8, A>, AllocError>
+    ensures { IfOk result (λ piece. length piece.items ≡ PIECE) }
+{
+    let mut piece = Vec::new(alloc);
+    piece.resize(PIECE, 0)?;
+    Ok(piece)
+}
+
+/// One read into the read buffer, beside these outputs, and how many bytes came: none only at the end of the input.
+pub fn pull_piece<A: Allocator, S: Input<K, N>, K: Sink, N: Sink>(
+    source: &mut S,
+    piece: &mut Vec<u8, A>,
+    writer: &K,
+    notes: &N,
+) -> io::Result<usize>
+    requires room { 0 < length piece.old.items }
+    requires calls { S.calls source.old < 2 ^ 100 }
+    requires leave { S.may_ask (S.remaining source.old) (K.contents writer.now) (N.contents notes.now) }
+    ensures room { length piece.new.items ≡ length piece.old.items }
+    ensures fits { IfOk result (λ n. n ≤ length piece.new.items) }
+    ensures ok { IfOk result (λ n. Consumes (S.remaining source.old) (S.remaining source.new) (take n piece.new.items)) }
+    ensures err { OnErr result (Keeps (S.remaining source.old) (S.remaining source.new)) }
+    ensures end { IfOk result (λ n. n ≡ 0 → S.ended source.new ≡ true) }
+    ensures counted { S.calls source.new ≡ S.calls source.old + 1 }
+    ensures failure { S.failures source.new ≡ S.failures source.old + failed result }
+{
+    source.ask(piece.as_mut_slice(), writer, notes)
+}
+
+/// Reads the whole input, of at most `limit` bytes, in at most `turns` reads, beside these outputs. Whatever they hold,
+/// they keep.
+pub fn read_whole<A: Allocator, B: Allocator, S: Input<K, N>, K: Sink, N: Sink>(
+    alloc: A,
+    source: &mut S,
+    piece: &mut Vec<u8, B>,
+    writer: &K,
+    notes: &N,
+    limit: u32,
+    turns: u64,
+) -> Result<Vec<u8, A>, RunFault>
+    requires room { length piece.old.items ≡ PIECE }
+    requires calls { S.calls source.old + turns < 2 ^ 100 }
+    requires leave { (left : Option (List ℕ)) (bytes : List ℕ) → Consumes (S.remaining source.old) left bytes → length bytes ≤ limit
+        → S.may_ask left (K.contents writer.now) (N.contents notes.now) }
+    ensures ok { IfOk result (λ whole. Consumes (S.remaining source.old) (S.remaining source.new) whole.items) }
+    ensures within { IfOk result (λ whole. length whole.items ≤ limit) }
+    ensures end { OnOk result (S.ended source.new ≡ true) }
+    ensures unfailed { OnOk result (S.failures source.new ≡ S.failures source.old) }
+    ensures fault { IfErr result (λ fault. (job : Job) (sink note : Option (List ℕ))
+        → FailsBare job limit (S.remaining source.old) (S.remaining source.new) sink sink note note no_tally fault) }
+    ensures cause { IfErr result (λ fault. (refusals complaints : ℕ) → IsCaused (S.failures source.old) (S.failures source.new)
+        refusals refusals complaints complaints (S.calls source.old + turns - S.calls source.new) (S.ended source.new) fault) }
+    ensures turns { S.calls source.new ≤ S.calls source.old + turns }
+{
+    let mut whole = Vec::new(alloc);
+    let mut left = turns;
+    while left > 0 {
+        left -= 1;
+        let read = match pull_piece(source, piece, writer, notes) {
+            Ok(0) => return Ok(whole),
+            Ok(read) => read,
+            Err(_) => return Err(RunFault::ReadFault),
+        };
+        if read > limit as usize - whole.len() {
+            return Err(RunFault::BareTooLong { limit });
+        }
+        let Ok(()) = whole.extend_from_slice(&piece.as_slice()[..read]) else {
+            return Err(RunFault::OutOfMemory);
+        };
+    }
+    Err(RunFault::TooManyTurns)
+}

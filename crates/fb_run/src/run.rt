@@ -1,0 +1,133 @@
+//! A run over an input, by a schema.
+
+ghost use Rattle.std.specs.Prelude.{◌+◌, ◌-◌, ◌<◌, ◌≤◌, ◌^◌, ℕ, List, Option, None};
+ghost use Rattle.fb_run.specs.Faults.{EndsBeside, EndsBy};
+ghost use Rattle.fb_run.specs.Job.{Serves, job_of};
+ghost use Rattle.fb_run.specs.Prompt.{IsPrompt};
+ghost use Rattle.fb_run.specs.Run.{IsRun, IsRunBeside};
+
+use crate::bare::run_bare;
+use crate::checker::Checker;
+use crate::fault::RunFault;
+use crate::input::Input;
+use crate::options::Options;
+use crate::reading::MOST_TURNS;
+use crate::stream::run_stream;
+use crate::tally::Tally;
+use crate::writing::Nowhere;
+use fb_bytes::Sink;
+use fb_schema::Schema;
+use std::alloc::Allocator;
+
+/// Checks the buffers of an input by a schema, and writes what the mode of the options tells of each, with at most
+/// `turns` reads. Where the options have a path, the line of a yes ends with the value there.
+///
+/// The input is a stream of size-prefixed buffers (FlatBuffers Internals), or with `bare` of the options one bare
+/// buffer. What is told of all messages that are whole is written before the next read, and before any answer: first to
+/// the writer, then to the notes. A reader that may be asked for more only where this is so can be run over (`leave`).
+///
+/// After a fault `so_far` has what was counted by then: that of the messages that are told, or in a write that failed
+/// were to be.
+///
+/// # Errors
+///
+/// - `ReadFault` where the reader failed, `TooManyTurns` where `turns` reads were made and a further one is needed, and
+/// `Stream` where a prefix declares too much or the stream ends in mid-message: what is told of all whole messages that
+/// were read is written, of a bare input nothing.
+/// - `WriteFault` where the writer failed or took nothing: it took `written` bytes, a front of what is told.
+/// `NoteFault` is the same of the notes.
+/// - `OutOfMemory` where memory was refused: what is told of the first messages is written, of a bare input nothing.
+/// - `BareTooLong` where more than `max_bytes` bytes of a bare input were read: nothing is written.
+pub fn run_beside<A: Allocator, S: Input<K, N>, K: Sink, N: Sink>(
+    alloc: A,
+    reader: &mut S,
+    writer: &mut K,
+    notes: &mut N,
+    schema: &Schema<'_>,
+    options: &Options,
+    turns: u64,
+    so_far: &mut Tally,
+) -> Result<Tally, RunFault>
+    requires serves { Serves schema.now options.now }
+    requires turns { turns ≤ MOST_TURNS }
+    requires reads { S.calls reader.old < 2 ^ 64 }
+    requires writes { K.calls writer.old < 2 ^ 64 }
+    requires tells { N.calls notes.old < 2 ^ 64 }
+    requires leave { (source sink note : Option (List ℕ)) → IsPrompt (job_of schema.now options.now) (S.remaining reader.old) source
+        (K.contents writer.old) sink (N.contents notes.old) note → S.may_ask source sink note }
+
+    ensures run { IsRunBeside (job_of schema.now options.now) (S.remaining reader.old) (S.remaining reader.new)
+        (K.contents writer.old) (K.contents writer.new) (N.contents notes.old) (N.contents notes.new) so_far.new result }
+    ensures end { EndsBeside (S.failures reader.old) (S.failures reader.new)
+        (K.failures writer.old) (K.failures writer.new) (N.failures notes.old) (N.failures notes.new)
+        (S.calls reader.old + turns - S.calls reader.new) (S.ended reader.new) result }
+    ensures pushes { N.calls notes.new ≤ N.calls notes.old + 2 ^ 96 }
+    ensures turns { S.calls reader.new ≤ S.calls reader.old + turns }
+{
+    let checker = Checker::new(schema, options);
+    if options.bare {
+        run_bare(alloc, reader, writer, notes, &checker, turns, so_far)
+    } else {
+        run_stream(alloc, reader, writer, notes, &checker, turns, so_far)
+    }
+}
+
+/// The same without notes: what would be noted is dropped, and only [`Filter`](crate::options::Mode::Filter) notes
+/// anything.
+pub fn run_within<A: Allocator, S: Input<K, Nowhere>, K: Sink>(
+    alloc: A,
+    reader: &mut S,
+    writer: &mut K,
+    schema: &Schema<'_>,
+    options: &Options,
+    turns: u64,
+) -> Result<Tally, RunFault>
+    requires serves { Serves schema.now options.now }
+    requires turns { turns ≤ MOST_TURNS }
+    requires reads { S.calls reader.old < 2 ^ 64 }
+    requires writes { K.calls writer.old < 2 ^ 64 }
+    requires leave { (source sink note : Option (List ℕ)) → IsPrompt (job_of schema.now options.now) (S.remaining reader.old) source
+        (K.contents writer.old) sink None note → S.may_ask source sink note }
+
+    ensures run { IsRun (job_of schema.now options.now)
+        (S.remaining reader.old) (S.remaining reader.new) (K.contents writer.old) (K.contents writer.new) result }
+    ensures end { EndsBy (S.failures reader.old) (S.failures reader.new) (K.failures writer.old) (K.failures writer.new)
+        (S.calls reader.old + turns - S.calls reader.new) (S.ended reader.new) result }
+    ensures turns { S.calls reader.new ≤ S.calls reader.old + turns }
+{
+    let mut notes = Nowhere::new();
+    let mut so_far = Tally::new();
+    run_beside(
+        alloc,
+        reader,
+        writer,
+        &mut notes,
+        schema,
+        options,
+        turns,
+        &mut so_far,
+    )
+}
+
+/// The same without notes, with at most 2^32 reads.
+pub fn run<A: Allocator, S: Input<K, Nowhere>, K: Sink>(
+    alloc: A,
+    reader: &mut S,
+    writer: &mut K,
+    schema: &Schema<'_>,
+    options: &Options,
+) -> Result<Tally, RunFault>
+    requires serves { Serves schema.now options.now }
+    requires reads { S.calls reader.old < 2 ^ 64 }
+    requires writes { K.calls writer.old < 2 ^ 64 }
+    requires leave { (source sink note : Option (List ℕ)) → IsPrompt (job_of schema.now options.now) (S.remaining reader.old) source
+        (K.contents writer.old) sink None note → S.may_ask source sink note }
+
+    ensures run { IsRun (job_of schema.now options.now)
+        (S.remaining reader.old) (S.remaining reader.new) (K.contents writer.old) (K.contents writer.new) result }
+    ensures end { EndsBy (S.failures reader.old) (S.failures reader.new) (K.failures writer.old) (K.failures writer.new)
+        (S.calls reader.old + MOST_TURNS - S.calls reader.new) (S.ended reader.new) result }
+    ensures turns { S.calls reader.new ≤ S.calls reader.old + MOST_TURNS }
+{
+    run_within(alloc, reader, writer, schema, options, MOST_TURNS)
+}

@@ -1,0 +1,237 @@
+//! A run over a stream of size-prefixed buffers.
+
+ghost use Rattle.std.specs.Prelude.{IfOk, IfErr, OnOk, ◌≡◌, ◌+◌, ◌-◌, ◌<◌, ◌≤◌, ◌^◌, ℕ, Bool, List, Option, [], length, take};
+ghost use Rattle.fb_run.specs.Faults.{EndsBeside, IsCaused};
+ghost use Rattle.fb_run.specs.Prompt.{IsStreamPrompt};
+ghost use Rattle.fb_run.specs.Run.{IsStreamRun};
+ghost use Rattle.fb_run.specs.Stream.{Gathers, Halts, HaltsThrough, IsFeedFault, IsReady, Onward, OnwardThrough, standing};
+ghost use Rattle.fb_run.specs.Sums.{no_tally};
+ghost use Rattle.fb_run.specs.Texts.{silent, waiting};
+
+use crate::checker::Checker;
+use crate::fault::RunFault;
+use crate::front::front_message;
+use crate::input::Input;
+use crate::output::Output;
+use crate::reading::{MOST_TURNS, PIECE, pull_piece, read_buffer};
+use crate::room::Room;
+use crate::tally::Tally;
+use fb_bytes::{Framer, Sink};
+use std::alloc::{AllocError, Allocator};
+
+/// What a run over a stream carries from piece to piece.
+#[derive(Drop)]
+struct Carried<A: Allocator> {
+    room: Room<A>,
+    framer: Framer<A>,
+    output: Output<A>,
+}
+
+impl<'a, A: Allocator> Carried<&'a A> {
+    /// What is carried at first: nothing is told, and nothing is held.
+    fn new(alloc: &'a A, checker: &Checker<'_, '_>) -> Result<Self, AllocError>
+        ensures ready { IfOk result (λ carried. IsReady checker.now carried.framer carried.room) }
+        ensures empty { IfOk result (λ carried. standing carried ≡ record { text = silent; tally = no_tally; held = [] }) }
+        ensures written { IfOk result (λ carried. carried.output.out.written ≡ 0) }
+        ensures noted { IfOk result (λ carried. carried.output.notes.written ≡ 0) }
+    {
+        let room = checker.room(alloc)?;
+        let Ok(framer) = Framer::new(alloc, checker.limit()) else {
+            unreachable!()
+        };
+        let output = Output::new(alloc);
+        Ok(Carried {
+            room,
+            framer,
+            output,
+        })
+    }
+}
+
+impl<A: Allocator> Carried<A> {
+    /// Goes on with the message that is held in part, if one is: feeds the framer bytes from the front of a piece, up
+    /// to the end of that message, and adds what is told of it. Answers how many bytes that were. A long value is
+    /// written at once; nothing is to wait by then.
+    fn pass_held<K: Sink>(
+        &mut self,
+        checker: &Checker<'_, '_>,
+        piece: &[u8],
+        writer: &mut K,
+    ) -> Result<usize, RunFault>
+        requires ready { IsReady checker.now self.old.framer self.old.room }
+        requires few { self.old.output.counter.yes + self.old.output.counter.no < 2 ^ 62 }
+        requires empty { waiting self.old.output ≡ silent }
+        requires writes { K.calls writer.old < 2 ^ 99 + 2 ^ 97 }
+        requires little { self.old.output.out.written < 2 ^ 99 + 2 ^ 97 }
+
+        ensures within { IfOk result (λ used. used ≤ length piece.now) }
+        ensures onward { IfOk result (λ used. OnwardThrough checker.now (standing self.old) (take used piece.now) (standing self.new)
+            (K.contents writer.old) (K.contents writer.new) self.old.output.out.written self.new.output.out.written) }
+        ensures ready { OnOk result (IsReady checker.now self.new.framer self.new.room) }
+        ensures few { OnOk result (self.new.output.counter.yes + self.new.output.counter.no
+            ≤ self.old.output.counter.yes + self.old.output.counter.no + 1) }
+
+        ensures halts { IfErr result (λ fault. HaltsThrough checker.now (standing self.old) piece.now
+            self.new.output.counter (K.contents writer.old) (K.contents writer.new) self.old.output.out.written fault) }
+        ensures failed { IfErr result (λ fault. (failures complaints left : ℕ) (ended : Bool) → IsCaused failures failures
+            (K.failures writer.old) (K.failures writer.new) complaints complaints left ended fault) }
+        ensures unfailed { OnOk result (K.failures writer.new ≡ K.failures writer.old) }
+        ensures little { OnOk result (self.new.output.out.written ≤ self.old.output.out.written + 2 ^ 67) }
+        ensures calls { OnOk result (K.calls writer.new ≤ K.calls writer.old + 2 ^ 67) }
+        ensures noted { self.new.output.notes.written ≡ self.old.output.notes.written }
+    {
+        let held = self.framer.held();
+        if held == 0 {
+            return Ok(0);
+        }
+        let taken = self.framer.feed(piece)?;
+        let Some(message) = self.framer.message() else {
+            return Ok(taken.used);
+        };
+        self.output
+            .add_through(checker, &mut self.room, message, writer)?;
+        self.framer.next();
+        Ok(taken.used)
+    }
+
+    /// Passes a whole piece, and adds what is told of the messages that end in it.
+    fn use_up(&mut self, checker: &Checker<'_, '_>, piece: &[u8]) -> Result<(), RunFault>
+        requires ready { IsReady checker.now self.old.framer self.old.room }
+        requires piece { length piece.now ≤ PIECE }
+        requires few { self.old.output.counter.yes + self.old.output.counter.no < 2 ^ 62 }
+
+        ensures onward { OnOk result (Onward checker.now (standing self.old) piece.now (standing self.new)) }
+        ensures ready { OnOk result (IsReady checker.now self.new.framer self.new.room) }
+        ensures few { OnOk result (self.new.output.counter.yes + self.new.output.counter.no
+            ≤ self.old.output.counter.yes + self.old.output.counter.no + PIECE) }
+
+        ensures halts { IfErr result (Halts checker.now (standing self.old) piece.now (waiting self.new.output) self.new.output.counter) }
+        ensures kind { IfErr result (λ fault. IsFeedFault fault) }
+
+        ensures gathers { Gathers checker.now (standing self.old) piece.now (waiting self.new.output) self.new.output.counter }
+        ensures written { self.new.output.out.written ≡ self.old.output.out.written }
+        ensures noted { self.new.output.notes.written ≡ self.old.output.notes.written }
+    {
+        let mut rest = piece;
+        while !rest.is_empty() {
+            let used = self.pass_some(checker, rest)?;
+            rest = &rest[used..];
+        }
+        Ok(())
+    }
+
+    /// Passes bytes from the front of the rest of a piece, up to the end of a message, and adds what is told of it.
+    /// Answers how many bytes that were. A message that stands whole there is checked where it stands; of others the
+    /// framer holds what came.
+    fn pass_some(&mut self, checker: &Checker<'_, '_>, rest: &[u8]) -> Result<usize, RunFault>
+        requires rest { 0 < length rest.now }
+        requires ready { IsReady checker.now self.old.framer self.old.room }
+        requires few { self.old.output.counter.yes + self.old.output.counter.no < 2 ^ 63 }
+
+        ensures some { IfOk result (λ used. 0 < used) }
+        ensures within { IfOk result (λ used. used ≤ length rest.now) }
+        ensures onward { IfOk result (λ used. Onward checker.now (standing self.old) (take used rest.now) (standing self.new)) }
+        ensures ready { OnOk result (IsReady checker.now self.new.framer self.new.room) }
+        ensures few { OnOk result (self.new.output.counter.yes + self.new.output.counter.no
+            ≤ self.old.output.counter.yes + self.old.output.counter.no + 1) }
+
+        ensures halts { IfErr result (Halts checker.now (standing self.old) rest.now (waiting self.new.output) self.new.output.counter) }
+        ensures kind { IfErr result (λ fault. IsFeedFault fault) }
+
+        ensures written { self.new.output.out.written ≡ self.old.output.out.written }
+        ensures noted { self.new.output.notes.written ≡ self.old.output.notes.written }
+    {
+        if self.framer.held() == 0 {
+            if let Some(message) = front_message(rest, checker.limit()) {
+                self.output.add(checker, &mut self.room, message)?;
+                return Ok(message.len());
+            }
+        }
+        self.feed_some(checker, rest)
+    }
+
+    /// Feeds the framer bytes from the front of the rest of a piece, up to the end of a message, and adds what is told
+    /// of it. Answers how many bytes that were.
+    fn feed_some(&mut self, checker: &Checker<'_, '_>, rest: &[u8]) -> Result<usize, RunFault>
+        requires rest { 0 < length rest.now }
+        requires ready { IsReady checker.now self.old.framer self.old.room }
+        requires few { self.old.output.counter.yes + self.old.output.counter.no < 2 ^ 63 }
+
+        ensures some { IfOk result (λ used. 0 < used) }
+        ensures within { IfOk result (λ used. used ≤ length rest.now) }
+        ensures onward { IfOk result (λ used. Onward checker.now (standing self.old) (take used rest.now) (standing self.new)) }
+        ensures ready { OnOk result (IsReady checker.now self.new.framer self.new.room) }
+        ensures few { OnOk result (self.new.output.counter.yes + self.new.output.counter.no
+            ≤ self.old.output.counter.yes + self.old.output.counter.no + 1) }
+
+        ensures halts { IfErr result (Halts checker.now (standing self.old) rest.now (waiting self.new.output) self.new.output.counter) }
+        ensures kind { IfErr result (λ fault. IsFeedFault fault) }
+
+        ensures written { self.new.output.out.written ≡ self.old.output.out.written }
+        ensures noted { self.new.output.notes.written ≡ self.old.output.notes.written }
+    {
+        let taken = self.framer.feed(rest)?;
+        let Some(message) = self.framer.message() else {
+            return Ok(taken.used);
+        };
+        self.output.add(checker, &mut self.room, message)?;
+        self.framer.next();
+        Ok(taken.used)
+    }
+}
+
+/// Checks a stream of size-prefixed buffers, each of at most `max_bytes` of the options, and writes what the mode tells
+/// of each, with at most `turns` reads.
+///
+/// What is told of all messages that are whole is written before the next read (`leave`), and before any answer. On a
+/// fault that of all whole messages that were read is written, but for `OutOfMemory`, where it is that of the first
+/// ones, and for `WriteFault` and `NoteFault`, where `written` bytes of it are. Then `so_far` has what was counted by
+/// then.
+pub fn run_stream<A: Allocator, S: Input<K, N>, K: Sink, N: Sink>(
+    alloc: A,
+    reader: &mut S,
+    writer: &mut K,
+    notes: &mut N,
+    checker: &Checker<'_, '_>,
+    turns: u64,
+    so_far: &mut Tally,
+) -> Result<Tally, RunFault>
+    requires turns { turns ≤ MOST_TURNS }
+    requires reads { S.calls reader.old < 2 ^ 64 }
+    requires writes { K.calls writer.old < 2 ^ 64 }
+    requires tells { N.calls notes.old < 2 ^ 64 }
+    requires leave { (source sink note : Option (List ℕ)) → IsStreamPrompt checker.now (S.remaining reader.old) source
+        (K.contents writer.old) sink (N.contents notes.old) note → S.may_ask source sink note }
+    ensures run { IsStreamRun checker.now
+        (S.remaining reader.old) (S.remaining reader.new) (K.contents writer.old) (K.contents writer.new)
+        (N.contents notes.old) (N.contents notes.new) so_far.new result }
+    ensures end { EndsBeside (S.failures reader.old) (S.failures reader.new) (K.failures writer.old) (K.failures writer.new)
+        (N.failures notes.old) (N.failures notes.new) (S.calls reader.old + turns - S.calls reader.new) (S.ended reader.new) result }
+    ensures pushes { N.calls notes.new ≤ N.calls notes.old + 2 ^ 96 }
+    ensures turns { S.calls reader.new ≤ S.calls reader.old + turns }
+{
+    *so_far = Tally::new();
+    let mut piece = read_buffer(&alloc)?;
+    let mut carried = Carried::new(&alloc, checker)?;
+    let mut left = turns;
+    while left > 0 {
+        left -= 1;
+        let read = match pull_piece(reader, &mut piece, writer, notes) {
+            Ok(0) => {
+                carried.framer.finish()?;
+                return Ok(carried.output.tally());
+            }
+            Ok(read) => read,
+            Err(_) => return Err(RunFault::ReadFault),
+        };
+        let piece = &piece.as_slice()[..read];
+        let held = carried.pass_held(checker, piece, writer);
+        *so_far = carried.output.tally();
+        let held = held?;
+        let used = carried.use_up(checker, &piece[held..]);
+        *so_far = carried.output.tally();
+        carried.output.flush(writer, notes)?;
+        used?;
+    }
+    Err(RunFault::TooManyTurns)
+}
