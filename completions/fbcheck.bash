@@ -3,6 +3,9 @@
 _fbcheck() {
     local word=${COMP_WORDS[COMP_CWORD]} before=${COMP_WORDS[COMP_CWORD - 1]}
     COMPREPLY=()
+    # An equals sign is a word of its own.
+    [ "$before" != = ] || before=${COMP_WORDS[COMP_CWORD - 2]}
+    [ "$word" != = ] || word=
     case $before in
     --schema)
         compopt -o filenames 2>/dev/null

@@ -141,6 +141,9 @@ def completions(cases):
     cases.same("or those that begin so", completed(folder, "--max-r"), ["--max-reads"])
     cases.same("for a schema, files of schemas and folders", completed(folder, "--schema", ""),
                ["a.bfbs", "b.bfbs", "more"])
+    files = completed(folder, "--schema", "")
+    cases.same("also behind an equals sign", completed(folder, "--schema", "="), files)
+    cases.same("with a name begun", completed(folder, "--schema", "=", ""), files)
     cases.same("and nothing for a number", completed(folder, "--max-depth", ""), [])
     zsh = (TOP / "completions/_fbcheck").read_text()
     cases.same("zsh knows each option", re.findall(r"(--[a-z-]+)(?:\[|\})", zsh), options())
