@@ -2,13 +2,14 @@
 use Rattle.std.proofs.Common.{◌≡◌, ℕ, ◌+◌, Bool, List, [], ◌++◌, Option, length, take, drop, refl, sym, ap, subst, ◌∙◌, arith, append-nil, append_assoc, length-append, take-append-drop}
 use Rattle.std.specs.Io.KnownBytes.{Appends, Consumes, Keeps}
 use Rattle.std.proofs.KnownBytes.{Appends-kept, Appends-nil, Appends-trans, Keeps-refl}
+use mathlib.Core.Logic.{inl, inr}
 use Rattle.fb_bytes.specs.Framing.{Framing, Feeds}
 use Rattle.fb_bytes.specs.Messages.{IsMessage, IsPartial}
 use Rattle.fb_bytes.specs.declared.stream_fault.StreamFault.TheVariants as stream
 use Rattle.fb_run.specs.Faults.{IsCaused}
 use Rattle.fb_run.specs.Job.{Job}
 use Rattle.fb_run.specs.Lines.{AddsTold, AddsThrough, StopsBehind, WritesFront, WritesFronts}
-use Rattle.fb_run.specs.Stream.{FailsStream, Gathers, Halts, HaltsThrough, IsFeedFault, Onward, OnwardThrough, Rests, Standing, Tells, TellsSome, with_written}
+use Rattle.fb_run.specs.Stream.{FailsStream, Gathers, Halts, HaltsThrough, IsFeedFault, Onward, OnwardThrough, PassesPiece, Rests, Standing, StopsAmid, Tells, TellsSome, with_written}
 use Rattle.fb_run.specs.Texts.{Texts, followed, silent, to_out}
 use Rattle.fb_run.specs.declared.tally.Tally.{Tally}
 use Rattle.fb_run.specs.declared.fault.RunFault.{RunFault}
@@ -138,55 +139,70 @@ module _ (job : Job) (before mid : Standing) (n : ℕ) (piece rest : List ℕ) (
       joined (λ b t. TellsSome job job.limit b t tally) bytes written text
       (second (bytes ++ take n piece) (followed written (to_out first.front)) (begun bytes written tells))
 
-module _ (job : Job) (before mid : Standing) (count count' noted k used : ℕ) (piece slice rest : List ℕ) (r r' r'' s s' s₁ s'' n n' n'' : Option (List ℕ))
-    (all : slice ≡ piece) (none : before.text ≡ silent) (at : rest ≡ drop used (take k slice)) (sofar : Sofar job r r' s s' n n' before count noted)
-    (read : Consumes r' r'' (take k piece)) (first : OnwardThrough job before (take used (take k slice)) mid s' s₁ count count') where
-  -- a piece was read and passed, and what is told of it was written: of the message that was held, and of the others
-  pub sofar_held : (between after : Standing) (count'' noted' : ℕ) → count'' ≡ count' + length between.text.out → noted' ≡ noted + length between.text.notes
+module _ (job : Job) (before mid : Standing) (used : ℕ) (piece rest : List ℕ) (s s₁ s' n n' : Option (List ℕ)) (count count' noted : ℕ) (at : rest ≡ drop used piece)
+    (first : OnwardThrough job before (take used piece) mid s s₁ count count') where
+  -- the rest of the piece was passed too, and what waited then was written
+  pub passes_held : (between after : Standing) (count'' noted' : ℕ) → count'' ≡ count' + length between.text.out → noted' ≡ noted + length between.text.notes
       → after.tally ≡ between.tally → after.held ≡ between.held
-      → Onward job mid rest between → Appends s₁ s'' between.text.out → Appends n' n'' between.text.notes → Sofar job r r'' s s'' n n'' after count'' noted'
-  sofar_held between after count'' noted' counts notes counted hs second more further =
-      sofar_more job before (with_written first.front between) after count count'' noted noted' k piece slice r r' r'' s s' s'' n n' n'' all none
-      (omega (arith, counts, first.written_is, length-append first.front between.text.out)) notes counted hs sofar read
-      (onward_then job before mid used (take k slice) rest s' s₁ count count' at first between second)
-      (Appends-trans s' s₁ s'' first.front between.text.out first.wrote more) further
+      → Onward job mid rest between → Appends s₁ s' between.text.out → Appends n n' between.text.notes → PassesPiece job before piece after s s' n n' count count'' noted noted'
+  passes_held between after count'' noted' counts notes counted hs second more further =
+      let text = followed (to_out first.front) between.text in record {
+        text = text;
+        onward = λ bytes written tells.
+            subst (λ (t : Tally). Tells job job.limit (bytes ++ piece) (followed written text) t after.held) (sym counted)
+            (subst (λ (l : List ℕ). Tells job job.limit (bytes ++ piece) (followed written text) between.tally l) (sym hs)
+            (onward_then job before mid used piece rest s s₁ count count' at first between second bytes written tells));
+        wrote = Appends-trans s s₁ s' first.front between.text.out first.wrote more;
+        told = further;
+        written_is = omega (arith, counts, first.written_is, length-append first.front between.text.out);
+        noted_is = notes;
+      }
 
-  -- the run came to rest behind the message that was held, and what waited was written
-  pub used_held : (waits : Texts) (tally : Tally) (fault : RunFault) → Halts job mid rest waits tally fault → Appends s₁ s'' waits.out → Appends n' n'' waits.notes
-      → FailsStream job job.limit r r'' s s'' n n'' tally fault
-  used_held waits tally fault second more further =
-      fails_used job before count noted k piece slice (followed (to_out first.front) waits) tally r r' r'' s s' s'' n n' n'' fault all none sofar read
-      (halts_then job before mid used (take k slice) rest s' s₁ count count' at first waits tally fault second)
-      (Appends-trans s' s₁ s'' first.front waits.out first.wrote more) further
+  -- the run came to rest in the rest of the piece, and what waited was written
+  pub stops_used : (waits : Texts) (tally told : Tally) (fault : RunFault) → told ≡ tally → Halts job mid rest waits tally fault → Appends s₁ s' waits.out → Appends n n' waits.notes
+      → StopsAmid job before piece told s s' n n' count noted fault
+  stops_used waits tally told fault is second more further =
+      let text = followed (to_out first.front) waits in
+      let halts = halts_then job before mid used piece rest s s₁ count count' at first waits tally fault second in
+      (text, inr (subst (λ (t : Tally). Halts job before piece text t fault) (sym is) halts, Appends-trans s s₁ s' first.front waits.out first.wrote more, further))
 
   -- or the writer or the notes failed there
-  pub write_held : (waits : Texts) (tally : Tally) (count'' noted' : ℕ) (fault : RunFault) → count'' ≡ count' → noted' ≡ noted → Gathers job mid rest waits tally
-      → WritesFronts waits s₁ s'' n' n'' count'' noted' fault
-      → FailsStream job job.limit r r'' s s'' n n'' tally fault
-  write_held waits tally count'' noted' fault same notes second within =
-      fails_write job before count count noted noted' k piece slice (followed (to_out first.front) waits) tally r r' r'' s s' s'' n n' n'' fault all none refl notes sofar read
-      (gathers_then job before mid used (take k slice) rest s' s₁ count count' at first waits tally second)
-      (fronts_behind first.front waits s' s₁ s'' n' n'' count count'' noted' fault first.wrote (same ∙ first.written_is) within)
+  pub stops_write : (waits : Texts) (tally told : Tally) (count'' noted' : ℕ) (fault : RunFault) → told ≡ tally → count'' ≡ count' → noted' ≡ noted → Gathers job mid rest waits tally
+      → WritesFronts waits s₁ s' n n' count'' noted' fault → StopsAmid job before piece told s s' n n' count noted fault
+  stops_write waits tally told count'' noted' fault is same notes second within =
+      let text = followed (to_out first.front) waits in
+      let gathers = gathers_then job before mid used piece rest s s₁ count count' at first waits tally second in
+      let behind = fronts_behind first.front waits s s₁ s' n n' count count'' noted' fault first.wrote (same ∙ first.written_is) within in
+      (text, inl (subst (λ (t : Tally). Gathers job before piece text t) (sym is) gathers, subst (λ (m : ℕ). WritesFronts text s s' n n' count m fault) notes behind))
 
-module _ (job : Job) (before : Standing) (count noted k : ℕ) (piece slice : List ℕ) (tally : Tally) (r r' r'' s s' s'' n n' : Option (List ℕ)) where
-  still : (fault : RunFault) → slice ≡ piece → before.text ≡ silent → Sofar job r r' s s' n n' before count noted → Consumes r' r'' (take k piece)
-      → Halts job before (take k slice) silent tally fault × Keeps s' s'' → FailsStream job job.limit r r'' s s'' n n' tally fault
-  still fault all none sofar second (halts, keeps) =
-      fails_used job before count noted k piece slice silent tally r r' r'' s s' s'' n n' n' fault all none sofar second halts
-      (Appends-kept s' s' s'' [] (Appends-nil s') keeps) (Appends-nil n')
+module _ (job : Job) (before : Standing) (piece : List ℕ) (tally : Tally) (s s' n : Option (List ℕ)) (count noted : ℕ) where
+  still : (fault : RunFault) → Halts job before piece silent tally fault × Keeps s s' → StopsAmid job before piece tally s s' n n count noted fault
+  still fault (halts, keeps) = (silent, inr (halts, Appends-kept s s s' [] (Appends-nil s) keeps, Appends-nil n))
 
   -- the run came to rest in the message that was held
-  pub fails_held : (fault : RunFault) → slice ≡ piece → before.text ≡ silent → Sofar job r r' s s' n n' before count noted → Consumes r' r'' (take k piece)
-      → HaltsThrough job before (take k slice) tally s' s'' count fault → FailsStream job job.limit r r'' s s'' n n' tally fault
-  fails_held (run.WriteFault written) all none sofar second (text, gathers, within) =
-      fails_write job before count count noted noted k piece slice text tally r r' r'' s s' s'' n n' n' (run.WriteFault written) all none refl refl sofar second gathers
-      (within, Keeps-refl n')
-  fails_held run.ReadFault all none sofar second halts = still run.ReadFault all none sofar second halts
-  fails_held run.TooManyTurns all none sofar second halts = still run.TooManyTurns all none sofar second halts
-  fails_held run.OutOfMemory all none sofar second halts = still run.OutOfMemory all none sofar second halts
-  fails_held (run.NoteFault written) all none sofar second halts = still (run.NoteFault written) all none sofar second halts
-  fails_held (run.Stream cause) all none sofar second halts = still (run.Stream cause) all none sofar second halts
-  fails_held (run.BareTooLong most) all none sofar second halts = still (run.BareTooLong most) all none sofar second halts
-  fails_held (run.Load cause) all none sofar second halts = still (run.Load cause) all none sofar second halts
-  fails_held (run.Path cause) all none sofar second halts = still (run.Path cause) all none sofar second halts
-  fails_held run.NoRoot all none sofar second halts = still run.NoRoot all none sofar second halts
+  pub stops_held : (fault : RunFault) → HaltsThrough job before piece tally s s' count fault → StopsAmid job before piece tally s s' n n count noted fault
+  stops_held (run.WriteFault written) (text, gathers, within) = (text, inl (gathers, (within, Keeps-refl n)))
+  stops_held run.ReadFault halts = still run.ReadFault halts
+  stops_held run.TooManyTurns halts = still run.TooManyTurns halts
+  stops_held run.OutOfMemory halts = still run.OutOfMemory halts
+  stops_held (run.NoteFault written) halts = still (run.NoteFault written) halts
+  stops_held (run.Stream cause) halts = still (run.Stream cause) halts
+  stops_held (run.BareTooLong most) halts = still (run.BareTooLong most) halts
+  stops_held (run.Load cause) halts = still (run.Load cause) halts
+  stops_held (run.Path cause) halts = still (run.Path cause) halts
+  stops_held run.NoRoot halts = still run.NoRoot halts
+
+module _ (job : Job) (before : Standing) (count noted k : ℕ) (piece slice : List ℕ) (r r' r'' s s' s'' n n' n'' : Option (List ℕ)) (all : slice ≡ piece) (none : before.text ≡ silent)
+    (sofar : Sofar job r r' s s' n n' before count noted) (read : Consumes r' r'' (take k piece)) where
+  -- a piece was read and passed
+  pub sofar_piece : (after : Standing) (count' noted' : ℕ) → PassesPiece job before (take k slice) after s' s'' n' n'' count count' noted noted' → Sofar job r r'' s s'' n n'' after count' noted'
+  sofar_piece after count' noted' passes =
+      sofar_more job before (record after { text = passes.text }) after count count' noted noted' k piece slice r r' r'' s s' s'' n n' n'' all none passes.written_is passes.noted_is refl refl
+      sofar read passes.onward passes.wrote passes.told
+
+  -- or the run came to rest in it
+  pub fails_piece : (tally : Tally) (fault : RunFault) → StopsAmid job before (take k slice) tally s' s'' n' n'' count noted fault → FailsStream job job.limit r r'' s s'' n n'' tally fault
+  fails_piece tally fault (text, inl (gathers, within)) =
+      fails_write job before count count noted noted k piece slice text tally r r' r'' s s' s'' n n' n'' fault all none refl refl sofar read gathers within
+  fails_piece tally fault (text, inr (halts, wrote, told)) =
+      fails_used job before count noted k piece slice text tally r r' r'' s s' s'' n n' n'' fault all none sofar read halts wrote told

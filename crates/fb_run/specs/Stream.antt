@@ -1,12 +1,12 @@
 -- What a run over a stream has read and written, and how it ends.
-use Rattle.std.specs.Prelude.{◌≡◌, ℕ, ◌+◌, ◌<◌, ◌^◌, false, List, [], ◌++◌, Option, length}
+use Rattle.std.specs.Prelude.{◌≡◌, ℕ, ◌+◌, ◌<◌, ◌^◌, ◌⊎◌, false, List, [], ◌++◌, Option, length}
 use Rattle.std.specs.Io.KnownBytes.{Consumes, Appends, Keeps}
 use Rattle.fb_bytes.specs.Framing.{Framing}
 use Rattle.fb_bytes.specs.Messages.{declared, IsPartial, IsOversize, Splits}
 use Rattle.fb_bytes.specs.declared.stream_fault.StreamFault.TheVariants as stream
 use Rattle.fb_run.specs.Job.{Beside, HasRoom, Job}
 use Rattle.fb_run.specs.Texts.{Texts, followed, silent, to_notes, to_out, waiting}
-use Rattle.fb_run.specs.Lines.{AreTold, WritesFront}
+use Rattle.fb_run.specs.Lines.{AreTold, WritesFront, WritesFronts}
 use Rattle.fb_run.specs.declared.stream.Carried.{Carried}
 use Rattle.fb_run.specs.declared.tally.Tally.{Tally}
 use Rattle.fb_run.specs.declared.fault.RunFault.{RunFault}
@@ -125,3 +125,19 @@ abbrev pub IsFeedFault : RunFault → Type 0
 IsFeedFault (Stream (stream.Oversize number)) = Unit {0}
 IsFeedFault OutOfMemory = Unit {0}
 IsFeedFault _ = ⊥
+
+-- a whole piece was passed, and all that is told in it is written and noted, with which so many bytes were in all
+pub record PassesPiece (job : Job) (before : Standing) (piece : List ℕ) (after : Standing) (sink sink' notes notes' : Option (List ℕ))
+    (count written count' noted : ℕ) : Type 0 where
+  pub text : Texts
+  pub onward : Onward job before piece (record after { text = text })
+  pub wrote : Appends sink sink' text.out
+  pub told : Appends notes notes' text.notes
+  pub written_is : written ≡ count + length text.out
+  pub noted_is : noted ≡ count' + length text.notes
+
+-- it comes to rest in the piece, where this is counted: within a write of what is told, or with all of it written
+abbrev pub StopsAmid : Job → Standing → List ℕ → Tally → Option (List ℕ) → Option (List ℕ) → Option (List ℕ) → Option (List ℕ) → ℕ → ℕ → RunFault → Type 0
+StopsAmid job before piece tally sink sink' notes notes' count count' fault =
+    (text : Texts) × ((Gathers job before piece text tally × WritesFronts text sink sink' notes notes' count count' fault)
+    ⊎ (Halts job before piece text tally fault × Appends sink sink' text.out × Appends notes notes' text.notes))

@@ -1,10 +1,10 @@
 //! A run over a stream of size-prefixed buffers.
 
-ghost use Rattle.std.specs.Prelude.{IfOk, IfErr, OnOk, ◌≡◌, ◌+◌, ◌-◌, ◌<◌, ◌≤◌, ◌^◌, ℕ, Bool, List, Option, [], length, take};
+ghost use Rattle.std.specs.Prelude.{IfOk, IfErr, OnOk, ◌≡◌, ◌+◌, ◌-◌, ◌*◌, ◌<◌, ◌≤◌, ◌^◌, ℕ, Bool, List, Option, [], length, take};
 ghost use Rattle.fb_run.specs.Faults.{EndsBeside, IsCaused};
 ghost use Rattle.fb_run.specs.Prompt.{IsStreamPrompt};
 ghost use Rattle.fb_run.specs.Run.{IsStreamRun};
-ghost use Rattle.fb_run.specs.Stream.{Gathers, Halts, HaltsThrough, IsFeedFault, IsReady, Onward, OnwardThrough, standing};
+ghost use Rattle.fb_run.specs.Stream.{Gathers, Halts, HaltsThrough, IsFeedFault, IsReady, Onward, OnwardThrough, PassesPiece, StopsAmid, standing};
 ghost use Rattle.fb_run.specs.Sums.{no_tally};
 ghost use Rattle.fb_run.specs.Texts.{silent, waiting};
 
@@ -49,6 +49,103 @@ impl<'a, A: Allocator> Carried<&'a A> {
 }
 
 impl<A: Allocator> Carried<A> {
+    /// Passes all of a stream from its start, a piece after the other through the read buffer, with at most `turns`
+    /// reads.
+    fn pass_all<S: Input<K, N>, K: Sink, N: Sink>(
+        &mut self,
+        piece: &mut Vec<u8, A>,
+        reader: &mut S,
+        writer: &mut K,
+        notes: &mut N,
+        checker: &Checker<'_, '_>,
+        turns: u64,
+        so_far: &mut Tally,
+    ) -> Result<Tally, RunFault>
+        requires room { length piece.old.items ≡ PIECE }
+        requires ready { IsReady checker.now self.old.framer self.old.room }
+        requires start { standing self.old ≡ record { text = silent; tally = no_tally; held = [] } }
+        requires written { self.old.output.out.written ≡ 0 }
+        requires noted { self.old.output.notes.written ≡ 0 }
+        requires counted { so_far.old ≡ no_tally }
+        requires turns { turns ≤ MOST_TURNS }
+        requires reads { S.calls reader.old < 2 ^ 64 }
+        requires writes { K.calls writer.old < 2 ^ 64 }
+        requires tells { N.calls notes.old < 2 ^ 64 }
+        requires leave { (source sink note : Option (List ℕ)) → IsStreamPrompt checker.now (S.remaining reader.old) source
+            (K.contents writer.old) sink (N.contents notes.old) note → S.may_ask source sink note }
+
+        ensures run { IsStreamRun checker.now
+            (S.remaining reader.old) (S.remaining reader.new) (K.contents writer.old) (K.contents writer.new)
+            (N.contents notes.old) (N.contents notes.new) so_far.new result }
+        ensures end { EndsBeside (S.failures reader.old) (S.failures reader.new) (K.failures writer.old) (K.failures writer.new)
+            (N.failures notes.old) (N.failures notes.new) (S.calls reader.old + turns - S.calls reader.new) (S.ended reader.new) result }
+        ensures pushes { N.calls notes.new ≤ N.calls notes.old + 2 ^ 96 }
+        ensures turns { S.calls reader.new ≤ S.calls reader.old + turns }
+    {
+        let mut left = turns;
+        while left > 0 {
+            left -= 1;
+            let read = match pull_piece(reader, piece, writer, notes) {
+                Ok(0) => {
+                    self.framer.finish()?;
+                    return Ok(self.output.tally());
+                }
+                Ok(read) => read,
+                Err(_) => return Err(RunFault::ReadFault),
+            };
+            self.pass_piece(checker, &piece.as_slice()[..read], writer, notes, so_far)?;
+        }
+        Err(RunFault::TooManyTurns)
+    }
+
+    /// Passes a whole piece, and writes what is told of the messages that end in it. Then `so_far` has what was counted.
+    fn pass_piece<K: Sink, N: Sink>(
+        &mut self,
+        checker: &Checker<'_, '_>,
+        piece: &[u8],
+        writer: &mut K,
+        notes: &mut N,
+        so_far: &mut Tally,
+    ) -> Result<(), RunFault>
+        requires ready { IsReady checker.now self.old.framer self.old.room }
+        requires piece { length piece.now ≤ PIECE }
+        requires few { self.old.output.counter.yes + self.old.output.counter.no < 2 ^ 61 }
+        requires empty { waiting self.old.output ≡ silent }
+        requires writes { K.calls writer.old < 2 ^ 99 + 2 ^ 97 }
+        requires tells { N.calls notes.old < 2 ^ 99 }
+        requires little { self.old.output.out.written < 2 ^ 99 + 2 ^ 97 }
+        requires less { self.old.output.notes.written < 2 ^ 100 }
+
+        ensures passes { OnOk result (PassesPiece checker.now (standing self.old) piece.now (standing self.new)
+            (K.contents writer.old) (K.contents writer.new) (N.contents notes.old) (N.contents notes.new)
+            self.old.output.out.written self.new.output.out.written self.old.output.notes.written self.new.output.notes.written) }
+        ensures ready { OnOk result (IsReady checker.now self.new.framer self.new.room) }
+        ensures empty { OnOk result (waiting self.new.output ≡ silent) }
+        ensures few { OnOk result (self.new.output.counter.yes + self.new.output.counter.no
+            ≤ self.old.output.counter.yes + self.old.output.counter.no + PIECE + 1) }
+        ensures counted { so_far.new ≡ self.new.output.counter }
+
+        ensures stops { IfErr result (λ fault. StopsAmid checker.now (standing self.old) piece.now self.new.output.counter
+            (K.contents writer.old) (K.contents writer.new) (N.contents notes.old) (N.contents notes.new)
+            self.old.output.out.written self.old.output.notes.written fault) }
+        ensures failed { IfErr result (λ fault. (failures left : ℕ) (ended : Bool) → IsCaused failures failures
+            (K.failures writer.old) (K.failures writer.new) (N.failures notes.old) (N.failures notes.new) left ended fault) }
+        ensures unfailed { OnOk result (K.failures writer.new ≡ K.failures writer.old) }
+        ensures unrefused { OnOk result (N.failures notes.new ≡ N.failures notes.old) }
+        ensures little { OnOk result (self.new.output.out.written ≤ self.old.output.out.written + 9 * 2 ^ 64) }
+        ensures less { OnOk result (self.new.output.notes.written ≤ self.old.output.notes.written + 2 ^ 64) }
+        ensures calls { OnOk result (K.calls writer.new ≤ K.calls writer.old + 9 * 2 ^ 64) }
+        ensures tells { N.calls notes.new ≤ N.calls notes.old + 2 ^ 64 }
+    {
+        let held = self.pass_held(checker, piece, writer);
+        *so_far = self.output.tally();
+        let held = held?;
+        let used = self.use_up(checker, &piece[held..]);
+        *so_far = self.output.tally();
+        self.output.flush(writer, notes)?;
+        Ok(used?)
+    }
+
     /// Goes on with the message that is held in part, if one is: feeds the framer bytes from the front of a piece, up
     /// to the end of that message, and adds what is told of it. Answers how many bytes that were. A long value is
     /// written at once; nothing is to wait by then.
@@ -213,25 +310,5 @@ pub fn run_stream<A: Allocator, S: Input<K, N>, K: Sink, N: Sink>(
     *so_far = Tally::new();
     let mut piece = read_buffer(&alloc)?;
     let mut carried = Carried::new(&alloc, checker)?;
-    let mut left = turns;
-    while left > 0 {
-        left -= 1;
-        let read = match pull_piece(reader, &mut piece, writer, notes) {
-            Ok(0) => {
-                carried.framer.finish()?;
-                return Ok(carried.output.tally());
-            }
-            Ok(read) => read,
-            Err(_) => return Err(RunFault::ReadFault),
-        };
-        let piece = &piece.as_slice()[..read];
-        let held = carried.pass_held(checker, piece, writer);
-        *so_far = carried.output.tally();
-        let held = held?;
-        let used = carried.use_up(checker, &piece[held..]);
-        *so_far = carried.output.tally();
-        carried.output.flush(writer, notes)?;
-        used?;
-    }
-    Err(RunFault::TooManyTurns)
+    carried.pass_all(&mut piece, reader, writer, notes, checker, turns, so_far)
 }
