@@ -1,6 +1,7 @@
 // A schema out of its file.
 
-ghost use Rattle.std.specs.Prelude.{◌≡◌, ◌<◌, ◌≤◌, IfOk, OnOk, IfErr};
+ghost use Rattle.std.specs.Prelude.{◌≡◌, ◌<◌, ◌≤◌, ◌^◌, length, IfOk, OnOk, IfErr};
+ghost use Rattle.fb_bfbs.specs.Fixed.{fixed};
 ghost use Rattle.fb_schema.specs.Rows.{AreFew};
 ghost use Rattle.fb_bfbs.specs.FileRows.{IsTold};
 ghost use Rattle.fb_bfbs.specs.Loads.{IsSchemaFile, HasTableForRoot, IsLoaded, IsLoadFault, told};
@@ -48,12 +49,30 @@ fn read<'b>(alloc: Global, bytes: &'b [u8], limits: Limits) -> Result<FileRows<'
 {
     let meter = Meter::new(bytes)?;
     let fixed = reflection(alloc)?;
+    read_by(alloc, &fixed, meter, limits)
+}
+
+/// The same by a table that is made.
+fn read_by<'b>(
+    alloc: Global,
+    table: &Schema<'static>,
+    meter: Meter<'b>,
+    limits: Limits,
+) -> Result<FileRows<'b>, LoadFault>
+    requires table { table.now ≡ fixed }
+    requires unread { meter.count ≡ 0 }
+    requires short { length meter.bytes < 2 ^ 31 }
+    ensures file { OnOk result (IsSchemaFile meter.entry.bytes limits) }
+    ensures told { IfOk result (λ f. IsTold (told meter.entry.bytes) f) }
+    ensures few { IfOk result (λ f. AreFew f.objects.items f.enums.items) }
+    ensures no { IfErr result (λ fault. IsLoadFault meter.entry.bytes limits fault) }
+{
     let mut scratch = scratch_of(alloc, limits)?;
     let ident = Ident::Want(*b"BFBS");
     let checks = Checks::published();
     let verified = verify(
         meter,
-        &fixed,
+        table,
         SCHEMA,
         Start::Bare,
         ident,

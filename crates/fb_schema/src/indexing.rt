@@ -1,6 +1,6 @@
 // How the index of legal rows is made.
 
-ghost use Rattle.std.specs.Prelude.{◌≡◌, ◌<◌, ◌^◌, map, length, IfOk, All, vec_len};
+ghost use Rattle.std.specs.Prelude.{◌≡◌, ◌<◌, ◌^◌, ◌+◌, map, length, take, IfOk, OnOk, All, vec_len};
 ghost use Rattle.fb_schema.specs.Sorting.{IsOrderOf, name_cmp};
 ghost use Rattle.fb_schema.specs.Rows.{borrowed_rows, member_of_row};
 ghost use Rattle.fb_schema.specs.Index.{view_name, IsLiveIndex, IsMemberIndex};
@@ -48,6 +48,46 @@ fn member_kinds<A: Allocator>(
     Ok(kinds)
 }
 
+impl<'n, A: Allocator + Copy> LiveIndex<'n, A> {
+    /// Adds what is kept of the object with this number, behind those before it.
+    fn add(&mut self, alloc: A, rows: &RowLists<'_, 'n>, n: usize) -> Result<(), AllocError>
+        requires legal { IsLegal (borrowed_rows rows.now) }
+        requires few_fields { All (λ o. vec_len o.fields < 2 ^ 31) rows.now.objects.now }
+        requires here { n < length rows.now.objects.now }
+        requires before { IsLiveIndex (borrowed_rows rows.now) (take n (borrowed_rows rows.now).objects) self.old }
+        ensures { OnOk result (IsLiveIndex (borrowed_rows rows.now) (take (n + 1) (borrowed_rows rows.now).objects) self.new) }
+    {
+        let fields = table_views(alloc, rows, &rows.objects[n])?;
+        let names = in_order(alloc, &fields, |field| field.name)?;
+        let steps = field_steps(alloc, &fields)?;
+        self.widest = self.widest.max(fields.len() as u32);
+        self.fields.push(&fields)?;
+        self.names.push(&names)?;
+        self.steps.push(&steps)?;
+        self.required.push(required_end(&fields))?;
+        Ok(())
+    }
+}
+
+impl<'n, A: Allocator + Copy> MemberIndex<'n, A> {
+    /// Adds what is kept of the enum with this number, behind those before it.
+    fn add(&mut self, alloc: A, rows: &RowLists<'_, 'n>, n: usize) -> Result<(), AllocError>
+        requires few { All (λ e. vec_len e.members < 2 ^ 31) rows.now.enums.now }
+        requires here { n < length rows.now.enums.now }
+        requires before { IsMemberIndex (borrowed_rows rows.now) (take n rows.now.enums.now) self.old }
+        ensures { OnOk result (IsMemberIndex (borrowed_rows rows.now) (take (n + 1) rows.now.enums.now) self.new) }
+    {
+        let members = rows.enums[n].members.as_slice();
+        let kinds = member_kinds(alloc, rows, members)?;
+        let values = in_order(alloc, members, |member| member.value)?;
+        let names = in_order(alloc, members, |member| (is_none(member), member.name))?;
+        self.kinds.push(&kinds)?;
+        self.values.push(&values)?;
+        self.names.push(&names)?;
+        Ok(())
+    }
+}
+
 /// The live fields of each object.
 pub fn live_index<'n, A: Allocator + Copy>(
     alloc: A,
@@ -64,15 +104,8 @@ pub fn live_index<'n, A: Allocator + Copy>(
         required: Vec::new(alloc),
         widest: 0,
     };
-    for object in rows.objects {
-        let fields = table_views(alloc, rows, object)?;
-        let names = in_order(alloc, &fields, |field| field.name)?;
-        let steps = field_steps(alloc, &fields)?;
-        index.widest = index.widest.max(fields.len() as u32);
-        index.fields.push(&fields)?;
-        index.names.push(&names)?;
-        index.steps.push(&steps)?;
-        index.required.push(required_end(&fields))?;
+    for n in 0..rows.objects.len() {
+        index.add(alloc, rows, n)?;
     }
     Ok(index)
 }
@@ -90,14 +123,8 @@ pub fn member_index<'n, A: Allocator + Copy>(
         values: Lists::new(alloc),
         names: Lists::new(alloc),
     };
-    for row in rows.enums {
-        let members = row.members.as_slice();
-        let kinds = member_kinds(alloc, rows, members)?;
-        let values = in_order(alloc, members, |member| member.value)?;
-        let names = in_order(alloc, members, |member| (is_none(member), member.name))?;
-        index.kinds.push(&kinds)?;
-        index.values.push(&values)?;
-        index.names.push(&names)?;
+    for n in 0..rows.enums.len() {
+        index.add(alloc, rows, n)?;
     }
     Ok(index)
 }

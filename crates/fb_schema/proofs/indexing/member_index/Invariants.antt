@@ -3,5 +3,5 @@ use Rattle.fb_schema.specs.Rows.{borrowed_rows}
 use Rattle.fb_schema.specs.Index.{IsMemberIndex}
 use Rattle.fb_schema.proofs.indexing.member_index.Given as goal
 
-abbrev pub invariant-loop-row : goal.invariant-loop-row
-invariant-loop-row g l = IsMemberIndex (borrowed_rows l.rows) (take l.row-index l.rows.enums.now) l.index
+abbrev pub invariant-loop-n : goal.invariant-loop-n
+invariant-loop-n g l = IsMemberIndex (borrowed_rows l.rows) (take l.n l.rows.enums.now) l.index

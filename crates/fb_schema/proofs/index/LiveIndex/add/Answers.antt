@@ -1,0 +1,74 @@
+use Rattle.std.proofs.Common.{◌<◌, slice_index_or, [], filter, if◌then◌else◌, Some, map, length, sym, ap, subst, ◌∙◌, arith, rules}
+use Rattle.std.proofs.lemmas.List.{length-map}
+use Rattle.fb_schema.specs.Index.{view_name}
+use Rattle.fb_schema.specs.FlatLists.{lists_of}
+use Rattle.fb_schema.specs.Live.{required_end_of, live_in, live_of_view, by_slot, is_live, AreKinded, AreSpaced}
+use Rattle.fb_schema.specs.Sorting.{IsOrderOf, name_cmp}
+use Rattle.fb_schema.specs.Rows.{borrowed_rows, object_of}
+use Rattle.fb_schema.specs.Steps.{step_of}
+use Rattle.fb_schema.proofs.IndexLemmas.{legal_slots, matched_pushed, lists_step, value_step, widest_step, kept_read, mapped_read, mapped_twice}
+use Rattle.fb_schema.proofs.Kinded.{rows_kinded, live_long}
+use Rattle.fb_schema.proofs.TypedLemmas.{rows_spaced}
+use Rattle.fb_schema.proofs.index.LiveIndex.add.Goals as goal
+
+pub table_views-requires-clause-apart : goal.table_views-requires-clause-apart
+table_views-requires-clause-apart g c = λ table.
+    let objects = c.args.rows.now.objects.now in
+    let row = slice_index_or objects c.args.n c.index-rows-n.result in
+    let here = ap (slice_index_or objects c.args.n) c.index-rows-n.is in
+    legal_slots (borrowed_rows c.args.rows.now) c.args.n (object_of row) c.requires.legal (kept_read object_of objects c.args.n row c.requires.here here) table
+
+pub table_views-requires-clause-spaced : goal.table_views-requires-clause-spaced
+table_views-requires-clause-spaced g c = λ table.
+    let objects = c.args.rows.now.objects.now in
+    let row = slice_index_or objects c.args.n c.index-rows-n.result in
+    let here = ap (slice_index_or objects c.args.n) c.index-rows-n.is in
+    let o = object_of row in
+    subst (λ b. AreSpaced (if b then [] else by_slot (filter is_live o.fields))) table
+    (rows_spaced (borrowed_rows c.args.rows.now) c.requires.legal c.args.n o
+    (kept_read object_of objects c.args.n row c.requires.here here))
+
+pub table_views-requires-clause-kinds : goal.table_views-requires-clause-kinds
+table_views-requires-clause-kinds g c = λ table.
+    let objects = c.args.rows.now.objects.now in
+    let row = slice_index_or objects c.args.n c.index-rows-n.result in
+    let here = ap (slice_index_or objects c.args.n) c.index-rows-n.is in
+    let o = object_of row in
+    let rows = borrowed_rows c.args.rows.now in
+    subst (λ b. AreKinded rows (if b then [] else by_slot (filter is_live o.fields))) table
+    (rows_kinded rows c.requires.legal c.args.n o
+    (kept_read object_of objects c.args.n row c.requires.here here))
+
+pub in_order-requires-clause-few : goal.in_order-requires-clause-few
+in_order-requires-clause-few g c = let few = c.in_ok-fields.ensures.few in rw c.deref.ensures.value (omega (arith, few))
+
+pub overflow_cast-len : goal.overflow_cast-len
+overflow_cast-len g c = omega (arith, c.in_ok-fields.ensures.few, c.len.ensures, c.in_ok-fields.fields.ok.0)
+
+pub returns : goal.returns
+returns g c =
+    let objects = c.args.rows.now.objects.now in
+    let rows = borrowed_rows c.args.rows.now in
+    let i = c.args.n in
+    let row = slice_index_or objects i c.index-rows-n.result in
+    let here = ap (slice_index_or objects i) c.index-rows-n.is in
+    let o = object_of row in
+    let lt = c.requires.here in
+    let is = mapped_read object_of objects i row lt here in
+    let low : i < length (map object_of objects) = rw length-map lt in
+    let views = c.in_ok-fields.fields.items in
+    record {
+      live = lists_step (map live_of_view) (λ o. live_in rows (Some o)) (map object_of objects) i o (lists_of c.args.self.now.fields) _ c.deref-3.result.now low is c.requires.before.live c.in_ok-push.ensures
+          (ap (map live_of_view) c.deref-3.ensures.value ∙ c.in_ok-fields.ensures.value);
+      names = matched_pushed (λ fields order. IsOrderOf name_cmp (map view_name fields) order) (lists_of c.args.self.now.fields) _ (lists_of c.args.self.now.names) _ c.deref-3.result.now c.deref-4.result.now c.requires.before.names c.in_ok-push.ensures c.in_ok-push-2.ensures
+          (subst (λ fields. IsOrderOf name_cmp (map view_name fields) c.deref-4.result.now) (c.deref.ensures.value ∙ sym c.deref-3.ensures.value) (subst (λ order. IsOrderOf name_cmp (map view_name c.deref.result.now) order) (sym c.deref-4.ensures.value) (c.in_ok-names.ensures view_name (λ x k r. search rules))));
+      steps = value_step (λ o. map step_of (live_in rows (Some o))) (map object_of objects) i o (lists_of c.args.self.now.steps) _ c.deref-5.result.now low is c.requires.before.steps c.in_ok-push-3.ensures
+          (c.deref-5.ensures.value ∙ c.in_ok-steps.ensures ∙ mapped_twice step_of live_of_view c.deref-2.result.now
+          ∙ ap (λ fields. map step_of (map live_of_view fields)) c.deref-2.ensures.value ∙ ap (map step_of) c.in_ok-fields.ensures.value);
+      required = value_step (λ o. required_end_of (live_in rows (Some o))) (map object_of objects) i o c.args.self.now.required.items _ c.required_end.result low is c.requires.before.required c.in_ok-push-4.ensures.items
+          (c.required_end.ensures ∙ ap (λ fields. required_end_of (map live_of_view fields)) c.deref-6.ensures.value ∙ ap required_end_of c.in_ok-fields.ensures.value);
+      widest = widest_step (map object_of objects) i o c.args.self.now.widest c.max-self.result c.len.result low is c.requires.before.widest c.max-self.ensures
+          (c.len.ensures ∙ c.in_ok-fields.fields.ok.0 ∙ sym (length-map views live_of_view) ∙ ap length c.in_ok-fields.ensures.value
+          ∙ live_long rows c.requires.legal i o (kept_read object_of objects i row lt here));
+      few = omega (arith, c.max-self.ensures, c.requires.before.few, c.in_ok-fields.ensures.few, c.len.ensures, c.in_ok-fields.fields.ok.0);
+    }

@@ -1,0 +1,27 @@
+use Rattle.std.proofs.Common.{◌≡◌, slice_index_or, map, sym, subst, ◌∙◌, ap, rules}
+use Rattle.std.specs.Ordering.{int_cmp}
+use Rattle.fb_schema.specs.Kinds.{kind_of}
+use Rattle.fb_schema.specs.FlatLists.{lists_of}
+use Rattle.fb_schema.specs.Sorting.{IsOrderOf, member_cmp, member_value, member_key}
+use Rattle.fb_schema.specs.Rows.{borrowed_rows, member_of_row}
+use Rattle.fb_schema.proofs.IndexLemmas.{matched_step}
+use Rattle.fb_schema.proofs.index.MemberIndex.add.Goals as goal
+
+pub returns : goal.returns
+returns g c =
+    let rows = borrowed_rows c.args.rows.now in
+    let enums = c.args.rows.now.enums.now in
+    let i = c.args.n in
+    let row = slice_index_or enums i c.index-rows-n.result in
+    let is = ap (slice_index_or enums i) c.index-rows-n.is in
+    let index = c.args.self.now in
+    let lt = c.requires.here in
+    let here = c.as_slice-members.ensures.value in
+    record {
+      kinds = matched_step (λ row kinds. kinds ≡ map (λ m. kind_of rows (member_of_row m).ty) row.members.items) enums i row (lists_of index.kinds) _ c.deref.result.now lt is c.requires.before.kinds c.in_ok-push.ensures
+          (c.deref.ensures.value ∙ c.in_ok-kinds.ensures ∙ ap (map (λ m. kind_of rows (member_of_row m).ty)) here);
+      values = matched_step (λ row order. IsOrderOf int_cmp (map member_value row.members.items) order) enums i row (lists_of index.values) _ c.deref-2.result.now lt is c.requires.before.values c.in_ok-push-2.ensures
+          (subst (λ ms. IsOrderOf int_cmp (map member_value ms) c.deref-2.result.now) here (subst (λ order. IsOrderOf int_cmp (map member_value c.as_slice-members.result.now) order) (sym c.deref-2.ensures.value) (c.in_ok-values.ensures member_value (λ x k r. search rules))));
+      names = matched_step (λ row order. IsOrderOf member_cmp (map member_key row.members.items) order) enums i row (lists_of index.names) _ c.deref-3.result.now lt is c.requires.before.names c.in_ok-push-3.ensures
+          (subst (λ ms. IsOrderOf member_cmp (map member_key ms) c.deref-3.result.now) here (subst (λ order. IsOrderOf member_cmp (map member_key c.as_slice-members.result.now) order) (sym c.deref-3.ensures.value) (c.in_ok-names.ensures member_key (λ x k r. search rules))));
+    }
