@@ -13,7 +13,7 @@ use crate::step::Step;
 use fb_schema::{Kind, Schema};
 
 /// Why a part of a path is no step.
-#[derive(Clone, Copy, Debug, PartialEq, Eq)]
+#[derive(Clone, Copy)]
 pub enum Misfit {
     /// The table has no live field of this name.
     NoSuchField,
@@ -28,7 +28,7 @@ pub enum Misfit {
 }
 
 /// A step, and the kind to which it leads.
-#[derive(Clone, Copy, Debug, PartialEq, Eq)]
+#[derive(Clone, Copy)]
 pub struct Fitted {
     pub step: Step,
     pub kind: Kind,

@@ -8,7 +8,7 @@ ghost use Rattle.fb_access.specs.Cutting.{word_length, IsCuttable, IsCut};
 use crate::scan::goes_on;
 
 /// A part of a path's text.
-#[derive(Clone, Copy, Debug)]
+#[derive(Clone, Copy)]
 pub enum Piece<'t> {
     /// The name of a field: `.name`, or the first name, which has no dot.
     Field(&'t [u8]),
@@ -19,7 +19,7 @@ pub enum Piece<'t> {
 }
 
 /// The first part of a text, and the text after it.
-#[derive(Clone, Copy, Debug)]
+#[derive(Clone, Copy)]
 pub struct Cut<'t> {
     pub piece: Piece<'t>,
     pub rest: &'t [u8],

@@ -5,7 +5,7 @@ ghost use Rattle.fb_access.specs.Grammar.{is_digit, begins_name, goes_on, IsPath
 ghost use Rattle.fb_access.specs.Scanned.{next_part, next_digit, next_seen, is_end};
 
 /// What of a path was seen last.
-#[derive(Clone, Copy, Debug, PartialEq, Eq)]
+#[derive(Clone, Copy)]
 enum Seen {
     /// Nothing, a `.` or a `@`: a name must begin.
     Mark,

@@ -4,7 +4,7 @@ use fb_schema::Scalar;
 
 /// What the steps of a path lead to. A position is that of the value itself, where an offset word leads to it behind
 /// that word (FlatBuffers Internals: offsets count from their own place).
-#[derive(Clone, Copy, Debug, PartialEq, Eq)]
+#[derive(Clone, Copy)]
 pub enum Spot {
     /// A table: its object's number, and its position.
     AtTable(u32, u64),

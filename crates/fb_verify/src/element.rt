@@ -24,7 +24,7 @@ use fb_bytes::Meter;
 use fb_schema::Schema;
 
 /// A table that is to be opened: its object's number and its position.
-#[derive(Clone, Copy, Debug, PartialEq, Eq)]
+#[derive(Clone, Copy)]
 pub struct Child {
     pub object: u32,
     pub at: u64,

@@ -28,7 +28,7 @@ use fb_bytes::Meter;
 use fb_schema::{FieldView, Kind, Schema};
 
 /// An open table: its head, its object's number and its position, in the order that [`Stop`] asks for.
-#[derive(Clone, Copy, Debug, PartialEq, Eq)]
+#[derive(Clone, Copy)]
 pub struct Table {
     pub head: Head,
     pub object: u32,
@@ -36,7 +36,7 @@ pub struct Table {
 }
 
 /// A present field: the position and the head of its table, and the position that its slot tells.
-#[derive(Clone, Copy, Debug, PartialEq, Eq)]
+#[derive(Clone, Copy)]
 struct FieldSpot {
     at: u64,
     head: Head,
@@ -44,7 +44,7 @@ struct FieldSpot {
 }
 
 /// A vector: the position of its count, and that count.
-#[derive(Clone, Copy, Debug, PartialEq, Eq)]
+#[derive(Clone, Copy)]
 struct Vector {
     at: u64,
     count: u32,

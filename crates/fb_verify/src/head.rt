@@ -18,7 +18,7 @@ use fb_bytes::Meter;
 /// Where a table's vtable stands, its size in bytes, and the size of what stands inline in the table.
 ///
 /// `inline` is 0 where the inline size isn't checked.
-#[derive(Clone, Copy, Debug, PartialEq, Eq)]
+#[derive(Clone, Copy)]
 pub struct Head {
     pub vtable: u64,
     pub size: u16,

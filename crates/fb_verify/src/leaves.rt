@@ -20,7 +20,7 @@ use fb_bytes::{Meter, Reads};
 use fb_schema::Schema;
 
 /// A type of a union that was looked up, and what an offset word of that type refers to.
-#[derive(Clone, Copy, Debug, PartialEq, Eq)]
+#[derive(Clone, Copy)]
 struct KnownType {
     value: u8,
     referent: Referent,

@@ -5,7 +5,7 @@ ghost use Rattle.fb_verify.specs.OffsetRows.{past_first, AreTypesNear};
 ghost use Rattle.fb_verify.specs.declared.offset_row.Leads.TheVariants.{All};
 
 /// What an offset word refers to, past its own test.
-#[derive(Clone, Copy, Debug, PartialEq, Eq)]
+#[derive(Clone, Copy)]
 pub enum Referent {
     /// Nothing: the type of the union is 0 or unknown.
     Nothing,
@@ -19,7 +19,7 @@ pub enum Referent {
 
 /// What the offset words of a row refer to: all to the same, or each to the member of the union with the type at a
 /// position.
-#[derive(Clone, Copy, Debug, PartialEq, Eq)]
+#[derive(Clone, Copy)]
 pub enum Leads {
     All(Referent),
     ByType(u32, u64),
@@ -28,7 +28,7 @@ pub enum Leads {
 /// Offset words one after another.
 ///
 /// `place` is the position of the first, and `left` their number.
-#[derive(Clone, Copy, Debug, PartialEq, Eq)]
+#[derive(Clone, Copy)]
 pub struct Row {
     pub leads: Leads,
     pub place: u64,

@@ -10,14 +10,14 @@ use crate::fault::{Fault, Reason};
 use fb_bytes::Meter;
 
 /// The object of the innermost opened table, and its field under check.
-#[derive(Clone, Copy, Debug, PartialEq, Eq)]
+#[derive(Clone, Copy)]
 pub struct Site {
     pub object: u32,
     pub field: Option<u16>,
 }
 
 /// Why a test failed, and at which position. It is small, since each test may answer one.
-#[derive(Clone, Copy, Debug, PartialEq, Eq)]
+#[derive(Clone, Copy)]
 pub struct Refusal {
     pub at: u64,
     pub reason: Reason,
@@ -34,14 +34,14 @@ pub fn refuse(at: u64, reason: Reason) -> Refusal
 
 /// Where a walk stops, and why. The refusal stands first, so that in an answer that is this or an open table, numbers
 /// of eight bytes share a place with numbers of eight bytes, and none is written in pieces.
-#[derive(Clone, Copy, Debug, PartialEq, Eq)]
+#[derive(Clone, Copy)]
 pub struct Stop {
     pub refusal: Refusal,
     pub site: Site,
 }
 
 /// What the links of the frames leave to be told of the way to a stop.
-#[derive(Clone, Copy, Debug, PartialEq, Eq)]
+#[derive(Clone, Copy, PartialEq, Eq)]
 pub enum LastLink {
     /// Nothing: the last of the frames was left past the offset word under check. There may be none of them.
     Behind,
@@ -50,7 +50,7 @@ pub enum LastLink {
 }
 
 /// A stop, the number of the frames whose links lead to it, and what these leave.
-#[derive(Clone, Copy, Debug, PartialEq, Eq)]
+#[derive(Clone, Copy)]
 pub struct Halt {
     pub stop: Stop,
     pub links: u32,

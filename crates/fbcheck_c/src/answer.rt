@@ -13,7 +13,7 @@ use fb_verify::{Fault, Reason, Report};
 const NONE: u32 = 0xFFFF_FFFF;
 
 /// What a call answers.
-#[derive(Clone, Copy, Debug, PartialEq, Eq)]
+#[derive(Clone, Copy)]
 pub enum Answer {
     /// 0: it was done.
     Done,
@@ -47,7 +47,7 @@ pub enum Answer {
 
 /// What is told of an answer in numbers (`fbcheck_verdict`).
 #[repr(C)]
-#[derive(Clone, Copy, Debug, Default, PartialEq, Eq)]
+#[derive(Clone, Copy, Default)]
 pub struct Verdict {
     /// The number of the answer, which the call returns too.
     pub status: u32,

@@ -19,7 +19,7 @@ const MOST: usize = 0x7FFF_FFFF;
 /// A message is a little-endian `u32` and as many bytes as that number says (FlatBuffers Internals, "size prefixed
 /// buffers").
 #[repr(C)]
-#[derive(Clone, Copy, Debug, PartialEq, Eq)]
+#[derive(Clone, Copy)]
 pub struct Framer {
     /// How many bytes are held.
     pub held: usize,

@@ -8,7 +8,7 @@ use crate::answer::Verdict;
 
 /// Where a buffer lies in a block of bytes (`fbcheck_span`).
 #[repr(C)]
-#[derive(Clone, Copy, Debug, PartialEq, Eq)]
+#[derive(Clone, Copy)]
 pub struct Span {
     /// The place of its first byte, counted in bytes from the block's first.
     pub at: usize,

@@ -7,7 +7,7 @@ use fb_access::Step;
 
 /// One step of a path (`fbcheck_step`).
 #[repr(C)]
-#[derive(Clone, Copy, Debug, PartialEq, Eq)]
+#[derive(Clone, Copy)]
 pub struct PlainStep {
     /// 1 for a field, 2 for an element, 3 for a member.
     pub kind: u32,

@@ -13,7 +13,7 @@ use fb_verify::Verified;
 
 /// What is told of a value (`fbcheck_value`). What isn't told is 0.
 #[repr(C)]
-#[derive(Clone, Copy, Debug, Default, PartialEq, Eq)]
+#[derive(Clone, Copy, Default)]
 pub struct Value {
     /// What it is, by its number: 0 absent, 1 no such element, 2 another member, 3 a Bool, 4 a Byte, Short, Int or
     /// Long, 5 one of these without a sign, 6 a Float or Double, 7 a string, 8 a struct, 9 a vector, 10 a table, 11 a
