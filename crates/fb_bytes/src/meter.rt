@@ -1,12 +1,11 @@
 //! A buffer whose reads are counted.
 
-ghost use Rattle.std.specs.Prelude.{◌≡◌, ◌+◌, ◌^◌, ◌<◌, ◌≤◌, [], length, IfOk, IsErr, IsTrue, ◌↔◌};
+ghost use Rattle.std.specs.Prelude.{◌≡◌, ◌+◌, ◌^◌, ◌<◌, ◌≤◌, length, IfOk, IsErr, IsTrue, ◌↔◌};
 ghost use Rattle.fb_bytes.specs.Word.{word, signed_word};
 
-use crate::reads::Reads;
+use crate::tally::Tally;
 use crate::window::Window;
 use std::marker::Model;
-use std::mem;
 
 /// The buffer has 2^31 bytes or more, so that positions in it are no FlatBuffers offsets.
 #[derive(Clone, Copy, Debug, PartialEq, Eq)]
@@ -19,8 +18,7 @@ pub struct TooLong;
 /// compares lengths, as [`Meter::fits`], counts nothing.
 #[derive(Drop)]
 pub struct Meter<'a> {
-    window: Window<'a>,
-    count: u128,
+    tally: Tally<'a>,
 }
 
 impl<'a> Model for Meter<'a> {
@@ -28,7 +26,7 @@ impl<'a> Model for Meter<'a> {
 
     ghost Value = { Metered };
 
-    ghost view = { λ m. record { bytes = m.window; count = m.count } };
+    ghost view = { λ m. m.tally };
 }
 
 /// The longest buffer, in bytes.
@@ -45,8 +43,7 @@ impl<'a> Meter<'a> {
             return Err(TooLong);
         }
         Ok(Meter {
-            window: Window::over(bytes),
-            count: 0,
+            tally: Tally::over(Window::over(bytes), 0),
         })
     }
 
@@ -55,7 +52,7 @@ impl<'a> Meter<'a> {
         ensures len { result ≡ length self.now.bytes }
         ensures short { length self.now.bytes < 2 ^ 31 }
     {
-        self.window.len()
+        self.tally.len()
     }
 
     /// Whether the `n` bytes at `at` are in the buffer, for every `at` and `n`.
@@ -63,14 +60,14 @@ impl<'a> Meter<'a> {
         ensures fits { IsTrue result ↔ at + n ≤ length self.now.bytes }
         ensures short { length self.now.bytes < 2 ^ 31 }
     {
-        self.window.fits(at, n)
+        self.tally.fits(at, n)
     }
 
     /// How many reads were made.
     pub fn reads(&self) -> u128
         ensures { result ≡ self.now.count }
     {
-        self.count
+        self.tally.reads()
     }
 
     /// Reads the byte at `at`.
@@ -80,8 +77,7 @@ impl<'a> Meter<'a> {
         ensures number { result ≡ word self.old.bytes at 1 }
         ensures counted { self.new ≡ record self.old { count = self.old.count + 1 } }
     {
-        self.count += 1;
-        self.window.u8_at(at)
+        self.tally.u8_at(at)
     }
 
     /// Reads the two bytes at `at`, as a `voffset` or a vtable's size is read.
@@ -91,8 +87,7 @@ impl<'a> Meter<'a> {
         ensures number { result ≡ word self.old.bytes at 2 }
         ensures counted { self.new ≡ record self.old { count = self.old.count + 1 } }
     {
-        self.count += 1;
-        self.window.u16_at(at)
+        self.tally.u16_at(at)
     }
 
     /// Reads the four bytes at `at`, as a `uoffset` or a count is read.
@@ -102,8 +97,7 @@ impl<'a> Meter<'a> {
         ensures number { result ≡ word self.old.bytes at 4 }
         ensures counted { self.new ≡ record self.old { count = self.old.count + 1 } }
     {
-        self.count += 1;
-        self.window.u32_at(at)
+        self.tally.u32_at(at)
     }
 
     /// Reads the four bytes at `at` in two's complement, as an `soffset` is read.
@@ -113,29 +107,25 @@ impl<'a> Meter<'a> {
         ensures number { result ≡ signed_word self.old.bytes at }
         ensures counted { self.new ≡ record self.old { count = self.old.count + 1 } }
     {
-        self.count += 1;
-        self.window.i32_at(at)
+        self.tally.i32_at(at)
     }
 
-    /// Lends the bytes to be read under a count of their own. Until [`Meter::settle`] takes them back, the meter has
-    /// no bytes, and its count stands.
+    /// Lends the bytes to a walk, under a count that goes on from this one. [`Meter::settle`] takes that count.
     #[inline(always)]
-    pub fn lend(&mut self) -> Reads<'a>
-        ensures lent { result ≡ record { bytes = self.old.bytes; count = 0 } }
-        ensures bare { self.new ≡ record self.old { bytes = [] } }
+    pub fn lend(&self) -> Tally<'a>
+        ensures { result ≡ self.now }
     {
-        Reads::over(mem::replace(&mut self.window, Window::over(&[])))
+        self.tally.again()
     }
 
-    /// Takes bytes back, and counts the reads that were made of them.
+    /// Takes the count of a tally of these bytes.
     #[inline(always)]
-    pub fn settle(&mut self, reads: Reads<'a>)
-        requires few { self.old.count < 2 ^ 100 }
-        ensures { self.new ≡ record { bytes = reads.entry.bytes; count = self.old.count + reads.entry.count } }
+    pub fn settle(&mut self, tally: Tally<'_>)
+        requires same { tally.bytes ≡ self.old.bytes }
+        requires onward { self.old.count ≤ tally.count }
+        ensures { self.new ≡ record self.old { count = tally.entry.count } }
     {
-        let (window, count) = reads.into_parts();
-        self.window = window;
-        self.count += u128::from(count);
+        self.tally.take_count(tally);
     }
 
     /// The same bytes behind a [`Window`], whose reads aren't counted. Nothing makes a meter of a window.
@@ -143,6 +133,6 @@ impl<'a> Meter<'a> {
         ensures bytes { result ≡ self.entry.bytes }
         ensures short { length self.entry.bytes < 2 ^ 31 }
     {
-        self.window
+        self.tally.into_window()
     }
 }

@@ -34,6 +34,14 @@ impl<'a> Window<'a> {
         Window { bytes }
     }
 
+    /// Another window over the same bytes.
+    #[inline(always)]
+    pub(crate) fn again(&self) -> Self
+        ensures { result ≡ self.now }
+    {
+        Window { bytes: self.bytes }
+    }
+
     /// How many bytes there are.
     pub fn len(&self) -> u64
         ensures len { result ≡ length self.now }

@@ -2,7 +2,7 @@
 use Rattle.std.proofs.Common.{◌≡◌, ℕ, ◌+◌, ◌-◌, ◌^◌, ◌<◌, ◌≤◌, inl, inr, Bool, true, false, IsTrue, IfSome, if◌then◌else◌, List, [], ◌∷◌, map, length, refl, sym, ◌∙◌, ap, subst, arith, Option, Some, None}
 use Rattle.std.specs.Prelude.{slice_get}
 use Rattle.std.proofs.lemmas.List.{length-map}
-use Rattle.fb_bytes.specs.Word.{Metered}
+use Rattle.fb_bytes.specs.Lent.{Lent}
 use Rattle.fb_schema.specs.declared.views.Act.TheVariants.{Other}
 use Rattle.fb_schema.specs.declared.views.Step.{Step}
 use Rattle.fb_schema.specs.declared.kinds.Kind.{Kind}
@@ -218,13 +218,13 @@ pub own_least : (b : List ℕ) (at : ℕ) (f : Live) → IsTrue (has_slot b at f
 unfolding own_reads
 own_least b at f h = omega (arith, slot_is_one b at f.slot h)
 
-module _ (w : Walk) (k : ℕ) (m new : Metered) (s : Origin) (below : List Frame) (top : Frame) (h : IsWalkingBy w k m s below top)
+module _ (w : Walk) (k : ℕ) (m new : Lent) (s : Origin) (below : List Frame) (top : Frame) (h : IsWalkingBy w k m s below top)
     (rests : (top.row).left ≡ 0) (steps : List Step) (all : steps ≡ map step_of (live_fields w.schema.now (top.table).object)) (step : Step) (got : slice_get steps top.next ≡ Some step) where
   abbrev is_slot : (f : Live) → slice_get (live_fields w.schema.now (top.table).object) top.next ≡ Some f → step.slot ≡ f.slot
   is_slot = same_slot w.checks m.bytes w.schema.now w.limits s below top w.tables w.deepest (k + m.count) h rests steps all step got
 
   pub at_field : (place : Option ℕ) → place ≡ field_place m.bytes (top.table).at step.slot → IfSome place (λ _. IsTrue (has_slot m.bytes (top.table).at step.slot)) → IfSome place (λ p. p < 2 ^ 34) → new.bytes ≡ m.bytes
-      → new.count ≡ m.count + slot_reads m.bytes (top.table).at step.slot + step_reads_at step place → step.act ≡ Other → IfSome place (λ p. IsAtField w k new s below top p)
+      → new.count ≡ m.count + slot_reads m.bytes (top.table).at step.slot + step_reads_at step place → step.act ≡ Other → IfSome place (λ p. IsAtField w new.bytes (k + new.count) s below top p)
   at_field None here slot near bytes count other = tt
   at_field (Some p) here slot near bytes count other =
       let one = slot_is_one m.bytes (top.table).at step.slot slot in

@@ -6,6 +6,7 @@ use Rattle.fb_schema.specs.declared.kinds.Kind.TheVariants.{Union, Texts, Tables
 use Rattle.fb_schema.specs.Rows.{Rows, is_table}
 use Rattle.fb_schema.specs.Live.{Live, live_fields}
 use Rattle.fb_schema.specs.Served.{IsServed}
+use Rattle.fb_bytes.specs.Lent.{Lent}
 use Rattle.fb_bytes.specs.Word.{Metered, word}
 use Rattle.fb_verify.specs.declared.checks.Checks.{Checks}
 use Rattle.fb_verify.specs.declared.fault.Fault.{Fault}
@@ -112,17 +113,18 @@ pub record IsUnderWay (c : Checks) (b : List ℕ) (S : Rows) (L : Bounds) (s : O
 abbrev pub IsWalking : Walk → Metered → Origin → List Frame → Frame → Type 0
 IsWalking w m s below top = IsUnderWay w.checks m.bytes w.schema.now w.limits s below top w.tables w.deepest m.count
 
--- the same while the meter, which counted so many, has lent its bytes
-abbrev pub IsWalkingBy : Walk → ℕ → Metered → Origin → List Frame → Frame → Type 0
-IsWalkingBy w counted m s below top = IsUnderWay w.checks m.bytes w.schema.now w.limits s below top w.tables w.deepest (counted + m.count)
+-- the same while the buffer is lent, after so many reads before
+abbrev pub IsWalkingBy : Walk → ℕ → Lent → Origin → List Frame → Frame → Type 0
+IsWalkingBy w before l s below top = IsUnderWay w.checks l.bytes w.schema.now w.limits s below top w.tables w.deepest (before + l.count)
 
--- the same where the last read was the slot of the top's next field, which tells that this stands at a place
-pub record IsAtField (w : Walk) (counted : ℕ) (m : Metered) (s : Origin) (below : List Frame) (top : Frame) (place : ℕ) : Type 0 where
+-- a walk through these bytes, which came to r reads, where the last one was the slot of the top's next field, which
+-- tells that this stands at a place
+pub record IsAtField (w : Walk) (b : List ℕ) (r : ℕ) (s : Origin) (below : List Frame) (top : Frame) (place : ℕ) : Type 0 where
   pub before : ℕ
-  pub count : counted + m.count ≡ before + 1
-  pub walking : IsUnderWay w.checks m.bytes w.schema.now w.limits s below top w.tables w.deepest before
+  pub count : r ≡ before + 1
+  pub walking : IsUnderWay w.checks b w.schema.now w.limits s below top w.tables w.deepest before
   pub within : top.next < length (live_fields w.schema.now (top.table).object)
-  pub present : (f : Live) → slice_get (live_fields w.schema.now (top.table).object) top.next ≡ Some f → (field_place m.bytes (top.table).at f.slot ≡ Some place) × IsTrue (has_slot m.bytes (top.table).at f.slot)
+  pub present : (f : Live) → slice_get (live_fields w.schema.now (top.table).object) top.next ≡ Some f → (field_place b (top.table).at f.slot ≡ Some place) × IsTrue (has_slot b (top.table).at f.slot)
   pub near : place < 2 ^ 34
 
 -- a walk through these bytes, which came to r reads, where the last ones were those of the first offset word that is

@@ -16,7 +16,7 @@ use crate::limits::Limits;
 use crate::site::{Refusal, Site, Stop, refuse};
 use crate::start::{Ident, Start};
 use crate::values::read_offset;
-use fb_bytes::Meter;
+use fb_bytes::Tally;
 
 /// Where the root offset stands.
 fn base_of(start: Start) -> u64
@@ -31,7 +31,7 @@ fn base_of(start: Start) -> u64
 
 /// Reads the prefix, if there should be one.
 #[tactic(auto, unfolding(crate::specs::Order::prefix_failure))]
-fn read_prefix(meter: &mut Meter<'_>, start: Start) -> Result<(), Refusal>
+fn read_prefix(meter: &mut Tally<'_>, start: Start) -> Result<(), Refusal>
     requires few { meter.old.count < 2 ^ 99 }
     ensures ok { IfOk result (λ _. prefix_failure meter.old.bytes start ≡ None) }
     ensures counted { IfOk result (λ _. meter.new ≡ record meter.old { count = meter.old.count + prefix_reads start }) }
@@ -63,7 +63,7 @@ fn number_of(name: [u8; 4]) -> u32
 
 /// Reads the identifier at a position, if one is wanted.
 #[tactic(auto, unfolding(crate::specs::Order::ident_failure))]
-fn read_ident(meter: &mut Meter<'_>, at: u64, ident: Ident) -> Result<(), Refusal>
+fn read_ident(meter: &mut Tally<'_>, at: u64, ident: Ident) -> Result<(), Refusal>
     requires few { meter.old.count < 2 ^ 99 }
     ensures ok { IfOk result (λ _. ident_failure meter.old.bytes at ident ≡ None) }
     ensures counted { IfOk result (λ _. meter.new ≡ record meter.old { count = meter.old.count + ident_reads ident }) }
@@ -87,7 +87,7 @@ fn read_ident(meter: &mut Meter<'_>, at: u64, ident: Ident) -> Result<(), Refusa
 /// Checks all that stands before the root table, and answers where that stands.
 #[tactic(auto, unfolding(crate::specs::Order::start_failure))]
 fn check_start(
-    meter: &mut Meter<'_>,
+    meter: &mut Tally<'_>,
     checks: Checks,
     start: Start,
     ident: Ident,
@@ -110,7 +110,7 @@ fn check_start(
 /// so at this site.
 #[tactic(auto, using(crate::proofs::Refusals::told_after))]
 pub fn read_start(
-    meter: &mut Meter<'_>,
+    meter: &mut Tally<'_>,
     limits: Limits,
     checks: Checks,
     site: Site,

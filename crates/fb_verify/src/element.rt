@@ -20,7 +20,7 @@ use crate::limits::Limits;
 use crate::offset_row::{Leads, Referent, Row};
 use crate::site::{Refusal, Site, Stop};
 use crate::values::{check_inline, read_offset, read_string};
-use fb_bytes::Meter;
+use fb_bytes::Tally;
 use fb_schema::Schema;
 
 /// A table that is to be opened: its object's number and its position.
@@ -32,7 +32,7 @@ pub struct Child {
 
 /// Checks the offset word at a position and what it refers to, but answers a table.
 fn pass_referent(
-    meter: &mut Meter<'_>,
+    meter: &mut Tally<'_>,
     checks: Checks,
     place: u64,
     referent: Referent,
@@ -70,7 +70,7 @@ fn pass_referent(
 /// asked. What fails does so at this site.
 #[tactic(auto, using(crate::proofs::Refusals::told_after), unfolding(crate::specs::Order::element_failure))]
 pub fn pass_element(
-    meter: &mut Meter<'_>,
+    meter: &mut Tally<'_>,
     schema: &Schema<'_>,
     limits: Limits,
     checks: Checks,

@@ -24,7 +24,7 @@ use crate::limits::Limits;
 use crate::offset_row::{Leads, NO_ROW, Referent, Row};
 use crate::site::{Refusal, Site, Stop, refuse};
 use crate::values::{check_inline, read_offset, read_vector};
-use fb_bytes::Meter;
+use fb_bytes::Tally;
 use fb_schema::{FieldView, Kind, Schema};
 
 /// An open table: its head, its object's number and its position, in the order that [`Stop`] asks for.
@@ -53,7 +53,7 @@ struct Vector {
 /// Reads the offset word at the spot, and the vector of elements of this size and alignment to which it leads.
 #[inline(never)]
 fn read_vector_field(
-    meter: &mut Meter<'_>,
+    meter: &mut Tally<'_>,
     checks: Checks,
     spot: FieldSpot,
     size: u32,
@@ -82,7 +82,7 @@ fn read_vector_field(
 /// here, where no other kind of field pays for it.
 #[inline(always)]
 fn check_vector_field(
-    meter: &mut Meter<'_>,
+    meter: &mut Tally<'_>,
     checks: Checks,
     spot: FieldSpot,
     size: u32,
@@ -106,7 +106,7 @@ fn check_vector_field(
 
 /// Reads the type of a union again, whose field has this slot: 0 where its type field is absent.
 #[inline(never)]
-fn read_type(meter: &mut Meter<'_>, spot: FieldSpot, slot: u16) -> u8
+fn read_type(meter: &mut Tally<'_>, spot: FieldSpot, slot: u16) -> u8
     requires few { meter.old.count < 2 ^ 98 }
     requires near { spot.at < 2 ^ 33 }
     requires head { IsVtable meter.old.bytes spot.at spot.head }
@@ -124,7 +124,7 @@ fn read_type(meter: &mut Meter<'_>, spot: FieldSpot, slot: u16) -> u8
 /// Reads again where the types of a vector of unions begin, whose field has this slot, and how many they are: none
 /// where their field is absent.
 #[inline(never)]
-fn read_types(meter: &mut Meter<'_>, spot: FieldSpot, slot: u16) -> Vector
+fn read_types(meter: &mut Tally<'_>, spot: FieldSpot, slot: u16) -> Vector
     requires few { meter.old.count < 2 ^ 98 }
     requires near { spot.at < 2 ^ 33 }
     requires head { IsVtable meter.old.bytes spot.at spot.head }
@@ -170,7 +170,7 @@ pub fn referent_of(schema: &Schema<'_>, member: Option<Kind>) -> Referent
 #[inline(always)]
 #[tactic(auto, unfolding(crate::specs::Fields::row))]
 fn pass_union(
-    meter: &mut Meter<'_>,
+    meter: &mut Tally<'_>,
     schema: &Schema<'_>,
     checks: Checks,
     spot: FieldSpot,
@@ -203,7 +203,7 @@ fn pass_union(
 /// Checks a present vector of unions with this slot, and answers its offset words.
 #[inline(always)]
 fn pass_unions(
-    meter: &mut Meter<'_>,
+    meter: &mut Tally<'_>,
     checks: Checks,
     spot: FieldSpot,
     slot: u16,
@@ -239,7 +239,7 @@ fn pass_unions(
 /// Checks a present vector of offset words that all refer to the same, and answers these.
 #[inline(always)]
 fn pass_vector(
-    meter: &mut Meter<'_>,
+    meter: &mut Tally<'_>,
     checks: Checks,
     spot: FieldSpot,
     referent: Referent,
@@ -268,7 +268,7 @@ fn pass_vector(
 #[inline(never)]
 #[tactic(auto, unfolding(crate::specs::Fields::row))]
 fn check_vector_or_union(
-    meter: &mut Meter<'_>,
+    meter: &mut Tally<'_>,
     schema: &Schema<'_>,
     checks: Checks,
     spot: FieldSpot,
@@ -308,7 +308,7 @@ fn check_vector_or_union(
 #[inline(always)]
 #[tactic(auto, using(crate::proofs::Words::row_none), unfolding(crate::specs::Order::own_failure, crate::specs::Cost::own_reads, crate::specs::Fields::entries, crate::specs::Fields::row, crate::specs::Fields::union_row))]
 fn check_present(
-    meter: &mut Meter<'_>,
+    meter: &mut Tally<'_>,
     schema: &Schema<'_>,
     checks: Checks,
     spot: FieldSpot,
@@ -357,7 +357,7 @@ fn check_present(
 #[inline(always)]
 #[tactic(auto, using(crate::proofs::Refusals::told_after), unfolding(crate::specs::Order::own_failure, crate::specs::Cost::own_reads, crate::specs::Fields::entries))]
 pub fn pass_present(
-    meter: &mut Meter<'_>,
+    meter: &mut Tally<'_>,
     schema: &Schema<'_>,
     limits: Limits,
     checks: Checks,
@@ -408,7 +408,7 @@ pub fn pass_present(
 #[inline(always)]
 #[tactic(auto, using(crate::proofs::Refusals::told_after), unfolding(crate::specs::Order::own_failure, crate::specs::Cost::own_reads, crate::specs::Fields::entries))]
 pub fn pass_field(
-    meter: &mut Meter<'_>,
+    meter: &mut Tally<'_>,
     schema: &Schema<'_>,
     limits: Limits,
     checks: Checks,

@@ -13,7 +13,7 @@ use crate::checks::Checks;
 use crate::fault::Reason;
 use crate::limits::Limits;
 use crate::site::{Refusal, Site, Stop, is_aligned, refuse};
-use fb_bytes::Meter;
+use fb_bytes::Tally;
 
 /// Where a table's vtable stands, its size in bytes, and the size of what stands inline in the table.
 ///
@@ -37,7 +37,7 @@ impl Head {
 
 /// Reads where the vtable of the table at a position stands, none where that is negative.
 #[tactic(auto, unfolding(crate::specs::Places::has_vtable, crate::specs::Places::vtable))]
-fn read_vtable_place(meter: &mut Meter<'_>, at: u64) -> Option<u64>
+fn read_vtable_place(meter: &mut Tally<'_>, at: u64) -> Option<u64>
     requires fits { at + 4 ≤ length meter.old.bytes }
     requires near { at < 2 ^ 31 }
     requires few { meter.old.count < 2 ^ 99 }
@@ -52,7 +52,7 @@ fn read_vtable_place(meter: &mut Meter<'_>, at: u64) -> Option<u64>
 /// Checks the head of the table at a position, and answers it.
 #[inline(always)]
 #[tactic(auto, unfolding(crate::specs::Order::head_failure))]
-fn check_head(meter: &mut Meter<'_>, checks: Checks, at: u64) -> Result<Head, Refusal>
+fn check_head(meter: &mut Tally<'_>, checks: Checks, at: u64) -> Result<Head, Refusal>
     requires few { meter.old.count < 2 ^ 98 }
     ensures ok { IfOk result (λ _. head_failure checks meter.old.bytes at ≡ None) }
     ensures head { IfOk result (λ h. IsHead checks meter.old.bytes at h) }
@@ -99,7 +99,7 @@ fn check_head(meter: &mut Meter<'_>, checks: Checks, at: u64) -> Result<Head, Re
 #[inline(always)]
 #[tactic(auto, using(crate::proofs::Refusals::told_after))]
 pub fn read_head(
-    meter: &mut Meter<'_>,
+    meter: &mut Tally<'_>,
     limits: Limits,
     checks: Checks,
     object: u32,
@@ -128,7 +128,7 @@ pub fn read_head(
 
 /// Reads where the field with this slot stands in the table at a position, none where it is absent.
 #[tactic(auto, unfolding(crate::specs::Places::field_place))]
-pub fn read_slot(meter: &mut Meter<'_>, at: u64, head: Head, slot: u16) -> Option<u64>
+pub fn read_slot(meter: &mut Tally<'_>, at: u64, head: Head, slot: u16) -> Option<u64>
     requires few { meter.old.count < 2 ^ 99 }
     requires near { at < 2 ^ 33 }
     requires head { IsVtable meter.old.bytes at head }
@@ -150,7 +150,7 @@ pub fn read_slot(meter: &mut Meter<'_>, at: u64, head: Head, slot: u16) -> Optio
 /// Checks that what stands inline for a field ends within the inline size of its table, where that is checked.
 #[tactic(auto, unfolding(crate::specs::Order::table_failure, crate::specs::Places::ends_in_table))]
 pub fn check_end(
-    meter: &Meter<'_>,
+    meter: &Tally<'_>,
     checks: Checks,
     at: u64,
     head: Head,

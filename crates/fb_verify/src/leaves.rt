@@ -1,6 +1,7 @@
 // The offset words by which a field leads on, passed by reads that are counted in a register.
 
 ghost use Rattle.std.specs.Prelude.{◌≡◌, ◌+◌, ◌*◌, ◌^◌, ◌<◌, ◌≤◌, [], ◌∷◌, ◌++◌, IfOk, IfErr, IfSome, Some, None, true};
+ghost use Rattle.fb_bytes.specs.Lent.{taken_back};
 ghost use Rattle.fb_schema.specs.Served.{IsServed};
 ghost use Rattle.fb_verify.specs.Bounds.{AreAllowed};
 ghost use Rattle.fb_verify.specs.Known.{IsKnown};
@@ -16,7 +17,7 @@ use crate::plain::test_lead;
 use crate::scratch::Frame;
 use crate::site::{Refusal, Stop};
 use crate::stack::Walk;
-use fb_bytes::{Meter, Reads};
+use fb_bytes::{Reads, Tally};
 use fb_schema::Schema;
 
 /// A type of a union that was looked up, and what an offset word of that type refers to.
@@ -83,7 +84,7 @@ impl Walk<'_, '_> {
     /// Whether the offset words that are left of the top table's field are passed in a loop: where the budget allows
     /// whatever they may cost, four reads each, and not each of them leads to a table.
     #[inline(always)]
-    fn may_pass_words(&self, meter: &Meter<'_>, top: &Frame) -> bool
+    fn may_pass_words(&self, meter: &Tally<'_>, top: &Frame) -> bool
         requires few { meter.now.count < 2 ^ 96 }
         ensures { result ≡ true → AreAllowed (self.now.limits).reads (meter.now.count + 4 * (top.now.row).left) }
     {
@@ -96,28 +97,23 @@ impl Walk<'_, '_> {
 
     /// Passes offset words that are left of the top table's field, with the strings and structs that they lead to,
     /// until one leads to a table, and answers that table; none where no word is left. Where one fails, the row is left
-    /// past it. The budget allows whatever they cost. Only the contract speaks of the meter that lent the bytes.
+    /// past it. The budget allows whatever they cost.
     #[inline(always)]
-    fn pass_words(
-        &self,
-        lender: &Meter<'_>,
-        reads: &mut Reads<'_>,
-        top: &mut Frame,
-    ) -> Result<Option<Child>, Stop>
+    fn pass_words(&self, reads: &mut Reads<'_>, top: &mut Frame) -> Result<Option<Child>, Stop>
         ghost under: { Waiting }
-        requires walking { IsWalkingBy self.now lender.now.count reads.old under.start under.frames top.old }
-        requires room { AreAllowed (self.now.limits).reads (lender.now.count + reads.old.count + 4 * (top.old.row).left) }
+        requires walking { IsWalkingBy self.now reads.old.before reads.old under.start under.frames top.old }
+        requires room { AreAllowed (self.now.limits).reads (reads.old.before + reads.old.count + 4 * (top.old.row).left) }
         requires few { reads.old.count < 2 ^ 40 }
-        ensures walking { IfOk result (λ o. o ≡ None → IsWalkingBy self.now lender.now.count reads.new under.start under.frames top.new) }
-        ensures table { IfOk result (λ o. IfSome o (λ child. IsAtTable self.now reads.new.bytes (lender.now.count + reads.new.count) under.start under.frames top.new (lender.now.count + reads.old.count + 4 * (top.old.row).left) child)) }
+        ensures walking { IfOk result (λ o. o ≡ None → IsWalkingBy self.now reads.old.before reads.new under.start under.frames top.new) }
+        ensures table { IfOk result (λ o. IfSome o (λ child. IsAtTable self.now reads.new.bytes (reads.old.before + reads.new.count) under.start under.frames top.new (reads.old.before + reads.old.count + 4 * (top.old.row).left) child)) }
         ensures top { IfOk result (λ _. top.new ≡ record top.old { row = top.new.row }) }
         ensures fewer { IfOk result (λ _. (top.new.row).left ≤ (top.old.row).left) }
         ensures none { IfOk result (λ o. o ≡ None → (top.new.row).left ≡ 0) }
         ensures paid { IfOk result (λ o. o ≡ None → reads.new.count ≤ reads.old.count + 4 * (top.old.row).left) }
         ensures bytes { reads.new.bytes ≡ reads.old.bytes }
-        ensures err { IfErr result (λ s. IsStoppedBehind self.now reads.old under.start (under.frames ++ top.new ∷ []) (stopped s (lender.now.count + reads.new.count))) }
+        ensures before { reads.new.before ≡ reads.old.before }
+        ensures err { IfErr result (λ s. IsStoppedBehind self.now (taken_back reads.old) under.start (under.frames ++ top.new ∷ []) (stopped s (reads.old.before + reads.new.count))) }
     {
-        let _lender = lender;
         let checks = self.checks;
         let mut row = top.row;
         let mut known = None;
@@ -142,7 +138,7 @@ impl Walk<'_, '_> {
     /// lead to, or comes to one that leads to a table, and answers that table. The word that leads to it is still left;
     /// one that fails is not.
     #[inline(always)]
-    pub fn next_child(&self, meter: &mut Meter<'_>, top: &mut Frame) -> Result<Option<Child>, Stop>
+    pub fn next_child(&self, meter: &mut Tally<'_>, top: &mut Frame) -> Result<Option<Child>, Stop>
         ghost under: { Waiting }
         requires walking { IsWalking self.now meter.old under.start under.frames top.old }
         requires leads { 0 < (top.old.row).left }
@@ -159,7 +155,7 @@ impl Walk<'_, '_> {
     {
         if self.may_pass_words(meter, top) {
             let mut reads = meter.lend();
-            let answer = self.pass_words(meter, &mut reads, top);
+            let answer = self.pass_words(&mut reads, top);
             meter.settle(reads);
             return answer;
         }

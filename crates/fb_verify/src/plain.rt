@@ -51,6 +51,7 @@ fn test_offset(reads: &mut Reads<'_>, checks: Checks, at: &mut u64) -> Option<Re
     ensures near { result ≡ None → at.new < 2 ^ 33 }
     ensures counted { result ≡ None → reads.new.count ≡ reads.old.count + 1 }
     ensures bytes { reads.new.bytes ≡ reads.old.bytes }
+    ensures before { reads.new.before ≡ reads.old.before }
 {
     if !is_inside(reads, *at, 4) {
         return fails(Reason::OutOfBuffer);
@@ -75,6 +76,7 @@ fn test_string(reads: &mut Reads<'_>, checks: Checks, at: &mut u64) -> Option<Re
     ensures told { tested_by at.new reads.new.count result ≡ after reads.old.count (string_failure checks reads.old.bytes at.old) }
     ensures counted { result ≡ None → reads.new.count ≡ reads.old.count + 2 }
     ensures bytes { reads.new.bytes ≡ reads.old.bytes }
+    ensures before { reads.new.before ≡ reads.old.before }
 {
     if !is_inside(reads, *at, 4) {
         return fails(Reason::OutOfBuffer);
@@ -110,6 +112,7 @@ fn test_vector(
     ensures told { tested_by at.new reads.new.count result ≡ after reads.old.count (vector_failure checks reads.old.bytes at.old size align) }
     ensures counted { result ≡ None → reads.new.count ≡ reads.old.count + 1 }
     ensures bytes { reads.new.bytes ≡ reads.old.bytes }
+    ensures before { reads.new.before ≡ reads.old.before }
 {
     if !is_inside(reads, *at, 4) {
         return fails(Reason::OutOfBuffer);
@@ -216,6 +219,7 @@ fn test_text(reads: &mut Reads<'_>, checks: Checks, at: &mut u64) -> Option<Reas
     ensures told { tested_by at.new reads.new.count result ≡ after reads.old.count (lead_failure checks reads.old.bytes at.old to_string) }
     ensures counted { result ≡ None → reads.new.count ≡ reads.old.count + 3 }
     ensures bytes { reads.new.bytes ≡ reads.old.bytes }
+    ensures before { reads.new.before ≡ reads.old.before }
 {
     let offset = test_offset(reads, checks, at);
     if offset.is_some() {
@@ -241,6 +245,7 @@ pub fn test_lead(
     ensures near { result ≡ None → (object : ℕ) → referent ≡ ATable object → at.new < 2 ^ 33 }
     ensures counted { result ≡ None → reads.new.count ≡ reads.old.count + lead_reads (lead_to referent) }
     ensures bytes { reads.new.bytes ≡ reads.old.bytes }
+    ensures before { reads.new.before ≡ reads.old.before }
 {
     match referent {
         Referent::Nothing => None,
@@ -271,6 +276,7 @@ fn test_text_field(
     ensures told { tested_by at.new reads.new.count result ≡ after reads.old.count (table_failure checks reads.old.bytes table.at at.old 4 ▷ lead_failure checks reads.old.bytes at.old to_string) }
     ensures counted { result ≡ None → reads.new.count ≡ reads.old.count + 3 }
     ensures bytes { reads.new.bytes ≡ reads.old.bytes }
+    ensures before { reads.new.before ≡ reads.old.before }
 {
     let end = test_end(reads, checks, table, *at, 4);
     if end.is_some() {
@@ -297,6 +303,7 @@ fn test_vector_field(
     ensures told { tested_by at.new reads.new.count result ≡ after reads.old.count (vector_field_failure checks reads.old.bytes table.at at.old size align) }
     ensures counted { result ≡ None → reads.new.count ≡ reads.old.count + 2 }
     ensures bytes { reads.new.bytes ≡ reads.old.bytes }
+    ensures before { reads.new.before ≡ reads.old.before }
 {
     let end = test_end(reads, checks, table, *at, 4);
     if end.is_some() {
@@ -344,6 +351,7 @@ fn test_present(
     ensures told { tested_by at.new reads.new.count result ≡ after reads.old.count (step_failure checks reads.old.bytes table.at step.now at.old (step.now).act) }
     ensures counted { result ≡ None → reads.new.count ≡ reads.old.count + step_reads (step.now).act }
     ensures bytes { reads.new.bytes ≡ reads.old.bytes }
+    ensures before { reads.new.before ≡ reads.old.before }
 {
     match step.act {
         Act::One => test_byte_field(reads, checks, table, *at),
@@ -375,6 +383,7 @@ pub fn test_at(
     ensures told { tested_by at.new reads.new.count result ≡ after reads.old.count (step_failure_at checks reads.old.bytes table.at step.now (place_from table.at at.old)) }
     ensures counted { result ≡ None → reads.new.count ≡ reads.old.count + step_reads_at step.now (place_from table.at at.old) }
     ensures bytes { reads.new.bytes ≡ reads.old.bytes }
+    ensures before { reads.new.before ≡ reads.old.before }
 {
     if *at != table.at {
         return test_present(reads, checks, table, at, step);

@@ -1,6 +1,7 @@
 // The walk: a loop over the frames of the open tables.
 
 ghost use Rattle.std.specs.Prelude.{◌≡◌, ◌+◌, ◌-◌, ◌*◌, ◌^◌, ◌<◌, ◌≤◌, max, length, List, take, slice_get, slice_index_or, [], ◌∷◌, ◌++◌, IfOk, IfErr, IfSome, MatchOption, IsTrue, Some, None, true, false};
+ghost use Rattle.fb_bytes.specs.Lent.{taken_back};
 ghost use Rattle.fb_schema.specs.Rows.{is_table};
 ghost use Rattle.fb_schema.specs.Live.{Live, live_fields, required_end};
 ghost use Rattle.fb_schema.specs.Served.{IsServed};
@@ -22,7 +23,7 @@ use crate::limits::Limits;
 use crate::plain::{leads_on, slot_at, test_at};
 use crate::scratch::Frame;
 use crate::site::{Halt, Refusal, Site, Stop, refuse};
-use fb_bytes::{Meter, Reads};
+use fb_bytes::{Reads, Tally};
 use fb_schema::Schema;
 
 /// What a walk carries: what it is asked, the tables that it opened, and the greatest number of them that were open at
@@ -41,7 +42,7 @@ impl<'s, 'n> Walk<'s, 'n> {
     #[inline(always)]
     fn open_table(
         &mut self,
-        meter: &mut Meter<'_>,
+        meter: &mut Tally<'_>,
         links: u32,
         site: Site,
         child: Child,
@@ -93,7 +94,7 @@ impl<'s, 'n> Walk<'s, 'n> {
     /// budget may end in this table, since it asks the budget after each field.
     #[cold]
     #[inline(never)]
-    fn pass_each(&self, meter: &mut Meter<'_>, top: &mut Frame) -> Result<bool, Stop>
+    fn pass_each(&self, meter: &mut Tally<'_>, top: &mut Frame) -> Result<bool, Stop>
         ghost under: { Waiting }
         requires walking { IsWalking self.now meter.old under.start under.frames top.old }
         requires rests { (top.old.row).left ≡ 0 }
@@ -133,7 +134,7 @@ impl<'s, 'n> Walk<'s, 'n> {
     /// Whether the budget allows whatever the other fields of the top table may cost by themselves, with the strings
     /// that they may lead to: six reads each.
     #[inline(always)]
-    fn has_room(&self, meter: &Meter<'_>, top: &Frame) -> bool
+    fn has_room(&self, meter: &Tally<'_>, top: &Frame) -> bool
         requires table { IsTrue (is_table self.now.schema.now (top.now.table).object) }
         requires next { top.now.next ≤ length (live_fields self.now.schema.now (top.now.table).object) }
         requires few { meter.now.count < 2 ^ 96 }
@@ -167,24 +168,23 @@ impl<'s, 'n> Walk<'s, 'n> {
     /// Passes fields of the top table until one is there that may lead to a table, and answers whether one is; the
     /// position is then moved to where it stands. Where a test fails, that is the next field, and the position is moved
     /// to where it fails. The budget allows whatever the fields cost. These are the walk's own checks, which a caller
-    /// may know as constants. Only the contract speaks of the meter that lent the bytes.
+    /// may know as constants.
     #[inline(always)]
     fn pass_plain(
         &self,
         checks: Checks,
-        lender: &Meter<'_>,
         reads: &mut Reads<'_>,
         top: &mut Frame,
         at: &mut u64,
     ) -> Result<bool, Reason>
         ghost under: { Waiting }
-        requires walking { IsWalkingBy self.now lender.now.count reads.old under.start under.frames top.old }
+        requires walking { IsWalkingBy self.now reads.old.before reads.old under.start under.frames top.old }
         requires rests { (top.old.row).left ≡ 0 }
-        requires room { AreAllowed (self.now.limits).reads (lender.now.count + reads.old.count + 6 * (length (live_fields self.now.schema.now (top.old.table).object) - top.old.next)) }
+        requires room { AreAllowed (self.now.limits).reads (reads.old.before + reads.old.count + 6 * (length (live_fields self.now.schema.now (top.old.table).object) - top.old.next)) }
         requires few { reads.old.count < 2 ^ 40 }
         requires same { checks ≡ self.now.checks }
-        ensures walking { IfOk result (λ more. more ≡ false → IsWalkingBy self.now lender.now.count reads.new under.start under.frames top.new) }
-        ensures field { IfOk result (λ more. more ≡ true → IsAtField self.now lender.now.count reads.new under.start under.frames top.new at.new) }
+        ensures walking { IfOk result (λ more. more ≡ false → IsWalkingBy self.now reads.old.before reads.new under.start under.frames top.new) }
+        ensures field { IfOk result (λ more. more ≡ true → IsAtField self.now reads.new.bytes (reads.old.before + reads.new.count) under.start under.frames top.new at.new) }
         ensures top { top.new ≡ record top.old { next = top.new.next } }
         ensures forth { IfOk result (λ _. top.old.next ≤ top.new.next) }
         ensures within { IfOk result (λ _. top.new.next ≤ length (live_fields self.now.schema.now (top.old.table).object)) }
@@ -192,10 +192,10 @@ impl<'s, 'n> Walk<'s, 'n> {
         ensures ends { IfOk result (λ more. more ≡ false → reads.new.count + 6 * (length (live_fields self.now.schema.now (top.old.table).object) - top.new.next) ≤ reads.old.count + 6 * (length (live_fields self.now.schema.now (top.old.table).object) - top.old.next)) }
         ensures paid { IfOk result (λ _. reads.new.count + 6 * (length (live_fields self.now.schema.now (top.old.table).object) - top.new.next) ≤ reads.old.count + 6 * (length (live_fields self.now.schema.now (top.old.table).object) - top.old.next) + 1) }
         ensures bytes { reads.new.bytes ≡ reads.old.bytes }
+        ensures before { reads.new.before ≡ reads.old.before }
         ensures next { IfErr result (λ _. top.new.next < length (live_fields self.now.schema.now (top.old.table).object)) }
-        ensures err { IfErr result (λ reason. (s : Stop) → IsStopAt self.now.schema.now top.new at.new reason s → IsStopped self.now reads.old under.start under.frames (stopped s (lender.now.count + reads.new.count))) }
+        ensures err { IfErr result (λ reason. (s : Stop) → IsStopAt self.now.schema.now top.new at.new reason s → IsStopped self.now (taken_back reads.old) under.start under.frames (stopped s (reads.old.before + reads.new.count))) }
     {
-        let _lender = lender;
         let table = top.table;
         let steps = self.schema.steps_of(table.object);
         let mut next = top.next as usize;
@@ -223,13 +223,13 @@ impl<'s, 'n> Walk<'s, 'n> {
         Ok(false)
     }
 
-    /// The same by the meter, whatever the checks are: it lends its bytes meanwhile, and takes them back with the reads
+    /// The same by the tally, whatever the checks are: it lends its bytes meanwhile, and takes them back with the reads
     /// that were made.
     #[cold]
     #[inline(never)]
     fn pass_on_by_checks(
         &self,
-        meter: &mut Meter<'_>,
+        meter: &mut Tally<'_>,
         top: &mut Frame,
         at: &mut u64,
     ) -> Result<bool, Reason>
@@ -239,7 +239,7 @@ impl<'s, 'n> Walk<'s, 'n> {
         requires room { AreAllowed (self.now.limits).reads (meter.old.count + 6 * (length (live_fields self.now.schema.now (top.old.table).object) - top.old.next)) }
         requires few { meter.old.count < 2 ^ 98 }
         ensures walking { IfOk result (λ more. more ≡ false → IsWalking self.now meter.new under.start under.frames top.new) }
-        ensures field { IfOk result (λ more. more ≡ true → IsAtField self.now 0 meter.new under.start under.frames top.new at.new) }
+        ensures field { IfOk result (λ more. more ≡ true → IsAtField self.now meter.new.bytes meter.new.count under.start under.frames top.new at.new) }
         ensures top { top.new ≡ record top.old { next = top.new.next } }
         ensures forth { IfOk result (λ _. top.old.next ≤ top.new.next) }
         ensures within { IfOk result (λ _. top.new.next ≤ length (live_fields self.now.schema.now (top.old.table).object)) }
@@ -252,21 +252,21 @@ impl<'s, 'n> Walk<'s, 'n> {
         ensures err { IfErr result (λ reason. (s : Stop) → IsStopAt self.now.schema.now top.new at.new reason s → IsStopped self.now meter.old under.start under.frames (stopped s meter.new.count)) }
     {
         let mut reads = meter.lend();
-        let answer = self.pass_plain(self.checks, meter, &mut reads, top, at);
+        let answer = self.pass_plain(self.checks, &mut reads, top, at);
         meter.settle(reads);
         answer
     }
 
     /// The same, quickly where the checks are the published ones, which are constants in the loop then.
     #[inline(always)]
-    fn pass_on(&self, meter: &mut Meter<'_>, top: &mut Frame, at: &mut u64) -> Result<bool, Reason>
+    fn pass_on(&self, meter: &mut Tally<'_>, top: &mut Frame, at: &mut u64) -> Result<bool, Reason>
         ghost under: { Waiting }
         requires walking { IsWalking self.now meter.old under.start under.frames top.old }
         requires rests { (top.old.row).left ≡ 0 }
         requires room { AreAllowed (self.now.limits).reads (meter.old.count + 6 * (length (live_fields self.now.schema.now (top.old.table).object) - top.old.next)) }
         requires few { meter.old.count < 2 ^ 98 }
         ensures walking { IfOk result (λ more. more ≡ false → IsWalking self.now meter.new under.start under.frames top.new) }
-        ensures field { IfOk result (λ more. more ≡ true → IsAtField self.now 0 meter.new under.start under.frames top.new at.new) }
+        ensures field { IfOk result (λ more. more ≡ true → IsAtField self.now meter.new.bytes meter.new.count under.start under.frames top.new at.new) }
         ensures top { top.new ≡ record top.old { next = top.new.next } }
         ensures forth { IfOk result (λ _. top.old.next ≤ top.new.next) }
         ensures within { IfOk result (λ _. top.new.next ≤ length (live_fields self.now.schema.now (top.old.table).object)) }
@@ -287,14 +287,14 @@ impl<'s, 'n> Walk<'s, 'n> {
             inline_size: false,
         };
         let mut reads = meter.lend();
-        let answer = self.pass_plain(published, meter, &mut reads, top, at);
+        let answer = self.pass_plain(published, &mut reads, top, at);
         meter.settle(reads);
         answer
     }
 
     /// Passes fields of the top table until one leads on, and answers whether one does.
     #[inline(always)]
-    fn pass_fields(&self, meter: &mut Meter<'_>, top: &mut Frame) -> Result<bool, Stop>
+    fn pass_fields(&self, meter: &mut Tally<'_>, top: &mut Frame) -> Result<bool, Stop>
         ghost under: { Waiting }
         requires walking { IsWalking self.now meter.old under.start under.frames top.old }
         requires rests { (top.old.row).left ≡ 0 }
@@ -344,7 +344,7 @@ impl<'s, 'n> Walk<'s, 'n> {
     #[inline(always)]
     fn pass_below(
         &self,
-        meter: &mut Meter<'_>,
+        meter: &mut Tally<'_>,
         above: &Frame,
         table: Table,
         below: &mut Frame,
@@ -372,7 +372,7 @@ impl<'s, 'n> Walk<'s, 'n> {
     #[inline(always)]
     fn pass_elements(
         &mut self,
-        meter: &mut Meter<'_>,
+        meter: &mut Tally<'_>,
         waiting: u32,
         top: &mut Frame,
         room: &mut [Frame],
@@ -423,7 +423,7 @@ impl<'s, 'n> Walk<'s, 'n> {
     /// none where the first table is closed.
     fn turn(
         &mut self,
-        meter: &mut Meter<'_>,
+        meter: &mut Tally<'_>,
         frames: &mut [Frame],
         waiting: u32,
     ) -> Result<Option<u32>, Halt>
@@ -470,7 +470,7 @@ impl<'s, 'n> Walk<'s, 'n> {
     /// Walks a table and all below it, over these frames.
     pub fn run(
         &mut self,
-        meter: &mut Meter<'_>,
+        meter: &mut Tally<'_>,
         frames: &mut [Frame],
         site: Site,
         root: Child,

@@ -9,11 +9,11 @@ ghost use Rattle.fb_verify.specs.Told.{refused};
 use crate::checks::Checks;
 use crate::fault::Reason;
 use crate::site::{Refusal, is_aligned, refuse};
-use fb_bytes::Meter;
+use fb_bytes::Tally;
 
 /// Reads the offset word at a position, and answers where it leads.
 #[tactic(auto, unfolding(crate::specs::Order::offset_failure))]
-pub fn read_offset(meter: &mut Meter<'_>, checks: Checks, at: u64) -> Result<u64, Refusal>
+pub fn read_offset(meter: &mut Tally<'_>, checks: Checks, at: u64) -> Result<u64, Refusal>
     requires few { meter.old.count < 2 ^ 99 }
     ensures ok { IfOk result (λ _. offset_failure checks meter.old.bytes at ≡ None) }
     ensures value { IfOk result (λ p. p ≡ target meter.old.bytes at) }
@@ -37,7 +37,7 @@ pub fn read_offset(meter: &mut Meter<'_>, checks: Checks, at: u64) -> Result<u64
 
 /// Checks the string at a position: its count, so many bytes, and a byte 0.
 #[tactic(auto, unfolding(crate::specs::Order::string_failure))]
-pub fn read_string(meter: &mut Meter<'_>, checks: Checks, at: u64) -> Result<(), Refusal>
+pub fn read_string(meter: &mut Tally<'_>, checks: Checks, at: u64) -> Result<(), Refusal>
     requires few { meter.old.count < 2 ^ 99 }
     ensures ok { IfOk result (λ _. string_failure checks meter.old.bytes at ≡ None) }
     ensures counted { IfOk result (λ _. meter.new ≡ record meter.old { count = meter.old.count + 2 }) }
@@ -64,7 +64,7 @@ pub fn read_string(meter: &mut Meter<'_>, checks: Checks, at: u64) -> Result<(),
 /// Checks the vector at a position, of elements of this size and alignment, and answers their number.
 #[tactic(auto, unfolding(crate::specs::Order::vector_failure))]
 pub fn read_vector(
-    meter: &mut Meter<'_>,
+    meter: &mut Tally<'_>,
     checks: Checks,
     at: u64,
     size: u32,
@@ -98,7 +98,7 @@ pub fn read_vector(
 /// Checks that a scalar or struct of this size and alignment stands at a position.
 #[tactic(auto, unfolding(crate::specs::Order::inline_failure))]
 pub fn check_inline(
-    meter: &Meter<'_>,
+    meter: &Tally<'_>,
     checks: Checks,
     at: u64,
     size: u32,

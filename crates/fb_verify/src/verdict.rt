@@ -17,7 +17,7 @@ use crate::scratch::{Frame, Scratch};
 use crate::site::{Halt, Site};
 use crate::stack::Walk;
 use crate::start::{Ident, Start};
-use fb_bytes::Meter;
+use fb_bytes::{Meter, Tally};
 use fb_schema::Schema;
 use std::alloc::Allocator;
 
@@ -56,8 +56,9 @@ pub fn walk<A: Allocator>(
     ensures bytes { meter.new.bytes ≡ meter.old.bytes }
     ensures scratch { scratch.new ≡ scratch.old }
 {
-    match trace(
-        meter,
+    let mut tally = meter.lend();
+    let answer = trace(
+        &mut tally,
         schema,
         root,
         start,
@@ -65,15 +66,18 @@ pub fn walk<A: Allocator>(
         limits,
         checks,
         &mut scratch.frames,
-    ) {
+    );
+    meter.settle(tally);
+    match answer {
         Ok(report) => Ok(report),
         Err(halt) => Err(halt.stop.fault(meter)),
     }
 }
 
-/// The same over these frames. Where there is a fault, the frames are left whose links lead to it.
+/// The same over these frames, by a tally, which can only read and count: from here on nothing seals the bytes. Where
+/// there is a fault, the frames are left whose links lead to it.
 pub(crate) fn trace(
-    meter: &mut Meter<'_>,
+    meter: &mut Tally<'_>,
     schema: &Schema<'_>,
     root: u32,
     start: Start,

@@ -168,8 +168,9 @@ pub fn verify_and_locate<'b, 's, 'n, A: Allocator>(
     ensures room { length links.new ≡ length links.old }
 {
     let mut meter = meter;
-    match trace(
-        &mut meter,
+    let mut tally = meter.lend();
+    let answer = trace(
+        &mut tally,
         schema,
         root,
         start,
@@ -177,7 +178,9 @@ pub fn verify_and_locate<'b, 's, 'n, A: Allocator>(
         limits,
         checks,
         &mut scratch.frames,
-    ) {
+    );
+    meter.settle(tally);
+    match answer {
         Ok(report) => Ok(Verified {
             window: meter.seal(),
             schema,

@@ -1,6 +1,6 @@
 //! What no contract says: that calls succeed, on bytes and answers known from outside.
 
-use fb_bytes::{Counted, Meter, Sink, Source, Window};
+use fb_bytes::{Counted, Meter, Sink, Source, Tally, Window};
 use std::io;
 use std::io::{ErrorKind, Read, Write};
 use std::test::Fail;
@@ -111,18 +111,45 @@ fn a_range_fits_or_not_whatever_its_sum(rt: HostRuntime) -> Result<(), Fail> {
 }
 
 #[test]
-fn what_is_lent_is_read_and_settled(rt: HostRuntime) -> Result<(), Fail> {
+fn a_tally_reads_and_counts_on(rt: HostRuntime) -> Result<(), Fail> {
     let bytes = [0x01u8, 0x02, 0x03, 0x84, 0xff, 0xff, 0xff, 0xff];
     let Ok(mut meter) = Meter::new(&bytes) else {
         return Err(Fail::from("too long"));
     };
     assert_eq!(rt; meter.u8_at(0), 0x01);
-    let mut reads = meter.lend();
-    // Of what is lent out nothing is left to read.
+    let mut tally: Tally = meter.lend();
     assert_eq!(rt;
-        (meter.len(), meter.fits(0, 1), meter.reads()),
-        (0, false, 1)
+        (
+            tally.len(),
+            tally.fits(4, 4),
+            tally.fits(5, 4),
+            tally.reads()
+        ),
+        (8, true, false, 1)
     );
+    assert_eq!(rt; tally.u8_at(3), 0x84);
+    assert_eq!(rt; tally.u16_at(1), 0x0302);
+    assert_eq!(rt; tally.u32_at(0), 0x8403_0201);
+    assert_eq!(rt; tally.i32_at(0), -2_080_177_663);
+    assert_eq!(rt; (tally.reads(), meter.reads()), (5, 1));
+    meter.settle(tally);
+    assert_eq!(rt; (meter.len(), meter.reads()), (8, 5));
+    assert_eq!(rt; meter.i32_at(4), -1);
+    assert_eq!(rt; meter.reads(), 6);
+    Ok(())
+}
+
+#[test]
+fn what_is_lent_is_read_and_settled(rt: HostRuntime) -> Result<(), Fail> {
+    let bytes = [0x01u8, 0x02, 0x03, 0x84, 0xff, 0xff, 0xff, 0xff];
+    let Ok(meter) = Meter::new(&bytes) else {
+        return Err(Fail::from("too long"));
+    };
+    let mut tally = meter.lend();
+    assert_eq!(rt; tally.u8_at(0), 0x01);
+    let mut reads = tally.lend();
+    // Of what is lent out nothing is left to read.
+    assert_eq!(rt; (tally.len(), tally.fits(0, 1)), (0, false));
     assert_eq!(rt;
         (reads.len(), reads.fits(4, 4), reads.fits(5, 4)),
         (8, true, false)
@@ -131,10 +158,28 @@ fn what_is_lent_is_read_and_settled(rt: HostRuntime) -> Result<(), Fail> {
     assert_eq!(rt; reads.u16_at(1), 0x0302);
     assert_eq!(rt; reads.u32_at(0), 0x8403_0201);
     assert_eq!(rt; reads.i32_at(0), -2_080_177_663);
-    meter.settle(reads);
-    assert_eq!(rt; (meter.len(), meter.reads()), (8, 5));
-    assert_eq!(rt; meter.i32_at(4), -1);
-    assert_eq!(rt; meter.reads(), 6);
+    tally.settle(reads);
+    assert_eq!(rt; (tally.len(), tally.reads()), (8, 5));
+    assert_eq!(rt; tally.i32_at(4), -1);
+    assert_eq!(rt; tally.reads(), 6);
+    Ok(())
+}
+
+#[test]
+fn reads_are_counted_whoever_takes_them_back(rt: HostRuntime) -> Result<(), Fail> {
+    let Ok(meter) = Meter::new(&ORC) else {
+        return Err(Fail::from("too long"));
+    };
+    let Ok(other) = Meter::new(&[]) else {
+        return Err(Fail::from("too long"));
+    };
+    let mut tally = meter.lend();
+    assert_eq!(rt; tally.u8_at(28), b'O');
+    let mut passer = other.lend();
+    passer.settle(tally.lend());
+    assert_eq!(rt; passer.u8_at(28), b'O');
+    tally.settle(passer.lend());
+    assert_eq!(rt; tally.reads(), 2);
     Ok(())
 }
 

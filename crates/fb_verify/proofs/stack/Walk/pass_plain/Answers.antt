@@ -21,7 +21,7 @@ returns-then-others_are_absent-clause-walking g c _ =
     let T = c.args.top.now in
     let top : Frame = record { table = T.table; next = c.loop-step.next; number = T.number; row = T.row } in
     let b = c.loop-step.reads.bytes in
-    let r = c.args.lender.now.count + c.loop-step.reads.count in
+    let r = c.args.reads.now.before + c.loop-step.reads.count in
     let rests = c.requires.1.0 in
     let steps = c.steps_of-steps.result.now in
     let all = c.steps_of-steps.ensures.value in
@@ -60,7 +60,7 @@ returns-in-Some-failed-clause-next g c =
     let T = c.args.top.now in
     let top : Frame = record { table = T.table; next = c.loop-step.next; number = T.number; row = T.row } in
     let b = c.loop-step.reads.bytes in
-    let r = c.args.lender.now.count + c.loop-step.reads.count in
+    let r = c.args.reads.now.before + c.loop-step.reads.count in
     let rests = c.requires.1.0 in
     let steps = c.steps_of-steps.result.now in
     let all = c.steps_of-steps.ensures.value in
@@ -78,7 +78,7 @@ returns-in-Some-failed-clause-err g c stop here =
     let T = c.args.top.now in
     let top : Frame = record { table = T.table; next = c.loop-step.next; number = T.number; row = T.row } in
     let b = c.loop-step.reads.bytes in
-    let r = c.args.lender.now.count + c.loop-step.reads.count in
+    let r = c.args.reads.now.before + c.loop-step.reads.count in
     let rests = c.requires.1.0 in
     let steps = c.steps_of-steps.result.now in
     let all = c.steps_of-steps.ensures.value in
@@ -91,10 +91,10 @@ returns-in-Some-failed-clause-err g c stop here =
     let failed = c.in-Some-failed.is in
     let absent : step.act ≡ Other → field_place b t step.slot ≡ None = λ e. sym slot.value ∙ c.leads_on.ensures.plain c.if-leads_on.false e in
     let within = next_within w.checks b S w.limits (g.under).start (g.under).frames top w.tables w.deepest r i.walking rests steps all c.in-Some.step.now got in
-    let room = fewer_reads (w.limits).reads (r + 6) (c.args.lender.now.count + c.args.reads.now.count + 6 * (length (live_fields S (T.table).object) - T.next)) (omega (arith, i.paid, within)) c.requires.1.1.0 in
+    let room = fewer_reads (w.limits).reads (r + 6) (c.args.reads.now.before + c.args.reads.now.count + 6 * (length (live_fields S (T.table).object) - T.next)) (omega (arith, i.paid, within)) c.requires.1.1.0 in
     rw i.bytes at
     (step_stops w.checks b S w.limits (g.under).start (g.under).frames top w.tables w.deepest r i.walking rests steps all c.in-Some.step.now got absent _ _ _ _ told
-    _ failed c.args.lender.now.count refl room stop here.refusal (rw i.same at here.object) (rw i.same at here.field))
+    _ failed c.args.reads.now.before refl room stop here.refusal (rw i.same at here.object) (rw i.same at here.field))
 
 pub returns-then-leads_on-clause-field : goal.returns-then-leads_on-clause-field
 returns-then-leads_on-clause-field g c _ =
@@ -104,7 +104,7 @@ returns-then-leads_on-clause-field g c _ =
     let T = c.args.top.now in
     let top : Frame = record { table = T.table; next = c.loop-step.next; number = T.number; row = T.row } in
     let b = c.loop-step.reads.bytes in
-    let r = c.args.lender.now.count + c.loop-step.reads.count in
+    let r = c.args.reads.now.before + c.loop-step.reads.count in
     let rests = c.requires.1.0 in
     let steps = c.steps_of-steps.result.now in
     let all = c.steps_of-steps.ensures.value in
@@ -114,7 +114,7 @@ returns-then-leads_on-clause-field g c _ =
     let bytes = ap (λ m. m.bytes) slot.counted in
     let none = act_free step (place_from (c.args.top.now.table).at c.slot_at-place.result) (c.leads_on.ensures.open c.if-leads_on.true) in
     let count : c.slot_at-place.new.reads.count ≡ c.loop-step.reads.count + slot_reads b (T.table).at step.slot + step_reads_at step (place_from (T.table).at c.slot_at-place.result) = omega (arith, ap (λ m. m.count) slot.counted, none) in
-    let here = at_field w c.args.lender.now.count c.loop-step.reads c.slot_at-place.new.reads (g.under).start (g.under).frames top i.walking rests steps all step got
+    let here = at_field w c.args.reads.now.before c.loop-step.reads c.slot_at-place.new.reads (g.under).start (g.under).frames top i.walking rests steps all step got
     (place_from (T.table).at c.slot_at-place.result) slot.value slot.within (place_near (T.table).at c.slot_at-place.result _ slot.near) bytes count (c.leads_on.ensures.open c.if-leads_on.true) in
     rw i.same (rw (c.leads_on.ensures.there c.if-leads_on.true) at here)
 
@@ -139,7 +139,7 @@ loop-step-preserved g c =
     let T = c.args.top.now in
     let top : Frame = record { table = T.table; next = c.loop-step.next; number = T.number; row = T.row } in
     let b = c.loop-step.reads.bytes in
-    let r = c.args.lender.now.count + c.loop-step.reads.count in
+    let r = c.args.reads.now.before + c.loop-step.reads.count in
     let rests = c.requires.1.0 in
     let steps = c.steps_of-steps.result.now in
     let all = c.steps_of-steps.ensures.value in
@@ -154,16 +154,17 @@ loop-step-preserved g c =
     let counted = plain_counted w.checks b t c.loop-step.reads.count c.slot_at-place.new.reads.count c.test_at-failed.new.reads.count step (place_from (c.args.top.now.table).at c.slot_at-place.result) slot.value (ap (λ m. m.count) slot.counted) (c.test_at-failed.ensures.counted none) in
     let few = plain_few b t step in
     let within = next_within w.checks b S w.limits (g.under).start (g.under).frames top w.tables w.deepest r i.walking rests steps all c.in-Some.step.now got in
-    let cheap = fewer_reads (w.limits).reads (c.args.lender.now.count + c.test_at-failed.new.reads.count) (c.args.lender.now.count + c.args.reads.now.count + 6 * (length (live_fields S (T.table).object) - T.next)) (omega (arith, counted, few, i.paid, within)) c.requires.1.1.0 in
+    let cheap = fewer_reads (w.limits).reads (c.args.reads.now.before + c.test_at-failed.new.reads.count) (c.args.reads.now.before + c.args.reads.now.count + 6 * (length (live_fields S (T.table).object) - T.next)) (omega (arith, counted, few, i.paid, within)) c.requires.1.1.0 in
     let kept = c.test_at-failed.ensures.bytes ∙ bytes in
     record {
       bytes = kept ∙ i.bytes;
+      before = c.test_at-failed.ensures.before ∙ ap (λ m. m.before) slot.counted ∙ i.before;
       same = i.same;
       forth = omega (arith, i.forth);
       walking =
           rw kept
           (step_passed w.checks b S w.limits (g.under).start (g.under).frames top w.tables w.deepest r i.walking rests steps all c.in-Some.step.now got plain _ _ _ _ told none
-          (c.args.lender.now.count + c.test_at-failed.new.reads.count) (omega (arith, counted)) cheap);
+          (c.args.reads.now.before + c.test_at-failed.new.reads.count) (omega (arith, counted)) cheap);
       paid = omega (arith, counted, few, i.paid, within);
     }
 

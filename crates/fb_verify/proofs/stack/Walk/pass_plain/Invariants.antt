@@ -7,9 +7,10 @@ use Rattle.fb_verify.proofs.stack.Walk.pass_plain.Given as goal
 abbrev pub invariant-loop-step : goal.invariant-loop-step
 invariant-loop-step g l = record {
   bytes : l.reads.bytes ≡ l.fn.reads.bytes;
+  before : l.reads.before ≡ l.fn.reads.before;
   same : l.top ≡ l.fn.top;
   forth : l.fn.top.next ≤ l.next;
-  walking : IsWalkingBy l.self l.lender.count l.reads (g.under).start (g.under).frames (record { table = l.fn.top.table; next = l.next; number = l.fn.top.number; row = l.fn.top.row });
+  walking : IsWalkingBy l.self l.fn.reads.before l.reads (g.under).start (g.under).frames (record { table = l.fn.top.table; next = l.next; number = l.fn.top.number; row = l.fn.top.row });
   paid : l.reads.count + 6 * (length (live_fields l.self.schema.now (l.fn.top.table).object) - l.next) ≤ l.fn.reads.count + 6 * (length (live_fields l.self.schema.now (l.fn.top.table).object) - l.fn.top.next);
 }
 

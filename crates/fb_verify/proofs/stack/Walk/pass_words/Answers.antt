@@ -31,7 +31,7 @@ told : (g : _) (c : After-test_lead-failed g)
 told g c =
     let w = c.args.self.now in
     let first = c.first_referent-referent.ensures in
-    word_told w.checks c.loop-row.reads.bytes w.schema.now w.limits (g.under).start (g.under).frames (top_at g c) w.tables w.deepest (c.args.lender.now.count + c.loop-row.reads.count) (c.loop-row.invariant).walking (lead_to c.first_referent-referent.result) first.lead
+    word_told w.checks c.loop-row.reads.bytes w.schema.now w.limits (g.under).start (g.under).frames (top_at g c) w.tables w.deepest (c.args.reads.now.before + c.loop-row.reads.count) (c.loop-row.invariant).walking (lead_to c.first_referent-referent.result) first.lead
     c.loop-row.reads.count c.first_referent-referent.new.reads.count (ap (λ x. x.count) first.counted) _ (rw (ap (λ x. x.bytes) first.counted) at c.test_lead-failed.ensures.told)
 
 pub returns-in-Some-clause-err : goal.returns-in-Some-clause-err
@@ -43,7 +43,7 @@ returns-in-Some-clause-err g c =
     let b = c.loop-row.reads.bytes in
     let first = c.first_referent-referent.ensures in
     rw (c.stop_at_word.ensures.past, i.same) (rw i.bytes at
-    (word_fails w.checks b w.schema.now w.limits (g.under).start (g.under).frames top w.tables w.deepest (c.args.lender.now.count + c.loop-row.reads.count) i.walking (past_first c.loop-row.row) refl c.loop-row-test.true (record { at = c.test_lead-failed.new.at; reason = c.in-Some.reason }) c.args.lender.now.count c.loop-row.reads.count c.test_lead-failed.new.reads.count refl
+    (word_fails w.checks b w.schema.now w.limits (g.under).start (g.under).frames top w.tables w.deepest (c.args.reads.now.before + c.loop-row.reads.count) i.walking (past_first c.loop-row.row) refl c.loop-row-test.true (record { at = c.test_lead-failed.new.at; reason = c.in-Some.reason }) c.args.reads.now.before c.loop-row.reads.count c.test_lead-failed.new.reads.count refl
     (sym (told g d) ∙ ap (tested_by c.test_lead-failed.new.at c.test_lead-failed.new.reads.count) c.in-Some.is) c.stop_at_word.result (rw i.same at c.stop_at_word.ensures.stop)))
 
 pub returns-in-Table-clause-table : goal.returns-in-Table-clause-table
@@ -59,7 +59,7 @@ returns-in-Table-clause-table g c =
     let same = ap lead_reads first.lead in
     rw (c.test_lead-failed.ensures.bytes ∙ (ap (λ x. x.bytes) first.counted), i.same)
     (record {
-      before = c.args.lender.now.count + c.loop-row.reads.count;
+      before = c.args.reads.now.before + c.loop-row.reads.count;
       count = omega (arith, counted, same, ap (λ x. x.count) first.counted);
       walking = i.walking;
       more = c.loop-row-test.true;
@@ -85,18 +85,19 @@ loop-row-preserved g c =
     let few = first_few b w.schema.now c.loop-row.row in
     let more = c.loop-row-test.true in
     let left = ap (λ (x : Row). x.left) c.advance.ensures in
-    let q = c.args.lender.now.count + c.test_lead-failed.new.reads.count in
+    let q = c.args.reads.now.before + c.test_lead-failed.new.reads.count in
     let holds = (after_none c.loop-row.reads.count (element_failure w.checks b (first_word b w.schema.now top.row))).0 (sym (told g d) ∙ ap (tested_by c.test_lead-failed.new.at c.test_lead-failed.new.reads.count) none) in
     let leaf = subst (λ x. IsLeafLead x) first.lead (is_leaf c.first_referent-referent.result (λ k e. c.in_default-referent.not-Table k e)) in
     let kept = c.test_lead-failed.ensures.bytes ∙ (ap (λ x. x.bytes) first.counted) in
-    let cheap = fewer_reads (w.limits).reads q (c.args.lender.now.count + c.args.reads.now.count + 4 * (c.args.top.now.row).left) (omega (arith, counted, same, few, i.paid, more, ap (λ x. x.count) first.counted)) c.requires.1.0 in
+    let cheap = fewer_reads (w.limits).reads q (c.args.reads.now.before + c.args.reads.now.count + 4 * (c.args.top.now.row).left) (omega (arith, counted, same, few, i.paid, more, ap (λ x. x.count) first.counted)) c.requires.1.0 in
     record {
       bytes = kept ∙ i.bytes;
+      before = c.test_lead-failed.ensures.before ∙ ap (λ x. x.before) first.counted ∙ i.before;
       same = i.same;
       fewer = omega (arith, i.fewer, left);
       walking =
           rw kept
-          (leaf_passed w.checks b w.schema.now w.limits (g.under).start (g.under).frames top w.tables w.deepest (c.args.lender.now.count + c.loop-row.reads.count) i.walking c.advance.new.self q c.advance.ensures more holds
+          (leaf_passed w.checks b w.schema.now w.limits (g.under).start (g.under).frames top w.tables w.deepest (c.args.reads.now.before + c.loop-row.reads.count) i.walking c.advance.new.self q c.advance.ensures more holds
           (omega (arith, counted, same, ap (λ x. x.count) first.counted)) leaf cheap);
       known = rw (ap (λ (x : Row). x.leads) c.advance.ensures) (known_on w.schema.now (c.loop-row.row).leads c.first_referent-referent.new.known first.known);
       paid = omega (arith, counted, same, few, i.paid, more, left, ap (λ x. x.count) first.counted);

@@ -7,9 +7,10 @@ use Rattle.fb_verify.proofs.stack.Walk.pass_words.Given as goal
 abbrev pub invariant-loop-row : goal.invariant-loop-row
 invariant-loop-row g l = record {
   bytes : l.reads.bytes ≡ l.fn.reads.bytes;
+  before : l.reads.before ≡ l.fn.reads.before;
   same : l.top ≡ l.fn.top;
   fewer : (l.row).left ≤ (l.fn.top.row).left;
-  walking : IsWalkingBy l.self l.lender.count l.reads (g.under).start (g.under).frames (record { table = l.fn.top.table; next = l.fn.top.next; number = l.fn.top.number; row = l.row });
+  walking : IsWalkingBy l.self l.fn.reads.before l.reads (g.under).start (g.under).frames (record { table = l.fn.top.table; next = l.fn.top.next; number = l.fn.top.number; row = l.row });
   known : IsKnown l.self.schema.now (l.row).leads l.known;
   paid : l.reads.count + 4 * (l.row).left ≤ l.fn.reads.count + 4 * (l.fn.top.row).left;
 }
