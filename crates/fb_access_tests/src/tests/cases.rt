@@ -19,21 +19,31 @@ use case_text::buffer::bytes_of;
 use case_text::columns;
 use case_text::rows::schema_of;
 use case_text::told::quoted;
-use fb_access::{Answer, Path, Step};
+use fb_access::{Answer, Path, PathFault, Step};
 use fb_schema::Schema;
 use std::alloc::{AllocError, Global};
 use std::process::Abort;
 use std::test::Fail;
 
+/// The step that a number is behind its mark.
+fn marked(mark: char, number: u32) -> Option<Step> {
+    match mark {
+        '.' => Some(Step::Field(u16::try_from(number).ok()?)),
+        '@' => Some(Step::Member(u8::try_from(number).ok()?)),
+        _ => (mark == '[').then_some(Step::Element(number)),
+    }
+}
+
 fn step(word: &str) -> Option<Step> {
-    if let Some(number) = word.strip_prefix('.') {
-        return Some(Step::Field(number.parse::<u16>().ok()?));
-    }
-    if let Some(value) = word.strip_prefix('@') {
-        return Some(Step::Member(value.parse::<u8>().ok()?));
-    }
-    let number = word.strip_prefix('[')?.strip_suffix(']')?;
-    Some(Step::Element(number.parse::<u32>().ok()?))
+    let mut letters = word.chars();
+    let mark = letters.next()?;
+    let rest = letters.as_str();
+    let number = if mark == '[' {
+        rest.strip_suffix(']')?
+    } else {
+        rest
+    };
+    marked(mark, number.parse::<u32>().ok()?)
 }
 
 /// Steps with blanks between them.
@@ -54,21 +64,96 @@ fn told(alloc: Global, answer: Option<Answer<'_>>) -> Result<String, AllocError>
     }
 }
 
-/// Asserts that the steps of each case lead to what it says, in the buffer that a text stands for.
-pub fn all_answered(
+/// Asserts that what is told is what is wanted.
+pub fn same(rt: &impl Abort, told: &str, want: &str, of: &str) {
+    assert_eq!(rt; told, want, "{of}");
+}
+
+/// What steps lead to, as cases have both.
+fn told_at(
     rt: &impl Abort,
     alloc: Global,
-    buffer: &str,
+    bytes: &[u8],
+    schema: &Schema,
+    reading: Reading,
+    steps: &str,
+) -> Result<String, Fail> {
+    let steps = steps_of(alloc, steps)?;
+    Ok(told(alloc, answer_at(rt, alloc, bytes, schema, reading, &steps))?)
+}
+
+/// Asserts that the steps of each case lead to what it says in these bytes.
+fn each_answered(
+    rt: &impl Abort,
+    alloc: Global,
+    bytes: &[u8],
     schema: &Schema,
     reading: Reading,
     cases: &str,
 ) -> Result<(), Fail> {
-    let bytes = bytes_of(alloc, &[], buffer)?;
     for line in cases.lines() {
         let (steps, want) = columns::two(line)?;
-        let path = steps_of(alloc, steps)?;
-        let answer = told(alloc, answer_at(rt, alloc, &bytes, schema, reading, &path)?)?;
-        assert_eq!(rt; answer.as_str(), want, "{steps}");
+        let told = told_at(rt, alloc, bytes, schema, reading, steps)?;
+        same(rt, told.as_str(), want, steps);
+    }
+    Ok(())
+}
+
+/// Asserts that the steps of each case lead to what it says, in the buffer that a text stands for, by the schema of
+/// these rows.
+pub fn all_answered(
+    rt: &impl Abort,
+    alloc: Global,
+    buffer: &str,
+    rows: &str,
+    reading: Reading,
+    cases: &str,
+) -> Result<(), Fail> {
+    let schema = schema_of(alloc, rows)?;
+    let bytes = bytes_of(alloc, &[], buffer)?;
+    each_answered(rt, alloc, &bytes, &schema, reading, cases)
+}
+
+/// Asserts that a path has the steps of a case.
+fn has_steps(
+    rt: &impl Abort,
+    alloc: Global,
+    path: &[Step],
+    text: &str,
+    want: &str,
+) -> Result<(), Fail> {
+    let steps = steps_of(alloc, want)?;
+    assert_eq!(rt; path, steps.as_slice(), "{text}");
+    Ok(())
+}
+
+/// Asserts that a fault is the one of a case.
+fn has_fault(
+    rt: &impl Abort,
+    alloc: Global,
+    fault: PathFault,
+    text: &str,
+    want: &str,
+) -> Result<(), Fail> {
+    let told = fault.to_string(alloc)?;
+    same(rt, told.as_str(), want, text);
+    Ok(())
+}
+
+/// Asserts that the path of a case resolves to what it says.
+fn resolved(rt: &impl Abort, alloc: Global, schema: &Schema, case: &str) -> Result<(), Fail> {
+    let (root, text, want) = columns::three(case)?;
+    let root = schema.object_named(root.as_bytes()).ok_or("no root")?;
+    assert!(rt; schema.is_table(root));
+    match Path::resolve(alloc, schema, root, text.as_bytes()) {
+        Ok(path) => has_steps(rt, alloc, path.steps(), text, want),
+        Err(fault) => has_fault(rt, alloc, fault, text, want),
+    }
+}
+
+fn each_resolved(rt: &impl Abort, alloc: Global, schema: &Schema, cases: &str) -> Result<(), Fail> {
+    for case in cases.lines() {
+        resolved(rt, alloc, schema, case)?;
     }
     Ok(())
 }
@@ -76,17 +161,5 @@ pub fn all_answered(
 /// Asserts that the path of each case resolves to what it says, by the schema of these rows.
 pub fn all_resolved(rt: &impl Abort, alloc: Global, rows: &str, cases: &str) -> Result<(), Fail> {
     let schema = schema_of(alloc, rows)?;
-    for line in cases.lines() {
-        let (root, text, want) = columns::three(line)?;
-        let root = schema.object_named(root.as_bytes()).ok_or("no root")?;
-        assert!(rt; schema.is_table(root));
-        match Path::resolve(alloc, &schema, root, text.as_bytes()) {
-            Ok(path) => {
-                let steps = steps_of(alloc, want)?;
-                assert_eq!(rt; path.steps(), steps.as_slice(), "{text}");
-            }
-            Err(fault) => assert_eq!(rt; fault.to_string(alloc)?.as_str(), want, "{text}"),
-        }
-    }
-    Ok(())
+    each_resolved(rt, alloc, &schema, cases)
 }

@@ -6,7 +6,6 @@ use fb_schema::Schema;
 use fb_verify::{Checks, Ident, Limits, Scratch, Start, Verified, verify};
 use std::alloc::Global;
 use std::process::Abort;
-use std::test::Fail;
 
 /// `table M { hp: short = 100; name: string; }`
 pub const MONSTERS: &str = "M table: hp@4 short default=100, name@6 string";
@@ -44,13 +43,13 @@ fn verified_as<'b, 's, 'n>(
     bytes: &'b [u8],
     schema: &'s Schema<'n>,
     reading: Reading,
-) -> Result<Verified<'b, 's, 'n>, Fail> {
-    let meter = Meter::new(bytes).ok().ok_or("too long")?;
+) -> Verified<'b, 's, 'n> {
+    let meter = Meter::new(bytes).expect(rt, "a short buffer");
     let checks = Checks {
         alignment: reading.alignment,
         inline_size: false,
     };
-    let mut scratch = Scratch::new(alloc, 64).ok().ok_or("out of memory")?;
+    let mut scratch = Scratch::new(alloc, 64).expect(rt, "memory");
     assert!(rt; schema.is_table(reading.root));
     let verified = verify(
         meter,
@@ -62,7 +61,7 @@ fn verified_as<'b, 's, 'n>(
         checks,
         &mut scratch,
     );
-    Ok(verified.ok().ok_or("a no")?)
+    verified.expect(rt, "a yes")
 }
 
 /// What the steps lead to; none where one of them isn't allowed.
@@ -73,14 +72,14 @@ pub fn answer_at<'b>(
     schema: &Schema,
     reading: Reading,
     steps: &[Step],
-) -> Result<Option<Answer<'b>>, Fail> {
-    let verified = verified_as(rt, alloc, bytes, schema, reading)?;
+) -> Option<Answer<'b>> {
+    let verified = verified_as(rt, alloc, bytes, schema, reading);
     let mut place = at_root(&verified);
     for step in steps {
         if !place.allows(*step) {
-            return Ok(None);
+            return None;
         }
         place = place.go(*step);
     }
-    Ok(Some(place.answer()))
+    Some(place.answer())
 }

@@ -10,6 +10,32 @@ use std::test::Fail;
 /// `table A { l: [long]; }`
 const LISTS: &str = "A table: l@4 [long]";
 
+/// Asserts that a text is no path of `LISTS`, for this fault.
+fn is_refused(rt: &impl Abort, alloc: Global, text: &[u8], want: PathFault) -> Result<(), Fail> {
+    let schema = schema_of(alloc, LISTS)?;
+    assert!(rt; schema.is_table(0));
+    let fault = Path::resolve(alloc, &schema, 0, text).err();
+    assert_eq!(rt; fault, Some(want), "{text:?}");
+    Ok(())
+}
+
+/// Asserts that this text with each of these bytes behind it is no path, for this fault.
+fn each_is_refused(
+    rt: &impl Abort,
+    alloc: Global,
+    front: &str,
+    bytes: &[u8],
+    want: PathFault,
+) -> Result<(), Fail> {
+    let mut text = front.as_bytes().to_vec(alloc)?;
+    for byte in bytes {
+        text.push(*byte)?;
+        is_refused(rt, alloc, &text, want)?;
+        text.pop();
+    }
+    Ok(())
+}
+
 /// Asserts that behind this text each of these letters goes on with a name, though none of `LISTS`, and none of the
 /// other bytes does.
 fn goes_on(
@@ -19,21 +45,10 @@ fn goes_on(
     letters: &[u8],
     others: &[u8],
 ) -> Result<(), Fail> {
-    let schema = schema_of(alloc, LISTS)?;
-    assert!(rt; schema.is_table(0));
-    for byte in letters.iter().chain(others) {
-        let mut text = front.as_bytes().to_vec(alloc)?;
-        text.push(*byte)?;
-        let want = if letters.contains(byte) {
-            PathFault::NoSuchField { step: 0 }
-        } else {
-            let at = front.len() as u64;
-            PathFault::BadText { at }
-        };
-        let fault = Path::resolve(alloc, &schema, 0, &text).err();
-        assert_eq!(rt; fault, Some(want), "{byte}");
-    }
-    Ok(())
+    let unknown = PathFault::NoSuchField { step: 0 };
+    each_is_refused(rt, alloc, front, letters, unknown)?;
+    let at = front.len() as u64;
+    each_is_refused(rt, alloc, front, others, PathFault::BadText { at })
 }
 
 #[test]
@@ -58,15 +73,18 @@ const WRONG: [(u64, &str); 6] = [
     (12, "l[42949672950] l[18446744073709551616]"),
 ];
 
+/// Asserts that each of these texts is wrong at this byte.
+fn all_wrong(rt: &impl Abort, alloc: Global, at: u64, texts: &str) -> Result<(), Fail> {
+    for text in texts.split(' ') {
+        is_refused(rt, alloc, text.as_bytes(), PathFault::BadText { at })?;
+    }
+    Ok(())
+}
+
 #[test]
 fn a_text_is_wrong_at_the_byte_that_can_not_go_on(rt: HostRuntime) -> Result<(), Fail> {
-    let schema = schema_of(rt.alloc(), LISTS)?;
-    assert!(rt; schema.is_table(0));
     for (at, texts) in WRONG {
-        for text in texts.split(' ') {
-            let fault = Path::resolve(rt.alloc(), &schema, 0, text.as_bytes()).err();
-            assert_eq!(rt; fault, Some(PathFault::BadText { at }), "{text}");
-        }
+        all_wrong(&rt, rt.alloc(), at, texts)?;
     }
     Ok(())
 }

@@ -1,12 +1,13 @@
 //! Elements past the first, numbers of every width with their sign, and defaults that are wider than their scalar.
 
-use super::cases::all_answered;
+use super::cases::{all_answered, same};
 use super::fixtures::{self, answer_at, bare};
 use case_text::buffer::bytes_of;
 use case_text::columns;
 use case_text::rows::schema_of;
 use fb_access::step::Step::{Element, Field};
 use fb_access::{Answer, Step};
+use fb_schema::Schema;
 use std::alloc::{AllocError, Global};
 use std::process::Abort;
 use std::test::Fail;
@@ -45,7 +46,19 @@ fn in_hex(alloc: Global, answer: Answer<'_>) -> Result<String, AllocError> {
     }
 }
 
-/// What steps lead to in a buffer of the first of these tables, with its number in hexadecimal.
+/// What steps lead to in these bytes of the first table, with its number in hexadecimal.
+fn hex_of(
+    rt: &impl Abort,
+    alloc: Global,
+    schema: &Schema,
+    bytes: &[u8],
+    steps: &[Step],
+) -> Result<String, AllocError> {
+    let answer = answer_at(rt, alloc, bytes, schema, bare(0), steps);
+    in_hex(alloc, answer.expect(rt, "allowed steps"))
+}
+
+/// The same in a buffer of the first of these tables.
 fn hex_at(
     rt: &impl Abort,
     alloc: Global,
@@ -55,8 +68,21 @@ fn hex_at(
 ) -> Result<String, Fail> {
     let schema = schema_of(alloc, rows)?;
     let bytes = bytes_of(alloc, &[], buffer)?;
-    let answer = answer_at(rt, alloc, &bytes, &schema, bare(0), steps)?;
-    Ok(in_hex(alloc, answer.ok_or("not allowed")?)?)
+    Ok(hex_of(rt, alloc, &schema, &bytes, steps)?)
+}
+
+/// Asserts what an element of the vector in `THREE` is, where the elements are of this type.
+fn element_is(
+    rt: &impl Abort,
+    alloc: Global,
+    scalar: &str,
+    element: u32,
+    want: &str,
+) -> Result<(), Fail> {
+    let rows = format!(in alloc; "A table: l@4 [{scalar}]")?;
+    let told = hex_at(rt, alloc, &rows, THREE, &[Field(0), Element(element)])?;
+    same(rt, told.as_str(), want, scalar);
+    Ok(())
 }
 
 #[test]
@@ -64,11 +90,9 @@ fn an_element_of_every_scalar_stands_behind_those_before(rt: HostRuntime) -> Res
     let alloc = rt.alloc();
     for line in ELEMENTS.lines() {
         let (scalar, second, third) = columns::three(line)?;
-        let rows = format!(in alloc; "A table: l@4 [{scalar}]")?;
-        for (element, want) in [(1, second), (2, third), (3, "NoElement")] {
-            let told = hex_at(&rt, alloc, &rows, THREE, &[Field(0), Element(element)])?;
-            assert_eq!(rt; told.as_str(), want, "element {element} of {scalar}");
-        }
+        element_is(&rt, alloc, scalar, 1, second)?;
+        element_is(&rt, alloc, scalar, 2, third)?;
+        element_is(&rt, alloc, scalar, 3, "NoElement")?;
     }
     Ok(())
 }
@@ -79,8 +103,14 @@ const FALSE: &str = "0c000000 06000800 04000000 08000000 04000000 03000000 80008
 #[test]
 fn a_bool_of_a_vector_is_false_where_its_byte_is_0(rt: HostRuntime) -> Result<(), Fail> {
     let alloc = rt.alloc();
-    let schema = schema_of(alloc, "A table: l@4 [bool]")?;
-    all_answered(&rt, alloc, FALSE, &schema, bare(0), ".0 [1] | Bool(false)")
+    all_answered(
+        &rt,
+        alloc,
+        FALSE,
+        "A table: l@4 [bool]",
+        bare(0),
+        ".0 [1] | Bool(false)",
+    )
 }
 
 const BOXES: &str = "\
@@ -93,8 +123,14 @@ const BOXES: &str = "\
 #[test]
 fn structs_of_12_bytes_stand_12_bytes_apart(rt: HostRuntime) -> Result<(), Fail> {
     let alloc = rt.alloc();
-    let schema = schema_of(alloc, "Boxes table: l@4 [obj]#1; Box struct 12/4: ")?;
-    all_answered(&rt, alloc, THREE, &schema, bare(0), BOXES)
+    all_answered(
+        &rt,
+        alloc,
+        THREE,
+        "Boxes table: l@4 [obj]#1; Box struct 12/4: ",
+        bare(0),
+        BOXES,
+    )
 }
 
 /// Three texts by the words from 28 on, and three tables by those from 44 on.
@@ -118,8 +154,7 @@ const LISTED: &str = "\
 fn texts_and_tables_past_the_first_are_their_own(rt: HostRuntime) -> Result<(), Fail> {
     let alloc = rt.alloc();
     let rows = "L table: texts@4 [string], tables@6 [obj]#1; A table: v@4 int";
-    let schema = schema_of(alloc, rows)?;
-    all_answered(&rt, alloc, LISTS, &schema, bare(0), LISTED)
+    all_answered(&rt, alloc, LISTS, rows, bare(0), LISTED)
 }
 
 /// Three unions: the types 3, 2 and 1 from 28 on, a text at 48, a struct at 56 and a table at 72.
@@ -143,8 +178,7 @@ const UNITED: &str = "\
 #[test]
 fn unions_past_the_first_have_types_of_their_own(rt: HostRuntime) -> Result<(), Fail> {
     let alloc = rt.alloc();
-    let schema = schema_of(alloc, fixtures::UNIONS)?;
-    all_answered(&rt, alloc, UNIONS, &schema, bare(3), UNITED)
+    all_answered(&rt, alloc, UNIONS, fixtures::UNIONS, bare(3), UNITED)
 }
 
 /// A field at 16, and there 8 bytes that count up from 0x80.
@@ -166,14 +200,26 @@ const WIDTHS: &str = "\
     ulong  | UInt(0x8786858483828180)\n\
 ";
 
+/// Asserts what the one field of a table is in a buffer, where it is of this type.
+fn field_is(
+    rt: &impl Abort,
+    alloc: Global,
+    buffer: &str,
+    field: &str,
+    want: &str,
+) -> Result<(), Fail> {
+    let rows = format!(in alloc; "A table: v@4 {field}")?;
+    let told = hex_at(rt, alloc, &rows, buffer, &[Field(0)])?;
+    same(rt, told.as_str(), want, field);
+    Ok(())
+}
+
 /// Asserts what the one field of a table is in a buffer. A case has the field's type, and the answer with its number in
 /// hexadecimal.
 fn fields_are(rt: &impl Abort, alloc: Global, buffer: &str, cases: &str) -> Result<(), Fail> {
     for line in cases.lines() {
         let (field, want) = columns::two(line)?;
-        let rows = format!(in alloc; "A table: v@4 {field}")?;
-        let told = hex_at(rt, alloc, &rows, buffer, &[Field(0)])?;
-        assert_eq!(rt; told.as_str(), want, "{field}");
+        field_is(rt, alloc, buffer, field, want)?;
     }
     Ok(())
 }

@@ -25,16 +25,15 @@ const EMPTY_CASES: &str = "\
 
 #[test]
 fn a_monster_has_its_fields(rt: HostRuntime) -> Result<(), Fail> {
-    let schema = schema_of(rt.alloc(), MONSTERS)?;
-    all_answered(&rt, rt.alloc(), "ORC", &schema, bare(0), ORC_CASES)?;
-    all_answered(&rt, rt.alloc(), "EMPTY", &schema, bare(0), EMPTY_CASES)
+    all_answered(&rt, rt.alloc(), "ORC", MONSTERS, bare(0), ORC_CASES)?;
+    all_answered(&rt, rt.alloc(), "EMPTY", MONSTERS, bare(0), EMPTY_CASES)
 }
 
 /// The name in these bytes: the schema, what was verified and each place are gone when it comes back.
 fn name_of<'b>(rt: &impl Abort, alloc: Global, bytes: &'b [u8]) -> Result<Answer<'b>, Fail> {
     let schema = schema_of(alloc, MONSTERS)?;
-    let name = answer_at(rt, alloc, bytes, &schema, bare(0), &[Field(1)])?;
-    Ok(name.ok_or("not allowed")?)
+    let name = answer_at(rt, alloc, bytes, &schema, bare(0), &[Field(1)]);
+    Ok(name.expect(rt, "an allowed step"))
 }
 
 #[test]
@@ -47,13 +46,19 @@ fn a_text_outlives_all_but_the_bytes(rt: HostRuntime) -> Result<(), Fail> {
 
 #[test]
 fn a_prefixed_buffer_has_its_root_behind_the_prefix(rt: HostRuntime) -> Result<(), Fail> {
-    let schema = schema_of(rt.alloc(), "A table: v@4 long")?;
     let reading = Reading {
         root: 0,
         start: Start::Prefixed,
         alignment: true,
     };
-    all_answered(&rt, rt.alloc(), "SEVEN", &schema, reading, ".0 | Int(7)")
+    all_answered(
+        &rt,
+        rt.alloc(),
+        "SEVEN",
+        "A table: v@4 long",
+        reading,
+        ".0 | Int(7)",
+    )
 }
 
 const ONE_MEMBER_CASES: &str = "\
@@ -81,15 +86,42 @@ const UNTYPED_CASES: &str = "\
 
 #[test]
 fn a_union_leads_to_its_member(rt: HostRuntime) -> Result<(), Fail> {
-    let schema = schema_of(rt.alloc(), TABLES_WITH_UNIONS)?;
     let root = bare(2);
     let alloc = rt.alloc();
-    all_answered(&rt, alloc, "PICKED", &schema, root, ONE_MEMBER_CASES)?;
+    all_answered(
+        &rt,
+        alloc,
+        "PICKED",
+        TABLES_WITH_UNIONS,
+        root,
+        ONE_MEMBER_CASES,
+    )?;
     let unknown = "PICKED 20=09";
-    all_answered(&rt, alloc, unknown, &schema, root, UNKNOWN_MEMBER_CASES)?;
-    all_answered(&rt, alloc, "BOXED", &schema, root, STRUCT_MEMBER_CASES)?;
-    all_answered(&rt, alloc, UNTYPED, &schema, root, UNTYPED_CASES)?;
-    all_answered(&rt, alloc, "EMPTY", &schema, root, ".1 @1 | Absent")
+    all_answered(
+        &rt,
+        alloc,
+        unknown,
+        TABLES_WITH_UNIONS,
+        root,
+        UNKNOWN_MEMBER_CASES,
+    )?;
+    all_answered(
+        &rt,
+        alloc,
+        "BOXED",
+        TABLES_WITH_UNIONS,
+        root,
+        STRUCT_MEMBER_CASES,
+    )?;
+    all_answered(&rt, alloc, UNTYPED, TABLES_WITH_UNIONS, root, UNTYPED_CASES)?;
+    all_answered(
+        &rt,
+        alloc,
+        "EMPTY",
+        TABLES_WITH_UNIONS,
+        root,
+        ".1 @1 | Absent",
+    )
 }
 
 const UNIONS_CASES: &str = "\
@@ -104,8 +136,14 @@ const UNIONS_CASES: &str = "\
 
 #[test]
 fn a_vector_of_unions_has_a_type_for_each_element(rt: HostRuntime) -> Result<(), Fail> {
-    let schema = schema_of(rt.alloc(), TABLES_WITH_UNIONS)?;
-    all_answered(&rt, rt.alloc(), "HI", &schema, bare(3), UNIONS_CASES)
+    all_answered(
+        &rt,
+        rt.alloc(),
+        "HI",
+        TABLES_WITH_UNIONS,
+        bare(3),
+        UNIONS_CASES,
+    )
 }
 
 /// A field of each scalar type but floats.
@@ -134,8 +172,14 @@ const NUMBERS_CASES: &str = "\
 
 #[test]
 fn a_number_has_the_sign_and_width_of_its_type(rt: HostRuntime) -> Result<(), Fail> {
-    let schema = schema_of(rt.alloc(), NUMBER_ROWS)?;
-    all_answered(&rt, rt.alloc(), NUMBERS, &schema, bare(0), NUMBERS_CASES)
+    all_answered(
+        &rt,
+        rt.alloc(),
+        NUMBERS,
+        NUMBER_ROWS,
+        bare(0),
+        NUMBERS_CASES,
+    )
 }
 
 /// Fields whose defaults are wider than they are, a float's, and an optional one's.
@@ -157,8 +201,14 @@ const DEFAULTS_CASES: &str = "\
 
 #[test]
 fn an_absent_scalar_has_the_low_bytes_of_its_default(rt: HostRuntime) -> Result<(), Fail> {
-    let schema = schema_of(rt.alloc(), DEFAULT_ROWS)?;
-    all_answered(&rt, rt.alloc(), "EMPTY", &schema, bare(0), DEFAULTS_CASES)
+    all_answered(
+        &rt,
+        rt.alloc(),
+        "EMPTY",
+        DEFAULT_ROWS,
+        bare(0),
+        DEFAULTS_CASES,
+    )
 }
 
 /// The float 1.5.
@@ -166,10 +216,23 @@ const FLOAT_BYTES: &str = "0c000000 06000800 04000000 08000000 0000c03f";
 
 #[test]
 fn a_float_is_its_bytes(rt: HostRuntime) -> Result<(), Fail> {
-    let schema = schema_of(rt.alloc(), "A table: f@4 float")?;
     let present = ".0 | Float([0, 0, 192, 63])";
-    all_answered(&rt, rt.alloc(), FLOAT_BYTES, &schema, bare(0), present)?;
-    all_answered(&rt, rt.alloc(), "EMPTY", &schema, bare(0), ".0 | Absent")
+    all_answered(
+        &rt,
+        rt.alloc(),
+        FLOAT_BYTES,
+        "A table: f@4 float",
+        bare(0),
+        present,
+    )?;
+    all_answered(
+        &rt,
+        rt.alloc(),
+        "EMPTY",
+        "A table: f@4 float",
+        bare(0),
+        ".0 | Absent",
+    )
 }
 
 const NO_LONGS_CASES: &str = "\
@@ -179,22 +242,41 @@ const NO_LONGS_CASES: &str = "\
 
 #[test]
 fn a_vector_of_longs_may_be_empty_or_crooked(rt: HostRuntime) -> Result<(), Fail> {
-    let schema = schema_of(rt.alloc(), "A table: l@4 [long]")?;
     let none = "LONGS 24=00 ..28";
-    all_answered(&rt, rt.alloc(), none, &schema, bare(0), NO_LONGS_CASES)?;
+    all_answered(
+        &rt,
+        rt.alloc(),
+        none,
+        "A table: l@4 [long]",
+        bare(0),
+        NO_LONGS_CASES,
+    )?;
     let unaligned = Reading {
         alignment: false,
         ..bare(0)
     };
     let case = ".0 [0] | Int(1)";
-    all_answered(&rt, rt.alloc(), "LONGS", &schema, unaligned, case)
+    all_answered(
+        &rt,
+        rt.alloc(),
+        "LONGS",
+        "A table: l@4 [long]",
+        unaligned,
+        case,
+    )
 }
 
 #[test]
 fn two_vectors_share_a_text(rt: HostRuntime) -> Result<(), Fail> {
-    let schema = schema_of(rt.alloc(), "A table: a@4 [string], b@6 [string]")?;
     let case = ".1 [1] | Text(\"hi\")";
-    all_answered(&rt, rt.alloc(), "TWICE", &schema, bare(0), case)
+    all_answered(
+        &rt,
+        rt.alloc(),
+        "TWICE",
+        "A table: a@4 [string], b@6 [string]",
+        bare(0),
+        case,
+    )
 }
 
 /// Two structs W, 1 and 2, and one table A with v 5.
@@ -217,8 +299,14 @@ const LISTS_CASES: &str = "\
 fn elements_are_structs_in_place_and_tables_behind_offset_words(
     rt: HostRuntime,
 ) -> Result<(), Fail> {
-    let schema = schema_of(rt.alloc(), TABLES_WITH_UNIONS)?;
-    all_answered(&rt, rt.alloc(), LISTS, &schema, bare(4), LISTS_CASES)
+    all_answered(
+        &rt,
+        rt.alloc(),
+        LISTS,
+        TABLES_WITH_UNIONS,
+        bare(4),
+        LISTS_CASES,
+    )
 }
 
 const ONE_MEMBER_ALLOWS: &str = "\
@@ -244,14 +332,20 @@ const UNIONS_ALLOW: &str = "\
 
 #[test]
 fn what_is_here_allows_its_own_steps_alone(rt: HostRuntime) -> Result<(), Fail> {
-    let schema = schema_of(rt.alloc(), TABLES_WITH_UNIONS)?;
     all_answered(
         &rt,
         rt.alloc(),
         "PICKED",
-        &schema,
+        TABLES_WITH_UNIONS,
         bare(2),
         ONE_MEMBER_ALLOWS,
     )?;
-    all_answered(&rt, rt.alloc(), "HI", &schema, bare(3), UNIONS_ALLOW)
+    all_answered(
+        &rt,
+        rt.alloc(),
+        "HI",
+        TABLES_WITH_UNIONS,
+        bare(3),
+        UNIONS_ALLOW,
+    )
 }
