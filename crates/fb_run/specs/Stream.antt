@@ -126,18 +126,18 @@ IsFeedFault (Stream (stream.Oversize number)) = Unit {0}
 IsFeedFault OutOfMemory = Unit {0}
 IsFeedFault _ = ⊥
 
--- a whole piece was passed, and all that is told in it is written and noted, with which so many bytes were in all
+-- a whole piece was passed, and what is told in it was written and noted, with which so many bytes were on each output
 pub record PassesPiece (job : Job) (before : Standing) (piece : List ℕ) (after : Standing) (sink sink' notes notes' : Option (List ℕ))
-    (count written count' noted : ℕ) : Type 0 where
+    (written written' noted noted' : ℕ) : Type 0 where
   pub text : Texts
   pub onward : Onward job before piece (record after { text = text })
   pub wrote : Appends sink sink' text.out
   pub told : Appends notes notes' text.notes
-  pub written_is : written ≡ count + length text.out
-  pub noted_is : noted ≡ count' + length text.notes
+  pub written_is : written' ≡ written + length text.out
+  pub noted_is : noted' ≡ noted + length text.notes
 
 -- it comes to rest in the piece, where this is counted: within a write of what is told, or with all of it written
 abbrev pub StopsAmid : Job → Standing → List ℕ → Tally → Option (List ℕ) → Option (List ℕ) → Option (List ℕ) → Option (List ℕ) → ℕ → ℕ → RunFault → Type 0
-StopsAmid job before piece tally sink sink' notes notes' count count' fault =
-    (text : Texts) × ((Gathers job before piece text tally × WritesFronts text sink sink' notes notes' count count' fault)
+StopsAmid job before piece tally sink sink' notes notes' written noted fault =
+    (text : Texts) × ((Gathers job before piece text tally × WritesFronts text sink sink' notes notes' written noted fault)
     ⊎ (Halts job before piece text tally fault × Appends sink sink' text.out × Appends notes notes' text.notes))

@@ -98,7 +98,8 @@ impl<A: Allocator> Carried<A> {
         Err(RunFault::TooManyTurns)
     }
 
-    /// Passes a whole piece, and writes what is told of the messages that end in it. Then `so_far` has what was counted.
+    /// Passes a whole piece, and writes what is told of the messages that end in it. Then `so_far` has what was
+    /// counted.
     fn pass_piece<K: Sink, N: Sink>(
         &mut self,
         checker: &Checker<'_, '_>,

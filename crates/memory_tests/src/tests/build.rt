@@ -8,6 +8,13 @@ use std::alloc::Global;
 use std::process::Abort;
 use std::test::Fail;
 
+/// How many objects a schema of these rows has, whose memory is this heap's.
+fn counted(rt: &impl Abort, heap: &Refusing<Global>, rows: Rows<'_>) -> Result<u32, SchemaFault> {
+    assert!(rt; are_few(&rows.objects, &rows.enums));
+    let schema = Schema::build(heap, rows.objects, rows.enums)?;
+    Ok(schema.object_count())
+}
+
 /// How many objects a schema has that is built under a plan, and how many requests that took.
 fn built(
     rt: &impl Abort,
@@ -15,10 +22,8 @@ fn built(
     plan: Plan,
 ) -> Result<(Result<u32, SchemaFault>, u64), Fail> {
     let rows = Rows::read(alloc, UNIONS)?;
-    assert!(rt; are_few(&rows.objects, &rows.enums));
     let heap = Refusing::new(alloc, plan);
-    let schema = Schema::build(&heap, rows.objects, rows.enums);
-    let count = schema.map(|schema| schema.object_count());
+    let count = counted(rt, &heap, rows);
     Ok((count, heap.asked()))
 }
 

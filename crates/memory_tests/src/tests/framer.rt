@@ -31,7 +31,7 @@ fn memory_is_asked_for_with_the_first_byte_of_a_body(rt: HostRuntime) -> Result<
         framer.next();
         assert_eq!(rt; heap.used(), used);
     }
-    assert_eq!(rt; framer.feed([].as_slice()), Err(StreamFault::Failed));
+    is(&rt, framer.feed([].as_slice()), Err(StreamFault::Failed));
     Ok(())
 }
 
@@ -39,29 +39,52 @@ fn memory_is_asked_for_with_the_first_byte_of_a_body(rt: HostRuntime) -> Result<
 fn a_prefix_past_the_limit_takes_no_memory(rt: HostRuntime) -> Result<(), Fail> {
     let heap = LocalHeap::new(rt.alloc(), 4096)?;
     let mut framer = Framer::new(&heap, 32)?;
-    assert_eq!(rt;
+    is(
+        &rt,
         framer.feed([29, 0, 0, 0, 1].as_slice()),
-        Err(StreamFault::Oversize { declared: 29 })
+        Err(StreamFault::Oversize { declared: 29 }),
     );
     assert_eq!(rt; heap.used(), 0);
     Ok(())
+}
+
+/// Asserts what a call answered.
+fn is(rt: &impl Abort, answer: Result<Taken, StreamFault>, want: Result<Taken, StreamFault>) {
+    assert_eq!(rt; answer, want);
+}
+
+/// Asserts that so many bytes are held, none of them of a whole message.
+fn holds<A: Allocator>(rt: &impl Abort, framer: &Framer<A>, bytes: u64) {
+    assert_eq!(rt; (framer.held(), framer.message()), (bytes, None));
+}
+
+/// Asserts that a framer that failed behind a prefix holds this and stays as it is.
+fn stays_failed<A: Allocator>(rt: &impl Abort, framer: &mut Framer<A>, piece: &[u8]) {
+    holds(rt, framer, 4);
+    is(rt, framer.feed(piece), Err(StreamFault::Failed));
+    framer.next();
+    assert_eq!(rt; framer.finish(), Err(StreamFault::Failed));
+    holds(rt, framer, 4);
+}
+
+/// Asserts that a framer whose heap has no more than 48 bytes fails at a body of 60.
+fn fails_at_the_second<A: Allocator>(rt: &impl Abort, framer: &mut Framer<A>) {
+    is(rt, framer.feed(message().as_slice()), taken(32, true));
+    framer.next();
+    is(rt, framer.feed([60, 0, 0, 0].as_slice()), taken(4, false));
+    is(
+        rt,
+        framer.feed([1].as_slice()),
+        Err(StreamFault::OutOfMemory),
+    );
 }
 
 #[test]
 fn refused_memory_fails_the_framer(rt: HostRuntime) -> Result<(), Fail> {
     let heap = LocalHeap::new(rt.alloc(), 48)?;
     let mut framer = Framer::new(&heap, 64)?;
-    assert_eq!(rt; framer.feed(message().as_slice()), taken(32, true));
-    framer.next();
-    let prefix = [60, 0, 0, 0];
-    assert_eq!(rt; framer.feed(prefix.as_slice()), taken(4, false));
-    assert_eq!(rt; framer.feed([1].as_slice()), Err(StreamFault::OutOfMemory));
-    assert_eq!(rt; framer.held(), 4);
-    assert!(rt; framer.message().is_none());
-    assert_eq!(rt; framer.feed([1].as_slice()), Err(StreamFault::Failed));
-    assert_eq!(rt; framer.finish(), Err(StreamFault::Failed));
-    framer.next();
-    assert_eq!(rt; framer.held(), 4);
+    fails_at_the_second(&rt, &mut framer);
+    stays_failed(&rt, &mut framer, [1].as_slice());
     Ok(())
 }
 
@@ -111,8 +134,17 @@ fn feed_all<A: Allocator>(framer: &mut Framer<A>, stream: &[u8], most: usize) ->
     }
 }
 
+/// Asserts that a framer ends as it should after what it answered: a framer that failed stays so.
+fn ends_so<A: Allocator>(rt: &impl Abort, framer: &mut Framer<A>, fed: Fed, stream: &[u8]) {
+    if fed.fault.is_some() {
+        stays_failed(rt, framer, stream);
+    } else {
+        assert_eq!(rt; framer.finish(), Ok(()));
+    }
+}
+
 /// What a framer of limit 64 answers of a stream under a plan, and how many requests that took. A framer that failed
-/// stays so, and asks for nothing more.
+/// asks for nothing more.
 fn fed_under(
     rt: &impl Abort,
     alloc: Global,
@@ -124,16 +156,7 @@ fn fed_under(
     let mut framer = Framer::new(&heap, 64)?;
     let fed = feed_all(&mut framer, stream, most);
     let asked = heap.asked();
-    if fed.fault.is_some() {
-        assert_eq!(rt; framer.held(), 4, "a prefix");
-        assert!(rt; framer.message().is_none());
-        assert_eq!(rt; framer.feed(stream), Err(StreamFault::Failed));
-        framer.next();
-        assert_eq!(rt; framer.finish(), Err(StreamFault::Failed));
-        assert_eq!(rt; framer.held(), 4);
-    } else {
-        assert_eq!(rt; framer.finish(), Ok(()));
-    }
+    ends_so(rt, &mut framer, fed, stream);
     assert_eq!(rt; heap.asked(), asked);
     Ok((fed, asked))
 }

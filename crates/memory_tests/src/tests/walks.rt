@@ -65,25 +65,37 @@ fn room_of_scratch(alloc: Global, depth: u32) -> Result<usize, Fail> {
     Ok(room)
 }
 
-/// Asserts what is answered of lists within several limits, by one scratch of this heap, and that no walk takes of it.
-fn lists_are_answered(rt: &impl Abort, alloc: Global, heap: &LocalHeap) -> Result<(), Fail> {
-    let schema = schema_of(alloc, NODES)?;
-    let (deep, flat) = (list(alloc, 4096)?, list(alloc, 64)?);
-    let mut scratch = Scratch::new(heap, 4096)?;
+/// Asserts what is answered of a deep and of a flat list within several limits, and that no walk takes of the heap.
+fn each_is_answered(
+    rt: &impl Abort,
+    schema: &Schema<'_>,
+    (deep, flat): (&[u8], &[u8]),
+    heap: &LocalHeap,
+    scratch: &mut Scratch<&LocalHeap>,
+) -> Result<(), Fail> {
     let used = heap.used();
     let cases = [
-        (&deep, 4096, yes(4096, 4096, 16_383)),
-        (&deep, 4095, too_deep(32_776, 16_381)),
-        (&deep, 64, too_deep(528, 257)),
-        (&flat, 64, yes(64, 64, 255)),
+        (deep, 4096, yes(4096, 4096, 16_383)),
+        (deep, 4095, too_deep(32_776, 16_381)),
+        (deep, 64, too_deep(528, 257)),
+        (flat, 64, yes(64, 64, 255)),
     ];
     for (bytes, depth, expected) in cases.iter().chain(cases.iter().rev()) {
         let limits = Limits::new(*depth, 1_000_000)?;
-        let answered = answer(rt, &schema, bytes, limits, &mut scratch);
+        let answered = answer(rt, schema, bytes, limits, scratch);
         assert_eq!(rt; answered, *expected);
         assert_eq!(rt; heap.used(), used);
     }
     Ok(())
+}
+
+/// Asserts the same of lists that are made here, by one scratch of this heap.
+fn lists_are_answered(rt: &impl Abort, alloc: Global, heap: &LocalHeap) -> Result<(), Fail> {
+    let schema = schema_of(alloc, NODES)?;
+    let deep = list(alloc, 4096)?;
+    let flat = list(alloc, 64)?;
+    let mut scratch = Scratch::new(heap, 4096)?;
+    each_is_answered(rt, &schema, (&deep, &flat), heap, &mut scratch)
 }
 
 #[test]
