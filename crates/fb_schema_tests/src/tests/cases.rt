@@ -31,12 +31,30 @@ fn answer(rt: &impl Abort, alloc: Global, before: &str, rows: &str) -> Result<St
     Ok(told(alloc, rows.built(alloc)?.err())?)
 }
 
+/// Asserts that what is told is what is wanted.
+pub fn same(rt: &impl Abort, told: &str, want: &str, shows: &str) {
+    assert_eq!(rt; told, want, "{shows}");
+}
+
+/// Asserts that these rows behind others are answered so.
+fn answered_so(
+    rt: &impl Abort,
+    alloc: Global,
+    before: &str,
+    rows: &str,
+    want: &str,
+    shows: &str,
+) -> Result<(), Fail> {
+    let answer = answer(rt, alloc, before, rows)?;
+    assert_eq!(rt; answer.as_str(), want, "{shows}: {rows}");
+    Ok(())
+}
+
 /// Asserts that the rows of each case, behind these rows, are answered as it says.
 pub fn answered(rt: &impl Abort, alloc: Global, before: &str, cases: &str) -> Result<(), Fail> {
     for line in cases.lines() {
         let (shows, rows, want) = columns::three(line)?;
-        let answer = answer(rt, alloc, before, rows)?;
-        assert_eq!(rt; answer.as_str(), want, "{shows}: {rows}");
+        answered_so(rt, alloc, before, rows, want, shows)?;
     }
     Ok(())
 }
@@ -45,8 +63,7 @@ pub fn answered(rt: &impl Abort, alloc: Global, before: &str, cases: &str) -> Re
 pub fn all_good(rt: &impl Abort, alloc: Global, before: &str, cases: &str) -> Result<(), Fail> {
     for line in cases.lines() {
         let (shows, rows, _) = columns::three(line)?;
-        let answer = answer(rt, alloc, before, rows)?;
-        assert_eq!(rt; answer.as_str(), "ok", "{shows}: {rows}");
+        answered_so(rt, alloc, before, rows, "ok", shows)?;
     }
     Ok(())
 }

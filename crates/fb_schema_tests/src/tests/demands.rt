@@ -4,6 +4,7 @@
 //! Each case is about object 2. Beside it stand the table 0, the struct 1 of 8 bytes, the union 0 and the enum 1.
 
 use super::cases::answered;
+use case_text::columns;
 use std::alloc::Global;
 use std::process::Abort;
 use std::test::Fail;
@@ -12,29 +13,47 @@ use std::test::Fail;
 const BEFORE: &str = "Table table: ; Pair struct 8/4: ; Choice union: ; Color enum: ; Subject ";
 
 /// The scalars, each with its size and that of three.
-const SCALARS: &str =
-    "utype 1 3, bool 1 3, byte 1 3, ubyte 1 3, short 2 6, ushort 2 6, int 4 12, uint 4 12, \
-    long 8 24, ulong 8 24, float 4 12, double 8 24";
+const SCALARS: &str = "\
+    utype  | 1 | 3\n\
+    bool   | 1 | 3\n\
+    byte   | 1 | 3\n\
+    ubyte  | 1 | 3\n\
+    short  | 2 | 6\n\
+    ushort | 2 | 6\n\
+    int    | 4 | 12\n\
+    uint   | 4 | 12\n\
+    long   | 8 | 24\n\
+    ulong  | 8 | 24\n\
+    float  | 4 | 12\n\
+    double | 8 | 24\n\
+";
+
+/// Asserts where a scalar may stand, by its size and that of three.
+fn scalar_stands(
+    rt: &impl Abort,
+    alloc: Global,
+    base: &str,
+    size: &str,
+    of_three: &str,
+) -> Result<(), Fail> {
+    let cases = format!(in alloc;
+        "\
+        alone        | table: f@4 {base}                   | ok\n\
+        a vector     | table: f@4 [{base}]                 | ok\n\
+        fits         | struct {size}/1: f@0 {base}         | ok\n\
+        a byte past  | struct {size}/1: f@1 {base}         | BadStruct 2.0\n\
+        three fit    | struct {of_three}/1: f@0 [{base}:3] | ok\n\
+        a byte past  | struct {of_three}/1: f@1 [{base}:3] | BadStruct 2.0\n\
+    "
+    )?;
+    answered(rt, alloc, BEFORE, &cases)
+}
 
 #[test]
 fn a_scalar_has_its_size_in_structs_and_may_stand_in_tables(rt: HostRuntime) -> Result<(), Fail> {
-    let alloc = rt.alloc();
-    for scalar in SCALARS.split(',') {
-        let mut words = scalar.split_whitespace();
-        let base = words.next().ok_or("no type")?;
-        let size = words.next().ok_or("no size")?;
-        let of_three = words.next().ok_or("no size of three")?;
-        let cases = format!(in alloc;
-            "\
-            alone        | table: f@4 {base}                   | ok\n\
-            a vector     | table: f@4 [{base}]                 | ok\n\
-            fits         | struct {size}/1: f@0 {base}         | ok\n\
-            a byte past  | struct {size}/1: f@1 {base}         | BadStruct 2.0\n\
-            three fit    | struct {of_three}/1: f@0 [{base}:3] | ok\n\
-            a byte past  | struct {of_three}/1: f@1 [{base}:3] | BadStruct 2.0\n\
-        "
-        )?;
-        answered(&rt, alloc, BEFORE, &cases)?;
+    for scalar in SCALARS.lines() {
+        let (base, size, of_three) = columns::three(scalar)?;
+        scalar_stands(&rt, rt.alloc(), base, size, of_three)?;
     }
     Ok(())
 }
@@ -42,19 +61,23 @@ fn a_scalar_has_its_size_in_structs_and_may_stand_in_tables(rt: HostRuntime) -> 
 /// Numbers that are no type of one value: none, vector, array, 64-bit vector, and what is no base type at all.
 const NO_VALUES: &str = "none vector array vector64 19 20 -1 127 -128";
 
+/// Asserts that a value of this type stands nowhere.
+fn stands_nowhere(rt: &impl Abort, alloc: Global, base: &str) -> Result<(), Fail> {
+    let cases = format!(in alloc;
+        "\
+        alone    | table: f@4 {base}          | Unsupported 2.0\n\
+        several  | table: f@4 [{base}]        | Unsupported 2.0\n\
+        inline   | struct 8/1: f@0 {base}     | BadStruct 2.0\n\
+        an array | struct 8/1: f@0 [{base}:2] | BadStruct 2.0\n\
+    "
+    )?;
+    answered(rt, alloc, BEFORE, &cases)
+}
+
 #[test]
 fn what_is_no_value_stands_nowhere(rt: HostRuntime) -> Result<(), Fail> {
-    let alloc = rt.alloc();
     for base in NO_VALUES.split(' ') {
-        let cases = format!(in alloc;
-            "\
-            alone    | table: f@4 {base}          | Unsupported 2.0\n\
-            several  | table: f@4 [{base}]        | Unsupported 2.0\n\
-            inline   | struct 8/1: f@0 {base}     | BadStruct 2.0\n\
-            an array | struct 8/1: f@0 [{base}:2] | BadStruct 2.0\n\
-        "
-        )?;
-        answered(&rt, alloc, BEFORE, &cases)?;
+        stands_nowhere(&rt, rt.alloc(), base)?;
     }
     Ok(())
 }
@@ -155,6 +178,18 @@ fn a_union_has_a_live_type_field_in_the_slot_below(rt: HostRuntime) -> Result<()
     answered(&rt, rt.alloc(), BEFORE, cases)
 }
 
+/// Asserts that a struct of so many bytes with this alignment is answered so.
+fn alignment_answered(
+    rt: &impl Abort,
+    alloc: Global,
+    bytesize: i32,
+    minalign: &str,
+    want: &str,
+) -> Result<(), Fail> {
+    let case = format!(in alloc; "alone | struct {bytesize}/{minalign}: | {want}")?;
+    answered(rt, alloc, BEFORE, &case)
+}
+
 /// Asserts that structs of so many bytes with each of these alignments are answered so.
 fn alignments_answered(
     rt: &impl Abort,
@@ -164,8 +199,7 @@ fn alignments_answered(
     want: &str,
 ) -> Result<(), Fail> {
     for minalign in minaligns.split(' ') {
-        let case = format!(in alloc; "alone | struct {bytesize}/{minalign}: | {want}")?;
-        answered(rt, alloc, BEFORE, &case)?;
+        alignment_answered(rt, alloc, bytesize, minalign, want)?;
     }
     Ok(())
 }

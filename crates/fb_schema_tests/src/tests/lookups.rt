@@ -1,8 +1,11 @@
 //! The live fields of a table with every kind, and where its required ones end. All look-ups stand beside plain walks
 //! over the rows in `evidence`.
 
+use super::cases::same;
 use case_text::rows::schema_of;
-use fb_schema::{FieldView, Step};
+use fb_schema::{FieldView, Schema, Step};
+use std::alloc::{AllocError, Global};
+use std::process::Abort;
 use std::test::Fail;
 
 /// A table with a live field of each kind, in no order of slots, and a deprecated one below the last; a struct, an
@@ -30,25 +33,35 @@ const KINDS: &str = "\
     30 Scalar(UByte) 1 1 None\n\
 ";
 
+/// A live field, as the line of a case.
+fn field_line(alloc: Global, field: &FieldView) -> Result<String, AllocError> {
+    let FieldView {
+        slot,
+        kind,
+        size,
+        align,
+        companion,
+        ..
+    } = *field;
+    format!(in alloc; "{slot} {kind:?} {size} {align} {companion:?}\n")
+}
+
+/// The live fields of a table, a line for each.
+fn fields_told(alloc: Global, fields: &[FieldView]) -> Result<String, AllocError> {
+    let mut told = String::new(alloc);
+    for field in fields {
+        told.push_str(field_line(alloc, field)?.as_str())?;
+    }
+    Ok(told)
+}
+
 #[test]
 fn a_legal_table_has_each_kind_in_rising_slot(rt: HostRuntime) -> Result<(), Fail> {
-    let alloc = rt.alloc();
-    let schema = schema_of(alloc, EVERY_KIND)?;
+    let schema = schema_of(rt.alloc(), EVERY_KIND)?;
     assert!(rt; schema.is_table(0));
-    assert_eq!(rt; schema.fields_of(0).len(), KINDS.lines().count());
-    for (field, want) in schema.fields_of(0).iter().zip(KINDS.lines()) {
-        let FieldView {
-            slot,
-            kind,
-            size,
-            align,
-            companion,
-            ..
-        } = *field;
-        let is = format!(in alloc; "{slot} {kind:?} {size} {align} {companion:?}")?;
-        assert_eq!(rt; is.as_str(), want);
-    }
-    assert_eq!(rt; schema.field_named(0, b"gone"), None);
+    let told = fields_told(rt.alloc(), schema.fields_of(0))?;
+    same(&rt, told.as_str(), KINDS, "fields");
+    assert!(rt; schema.field_named(0, b"gone").is_none());
     Ok(())
 }
 
@@ -73,23 +86,33 @@ const STEPS: &str = "\
     26 Other 4 4 false\n\
 ";
 
+/// A step, as the line of a case.
+fn step_line(alloc: Global, step: &Step) -> Result<String, AllocError> {
+    let Step {
+        act,
+        required,
+        slot,
+        size,
+        align,
+    } = *step;
+    format!(in alloc; "{slot} {act:?} {size} {align} {required}\n")
+}
+
+/// The steps of a table, a line for each.
+fn steps_told(alloc: Global, steps: &[Step]) -> Result<String, AllocError> {
+    let mut told = String::new(alloc);
+    for step in steps {
+        told.push_str(step_line(alloc, step)?.as_str())?;
+    }
+    Ok(told)
+}
+
 #[test]
 fn each_live_field_has_its_step(rt: HostRuntime) -> Result<(), Fail> {
-    let alloc = rt.alloc();
-    let schema = schema_of(alloc, ACTS)?;
+    let schema = schema_of(rt.alloc(), ACTS)?;
     assert!(rt; schema.is_table(2));
-    assert_eq!(rt; schema.steps_of(2).len(), STEPS.lines().count());
-    for (step, want) in schema.steps_of(2).iter().zip(STEPS.lines()) {
-        let Step {
-            act,
-            required,
-            slot,
-            size,
-            align,
-        } = *step;
-        let is = format!(in alloc; "{slot} {act:?} {size} {align} {required}")?;
-        assert_eq!(rt; is.as_str(), want);
-    }
+    let told = steps_told(rt.alloc(), schema.steps_of(2))?;
+    same(&rt, told.as_str(), STEPS, "steps");
     Ok(())
 }
 
@@ -100,13 +123,20 @@ const REQUIRED: &str =
     Gone table: a@4 int, b@6 string required, c@8 string required gone, d@10 int; \
     AllGone table: a@4 string required gone, b@6 int";
 
+/// Asserts that the required fields of a table end here.
+fn required_end_is(rt: &impl Abort, schema: &Schema, n: u32, want: u32) {
+    assert!(rt; schema.is_table(n));
+    assert_eq!(rt; schema.required_end(n), want, "table {n}");
+}
+
 #[test]
 fn required_fields_end_behind_the_last_that_is_live(rt: HostRuntime) -> Result<(), Fail> {
-    let alloc = rt.alloc();
-    let schema = schema_of(alloc, REQUIRED)?;
-    for (n, want) in (0u32..).zip([0, 0, 1, 3, 2, 0]) {
-        assert!(rt; schema.is_table(n));
-        assert_eq!(rt; schema.required_end(n), want, "table {n}");
-    }
+    let schema = schema_of(rt.alloc(), REQUIRED)?;
+    required_end_is(&rt, &schema, 0, 0);
+    required_end_is(&rt, &schema, 1, 0);
+    required_end_is(&rt, &schema, 2, 1);
+    required_end_is(&rt, &schema, 3, 3);
+    required_end_is(&rt, &schema, 4, 2);
+    required_end_is(&rt, &schema, 5, 0);
     Ok(())
 }
