@@ -3,8 +3,8 @@
 use super::fixtures::SAMPLES;
 use case_text::buffer::bytes_of;
 use case_text::columns;
-use fb_bfbs::{LoadFault, load};
-use fb_schema::{Code, Kind, Scalar, SchemaFault};
+use fb_bfbs::{LoadFault, Loaded, load};
+use fb_schema::{Code, FieldView, Kind, Scalar, Schema, SchemaFault};
 use fb_verify::{Fault, Limits, Reason};
 use std::alloc::Global;
 use std::process::Abort;
@@ -15,28 +15,43 @@ fn file(alloc: Global, text: &str) -> Result<Vec<u8>, Fail> {
     bytes_of(alloc, &SAMPLES, text)
 }
 
+/// Asserts that the root is this one.
+fn has_root(rt: &impl Abort, loaded: &Loaded, want: Option<u32>) {
+    assert_eq!(rt; loaded.root, want);
+}
+
+/// Asserts that an object of this name has this number.
+fn is_named(rt: &impl Abort, schema: &Schema, name: &[u8], want: u32) {
+    assert_eq!(rt; schema.object_named(name), Some(want));
+}
+
+fn has_kind(rt: &impl Abort, field: &FieldView, want: Kind) {
+    assert_eq!(rt; field.kind, want);
+}
+
+/// The live fields of the table `M`.
+fn fields_of_m(rt: &impl Abort, schema: &Schema) {
+    is_named(rt, schema, b"M", 0);
+    assert!(rt; schema.is_table(0));
+    let fields = schema.fields_of(0);
+    assert!(rt; fields.len() == 2);
+    let (hp, name) = (&fields[0], &fields[1]);
+    assert!(rt; hp.name == b"hp".as_slice());
+    assert!(rt; hp.slot == 4 && hp.default == 100);
+    has_kind(rt, hp, Kind::Scalar(Scalar::Short));
+    assert!(rt; name.name == b"name".as_slice());
+    assert!(rt; name.slot == 6 && !name.required);
+    has_kind(rt, name, Kind::Text);
+}
+
 #[test]
 fn a_table_with_a_default_is_loaded(rt: HostRuntime) -> Result<(), Fail> {
     let bytes = file(rt.alloc(), "FILE")?;
     let loaded = load(rt.alloc(), &bytes, Limits::published())?;
-    assert_eq!(rt; loaded.root, Some(0));
+    has_root(&rt, &loaded, Some(0));
     assert!(rt; loaded.ident.is_none());
-    let schema = &loaded.schema;
-    assert_eq!(rt; schema.object_count(), 1);
-    assert_eq!(rt; schema.object_named(b"M"), Some(0));
-    assert!(rt; schema.is_table(0));
-    let fields = schema.fields_of(0);
-    assert_eq!(rt; fields.len(), 2);
-    let hp = fields.first().ok_or("no field")?;
-    assert!(rt; hp.name == b"hp".as_slice());
-    assert_eq!(rt; hp.slot, 4);
-    assert_eq!(rt; hp.kind, Kind::Scalar(Scalar::Short));
-    assert_eq!(rt; hp.default, 100);
-    let name = fields.get(1).ok_or("one field")?;
-    assert!(rt; name.name == b"name".as_slice());
-    assert_eq!(rt; name.slot, 6);
-    assert_eq!(rt; name.kind, Kind::Text);
-    assert!(rt; !name.required);
+    assert!(rt; loaded.schema.object_count() == 1);
+    fields_of_m(&rt, &loaded.schema);
     Ok(())
 }
 
@@ -49,47 +64,63 @@ const W: u32 = 2;
 
 const U: u32 = 1;
 
+/// The objects of `OF_FLATC`.
+fn objects_of_flatc(rt: &impl Abort, schema: &Schema) {
+    is_named(rt, schema, b"A", A);
+    is_named(rt, schema, b"Q", Q);
+    is_named(rt, schema, b"W", W);
+    assert!(rt; schema.is_table(A) && schema.is_table(Q) && !schema.is_table(W));
+    assert!(rt; schema.object_count() == 3);
+    let shape = schema.object(W);
+    assert!(rt; shape.bytesize == 8 && shape.minalign == 8);
+}
+
+/// The live fields of `Q` in `OF_FLATC`: us_type, us, e, n and o; d is deprecated.
+fn fields_of_flatc(rt: &impl Abort, schema: &Schema) {
+    assert!(rt; schema.is_table(Q));
+    let fields = schema.fields_of(Q);
+    assert!(rt; fields.len() == 5);
+    let (us, e) = (&fields[1], &fields[2]);
+    assert!(rt; us.name == b"us".as_slice());
+    assert_eq!(rt; us.companion, Some(0));
+    has_kind(rt, us, Kind::Unions(U));
+    has_kind(rt, e, Kind::Scalar(Scalar::UByte));
+    assert!(rt; e.default == 2);
+    assert!(rt; fields[3].required && fields[4].optional);
+}
+
 #[test]
 fn what_flatc_writes_is_loaded(rt: HostRuntime) -> Result<(), Fail> {
     let bytes = file(rt.alloc(), "OF_FLATC")?;
     let loaded = load(rt.alloc(), &bytes, Limits::published())?;
-    assert_eq!(rt; loaded.root, Some(Q));
-    assert!(rt; loaded.ident.ok_or("no identifier")? == b"TEST".as_slice());
-    let schema = &loaded.schema;
-    assert_eq!(rt; schema.object_count(), 3);
-    assert_eq!(rt; schema.object_named(b"A"), Some(A));
-    assert_eq!(rt; schema.object_named(b"Q"), Some(Q));
-    assert_eq!(rt; schema.object_named(b"W"), Some(W));
-    assert!(rt; schema.is_table(A) && schema.is_table(Q) && !schema.is_table(W));
-    assert!(rt; W < schema.object_count());
-    assert_eq!(rt; schema.object(W).bytesize, 8);
-    assert_eq!(rt; schema.object(W).minalign, 8);
-    // us_type, us, e, n and o; d is deprecated
-    let fields = schema.fields_of(Q);
-    assert_eq!(rt; fields.len(), 5);
-    let us = fields.get(1).ok_or("no us")?;
-    assert!(rt; us.name == b"us".as_slice());
-    assert_eq!(rt; us.companion, Some(0));
-    let e = fields.get(2).ok_or("no e")?;
-    assert_eq!(rt; e.kind, Kind::Scalar(Scalar::UByte));
-    assert_eq!(rt; e.default, 2);
-    assert!(rt; fields.get(3).ok_or("no n")?.required);
-    assert!(rt; fields.get(4).ok_or("no o")?.optional);
+    has_root(&rt, &loaded, Some(Q));
+    assert_eq!(rt; loaded.ident, Some(b"TEST".as_slice()));
+    objects_of_flatc(&rt, &loaded.schema);
+    fields_of_flatc(&rt, &loaded.schema);
     Ok(())
+}
+
+/// Asserts what the member of this value of `U` is.
+fn member_is(rt: &impl Abort, schema: &Schema, value: u8, want: Option<Kind>) {
+    assert!(rt; schema.is_union(U));
+    assert_eq!(rt; schema.member_of(U, value), want);
+}
+
+/// The members of `U` in `OF_FLATC`.
+fn members_of_flatc(rt: &impl Abort, schema: &Schema) {
+    assert!(rt; schema.is_union(U));
+    assert_eq!(rt; schema.member_named(U, b"A"), Some(1));
+    member_is(rt, schema, 1, Some(Kind::Table(A)));
+    member_is(rt, schema, 2, Some(Kind::Struct(W)));
+    member_is(rt, schema, 3, Some(Kind::Text));
+    member_is(rt, schema, 4, None);
 }
 
 #[test]
 fn a_union_of_flatc_has_its_members(rt: HostRuntime) -> Result<(), Fail> {
     let bytes = file(rt.alloc(), "OF_FLATC")?;
-    let schema = load(rt.alloc(), &bytes, Limits::published())?.schema;
-    assert!(rt; schema.is_table(Q) && schema.is_union(U));
-    let us = schema.fields_of(Q).get(1).ok_or("no us")?;
-    assert_eq!(rt; us.kind, Kind::Unions(U));
-    assert_eq!(rt; schema.member_named(U, b"A"), Some(1));
-    assert_eq!(rt; schema.member_of(U, 1), Some(Kind::Table(A)));
-    assert_eq!(rt; schema.member_of(U, 2), Some(Kind::Struct(W)));
-    assert_eq!(rt; schema.member_of(U, 3), Some(Kind::Text));
-    assert_eq!(rt; schema.member_of(U, 4), None);
+    let loaded = load(rt.alloc(), &bytes, Limits::published())?;
+    members_of_flatc(&rt, &loaded.schema);
     Ok(())
 }
 
@@ -100,14 +131,26 @@ const REFUSED: &str = "\
     a root that isn't listed | FILE 44=00  | L3 RootNotListed\n\
 ";
 
+/// Asserts why a file isn't loaded within these limits.
+fn is_refused(
+    rt: &impl Abort,
+    alloc: Global,
+    text: &str,
+    limits: Limits,
+    want: &str,
+) -> Result<(), Fail> {
+    let bytes = file(alloc, text)?;
+    match load(alloc, &bytes, limits) {
+        Ok(_) => Err(Fail::from("loaded")),
+        Err(fault) => is_told(rt, alloc, fault, want),
+    }
+}
+
 #[test]
 fn a_file_that_is_no_schema_is_refused(rt: HostRuntime) -> Result<(), Fail> {
     for line in REFUSED.lines() {
-        let (shows, text, want) = columns::three(line)?;
-        let bytes = file(rt.alloc(), text)?;
-        let fault = load(rt.alloc(), &bytes, Limits::published()).err();
-        let told = fault.ok_or("loaded")?.to_string(rt.alloc())?;
-        assert_eq!(rt; told.as_str(), want, "{shows}");
+        let (_shows, text, want) = columns::three(line)?;
+        is_refused(&rt, rt.alloc(), text, Limits::published(), want)?;
     }
     Ok(())
 }
@@ -116,8 +159,8 @@ fn a_file_that_is_no_schema_is_refused(rt: HostRuntime) -> Result<(), Fail> {
 fn a_schema_may_have_no_root(rt: HostRuntime) -> Result<(), Fail> {
     let bytes = file(rt.alloc(), "FILE 20=0000")?;
     let loaded = load(rt.alloc(), &bytes, Limits::published())?;
-    assert_eq!(rt; loaded.root, None);
-    assert_eq!(rt; loaded.schema.object_count(), 1);
+    has_root(&rt, &loaded, None);
+    assert!(rt; loaded.schema.object_count() == 1);
     Ok(())
 }
 
@@ -132,37 +175,39 @@ fn refusal(alloc: Global, depth: u32, tables: u32) -> Result<Option<Reason>, Fai
     }
 }
 
+/// Asserts why the verifier refuses a schema file within this depth and so many tables.
+fn is_limited(
+    rt: &impl Abort,
+    alloc: Global,
+    limits: (u32, u32),
+    want: Option<Reason>,
+) -> Result<(), Fail> {
+    let (depth, tables) = limits;
+    assert_eq!(rt; refusal(alloc, depth, tables)?, want);
+    Ok(())
+}
+
 #[test]
 fn limits_are_those_of_the_caller(rt: HostRuntime) -> Result<(), Fail> {
-    let alloc = rt.alloc();
-    assert_eq!(rt; refusal(alloc, 3, 1000)?, Some(Reason::TooDeep));
-    assert_eq!(rt; refusal(alloc, 4, 10)?, Some(Reason::TooManyTables));
-    assert_eq!(rt; refusal(alloc, 4, 11)?, None);
-    assert_eq!(rt; refusal(alloc, 4096, 11)?, None);
-    Ok(())
+    is_limited(&rt, rt.alloc(), (3, 1000), Some(Reason::TooDeep))?;
+    is_limited(&rt, rt.alloc(), (4, 10), Some(Reason::TooManyTables))?;
+    is_limited(&rt, rt.alloc(), (4, 11), None)?;
+    is_limited(&rt, rt.alloc(), (4096, 11), None)
 }
 
 #[test]
 fn a_budget_of_reads_is_that_of_the_caller(rt: HostRuntime) -> Result<(), Fail> {
     let bytes = file(rt.alloc(), "FILE")?;
     assert!(rt; load(rt.alloc(), &bytes, Limits::published().with_reads(91)).is_ok());
-    let fault = load(rt.alloc(), &bytes, Limits::published().with_reads(90)).err();
-    assert_eq!(rt;
-        fault,
-        Some(LoadFault::NotWellFormed(Fault {
-            at: 172,
-            object: 4,
-            field: Some(3),
-            reason: Reason::TooManyReads,
-            reads: 91,
-        }))
-    );
-    Ok(())
+    let one_less = Limits::published().with_reads(90);
+    let want = "L1 V13 TooManyReads at=172 object=4 field=3 reads=91";
+    is_refused(&rt, rt.alloc(), "FILE", one_less, want)
 }
 
 /// Asserts the text of a fault.
 fn is_told(rt: &impl Abort, alloc: Global, fault: LoadFault, want: &str) -> Result<(), Fail> {
-    assert_eq!(rt; fault.to_string(alloc)?.as_str(), want);
+    let told = fault.to_string(alloc)?;
+    assert_eq!(rt; told.as_str(), want);
     Ok(())
 }
 
@@ -178,57 +223,69 @@ fn texts_of_the_other_faults(rt: HostRuntime) -> Result<(), Fail> {
     is_told(&rt, rt.alloc(), LoadFault::OutOfMemory, "L4 OutOfMemory")
 }
 
+/// The reasons of the verifier, with their texts.
+const REASONS: [(Reason, &str); 13] = [
+    (Reason::WrongPrefix, "V1 WrongPrefix"),
+    (Reason::OutOfBuffer, "V2 OutOfBuffer"),
+    (Reason::Misaligned, "V3 Misaligned"),
+    (Reason::ZeroOffset, "V4 ZeroOffset"),
+    (Reason::WrongIdentifier, "V5 WrongIdentifier"),
+    (Reason::TooDeep, "V6 TooDeep"),
+    (Reason::TooManyTables, "V7 TooManyTables"),
+    (Reason::BadVtable, "V8 BadVtable"),
+    (Reason::MissingRequired, "V9 MissingRequired"),
+    (Reason::NoTerminator, "V10 NoTerminator"),
+    (Reason::LengthsDiffer, "V11 LengthsDiffer"),
+    (Reason::PastTable, "V12 PastTable"),
+    (Reason::TooManyReads, "V13 TooManyReads"),
+];
+
+fn reason_is_told(rt: &impl Abort, alloc: Global, reason: Reason, name: &str) -> Result<(), Fail> {
+    let fault = Fault {
+        at: 31,
+        object: 4,
+        field: Some(1),
+        reason,
+        reads: 8,
+    };
+    let want = format!(in alloc; "L1 {name} at=31 object=4 field=1 reads=8")?;
+    is_told(rt, alloc, LoadFault::NotWellFormed(fault), &want)
+}
+
 #[test]
 fn each_reason_of_the_verifier_has_its_text(rt: HostRuntime) -> Result<(), Fail> {
-    let reasons = [
-        (Reason::WrongPrefix, "V1 WrongPrefix"),
-        (Reason::OutOfBuffer, "V2 OutOfBuffer"),
-        (Reason::Misaligned, "V3 Misaligned"),
-        (Reason::ZeroOffset, "V4 ZeroOffset"),
-        (Reason::WrongIdentifier, "V5 WrongIdentifier"),
-        (Reason::TooDeep, "V6 TooDeep"),
-        (Reason::TooManyTables, "V7 TooManyTables"),
-        (Reason::BadVtable, "V8 BadVtable"),
-        (Reason::MissingRequired, "V9 MissingRequired"),
-        (Reason::NoTerminator, "V10 NoTerminator"),
-        (Reason::LengthsDiffer, "V11 LengthsDiffer"),
-        (Reason::PastTable, "V12 PastTable"),
-        (Reason::TooManyReads, "V13 TooManyReads"),
-    ];
-    for (reason, name) in reasons {
-        let fault = Fault {
-            at: 31,
-            object: 4,
-            field: Some(1),
-            reason,
-            reads: 8,
-        };
-        let want = format!(in rt.alloc(); "L1 {name} at=31 object=4 field=1 reads=8")?;
-        is_told(&rt, rt.alloc(), LoadFault::NotWellFormed(fault), &want)?;
+    for (reason, name) in REASONS.iter() {
+        reason_is_told(&rt, rt.alloc(), *reason, name)?;
     }
     Ok(())
 }
 
+/// The faults of rows, with their texts.
+const CODES: [(Code, &str); 8] = [
+    (Code::NoSuchObject, "C1 NoSuchObject"),
+    (Code::NoSuchEnum, "C2 NoSuchEnum"),
+    (Code::Unsupported, "C3 Unsupported"),
+    (Code::BadSlot, "C4 BadSlot"),
+    (Code::NoTypeField, "C5 NoTypeField"),
+    (Code::BadStruct, "C6 BadStruct"),
+    (Code::BadMember, "C7 BadMember"),
+    (Code::NameTwice, "C8 NameTwice"),
+];
+
+fn code_is_told(rt: &impl Abort, alloc: Global, code: Code, name: &str) -> Result<(), Fail> {
+    let fault = SchemaFault {
+        code,
+        owner: 3,
+        part: Some(2),
+    };
+    let want = format!(in alloc; "L2 {name} owner=3 part=2")?;
+    is_told(rt, alloc, LoadFault::BadSchema(fault), &want)
+}
+
 #[test]
 fn each_fault_of_rows_has_its_text(rt: HostRuntime) -> Result<(), Fail> {
-    let codes = [
-        (Code::NoSuchObject, "C1 NoSuchObject"),
-        (Code::NoSuchEnum, "C2 NoSuchEnum"),
-        (Code::Unsupported, "C3 Unsupported"),
-        (Code::BadSlot, "C4 BadSlot"),
-        (Code::NoTypeField, "C5 NoTypeField"),
-        (Code::BadStruct, "C6 BadStruct"),
-        (Code::BadMember, "C7 BadMember"),
-        (Code::NameTwice, "C8 NameTwice"),
-    ];
-    for (code, name) in codes {
-        let fault = SchemaFault {
-            code,
-            owner: 3,
-            part: Some(2),
-        };
-        let want = format!(in rt.alloc(); "L2 {name} owner=3 part=2")?;
-        is_told(&rt, rt.alloc(), LoadFault::BadSchema(fault), &want)?;
+    for (code, name) in CODES.iter() {
+        code_is_told(&rt, rt.alloc(), *code, name)?;
     }
     Ok(())
 }
