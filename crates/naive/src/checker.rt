@@ -225,6 +225,13 @@ impl<'r, 'n, 'b> Walk<'r, 'n, 'b> {
         number(self.bytes, at, size).ok_or(fault(IMPOSSIBLE, at, here))
     }
 
+    /// A word that is read in the buffer, aligned.
+    fn word(&mut self, at: u64, here: Here) -> Result<u64, Stop> {
+        self.range(at, WORD, here)?;
+        self.aligned(at, WORD, here)?;
+        self.read(at, WORD, here)
+    }
+
     /// V13: the reads made so far are at most the budget.
     fn affordable(&self, at: u64, here: Here) -> Result<(), Stop> {
         let most = self.question.reads;
@@ -251,6 +258,38 @@ impl<'r, 'n, 'b> Walk<'r, 'n, 'b> {
         self.affordable(place.head.at, place.here)
     }
 
+    /// The prefix, where there is one: it is the length of what is behind it.
+    fn prefix(&mut self, here: Here) -> Result<(), Stop> {
+        if !self.question.prefixed {
+            return Ok(());
+        }
+        self.range(0, WORD, here)?;
+        let prefix = self.read(0, WORD, here)?;
+        let length = self.bytes.len() as u64;
+        let is_right = prefix.checked_add(WORD) == Some(length);
+        ensure(is_right, WRONG_PREFIX, 0, here)
+    }
+
+    /// The identifier, where one is wanted.
+    fn identifier(&mut self, at: u64, here: Here) -> Result<(), Stop> {
+        let Some(ident) = self.question.ident else {
+            return Ok(());
+        };
+        let wanted = u32::from_le_bytes(ident);
+        self.range(at, WORD, here)?;
+        let found = self.read(at, WORD, here)?;
+        ensure(found == u64::from(wanted), WRONG_IDENTIFIER, at, here)
+    }
+
+    /// The root offset, whose place has no alignment asked. Gives where it leads.
+    fn root_offset(&mut self, at: u64, here: Here) -> Result<u64, Stop> {
+        self.range(at, WORD, here)?;
+        let offset = self.read(at, WORD, here)?;
+        ensure(offset != 0, ZERO_OFFSET, at, here)?;
+        self.affordable(at, here)?;
+        Ok(at.saturating_add(offset))
+    }
+
     /// The prefix, the wanted identifier and the root offset, then the tree of the root table.
     fn buffer(&mut self) -> Result<Node, Stop> {
         let here = Here {
@@ -258,38 +297,10 @@ impl<'r, 'n, 'b> Walk<'r, 'n, 'b> {
             field: None,
         };
         let base: u64 = if self.question.prefixed { WORD } else { 0 };
-        if self.question.prefixed {
-            self.range(0, WORD, here)?;
-            let prefix = self.read(0, WORD, here)?;
-            let length = self.bytes.len() as u64;
-            ensure(
-                prefix.checked_add(WORD) == Some(length),
-                WRONG_PREFIX,
-                0,
-                here,
-            )?;
-        }
-        if let Some(ident) = self.question.ident {
-            let wanted = u32::from_le_bytes(ident);
-            self.range(base + WORD, WORD, here)?;
-            let found = self.read(base + WORD, WORD, here)?;
-            ensure(
-                found == u64::from(wanted),
-                WRONG_IDENTIFIER,
-                base + WORD,
-                here,
-            )?;
-        }
-        self.range(base, WORD, here)?;
-        let offset = self.read(base, WORD, here)?;
-        ensure(offset != 0, ZERO_OFFSET, base, here)?;
-        self.affordable(base, here)?;
-        self.table(
-            self.question.root,
-            base.saturating_add(offset),
-            self.question.depth,
-            here,
-        )
+        self.prefix(here)?;
+        self.identifier(base + WORD, here)?;
+        let root = self.root_offset(base, here)?;
+        self.table(self.question.root, root, self.question.depth, here)
     }
 
     /// A table: depth before count, both before its first read; then its head, and then its live fields.
@@ -310,29 +321,42 @@ impl<'r, 'n, 'b> Walk<'r, 'n, 'b> {
         self.fields(head, left - 1)
     }
 
+    /// Where the vtable of a table stands, by the offset to it. Its size is in the buffer.
+    fn vtable(&mut self, at: u64, here: Here) -> Result<u64, Stop> {
+        let back = signed(self.word(at, here)?, WORD);
+        match u64::try_from(i128::from(at) - i128::from(back)) {
+            Ok(vtable) if self.fits(vtable, 2) => Ok(vtable),
+            _ => Err(fault(OUT_OF_BUFFER, at, here)),
+        }
+    }
+
+    /// The size of a vtable: even, and of all of it in the buffer.
+    fn vtable_size(&mut self, vtable: u64, here: Here) -> Result<u64, Stop> {
+        self.aligned(vtable, 2, here)?;
+        let size = self.read(vtable, 2, here)?;
+        ensure(size % 2 == 0 && size >= 4, BAD_VTABLE, vtable, here)?;
+        self.range(vtable, size, here)?;
+        Ok(size)
+    }
+
+    /// The inline size, where it is asked.
+    fn inline_size(&mut self, vtable: u64, here: Here) -> Result<u64, Stop> {
+        if self.question.inline_size {
+            self.read(vtable.saturating_add(2), 2, here)
+        } else {
+            Ok(0)
+        }
+    }
+
     /// The head of an opened table: the offset to its vtable, the vtable's size and, where asked, the inline size.
     fn head(&mut self, object: u32, at: u64) -> Result<Head, Stop> {
         let here = Here {
             object,
             field: None,
         };
-        self.range(at, WORD, here)?;
-        self.aligned(at, WORD, here)?;
-        let back = signed(self.read(at, WORD, here)?, WORD);
-        let place = u64::try_from(i128::from(at) - i128::from(back)).ok();
-        let Some(vtable) = place.filter(|vtable| self.fits(*vtable, 2)) else {
-            return Err(fault(OUT_OF_BUFFER, at, here));
-        };
-        self.aligned(vtable, 2, here)?;
-        let vtable_size = self.read(vtable, 2, here)?;
-        let has_size = vtable_size % 2 == 0 && vtable_size >= 4;
-        ensure(has_size, BAD_VTABLE, vtable, here)?;
-        self.range(vtable, vtable_size, here)?;
-        let inline_size = if self.question.inline_size {
-            self.read(vtable.saturating_add(2), 2, here)?
-        } else {
-            0
-        };
+        let vtable = self.vtable(at, here)?;
+        let vtable_size = self.vtable_size(vtable, here)?;
+        let inline_size = self.inline_size(vtable, here)?;
         self.affordable(at, here)?;
         Ok(Head {
             object,
@@ -343,30 +367,43 @@ impl<'r, 'n, 'b> Walk<'r, 'n, 'b> {
         })
     }
 
+    /// From here on the field of this slot is under check.
+    fn goes_to_field(&mut self, object: u32, slot: u16) -> Result<(), AllocError> {
+        let step = Step {
+            object,
+            field: number_of(slot),
+            element: None,
+            member: None,
+        };
+        Ok(self.way.push(step)?)
+    }
+
     /// The live fields of a table in rising slot, each finished with all below it before the next.
     #[cycle(walk)]
     fn fields(&mut self, head: Head, left: u32) -> Result<Node, Stop> {
-        let count = field_count(&self.question, head.object);
-        let mut found = Vec::with_capacity(self.alloc, count)?;
-        let mut kids = Vec::new(self.alloc);
+        let mut node = Node {
+            found: Vec::new(self.alloc),
+            kids: Vec::new(self.alloc),
+        };
+        self.each_field(head, left, &mut node)?;
+        Ok(node)
+    }
+
+    /// What was found of each is added to the table's node.
+    #[cycle(walk)]
+    fn each_field(&mut self, head: Head, left: u32, node: &mut Node) -> Result<(), Stop> {
         let mut last = 0;
-        for _ in 0..count {
+        for _ in 0..field_count(&self.question, head.object) {
             let Some(row) = next_live(&self.question, head.object, last) else {
                 break;
             };
             last = row.slot;
-            let step = Step {
-                object: head.object,
-                field: number_of(row.slot),
-                element: None,
-                member: None,
-            };
-            self.way.push(step).map_err(AllocError::from)?;
-            let one = self.field(head, row, left, &mut kids)?;
+            self.goes_to_field(head.object, row.slot)?;
+            let found = self.field(head, row, left, &mut node.kids)?;
             self.way.pop();
-            found.push(one).map_err(AllocError::from)?;
+            node.add(found)?;
         }
-        Ok(Node { found, kids })
+        Ok(())
     }
 
     /// Reads a slot, where it lies in the vtable.
@@ -474,14 +511,7 @@ impl<'r, 'n, 'b> Walk<'r, 'n, 'b> {
 
     /// An offset word: in the buffer, aligned, and not 0 (V4). Gives where it leads.
     fn offset_word(&mut self, at: u64, here: Here) -> Result<u64, Stop> {
-        self.range(at, WORD, here)?;
-        self.aligned(at, WORD, here)?;
-        self.target(at, here)
-    }
-
-    /// Where the offset word at `at` leads, counted from its own position.
-    fn target(&mut self, at: u64, here: Here) -> Result<u64, Stop> {
-        let offset = self.read(at, WORD, here)?;
+        let offset = self.word(at, here)?;
         ensure(offset != 0, ZERO_OFFSET, at, here)?;
         Ok(at.saturating_add(offset))
     }
@@ -490,9 +520,22 @@ impl<'r, 'n, 'b> Walk<'r, 'n, 'b> {
     #[cycle(walk)]
     fn table_field(&mut self, place: Place, object: u32, kids: &mut Kids) -> Result<Found, Stop> {
         let target = self.single_word(place)?;
-        let kid = self.table(object, target, place.left, place.here)?;
-        kids.push(kid).map_err(AllocError::from)?;
+        self.kid(object, target, place.left, place.here, kids)?;
         Ok(Found::Table)
+    }
+
+    /// A table that another leads to, added to those of the other.
+    #[cycle(walk)]
+    fn kid(
+        &mut self,
+        object: u32,
+        at: u64,
+        left: u32,
+        outer: Here,
+        kids: &mut Kids,
+    ) -> Result<(), Stop> {
+        let kid = self.table(object, at, left, outer)?;
+        Ok(kids.push(kid).map_err(AllocError::from)?)
     }
 
     /// A text: an offset word, then the string where it leads.
@@ -505,9 +548,7 @@ impl<'r, 'n, 'b> Walk<'r, 'n, 'b> {
 
     /// A string: an aligned count, so many bytes, and a zero byte after them (V10).
     fn string(&mut self, at: u64, here: Here) -> Result<(), Stop> {
-        self.range(at, WORD, here)?;
-        self.aligned(at, WORD, here)?;
-        let count = self.read(at, WORD, here)?;
+        let count = self.word(at, here)?;
         let start = at.saturating_add(WORD);
         self.range(start, count.saturating_add(1), here)?;
         let end = start.saturating_add(count);
@@ -517,9 +558,7 @@ impl<'r, 'n, 'b> Walk<'r, 'n, 'b> {
 
     /// A vector: an aligned count, so many elements in the buffer, aligned where there are any. Gives the count.
     fn vector(&mut self, at: u64, shape: Shape, here: Here) -> Result<u32, Stop> {
-        self.range(at, WORD, here)?;
-        self.aligned(at, WORD, here)?;
-        let count = self.read(at, WORD, here)?;
+        let count = self.word(at, here)?;
         let start = at.saturating_add(WORD);
         self.range(start, count.saturating_mul(shape.size), here)?;
         if count != 0 {
@@ -581,8 +620,7 @@ impl<'r, 'n, 'b> Walk<'r, 'n, 'b> {
         for index in 0..count {
             self.goes_to_element(index);
             let target = self.offset_word(element_at(start, WORD, index), place.here)?;
-            let kid = self.table(object, target, place.left, place.here)?;
-            kids.push(kid).map_err(AllocError::from)?;
+            self.kid(object, target, place.left, place.here, kids)?;
         }
         Ok(Found::Tables(count))
     }
@@ -595,31 +633,54 @@ impl<'r, 'n, 'b> Walk<'r, 'n, 'b> {
         }
     }
 
+    /// The type of a union, 0 where its field is absent.
+    fn type_value(&mut self, type_at: Option<u64>, here: Here) -> Result<u64, Stop> {
+        match type_at {
+            Some(at) => self.read(at, 1, here),
+            None => Ok(0),
+        }
+    }
+
+    /// An offset word of a union or of an element, and then the value where it leads.
+    #[cycle(walk)]
+    fn entry(&mut self, place: Place, at: u64, kind: Kind, kids: &mut Kids) -> Result<(), Stop> {
+        let entry = Entry {
+            at,
+            target: self.offset_word(at, place.here)?,
+            left: place.left,
+            here: place.here,
+        };
+        self.member(entry, kind, kids)
+    }
+
+    /// The end of a union's field by itself, and then its value, where the type is a member's.
+    #[cycle(walk)]
+    fn union_value(
+        &mut self,
+        place: Place,
+        value: u64,
+        kind: Option<Kind>,
+        kids: &mut Kids,
+    ) -> Result<(), Stop> {
+        let Some(kind) = kind else {
+            return self.field_affordable(place);
+        };
+        self.own_word(place)?;
+        self.goes_to_member(value);
+        self.entry(place, place.at, kind, kids)
+    }
+
     /// A union: the type is read, 0 where it is absent. Where that is a member, an offset word and the value follow.
     #[cycle(walk)]
     fn union_field(&mut self, place: Place, union: u32, kids: &mut Kids) -> Result<Found, Stop> {
         let type_at = self.type_field(place)?;
-        let typed = type_at.is_some();
-        let value = match type_at {
-            Some(at) => self.read(at, 1, place.here)?,
-            None => 0,
-        };
-        let Some(kind) = member_kind(&self.question, union, value) else {
-            self.field_affordable(place)?;
-            let members = Members::NONE;
-            return Ok(Found::Union { typed, members });
-        };
-        self.own_word(place)?;
-        self.goes_to_member(value);
-        let entry = Entry {
-            at: place.at,
-            target: self.offset_word(place.at, place.here)?,
-            left: place.left,
-            here: place.here,
-        };
-        self.member(entry, kind, kids)?;
-        let members = Members::NONE.and(kind);
-        Ok(Found::Union { typed, members })
+        let value = self.type_value(type_at, place.here)?;
+        let kind = member_kind(&self.question, union, value);
+        self.union_value(place, value, kind, kids)?;
+        Ok(Found::Union {
+            typed: type_at.is_some(),
+            members: Members::NONE.and(kind),
+        })
     }
 
     /// The type vector of a vector of unions, read again: where its first element stands, and its count.
@@ -635,41 +696,57 @@ impl<'r, 'n, 'b> Walk<'r, 'n, 'b> {
         ))
     }
 
-    /// A vector of unions: as many types as values (V11); then each element in turn, as a union by its type.
+    /// The vectors of types and of values, which are as long (V11): where their first elements stand, and the count.
+    fn both_vectors(
+        &mut self,
+        place: Place,
+        type_at: Option<u64>,
+    ) -> Result<(u64, u64, u32), Stop> {
+        let (types, type_count) = self.type_vector(type_at, place.here)?;
+        let (start, count) = self.words(place)?;
+        let at = start.saturating_sub(WORD);
+        ensure(count == type_count, LENGTHS_DIFFER, at, place.here)?;
+        self.field_affordable(place)?;
+        Ok((types, start, count))
+    }
+
+    /// The type of the next element, which stands at a position. From here on its value is under check.
+    fn element_type(&mut self, index: u32, at: u64, here: Here) -> Result<u64, Stop> {
+        self.goes_to_element(index);
+        let value = self.read(at, 1, here)?;
+        self.goes_to_member(value);
+        Ok(value)
+    }
+
+    /// An element of a vector of unions, as a union by its type.
+    #[cycle(walk)]
+    fn union_element(
+        &mut self,
+        place: Place,
+        at: u64,
+        kind: Option<Kind>,
+        kids: &mut Kids,
+    ) -> Result<(), Stop> {
+        match kind {
+            Some(kind) => self.entry(place, at, kind, kids),
+            None => self.affordable(at, place.here),
+        }
+    }
+
+    /// A vector of unions: as many types as values; then each element in turn, as a union by its type.
     #[cycle(walk)]
     fn unions(&mut self, place: Place, union: u32, kids: &mut Kids) -> Result<Found, Stop> {
         let type_at = self.type_field(place)?;
-        let (types, type_count) = self.type_vector(type_at, place.here)?;
-        let (start, count) = self.words(place)?;
-        ensure(
-            count == type_count,
-            LENGTHS_DIFFER,
-            start.saturating_sub(WORD),
-            place.here,
-        )?;
-        self.field_affordable(place)?;
+        let (types, start, count) = self.both_vectors(place, type_at)?;
         let mut members = Members::NONE;
         for index in 0..count {
-            self.goes_to_element(index);
-            let at = element_at(start, WORD, index);
-            let value = self.read(element_at(types, 1, index), 1, place.here)?;
-            self.goes_to_member(value);
-            let Some(kind) = member_kind(&self.question, union, value) else {
-                self.affordable(at, place.here)?;
-                continue;
-            };
-            let entry = Entry {
-                at,
-                target: self.offset_word(at, place.here)?,
-                left: place.left,
-                here: place.here,
-            };
-            self.member(entry, kind, kids)?;
+            let value = self.element_type(index, element_at(types, 1, index), place.here)?;
+            let kind = member_kind(&self.question, union, value);
+            self.union_element(place, element_at(start, WORD, index), kind, kids)?;
             members = members.and(kind);
         }
-        let typed = type_at.is_some();
         Ok(Found::Unions {
-            typed,
+            typed: type_at.is_some(),
             count,
             members,
         })
@@ -685,11 +762,7 @@ impl<'r, 'n, 'b> Walk<'r, 'n, 'b> {
             here,
         } = entry;
         match kind {
-            Kind::Table(object) => {
-                let kid = self.table(object, target, left, here)?;
-                kids.push(kid).map_err(AllocError::from)?;
-                Ok(())
-            }
+            Kind::Table(object) => self.kid(object, target, left, here, kids),
             Kind::Text => {
                 self.string(target, here)?;
                 self.affordable(at, here)

@@ -12,7 +12,7 @@ pub const OBJ: i8 = 15;
 pub const UNION: i8 = 16;
 
 /// What the type of a field or union member says of its bytes. Scalars keep their base type.
-#[derive(Clone, Copy, PartialEq, Eq)]
+#[derive(Clone, Copy)]
 pub enum Kind {
     Scalar(i8),
     Struct(Shape),
@@ -27,7 +27,7 @@ pub enum Kind {
 }
 
 /// The size of a struct, and what its position is a multiple of.
-#[derive(Clone, Copy, PartialEq, Eq)]
+#[derive(Clone, Copy)]
 pub struct Shape {
     pub size: u64,
     pub align: u64,
@@ -44,21 +44,23 @@ pub fn scalar_size(base: i8) -> Option<u64> {
     }
 }
 
+/// The kind of the object with this number.
+fn object_kind(question: &Question<'_, '_>, number: u32) -> Option<Kind> {
+    let object = question.objects.get(number as usize)?;
+    if !object.is_struct {
+        return Some(Kind::Table(number));
+    }
+    let size = u64::try_from(object.bytesize).ok()?;
+    let align = u64::try_from(object.minalign).ok()?;
+    Some(Kind::Struct(Shape { size, align }))
+}
+
 /// The kind of one value: what a field or an element can be.
 fn single_kind(question: &Question<'_, '_>, base: i8, index: i32) -> Option<Kind> {
     match base {
         STRING => Some(Kind::Text),
         UNION => Some(Kind::Union(u32::try_from(index).ok()?)),
-        OBJ => {
-            let number = u32::try_from(index).ok()?;
-            let object = question.objects.get(number as usize)?;
-            if !object.is_struct {
-                return Some(Kind::Table(number));
-            }
-            let size = u64::try_from(object.bytesize).ok()?;
-            let align = u64::try_from(object.minalign).ok()?;
-            Some(Kind::Struct(Shape { size, align }))
-        }
+        OBJ => object_kind(question, u32::try_from(index).ok()?),
         _ => scalar_size(base).map(|_| Kind::Scalar(base)),
     }
 }

@@ -58,6 +58,20 @@ fn broken_at(code: u8, owner: usize, part: Option<usize>) -> Broken {
     }
 }
 
+/// The first field of an object that breaks a demand, with the demand.
+fn broken_fields(
+    objects: &[ObjectRow<'_>],
+    enums: &[EnumRow<'_>],
+    object: &ObjectRow<'_>,
+) -> Option<(usize, u8)> {
+    for (place, field) in object.fields.iter().enumerate() {
+        if let Some(code) = broken_field(objects, enums, object, place, field) {
+            return Some((place, code));
+        }
+    }
+    None
+}
+
 /// Its name, a struct's size and alignment, and then its fields in the list's order.
 fn broken_object(
     objects: &[ObjectRow<'_>],
@@ -72,17 +86,18 @@ fn broken_object(
     if object.is_struct && !is_struct_shape(object) {
         return Some(broken_at(BAD_STRUCT, number, None));
     }
-    for (place, field) in object.fields.iter().enumerate() {
-        if let Some(code) = broken_field(objects, enums, object, place, field) {
-            return Some(broken_at(code, number, Some(place)));
-        }
-    }
-    None
+    let (place, code) = broken_fields(objects, enums, object)?;
+    Some(broken_at(code, number, Some(place)))
 }
 
 /// At least one byte, and an alignment that is a power of two from 1 to 256.
 fn is_struct_shape(object: &ObjectRow<'_>) -> bool {
     object.bytesize >= 1 && matches!(object.minalign, 1 | 2 | 4 | 8 | 16 | 32 | 64 | 128 | 256)
+}
+
+/// Whether a field of a table has a slot that can't be.
+fn has_bad_slot(earlier: &[FieldRow<'_>], slot: u16) -> bool {
+    slot % 2 != 0 || slot < 4 || earlier.iter().any(|other| other.slot == slot)
 }
 
 /// A name of its own, and then what a struct or a table asks of its field.
@@ -100,10 +115,7 @@ fn broken_field(
     if object.is_struct {
         return broken_in_struct(objects, object, field);
     }
-    if field.slot % 2 != 0
-        || field.slot < 4
-        || earlier.iter().any(|other| other.slot == field.slot)
-    {
+    if has_bad_slot(earlier, field.slot) {
         return Some(BAD_SLOT);
     }
     if field.deprecated {
@@ -135,6 +147,37 @@ fn broken_in_struct(
     (end > i128::from(object.bytesize)).then_some(BAD_STRUCT)
 }
 
+/// Whether a type's index names a union.
+fn names_a_union(enums: &[EnumRow<'_>], ty: TypeRow) -> bool {
+    let Ok(index) = usize::try_from(ty.index) else {
+        return false;
+    };
+    match enums.get(index) {
+        Some(row) => row.is_union,
+        None => false,
+    }
+}
+
+/// Whether this is the live type field of a union, or of a vector of unions, in a slot.
+fn is_type_field(other: &FieldRow<'_>, slot: u16, is_vector: bool) -> bool {
+    let is_type = match is_vector {
+        true => other.ty.base == VECTOR && other.ty.element == UTYPE,
+        false => other.ty.base == UTYPE,
+    };
+    !other.deprecated && is_type && u32::from(other.slot) + 2 == u32::from(slot)
+}
+
+/// What a union, or a vector of unions, asks of its enum and of its type field.
+fn broken_union(enums: &[EnumRow<'_>], object: &ObjectRow<'_>, field: &FieldRow<'_>) -> Option<u8> {
+    if !names_a_union(enums, field.ty) {
+        return Some(NO_SUCH_ENUM);
+    }
+    let is_vector = field.ty.base == VECTOR;
+    let mut others = object.fields.iter();
+    let has_type = others.any(|other| is_type_field(other, field.slot, is_vector));
+    (!has_type).then_some(NO_TYPE_FIELD)
+}
+
 /// A supported type whose index names what it should, and for a union a type field in the slot before.
 fn broken_in_table(
     objects: &[ObjectRow<'_>],
@@ -155,23 +198,11 @@ fn broken_in_table(
     if single == OBJ && object_at(objects, field.ty).is_none() {
         return Some(NO_SUCH_OBJECT);
     }
-    if single != UNION {
-        return None;
+    if single == UNION {
+        broken_union(enums, object, field)
+    } else {
+        None
     }
-    let named = usize::try_from(field.ty.index)
-        .ok()
-        .and_then(|index| enums.get(index));
-    if !named.is_some_and(|row| row.is_union) {
-        return Some(NO_SUCH_ENUM);
-    }
-    let has_type = object.fields.iter().any(|other| {
-        let is_type = match is_vector {
-            true => other.ty.base == VECTOR && other.ty.element == UTYPE,
-            false => other.ty.base == UTYPE,
-        };
-        !other.deprecated && is_type && u32::from(other.slot) + 2 == u32::from(field.slot)
-    });
-    (!has_type).then_some(NO_TYPE_FIELD)
 }
 
 /// The object that a type's index names.
@@ -190,6 +221,20 @@ fn broken_member(objects: &[ObjectRow<'_>], members: &[MemberRow<'_>]) -> Option
     None
 }
 
+/// Whether a value is a byte, and no earlier member's.
+fn is_new_value(earlier: &[MemberRow<'_>], value: i64) -> bool {
+    (0..=255).contains(&value) && !earlier.iter().any(|other| other.value == value)
+}
+
+/// A table, a struct or a text.
+fn broken_member_type(objects: &[ObjectRow<'_>], ty: TypeRow) -> Option<u8> {
+    match ty.base {
+        OBJ if object_at(objects, ty).is_none() => Some(NO_SUCH_OBJECT),
+        OBJ | STRING => None,
+        _ => Some(BAD_MEMBER),
+    }
+}
+
 /// A value of one byte that no earlier member has; where it isn't 0, also a name of its own, and a table, a struct
 /// or a text.
 fn broken_in_union(
@@ -197,22 +242,15 @@ fn broken_in_union(
     earlier: &[MemberRow<'_>],
     member: &MemberRow<'_>,
 ) -> Option<u8> {
-    let is_byte = (0..=255).contains(&member.value);
-    if !is_byte || earlier.iter().any(|other| other.value == member.value) {
+    if !is_new_value(earlier, member.value) {
         return Some(BAD_MEMBER);
     }
     if member.value == 0 {
         return None;
     }
-    if earlier
-        .iter()
-        .any(|other| other.value != 0 && other.name == member.name)
-    {
+    let mut named = earlier.iter();
+    if named.any(|other| other.value != 0 && other.name == member.name) {
         return Some(NAME_TWICE);
     }
-    match member.ty.base {
-        OBJ if object_at(objects, member.ty).is_none() => Some(NO_SUCH_OBJECT),
-        OBJ | STRING => None,
-        _ => Some(BAD_MEMBER),
-    }
+    broken_member_type(objects, member.ty)
 }

@@ -1,6 +1,7 @@
 //! The finished tree of a buffer, and what is counted on it.
 
 use crate::kinds::Kind;
+use std::alloc::AllocError;
 
 /// A visited table: what was found of each live field, in rising slot, and the tables that its fields lead to, in
 /// order.
@@ -47,10 +48,11 @@ pub struct Members {
 impl Members {
     pub const NONE: Members = Members { known: 0, texts: 0 };
 
-    pub fn and(self, kind: Kind) -> Members {
-        let text = u32::from(kind == Kind::Text);
+    /// These and a value of this kind, if its type is known.
+    pub fn and(self, kind: Option<Kind>) -> Members {
+        let text = u32::from(matches!(kind, Some(Kind::Text)));
         Members {
-            known: self.known.saturating_add(1),
+            known: self.known.saturating_add(u32::from(kind.is_some())),
             texts: self.texts.saturating_add(text),
         }
     }
@@ -86,6 +88,11 @@ impl Found {
 }
 
 impl Node {
+    /// Adds what was found of the next live field.
+    pub fn add(&mut self, found: Found) -> Result<(), AllocError> {
+        Ok(self.found.push(found)?)
+    }
+
     /// The number of tables in the tree.
     pub fn size(&self) -> u64 {
         let mut size: u64 = 1;

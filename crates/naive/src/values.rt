@@ -15,7 +15,7 @@ pub enum Step {
 }
 
 /// A part of a path as it is written: `.name`, `[n]`, `@Member`.
-#[derive(Clone, Copy, Debug)]
+#[derive(Clone, Copy)]
 pub enum Part<'n> {
     Name(&'n [u8]),
     Index(u32),
@@ -60,25 +60,29 @@ pub fn steps(
     Ok(Some(steps))
 }
 
+/// The step to the live field of this name, and its kind.
+fn field_step(question: &Question<'_, '_>, object: u32, name: &[u8]) -> Option<(Step, Kind)> {
+    let fields = &question.objects.get(object as usize)?.fields;
+    let mut named = fields.iter();
+    let field = named.find(|field| !field.deprecated && field.name == name)?;
+    let step = Step::Field(field.slot.saturating_sub(4) / 2);
+    Some((step, kind_of(question, field.ty)?))
+}
+
+/// The step to the member of this name, and its kind.
+fn member_step(question: &Question<'_, '_>, union: u32, name: &[u8]) -> Option<(Step, Kind)> {
+    let members = &question.enums.get(union as usize)?.members;
+    let mut named = members.iter();
+    let member = named.find(|member| member.value != 0 && member.name == name)?;
+    let step = Step::Member(u8::try_from(member.value).ok()?);
+    Some((step, kind_of(question, member.ty)?))
+}
+
 /// The step that a part is at a value of this kind, and the kind to which it leads.
 fn step_of(question: &Question<'_, '_>, kind: Kind, part: Part<'_>) -> Option<(Step, Kind)> {
     match (kind, part) {
-        (Kind::Table(object), Part::Name(name)) => {
-            let fields = &question.objects.get(object as usize)?.fields;
-            let field = fields
-                .iter()
-                .find(|field| !field.deprecated && field.name == name)?;
-            let step = Step::Field(field.slot.saturating_sub(4) / 2);
-            Some((step, kind_of(question, field.ty)?))
-        }
-        (Kind::Union(union), Part::Member(name)) => {
-            let members = &question.enums.get(union as usize)?.members;
-            let member = members
-                .iter()
-                .find(|member| member.value != 0 && member.name == name)?;
-            let step = Step::Member(u8::try_from(member.value).ok()?);
-            Some((step, kind_of(question, member.ty)?))
-        }
+        (Kind::Table(object), Part::Name(name)) => field_step(question, object, name),
+        (Kind::Union(union), Part::Member(name)) => member_step(question, union, name),
         (_, Part::Index(place)) => Some((Step::Element(place), element_kind(kind)?)),
         _ => None,
     }
@@ -151,6 +155,18 @@ enum Spot {
     OtherMember,
 }
 
+/// The value of a union whose offset word stands at a position, where it is of this type.
+fn member_of(
+    question: &Question<'_, '_>,
+    bytes: &[u8],
+    union: u32,
+    value: u8,
+    at: u64,
+) -> Option<Spot> {
+    let kind = member_kind(question, union, u64::from(value))?;
+    at_target(kind, target(bytes, at)?)
+}
+
 /// One step. What is absent, past a vector's end or of another type stays so.
 fn go(question: &Question<'_, '_>, bytes: &[u8], spot: Spot, step: Step) -> Option<Spot> {
     match (spot, step) {
@@ -161,12 +177,12 @@ fn go(question: &Question<'_, '_>, bytes: &[u8], spot: Spot, step: Step) -> Opti
         (Spot::Vector { element, at, types }, Step::Element(place)) => element_of(
             bytes, element, at, types, place,
         ),
-        (Spot::Union { union, value, at }, Step::Member(member)) => {
-            let kind = member_kind(question, union, u64::from(member))?;
-            if member != value {
-                return Some(Spot::OtherMember);
-            }
-            at_target(kind, target(bytes, at)?)
+        (Spot::Union { union, value, at }, Step::Member(member)) if member == value => {
+            member_of(question, bytes, union, value, at)
+        }
+        (Spot::Union { union, .. }, Step::Member(member)) => {
+            let _kind = member_kind(question, union, u64::from(member))?;
+            Some(Spot::OtherMember)
         }
         _ => None,
     }
@@ -197,19 +213,38 @@ enum Slot {
     Holds(u64),
 }
 
+/// Where the vtable of a table stands.
+fn vtable_of(bytes: &[u8], table: u64) -> Option<u64> {
+    let back = signed(number(bytes, table, 4)?, 4);
+    u64::try_from(i128::from(table) - i128::from(back)).ok()
+}
+
+/// What the word of a slot says, 0 for a slot that isn't in the vtable.
+fn slot_word(bytes: &[u8], vtable: u64, slot: u64) -> Option<u64> {
+    let size = number(bytes, vtable, 2)?;
+    if slot.saturating_add(2) > size {
+        return Some(0);
+    }
+    number(bytes, vtable.saturating_add(slot), 2)
+}
+
 /// Where the field of a slot stands, by the table's vtable.
 fn slot_of(bytes: &[u8], table: u64, slot: u64) -> Option<Slot> {
-    let back = signed(number(bytes, table, 4)?, 4);
-    let vtable = u64::try_from(i128::from(table) - i128::from(back)).ok()?;
-    let size = number(bytes, vtable, 2)?;
-    if slot.checked_add(2)? > size {
-        return Some(Slot::Absent);
+    match slot_word(bytes, vtable_of(bytes, table)?, slot)? {
+        0 => Some(Slot::Absent),
+        word => Some(Slot::Holds(table.saturating_add(word))),
     }
-    let word = number(bytes, vtable.checked_add(slot)?, 2)?;
-    if word == 0 {
-        return Some(Slot::Absent);
-    }
-    Some(Slot::Holds(table.checked_add(word)?))
+}
+
+/// The row of a table's live field with this slot.
+fn live_row<'r, 'n>(
+    question: &Question<'r, 'n>,
+    object: u32,
+    slot: u64,
+) -> Option<&'r FieldRow<'n>> {
+    let object = question.objects.get(object as usize)?;
+    let mut rows = object.fields.iter();
+    rows.find(|row| !row.deprecated && u64::from(row.slot) == slot)
 }
 
 /// A live field of a table, by its number.
@@ -221,15 +256,39 @@ fn field_of(
     field: u16,
 ) -> Option<Spot> {
     let slot = 4 + 2 * u64::from(field);
-    let fields = &question.objects.get(object as usize)?.fields;
-    let row = fields
-        .iter()
-        .find(|row| !row.deprecated && u64::from(row.slot) == slot)?;
+    let row = live_row(question, object, slot)?;
     let kind = kind_of(question, row.ty)?;
-    let Slot::Holds(at) = slot_of(bytes, table, slot)? else {
-        return Some(absent(row, kind));
+    match slot_of(bytes, table, slot)? {
+        Slot::Holds(at) => present(bytes, table, slot, kind, at),
+        Slot::Absent => Some(absent(row, kind)),
+    }
+}
+
+/// A union whose offset word stands at a position. Its type is 0 where the type field is absent.
+fn present_union(bytes: &[u8], union: u32, types: Slot, at: u64) -> Option<Spot> {
+    let value = match types {
+        Slot::Holds(type_at) => u8::try_from(number(bytes, type_at, 1)?).ok()?,
+        Slot::Absent => 0,
     };
-    present(bytes, table, slot, kind, at)
+    Some(Spot::Union { union, value, at })
+}
+
+/// A vector, to which the offset word at a position leads, of elements without types.
+fn present_vector(bytes: &[u8], element: Kind, at: u64) -> Option<Spot> {
+    let at = target(bytes, at)?;
+    let types = None;
+    Some(Spot::Vector { element, at, types })
+}
+
+/// A vector of unions, to which the offset word at a position leads.
+fn present_unions(bytes: &[u8], union: u32, types: Slot, at: u64) -> Option<Spot> {
+    let types = match types {
+        Slot::Holds(type_at) => Some(target(bytes, type_at)?),
+        Slot::Absent => None,
+    };
+    let element = Kind::Union(union);
+    let at = target(bytes, at)?;
+    Some(Spot::Vector { element, at, types })
 }
 
 /// A present field, which stands at `at`. The type of a union and the types of a vector of unions are in the slot
@@ -240,26 +299,14 @@ fn present(bytes: &[u8], table: u64, slot: u64, kind: Kind, at: u64) -> Option<S
         Kind::Struct(_) => at_target(kind, at),
         Kind::Text | Kind::Table(_) => at_target(kind, target(bytes, at)?),
         Kind::Union(union) => {
-            let value = match slot_of(bytes, table, slot.checked_sub(2)?)? {
-                Slot::Holds(type_at) => u8::try_from(number(bytes, type_at, 1)?).ok()?,
-                Slot::Absent => 0,
-            };
-            Some(Spot::Union { union, value, at })
+            let types = slot_of(bytes, table, slot.saturating_sub(2))?;
+            present_union(bytes, union, types, at)
         }
         Kind::Unions(union) => {
-            let types = match slot_of(bytes, table, slot.checked_sub(2)?)? {
-                Slot::Holds(type_at) => Some(target(bytes, type_at)?),
-                Slot::Absent => None,
-            };
-            let element = Kind::Union(union);
-            let at = target(bytes, at)?;
-            Some(Spot::Vector { element, at, types })
+            let types = slot_of(bytes, table, slot.saturating_sub(2))?;
+            present_unions(bytes, union, types, at)
         }
-        _ => Some(Spot::Vector {
-            element: element_kind(kind)?,
-            at: target(bytes, at)?,
-            types: None,
-        }),
+        _ => present_vector(bytes, element_kind(kind)?, at),
     }
 }
 
@@ -278,6 +325,19 @@ fn is_float(base: i8) -> bool {
     matches!(base, 11 | 12)
 }
 
+/// A union whose offset word stands at a position, and its type at a place in the type vector.
+fn union_element(
+    bytes: &[u8],
+    union: u32,
+    types: Option<u64>,
+    place: u32,
+    at: u64,
+) -> Option<Spot> {
+    let type_at = element_at(types?.saturating_add(4), 1, place);
+    let value = u8::try_from(number(bytes, type_at, 1)?).ok()?;
+    Some(Spot::Union { union, value, at })
+}
+
 /// An element of the vector at a position. The type of a union is the byte at its place in the type vector.
 fn element_of(
     bytes: &[u8],
@@ -289,7 +349,7 @@ fn element_of(
     if u64::from(place) >= number(bytes, vector, 4)? {
         return Some(Spot::NoElement);
     }
-    let start = vector.checked_add(4)?;
+    let start = vector.saturating_add(4);
     let word = element_at(start, 4, place);
     match element {
         Kind::Scalar(base) => {
@@ -297,36 +357,39 @@ fn element_of(
             Some(Spot::Scalar { base, at })
         }
         Kind::Struct(shape) => at_target(element, element_at(start, shape.size, place)),
-        Kind::Union(union) => {
-            let type_at = element_at(types?.checked_add(4)?, 1, place);
-            let value = u8::try_from(number(bytes, type_at, 1)?).ok()?;
-            Some(Spot::Union {
-                union,
-                value,
-                at: word,
-            })
-        }
+        Kind::Union(union) => union_element(bytes, union, types, place, word),
         _ => at_target(element, target(bytes, word)?),
     }
+}
+
+/// The value of a scalar at a position.
+fn scalar_at<'b>(bytes: &'b [u8], base: i8, at: u64) -> Option<Value<'b>> {
+    let size = scalar_size(base)?;
+    if is_float(base) {
+        return Some(Value::Float(slice(bytes, at, size)?));
+    }
+    whole(base, size, number(bytes, at, size)?)
+}
+
+/// The text whose count stands at a position.
+fn text_at<'b>(bytes: &'b [u8], at: u64) -> Option<Value<'b>> {
+    let count = number(bytes, at, 4)?;
+    Some(Value::Text(slice(bytes, at.saturating_add(4), count)?))
+}
+
+/// How many elements the vector at a position has.
+fn vector_at<'b>(bytes: &'b [u8], at: u64) -> Option<Value<'b>> {
+    Some(Value::Vector(u32::try_from(number(bytes, at, 4)?).ok()?))
 }
 
 /// The value at the last spot.
 fn answer_at<'b>(bytes: &'b [u8], spot: Spot) -> Option<Value<'b>> {
     match spot {
         Spot::Table { .. } => Some(Value::Table),
-        Spot::Scalar { base, at } => {
-            let size = scalar_size(base)?;
-            if is_float(base) {
-                return Some(Value::Float(slice(bytes, at, size)?));
-            }
-            whole(base, size, number(bytes, at, size)?)
-        }
+        Spot::Scalar { base, at } => scalar_at(bytes, base, at),
         Spot::Struct { size, at } => Some(Value::Struct(slice(bytes, at, size)?)),
-        Spot::Text { at } => {
-            let count = number(bytes, at, 4)?;
-            Some(Value::Text(slice(bytes, at.checked_add(4)?, count)?))
-        }
-        Spot::Vector { at, .. } => Some(Value::Vector(u32::try_from(number(bytes, at, 4)?).ok()?)),
+        Spot::Text { at } => text_at(bytes, at),
+        Spot::Vector { at, .. } => vector_at(bytes, at),
         Spot::Union { value, .. } => Some(Value::Union(value)),
         Spot::Default { base, default } => whole(base, scalar_size(base)?, default.cast_unsigned()),
         Spot::Absent => Some(Value::Absent),

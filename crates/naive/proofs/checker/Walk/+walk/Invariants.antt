@@ -3,28 +3,43 @@ use Rattle.std.proofs.Common.{◌+◌, ◌*◌}
 use Rattle.naive.proofs.checker.Walk.+walk.Given as goal
 
 abbrev pub decreases-table : goal.decreases-table
-decreases-table l = 8 * l.left
+decreases-table l = 16 * l.left
+
+abbrev pub decreases-kid : goal.decreases-kid
+decreases-kid l = 16 * l.left + 1
 
 abbrev pub decreases-member : goal.decreases-member
-decreases-member l = 8 * l.entry.left + 1
+decreases-member l = 16 * l.entry.left + 2
+
+abbrev pub decreases-entry : goal.decreases-entry
+decreases-entry l = 16 * l.place.left + 3
+
+abbrev pub decreases-union_value : goal.decreases-union_value
+decreases-union_value l = 16 * l.place.left + 4
+
+abbrev pub decreases-union_element : goal.decreases-union_element
+decreases-union_element l = 16 * l.place.left + 4
 
 abbrev pub decreases-table_field : goal.decreases-table_field
-decreases-table_field l = 8 * l.place.left + 2
+decreases-table_field l = 16 * l.place.left + 5
 
 abbrev pub decreases-tables : goal.decreases-tables
-decreases-tables l = 8 * l.place.left + 2
+decreases-tables l = 16 * l.place.left + 5
 
 abbrev pub decreases-union_field : goal.decreases-union_field
-decreases-union_field l = 8 * l.place.left + 2
+decreases-union_field l = 16 * l.place.left + 5
 
 abbrev pub decreases-unions : goal.decreases-unions
-decreases-unions l = 8 * l.place.left + 2
+decreases-unions l = 16 * l.place.left + 5
 
 abbrev pub decreases-present : goal.decreases-present
-decreases-present l = 8 * l.place.left + 3
+decreases-present l = 16 * l.place.left + 6
 
 abbrev pub decreases-field : goal.decreases-field
-decreases-field l = 8 * l.left + 4
+decreases-field l = 16 * l.left + 7
+
+abbrev pub decreases-each_field : goal.decreases-each_field
+decreases-each_field l = 16 * l.left + 8
 
 abbrev pub decreases-fields : goal.decreases-fields
-decreases-fields l = 8 * l.left + 5
+decreases-fields l = 16 * l.left + 9
