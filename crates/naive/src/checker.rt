@@ -7,6 +7,11 @@
 //! leads to no table: a string or struct with the offset word that leads to it, or an element of unknown type. So what
 //! leads to a table is asked with that table's head.
 
+use crate::faults::{
+    BAD_VTABLE, Here, IMPOSSIBLE, LENGTHS_DIFFER, MISALIGNED, MISSING_REQUIRED, NO_TERMINATOR,
+    OUT_OF_BUFFER, PAST_TABLE, Stop, TOO_DEEP, TOO_MANY_READS, TOO_MANY_TABLES, WRONG_IDENTIFIER,
+    WRONG_PREFIX, ZERO_OFFSET, ensure, fault,
+};
 use crate::kinds::{
     Kind, Live, Shape, element_at, field_count, kind_of, member_kind, next_live, number,
     scalar_size, signed,
@@ -87,70 +92,6 @@ const WORD: u64 = 4;
 /// The number of the field with this slot.
 fn number_of(slot: u16) -> u16 {
     slot.saturating_sub(4) / 2
-}
-
-/// The reason of what can't happen under legal rows.
-const IMPOSSIBLE: u8 = 0;
-
-// The reasons of faults, by the numbers in their codes.
-const WRONG_PREFIX: u8 = 1;
-
-const OUT_OF_BUFFER: u8 = 2;
-
-const MISALIGNED: u8 = 3;
-
-const ZERO_OFFSET: u8 = 4;
-
-const WRONG_IDENTIFIER: u8 = 5;
-
-const TOO_DEEP: u8 = 6;
-
-const TOO_MANY_TABLES: u8 = 7;
-
-const BAD_VTABLE: u8 = 8;
-
-const MISSING_REQUIRED: u8 = 9;
-
-const NO_TERMINATOR: u8 = 10;
-
-const LENGTHS_DIFFER: u8 = 11;
-
-const PAST_TABLE: u8 = 12;
-
-const TOO_MANY_READS: u8 = 13;
-
-/// Whom a fault names: the innermost opened table's object and the number of its field under check.
-#[derive(Clone, Copy)]
-struct Here {
-    object: u32,
-    field: Option<u16>,
-}
-
-/// Why the walk ended early.
-#[derive(Clone, Copy)]
-enum Stop {
-    Fault { reason: u8, at: u64, here: Here },
-    TooLarge,
-    NoMemory,
-}
-
-impl From<AllocError> for Stop {
-    fn from(_error: AllocError) -> Stop {
-        Stop::NoMemory
-    }
-}
-
-fn fault(reason: u8, at: u64, here: Here) -> Stop {
-    Stop::Fault { reason, at, here }
-}
-
-/// One test in its place: where it fails, it is the first fault.
-fn ensure(holds: bool, reason: u8, at: u64, here: Here) -> Result<(), Stop> {
-    if holds {
-        Ok(())
-    } else {
-        Err(fault(reason, at, here))
-    }
 }
 
 /// An opened table whose head was tested: its position, its vtable with its size, and the inline size.

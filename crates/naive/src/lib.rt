@@ -4,6 +4,7 @@
 #![tactic(auto)]
 
 pub mod checker;
+mod faults;
 mod kinds;
 pub mod rows;
 mod tree;
