@@ -13,7 +13,7 @@ use Rattle.fb_run.specs.Run.{IsRunBeside, IsRunFrom}
 use Rattle.fb_run.specs.Sums.{no_tally}
 use Rattle.fb_run.specs.Faults.{IsCaused}
 use Rattle.fbcheck.specs.Checking.{Asks, IsCheckedBeside, IsRefusal, LacksJob}
-use Rattle.fbcheck.specs.declared.choices.Settings.{Settings}
+use Rattle.fbcheck_words.specs.declared.choices.Settings.{Settings}
 use Rattle.fb_run.specs.declared.fault.RunFault.{RunFault}
 use Rattle.fb_run.specs.declared.fault.RunFault.TheVariants as run
 use Rattle.fb_run.specs.declared.tally.Tally.{Tally}

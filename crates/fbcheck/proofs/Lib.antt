@@ -1,7 +1,4 @@
 mod AskedLemmas
 mod CheckLemmas
-mod DefaultLemmas
 mod OneAsk
-mod ProgramLemmas
 mod ServingLemmas
-mod WordsLemmas

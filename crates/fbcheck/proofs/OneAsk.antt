@@ -12,7 +12,7 @@ use Rattle.fb_bfbs.specs.LoadLaws.{Applies}
 use Rattle.fb_run.specs.Job.{Job, job_of}
 use Rattle.fbcheck.specs.Asked.{AsksBy, IsAsked, IsPath, IsPathFault, HasPathFault, asked_root, options_of}
 use Rattle.fbcheck.specs.Checking.{Asks, IsSchema, IsNoSchema, schema_limits}
-use Rattle.fbcheck.specs.declared.choices.Settings.{Settings}
+use Rattle.fbcheck_words.specs.declared.choices.Settings.{Settings}
 use Rattle.fb_run.specs.declared.fault.RunFault.{RunFault}
 use Rattle.fb_run.specs.declared.fault.RunFault.TheVariants.{Load, Path, NoRoot}
 

@@ -10,14 +10,14 @@ use Rattle.clap.specs.Walk.{Text}
 use Rattle.clap.specs.Faults.{fault_of}
 use Rattle.fb_bytes.specs.declared.stream_fault.StreamFault.{StreamFault}
 use Rattle.fb_bytes.specs.declared.stream_fault.StreamFault.TheVariants as stream
-use Rattle.fbcheck.specs.CommandLine.{program}
-use Rattle.fbcheck.specs.Refusal.{Refuses}
+use Rattle.fbcheck_words.specs.CommandLine.{program}
+use Rattle.fbcheck_words.specs.Refusal.{Refuses}
 use Rattle.fbcheck.specs.Checking.{IsCheckedBeside}
 use Rattle.fb_run.specs.Sums.{summary_line}
 use Rattle.fbcheck.specs.Serving.{AreGiven, ChecksAsGiven, ComesBy, ComesTo, EndsSo, HoldsAsGiven, IsFile, IsPromptAsGiven, SumsUp, Unserved, lent_bytes, summed, unsummed, words_of}
-use Rattle.fbcheck.specs.Values.{IsGiven, IsNumberOf, text_of}
-use Rattle.fbcheck.specs.declared.choices.Settings.{Settings}
-use Rattle.fbcheck.specs.declared.choices.SettingsFault.{SettingsFault}
+use Rattle.fbcheck_words.specs.Values.{IsGiven, IsNumberOf, text_of}
+use Rattle.fbcheck_words.specs.declared.choices.Settings.{Settings}
+use Rattle.fbcheck_words.specs.declared.choices.SettingsFault.{SettingsFault}
 use Rattle.fb_run.specs.declared.fault.RunFault.{RunFault}
 use Rattle.fb_run.specs.declared.fault.RunFault.TheVariants as run
 use Rattle.fbcheck.specs.declared.files.FileFault.{FileFault}

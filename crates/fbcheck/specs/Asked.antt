@@ -7,7 +7,7 @@ use Rattle.fb_access.specs.Resolving.{Resolves, IsFault}
 use Rattle.fb_verify.specs.declared.start.Ident.{Ident}
 use Rattle.fb_verify.specs.declared.start.Ident.TheVariants.{Any, Want}
 use Rattle.fb_run.specs.Job.{Job, job_of}
-use Rattle.fbcheck.specs.declared.choices.Settings.{Settings}
+use Rattle.fbcheck_words.specs.declared.choices.Settings.{Settings}
 use Rattle.fb_run.specs.declared.options.Mode.{Mode}
 use Rattle.fb_run.specs.declared.options.Mode.TheVariants.{Lines, BadLines, Filter}
 use Rattle.fb_run.specs.declared.options.Places.{Places}
@@ -93,9 +93,3 @@ abbrev pub PathFails : Rows → ℕ → Option (List ℕ) → RunFault → Type 
 PathFails rows root text (Path fault) = IsPathFault rows root text fault
 PathFails rows root text OutOfMemory = Unit {0}
 PathFails rows root text _ = ⊥
-
--- the settings' numbers are in their ranges
-pub record AreInRange (settings : Settings) : Type 0 where
-  pub depth : settings.depth ≤ 4096
-  pub least : 8 ≤ settings.max_bytes
-  pub most : settings.max_bytes < 2 ^ 31

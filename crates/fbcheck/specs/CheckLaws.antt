@@ -3,7 +3,7 @@ use Rattle.std.specs.Prelude.{◌≡◌, ℕ, List, Option, Result}
 use Rattle.std.specs.Borrow.{Bor}
 use Rattle.fb_run.specs.Job.{Job}
 use Rattle.fbcheck.specs.Checking.{Asks}
-use Rattle.fbcheck.specs.declared.choices.Settings.{Settings}
+use Rattle.fbcheck_words.specs.declared.choices.Settings.{Settings}
 use Rattle.fb_run.specs.declared.fault.RunFault.{RunFault}
 
 -- a schema file and the settings ask at most one thing

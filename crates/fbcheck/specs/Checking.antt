@@ -14,7 +14,7 @@ use Rattle.fb_run.specs.Job.{Job}
 use Rattle.fb_run.specs.Prompt.{IsPrompt}
 use Rattle.fb_run.specs.Run.{IsRunBeside}
 use Rattle.fb_run.specs.Sums.{no_tally}
-use Rattle.fbcheck.specs.declared.choices.Settings.{Settings}
+use Rattle.fbcheck_words.specs.declared.choices.Settings.{Settings}
 use Rattle.fb_run.specs.declared.fault.RunFault.{RunFault}
 use Rattle.fb_run.specs.declared.fault.RunFault.TheVariants.{Load, NoRoot, OutOfMemory, Path}
 use Rattle.fb_run.specs.declared.tally.Tally.{Tally}

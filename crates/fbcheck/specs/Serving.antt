@@ -5,15 +5,15 @@ use Rattle.std.specs.Io.KnownBytes.{Appends, Keeps}
 use Rattle.clap.specs.Walk.{Text}
 use Rattle.clap.specs.Faults.{fault_of}
 use Rattle.fbcheck.specs.Checking.{IsCheckedBeside, IsPromptAsAsked, IsRefusal}
-use Rattle.fbcheck.specs.CommandLine.{program}
+use Rattle.fbcheck_words.specs.CommandLine.{program}
 use Rattle.fb_run.specs.Faults.{EndsBeside, fault_status, status_of}
 use Rattle.fb_run.specs.Lines.{WritesFront}
-use Rattle.fbcheck.specs.Refusal.{Refuses, refusal_status}
+use Rattle.fbcheck_words.specs.Refusal.{Refuses, refusal_status}
 use Rattle.fb_run.specs.Sums.{summary_line}
-use Rattle.fbcheck.specs.Values.{IsGiven, IsNumberOf, text_of}
-use Rattle.fbcheck.specs.declared.choices.Settings.{Settings}
-use Rattle.fbcheck.specs.declared.choices.SettingsFault.{SettingsFault}
-use Rattle.fbcheck.specs.declared.choices.SettingsFault.TheVariants as refusal
+use Rattle.fbcheck_words.specs.Values.{IsGiven, IsNumberOf, text_of}
+use Rattle.fbcheck_words.specs.declared.choices.Settings.{Settings}
+use Rattle.fbcheck_words.specs.declared.choices.SettingsFault.{SettingsFault}
+use Rattle.fbcheck_words.specs.declared.choices.SettingsFault.TheVariants as refusal
 use Rattle.fb_run.specs.declared.fault.RunFault.{RunFault}
 use Rattle.fb_run.specs.declared.fault.RunFault.TheVariants as run
 use Rattle.fbcheck.specs.declared.files.FileFault.{FileFault}

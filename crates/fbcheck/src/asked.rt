@@ -2,16 +2,17 @@
 
 ghost use Rattle.std.specs.Prelude.{IfOk, IfErr, IfSome, IsTrue, Ok, ◌≡◌, ◌≤◌, option_map, string_bytes};
 ghost use Rattle.fb_schema.specs.Rows.{is_table};
-ghost use Rattle.fbcheck.specs.Asked.{AreInRange, IsPath, PathFails, ident_of, options_of, root_of};
+ghost use Rattle.fbcheck.specs.Asked.{IsPath, PathFails, ident_of, mode_of, options_of, places_of, root_of};
 ghost use Rattle.fbcheck.specs.Checking.{Asks, IsSchema, LacksJob, LacksSchema, schema_limits};
+ghost use Rattle.fbcheck_words.specs.Ranges.{AreInRange};
 ghost use Rattle.fb_run.specs.Job.{PathFits, Serves, job_of};
 
-use crate::choices::Settings;
 use fb_access::Path;
 use fb_bfbs::{Loaded, load, reflection};
-use fb_run::{Options, RunFault};
+use fb_run::{Mode, Options, Places, RunFault};
 use fb_schema::Schema;
 use fb_verify::{Ident, Limits};
+use fbcheck_words::Settings;
 use std::alloc::Global;
 
 /// The number of the table `reflection.Schema` in the fixed table (reflection.fbs).
@@ -82,6 +83,30 @@ fn wanted(ident: Option<[u8; 4]>) -> Ident
     }
 }
 
+/// What is told of the buffers.
+fn mode(settings: &Settings) -> Mode
+    ensures { result ≡ mode_of settings.now.filter settings.now.quiet }
+{
+    if settings.filter {
+        Mode::Filter
+    } else if settings.quiet {
+        Mode::BadLines
+    } else {
+        Mode::Lines
+    }
+}
+
+/// How the places of faults are told.
+fn places(settings: &Settings) -> Places
+    ensures { result ≡ places_of settings.now.names }
+{
+    if settings.names {
+        Places::Words
+    } else {
+        Places::Numbers
+    }
+}
+
 /// What the settings ask of each buffer, from this root and with this path.
 fn options(settings: &Settings, root: u32, path: Option<Path>) -> Options
     requires { AreInRange settings.now }
@@ -99,8 +124,8 @@ fn options(settings: &Settings, root: u32, path: Option<Path>) -> Options
         bare: settings.bare,
         alignment: settings.alignment,
         inline_size: settings.inline_size,
-        mode: settings.mode(),
-        names: settings.places(),
+        mode: mode(settings),
+        names: places(settings),
     }
 }
 

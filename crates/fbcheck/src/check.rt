@@ -1,14 +1,14 @@
 //! A run by a schema file, as the settings of the command line ask.
 
 ghost use Rattle.std.specs.Prelude.{IfErr, ◌≡◌, ◌+◌, ◌-◌, ◌<◌, ◌≤◌, ◌^◌, ℕ, List, Option, None};
-ghost use Rattle.fbcheck.specs.Asked.{AreInRange};
+ghost use Rattle.fbcheck_words.specs.Ranges.{AreInRange};
 ghost use Rattle.fbcheck.specs.Checking.{IsChecked, IsCheckedBeside, IsPromptAsAsked, IsRefusal};
 ghost use Rattle.fb_run.specs.Faults.{EndsBeside, EndsBy};
 
 use crate::asked::asked_of;
-use crate::choices::Settings;
 use fb_bytes::Sink;
 use fb_run::{Input, MOST_TURNS, Nowhere, RunFault, Tally, run_beside};
+use fbcheck_words::Settings;
 use std::alloc::Global;
 
 /// Checks the buffers of an input by the schema of a schema file (`.bfbs`), as the settings ask; without a file they

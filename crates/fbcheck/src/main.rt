@@ -12,12 +12,9 @@ ghost use Rattle.std.specs.Prelude.{⊤};
 mod asked;
 mod check;
 mod check_laws;
-mod choices;
-mod command;
 mod files;
 mod serve;
 mod stop;
-mod words;
 
 use fb_bytes::Counted;
 use files::{FileFault, Files};

@@ -4,12 +4,11 @@ ghost use Rattle.std.specs.Prelude.{IfSome, ◌≡◌, ◌+◌, ◌-◌, ◌<◌
 ghost use Rattle.fbcheck.specs.Serving.{ComesTo, EndsSo, IsPromptAsGiven, IsServed, Unserved, summed, words_of};
 
 use crate::check::check_beside;
-use crate::choices::SettingsFault;
 use crate::files::{Files, read_schema};
 use crate::stop::{Ending, Stop, WordsFault, exit_status, sum_up, tell};
-use crate::words::settings;
 use fb_bytes::Sink;
 use fb_run::{Input, MOST_TURNS, RunFault, Tally, push_all};
+use fbcheck_words::{SettingsFault, settings};
 use std::alloc::Global;
 
 /// Does what the words ask, the program's name first, and answers the exit status: reads the schema file that they

@@ -2,15 +2,15 @@
 
 ghost use Rattle.std.specs.Prelude.{Bool, IfSome, OnOk, ℕ, ◌≤◌, ◌≡◌, ◌<◌, ◌^◌, length};
 ghost use Rattle.fbcheck.specs.Serving.{Complains, EndsSo, IsComplaint, SumsUp, exit_status, stop_status};
-ghost use Rattle.fbcheck.specs.declared.choices.SettingsFault.TheVariants as refusal;
+ghost use Rattle.fbcheck_words.specs.declared.choices.SettingsFault.TheVariants as refusal;
 ghost use Rattle.fbcheck.specs.declared.stop.Stop.TheVariants as stop;
 
-use crate::choices::SettingsFault;
 use crate::files::FileFault;
 use arrayvec::ArrayString;
 use fb_bytes::Sink;
 use fb_run::summary::summary;
 use fb_run::{RunFault, Tally, push_all, status};
+use fbcheck_words::SettingsFault;
 use std::alloc::AllocError;
 use std::fmt::Write;
 use std::io;

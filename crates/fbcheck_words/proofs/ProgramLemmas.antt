@@ -21,9 +21,9 @@ use Rattle.clap.specs.declared.parser.matches.ArgMatches.{ArgMatches}
 use Rattle.clap.proofs.OnLiterals.{clap_on_literals}
 use Rattle.clap.proofs.SimpleLemmas.{ready_simple, simple_groups}
 use Rattle.clap.proofs.WalkLemmas.{both}
-use Rattle.fbcheck.specs.CommandLine.{program, number_rule, value_rule, wide_number_rule}
-use Rattle.fbcheck.specs.Values.{HoldsNumber, HoldsWideNumber}
-use Rattle.fbcheck.proofs.DefaultLemmas.{IsDefaulted, default_reads}
+use Rattle.fbcheck_words.specs.CommandLine.{program, number_rule, value_rule, wide_number_rule}
+use Rattle.fbcheck_words.specs.Values.{HoldsNumber, HoldsWideNumber}
+use Rattle.fbcheck_words.proofs.DefaultLemmas.{IsDefaulted, default_reads}
 
 rule_at : (xs : List Arg) (k : ℕ) (d : Arg) → rule_of (slice_index_or xs k d) ≡ slice_index_or (map rule_of xs) k (rule_of d)
 rule_at [] k d = refl

@@ -1,15 +1,13 @@
 //! What the command line may ask for.
 
 ghost use Rattle.std.specs.Prelude.{◌≡◌};
-ghost use Rattle.fbcheck.specs.Asked.{mode_of, places_of};
-ghost use Rattle.fbcheck.specs.Refusal.{refusal_status};
+ghost use Rattle.fbcheck_words.specs.Refusal.{refusal_status};
 
 use clap::Error;
-use fb_run::{Mode, Places};
 use thiserror::Error as DeriveError;
 
 /// What the words of the command line ask for.
-#[derive(Debug, Drop)]
+#[derive(Drop)]
 pub struct Settings {
     /// The schema file (`--schema`). None: buffers are checked as schema files, by the table of reflection.fbs.
     pub schema: Option<String>,
@@ -42,32 +40,6 @@ pub struct Settings {
     pub summary: bool,
     /// Whether lines of bad buffers end with the place in words (`--names`).
     pub names: bool,
-}
-
-impl Settings {
-    /// How the places of faults are told.
-    pub fn places(&self) -> Places
-        ensures { result ≡ places_of self.now.names }
-    {
-        if self.names {
-            Places::Words
-        } else {
-            Places::Numbers
-        }
-    }
-
-    /// What is told of the buffers.
-    pub fn mode(&self) -> Mode
-        ensures { result ≡ mode_of self.now.filter self.now.quiet }
-    {
-        if self.filter {
-            Mode::Filter
-        } else if self.quiet {
-            Mode::BadLines
-        } else {
-            Mode::Lines
-        }
-    }
 }
 
 /// Why words give no settings.

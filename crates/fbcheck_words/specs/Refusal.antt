@@ -6,10 +6,10 @@ use Rattle.clap.specs.Kinds.{HasKind}
 use Rattle.clap.specs.Faults.{fault_of}
 use Rattle.clap.specs.declared.error.kind.ErrorKind.{ErrorKind}
 use Rattle.clap.specs.declared.error.kind.ErrorKind.TheVariants as kind
-use Rattle.fbcheck.specs.CommandLine.{program}
-use Rattle.fbcheck.specs.Values.{IsGiven, text_of}
-use Rattle.fbcheck.specs.declared.choices.SettingsFault.{SettingsFault}
-use Rattle.fbcheck.specs.declared.choices.SettingsFault.TheVariants.{Usage, BadIdent, PathInFilter, OutOfMemory}
+use Rattle.fbcheck_words.specs.CommandLine.{program}
+use Rattle.fbcheck_words.specs.Values.{IsGiven, text_of}
+use Rattle.fbcheck_words.specs.declared.choices.SettingsFault.{SettingsFault}
+use Rattle.fbcheck_words.specs.declared.choices.SettingsFault.TheVariants.{Usage, BadIdent, PathInFilter, OutOfMemory}
 
 -- `clap` refuses the words by an error of that kind; or it reads them, and the identifier isn't four bytes long, or a
 -- filter is asked for together with a path; or there was no memory

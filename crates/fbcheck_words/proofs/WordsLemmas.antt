@@ -10,7 +10,7 @@ use Rattle.clap.specs.Faults.{fault_of, is_simple_and_free}
 use Rattle.clap.specs.declared.parser.matches.ArgMatches.{ArgMatches}
 use Rattle.clap.proofs.OnLiterals.{clap_on_literals}
 use Rattle.clap.proofs.WalkLemmas.{first_value-rows, one_text-rows}
-use Rattle.fbcheck.specs.CommandLine.{program}
+use Rattle.fbcheck_words.specs.CommandLine.{program}
 
 simple : is_simple program ≡ true
 unfolding clap_on_literals

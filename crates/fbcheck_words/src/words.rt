@@ -1,10 +1,10 @@
 ghost use Rattle.std.specs.Prelude.{IfOk, IfErr, IfSome, OnOk, OnErr, ℕ, ◌≢◌, length, option_map, IsTrue, ◌≡◌, ◌≤◌, ◌↔◌, List, map, string_bytes, [], Some, codes, false};
 ghost use Rattle.clap.specs.Faults.{fault_of};
 ghost use Rattle.clap.specs.Words.{first_value, found_of, one_text};
-ghost use Rattle.fbcheck.specs.Asked.{AreInRange};
-ghost use Rattle.fbcheck.specs.CommandLine.{program};
-ghost use Rattle.fbcheck.specs.Values.{IsNumberOf, IsGiven, HoldsNumber, HoldsWideNumber, IsWrittenIn, text_of};
-ghost use Rattle.fbcheck.specs.Refusal.{Refuses};
+ghost use Rattle.fbcheck_words.specs.Ranges.{AreInRange};
+ghost use Rattle.fbcheck_words.specs.CommandLine.{program};
+ghost use Rattle.fbcheck_words.specs.Values.{IsNumberOf, IsGiven, HoldsNumber, HoldsWideNumber, IsWrittenIn, text_of};
+ghost use Rattle.fbcheck_words.specs.Refusal.{Refuses};
 
 use crate::choices::{Settings, SettingsFault};
 use crate::command::command;

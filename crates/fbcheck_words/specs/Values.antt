@@ -4,7 +4,7 @@ use Rattle.std.specs.Str.Parse.{IsNumeral, digits_value, without_leading_plus}
 use Rattle.clap.specs.Walk.{Text, first_of, one_of}
 use Rattle.clap.specs.Simple.{matches_of}
 use Rattle.clap.specs.Words.{IsSignedIn, IsUnsignedIn, without_minus}
-use Rattle.fbcheck.specs.CommandLine.{program}
+use Rattle.fbcheck_words.specs.CommandLine.{program}
 
 -- the text that the words give to this option
 abbrev pub text_of : Text → List Text → Option Text

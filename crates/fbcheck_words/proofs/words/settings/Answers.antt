@@ -1,10 +1,10 @@
 use Rattle.std.proofs.Common.{rules, sym, ◌∙◌, codes, subst, Option, refl, arith, [], IsTrue, ◌↔◌, ◌≡◌, Some}
 use Rattle.clap.specs.Walk.{Text}
-use Rattle.fbcheck.specs.Values.{IsWrittenIn}
-use Rattle.fbcheck.proofs.words.settings.Goals.{in-OutOfMemory+in-Some-1, in-OutOfMemory+in-None-1, in_default-kind}
-use Rattle.fbcheck.proofs.ProgramLemmas.{differs, holds_number, holds_wide_number}
-use Rattle.fbcheck.proofs.WordsLemmas.{no_fault, refused_by, some_text, text_of_words, read_of_words, turned}
-use Rattle.fbcheck.proofs.words.settings.Goals as goal
+use Rattle.fbcheck_words.specs.Values.{IsWrittenIn}
+use Rattle.fbcheck_words.proofs.words.settings.Goals.{in-OutOfMemory+in-Some-1, in-OutOfMemory+in-None-1, in_default-kind}
+use Rattle.fbcheck_words.proofs.ProgramLemmas.{differs, holds_number, holds_wide_number}
+use Rattle.fbcheck_words.proofs.WordsLemmas.{no_fault, refused_by, some_text, text_of_words, read_of_words, turned}
+use Rattle.fbcheck_words.proofs.words.settings.Goals as goal
 
 pub returns-clause-read : goal.returns-clause-read
 returns-clause-read c = no_fault _ _ c.in-Ok.ensures.app c.in-Ok-try_get_matches_from.ensures.kinds

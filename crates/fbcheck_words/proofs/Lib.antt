@@ -1,0 +1,3 @@
+mod DefaultLemmas
+mod ProgramLemmas
+mod WordsLemmas

@@ -1,0 +1,5 @@
+-- What public contracts say, in reading order.
+pub mod CommandLine
+pub mod Values
+pub mod Refusal
+pub mod Ranges
