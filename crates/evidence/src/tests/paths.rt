@@ -57,24 +57,48 @@ fn names<'n>(alloc: Global, rows: &Rows<'n>) -> Result<Vec<&'n [u8]>, AllocError
     Ok(names)
 }
 
+fn add_as_fields<'n>(pieces: &mut Vec<Piece<'n>>, names: &[&'n [u8]]) -> Result<(), AllocError> {
+    for name in names {
+        pieces.push(Piece {
+            part: Part::Name(*name),
+            mark: b".",
+            text: *name,
+        })?;
+    }
+    Ok(())
+}
+
+fn add_as_members<'n>(pieces: &mut Vec<Piece<'n>>, names: &[&'n [u8]]) -> Result<(), AllocError> {
+    for name in names {
+        let part = Part::Member(*name);
+        pieces.push(Piece {
+            part,
+            mark: b"@",
+            text: *name,
+        })?;
+    }
+    Ok(())
+}
+
+fn add_numbers(pieces: &mut Vec<Piece<'_>>) -> Result<(), AllocError> {
+    for (number, text) in &NUMBERS {
+        let part = Part::Index(*number);
+        pieces.push(Piece {
+            part,
+            mark: b"",
+            text: *text,
+        })?;
+    }
+    Ok(())
+}
+
 /// The names as fields, then the same as members, then the element numbers.
 fn pieces<'n>(alloc: Global, names: &[&'n [u8]]) -> Result<Vec<Piece<'n>>, AllocError> {
-    let fields = names.iter().map(|name| Piece {
-        part: Part::Name(*name),
-        mark: b".",
-        text: *name,
-    });
-    let members = names.iter().map(|name| Piece {
-        part: Part::Member(*name),
-        mark: b"@",
-        text: *name,
-    });
-    let numbers = NUMBERS.iter().map(|(number, text)| Piece {
-        part: Part::Index(*number),
-        mark: b"",
-        text: *text,
-    });
-    fields.chain(members).chain(numbers).collect(alloc)
+    let mut pieces = Vec::new(alloc);
+    add_as_fields(&mut pieces, names)?;
+    add_as_members(&mut pieces, names)?;
+    add_numbers(&mut pieces)?;
+    Ok(pieces)
 }
 
 fn text_of(alloc: Global, pieces: &[Piece<'_>]) -> Result<Vec<u8>, AllocError> {
