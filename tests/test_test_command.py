@@ -8,7 +8,8 @@ import subprocess
 
 import outside
 
-TOOLS = ["bash", "env", "dirname", "mktemp", "rm", "tee", "tail", "cat", "sleep", "readlink", "sed", "mkdir", "touch"]
+TOOLS = ["bash", "env", "dirname", "mktemp", "rm", "tee", "tail", "cat", "sleep", "readlink", "sed", "grep", "mkdir",
+         "touch"]
 
 
 def folder_of(name, commands):
@@ -81,26 +82,34 @@ def checks_stand_side_by_side(cases):
         cases.holds(f"{name}: {told}", len(told) == 1 and (told[0] == want if want else 1 <= int(told[0]) < 4000), out)
 
 
+def meets(mine, other):
+    """A script that succeeds where another runs while it does."""
+    met = f"for tenth in {{1..100}}; do [ ! -e met_{other} ] || break; sleep 0.1; done; [ -e met_{other} ] || exit 1"
+    return f"echo > met_{mine}\n{met}"
+
+
 def tests_stand_side_by_side(cases):
     top = folder_of("side by side", {"rt": tells(1, 0), "nproc": "echo 2"})
     for mine, other in [(0, 1), (1, 0), (2, 2)]:
-        met = f"for tenth in {{1..100}}; do [ ! -e met_{other} ] || break; sleep 0.1; done; [ -e met_{other} ] || exit 1"
-        write(top / "tests" / f"test_{mine}.py", f"echo > met_{mine}\n{met}\necho I am {mine}\n{tells(1, 0)}")
+        write(top / "tests" / f"test_{mine}.py", f"{meets(mine, other)}\necho I am {mine}\n{tells(1, 0)}")
     status, out, _ = called(top)
     cases.same("each meets the other", (status, out[-1]), (0, "4 passed, 0 failed"))
     shown = [line for line in out if line.startswith("I am")]
     cases.same("they are shown in their order", shown, ["I am 0", "I am 1", "I am 2"])
 
 
-def the_library_comes_first(cases):
-    finds = f"[ -e library ] || exit 1\n{tells(1, 0)}"
-    top = folder_of("library", {"rt": tells(1, 0)})
+def the_library_comes_before_its_tests(cases):
+    finds = f"[ -e library ] || exit 1 # libfbcheck.a\n{tells(1, 0)}"
+    top = folder_of("library", {"rt": tells(1, 0), "nproc": "echo 2"})
     write(top / "tests" / "test_0.py", finds)
-    cases.same("it is built before the tests from outside", called(top)[1][-1], "2 passed, 0 failed")
+    cases.same("it is built before a test that names it", called(top)[1][-1], "2 passed, 0 failed")
+    write(top / "build_c", f"{meets('library', 'test')}\ntouch library")
+    write(top / "tests" / "test_1.py", f"{meets('test', 'library')}\n{tells(1, 0)}")
+    cases.same("and beside one that doesn't", called(top)[1][-1], "3 passed, 0 failed")
     write(top / "build_c", "exit 1")
-    write(top / "tests" / "test_0.py", tells(1, 0))
+    write(top / "tests" / "test_1.py", tells(1, 0))
     status, out, _ = called(top)
-    cases.same("where it can't be, that is a failure", (status, out[-1]), (1, "2 passed, 1 failed"))
+    cases.same("where it can't be, that is a failure", (status, out[-1]), (1, "3 passed, 1 failed"))
 
 
 def the_library_is_made_of_what_was_proved(cases):
@@ -149,6 +158,6 @@ def other_words_are_refused(cases):
 
 if __name__ == "__main__":
     outside.main(
-        counts_are_added, checks_stand_side_by_side, tests_stand_side_by_side, the_library_comes_first,
+        counts_are_added, checks_stand_side_by_side, tests_stand_side_by_side, the_library_comes_before_its_tests,
         the_library_is_made_of_what_was_proved, what_is_missing_is_named, from_outside_alone, other_words_are_refused,
     )

@@ -1,6 +1,8 @@
-//! Sweeps in which the engine and the naive checker answer the same questions: what a definition and its code have
-//! wrong together, no proof shows. The crate has tests alone.
+//! Sweeps in which the engine and a naive checker answer the same questions: what a definition and its code have wrong
+//! together, no proof shows. The crate has tests alone.
 #![tactic(auto)]
 
+#[cfg(test)]
+mod naive;
 #[cfg(test)]
 mod tests;

@@ -11,6 +11,7 @@ use Rattle.clap.specs.declared.parser.matches.ArgMatches.{ArgMatches}
 use Rattle.clap.proofs.OnLiterals.{clap_on_literals}
 use Rattle.clap.proofs.WalkLemmas.{first_value-rows, one_text-rows}
 use Rattle.fbcheck_words.specs.CommandLine.{program}
+use Rattle.fbcheck_words.specs.Values.{IsGiven}
 
 simple : is_simple program ≡ true
 unfolding clap_on_literals
@@ -33,6 +34,12 @@ pub text_of_words : (app : App) (words : List Text) (m : ArgMatches) (id : Text)
     → first_value (found_of m) id ≡ first_of id (matches_of program words)
 text_of_words app words m id is has =
     first_value-rows (found_of m) id ∙ ap (first_of id) ((has (ap is_simple is ∙ simple)).0 ∙ ap (λ (a : App). matches_of a words) is)
+
+-- a flag that is set where its text is "true" is set where the words give it
+pub given_by_words : (app : App) (words : List Text) (m : ArgMatches) (id : Text) (set : Bool) → app ≡ program → HasMatchesOf app words m
+    → IsTrue set ↔ (first_value (found_of m) id ≡ Some (codes "true")) → IsTrue set ↔ IsGiven id words
+given_by_words app words m id set is has told =
+    subst (λ (o : Option Text). IsTrue set ↔ (o ≡ Some (codes "true"))) (text_of_words app words m id is has) told
 
 pub read_of_words : (app : App) (words : List Text) (m : ArgMatches) (id : Text) → app ≡ program → HasMatchesOf app words m
     → one_text (found_of m) id ≡ one_of id (matches_of program words)

@@ -1,5 +1,4 @@
 ghost use Rattle.std.specs.Prelude.{IfOk, ◌≡◌, ◌≤◌, false};
-ghost use Rattle.clap.specs.Simple.{with_rule};
 ghost use Rattle.clap.specs.Words.{app_of, rule_of};
 ghost use Rattle.fbcheck_words.specs.CommandLine.{named, program, switches, texts, numbers, text_rule, number_rule, reads_rule, flag_rule};
 
@@ -20,18 +19,6 @@ fn text_arg<'a>(alloc: Global, name: &'a str, value: &'a str, help: &'a str) -> 
         .long(name)
         .value_name(value)
         .help(help)
-}
-
-fn with_text<'a>(
-    command: Command<'a>,
-    alloc: Global,
-    name: &'a str,
-    value: &'a str,
-    help: &'a str,
-) -> Result<Command<'a>, AllocError>
-    ensures app { IfOk result (λ c. app_of c ≡ with_rule (app_of command.entry) (text_rule name.entry.now)) }
-{
-    command.arg(text_arg(alloc, name, value, help))
 }
 
 /// How an option that takes a number is called, where its value lies, and what it is by default.
@@ -56,17 +43,6 @@ fn number_arg<'a>(alloc: Global, number: Number<'a>) -> Arg<'a>
         .action(ArgAction::Set)
 }
 
-fn with_number<'a>(
-    command: Command<'a>,
-    alloc: Global,
-    number: Number<'a>,
-) -> Result<Command<'a>, AllocError>
-    requires { number.least ≤ number.most }
-    ensures app { IfOk result (λ c. app_of c ≡ with_rule (app_of command.entry) (number_rule number.entry.name.now number.entry.least number.entry.most number.entry.default.now)) }
-{
-    command.arg(number_arg(alloc, number))
-}
-
 fn reads_arg<'a>(alloc: Global) -> Arg<'a>
     ensures rule { rule_of result ≡ reads_rule }
     ensures local { result.global ≡ false }
@@ -88,17 +64,6 @@ fn flag_arg<'a>(alloc: Global, name: &'a str, help: &'a str) -> Arg<'a>
         .action(ArgAction::SetTrue)
 }
 
-fn with_flag<'a>(
-    command: Command<'a>,
-    alloc: Global,
-    name: &'a str,
-    help: &'a str,
-) -> Result<Command<'a>, AllocError>
-    ensures app { IfOk result (λ c. app_of c ≡ with_rule (app_of command.entry) (flag_rule name.entry.now)) }
-{
-    command.arg(flag_arg(alloc, name, help))
-}
-
 /// The command by its name, which tells its version.
 fn named<'a>(alloc: Global) -> Command<'a>
     ensures app { app_of result ≡ named }
@@ -112,15 +77,31 @@ fn named<'a>(alloc: Global) -> Command<'a>
 fn with_texts<'a>(alloc: Global) -> Result<Command<'a>, AllocError>
     ensures app { IfOk result (λ c. app_of c ≡ texts) }
 {
-    let command = named(alloc);
-    let help = "The binary schema (.bfbs); without it, the input is taken to be schema files";
-    let command = with_text(command, alloc, "schema", "FILE", help)?;
-    let help = "The root table with its namespace; without it, the schema's own";
-    let command = with_text(command, alloc, "root", "NAME", help)?;
-    let help = "The file identifier that each buffer must have";
-    let command = with_text(command, alloc, "ident", "XXXX", help)?;
-    let help = "Append the value at this path to the line of each good buffer";
-    with_text(command, alloc, "path", "P", help)
+    named(alloc)
+        .arg(text_arg(
+            alloc,
+            "schema",
+            "FILE",
+            "The binary schema (.bfbs); without it, the input is taken to be schema files",
+        ))?
+        .arg(text_arg(
+            alloc,
+            "root",
+            "NAME",
+            "The root table with its namespace; without it, the schema's own",
+        ))?
+        .arg(text_arg(
+            alloc,
+            "ident",
+            "XXXX",
+            "The file identifier that each buffer must have",
+        ))?
+        .arg(text_arg(
+            alloc,
+            "path",
+            "P",
+            "Append the value at this path to the line of each good buffer",
+        ))
 }
 
 const DEPTH: Number<'static> = Number {
@@ -150,38 +131,49 @@ const BYTES: Number<'static> = Number {
 fn with_numbers<'a>(alloc: Global) -> Result<Command<'a>, AllocError>
     ensures app { IfOk result (λ c. app_of c ≡ numbers) }
 {
-    let command = with_texts(alloc)?;
-    let command = with_number(command, alloc, DEPTH)?;
-    let command = with_number(command, alloc, TABLES)?;
-    let command = command.arg(reads_arg(alloc))?;
-    with_number(command, alloc, BYTES)
+    with_texts(alloc)?
+        .arg(number_arg(alloc, DEPTH))?
+        .arg(number_arg(alloc, TABLES))?
+        .arg(reads_arg(alloc))?
+        .arg(number_arg(alloc, BYTES))
 }
 
 fn with_switches<'a>(alloc: Global) -> Result<Command<'a>, AllocError>
     ensures app { IfOk result (λ c. app_of c ≡ switches) }
 {
-    let command = with_numbers(alloc)?;
-    let help = "Standard input is one bare buffer, not a stream";
-    let command = with_flag(command, alloc, "bare", help)?;
-    let command = with_flag(command, alloc, "no-alignment", "Don't check alignment")?;
-    let help = "Require each field to end within its table's inline size";
-    with_flag(command, alloc, "inline-size", help)
+    with_numbers(alloc)?
+        .arg(flag_arg(
+            alloc,
+            "bare",
+            "Standard input is one bare buffer, not a stream",
+        ))?
+        .arg(flag_arg(alloc, "no-alignment", "Don't check alignment"))?
+        .arg(flag_arg(
+            alloc,
+            "inline-size",
+            "Require each field to end within its table's inline size",
+        ))
 }
 
 /// The command `fbcheck` with its options.
 pub(crate) fn command<'a>(alloc: Global) -> Result<Command<'a>, AllocError>
     ensures app { IfOk result (λ c. app_of c ≡ program) }
 {
-    let command = with_switches(alloc)?;
-    let command = with_flag(command, alloc, "quiet", "Print no lines for good buffers")?;
-    let help = "Pass good buffers on, and write lines of bad ones to standard error";
-    let command = with_flag(command, alloc, "filter", help)?;
-    let help = "Write a line of what was counted to standard error at the end";
-    let command = with_flag(command, alloc, "summary", help)?;
-    with_flag(
-        command,
-        alloc,
-        "names",
-        "End lines of bad buffers with the place in words",
-    )
+    with_switches(alloc)?
+        .arg(flag_arg(alloc, "quiet", "Print no lines for good buffers"))?
+        .arg(flag_arg(
+            alloc,
+            "filter",
+            "Pass good buffers on, and write lines of bad ones to standard error",
+        ))?
+        .arg(flag_arg(
+            alloc,
+            "summary",
+            "Write a line of what was counted to standard error at the end",
+        ))?
+        .arg(flag_arg(
+            alloc,
+            "names",
+            "End lines of bad buffers with the place in words",
+        ))
 }

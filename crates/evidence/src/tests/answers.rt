@@ -1,10 +1,10 @@
 //! The values at the ends of paths, by the engine and by the naive reader.
 
 use super::paths::Way;
+use crate::naive::checker::Question;
+use crate::naive::values::{Value, value};
 use fb_access::{Answer, at_root};
 use fb_verify::Verified;
-use naive::checker::Question;
-use naive::values::{Value, value};
 use std::process::Abort;
 
 /// An answer in the naive reader's words.

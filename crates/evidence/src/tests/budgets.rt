@@ -3,8 +3,8 @@
 
 use super::engine::{ALL_CHECKS, Engine, TOO_MANY_READS, answered, reads_of};
 use super::fixtures::{ALL, Fixture};
+use crate::naive::checker::{Question, Verdict};
 use fb_verify::Checks;
-use naive::checker::{Question, Verdict};
 use std::alloc::Global;
 use std::process::Abort;
 use std::test::Fail;

@@ -1,5 +1,6 @@
 //! The engine, asked as the naive checker is, and its answers in that one's words.
 
+use crate::naive::checker::{Question, Step, Verdict, check};
 use fb_access::{Path, put_location};
 use fb_bytes::Meter;
 use fb_schema::Schema;
@@ -7,7 +8,6 @@ use fb_verify::{
     Checks, Fault, Ident, Limits, Link, Located, Reason, Report, Scratch, Start, Verified,
     most_reads, verify, verify_and_locate,
 };
-use naive::checker::{Question, Step, Verdict, check};
 use std::alloc::{AllocError, Global};
 use std::process::Abort;
 use std::test::Fail;

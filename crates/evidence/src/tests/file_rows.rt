@@ -1,9 +1,9 @@
 //! The rows that a schema file describes, read by the naive reader, and what `load` must answer by them.
 
+use crate::naive::checker::Question;
+use crate::naive::values::{Step, Value, value};
 use case_text::rows::Rows;
 use fb_schema::{EnumRow, FieldRow, MemberRow, ObjectRow, TypeRow};
-use naive::checker::Question;
-use naive::values::{Step, Value, value};
 use std::alloc::{AllocError, Global};
 
 /// A file that both found well formed, and where its tables are told.

@@ -2,13 +2,13 @@
 
 use super::rows::built;
 use super::schemas::{LONGS, MONSTERS, NODES, UNIONS, VECTORS_OF_LONGS};
+use crate::naive::checker::Question;
 use case_text::buffer::bytes_of;
 use case_text::reflection::REFLECTION;
 use case_text::rows::Rows;
 use fb_bfbs::reflection;
 use fb_schema::Schema;
 use fb_verify::Checks;
-use naive::checker::Question;
 use std::alloc::Global;
 use std::test::Fail;
 

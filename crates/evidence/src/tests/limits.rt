@@ -3,8 +3,8 @@
 
 use super::engine::{ALL_CHECKS, Engine};
 use super::fixtures::{ALL, Fixture};
+use crate::naive::checker::Question;
 use fb_verify::Checks;
-use naive::checker::Question;
 use std::alloc::Global;
 use std::process::Abort;
 use std::test::Fail;

@@ -1,12 +1,12 @@
 //! Every short path over the names of a schema, resolved by the engine and by the naive reader.
 
 use super::fixtures::Fixture;
+use crate::naive::checker::Question;
+use crate::naive::values::{self, Part};
 use case_text::rows::Rows;
 use fb_access::{Path, Step};
 use fb_schema::Schema;
 use fb_verify::Checks;
-use naive::checker::Question;
-use naive::values::{self, Part};
 use std::alloc::{AllocError, Global};
 use std::process::Abort;
 

@@ -1,8 +1,8 @@
 //! Rows once more: what `build` answers of them, and its faults in the words of the naive test.
 
+use crate::naive::rows::Broken;
 use case_text::rows::Rows;
 use fb_schema::{Code, EnumRow, ObjectRow, Schema, SchemaFault};
-use naive::rows::Broken;
 use std::alloc::Global;
 use std::test::Fail;
 

@@ -1,9 +1,9 @@
-use Rattle.std.proofs.Common.{rules, sym, ◌∙◌, codes, subst, Option, refl, arith, [], IsTrue, ◌↔◌, ◌≡◌, Some}
+use Rattle.std.proofs.Common.{rules, sym, ◌∙◌, codes, subst, Option, refl, arith, []}
 use Rattle.clap.specs.Walk.{Text}
 use Rattle.fbcheck_words.specs.Values.{IsWrittenIn}
 use Rattle.fbcheck_words.proofs.words.settings.Goals.{in-OutOfMemory+in-Some-1, in-OutOfMemory+in-None-1, in_default-kind}
 use Rattle.fbcheck_words.proofs.ProgramLemmas.{differs, holds_number, holds_wide_number}
-use Rattle.fbcheck_words.proofs.WordsLemmas.{no_fault, refused_by, some_text, text_of_words, read_of_words, turned}
+use Rattle.fbcheck_words.proofs.WordsLemmas.{no_fault, refused_by, some_text, text_of_words, read_of_words, given_by_words, turned}
 use Rattle.fbcheck_words.proofs.words.settings.Goals as goal
 
 pub returns-clause-read : goal.returns-clause-read
@@ -54,32 +54,32 @@ returns-clause-bytes c =
     (subst (λ (o : Option Text). IsWrittenIn o c.number-max_bytes.result) (read_of_words _ _ _ (codes "max-bytes") c.in-Ok.ensures.app c.in-Ok-try_get_matches_from.ensures.matches) n.0, n.1, n.2)
 
 pub returns-clause-bare : goal.returns-clause-bare
-returns-clause-bare c = subst (λ (o : Option Text). IsTrue c.flag-bare.result ↔ (o ≡ Some (codes "true")))
-    (text_of_words _ _ _ (codes "bare") c.in-Ok.ensures.app c.in-Ok-try_get_matches_from.ensures.matches) c.flag-bare.ensures
+returns-clause-bare c = given_by_words _ _ _ (codes "bare") c.flag-bare.result c.in-Ok.ensures.app c.in-Ok-try_get_matches_from.ensures.matches
+    c.flag-bare.ensures
 
 pub returns-clause-alignment : goal.returns-clause-alignment
-returns-clause-alignment c = turned c.flag-alignment.result _ (subst (λ (o : Option Text). IsTrue c.flag-alignment.result ↔ (o ≡ Some (codes "true")))
-    (text_of_words _ _ _ (codes "no-alignment") c.in-Ok.ensures.app c.in-Ok-try_get_matches_from.ensures.matches) c.flag-alignment.ensures)
+returns-clause-alignment c = turned c.flag-alignment.result _ (given_by_words _ _ _ (codes "no-alignment") c.flag-alignment.result c.in-Ok.ensures.app c.in-Ok-try_get_matches_from.ensures.matches
+    c.flag-alignment.ensures)
 
 pub returns-clause-inline_size : goal.returns-clause-inline_size
-returns-clause-inline_size c = subst (λ (o : Option Text). IsTrue c.flag-inline_size.result ↔ (o ≡ Some (codes "true")))
-    (text_of_words _ _ _ (codes "inline-size") c.in-Ok.ensures.app c.in-Ok-try_get_matches_from.ensures.matches) c.flag-inline_size.ensures
+returns-clause-inline_size c = given_by_words _ _ _ (codes "inline-size") c.flag-inline_size.result c.in-Ok.ensures.app c.in-Ok-try_get_matches_from.ensures.matches
+    c.flag-inline_size.ensures
 
 pub returns-clause-filter : goal.returns-clause-filter
-returns-clause-filter c = subst (λ (o : Option Text). IsTrue c.flag-filter.result ↔ (o ≡ Some (codes "true")))
-    (text_of_words _ _ _ (codes "filter") c.in-Ok.ensures.app c.in-Ok-try_get_matches_from.ensures.matches) c.flag-filter.ensures
+returns-clause-filter c = given_by_words _ _ _ (codes "filter") c.flag-filter.result c.in-Ok.ensures.app c.in-Ok-try_get_matches_from.ensures.matches
+    c.flag-filter.ensures
 
 pub returns-clause-summary : goal.returns-clause-summary
-returns-clause-summary c = subst (λ (o : Option Text). IsTrue c.flag-summary.result ↔ (o ≡ Some (codes "true")))
-    (text_of_words _ _ _ (codes "summary") c.in-Ok.ensures.app c.in-Ok-try_get_matches_from.ensures.matches) c.flag-summary.ensures
+returns-clause-summary c = given_by_words _ _ _ (codes "summary") c.flag-summary.result c.in-Ok.ensures.app c.in-Ok-try_get_matches_from.ensures.matches
+    c.flag-summary.ensures
 
 pub returns-clause-names : goal.returns-clause-names
-returns-clause-names c = subst (λ (o : Option Text). IsTrue c.flag-names.result ↔ (o ≡ Some (codes "true")))
-    (text_of_words _ _ _ (codes "names") c.in-Ok.ensures.app c.in-Ok-try_get_matches_from.ensures.matches) c.flag-names.ensures
+returns-clause-names c = given_by_words _ _ _ (codes "names") c.flag-names.result c.in-Ok.ensures.app c.in-Ok-try_get_matches_from.ensures.matches
+    c.flag-names.ensures
 
 pub returns-clause-quiet : goal.returns-clause-quiet
-returns-clause-quiet c = subst (λ (o : Option Text). IsTrue c.flag-quiet.result ↔ (o ≡ Some (codes "true")))
-    (text_of_words _ _ _ (codes "quiet") c.in-Ok.ensures.app c.in-Ok-try_get_matches_from.ensures.matches) c.flag-quiet.ensures
+returns-clause-quiet c = given_by_words _ _ _ (codes "quiet") c.flag-quiet.result c.in-Ok.ensures.app c.in-Ok-try_get_matches_from.ensures.matches
+    c.flag-quiet.ensures
 
 pub returns-clause-schema : goal.returns-clause-schema
 returns-clause-schema c = c.in-Ok-copied.ensures ∙ text_of_words _ _ _ (codes "schema") c.in-Ok.ensures.app c.in-Ok-try_get_matches_from.ensures.matches
@@ -101,8 +101,8 @@ returns-in-Err-clause-refused c = elim c.match-kind.branch [
 
 pub returns-then-is_some-clause-refused : goal.returns-then-is_some-clause-refused
 returns-then-is_some-clause-refused c =
-    let filter = subst (λ (o : Option Text). IsTrue c.flag-filter.result ↔ (o ≡ Some (codes "true")))
-    (text_of_words _ _ _ (codes "filter") c.in-Ok.ensures.app c.in-Ok-try_get_matches_from.ensures.matches) c.flag-filter.ensures in (
+    let filter = given_by_words _ _ _ (codes "filter") c.flag-filter.result c.in-Ok.ensures.app c.in-Ok-try_get_matches_from.ensures.matches
+    c.flag-filter.ensures in (
       no_fault _ _ c.in-Ok.ensures.app c.in-Ok-try_get_matches_from.ensures.kinds,
       filter.0 c.if-filter.true,
       some_text c.in-Ok-copied-3.path _ (sym c.is_some.ensures ∙ c.if-is_some.true)

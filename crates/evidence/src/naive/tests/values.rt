@@ -2,10 +2,10 @@
 //! it, but a text as text; in a path, `[0]` is an element and `@A` a member.
 
 use super::common::{FLOATS, LISTS, LONG_LISTS, MONSTER, UNIONS, buffer, question};
+use crate::naive::values::{Part, Value, steps, value};
 use case_text::columns;
 use case_text::rows::Rows;
 use case_text::told::quoted;
-use naive::values::{Part, Value, steps, value};
 use std::alloc::{AllocError, Global};
 use std::process::Abort;
 use std::test::Fail;

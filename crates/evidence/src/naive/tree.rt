@@ -1,6 +1,6 @@
 //! The finished tree of a buffer, and what is counted on it.
 
-use crate::kinds::Kind;
+use super::kinds::Kind;
 use std::alloc::AllocError;
 
 /// A visited table: what was found of each live field, in rising slot, and the tables that its fields lead to, in

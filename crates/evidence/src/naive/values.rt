@@ -1,8 +1,8 @@
 //! A naive reader of values, step by step, over a buffer that the naive checker said yes to.
 
-use crate::checker::Question;
-use crate::kinds::{Kind, element_at, kind_of, member_kind, number, scalar_size, signed, slice};
-pub use crate::values::answer::Value;
+use super::checker::Question;
+use super::kinds::{Kind, element_at, kind_of, member_kind, number, scalar_size, signed, slice};
+pub use answer::Value;
 use fb_schema::FieldRow;
 use std::alloc::{AllocError, Global};
 

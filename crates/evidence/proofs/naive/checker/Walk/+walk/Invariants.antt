@@ -1,6 +1,6 @@
 -- A table opens those below it with one level less left. On one level the calls go from the fields down to the table.
 use Rattle.std.proofs.Common.{◌+◌, ◌*◌}
-use Rattle.naive.proofs.checker.Walk.+walk.Given as goal
+use Rattle.evidence.proofs.naive.checker.Walk.+walk.Given as goal
 
 abbrev pub decreases-table : goal.decreases-table
 decreases-table l = 16 * l.left

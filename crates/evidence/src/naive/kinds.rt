@@ -1,6 +1,6 @@
 //! What rows say of the bytes of a field, looked up anew each time, and the numbers that stand in a buffer.
 
-use crate::checker::Question;
+use super::checker::Question;
 use fb_schema::TypeRow;
 
 pub const STRING: i8 = 13;

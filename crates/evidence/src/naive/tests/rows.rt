@@ -2,11 +2,11 @@
 //! that they break first, with the owner and, behind a dot, the place of the field or member.
 
 use super::common::UNIONS;
+use crate::naive::rows::{Broken, first_broken};
 use case_text::columns;
 use case_text::reflection::REFLECTION;
 use case_text::rows::Rows;
 use case_text::told::dotted;
-use naive::rows::{Broken, first_broken};
 use std::alloc::{AllocError, Global};
 use std::process::Abort;
 use std::test::Fail;

@@ -11,11 +11,11 @@
 //! for what these words say: `root=Name`, `prefixed`, `want=ABCD`, `depth=2`, `tables=7`, `reads=8`, `inline` (fields
 //! must end within the inline size) and `anywhere` (alignment isn't asked).
 
+use crate::naive::checker::{Question, Verdict, verdict};
 use case_text::buffer::{Sample, bytes_of};
 use case_text::columns;
 use case_text::rows::Rows;
 use case_text::told::dotted;
-use naive::checker::{Question, Verdict, verdict};
 use std::alloc::{AllocError, Global};
 use std::process::Abort;
 use std::test::Fail;

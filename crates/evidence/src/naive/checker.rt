@@ -7,16 +7,16 @@
 //! leads to no table: a string or struct with the offset word that leads to it, or an element of unknown type. So what
 //! leads to a table is asked with that table's head.
 
-use crate::faults::{
+use super::faults::{
     BAD_VTABLE, Here, IMPOSSIBLE, LENGTHS_DIFFER, MISALIGNED, MISSING_REQUIRED, NO_TERMINATOR,
     OUT_OF_BUFFER, PAST_TABLE, Stop, TOO_DEEP, TOO_MANY_READS, TOO_MANY_TABLES, WRONG_IDENTIFIER,
     WRONG_PREFIX, ZERO_OFFSET, ensure, fault,
 };
-use crate::kinds::{
+use super::kinds::{
     Kind, Live, Shape, element_at, field_count, kind_of, member_kind, next_live, number,
     scalar_size, signed,
 };
-use crate::tree::{Found, Kids, Members, Node};
+use super::tree::{Found, Kids, Members, Node};
 use fb_schema::{EnumRow, ObjectRow, TypeRow};
 use std::alloc::{AllocError, Global};
 

@@ -3,10 +3,10 @@
 //! step at all.
 
 use super::common::{LISTS, MONSTER, PAIRS, UNIONS, buffer, question};
+use crate::naive::checker::{Step, check};
 use case_text::columns;
 use case_text::reflection::REFLECTION;
 use case_text::rows::Rows;
-use naive::checker::{Step, check};
 use std::alloc::{AllocError, Global};
 use std::process::Abort;
 use std::test::Fail;

@@ -1,6 +1,6 @@
 //! A naive test of legal rows: the demands on a schema in their order, and the first that is broken.
 
-use crate::kinds::{OBJ, STRING, UNION, VECTOR, scalar_size};
+use super::kinds::{OBJ, STRING, UNION, VECTOR, scalar_size};
 use fb_schema::{EnumRow, FieldRow, MemberRow, ObjectRow, TypeRow};
 
 /// The first demand that rows break: code 1 for C1 to 8 for C8; the number of the object or enum that breaks it,
