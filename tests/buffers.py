@@ -2,7 +2,7 @@
 
 import struct
 
-from outside import changed, prefixed, spelled
+from outside import TOP, changed, prefixed, spelled
 
 # By M: hp is 300 and name is "Orc".
 ORC = spelled("0c000000 0800 0c00 0800 0400 08000000 08000000 2c01 0000 03000000 4f726300")
@@ -12,6 +12,12 @@ PLAIN = spelled("08000000 0400 0400 04000000")
 
 # By N, with its prefix: v is 7.
 SEVEN = spelled("1c000000 10000000 0600 0c00 0400 000000000000 0c000000 0700000000000000")
+
+# By N, with its prefix: its root table stands at an odd place.
+ODD = changed(SEVEN, (20, "0d"))
+
+# By any schema, with its prefix: no byte stands behind that.
+NOTHING = spelled("00000000")
 
 # By NODE: a table with two twins below it, which share two below them.
 TWINS = spelled(
@@ -41,6 +47,10 @@ ASKEW = spelled("0c000000 0600 0800 0400 0000 08000000 08000000 00000000 0100000
 
 # By G: f is 1.5.
 HALVES = spelled("0c000000 0600 0800 0400 0000 08000000 0000c03f")
+
+# The schema file and the stream of the examples.
+BY_POST = ("--schema", TOP / "examples/deliveries.bfbs")
+POST = (TOP / "examples/deliveries.bin").read_bytes()
 
 
 def lower_type(number):

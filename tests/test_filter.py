@@ -2,20 +2,12 @@
 
 import outside
 import schemas
-from buffers import ORC, SEVEN
-from outside import Ran, Talk, changed, lines, prefixed, refused, run, run_in_shell, spelled
+from buffers import BY_POST, NOTHING, ODD, ORC, POST, SEVEN
+from outside import Ran, Talk, lines, prefixed, refused, run, run_in_shell, spelled
 
 FILES = schemas.files()
 BY_M = ("--schema", FILES["M"], "--filter")
 BY_N = ("--schema", FILES["N"], "--filter")
-EXAMPLES = outside.TOP / "examples"
-BY_POST = ("--schema", EXAMPLES / "deliveries.bfbs", "--filter")
-POST = (EXAMPLES / "deliveries.bin").read_bytes()
-
-# By N, with its prefix: its root table stands at an odd place.
-ODD = changed(SEVEN, (20, "0d"))
-# A message without bytes behind its prefix.
-NOTHING = spelled("00000000")
 
 
 def odd(number):
@@ -66,11 +58,11 @@ def good_messages_are_passed_on(cases):
 def the_example_is_filtered(cases):
     parts = list(messages(POST))
     want = passed(b"".join(parts[:4] + parts[5:]), "5 bad V10 NoTerminator at=314 object=1 field=6 reads=63")
-    ran = run(*BY_POST, given=POST)
+    ran = run(*BY_POST, "--filter", given=POST)
     cases.same("all but the fifth", ran, want)
-    cases.same("a second filter passes all of it", run(*BY_POST, given=ran.out), passed(ran.out))
-    limited = run(*BY_POST, "--max-reads", "40", given=POST)
-    again = run(*BY_POST, "--max-reads", "40", given=limited.out)
+    cases.same("a second filter passes all of it", run(*BY_POST, "--filter", given=ran.out), passed(ran.out))
+    limited = run(*BY_POST, "--filter", "--max-reads", "40", given=POST)
+    again = run(*BY_POST, "--filter", "--max-reads", "40", given=limited.out)
     cases.same("also within a budget", again, passed(limited.out))
 
 

@@ -7,7 +7,7 @@ import tempfile
 import buffers
 import outside
 import schemas
-from buffers import ASKEW, MEMBER, ORC, PLAIN, SEVEN, TWINS, levels
+from buffers import ASKEW, BY_POST, MEMBER, NOTHING, ODD, ORC, PLAIN, POST, SEVEN, TWINS, levels
 from outside import Plain, Ran, Talk, bad, buffer, changed, failed, file_of, good, lines, prefixed, run, run_in_shell
 from outside import spelled
 from schemas import INT, LONG, TEXT, U_TYPE, a_struct, a_union, an_object, field, schema, table, union, vector
@@ -17,13 +17,8 @@ from test_refused_memory import ALONE, WITH_LATER, Case, Refuser, case_faults, i
 
 FILES = schemas.files()
 BY_N = ("--schema", FILES["N"], "--names")
-EXAMPLES = outside.TOP / "examples"
-BY_POST = ("--schema", EXAMPLES / "deliveries.bfbs", "--names")
-POST = (EXAMPLES / "deliveries.bin").read_bytes()
 
-# By N, with their prefixes: the root table at an odd place, no byte behind the prefix, and a field behind the end.
-ODD = changed(SEVEN, (20, "0d"))
-NOTHING = spelled("00000000")
+# By N, with its prefix: a field behind the end.
 PAST = changed(SEVEN, (12, "1c00"))
 NO = {
     ODD: "bad V3 Misaligned at=7 object=0 field=- reads=3 in . [N]",
@@ -128,7 +123,7 @@ def the_line_is_told(cases):
     ]:
         cases.same(name, run(*words, "--names", given=given), bad(want))
         cases.same(f"{name}, without the option", run(*words, given=given), bad(want.partition(" in ")[0]))
-    cases.same("the example", run(*BY_POST, given=POST).out.splitlines()[4],
+    cases.same("the example", run(*BY_POST, "--names", given=POST).out.splitlines()[4],
                b"5 bad V10 NoTerminator at=314 object=1 field=6 reads=63 in items[1]@Note [post.Delivery.items]")
     cases.same("good buffers have no place", run(*BY_N, given=SEVEN * 2), good(f"1 {YES}", f"2 {YES}"))
     cases.same("nor has nothing", run(*BY_N), good())
@@ -277,7 +272,7 @@ def in_every_mode(cases):
     cases.same("a good one, with a path", run(*by_m, "--path", "name", given=ORC),
                good('1 ok tables=1 depth=1 reads=8 "Orc"'))
     cases.same("a good one passes the filter", run(*by_m, "--filter", given=ORC), Ran(0, ORC, b""))
-    limited = run(*BY_POST, "--max-reads", "40", given=POST).out
+    limited = run(*BY_POST, "--names", "--max-reads", "40", given=POST).out
     cases.holds("a place in each bad line of the example, and in no other",
                 all((b" bad " in line) == (b" in " in line) for line in limited.splitlines()), limited)
 
@@ -377,7 +372,7 @@ def memory_that_is_refused(cases):
             Case("places, in pieces", chain, stream, 1, most=100),
             Case("long places", by_long, stream, 1),
             Case("a place of a bare input", [*by_long, "--bare"], broken(9), 1),
-            Case("places of the example", [str(word) for word in BY_POST], POST, 1),
+            Case("places of the example", [*map(str, BY_POST), "--names"], POST, 1),
             Case("quiet places", [*chain, "--quiet"], stream, 1),
         ]:
             for extent in ALONE, WITH_LATER:
@@ -438,10 +433,10 @@ def each_place_is_a_path(cases):
 
     trees = b"".join(damaged(tree_message))
     for name, words, stream, owner in [
-        ("deliveries", BY_POST[:2], many, post_owner),
-        ("deliveries, as they come", (*BY_POST[:2], "--no-alignment", "--inline-size"), many, post_owner),
-        ("few reads", (*BY_POST[:2], "--max-reads", "70"), many, post_owner),
-        ("few tables", (*BY_POST[:2], "--max-tables", "4"), many, post_owner),
+        ("deliveries", BY_POST, many, post_owner),
+        ("deliveries, as they come", (*BY_POST, "--no-alignment", "--inline-size"), many, post_owner),
+        ("few reads", (*BY_POST, "--max-reads", "70"), many, post_owner),
+        ("few tables", (*BY_POST, "--max-tables", "4"), many, post_owner),
         ("trees", BY_TREE[:2], trees, tree_owner),
         ("low trees", (*BY_TREE[:2], "--max-depth", "2"), trees, tree_owner),
         ("unaligned trees", (*BY_TREE[:2], "--no-alignment"), trees, tree_owner),

@@ -6,16 +6,12 @@ import threading
 
 import outside
 import schemas
-from buffers import ORC, SEVEN, named
+from buffers import BY_POST, NOTHING, ORC, POST, SEVEN, named
 from outside import Ran, Talk, bad, failed, file_of, good, lines, prefixed, run, run_in_shell, spelled
 
 FILES = schemas.files()
 BY_M = ("--schema", FILES["M"])
 BY_N = ("--schema", FILES["N"])
-EXAMPLES = outside.TOP / "examples"
-BY_POST = ("--schema", EXAMPLES / "deliveries.bfbs", "--path", "to.name")
-POST = (EXAMPLES / "deliveries.bin").read_bytes()
-WRONG = spelled("00000000")
 
 
 def seven(number):
@@ -33,7 +29,7 @@ def lines_come_at_once(cases):
             cases.same(f"line {number}, while the pipe stays open", talk.hear(), lines(seven(number)))
         talk.say(SEVEN[:31])
         cases.same("no line for a message without its last byte", talk.hear(0.2), b"")
-        talk.say(SEVEN[31:] + SEVEN + WRONG + SEVEN[:3])
+        talk.say(SEVEN[31:] + SEVEN + NOTHING + SEVEN[:3])
         for number, want in [(6, seven(6)), (7, seven(7)), (8, wrong(8))]:
             cases.same(f"line {number}, of several messages in one piece", talk.hear(), lines(want))
         cases.same("no line for a piece of a prefix", talk.hear(0.2), b"")
@@ -70,17 +66,18 @@ def in_pieces(words, pieces):
 
 
 def pieces_make_no_difference(cases):
-    by_post = run(*BY_POST, given=POST)
+    to_names = (*BY_POST, "--path", "to.name")
+    by_post = run(*to_names, given=POST)
     names = re.findall(r'"(\w+)"$', by_post.out.decode(), re.MULTILINE)
     cases.same("the names of the stream of the examples", names, ["Ada", "Eve", "Fay", "Gus", "Hal"])
     for name, words, stream, want in [
         ("two messages", BY_N, SEVEN + SEVEN, good(seven(1), seven(2))),
-        ("messages and a cut one", BY_N, WRONG + SEVEN + SEVEN[:30],
+        ("messages and a cut one", BY_N, NOTHING + SEVEN + SEVEN[:30],
          failed("stream: S2 Truncated held=30", wrong(1), seven(2))),
         ("a message and one too long", BY_N, SEVEN + spelled("fdffff03"),
          failed("stream: S1 Oversize declared=67108861", seven(1))),
         ("a bare buffer", (*BY_M, "--bare"), ORC, good("1 ok tables=1 depth=1 reads=8")),
-        ("the stream of the examples", BY_POST, POST, by_post),
+        ("the stream of the examples", to_names, POST, by_post),
     ]:
         cases.same(f"{name}, in one piece", run(*words, given=stream), want)
         cases.same(f"{name}, byte by byte", in_pieces(words, [stream[at : at + 1] for at in range(len(stream))]), want)
@@ -97,7 +94,7 @@ def many_messages(cases):
     want = [seven(number) for number in range(1, count + 1)]
     cases.same("100,000 messages through a pipe", run(*BY_N, given=SEVEN * count), good(*want))
     mixed = [wrong(number) if number % 3 == 0 else text for number, text in enumerate(want, 1)]
-    given = b"".join(WRONG if number % 3 == 0 else SEVEN for number in range(1, count + 1))
+    given = b"".join(NOTHING if number % 3 == 0 else SEVEN for number in range(1, count + 1))
     cases.same("100,000, each third a no", run(*BY_N, given=given), bad(*mixed))
     stream, told = file_of("stream", given), file_of("lines", b"")
     status = run_in_shell(f"<{stream} >{told}", *BY_N).status
@@ -174,7 +171,7 @@ def the_default_limit_at_both_sides(cases):
 
 def empty_messages(cases):
     count = 70_000
-    cases.same("70,000 messages without a byte", run(*BY_N, given=WRONG * count),
+    cases.same("70,000 messages without a byte", run(*BY_N, given=NOTHING * count),
                bad(*[wrong(n) for n in range(1, count + 1)]))
     cases.same("a stream of nothing", run(*BY_N), good())
     cases.same("a bare input of nothing", run(*BY_N, "--bare"),

@@ -8,7 +8,7 @@ import tty
 import buffers
 import outside
 import schemas
-from buffers import ORC, SEVEN
+from buffers import BY_POST, NOTHING, ODD, ORC, POST, SEVEN
 from outside import Ran, Talk, changed, lines, prefixed, refused, run, run_in_shell, spelled
 from test_ends import narrowed, the_library_is_built
 from test_refused_memory import ALONE, WITH_LATER, Refuser
@@ -16,11 +16,8 @@ from test_refused_memory import ALONE, WITH_LATER, Refuser
 FILES = schemas.files()
 BY_M = ("--schema", FILES["M"], "--bare", "--summary")
 BY_N = ("--schema", FILES["N"], "--summary")
-EXAMPLES = outside.TOP / "examples"
 
-# By N, with their prefixes: three reads up to an odd place, one without bytes behind the prefix.
-ODD = changed(SEVEN, (20, "0d"))
-NOTHING = spelled("00000000")
+# By N, with its prefix: its root offset leads nowhere.
 NO_OFFSET = changed(SEVEN, (4, "00000000"))
 
 YES = "ok tables=1 depth=1 reads=5"
@@ -67,10 +64,9 @@ def the_line_at_the_end(cases):
 
 def reasons_stand_in_their_order(cases):
     """The numbers of a summary are those of the lines of the same run."""
-    stream = (EXAMPLES / "deliveries.bin").read_bytes()
     for limits in [[], ["--max-reads", "40"], ["--max-reads", "3"], ["--max-depth", "1"], ["--max-tables", "2"],
                    ["--max-depth", "1", "--max-reads", "60"], ["--ident", "NONE"]]:
-        ran = run("--schema", EXAMPLES / "deliveries.bfbs", "--summary", *limits, given=stream)
+        ran = run(*BY_POST, "--summary", *limits, given=POST)
         words = [line.split() for line in ran.out.decode().splitlines()]
         bad = [line[2] for line in words if line[1] == "bad"]
         reasons = "".join(f" V{n}={bad.count(f'V{n}')}" for n in range(1, 14) if f"V{n}" in bad)
@@ -78,7 +74,7 @@ def reasons_stand_in_their_order(cases):
                 for key in ["tables", "reads"]}
         cases.same(f"deliveries, {limits}", ran.err, lines(
             f"summary: messages={len(words)} yes={len(words) - len(bad)} no={len(bad)}{reasons}"
-            f" bytes={len(stream)} tables={sums['tables']} reads={sums['reads']}"))
+            f" bytes={len(POST)} tables={sums['tables']} reads={sums['reads']}"))
     deep = run("--schema", FILES["CHAIN"], "--summary", "--max-depth", "2", given=b"".join(
         prefixed(buffers.levels(count)) for count in [1, 2, 3, 4]) + NOTHING)
     cases.same("V2 before V6, whichever came first", deep.err.split(b"bytes=")[0],

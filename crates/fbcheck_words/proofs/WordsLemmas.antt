@@ -1,5 +1,5 @@
 -- What a parse of the program's words gives.
-use Rattle.std.proofs.Common.{◌≡◌, ◌↔◌, Bool, true, false, not, IsTrue, List, [], ◌∷◌, codes, Option, Some, None, refl, sym, ap, subst, ◌∙◌}
+use Rattle.std.proofs.Common.{◌≡◌, ◌≤◌, ◌↔◌, ℕ, Bool, true, false, not, IsTrue, List, [], ◌∷◌, codes, Option, Some, None, refl, sym, ap, subst, ◌∙◌}
 use Rattle.std.specs.Prelude.{String, is_some, option_map, string_bytes}
 use Rattle.clap.specs.Walk.{Text, first_of, one_of}
 use Rattle.clap.specs.Simple.{App, HasMatchesOf, is_simple, matches_of}
@@ -11,7 +11,7 @@ use Rattle.clap.specs.declared.parser.matches.ArgMatches.{ArgMatches}
 use Rattle.clap.proofs.OnLiterals.{clap_on_literals}
 use Rattle.clap.proofs.WalkLemmas.{first_value-rows, one_text-rows}
 use Rattle.fbcheck_words.specs.CommandLine.{program}
-use Rattle.fbcheck_words.specs.Values.{IsGiven}
+use Rattle.fbcheck_words.specs.Values.{IsGiven, IsNumberOf, IsWrittenIn}
 
 simple : is_simple program ≡ true
 unfolding clap_on_literals
@@ -45,6 +45,12 @@ pub read_of_words : (app : App) (words : List Text) (m : ArgMatches) (id : Text)
     → one_text (found_of m) id ≡ one_of id (matches_of program words)
 read_of_words app words m id is has =
     one_text-rows (found_of m) id ∙ ap (one_of id) ((has (ap is_simple is ∙ simple)).0 ∙ ap (λ (a : App). matches_of a words) is)
+
+-- a number that its text in the matches spells is the one that the words give
+pub number_by_words : (app : App) (words : List Text) (m : ArgMatches) (id : Text) (least most n : ℕ) → app ≡ program → HasMatchesOf app words m
+    → IsWrittenIn (one_text (found_of m) id) n × (least ≤ n) × (n ≤ most) → IsNumberOf id least most words n
+number_by_words app words m id least most n is has told =
+    (subst (λ (o : Option Text). IsWrittenIn o n) (read_of_words app words m id is has) told.0, told.1, told.2)
 
 -- a text that is there
 pub some_text : {A : Type 0} (found : Option (String A)) (text : Option Text) → is_some found ≡ true → option_map string_bytes found ≡ text → (t : Text) × (text ≡ Some t)

@@ -1,9 +1,7 @@
-use Rattle.std.proofs.Common.{rules, sym, ◌∙◌, codes, subst, Option, refl, arith, []}
-use Rattle.clap.specs.Walk.{Text}
-use Rattle.fbcheck_words.specs.Values.{IsWrittenIn}
+use Rattle.std.proofs.Common.{rules, sym, ◌∙◌, codes, refl, arith, []}
 use Rattle.fbcheck_words.proofs.words.settings.Goals.{in-OutOfMemory+in-Some-1, in-OutOfMemory+in-None-1, in_default-kind}
 use Rattle.fbcheck_words.proofs.ProgramLemmas.{differs, holds_number, holds_wide_number}
-use Rattle.fbcheck_words.proofs.WordsLemmas.{no_fault, refused_by, some_text, text_of_words, read_of_words, given_by_words, turned}
+use Rattle.fbcheck_words.proofs.WordsLemmas.{no_fault, refused_by, some_text, text_of_words, given_by_words, number_by_words, turned}
 use Rattle.fbcheck_words.proofs.words.settings.Goals as goal
 
 pub returns-clause-read : goal.returns-clause-read
@@ -34,24 +32,22 @@ number-max_bytes-requires c =
     (differs name [] refl) (differs name (codes "help") refl) (differs name (codes "version") refl)
 
 pub returns-clause-depth : goal.returns-clause-depth
-returns-clause-depth c =
-    let n = c.number-depth.ensures in
-    (subst (λ (o : Option Text). IsWrittenIn o c.number-depth.result) (read_of_words _ _ _ (codes "max-depth") c.in-Ok.ensures.app c.in-Ok-try_get_matches_from.ensures.matches) n.0, n.1, n.2)
+returns-clause-depth c = number_by_words _ _ _ (codes "max-depth") 0 4096 c.number-depth.result c.in-Ok.ensures.app c.in-Ok-try_get_matches_from.ensures.matches
+    c.number-depth.ensures
 
 pub returns-clause-tables : goal.returns-clause-tables
-returns-clause-tables c =
-    let n = c.number-tables.ensures in
-    (subst (λ (o : Option Text). IsWrittenIn o c.number-tables.result) (read_of_words _ _ _ (codes "max-tables") c.in-Ok.ensures.app c.in-Ok-try_get_matches_from.ensures.matches) n.0, n.1, n.2)
+returns-clause-tables c = number_by_words _ _ _ (codes "max-tables") 0 4294967295 c.number-tables.result c.in-Ok.ensures.app c.in-Ok-try_get_matches_from.ensures.matches
+    c.number-tables.ensures
 
 pub returns-clause-reads : goal.returns-clause-reads
 returns-clause-reads c =
     let n = c.wide_number-reads.ensures in
-    (subst (λ (o : Option Text). IsWrittenIn o c.wide_number-reads.result) (read_of_words _ _ _ (codes "max-reads") c.in-Ok.ensures.app c.in-Ok-try_get_matches_from.ensures.matches) n.0, omega arith, n.1)
+    number_by_words _ _ _ (codes "max-reads") 0 18446744073709551615 c.wide_number-reads.result c.in-Ok.ensures.app c.in-Ok-try_get_matches_from.ensures.matches
+    (n.0, omega arith, n.1)
 
 pub returns-clause-bytes : goal.returns-clause-bytes
-returns-clause-bytes c =
-    let n = c.number-max_bytes.ensures in
-    (subst (λ (o : Option Text). IsWrittenIn o c.number-max_bytes.result) (read_of_words _ _ _ (codes "max-bytes") c.in-Ok.ensures.app c.in-Ok-try_get_matches_from.ensures.matches) n.0, n.1, n.2)
+returns-clause-bytes c = number_by_words _ _ _ (codes "max-bytes") 8 2147483647 c.number-max_bytes.result c.in-Ok.ensures.app c.in-Ok-try_get_matches_from.ensures.matches
+    c.number-max_bytes.ensures
 
 pub returns-clause-bare : goal.returns-clause-bare
 returns-clause-bare c = given_by_words _ _ _ (codes "bare") c.flag-bare.result c.in-Ok.ensures.app c.in-Ok-try_get_matches_from.ensures.matches
