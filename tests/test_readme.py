@@ -1,4 +1,5 @@
-"""The README's examples are what stands in the repository and what the program says."""
+"""The README's examples are what stands in the repository and what the program says; and what else the pages say that
+only the text of a file can show."""
 
 import pathlib
 import re
@@ -56,9 +57,17 @@ def field_by_its_id():
     return [line.split()[-1] for line in run.stdout.splitlines()] == ['"items"']
 
 
+def naive_checker_alone():
+    """The naive checker uses the types of rows, and nothing else of the crates that are held against it."""
+    texts = [path.read_text() for path in (TOP / "crates" / "evidence" / "src" / "naive").glob("*.rt")]
+    named = {word for text in texts for word in re.findall(r"\b(?:fb_\w+|case_text|crate)\b.*", text)}
+    rows = r"fb_schema::(?:\w+Row|\{\w+Row(?:, \w+Row)*\});"
+    return len(texts) > 1 and all(re.fullmatch(rows, words) for words in named)
+
+
 def main():
     failed = 0
-    checks = [first_example, library_example, crates_line, links, field_by_its_id]
+    checks = [first_example, library_example, crates_line, links, field_by_its_id, naive_checker_alone]
     for check in checks:
         if not check():
             failed += 1
