@@ -1,4 +1,5 @@
 """The comparison with C++ (bench/compare): that verdicts agree, and that it tells where they don't; and bench/linear.
+The comparison in process links out/libfbcheck.a, and makes it where it isn't there or is stale.
 
 It is skipped where flatc, g++ or the headers of flatbuffers aren't there. No time is asked here.
 """
