@@ -1,3 +1,5 @@
+//! The naive checker's own tests: each value is worked out by hand from the format.
+
 mod budgets;
 mod checker;
 mod common;
