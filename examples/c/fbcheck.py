@@ -16,6 +16,7 @@ import typing
 
 VERSION = 1
 NONE = 0xFFFFFFFF
+_U8, _U32, _U64, _SIZE = ctypes.c_uint8, ctypes.c_uint32, ctypes.c_uint64, ctypes.c_size_t
 
 
 class Status(enum.IntEnum):
@@ -83,20 +84,21 @@ def _bytes(given) -> bytes:
     return given if isinstance(given, bytes) else memoryview(given).tobytes()
 
 
+def _fields(of, names: str) -> list:
+    """Neighbours in a structure that are all of this type."""
+    return [(name, of) for name in names.split()]
+
+
 class Options(ctypes.Structure):
     """fbcheck_options. Made with no words it is what the library begins with."""
 
     _fields_ = [
-        ("version", ctypes.c_uint32),
-        ("max_depth", ctypes.c_uint32),
-        ("max_reads", ctypes.c_uint64),
-        ("max_tables", ctypes.c_uint32),
-        ("ident", ctypes.c_uint8 * 4),
-        ("has_ident", ctypes.c_uint8),
-        ("prefixed", ctypes.c_uint8),
-        ("no_alignment", ctypes.c_uint8),
-        ("inline_size", ctypes.c_uint8),
-        ("reserved", ctypes.c_uint32 * 9),
+        *_fields(_U32, "version max_depth"),
+        ("max_reads", _U64),
+        ("max_tables", _U32),
+        ("ident", _U8 * 4),
+        *_fields(_U8, "has_ident prefixed no_alignment inline_size"),
+        ("reserved", _U32 * 9),
     ]
 
     def __init__(self, ident: bytes | None = None, **words):
@@ -114,16 +116,7 @@ class Options(ctypes.Structure):
 
 
 class _Verdict(ctypes.Structure):
-    _fields_ = [
-        ("status", ctypes.c_uint32),
-        ("reason", ctypes.c_uint32),
-        ("object", ctypes.c_uint32),
-        ("field", ctypes.c_uint32),
-        ("tables", ctypes.c_uint32),
-        ("depth", ctypes.c_uint32),
-        ("at", ctypes.c_uint64),
-        ("reads", ctypes.c_uint64),
-    ]
+    _fields_ = _fields(_U32, "status reason object field tables depth") + _fields(_U64, "at reads")
 
 
 class _Handle(ctypes.Structure):
@@ -131,25 +124,19 @@ class _Handle(ctypes.Structure):
 
 
 class _Span(ctypes.Structure):
-    _fields_ = [("at", ctypes.c_size_t), ("length", ctypes.c_size_t)]
+    _fields_ = _fields(_SIZE, "at length")
 
 
 class _Step(ctypes.Structure):
-    _fields_ = [("kind", ctypes.c_uint32), ("number", ctypes.c_uint32)]
+    _fields_ = _fields(_U32, "kind number")
 
 
 class _Value(ctypes.Structure):
-    _fields_ = [
-        ("kind", ctypes.c_uint32),
-        ("reserved", ctypes.c_uint32),
-        ("number", ctypes.c_uint64),
-        ("integer", ctypes.c_int64),
-        ("size", ctypes.c_uint64),
-    ]
+    _fields_ = [*_fields(_U32, "kind reserved"), ("number", _U64), ("integer", ctypes.c_int64), ("size", _U64)]
 
 
 class _Framer(ctypes.Structure):
-    _fields_ = [("held", ctypes.c_size_t), ("failed", ctypes.c_uint32), ("declared", ctypes.c_uint32)]
+    _fields_ = [("held", _SIZE), *_fields(_U32, "failed declared")]
 
 
 class Verdict(typing.NamedTuple):
@@ -184,43 +171,29 @@ def _told(verdict: _Verdict) -> Verdict:
 
 def _library():
     found = ctypes.CDLL(os.environ.get("FBCHECK_LIBRARY") or "libfbcheck.so.1")
-    handle, options, verdict, span = (ctypes.POINTER(of) for of in (_Handle, Options, _Verdict, _Span))
-    for name, words in {
-        "fbcheck_load": [handle, ctypes.c_char_p, ctypes.c_size_t, options, verdict],
-        "fbcheck_choose_root": [handle, ctypes.c_char_p, ctypes.c_size_t],
-        "fbcheck_verify": [handle, options, ctypes.c_char_p, ctypes.c_size_t, verdict],
-        "fbcheck_verify_each": [
-            handle, options, ctypes.c_char_p, ctypes.c_size_t, span, verdict, ctypes.c_size_t
-        ],
-        "fbcheck_most_reads": [handle, options, ctypes.c_uint64, ctypes.POINTER(ctypes.c_uint64)],
-    }.items():
-        getattr(found, name).argtypes = words
-        getattr(found, name).restype = ctypes.c_uint32
-    framer, bytes_in, size = ctypes.POINTER(_Framer), ctypes.POINTER(ctypes.c_uint8), ctypes.c_size_t
-    for name, words in {
-        "fbcheck_framer_feed": [framer, bytes_in, size, ctypes.c_char_p, size, ctypes.POINTER(size)],
-        "fbcheck_framer_next": [framer, bytes_in, size],
-        "fbcheck_framer_finish": [framer, bytes_in, size],
-    }.items():
-        getattr(found, name).argtypes = words
-        getattr(found, name).restype = ctypes.c_uint32
-    step, value = ctypes.POINTER(_Step), ctypes.POINTER(_Value)
-    for name, words in {
-        "fbcheck_resolve": [handle, ctypes.c_char_p, size, step, size, ctypes.POINTER(size), verdict],
-        "fbcheck_read": [handle, options, ctypes.c_char_p, size, step, size, value, ctypes.c_char_p, size, verdict],
-    }.items():
-        getattr(found, name).argtypes = words
-        getattr(found, name).restype = ctypes.c_uint32
-    number, text, room = ctypes.c_uint32, ctypes.c_char_p, ctypes.c_size_t
-    for name, words in {
-        "fbcheck_reason_name": [number, text, room],
-        "fbcheck_object_name": [handle, number, text, room],
-        "fbcheck_field_name": [handle, number, number, text, room],
-    }.items():
-        getattr(found, name).argtypes = words
-        getattr(found, name).restype = ctypes.c_size_t
-    found.fbcheck_free.argtypes = [handle]
-    found.fbcheck_free.restype = None
+    handle, options, verdict, span, framer, step, value, byte, size, reads = (
+        ctypes.POINTER(of)
+        for of in (_Handle, Options, _Verdict, _Span, _Framer, _Step, _Value, _U8, _SIZE, _U64)
+    )
+    text, room = [ctypes.c_char_p, _SIZE], [byte, _SIZE]
+    for result, name, words in [
+        (_U32, "fbcheck_load", [handle, *text, options, verdict]),
+        (_U32, "fbcheck_choose_root", [handle, *text]),
+        (_U32, "fbcheck_verify", [handle, options, *text, verdict]),
+        (_U32, "fbcheck_verify_each", [handle, options, *text, span, verdict, _SIZE]),
+        (_U32, "fbcheck_most_reads", [handle, options, _U64, reads]),
+        (_U32, "fbcheck_framer_feed", [framer, *room, *text, size]),
+        (_U32, "fbcheck_framer_next", [framer, *room]),
+        (_U32, "fbcheck_framer_finish", [framer, *room]),
+        (_U32, "fbcheck_resolve", [handle, *text, step, _SIZE, size, verdict]),
+        (_U32, "fbcheck_read", [handle, options, *text, step, _SIZE, value, *text, verdict]),
+        (_SIZE, "fbcheck_reason_name", [_U32, *text]),
+        (_SIZE, "fbcheck_object_name", [handle, _U32, *text]),
+        (_SIZE, "fbcheck_field_name", [handle, _U32, _U32, *text]),
+        (None, "fbcheck_free", [handle]),
+    ]:
+        call = getattr(found, name)
+        call.argtypes, call.restype = words, result
     return found
 
 
