@@ -1,4 +1,5 @@
 // The tables of a schema file that are copied whole: each a row.
+#![tactic(auto, using(crate::proofs::FixedFields::always), unfolding(crate::proofs::FixedFields::computing))]
 
 ghost use Rattle.std.specs.Prelude.{vec_len};
 ghost use Rattle.fb_schema.specs.Rows.{field_of, object_of, member_of_row, enum_of};

@@ -1,4 +1,5 @@
 // What a schema file says.
+#![tactic(auto, using(crate::proofs::FixedFields::always, crate::proofs::FixedFields::maybe), unfolding(crate::proofs::FixedFields::computing))]
 
 ghost use Rattle.std.specs.Prelude.{◌≡◌, ◌<◌, ◌^◌, [], ◌∷◌, length, IfOk};
 ghost use Rattle.fb_schema.specs.Rows.{AreFew, rows_of};

@@ -1,18 +1,21 @@
-use Rattle.std.proofs.Common.{inl, sym}
+use Rattle.std.proofs.Common.{inl, refl, sym}
 use Rattle.fb_access.specs.declared.step.Step.TheVariants.{Field as ToField}
 use Rattle.fb_access.specs.Denotes.{table}
 use Rattle.fb_bfbs.proofs.Sure.{table_is_here}
 use Rattle.fb_bfbs.proofs.Composed.{seen_in, seen_after, type_within}
-use Rattle.fb_bfbs.proofs.FixedFields.{member_fields}
+use Rattle.fb_bfbs.proofs.FixedFields.{computing, maybe}
 use Rattle.fb_bfbs.proofs.copied.union_type.Goals as goal
 
 pub table_or_none-requires : goal.table_or_none-requires
-table_or_none-requires c = (0, (member_fields _ c.requires).ty)
+unfolding computing
+table_or_none-requires c = (0, (maybe c.requires refl))
 
 pub type_row-requires : goal.type_row-requires
-type_row-requires c = (c.in-Some.ensures.there 0 (member_fields _ c.requires).ty).at
+unfolding computing
+type_row-requires c = (c.in-Some.ensures.there 0 (maybe c.requires refl)).at
 
 pub returns-in-Some : goal.returns-in-Some
+unfolding computing
 returns-in-Some c =
-    let on = c.in-Some.ensures.there 0 (member_fields _ c.requires).ty in
+    let on = c.in-Some.ensures.there 0 (maybe c.requires refl) in
     inl (seen_in c.args.place.now c.in-Some.ty (ToField 3) table on.same on.leads (sym (table_is_here c.in-Some.ty on.at)), type_within _ _ _ (seen_after c.args.place.now c.in-Some.ty (ToField 3) on.same on.leads) c.type_row.ensures)

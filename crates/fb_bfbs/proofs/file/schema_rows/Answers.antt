@@ -1,18 +1,7 @@
-use Rattle.std.proofs.Common.{refl}
 use Rattle.fb_schema.specs.Rows.{object_of, enum_of}
 use Rattle.fb_bfbs.specs.Describes.{IsObjectRow, IsEnumRow}
-use Rattle.fb_bfbs.proofs.FixedFields.{schema_fields}
 use Rattle.fb_bfbs.proofs.Composed.{mapped_rows}
 use Rattle.fb_bfbs.proofs.file.schema_rows.Goals as goal
-
-pub rows_in-requires : goal.rows_in-requires
-rows_in-requires c = λ k. ((refl, tt), (schema_fields _ c.requires.at).objects)
-
-pub rows_in-requires-2 : goal.rows_in-requires-2
-rows_in-requires-2 c = λ k. ((refl, tt), (schema_fields _ c.requires.at).enums)
-
-pub text_or_none-requires : goal.text_or_none-requires
-text_or_none-requires c = (schema_fields _ c.requires.at).ident
 
 pub returns-clause-told : goal.returns-clause-told
 returns-clause-told c = record {

@@ -1,4 +1,5 @@
-use Rattle.std.proofs.Common.{[], ◌∷◌, rules, w64}
+use Rattle.std.proofs.Common.{[], ◌∷◌, refl, rules, w64}
+use Rattle.fb_schema.specs.declared.kinds.Kind.TheVariants.{Table}
 use Rattle.fb_schema.specs.declared.kinds.Scalar.TheVariants as scalar
 use Rattle.fb_bfbs.specs.Describes.{IsFieldRow}
 use Rattle.fb_access.specs.Denotes.{signed}
@@ -6,36 +7,21 @@ use Rattle.fb_access.specs.declared.step.Step.TheVariants.{Field as ToField}
 use Rattle.fb_bfbs.specs.Seen.{seen}
 use Rattle.fb_bfbs.proofs.Narrow.{kept}
 use Rattle.fb_bfbs.proofs.Sure.{field_allowed, at_field}
-use Rattle.fb_bfbs.proofs.FixedFields.{field_fields}
+use Rattle.fb_bfbs.proofs.FixedFields.{computing, always}
 use Rattle.fb_bfbs.proofs.Composed.{seen_after, type_within, field_within, row_here}
 use Rattle.fb_bfbs.proofs.copied.FieldRowFromTable.from_table.Goals as goal
 
 pub go-ty-requires : goal.go-ty-requires
-go-ty-requires c = field_allowed _ _ _ (field_fields _ c.requires).ty
-
-pub text_in-requires : goal.text_in-requires
-text_in-requires c = (field_fields _ c.requires).name
+unfolding computing
+go-ty-requires c = field_allowed _ _ (Table 0) (always c.requires refl)
 
 pub type_row-requires : goal.type_row-requires
-type_row-requires c = at_field _ _ _ _ (field_fields _ c.requires).ty c.go-ty.ensures.same c.go-ty.ensures.here
-
-pub ushort_in-requires : goal.ushort_in-requires
-ushort_in-requires c = (field_fields _ c.requires).slot
+unfolding computing
+type_row-requires c = at_field _ _ _ (Table 0) (always c.requires refl) c.go-ty.ensures.same c.go-ty.ensures.here
 
 pub int_in-requires : goal.int_in-requires
-int_in-requires c = (scalar.Long, tt, (field_fields _ c.requires).default)
-
-pub bool_in-requires : goal.bool_in-requires
-bool_in-requires c = (field_fields _ c.requires).deprecated
-
-pub bool_in-requires-2 : goal.bool_in-requires-2
-bool_in-requires-2 c = (field_fields _ c.requires).required
-
-pub bool_in-requires-3 : goal.bool_in-requires-3
-bool_in-requires-3 c = (field_fields _ c.requires).optional
-
-pub bool_in-requires-4 : goal.bool_in-requires-4
-bool_in-requires-4 c = (field_fields _ c.requires).offset64
+unfolding computing
+int_in-requires c = (scalar.Long, tt, always c.requires refl)
 
 pub returns-clause-row : goal.returns-clause-row
 returns-clause-row c = row_here IsFieldRow field_within c.args.place.now _ (record {

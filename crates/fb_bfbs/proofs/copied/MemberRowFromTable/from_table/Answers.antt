@@ -1,19 +1,17 @@
-use Rattle.std.proofs.Common.{[], ◌∷◌, rules, w64}
+use Rattle.std.proofs.Common.{[], ◌∷◌, refl, rules, w64}
 use Rattle.fb_schema.specs.declared.kinds.Scalar.TheVariants as scalar
 use Rattle.fb_access.specs.Denotes.{signed}
 use Rattle.fb_access.specs.declared.step.Step.TheVariants.{Field as ToField}
 use Rattle.fb_bfbs.specs.Seen.{seen}
 use Rattle.fb_bfbs.specs.Describes.{IsMemberRow}
 use Rattle.fb_bfbs.proofs.Narrow.{kept}
-use Rattle.fb_bfbs.proofs.FixedFields.{member_fields}
+use Rattle.fb_bfbs.proofs.FixedFields.{computing, always}
 use Rattle.fb_bfbs.proofs.Composed.{member_within, row_here}
 use Rattle.fb_bfbs.proofs.copied.MemberRowFromTable.from_table.Goals as goal
 
-pub text_in-requires : goal.text_in-requires
-text_in-requires c = (member_fields _ c.requires).name
-
 pub int_in-requires : goal.int_in-requires
-int_in-requires c = (scalar.Long, tt, (member_fields _ c.requires).value)
+unfolding computing
+int_in-requires c = (scalar.Long, tt, always c.requires refl)
 
 pub returns-clause-row : goal.returns-clause-row
 returns-clause-row c = row_here IsMemberRow member_within c.args.place.now _ (record {
