@@ -7,7 +7,7 @@ use Rattle.fb_access.specs.declared.step.Step.TheVariants.{Field as ToField}
 use Rattle.fb_bfbs.specs.Seen.{seen}
 use Rattle.fb_bfbs.proofs.Narrow.{kept}
 use Rattle.fb_bfbs.proofs.Sure.{field_allowed, at_field}
-use Rattle.fb_bfbs.proofs.FixedFields.{computing, always}
+use Rattle.fb_bfbs.proofs.FixedFields.{computing, always, field_number}
 use Rattle.fb_bfbs.proofs.Composed.{seen_after, type_within, field_within, row_here}
 use Rattle.fb_bfbs.proofs.copied.FieldRowFromTable.from_table.Goals as goal
 
@@ -20,8 +20,7 @@ unfolding computing
 type_row-requires c = at_field _ _ _ (Table 0) (always c.requires refl) c.go-ty.ensures.same c.go-ty.ensures.here
 
 pub int_in-requires : goal.int_in-requires
-unfolding computing
-int_in-requires c = (scalar.Long, tt, always c.requires refl)
+int_in-requires c = (scalar.Long, tt, field_number _ c.requires)
 
 pub returns-clause-row : goal.returns-clause-row
 returns-clause-row c = row_here IsFieldRow field_within c.args.place.now _ (record {

@@ -1,40 +1,33 @@
-use Rattle.std.proofs.Common.{[], ◌∷◌, refl, rules, w32, w64}
+use Rattle.std.proofs.Common.{[], ◌∷◌, rules, w32, w64}
 use Rattle.std.specs.Int.RustNames.{FitsSigned}
-use Rattle.fb_schema.specs.declared.kinds.Kind.TheVariants.{Scalar, Table}
 use Rattle.fb_schema.specs.declared.kinds.Scalar.TheVariants as scalar
 use Rattle.fb_schema.specs.Rows.{field_of}
 use Rattle.fb_access.specs.declared.step.Step.TheVariants.{Field as ToField}
 use Rattle.fb_access.specs.Denotes.{signed}
-use Rattle.fb_access.specs.Held.{Placed}
-use Rattle.fb_bfbs.specs.Seen.{seen, IsAt, HasField}
+use Rattle.fb_bfbs.specs.Seen.{seen}
 use Rattle.fb_bfbs.specs.Describes.{IsFieldRow, IsObjectRow}
-use Rattle.fb_bfbs.proofs.FixedFields.{computing, always}
+use Rattle.fb_bfbs.proofs.FixedFields.{object_numbers}
 use Rattle.fb_bfbs.proofs.Narrow.{kept, narrowed}
 use Rattle.fb_bfbs.proofs.Composed.{object_within, mapped_rows, row_here}
 use Rattle.fb_bfbs.proofs.copied.ObjectRowFromTable.from_table.Goals as goal
 
--- the numbers with a sign of an Object: minalign and bytesize
-signs : (p : Placed) → IsAt p (Table 5) → HasField p 3 (Scalar scalar.Int) × HasField p 4 (Scalar scalar.Int)
-unfolding computing
-signs p at = (always at refl, always at refl)
-
 pub int_in-requires : goal.int_in-requires
-int_in-requires c = (scalar.Int, tt, (signs _ c.requires).0)
+int_in-requires c = (scalar.Int, tt, (object_numbers _ c.requires).0)
 
 pub int_in-requires-2 : goal.int_in-requires-2
-int_in-requires-2 c = (scalar.Int, tt, (signs _ c.requires).1)
+int_in-requires-2 c = (scalar.Int, tt, (object_numbers _ c.requires).1)
 
 pub overflow_cast-result : goal.overflow_cast-result
-overflow_cast-result c = kept w64 (FitsSigned w32) c.int_in.result (search rules) (c.int_in.ensures.narrow scalar.Int (signs _ c.requires).0)
+overflow_cast-result c = kept w64 (FitsSigned w32) c.int_in.result (search rules) (c.int_in.ensures.narrow scalar.Int (object_numbers _ c.requires).0)
 
 pub overflow_cast-result-2 : goal.overflow_cast-result-2
-overflow_cast-result-2 c = kept w64 (FitsSigned w32) c.int_in-2.result (search rules) (c.int_in-2.ensures.narrow scalar.Int (signs _ c.requires).1)
+overflow_cast-result-2 c = kept w64 (FitsSigned w32) c.int_in-2.result (search rules) (c.int_in-2.ensures.narrow scalar.Int (object_numbers _ c.requires).1)
 
 pub returns-clause-row : goal.returns-clause-row
 returns-clause-row c = row_here IsObjectRow object_within c.args.place.now _ (record {
   name = c.text_in.ensures;
   fields = mapped_rows IsFieldRow _ field_of _ c.in_ok-fields.ensures.rows;
   is_struct = c.bool_in.ensures;
-  minalign = narrowed w32 (λ z. seen c.args.place.now (ToField 3 ∷ []) (signed z)) c.int_in.result (c.int_in.ensures.narrow scalar.Int (signs _ c.requires).0) (search rules) c.int_in.ensures.value;
-  bytesize = narrowed w32 (λ z. seen c.args.place.now (ToField 4 ∷ []) (signed z)) c.int_in-2.result (c.int_in-2.ensures.narrow scalar.Int (signs _ c.requires).1) (search rules) c.int_in-2.ensures.value;
+  minalign = narrowed w32 (λ z. seen c.args.place.now (ToField 3 ∷ []) (signed z)) c.int_in.result (c.int_in.ensures.narrow scalar.Int (object_numbers _ c.requires).0) (search rules) c.int_in.ensures.value;
+  bytesize = narrowed w32 (λ z. seen c.args.place.now (ToField 4 ∷ []) (signed z)) c.int_in-2.result (c.int_in-2.ensures.narrow scalar.Int (object_numbers _ c.requires).1) (search rules) c.int_in-2.ensures.value;
 })
