@@ -33,24 +33,32 @@ const KINDS: &str = "\
     30 Scalar(UByte) 1 1 None\n\
 ";
 
-/// A live field, as the line of a case.
-fn field_line(alloc: Global, field: &FieldView) -> Result<String, AllocError> {
-    let FieldView {
-        slot,
-        kind,
-        size,
-        align,
-        companion,
-        ..
-    } = *field;
-    format!(in alloc; "{slot} {kind:?} {size} {align} {companion:?}\n")
+/// What is told as the line of a case.
+trait Line {
+    fn line(&self, alloc: Global) -> Result<String, AllocError>;
 }
 
-/// The live fields of a table, a line for each.
-fn fields_told(alloc: Global, fields: &[FieldView]) -> Result<String, AllocError> {
+/// A live field.
+impl Line for FieldView<'_> {
+    fn line(&self, alloc: Global) -> Result<String, AllocError> {
+        let (slot, kind, size, align) = (self.slot, self.kind, self.size, self.align);
+        format!(in alloc; "{slot} {kind:?} {size} {align} {:?}\n", self.companion)
+    }
+}
+
+/// A step of a table.
+impl Line for Step {
+    fn line(&self, alloc: Global) -> Result<String, AllocError> {
+        let (slot, act, size, align) = (self.slot, self.act, self.size, self.align);
+        format!(in alloc; "{slot} {act:?} {size} {align} {}\n", self.required)
+    }
+}
+
+/// All of them, a line for each.
+fn lines<T: Line>(alloc: Global, all: &[T]) -> Result<String, AllocError> {
     let mut told = String::new(alloc);
-    for field in fields {
-        told.push_str(field_line(alloc, field)?.as_str())?;
+    for one in all {
+        told.push_str(one.line(alloc)?.as_str())?;
     }
     Ok(told)
 }
@@ -59,7 +67,7 @@ fn fields_told(alloc: Global, fields: &[FieldView]) -> Result<String, AllocError
 fn a_legal_table_has_each_kind_in_rising_slot(rt: HostRuntime) -> Result<(), Fail> {
     let schema = schema_of(rt.alloc(), EVERY_KIND)?;
     assert!(rt; schema.is_table(0));
-    let told = fields_told(rt.alloc(), schema.fields_of(0))?;
+    let told = lines(rt.alloc(), schema.fields_of(0))?;
     same(&rt, told.as_str(), KINDS, "fields");
     assert!(rt; schema.field_named(0, b"gone").is_none());
     Ok(())
@@ -86,32 +94,11 @@ const STEPS: &str = "\
     26 Other 4 4 false\n\
 ";
 
-/// A step, as the line of a case.
-fn step_line(alloc: Global, step: &Step) -> Result<String, AllocError> {
-    let Step {
-        act,
-        required,
-        slot,
-        size,
-        align,
-    } = *step;
-    format!(in alloc; "{slot} {act:?} {size} {align} {required}\n")
-}
-
-/// The steps of a table, a line for each.
-fn steps_told(alloc: Global, steps: &[Step]) -> Result<String, AllocError> {
-    let mut told = String::new(alloc);
-    for step in steps {
-        told.push_str(step_line(alloc, step)?.as_str())?;
-    }
-    Ok(told)
-}
-
 #[test]
 fn each_live_field_has_its_step(rt: HostRuntime) -> Result<(), Fail> {
     let schema = schema_of(rt.alloc(), ACTS)?;
     assert!(rt; schema.is_table(2));
-    let told = steps_told(rt.alloc(), schema.steps_of(2))?;
+    let told = lines(rt.alloc(), schema.steps_of(2))?;
     same(&rt, told.as_str(), STEPS, "steps");
     Ok(())
 }
