@@ -28,6 +28,7 @@ pub mod TrueReasons
 pub mod TrueFaults
 pub mod OneVerdict
 pub mod Walking
+pub mod NextField
 pub mod Absent
 pub mod Plains
 pub mod Passing

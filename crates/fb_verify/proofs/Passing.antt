@@ -2,7 +2,7 @@
 use Rattle.std.proofs.Common.{◌≡◌, ℕ, ◌+◌, ◌-◌, ◌^◌, ◌<◌, ◌≤◌, inl, inr, Bool, true, false, IsTrue, IfSome, if◌then◌else◌, List, [], ◌∷◌, map, length, refl, sym, ◌∙◌, ap, subst, arith, Option, Some, None}
 use Rattle.std.specs.Prelude.{slice_get}
 use Rattle.std.proofs.lemmas.List.{length-map}
-use Rattle.fb_bytes.specs.Lent.{Lent}
+use Rattle.fb_bytes.specs.Word.{Metered}
 use Rattle.fb_schema.specs.declared.views.Act.TheVariants.{Other}
 use Rattle.fb_schema.specs.declared.views.Step.{Step}
 use Rattle.fb_schema.specs.declared.kinds.Kind.{Kind}
@@ -27,8 +27,9 @@ use Rattle.fb_verify.specs.Fields.{to_string, entries, row}
 use Rattle.fb_verify.specs.Cost.{slot_reads, own_reads}
 use Rattle.fb_verify.specs.Order.{Failure, after, ◌▷◌, lead_failure, own_failure, element_failure}
 use Rattle.fb_verify.specs.OffsetRows.{words_of, first_word, past_first}
-use Rattle.fb_verify.specs.Plain.{step_reads, step_reads_at, tested_by, plain_failure, plain_reads}
-use Rattle.fb_verify.specs.Stack.{blank, frame_link, link_behind, own_link, Origin, IsUnderWay, IsWalkingBy, IsAtField, Standing, StopsIn}
+use Rattle.fb_verify.specs.Plain.{tested_by, plain_failure, plain_reads}
+use Rattle.fb_verify.specs.Stack.{blank, frame_link, link_behind, own_link, Origin, Waiting, IsUnderWay, IsWalking, IsAtField, IsStopped, Standing, StopsIn}
+use Rattle.fb_verify.specs.StopsAt.{IsStopAt}
 use Rattle.fb_verify.specs.Stops.{reads_failure, lead_reads_failure}
 use Rattle.fb_verify.specs.Links.{element_of, type_of, field_link}
 use Rattle.fb_verify.specs.Told.{refused, stopped}
@@ -159,53 +160,6 @@ module _ (c : Checks) (b : List ℕ) (S : Rows) (L : Bounds) (s : Origin) (below
       | inr y ↦ text_stops y.0 y.1 (own_failure c b S t f) refl (ap (after r) (sym (y.1).chain) ∙ x)
     ]
 
--- A step of the loop over steps.
-module _ (c : Checks) (b : List ℕ) (S : Rows) (L : Bounds) (s : Origin) (below : List Frame) (top : Frame) (n d r : ℕ) (h : IsUnderWay c b S L s below top n d r)
-    (rests : (top.row).left ≡ 0) (steps : List Step) (all : steps ≡ map step_of (live_fields S (top.table).object)) (step : Step) (got : slice_get steps top.next ≡ Some step) where
-  -- its field
-  abbrev found : (f : Live) × (slice_get (live_fields S (top.table).object) top.next ≡ Some f) × (step ≡ step_of f)
-  found = step_at (live_fields S (top.table).object) top.next step (ap (λ xs. slice_get xs top.next) (sym all) ∙ got)
-
-  pub next_within : top.next + 1 ≤ length (live_fields S (top.table).object)
-  next_within = field_within _ _ _ found.1
-
-  pub long : length steps ≡ length (live_fields S (top.table).object)
-  long = ap length all ∙ length-map (live_fields S (top.table).object) step_of
-
-  -- where it stands is where its field does
-  pub same_slot : (f : Live) → slice_get (live_fields S (top.table).object) top.next ≡ Some f → step.slot ≡ f.slot
-  same_slot f here = let w : Some found.0 ≡ Some f = sym found.1 ∙ here in let v : found.0 ≡ f = cc in ap (λ (z : Step). z.slot) found.2 ∙ ap (λ (z : Live). z.slot) v
-
-  -- it and those after it are absent
-  pub rest_passed : vtable_size b (top.table).at < step.slot + 2 → required_end S (top.table).object ≤ top.next → IsUnderWay c b S L s below (record { table = top.table; next = length steps; number = top.number; row = top.row }) n d r
-  rest_passed past free =
-      let slot = ap (λ (z : Step). z.slot) found.2 in
-      rw long (others_absent c b S L s below top n d r h rests found.0 found.1 (omega (arith, past, slot)) free)
-
-  module _ (plain : step.act ≡ Other → field_place b (top.table).at step.slot ≡ None) (at m new : ℕ) (failed : Option Reason) (told : tested_by at new failed ≡ after m (plain_failure c b (top.table).at step)) where
-    abbrev plain_field : act_of found.0 (found.0).kind ≡ Other → field_place b (top.table).at (found.0).slot ≡ None
-    plain_field = λ e. ap (λ (z : Step). field_place b (top.table).at z.slot) (sym found.2) ∙ plain (ap (λ (z : Step). z.act) found.2 ∙ e)
-
-    chain_is : plain_failure c b (top.table).at step ≡ plain_failure c b (top.table).at (step_of found.0)
-    chain_is = ap (plain_failure c b (top.table).at) found.2
-
-    -- its test holds
-    pub step_passed : failed ≡ None → (q : ℕ) → q ≡ r + plain_reads b (top.table).at step → AreAllowed L.reads q → IsUnderWay c b S L s below (record { table = top.table; next = top.next + 1; number = top.number; row = top.row }) n d q
-    step_passed e q z cheap =
-        let none = (after_none m (plain_failure c b (top.table).at step)).0 (sym told ∙ ap (tested_by at new) e) in
-        plain_passed c b S L s below top n d r h rests found.0 found.1 plain_field q (z ∙ ap (λ x. r + plain_reads b (top.table).at x) found.2) cheap (sym chain_is ∙ none)
-
-    -- or fails, and the walk stops there
-    pub step_stops : (reason : Reason) → failed ≡ Some reason → (k : ℕ) → r ≡ k + m → AreAllowed L.reads (r + 6) → (stop : Stop) → stop.refusal ≡ record { at = at; reason = reason } → (stop.site).object ≡ (top.table).object
-        → ((f : Live) → slice_get (live_fields S (top.table).object) top.next ≡ Some f → (stop.site).field ≡ Some f.number) → StopsIn c b S L s below (own_link (stopped stop (k + new))) (stopped stop (k + new))
-    step_stops reason e k z room stop refusal object field =
-        let by : Refusal = record { at = at; reason = reason } in
-        let here = sym told ∙ ap (tested_by at new) e in
-        let x = failed_after k m new by (plain_failure c b (top.table).at (step_of found.0)) (ap (after m) (sym chain_is) ∙ here) in
-        let cheap = fewer_reads L.reads (r + own_reads b (top.table).at found.0) (r + 6) (omega (arith, own_few b (top.table).at found.0)) room in
-        subst (λ f. StopsIn c b S L s below (own_link f) f) (stop_is stop by (top.table).object (found.0).number (k + new) refusal object (field found.0 found.1))
-        (plain_stops c b S L s below top n d r h rests found.0 found.1 plain_field cheap by (k + new) (ap (λ w. after w (plain_failure c b (top.table).at (step_of found.0))) z ∙ x))
-
 -- The slot of a field was read that stands there and may lead to a table.
 slot_is_one : (b : List ℕ) (at o : ℕ) → IsTrue (has_slot b at o) → slot_reads b at o ≡ 1
 slot_is_one b at o h = go (has_slot b at o) h where
@@ -218,25 +172,86 @@ pub own_least : (b : List ℕ) (at : ℕ) (f : Live) → IsTrue (has_slot b at f
 unfolding own_reads
 own_least b at f h = omega (arith, slot_is_one b at f.slot h)
 
-module _ (w : Walk) (k : ℕ) (m new : Lent) (s : Origin) (below : List Frame) (top : Frame) (h : IsWalkingBy w k m s below top)
-    (rests : (top.row).left ≡ 0) (steps : List Step) (all : steps ≡ map step_of (live_fields w.schema.now (top.table).object)) (step : Step) (got : slice_get steps top.next ≡ Some step) where
-  abbrev is_slot : (f : Live) → slice_get (live_fields w.schema.now (top.table).object) top.next ≡ Some f → step.slot ≡ f.slot
-  is_slot = same_slot w.checks m.bytes w.schema.now w.limits s below top w.tables w.deepest (k + m.count) h rests steps all step got
+-- The walk comes to this step of the top's table, between two fields.
+pub record AtStep (w : Walk) (m : Metered) (under : Waiting) (top : Frame) (steps : List Step) (step : Step) : Type 0 where
+  pub walking : IsWalking w m under.start under.frames top
+  pub rests : (top.row).left ≡ 0
+  pub all : steps ≡ map step_of (live_fields w.schema.now (top.table).object)
+  pub got : slice_get steps top.next ≡ Some step
 
-  pub at_field : (place : Option ℕ) → place ≡ field_place m.bytes (top.table).at step.slot → IfSome place (λ _. IsTrue (has_slot m.bytes (top.table).at step.slot)) → IfSome place (λ p. p < 2 ^ 34) → new.bytes ≡ m.bytes
-      → new.count ≡ m.count + slot_reads m.bytes (top.table).at step.slot + step_reads_at step place → step.act ≡ Other → IfSome place (λ p. IsAtField w new.bytes (k + new.count) s below top p)
-  at_field None here slot near bytes count other = tt
-  at_field (Some p) here slot near bytes count other =
-      let one = slot_is_one m.bytes (top.table).at step.slot slot in
-      let none : step_reads step.act ≡ 0 = ap step_reads other in
-      record {
-        before = k + m.count;
-        count = omega (arith, count, one, none);
-        walking = rw bytes h;
-        within = omega (arith, next_within w.checks m.bytes w.schema.now w.limits s below top w.tables w.deepest (k + m.count) h rests steps all step got);
-        present = λ f here'. (
-          ap (λ z. field_place z (top.table).at f.slot) bytes ∙ ap (λ o. field_place m.bytes (top.table).at o) (sym (is_slot f here')) ∙ sym here,
-          subst (λ z. IsTrue (has_slot z (top.table).at f.slot)) (sym bytes) (subst (λ o. IsTrue (has_slot m.bytes (top.table).at o)) (is_slot f here') slot),
-        );
-        near = near;
-      }
+module _ {w : Walk} {m : Metered} {under : Waiting} {top : Frame} {steps : List Step} {step : Step} (h : AtStep w m under top steps step) where
+  abbrev b : List ℕ
+  b = m.bytes
+
+  abbrev table_at : ℕ
+  table_at = (top.table).at
+
+  abbrev fields : List Live
+  fields = live_fields w.schema.now (top.table).object
+
+  -- its field
+  abbrev found : (f : Live) × (slice_get fields top.next ≡ Some f) × (step ≡ step_of f)
+  found = step_at fields top.next step (ap (λ xs. slice_get xs top.next) (sym h.all) ∙ h.got)
+
+  pub next_within : top.next + 1 ≤ length fields
+  next_within = field_within _ _ _ found.1
+
+  pub long : length steps ≡ length fields
+  long = ap length h.all ∙ length-map fields step_of
+
+  -- where it stands is where its field does
+  same_slot : (f : Live) → slice_get fields top.next ≡ Some f → step.slot ≡ f.slot
+  same_slot f here = let w : Some found.0 ≡ Some f = sym found.1 ∙ here in let v : found.0 ≡ f = cc in ap (λ (z : Step). z.slot) found.2 ∙ ap (λ (z : Live). z.slot) v
+
+  -- it and those after it are absent
+  pub rest_passed : vtable_size b table_at < step.slot + 2 → required_end w.schema.now (top.table).object ≤ top.next → IsWalking w m under.start under.frames (record top { next = length steps })
+  rest_passed past free =
+      let slot = ap (λ (z : Step). z.slot) found.2 in
+      rw long (others_absent w.checks b w.schema.now w.limits under.start under.frames top w.tables w.deepest m.count h.walking h.rests found.0 found.1 (omega (arith, past, slot)) free)
+
+  module _ (plain : step.act ≡ Other → field_place b table_at step.slot ≡ None) (at k new : ℕ) (failed : Option Reason) (told : tested_by at new failed ≡ after k (plain_failure w.checks b table_at step)) where
+    abbrev plain_field : act_of found.0 (found.0).kind ≡ Other → field_place b table_at (found.0).slot ≡ None
+    plain_field = λ e. ap (λ (z : Step). field_place b table_at z.slot) (sym found.2) ∙ plain (ap (λ (z : Step). z.act) found.2 ∙ e)
+
+    chain_is : plain_failure w.checks b table_at step ≡ plain_failure w.checks b table_at (step_of found.0)
+    chain_is = ap (plain_failure w.checks b table_at) found.2
+
+    -- its test holds
+    pub step_passed : failed ≡ None → (q : ℕ) → q ≡ m.count + plain_reads b table_at step → AreAllowed (w.limits).reads q
+        → IsUnderWay w.checks b w.schema.now w.limits under.start under.frames (record top { next = top.next + 1 }) w.tables w.deepest q
+    step_passed e q z cheap =
+        let none = (after_none k (plain_failure w.checks b table_at step)).0 (sym told ∙ ap (tested_by at new) e) in
+        plain_passed w.checks b w.schema.now w.limits under.start under.frames top w.tables w.deepest m.count h.walking h.rests found.0 found.1 plain_field q (z ∙ ap (λ x. m.count + plain_reads b table_at x) found.2) cheap (sym chain_is ∙ none)
+
+    -- or fails, and the walk stops there
+    pub step_stops : {reason : Reason} → failed ≡ Some reason → (before : ℕ) → m.count ≡ before + k → AreAllowed (w.limits).reads (m.count + 6) → (stop : Stop) → IsStopAt w.schema.now top at reason stop
+        → IsStopped w m under.start under.frames (stopped stop (before + new))
+    step_stops {reason} e before z room stop is =
+        let by : Refusal = record { at = at; reason = reason } in
+        let here = sym told ∙ ap (tested_by at new) e in
+        let x = failed_after before k new by (plain_failure w.checks b table_at (step_of found.0)) (ap (after k) (sym chain_is) ∙ here) in
+        let cheap = fewer_reads (w.limits).reads (m.count + own_reads b table_at found.0) (m.count + 6) (omega (arith, own_few b table_at found.0)) room in
+        subst (λ f. IsStopped w m under.start under.frames f) (stop_is stop by (top.table).object (found.0).number (before + new) is.refusal is.object (is.field found.0 found.1))
+        (plain_stops w.checks b w.schema.now w.limits under.start under.frames top w.tables w.deepest m.count h.walking h.rests found.0 found.1 plain_field cheap by (before + new) (ap (λ x'. after x' (plain_failure w.checks b table_at (step_of found.0))) z ∙ x))
+
+  -- its slot was read, and tells that its field stands there and may lead to a table
+  pub at_field : (place : Option ℕ) → place ≡ field_place b table_at step.slot → IfSome place (λ _. IsTrue (has_slot b table_at step.slot)) → IfSome place (λ p. p < 2 ^ 34)
+      → (q : ℕ) → q ≡ m.count + slot_reads b table_at step.slot → IfSome place (λ p. IsAtField w b q under.start under.frames top p)
+  at_field None here slot near q count = tt
+  at_field (Some p) here slot near q count = record {
+    before = m.count;
+    count = omega (arith, count, slot_is_one b table_at step.slot slot);
+    walking = h.walking;
+    within = omega (arith, next_within);
+    present = λ f found. (ap (λ o. field_place b table_at o) (sym (same_slot f found)) ∙ sym here, subst (λ o. IsTrue (has_slot b table_at o)) (same_slot f found) slot);
+    near = near;
+  }
+
+abbrev reads_told : Option Failure → ℕ
+reads_told None = 0
+reads_told (Some e) = e.reads
+
+-- a test that fails tells of no fewer reads than were made before it
+pub told_grows : {at k new : ℕ} {reason : Reason} (x : Option Failure) → tested_by at new (Some reason) ≡ after k x → k ≤ new
+told_grows None h = absurd cc
+told_grows {at} {k} {new} (Some e) h = omega (arith, ap reads_told h)

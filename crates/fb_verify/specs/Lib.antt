@@ -27,5 +27,6 @@ pub mod Plain
 pub mod Known
 pub mod Stack
 pub mod StopsAt
+pub mod PassesOn
 pub mod Told
 pub mod Walked

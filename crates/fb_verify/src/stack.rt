@@ -9,10 +9,10 @@ ghost use Rattle.fb_verify.specs.Bounds.{AreAllowed};
 ghost use Rattle.fb_verify.specs.Cost.{head_reads};
 ghost use Rattle.fb_verify.specs.Order.{◌▷◌, head_failure};
 ghost use Rattle.fb_verify.specs.Stops.{budget_failure, reads_failure};
-ghost use Rattle.fb_verify.specs.StopsAt.{IsStopAt};
+ghost use Rattle.fb_verify.specs.PassesOn.{IsBetween, HasRoom, PassesOn, PassesFields};
 ghost use Rattle.fb_verify.specs.Told.{told, stopped, way_at, IsHead};
 ghost use Rattle.fb_verify.specs.Walked.{TableWalked, ended};
-ghost use Rattle.fb_verify.specs.Stack.{blank, Origin, Waiting, frame_work, work, opened, IsWalking, IsWalkingBy, IsAtField, IsOver, IsStopped, HaltsIn, links_left};
+ghost use Rattle.fb_verify.specs.Stack.{blank, Origin, Waiting, frame_work, work, opened, IsWalking, IsOver, IsStopped, HaltsIn, links_left};
 
 use crate::checks::Checks;
 use crate::element::Child;
@@ -96,17 +96,9 @@ impl<'s, 'n> Walk<'s, 'n> {
     #[inline(never)]
     fn pass_each(&self, meter: &mut Tally<'_>, top: &mut Frame) -> Result<bool, Stop>
         ghost under: { Waiting }
-        requires walking { IsWalking self.now meter.old under.start under.frames top.old }
-        requires rests { (top.old.row).left ≡ 0 }
+        requires between { IsBetween self.now meter.old under top.old }
         requires few { meter.old.count < 2 ^ 96 }
-        ensures walking { IfOk result (λ _. IsWalking self.now meter.new under.start under.frames top.new) }
-        ensures leads { IfOk result (λ more. more ≡ true → 0 < (top.new.row).left) }
-        ensures rests { IfOk result (λ more. more ≡ false → (top.new.row).left ≡ 0) }
-        ensures all { IfOk result (λ more. more ≡ false → length (live_fields self.now.schema.now (top.new.table).object) ≤ top.new.next) }
-        ensures falls { IfOk result (λ _. meter.new.count + frame_work self.now.schema.now top.new ≤ meter.old.count + frame_work self.now.schema.now top.old) }
-        ensures grows { IfOk result (λ _. meter.old.count ≤ meter.new.count) }
-        ensures bytes { meter.new.bytes ≡ meter.old.bytes }
-        ensures err { IfErr result (λ s. IsStopped self.now meter.old under.start under.frames (stopped s meter.new.count)) }
+        ensures { PassesFields self.now meter.old meter.new under top.old top.new result }
     {
         let fields = self.schema.fields_of(top.table.object);
         while let Some(field) = fields.get(top.next as usize) {
@@ -138,7 +130,7 @@ impl<'s, 'n> Walk<'s, 'n> {
         requires table { IsTrue (is_table self.now.schema.now (top.now.table).object) }
         requires next { top.now.next ≤ length (live_fields self.now.schema.now (top.now.table).object) }
         requires few { meter.now.count < 2 ^ 96 }
-        ensures { result ≡ true → AreAllowed (self.now.limits).reads (meter.now.count + 6 * (length (live_fields self.now.schema.now (top.now.table).object) - top.now.next)) }
+        ensures { result ≡ true → HasRoom self.now meter.now top.now }
     {
         let left = self.schema.field_count(top.table.object) - top.next;
         self.limits
@@ -178,23 +170,12 @@ impl<'s, 'n> Walk<'s, 'n> {
         at: &mut u64,
     ) -> Result<bool, Reason>
         ghost under: { Waiting }
-        requires walking { IsWalkingBy self.now reads.old.before reads.old under.start under.frames top.old }
-        requires rests { (top.old.row).left ≡ 0 }
-        requires room { AreAllowed (self.now.limits).reads (reads.old.before + reads.old.count + 6 * (length (live_fields self.now.schema.now (top.old.table).object) - top.old.next)) }
+        requires between { IsBetween self.now (taken_back reads.old) under top.old }
+        requires room { HasRoom self.now (taken_back reads.old) top.old }
         requires few { reads.old.count < 2 ^ 40 }
         requires same { checks ≡ self.now.checks }
-        ensures walking { IfOk result (λ more. more ≡ false → IsWalkingBy self.now reads.old.before reads.new under.start under.frames top.new) }
-        ensures field { IfOk result (λ more. more ≡ true → IsAtField self.now reads.new.bytes (reads.old.before + reads.new.count) under.start under.frames top.new at.new) }
-        ensures top { top.new ≡ record top.old { next = top.new.next } }
-        ensures forth { IfOk result (λ _. top.old.next ≤ top.new.next) }
-        ensures within { IfOk result (λ _. top.new.next ≤ length (live_fields self.now.schema.now (top.old.table).object)) }
-        ensures all { IfOk result (λ more. more ≡ false → length (live_fields self.now.schema.now (top.old.table).object) ≤ top.new.next) }
-        ensures ends { IfOk result (λ more. more ≡ false → reads.new.count + 6 * (length (live_fields self.now.schema.now (top.old.table).object) - top.new.next) ≤ reads.old.count + 6 * (length (live_fields self.now.schema.now (top.old.table).object) - top.old.next)) }
-        ensures paid { IfOk result (λ _. reads.new.count + 6 * (length (live_fields self.now.schema.now (top.old.table).object) - top.new.next) ≤ reads.old.count + 6 * (length (live_fields self.now.schema.now (top.old.table).object) - top.old.next) + 1) }
-        ensures bytes { reads.new.bytes ≡ reads.old.bytes }
+        ensures passes { PassesOn self.now (taken_back reads.old) (taken_back reads.new) under top.old top.new at.new result }
         ensures before { reads.new.before ≡ reads.old.before }
-        ensures next { IfErr result (λ _. top.new.next < length (live_fields self.now.schema.now (top.old.table).object)) }
-        ensures err { IfErr result (λ reason. (s : Stop) → IsStopAt self.now.schema.now top.new at.new reason s → IsStopped self.now (taken_back reads.old) under.start under.frames (stopped s (reads.old.before + reads.new.count))) }
     {
         let table = top.table;
         let steps = self.schema.steps_of(table.object);
@@ -234,22 +215,10 @@ impl<'s, 'n> Walk<'s, 'n> {
         at: &mut u64,
     ) -> Result<bool, Reason>
         ghost under: { Waiting }
-        requires walking { IsWalking self.now meter.old under.start under.frames top.old }
-        requires rests { (top.old.row).left ≡ 0 }
-        requires room { AreAllowed (self.now.limits).reads (meter.old.count + 6 * (length (live_fields self.now.schema.now (top.old.table).object) - top.old.next)) }
+        requires between { IsBetween self.now meter.old under top.old }
+        requires room { HasRoom self.now meter.old top.old }
         requires few { meter.old.count < 2 ^ 98 }
-        ensures walking { IfOk result (λ more. more ≡ false → IsWalking self.now meter.new under.start under.frames top.new) }
-        ensures field { IfOk result (λ more. more ≡ true → IsAtField self.now meter.new.bytes meter.new.count under.start under.frames top.new at.new) }
-        ensures top { top.new ≡ record top.old { next = top.new.next } }
-        ensures forth { IfOk result (λ _. top.old.next ≤ top.new.next) }
-        ensures within { IfOk result (λ _. top.new.next ≤ length (live_fields self.now.schema.now (top.old.table).object)) }
-        ensures all { IfOk result (λ more. more ≡ false → length (live_fields self.now.schema.now (top.new.table).object) ≤ top.new.next) }
-        ensures falls { IfOk result (λ more. more ≡ false → meter.new.count + frame_work self.now.schema.now top.new ≤ meter.old.count + frame_work self.now.schema.now top.old) }
-        ensures paid { IfOk result (λ _. meter.new.count + 6 * (length (live_fields self.now.schema.now (top.old.table).object) - top.new.next) ≤ meter.old.count + 6 * (length (live_fields self.now.schema.now (top.old.table).object) - top.old.next) + 1) }
-        ensures grows { meter.old.count ≤ meter.new.count }
-        ensures bytes { meter.new.bytes ≡ meter.old.bytes }
-        ensures next { IfErr result (λ _. top.new.next < length (live_fields self.now.schema.now (top.old.table).object)) }
-        ensures err { IfErr result (λ reason. (s : Stop) → IsStopAt self.now.schema.now top.new at.new reason s → IsStopped self.now meter.old under.start under.frames (stopped s meter.new.count)) }
+        ensures { PassesOn self.now meter.old meter.new under top.old top.new at.new result }
     {
         let mut reads = meter.lend();
         let answer = self.pass_plain(self.checks, &mut reads, top, at);
@@ -261,22 +230,10 @@ impl<'s, 'n> Walk<'s, 'n> {
     #[inline(always)]
     fn pass_on(&self, meter: &mut Tally<'_>, top: &mut Frame, at: &mut u64) -> Result<bool, Reason>
         ghost under: { Waiting }
-        requires walking { IsWalking self.now meter.old under.start under.frames top.old }
-        requires rests { (top.old.row).left ≡ 0 }
-        requires room { AreAllowed (self.now.limits).reads (meter.old.count + 6 * (length (live_fields self.now.schema.now (top.old.table).object) - top.old.next)) }
+        requires between { IsBetween self.now meter.old under top.old }
+        requires room { HasRoom self.now meter.old top.old }
         requires few { meter.old.count < 2 ^ 98 }
-        ensures walking { IfOk result (λ more. more ≡ false → IsWalking self.now meter.new under.start under.frames top.new) }
-        ensures field { IfOk result (λ more. more ≡ true → IsAtField self.now meter.new.bytes meter.new.count under.start under.frames top.new at.new) }
-        ensures top { top.new ≡ record top.old { next = top.new.next } }
-        ensures forth { IfOk result (λ _. top.old.next ≤ top.new.next) }
-        ensures within { IfOk result (λ _. top.new.next ≤ length (live_fields self.now.schema.now (top.old.table).object)) }
-        ensures all { IfOk result (λ more. more ≡ false → length (live_fields self.now.schema.now (top.new.table).object) ≤ top.new.next) }
-        ensures falls { IfOk result (λ more. more ≡ false → meter.new.count + frame_work self.now.schema.now top.new ≤ meter.old.count + frame_work self.now.schema.now top.old) }
-        ensures paid { IfOk result (λ _. meter.new.count + 6 * (length (live_fields self.now.schema.now (top.old.table).object) - top.new.next) ≤ meter.old.count + 6 * (length (live_fields self.now.schema.now (top.old.table).object) - top.old.next) + 1) }
-        ensures grows { meter.old.count ≤ meter.new.count }
-        ensures bytes { meter.new.bytes ≡ meter.old.bytes }
-        ensures next { IfErr result (λ _. top.new.next < length (live_fields self.now.schema.now (top.old.table).object)) }
-        ensures err { IfErr result (λ reason. (s : Stop) → IsStopAt self.now.schema.now top.new at.new reason s → IsStopped self.now meter.old under.start under.frames (stopped s meter.new.count)) }
+        ensures { PassesOn self.now meter.old meter.new under top.old top.new at.new result }
     {
         let checks = self.checks;
         if !checks.alignment || checks.inline_size {
@@ -296,17 +253,9 @@ impl<'s, 'n> Walk<'s, 'n> {
     #[inline(always)]
     fn pass_fields(&self, meter: &mut Tally<'_>, top: &mut Frame) -> Result<bool, Stop>
         ghost under: { Waiting }
-        requires walking { IsWalking self.now meter.old under.start under.frames top.old }
-        requires rests { (top.old.row).left ≡ 0 }
+        requires between { IsBetween self.now meter.old under top.old }
         requires few { meter.old.count < 2 ^ 96 }
-        ensures walking { IfOk result (λ _. IsWalking self.now meter.new under.start under.frames top.new) }
-        ensures leads { IfOk result (λ more. more ≡ true → 0 < (top.new.row).left) }
-        ensures rests { IfOk result (λ more. more ≡ false → (top.new.row).left ≡ 0) }
-        ensures all { IfOk result (λ more. more ≡ false → length (live_fields self.now.schema.now (top.new.table).object) ≤ top.new.next) }
-        ensures falls { IfOk result (λ _. meter.new.count + frame_work self.now.schema.now top.new ≤ meter.old.count + frame_work self.now.schema.now top.old) }
-        ensures grows { IfOk result (λ _. meter.old.count ≤ meter.new.count) }
-        ensures bytes { meter.new.bytes ≡ meter.old.bytes }
-        ensures err { IfErr result (λ s. IsStopped self.now meter.old under.start under.frames (stopped s meter.new.count)) }
+        ensures { PassesFields self.now meter.old meter.new under top.old top.new result }
     {
         if !self.has_room(meter, top) {
             return self.pass_each(meter, top);

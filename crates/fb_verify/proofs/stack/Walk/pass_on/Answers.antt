@@ -1,6 +1,7 @@
+use Rattle.std.proofs.Math.Nat.{add-zero}
 use Rattle.fb_verify.proofs.stack.Walk.pass_on.Goals as goal
 
-pub returns-clause-err : goal.returns-clause-err
-returns-clause-err g c =
+pub returns : goal.returns
+returns g c =
     let answer = c.pass_plain-answer.ensures in
-    rw (c.settle.ensures, answer.before, c.lend-reads.ensures.lent) (rw c.lend-reads.ensures.lent at answer.err)
+    rw c.settle.ensures (rw (c.lend-reads.ensures.lent, add-zero) at answer.passes)

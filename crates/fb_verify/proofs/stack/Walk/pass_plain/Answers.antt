@@ -1,181 +1,170 @@
-use Rattle.std.proofs.Common.{◌≡◌, ◌+◌, ◌-◌, ◌*◌, ◌<◌, length, slice_get, None, refl, sym, ◌∙◌, ap, arith}
+use Rattle.std.proofs.Common.{◌≡◌, ◌+◌, ◌*◌, ◌<◌, length, slice_get, None, refl, sym, ◌∙◌, ap, arith}
 use Rattle.std.proofs.lemmas.List.{length-map}
+use Rattle.fb_bytes.specs.Lent.{taken_back}
 use Rattle.fb_schema.specs.declared.views.Act.TheVariants.{Other}
 use Rattle.fb_schema.specs.Live.{live_fields}
 use Rattle.fb_schema.specs.Steps.{step_of}
 use Rattle.fb_verify.specs.declared.scratch.Frame.{Frame}
 use Rattle.fb_verify.specs.Places.{vtable_size, field_place}
 use Rattle.fb_verify.specs.Cost.{slot_reads}
-use Rattle.fb_verify.specs.Plain.{place_from, step_reads_at}
+use Rattle.fb_verify.specs.Order.{after}
+use Rattle.fb_verify.specs.Plain.{place_from, plain_failure, tested_by}
+use Rattle.fb_verify.specs.PassesOn.{fields_left}
 use Rattle.fb_verify.proofs.Budgets.{fewer_reads}
-use Rattle.fb_verify.proofs.Frames.{item_some, slot_few}
-use Rattle.fb_verify.proofs.Plains.{is_step, act_free, plain_few, plain_told, plain_counted, place_near}
-use Rattle.fb_verify.proofs.Passing.{next_within, rest_passed, step_passed, step_stops, at_field}
+use Rattle.fb_verify.proofs.Frames.{item_some, item_none, slot_few}
+use Rattle.fb_verify.proofs.Plains.{is_step, plain_few, plain_told, plain_counted, place_near}
+use Rattle.fb_verify.proofs.Passing.{AtStep, long, next_within, rest_passed, step_passed, step_stops, at_field, told_grows}
 use Rattle.fb_verify.proofs.stack.Walk.pass_plain.Goals as goal
+use Rattle.fb_verify.proofs.stack.Walk.pass_plain.Goals.{In-Some, After-test_at-failed}
 
-pub returns-then-others_are_absent-clause-walking : goal.returns-then-others_are_absent-clause-walking
-returns-then-others_are_absent-clause-walking g c _ =
+-- the frame between two fields
+abbrev top_at : (g : _) → In-Some g → Frame
+top_at g c = record c.args.top.now { next = c.loop-step.next }
+
+-- the step that comes
+here : (g : _) (c : In-Some g) → AtStep c.args.self.now (taken_back c.loop-step.reads) g.under (top_at g c) c.steps_of-steps.result.now c.in-Some.step.now
+here g c = record { walking = ((c.loop-step.invariant).between).walking; rests = ((c.loop-step.invariant).between).rests; all = c.steps_of-steps.ensures.value; got = item_some _ _ _ _ c.get.ensures.lookup c.in-Some.is }
+
+pub returns-then-others_are_absent-clause-passes : goal.returns-then-others_are_absent-clause-passes
+returns-then-others_are_absent-clause-passes g c =
+    let d = (goal.at.returns-then-others_are_absent-clause-passes g c).In-Some in
+    let s = here g d in
     let i = c.loop-step.invariant in
-    let w = c.args.self.now in
-    let S = w.schema.now in
-    let T = c.args.top.now in
-    let top : Frame = record { table = T.table; next = c.loop-step.next; number = T.number; row = T.row } in
-    let b = c.loop-step.reads.bytes in
-    let r = c.args.reads.now.before + c.loop-step.reads.count in
-    let rests = c.requires.1.0 in
-    let steps = c.steps_of-steps.result.now in
-    let all = c.steps_of-steps.ensures.value in
-    let got = item_some _ _ _ _ c.get.ensures.lookup c.in-Some.is in
     let ends = c.if-others_are_absent.true in
-    let past : vtable_size b (T.table).at < (c.in-Some.step.now).slot + 2 = omega (arith, c.others_are_absent.ensures.past ends, ((((i.walking).frame).head).vtable).size) in
-    rw i.same (rest_passed w.checks b S w.limits (g.under).start (g.under).frames top w.tables w.deepest r i.walking rests steps all c.in-Some.step.now got past (c.others_are_absent.ensures.free ends))
-
-pub returns-then-others_are_absent-clause-top : goal.returns-then-others_are_absent-clause-top
-returns-then-others_are_absent-clause-top g c = rw c.loop-step.invariant.same refl
-
-pub returns-then-others_are_absent-clause-ends : goal.returns-then-others_are_absent-clause-ends
-returns-then-others_are_absent-clause-ends g c _ =
-    let i = c.loop-step.invariant in
-    let fields = live_fields c.args.self.now.schema.now (c.args.top.now.table).object in
-    omega (arith, i.paid, ap length c.steps_of-steps.ensures.value, length-map fields step_of, ((i.walking).frame).next)
-
-pub returns-then-others_are_absent-clause-paid : goal.returns-then-others_are_absent-clause-paid
-returns-then-others_are_absent-clause-paid g c =
-    let i = c.loop-step.invariant in
-    let fields = live_fields c.args.self.now.schema.now (c.args.top.now.table).object in
-    omega (arith, i.paid, ap length c.steps_of-steps.ensures.value, length-map fields step_of, ((i.walking).frame).next)
+    let all = long s in
+    let past : vtable_size c.loop-step.reads.bytes (c.args.top.now.table).at < (c.in-Some.step.now).slot + 2 = omega (arith, c.others_are_absent.ensures.past ends, (((((i.between).walking).frame).head).vtable).size) in
+    rw i.same (record {
+      walking = λ _. rest_passed s past (c.others_are_absent.ensures.free ends);
+      field = λ e. absurd cc;
+      same = refl;
+      forth = omega (arith, i.forth, all, next_within s);
+      within = omega (arith, all);
+      all = λ _. omega (arith, all);
+      ends = λ _. omega (arith, i.paid, all, i.before);
+      paid = omega (arith, i.paid, all, i.before);
+      grows = omega (arith, i.grows, i.before);
+      bytes = i.bytes;
+      next = tt;
+      err = tt;
+    })
 
 pub test_at-failed-requires-clause-step : goal.test_at-failed-requires-clause-step
 test_at-failed-requires-clause-step g c =
     let S = c.args.self.now.schema.now in
     let k = (c.args.top.now.table).object in
-    is_step S (live_fields S k) c.loop-step.next c.in-Some.step.now (λ f got. (((c.requires.0).served).kinds) k c.loop-step.next f got)
+    is_step S (live_fields S k) c.loop-step.next c.in-Some.step.now (λ f got. ((((c.requires.0).walking).served).kinds) k c.loop-step.next f got)
     (ap (λ xs. slice_get xs c.loop-step.next) (sym c.steps_of-steps.ensures.value) ∙ item_some _ _ _ _ c.get.ensures.lookup c.in-Some.is)
 
-pub returns-in-Some-failed-clause-next : goal.returns-in-Some-failed-clause-next
-returns-in-Some-failed-clause-next g c =
-    let i = c.loop-step.invariant in
-    let w = c.args.self.now in
-    let S = w.schema.now in
-    let T = c.args.top.now in
-    let top : Frame = record { table = T.table; next = c.loop-step.next; number = T.number; row = T.row } in
-    let b = c.loop-step.reads.bytes in
-    let r = c.args.reads.now.before + c.loop-step.reads.count in
-    let rests = c.requires.1.0 in
-    let steps = c.steps_of-steps.result.now in
-    let all = c.steps_of-steps.ensures.value in
-    let got = item_some _ _ _ _ c.get.ensures.lookup c.in-Some.is in
-    omega (arith, next_within w.checks b S w.limits (g.under).start (g.under).frames top w.tables w.deepest r i.walking rests steps all c.in-Some.step.now got)
+-- where it is told not to lead on, it leads to no table
+plain : (g : _) (c : After-test_at-failed g) → (c.in-Some.step.now).act ≡ Other → field_place c.loop-step.reads.bytes (c.args.top.now.table).at (c.in-Some.step.now).slot ≡ None
+plain g c e = sym c.slot_at-place.ensures.value ∙ c.leads_on.ensures.plain c.if-leads_on.false e
 
-pub returns-in-Some-failed-clause-top : goal.returns-in-Some-failed-clause-top
-returns-in-Some-failed-clause-top g c = rw c.loop-step.invariant.same refl
-
-pub returns-in-Some-failed-clause-err : goal.returns-in-Some-failed-clause-err
-returns-in-Some-failed-clause-err g c stop here =
-    let i = c.loop-step.invariant in
+-- what its test tells
+told : (g : _) (c : After-test_at-failed g)
+    → tested_by c.test_at-failed.new.at c.test_at-failed.new.reads.count c.test_at-failed.result ≡ after c.loop-step.reads.count (plain_failure c.args.self.now.checks c.loop-step.reads.bytes (c.args.top.now.table).at c.in-Some.step.now)
+told g c =
     let w = c.args.self.now in
-    let S = w.schema.now in
-    let T = c.args.top.now in
-    let top : Frame = record { table = T.table; next = c.loop-step.next; number = T.number; row = T.row } in
-    let b = c.loop-step.reads.bytes in
-    let r = c.args.reads.now.before + c.loop-step.reads.count in
-    let rests = c.requires.1.0 in
-    let steps = c.steps_of-steps.result.now in
-    let all = c.steps_of-steps.ensures.value in
-    let got = item_some _ _ _ _ c.get.ensures.lookup c.in-Some.is in
-    let t = (T.table).at in
-    let step = c.in-Some.step.now in
     let slot = c.slot_at-place.ensures in
-    let bytes = ap (λ m. m.bytes) slot.counted in
-    let told = plain_told w.checks b t c.loop-step.reads.count c.slot_at-place.new.reads.count c.test_at-failed.new.reads.count step (place_from (c.args.top.now.table).at c.slot_at-place.result) slot.value (ap (λ m. m.count) slot.counted) _ (rw (bytes, c.requires.1.1.1.1) at c.test_at-failed.ensures.told) in
+    plain_told w.checks c.loop-step.reads.bytes (c.args.top.now.table).at c.loop-step.reads.count c.slot_at-place.new.reads.count c.test_at-failed.new.reads.count c.in-Some.step.now (place_from (c.args.top.now.table).at c.slot_at-place.result) slot.value (ap (λ m. m.count) slot.counted) _
+    (rw (ap (λ m. m.bytes) slot.counted, c.requires.1.1.1) at c.test_at-failed.ensures.told)
+
+pub returns-in-Some-failed-clause-passes : goal.returns-in-Some-failed-clause-passes
+returns-in-Some-failed-clause-passes g c =
+    let d = (goal.at.returns-in-Some-failed-clause-passes g c).After-test_at-failed in
+    let e = (goal.at.returns-in-Some-failed-clause-passes g c).In-Some in
+    let s = here g e in
+    let i = c.loop-step.invariant in
+    let w = c.args.self.now in
+    let slot = c.slot_at-place.ensures in
+    let bytes = c.test_at-failed.ensures.bytes ∙ ap (λ m. m.bytes) slot.counted ∙ i.bytes in
+    let before = c.test_at-failed.ensures.before ∙ ap (λ m. m.before) slot.counted in
     let failed = c.in-Some-failed.is in
-    let absent : step.act ≡ Other → field_place b t step.slot ≡ None = λ e. sym slot.value ∙ c.leads_on.ensures.plain c.if-leads_on.false e in
-    let within = next_within w.checks b S w.limits (g.under).start (g.under).frames top w.tables w.deepest r i.walking rests steps all c.in-Some.step.now got in
-    let room = fewer_reads (w.limits).reads (r + 6) (c.args.reads.now.before + c.args.reads.now.count + 6 * (length (live_fields S (T.table).object) - T.next)) (omega (arith, i.paid, within)) c.requires.1.1.0 in
-    rw i.bytes at
-    (step_stops w.checks b S w.limits (g.under).start (g.under).frames top w.tables w.deepest r i.walking rests steps all c.in-Some.step.now got absent _ _ _ _ told
-    _ failed c.args.reads.now.before refl room stop here.refusal (rw i.same at here.object) (rw i.same at here.field))
+    let within = next_within s in
+    let grows = told_grows _ (rw failed at (told g d)) in
+    let room = fewer_reads (w.limits).reads (c.loop-step.reads.before + c.loop-step.reads.count + 6) (c.args.reads.now.before + c.args.reads.now.count + 6 * fields_left w.schema.now c.args.top.now) (omega (arith, i.paid, within, i.before)) c.requires.1.0 in
+    rw (before, i.same) (record {
+      walking = tt;
+      field = tt;
+      same = refl;
+      forth = tt;
+      within = tt;
+      all = tt;
+      ends = tt;
+      paid = tt;
+      grows = omega (arith, grows, i.grows, i.before);
+      bytes = bytes;
+      next = omega (arith, within);
+      err = λ stop is. rw i.bytes at (step_stops s (plain g d) _ _ _ _ (told g d) failed c.loop-step.reads.before refl room stop is);
+    })
 
-pub returns-then-leads_on-clause-field : goal.returns-then-leads_on-clause-field
-returns-then-leads_on-clause-field g c _ =
+pub returns-then-leads_on-clause-passes : goal.returns-then-leads_on-clause-passes
+returns-then-leads_on-clause-passes g c =
+    let s = here g (goal.at.returns-then-leads_on-clause-passes g c).In-Some in
     let i = c.loop-step.invariant in
-    let w = c.args.self.now in
-    let S = w.schema.now in
-    let T = c.args.top.now in
-    let top : Frame = record { table = T.table; next = c.loop-step.next; number = T.number; row = T.row } in
-    let b = c.loop-step.reads.bytes in
-    let r = c.args.reads.now.before + c.loop-step.reads.count in
-    let rests = c.requires.1.0 in
-    let steps = c.steps_of-steps.result.now in
-    let all = c.steps_of-steps.ensures.value in
-    let got = item_some _ _ _ _ c.get.ensures.lookup c.in-Some.is in
-    let step = c.in-Some.step.now in
+    let t = (c.args.top.now.table).at in
     let slot = c.slot_at-place.ensures in
-    let bytes = ap (λ m. m.bytes) slot.counted in
-    let none = act_free step (place_from (c.args.top.now.table).at c.slot_at-place.result) (c.leads_on.ensures.open c.if-leads_on.true) in
-    let count : c.slot_at-place.new.reads.count ≡ c.loop-step.reads.count + slot_reads b (T.table).at step.slot + step_reads_at step (place_from (T.table).at c.slot_at-place.result) = omega (arith, ap (λ m. m.count) slot.counted, none) in
-    let here = at_field w c.args.reads.now.before c.loop-step.reads c.slot_at-place.new.reads (g.under).start (g.under).frames top i.walking rests steps all step got
-    (place_from (T.table).at c.slot_at-place.result) slot.value slot.within (place_near (T.table).at c.slot_at-place.result _ slot.near) bytes count (c.leads_on.ensures.open c.if-leads_on.true) in
-    rw i.same (rw (c.leads_on.ensures.there c.if-leads_on.true) at here)
+    let within = next_within s in
+    let few = slot_few c.loop-step.reads.bytes t (c.in-Some.step.now).slot in
+    let place = place_from t c.slot_at-place.result in
+    let at = at_field s place slot.value slot.within (place_near t c.slot_at-place.result _ slot.near) (c.loop-step.reads.before + (c.loop-step.reads.count + slot_reads c.loop-step.reads.bytes t (c.in-Some.step.now).slot)) (omega arith) in
+    rw (slot.counted, i.same) (record {
+      walking = λ e. absurd cc;
+      field = λ _. rw (c.leads_on.ensures.there c.if-leads_on.true) at at;
+      same = refl;
+      forth = i.forth;
+      within = omega (arith, within);
+      all = λ e. absurd cc;
+      ends = λ e. absurd cc;
+      paid = omega (arith, i.paid, few, i.before);
+      grows = omega (arith, i.grows, i.before);
+      bytes = i.bytes;
+      next = tt;
+      err = tt;
+    })
 
-pub returns-then-leads_on-clause-top : goal.returns-then-leads_on-clause-top
-returns-then-leads_on-clause-top g c = rw c.loop-step.invariant.same refl
-
-pub returns-then-leads_on-clause-forth : goal.returns-then-leads_on-clause-forth
-returns-then-leads_on-clause-forth g c = c.loop-step.invariant.forth
-
-pub returns-then-leads_on-clause-paid : goal.returns-then-leads_on-clause-paid
-returns-then-leads_on-clause-paid g c =
+pub returns-clause-passes : goal.returns-clause-passes
+returns-clause-passes g c =
     let i = c.loop-step.invariant in
-    let step = c.in-Some.step.now in
-    let slot = c.slot_at-place.ensures in
-    omega (arith, i.paid, ap (λ m. m.count) slot.counted, slot_few c.loop-step.reads.bytes (c.args.top.now.table).at step.slot)
+    let past = item_none _ _ _ c.get.ensures.lookup c.in_default.is in
+    let long = ap length c.steps_of-steps.ensures.value ∙ length-map (live_fields c.args.self.now.schema.now (c.args.top.now.table).object) step_of in
+    rw i.same (record {
+      walking = λ _. (i.between).walking;
+      field = λ e. absurd cc;
+      same = refl;
+      forth = i.forth;
+      within = ((((i.between).walking).frame).next);
+      all = λ _. omega (arith, past, long);
+      ends = λ _. omega (arith, i.paid, i.before);
+      paid = omega (arith, i.paid, i.before);
+      grows = omega (arith, i.grows, i.before);
+      bytes = i.bytes;
+      next = tt;
+      err = tt;
+    })
 
 pub loop-step-preserved : goal.loop-step-preserved
 loop-step-preserved g c =
+    let d = (goal.at.loop-step-preserved g c).After-test_at-failed in
+    let s = here g (goal.at.loop-step-preserved g c).In-Some in
     let i = c.loop-step.invariant in
     let w = c.args.self.now in
-    let S = w.schema.now in
-    let T = c.args.top.now in
-    let top : Frame = record { table = T.table; next = c.loop-step.next; number = T.number; row = T.row } in
     let b = c.loop-step.reads.bytes in
-    let r = c.args.reads.now.before + c.loop-step.reads.count in
-    let rests = c.requires.1.0 in
-    let steps = c.steps_of-steps.result.now in
-    let all = c.steps_of-steps.ensures.value in
-    let got = item_some _ _ _ _ c.get.ensures.lookup c.in-Some.is in
-    let t = (T.table).at in
+    let t = (c.args.top.now.table).at in
     let step = c.in-Some.step.now in
     let slot = c.slot_at-place.ensures in
-    let bytes = ap (λ m. m.bytes) slot.counted in
-    let told = plain_told w.checks b t c.loop-step.reads.count c.slot_at-place.new.reads.count c.test_at-failed.new.reads.count step (place_from (c.args.top.now.table).at c.slot_at-place.result) slot.value (ap (λ m. m.count) slot.counted) _ (rw (bytes, c.requires.1.1.1.1) at c.test_at-failed.ensures.told) in
     let none = c.in_default-failed.is in
-    let plain : step.act ≡ Other → field_place b t step.slot ≡ None = λ e. sym slot.value ∙ c.leads_on.ensures.plain c.if-leads_on.false e in
-    let counted = plain_counted w.checks b t c.loop-step.reads.count c.slot_at-place.new.reads.count c.test_at-failed.new.reads.count step (place_from (c.args.top.now.table).at c.slot_at-place.result) slot.value (ap (λ m. m.count) slot.counted) (c.test_at-failed.ensures.counted none) in
+    let counted = plain_counted w.checks b t c.loop-step.reads.count c.slot_at-place.new.reads.count c.test_at-failed.new.reads.count step (place_from t c.slot_at-place.result) slot.value (ap (λ m. m.count) slot.counted) (c.test_at-failed.ensures.counted none) in
     let few = plain_few b t step in
-    let within = next_within w.checks b S w.limits (g.under).start (g.under).frames top w.tables w.deepest r i.walking rests steps all c.in-Some.step.now got in
-    let cheap = fewer_reads (w.limits).reads (c.args.reads.now.before + c.test_at-failed.new.reads.count) (c.args.reads.now.before + c.args.reads.now.count + 6 * (length (live_fields S (T.table).object) - T.next)) (omega (arith, counted, few, i.paid, within)) c.requires.1.1.0 in
-    let kept = c.test_at-failed.ensures.bytes ∙ bytes in
+    let within = next_within s in
+    let kept = c.test_at-failed.ensures.bytes ∙ ap (λ m. m.bytes) slot.counted in
+    let before = c.test_at-failed.ensures.before ∙ ap (λ m. m.before) slot.counted in
+    let cheap = fewer_reads (w.limits).reads (c.loop-step.reads.before + c.test_at-failed.new.reads.count) (c.args.reads.now.before + c.args.reads.now.count + 6 * fields_left w.schema.now c.args.top.now) (omega (arith, counted, few, i.paid, within, i.before)) c.requires.1.0 in
     record {
       bytes = kept ∙ i.bytes;
-      before = c.test_at-failed.ensures.before ∙ ap (λ m. m.before) slot.counted ∙ i.before;
+      before = before ∙ i.before;
       same = i.same;
       forth = omega (arith, i.forth);
-      walking =
-          rw kept
-          (step_passed w.checks b S w.limits (g.under).start (g.under).frames top w.tables w.deepest r i.walking rests steps all c.in-Some.step.now got plain _ _ _ _ told none
-          (c.args.reads.now.before + c.test_at-failed.new.reads.count) (omega (arith, counted)) cheap);
+      grows = omega (arith, counted, i.grows);
+      between = record { walking = rw (kept, before) (step_passed s (plain g d) _ _ _ _ (told g d) none (c.loop-step.reads.before + c.test_at-failed.new.reads.count) (omega (arith, counted)) cheap); rests = (i.between).rests };
       paid = omega (arith, counted, few, i.paid, within);
     }
-
-pub returns-clause-top : goal.returns-clause-top
-returns-clause-top g c = rw c.loop-step.invariant.same refl
-
-pub returns-clause-within : goal.returns-clause-within
-returns-clause-within g c = ((c.loop-step.invariant.walking).frame).next
-
-pub returns-clause-ends : goal.returns-clause-ends
-returns-clause-ends g c _ = c.loop-step.invariant.paid
-
-pub returns-clause-paid : goal.returns-clause-paid
-returns-clause-paid g c = omega (arith, c.loop-step.invariant.paid)

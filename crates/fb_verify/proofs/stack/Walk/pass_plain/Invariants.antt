@@ -1,6 +1,6 @@
 use Rattle.std.proofs.Common.{◌≡◌, ◌+◌, ◌-◌, ◌*◌, ◌≤◌, length}
-use Rattle.fb_schema.specs.Live.{live_fields}
-use Rattle.fb_verify.specs.Stack.{IsWalkingBy}
+use Rattle.fb_bytes.specs.Lent.{taken_back}
+use Rattle.fb_verify.specs.PassesOn.{IsBetween, fields_left}
 use Rattle.fb_verify.proofs.stack.Walk.pass_plain.Given as goal
 
 -- the walk goes on in the same table, between two fields
@@ -10,8 +10,9 @@ invariant-loop-step g l = record {
   before : l.reads.before ≡ l.fn.reads.before;
   same : l.top ≡ l.fn.top;
   forth : l.fn.top.next ≤ l.next;
-  walking : IsWalkingBy l.self l.fn.reads.before l.reads (g.under).start (g.under).frames (record { table = l.fn.top.table; next = l.next; number = l.fn.top.number; row = l.fn.top.row });
-  paid : l.reads.count + 6 * (length (live_fields l.self.schema.now (l.fn.top.table).object) - l.next) ≤ l.fn.reads.count + 6 * (length (live_fields l.self.schema.now (l.fn.top.table).object) - l.fn.top.next);
+  grows : l.fn.reads.count ≤ l.reads.count;
+  between : IsBetween l.self (taken_back l.reads) g.under (record l.fn.top { next = l.next });
+  paid : l.reads.count + 6 * fields_left l.self.schema.now (record l.fn.top { next = l.next }) ≤ l.fn.reads.count + 6 * fields_left l.self.schema.now l.fn.top;
 }
 
 abbrev pub decreases-loop-step : goal.decreases-loop-step

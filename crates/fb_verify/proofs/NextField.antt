@@ -1,0 +1,77 @@
+-- The walk comes to the next field of the top, and goes on past it or stops there.
+use Rattle.std.proofs.Common.{◌≡◌, ℕ, ◌+◌, ◌<◌, ◌≤◌, [], Result, Ok, Err, true, refl, sym, subst, ◌∙◌, arith, Some, None}
+use Rattle.std.specs.Prelude.{slice_get}
+use Rattle.std.specs.Result.{IsErrAnd}
+use Rattle.fb_bytes.specs.Word.{Metered}
+use Rattle.fb_schema.specs.Live.{Live, live_fields}
+use Rattle.fb_verify.specs.declared.fault.Fault.{Fault}
+use Rattle.fb_verify.specs.declared.offset_row.Row.{Row}
+use Rattle.fb_verify.specs.declared.scratch.Frame.{Frame}
+use Rattle.fb_verify.specs.declared.stack.Walk.{Walk}
+use Rattle.fb_verify.specs.Bounds.{AreAllowed}
+use Rattle.fb_verify.specs.Cost.{own_reads}
+use Rattle.fb_verify.specs.Fields.{entries}
+use Rattle.fb_verify.specs.OffsetRows.{words_of, IsRow, IsTyped}
+use Rattle.fb_verify.specs.Order.{◌▷◌, own_failure}
+use Rattle.fb_verify.specs.PassesOn.{HasPassed, PassesFields}
+use Rattle.fb_verify.specs.Stack.{blank, frame_work, Waiting, IsWalking, IsStopped}
+use Rattle.fb_verify.specs.Stops.{reads_failure}
+use Rattle.fb_verify.specs.Told.{told}
+use Rattle.fb_verify.proofs.Frames.{no_row}
+use Rattle.fb_verify.proofs.Standings.{next_typed}
+use Rattle.fb_verify.proofs.Stopping.{field_stops}
+use Rattle.fb_verify.proofs.Walking.{field_passed, field_work, field_skipped, skip_work}
+use Rattle.fb_verify.proofs.Words.{row_none}
+
+-- the exit of a `?`
+pub err_exit : {A E : Type 0} (r : Result A E) (x : E) (P : Result A E → Type 0) → IsErrAnd r (λ e. e ≡ x) → P (Err x) → P r
+err_exit (Ok a) x P h p = absurd h
+err_exit (Err e) x P h p = subst (λ y. P (Err y)) (sym h) p
+
+-- no field is under check, and this is the next
+pub record AtNext (w : Walk) (m : Metered) (under : Waiting) (top : Frame) (field : Live) : Type 0 where
+  pub walking : IsWalking w m under.start under.frames top
+  pub rests : (top.row).left ≡ 0
+  pub here : slice_get (live_fields w.schema.now (top.table).object) top.next ≡ Some field
+
+module _ {w : Walk} {m : Metered} {under : Waiting} {top : Frame} {field : Live} (h : AtNext w m under top field) where
+  pub types_checked : IsTyped m.bytes (top.table).at field.slot field.kind
+  types_checked = next_typed w.checks m.bytes w.schema.now w.limits under.start under.frames top w.tables w.deepest m.count (h.walking).standing field (h.walking).served h.rests h.here
+
+  -- it fails by itself
+  pub next_stops : (f : Fault)
+      → told (record { object = (top.table).object; field = Some field.number }) m.count (own_failure w.checks m.bytes w.schema.now (top.table).at field ▷ reads_failure w.limits m.count (own_reads m.bytes (top.table).at field) (top.table).at) ≡ Some f
+      → IsStopped w m under.start under.frames f
+  next_stops f e = field_stops w.checks m.bytes w.schema.now w.limits under.start under.frames top w.tables w.deepest m.count h.walking f field h.rests h.here e
+
+  -- or it holds, after these reads; the walk began before it
+  module _ (own : own_failure w.checks m.bytes w.schema.now (top.table).at field ≡ None) {q : ℕ} (count : q ≡ m.count + own_reads m.bytes (top.table).at field) (cheap : AreAllowed (w.limits).reads q)
+      {began : Metered} {first : Frame} (falls : m.count + frame_work w.schema.now top ≤ began.count + frame_work w.schema.now first) (grows : began.count ≤ q) (bytes : m.bytes ≡ began.bytes) where
+    -- it leads on
+    pub next_leads : (row : Row) → IsRow m.bytes w.schema.now row × (0 < row.left) → entries m.bytes w.schema.now (top.table).at field ≡ words_of m.bytes w.schema.now row
+        → PassesFields w began (record { bytes = m.bytes; count = q }) under first (record { table = top.table; next = top.next + 1; number = field.number; row = row }) (Ok true)
+    next_leads row good leads = record {
+      walking = field_passed w.checks m.bytes w.schema.now w.limits under.start under.frames top w.tables w.deepest m.count h.walking field row field.number q h.rests h.here count good.0 cheap refl own leads;
+      leads = λ _. good.1;
+      rests = λ e. absurd cc;
+      all = λ e. absurd cc;
+      falls = omega (arith, falls, field_work w.checks m.bytes w.schema.now w.limits under.start under.frames top w.tables w.deepest m.count h.walking field row field.number q h.rests h.here count good.0);
+      grows = grows;
+      bytes = bytes;
+      err = tt;
+    }
+
+    -- it leads on nowhere
+    pub next_over : top.table ≡ first.table → entries m.bytes w.schema.now (top.table).at field ≡ [] → HasPassed w began (record { bytes = m.bytes; count = q }) under first (record top { next = top.next + 1 })
+    next_over table none = record {
+      between = record {
+        walking =
+            field_skipped w.checks m.bytes w.schema.now w.limits under.start under.frames top w.tables w.deepest m.count h.walking field blank.row field.number q h.rests h.here count (no_row w.checks m.bytes w.schema.now) cheap refl own
+            (none ∙ sym (row_none m.bytes w.schema.now blank.row refl));
+        rests = h.rests;
+      };
+      table = table;
+      falls = omega (arith, falls, skip_work w.checks m.bytes w.schema.now w.limits under.start under.frames top w.tables w.deepest m.count h.walking field blank.row field.number q h.rests h.here count (no_row w.checks m.bytes w.schema.now));
+      grows = grows;
+      bytes = bytes;
+    }

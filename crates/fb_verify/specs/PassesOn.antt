@@ -1,0 +1,61 @@
+-- What it takes to pass fields of the top of a walk, and what that leaves.
+use Rattle.std.specs.Prelude.{◌≡◌, ℕ, ◌+◌, ◌-◌, ◌*◌, ◌<◌, ◌≤◌, Bool, true, false, Result, IfOk, IfErr, length}
+use Rattle.fb_schema.specs.Rows.{Rows}
+use Rattle.fb_schema.specs.Live.{live_fields}
+use Rattle.fb_bytes.specs.Word.{Metered}
+use Rattle.fb_verify.specs.declared.fault.Reason.{Reason}
+use Rattle.fb_verify.specs.declared.scratch.Frame.{Frame}
+use Rattle.fb_verify.specs.declared.site.Stop.{Stop}
+use Rattle.fb_verify.specs.declared.stack.Walk.{Walk}
+use Rattle.fb_verify.specs.Bounds.{AreAllowed}
+use Rattle.fb_verify.specs.Told.{stopped}
+use Rattle.fb_verify.specs.Stack.{Waiting, frame_work, IsWalking, IsAtField, IsStopped}
+use Rattle.fb_verify.specs.StopsAt.{IsStopAt}
+
+-- a walk between two fields of the top
+pub record IsBetween (w : Walk) (m : Metered) (under : Waiting) (top : Frame) : Type 0 where
+  pub walking : IsWalking w m under.start under.frames top
+  pub rests : (top.row).left ≡ 0
+
+-- the fields of the frame's table that aren't passed
+abbrev pub fields_left : Rows → Frame → ℕ
+fields_left S fr = length (live_fields S (fr.table).object) - fr.next
+
+-- the budget allows whatever these cost, six reads each
+abbrev pub HasRoom : Walk → Metered → Frame → Type 0
+HasRoom w m top = AreAllowed (w.limits).reads (m.count + 6 * fields_left w.schema.now top)
+
+-- fields of the top were passed that lead on nowhere, and the walk is between two fields again
+pub record HasPassed (w : Walk) (m new : Metered) (under : Waiting) (top past : Frame) : Type 0 where
+  pub between : IsBetween w new under past
+  pub table : past.table ≡ top.table
+  pub falls : new.count + frame_work w.schema.now past ≤ m.count + frame_work w.schema.now top
+  pub grows : m.count ≤ new.count
+  pub bytes : new.bytes ≡ m.bytes
+
+-- fields of the top that lead to no table were passed, for six reads each at most, until one was there that may lead to
+-- a table, at this place, or none was left (more tells which); or the next one fails, at this place, for this reason
+pub record PassesOn (w : Walk) (m new : Metered) (under : Waiting) (top past : Frame) (place : ℕ) (result : Result Bool Reason) : Type 0 where
+  pub walking : IfOk result (λ more. more ≡ false → IsWalking w new under.start under.frames past)
+  pub field : IfOk result (λ more. more ≡ true → IsAtField w new.bytes new.count under.start under.frames past place)
+  pub same : past ≡ record top { next = past.next }
+  pub forth : IfOk result (λ _. top.next ≤ past.next)
+  pub within : IfOk result (λ _. past.next ≤ length (live_fields w.schema.now (top.table).object))
+  pub all : IfOk result (λ more. more ≡ false → length (live_fields w.schema.now (top.table).object) ≤ past.next)
+  pub ends : IfOk result (λ more. more ≡ false → new.count + 6 * fields_left w.schema.now past ≤ m.count + 6 * fields_left w.schema.now top)
+  pub paid : IfOk result (λ _. new.count + 6 * fields_left w.schema.now past ≤ m.count + 6 * fields_left w.schema.now top + 1)
+  pub grows : m.count ≤ new.count
+  pub bytes : new.bytes ≡ m.bytes
+  pub next : IfErr result (λ _. past.next < length (live_fields w.schema.now (top.table).object))
+  pub err : IfErr result (λ reason. (s : Stop) → IsStopAt w.schema.now past place reason s → IsStopped w m under.start under.frames (stopped s new.count))
+
+-- fields of the top were passed until one leads on, or none was left (more tells which); or the walk stops at one
+pub record PassesFields (w : Walk) (m new : Metered) (under : Waiting) (top past : Frame) (result : Result Bool Stop) : Type 0 where
+  pub walking : IfOk result (λ _. IsWalking w new under.start under.frames past)
+  pub leads : IfOk result (λ more. more ≡ true → 0 < (past.row).left)
+  pub rests : IfOk result (λ more. more ≡ false → (past.row).left ≡ 0)
+  pub all : IfOk result (λ more. more ≡ false → length (live_fields w.schema.now (past.table).object) ≤ past.next)
+  pub falls : IfOk result (λ _. new.count + frame_work w.schema.now past ≤ m.count + frame_work w.schema.now top)
+  pub grows : IfOk result (λ _. m.count ≤ new.count)
+  pub bytes : new.bytes ≡ m.bytes
+  pub err : IfErr result (λ s. IsStopped w m under.start under.frames (stopped s new.count))
