@@ -41,7 +41,7 @@ use Rattle.fb_verify.proofs.Plains.{LeadsTo, step_at, comes, after_twice}
 use Rattle.fb_verify.proofs.Refusals.{told_after, told_first}
 use Rattle.fb_verify.proofs.Standings.{at_rest, pass_more, pass_leaf, stop_at_element}
 use Rattle.fb_verify.proofs.Stopping.{field_stops, stops_in_field}
-use Rattle.fb_verify.proofs.Walking.{field_skipped}
+use Rattle.fb_verify.proofs.Walking.{goes_on, field_skipped}
 use Rattle.fb_verify.proofs.Words.{row_none}
 
 -- a failure that a test tells is told after the reads before it
@@ -96,17 +96,7 @@ module _ (c : Checks) (b : List ℕ) (S : Rows) (L : Bounds) (s : Origin) (below
   pub plain_passed : (q : ℕ) → q ≡ r + plain_reads b t (step_of f) → AreAllowed L.reads q → plain_failure c b t (step_of f) ≡ None → IsUnderWay c b S L s below top_over n d q
   plain_passed q z cheap ok = elim (comes c b S t f plain) [
     | inl to ↦ field_skipped c b S L s below top n d r h f blank.row top.number q rests here (z ∙ ap (λ m. r + m) to.reads) (no_row c b S) cheap refl (sym to.chain ∙ ok) (to.none ∙ sym (row_none b S blank.row refl))
-    | inr x ↦ record {
-      served = h.served;
-      tables = h.tables;
-      deepest = h.deepest;
-      reads = cheap;
-      links = h.links;
-      low = h.low;
-      frames = h.frames;
-      frame = frame_next c b S top (field_within _ _ _ here) h.frame;
-      standing = string_passed x.0 x.1 q z ok;
-    }
+    | inr x ↦ goes_on c b S L s below top n d r h top_over q cheap (frame_next c b S top (field_within _ _ _ here) h.frame) (string_passed x.0 x.1 q z ok)
   ]
 
   -- Where it fails.

@@ -17,7 +17,7 @@ use Rattle.fb_verify.specs.Cost.{head_reads, own_reads, lead_reads}
 use Rattle.fb_verify.specs.Order.{head_failure, own_failure, element_failure}
 use Rattle.fb_verify.specs.Told.{IsHead}
 use Rattle.fb_verify.specs.OffsetRows.{words_of, first_word, past_first, IsLeafLead, IsRow}
-use Rattle.fb_verify.specs.Stack.{IsFrame, frame_work, work, opened, Origin, IsUnderWay}
+use Rattle.fb_verify.specs.Stack.{IsFrame, frame_work, work, opened, Origin, IsUnderWay, Standing}
 use Rattle.fb_verify.proofs.Frames.{first_few, head_few, own_few, field_within, frame_on, frame_passed, frame_next, frame_opened, work_opened}
 use Rattle.fb_verify.proofs.Standings.{pass_leaf, pass_more, pass_over, open_more, close_more}
 
@@ -33,6 +33,10 @@ module _ (c : Checks) (b : List ℕ) (S : Rows) (L : Bounds) (s : Origin) (below
   -- the top, past a field that leads nowhere
   abbrev top_over : Frame
   top_over = record { table = top.table; next = top.next + 1; number = top.number; row = top.row }
+
+  -- the walk goes on with this frame for the top, after so many reads
+  pub goes_on : (next : Frame) (q : ℕ) → AreAllowed L.reads q → IsFrame c b S next → Standing c b S s below next n d q → IsUnderWay c b S L s below next n d q
+  goes_on next q cheap frame standing = record { served = h.served; tables = h.tables; deepest = h.deepest; reads = cheap; links = h.links; low = h.low; frames = h.frames; frame = frame; standing = standing }
 
   -- what is left to the top is bounded
   pub top_few : frame_work S top < 2 ^ 49
@@ -60,17 +64,7 @@ module _ (c : Checks) (b : List ℕ) (S : Rows) (L : Bounds) (s : Origin) (below
 
     -- an offset word that leads to no table is passed
     pub leaf_passed : IsLeafLead (first_word b S top.row).lead → AreAllowed L.reads q → IsUnderWay c b S L s below (top_on row) n d q
-    leaf_passed k cheap = record {
-      served = h.served;
-      tables = h.tables;
-      deepest = h.deepest;
-      reads = cheap;
-      links = h.links;
-      low = h.low;
-      frames = h.frames;
-      frame = frame_on c b S top row re l h.frame;
-      standing = pass_leaf c b S L s below top n d r h.standing row q re l o k z;
-    }
+    leaf_passed k cheap = goes_on (top_on row) q cheap (frame_on c b S top row re l h.frame) (pass_leaf c b S L s below top n d r h.standing row q re l o k z)
 
     pub leaf_work : q + work S L below (top_on row) n < r + work S L below top n
     unfolding work
@@ -108,34 +102,14 @@ module _ (c : Checks) (b : List ℕ) (S : Rows) (L : Bounds) (s : Origin) (below
   module _ (field : Live) (row : Row) (number q : ℕ) (l : (top.row).left ≡ 0) (i : slice_get (live_fields S (top.table).object) top.next ≡ Some field) (z : q ≡ r + own_reads b (top.table).at field) (good : IsRow b S row) where
     -- a field is passed
     pub field_passed : AreAllowed L.reads q → number ≡ field.number → own_failure c b S (top.table).at field ≡ None → entries b S (top.table).at field ≡ words_of b S row → IsUnderWay c b S L s below (top_past number row) n d q
-    field_passed cheap ne o e = record {
-      served = h.served;
-      tables = h.tables;
-      deepest = h.deepest;
-      reads = cheap;
-      links = h.links;
-      low = h.low;
-      frames = h.frames;
-      frame = frame_passed c b S top number row (field_within _ _ _ i) good h.frame;
-      standing = pass_more c b S L s below top n d r h.standing field row number q l i ne o e z;
-    }
+    field_passed cheap ne o e = goes_on (top_past number row) q cheap (frame_passed c b S top number row (field_within _ _ _ i) good h.frame) (pass_more c b S L s below top n d r h.standing field row number q l i ne o e z)
 
     pub field_work : q + frame_work S (top_past number row) ≤ r + frame_work S top
     field_work = omega (arith, field_within (live_fields S (top.table).object) top.next field i, good.left, own_few b (top.table).at field, z)
 
     -- a field that leads nowhere is passed
     pub field_skipped : AreAllowed L.reads q → row.left ≡ 0 → own_failure c b S (top.table).at field ≡ None → entries b S (top.table).at field ≡ words_of b S row → IsUnderWay c b S L s below top_over n d q
-    field_skipped cheap none o e = record {
-      served = h.served;
-      tables = h.tables;
-      deepest = h.deepest;
-      reads = cheap;
-      links = h.links;
-      low = h.low;
-      frames = h.frames;
-      frame = frame_next c b S top (field_within _ _ _ i) h.frame;
-      standing = pass_over c b S L s below top n d r h.standing field row q l i none o e z;
-    }
+    field_skipped cheap none o e = goes_on top_over q cheap (frame_next c b S top (field_within _ _ _ i) h.frame) (pass_over c b S L s below top n d r h.standing field row q l i none o e z)
 
     pub skip_work : q + frame_work S top_over ≤ r + frame_work S top
     skip_work = omega (arith, field_within (live_fields S (top.table).object) top.next field i, own_few b (top.table).at field, z)
