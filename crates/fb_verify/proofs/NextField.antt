@@ -4,6 +4,7 @@ use Rattle.std.specs.Prelude.{slice_get}
 use Rattle.std.specs.Result.{IsErrAnd}
 use Rattle.fb_bytes.specs.Word.{Metered}
 use Rattle.fb_schema.specs.Live.{Live, live_fields}
+use Rattle.fb_schema.specs.Served.{KindHolds}
 use Rattle.fb_verify.specs.declared.fault.Fault.{Fault}
 use Rattle.fb_verify.specs.declared.offset_row.Row.{Row}
 use Rattle.fb_verify.specs.declared.scratch.Frame.{Frame}
@@ -35,6 +36,9 @@ pub record AtNext (w : Walk) (m : Metered) (under : Waiting) (top : Frame) (fiel
   pub here : slice_get (live_fields w.schema.now (top.table).object) top.next ≡ Some field
 
 module _ {w : Walk} {m : Metered} {under : Waiting} {top : Frame} {field : Live} (h : AtNext w m under top field) where
+  pub kind_holds : KindHolds w.schema.now field field.kind
+  kind_holds = ((h.walking).served).kinds (top.table).object top.next field h.here
+
   pub types_checked : IsTyped m.bytes (top.table).at field.slot field.kind
   types_checked = next_typed w.checks m.bytes w.schema.now w.limits under.start under.frames top w.tables w.deepest m.count (h.walking).standing field (h.walking).served h.rests h.here
 

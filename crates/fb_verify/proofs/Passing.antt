@@ -1,6 +1,6 @@
 -- A walk goes on past fields that lead to no table, or stops at one.
-use Rattle.std.proofs.Common.{◌≡◌, ℕ, ◌+◌, ◌-◌, ◌^◌, ◌<◌, ◌≤◌, inl, inr, Bool, true, false, IsTrue, IfSome, if◌then◌else◌, List, [], ◌∷◌, map, length, refl, sym, ◌∙◌, ap, subst, arith, Option, Some, None}
-use Rattle.std.specs.Prelude.{slice_get}
+use Rattle.std.proofs.Common.{◌≡◌, ℕ, ◌+◌, ◌-◌, ◌^◌, ◌<◌, ◌≤◌, inl, inr, Bool, true, false, IsTrue, IfSome, if◌then◌else◌, List, [], ◌∷◌, map, length, refl, sym, ◌∙◌, ap, subst, arith, Option, Some, None, Ok}
+use Rattle.std.specs.Prelude.{◌*◌, slice_get}
 use Rattle.std.proofs.lemmas.List.{length-map}
 use Rattle.fb_bytes.specs.Word.{Metered}
 use Rattle.fb_schema.specs.declared.views.Act.TheVariants.{Other}
@@ -30,6 +30,7 @@ use Rattle.fb_verify.specs.OffsetRows.{words_of, first_word, past_first}
 use Rattle.fb_verify.specs.Plain.{tested_by, plain_failure, plain_reads}
 use Rattle.fb_verify.specs.Stack.{blank, frame_link, link_behind, own_link, Origin, Waiting, IsUnderWay, IsWalking, IsAtField, IsStopped, Standing, StopsIn}
 use Rattle.fb_verify.specs.StopsAt.{IsStopAt}
+use Rattle.fb_verify.specs.PassesOn.{fields_left, PassesOn}
 use Rattle.fb_verify.specs.Stops.{reads_failure, lead_reads_failure}
 use Rattle.fb_verify.specs.Links.{element_of, type_of, field_link}
 use Rattle.fb_verify.specs.Told.{refused, stopped}
@@ -245,3 +246,22 @@ reads_told (Some e) = e.reads
 pub told_grows : {at k new : ℕ} {reason : Reason} (x : Option Failure) → tested_by at new (Some reason) ≡ after k x → k ≤ new
 told_grows None h = absurd cc
 told_grows {at} {k} {new} (Some e) h = omega (arith, ap reads_told h)
+
+-- no field was left that may lead to a table
+pub none_left : {w : Walk} {m new : Metered} {under : Waiting} {top past : Frame} {place : ℕ} → past ≡ record top { next = past.next } → IsWalking w new under.start under.frames past → top.next ≤ past.next
+    → past.next ≤ length (live_fields w.schema.now (top.table).object) → length (live_fields w.schema.now (top.table).object) ≤ past.next → new.count + 6 * fields_left w.schema.now past ≤ m.count + 6 * fields_left w.schema.now top
+    → m.count ≤ new.count → new.bytes ≡ m.bytes → PassesOn w m new under top past place (Ok false)
+none_left same walking forth within all ends grows bytes = record {
+  walking = λ _. walking;
+  field = λ e. absurd cc;
+  same = same;
+  forth = forth;
+  within = within;
+  all = λ _. all;
+  ends = λ _. ends;
+  paid = omega arith;
+  grows = grows;
+  bytes = bytes;
+  next = tt;
+  err = tt;
+}

@@ -4,7 +4,7 @@ use Rattle.fb_verify.specs.Places.{vtable_size}
 use Rattle.fb_verify.specs.PassesOn.{PassesFields}
 use Rattle.fb_verify.proofs.Absent.{others_absent}
 use Rattle.fb_verify.proofs.Frames.{item_some, field_at, length_map}
-use Rattle.fb_verify.proofs.NextField.{err_exit, AtNext, types_checked, next_stops, next_leads, next_over}
+use Rattle.fb_verify.proofs.NextField.{err_exit, AtNext, kind_holds, types_checked, next_stops, next_leads, next_over}
 use Rattle.fb_verify.proofs.stack.Walk.pass_each.Goals as goal
 use Rattle.fb_verify.proofs.stack.Walk.pass_each.Goals.{In-Some}
 
@@ -19,9 +19,7 @@ here g c =
     }
 
 pub pass_field-requires-clause-kind : goal.pass_field-requires-clause-kind
-pass_field-requires-clause-kind g c =
-    let h = here g (goal.at.pass_field-requires-clause-kind g c).In-Some in
-    ((h.walking).served).kinds _ _ _ h.here
+pass_field-requires-clause-kind g c = kind_holds (here g (goal.at.pass_field-requires-clause-kind g c).In-Some)
 
 pub pass_field-requires-clause-typed : goal.pass_field-requires-clause-typed
 pass_field-requires-clause-typed g c = types_checked (here g (goal.at.pass_field-requires-clause-typed g c).In-Some)

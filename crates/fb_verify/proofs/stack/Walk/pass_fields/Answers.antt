@@ -7,7 +7,7 @@ use Rattle.fb_verify.specs.Stack.{frame_work, IsAtField}
 use Rattle.fb_verify.proofs.Budgets.{fewer_reads}
 use Rattle.fb_verify.proofs.Frames.{item_some, item_none, field_at, length_map, own_few}
 use Rattle.fb_verify.proofs.Passing.{own_least}
-use Rattle.fb_verify.proofs.NextField.{err_exit, AtNext, types_checked, next_stops, next_leads, next_over}
+use Rattle.fb_verify.proofs.NextField.{err_exit, AtNext, kind_holds, types_checked, next_stops, next_leads, next_over}
 use Rattle.fb_verify.proofs.stack.Walk.pass_fields.Goals as goal
 use Rattle.fb_verify.proofs.stack.Walk.pass_fields.Goals.{After-get, In-Some}
 
@@ -63,9 +63,7 @@ least g c =
     omega (arith, ((c.loop-reason.invariant).passed).grows, p.grows, own_least c.pass_on.new.meter.bytes (c.pass_on.new.top.table).at (live_of_view c.in-Some.field.now) (o.present _ h.here).1)
 
 pub pass_present-requires-clause-kind : goal.pass_present-requires-clause-kind
-pass_present-requires-clause-kind g c =
-    let h = here g (goal.at.pass_present-requires-clause-kind g c).In-Some in
-    ((h.walking).served).kinds _ _ _ h.here
+pass_present-requires-clause-kind g c = kind_holds (here g (goal.at.pass_present-requires-clause-kind g c).In-Some)
 
 pub pass_present-requires-clause-typed : goal.pass_present-requires-clause-typed
 pass_present-requires-clause-typed g c = types_checked (here g (goal.at.pass_present-requires-clause-typed g c).In-Some)

@@ -13,7 +13,7 @@ use Rattle.fb_verify.specs.PassesOn.{fields_left}
 use Rattle.fb_verify.proofs.Budgets.{fewer_reads}
 use Rattle.fb_verify.proofs.Frames.{item_some, item_none, slot_few}
 use Rattle.fb_verify.proofs.Plains.{is_step, plain_few, plain_told, plain_counted, place_near}
-use Rattle.fb_verify.proofs.Passing.{AtStep, long, next_within, rest_passed, step_passed, step_stops, at_field, told_grows}
+use Rattle.fb_verify.proofs.Passing.{AtStep, none_left, long, next_within, rest_passed, step_passed, step_stops, at_field, told_grows}
 use Rattle.fb_verify.proofs.stack.Walk.pass_plain.Goals as goal
 use Rattle.fb_verify.proofs.stack.Walk.pass_plain.Goals.{In-Some, After-test_at-failed}
 
@@ -33,20 +33,7 @@ returns-then-others_are_absent-clause-passes g c =
     let ends = c.if-others_are_absent.true in
     let all = long s in
     let past : vtable_size c.loop-step.reads.bytes (c.args.top.now.table).at < (c.in-Some.step.now).slot + 2 = omega (arith, c.others_are_absent.ensures.past ends, (((((i.between).walking).frame).head).vtable).size) in
-    rw i.same (record {
-      walking = λ _. rest_passed s past (c.others_are_absent.ensures.free ends);
-      field = λ e. absurd cc;
-      same = refl;
-      forth = omega (arith, i.forth, all, next_within s);
-      within = omega (arith, all);
-      all = λ _. omega (arith, all);
-      ends = λ _. omega (arith, i.paid, all, i.before);
-      paid = omega (arith, i.paid, all, i.before);
-      grows = omega (arith, i.grows, i.before);
-      bytes = i.bytes;
-      next = tt;
-      err = tt;
-    })
+    rw i.same (none_left refl (rest_passed s past (c.others_are_absent.ensures.free ends)) (omega (arith, i.forth, all, next_within s)) (omega (arith, all)) (omega (arith, all)) (omega (arith, i.paid, all, i.before)) (omega (arith, i.grows, i.before)) i.bytes)
 
 pub test_at-failed-requires-clause-step : goal.test_at-failed-requires-clause-step
 test_at-failed-requires-clause-step g c =
@@ -127,20 +114,7 @@ returns-clause-passes g c =
     let i = c.loop-step.invariant in
     let past = item_none _ _ _ c.get.ensures.lookup c.in_default.is in
     let long = ap length c.steps_of-steps.ensures.value ∙ length-map (live_fields c.args.self.now.schema.now (c.args.top.now.table).object) step_of in
-    rw i.same (record {
-      walking = λ _. (i.between).walking;
-      field = λ e. absurd cc;
-      same = refl;
-      forth = i.forth;
-      within = ((((i.between).walking).frame).next);
-      all = λ _. omega (arith, past, long);
-      ends = λ _. omega (arith, i.paid, i.before);
-      paid = omega (arith, i.paid, i.before);
-      grows = omega (arith, i.grows, i.before);
-      bytes = i.bytes;
-      next = tt;
-      err = tt;
-    })
+    rw i.same (none_left refl (i.between).walking i.forth (((i.between).walking).frame).next (omega (arith, past, long)) (omega (arith, i.paid, i.before)) (omega (arith, i.grows, i.before)) i.bytes)
 
 pub loop-step-preserved : goal.loop-step-preserved
 loop-step-preserved g c =
