@@ -245,29 +245,6 @@ impl<A: Allocator> Carried<A> {
                 return Ok(message.len());
             }
         }
-        self.feed_some(checker, rest)
-    }
-
-    /// Feeds the framer bytes from the front of the rest of a piece, up to the end of a message, and adds what is told
-    /// of it. Answers how many bytes that were.
-    fn feed_some(&mut self, checker: &Checker<'_, '_>, rest: &[u8]) -> Result<usize, RunFault>
-        requires rest { 0 < length rest.now }
-        requires ready { IsReady checker.now self.old.framer self.old.room }
-        requires few { self.old.output.counter.yes + self.old.output.counter.no < 2 ^ 63 }
-
-        ensures some { IfOk result (λ used. 0 < used) }
-        ensures within { IfOk result (λ used. used ≤ length rest.now) }
-        ensures onward { IfOk result (λ used. Onward checker.now (standing self.old) (take used rest.now) (standing self.new)) }
-        ensures ready { OnOk result (IsReady checker.now self.new.framer self.new.room) }
-        ensures few { OnOk result (self.new.output.counter.yes + self.new.output.counter.no
-            ≤ self.old.output.counter.yes + self.old.output.counter.no + 1) }
-
-        ensures halts { IfErr result (Halts checker.now (standing self.old) rest.now (waiting self.new.output) self.new.output.counter) }
-        ensures kind { IfErr result (λ fault. IsFeedFault fault) }
-
-        ensures written { self.new.output.out.written ≡ self.old.output.out.written }
-        ensures noted { self.new.output.notes.written ≡ self.old.output.notes.written }
-    {
         let taken = self.framer.feed(rest)?;
         let Some(message) = self.framer.message() else {
             return Ok(taken.used);
