@@ -9,7 +9,7 @@ use std::alloc::{AllocError, Global};
 const VERSION: &str = "1";
 
 /// The same, and by which toolchain all of it is proved and built.
-const LONG_VERSION: &str = "1\nproved with rattle-kit-13b logic dac8208d650f15bf";
+const LONG_VERSION: &str = "1\nproved with rattle-kit-13f logic dac8208d650f15bf";
 
 fn text_arg<'a>(alloc: Global, name: &'a str, value: &'a str, help: &'a str) -> Arg<'a>
     ensures rule { rule_of result ≡ text_rule name.entry.now }
