@@ -3,6 +3,7 @@
 It runs in a folder of its own, beside a command rt and tests that only print what a case says.
 """
 
+import re
 import shutil
 import subprocess
 
@@ -66,6 +67,14 @@ def counts_are_added(cases):
         got, out, _ = called(top)
         cases.same(name, (got, out[-1]), (status, want))
         cases.holds(f"{name}: the output of rt ci is shown", "== rt ci" in out, out)
+
+
+def the_time_is_told(cases):
+    top = folder_of("time", {"rt": f"sleep 1\n{tells(1, 0)}", "nproc": "echo 2"})
+    write(top / "tests" / "test_0.py", tells(1, 0))
+    told = [re.fullmatch(r"== (.*) ended after 0 min (\d+) s \(2 cores\)", line) for line in called(top)[1]]
+    told = [(line[1], int(line[2]) >= 1) for line in told if line]
+    cases.same("that of the proofs, and of all", told, [("rt ci", True), ("the last test", True)])
 
 
 def checks_stand_side_by_side(cases):
@@ -158,6 +167,7 @@ def other_words_are_refused(cases):
 
 if __name__ == "__main__":
     outside.main(
-        counts_are_added, checks_stand_side_by_side, tests_stand_side_by_side, the_library_comes_before_its_tests,
-        the_library_is_made_of_what_was_proved, what_is_missing_is_named, from_outside_alone, other_words_are_refused,
+        counts_are_added, the_time_is_told, checks_stand_side_by_side, tests_stand_side_by_side,
+        the_library_comes_before_its_tests, the_library_is_made_of_what_was_proved, what_is_missing_is_named,
+        from_outside_alone, other_words_are_refused,
     )
