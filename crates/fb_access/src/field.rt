@@ -6,7 +6,6 @@ ghost use Rattle.fb_schema.specs.Rows.{is_table};
 ghost use Rattle.fb_schema.specs.Live.{live_of_view};
 ghost use Rattle.fb_verify.specs.Places.{target, vtable, field_place};
 ghost use Rattle.fb_verify.specs.Fields.{type_place, union_type, types_begin};
-ghost use Rattle.fb_verify.specs.OffsetRows.{TypeFits, TypesFit};
 ghost use Rattle.fb_access.specs.Fitting.{numbered};
 ghost use Rattle.fb_access.specs.Spots.{present_spot, absent_spot, default_spot, field_spot};
 ghost use Rattle.fb_access.specs.Held.{HasVtable, IsReadable};
@@ -79,27 +78,25 @@ fn type_place(window: &Window<'_>, at: u64, slot: u16) -> Option<u64>
     place_of(window, at, slot - 2)
 }
 
-/// The type of the union with this slot, 0 where its type field is absent.
-fn type_of(window: &Window<'_>, at: u64, slot: u16) -> u8
-    requires short { length window.now < 2 ^ 31 }
-    requires table { HasVtable window.now at }
-    requires typed { TypeFits window.now at slot }
-    ensures { result ≡ union_type window.now (type_place window.now at slot) }
+/// The type of a union whose type field stands at this place, 0 where that is absent.
+fn type_at(window: &Window<'_>, place: Option<u64>) -> u8
+    requires within { IfSome place (λ q. q + 1 ≤ length window.now) }
+    ensures { result ≡ union_type window.now place }
 {
-    match type_place(window, at, slot) {
+    match place {
         None => 0,
         Some(place) => window.u8_at(place),
     }
 }
 
-/// Where the types begin of the vector of unions with this slot, 0 where their field is absent.
-fn types_of(window: &Window<'_>, at: u64, slot: u16) -> u64
+/// Where the types begin to which the type field at this place leads, 0 where that is absent.
+fn types_at(window: &Window<'_>, place: Option<u64>) -> u64
     requires short { length window.now < 2 ^ 31 }
-    requires table { HasVtable window.now at }
-    requires typed { TypesFit window.now at slot }
-    ensures { result ≡ types_begin window.now (type_place window.now at slot) }
+    requires offset { IfSome place (λ q. q + 4 ≤ length window.now) }
+    requires count { IfSome place (λ q. target window.now q + 4 ≤ length window.now) }
+    ensures { result ≡ types_begin window.now place }
 {
-    match type_place(window, at, slot) {
+    match place {
         None => 0,
         Some(place) => target_of(window, place) + 4,
     }
@@ -138,7 +135,10 @@ fn present(window: &Window<'_>, at: u64, slot: u16, place: u64, kind: Kind) -> S
     match kind {
         Kind::Scalar(scalar) => Spot::AtInline(scalar, place),
         Kind::Struct(object) => Spot::AtStruct(object, place),
-        Kind::Union(union) => Spot::AtUnion(union, type_of(window, at, slot), place),
+        Kind::Union(union) => {
+            let type_byte = type_at(window, type_place(window, at, slot));
+            Spot::AtUnion(union, type_byte, place)
+        }
         Kind::Text => Spot::AtText(target_of(window, place)),
         Kind::Table(object) => Spot::AtTable(object, target_of(window, place)),
         Kind::Scalars(scalar) => Spot::AtScalars(scalar, target_of(window, place)),
@@ -146,7 +146,7 @@ fn present(window: &Window<'_>, at: u64, slot: u16, place: u64, kind: Kind) -> S
         Kind::Texts => Spot::AtTexts(target_of(window, place)),
         Kind::Tables(object) => Spot::AtTables(object, target_of(window, place)),
         Kind::Unions(union) => {
-            let types = types_of(window, at, slot);
+            let types = types_at(window, type_place(window, at, slot));
             Spot::AtUnions(union, types, target_of(window, place))
         }
     }
