@@ -1,10 +1,10 @@
 // Where a fault is, in words.
 
-ghost use Rattle.std.specs.Prelude.{◌≡◌, ◌++◌, [], slice_get, codes, option_map, OnOk};
+ghost use Rattle.std.specs.Prelude.{◌≡◌, ◌++◌, [], slice_get, codes, option_map, option_and_then, OnOk};
 ghost use Rattle.std.specs.List.{flat_map};
 ghost use Rattle.fb_schema.specs.Live.{live_of_view};
 ghost use Rattle.fb_access.specs.Fitting.{numbered};
-ghost use Rattle.fb_access.specs.Location.{name_byte, name_text, named, field_name, link_member, element_text, link_text, path_text, owner_text, location_text};
+ghost use Rattle.fb_access.specs.Location.{name_byte, name_text, named, field_name, link_member, element_text, link_text, path_text, location_text};
 
 use crate::field::field_numbered;
 use fb_schema::{FieldView, Kind, Schema};
@@ -31,7 +31,8 @@ pub fn put_location<A: Allocator>(
     text.extend_from_slice(b"in ")?;
     put_path(text, schema, links)?;
     text.extend_from_slice(b" [")?;
-    put_owner(text, schema, fault)?;
+    put_named(text, b"", object_name(schema, fault.object))?;
+    put_named(text, b".", field_of(schema, fault))?;
     text.extend_from_slice(b"]")
 }
 
@@ -78,21 +79,6 @@ fn put_link<A: Allocator>(
     put_named(text, b"", name_of(schema, link.object, link.field))?;
     put_element(text, link.element)?;
     put_named(text, b"@", member_of(schema, link))
-}
-
-/// Adds the table of a fault and its field.
-fn put_owner<A: Allocator>(
-    text: &mut Vec<u8, A>,
-    schema: &Schema<'_>,
-    fault: &Fault,
-) -> Result<(), AllocError>
-    ensures { OnOk result (text.new.items ≡ text.old.items ++ owner_text schema.now fault.now) }
-{
-    put_named(text, b"", object_name(schema, fault.object))?;
-    match fault.field {
-        Some(number) => put_named(text, b".", name_of(schema, fault.object, number)),
-        None => Ok(()),
-    }
 }
 
 /// Adds an element's number between brackets.
@@ -175,6 +161,13 @@ fn name_of<'n>(schema: &Schema<'n>, object: u32, number: u16) -> Option<&'n [u8]
         Some(field) => Some(field.name),
         None => None,
     }
+}
+
+/// The name of the field of a fault, where it has one.
+fn field_of<'n>(schema: &Schema<'n>, fault: &Fault) -> Option<&'n [u8]>
+    ensures { option_map (λ n. n.now) result ≡ option_and_then (field_name schema.now fault.now.object) fault.now.field }
+{
+    name_of(schema, fault.object, fault.field?)
 }
 
 /// The name of the member that a link has of its field.
