@@ -15,14 +15,14 @@ use Rattle.fb_verify.specs.declared.fault.Reason.TheVariants.{TooDeep, TooManyTa
 use Rattle.fb_verify.specs.Bounds.{Bounds, allowed}
 use Rattle.fb_verify.specs.Places.{target, field_place}
 use Rattle.fb_verify.specs.Facts.{IsTable}
-use Rattle.fb_verify.specs.Fields.{IsField, Lead, to_table, to_struct, to_string, to_nothing, Entry, entries}
+use Rattle.fb_verify.specs.Fields.{Lead, to_table, to_struct, to_string, to_nothing, Entry}
 use Rattle.fb_verify.specs.Tree.{kids_length, elements_length}
 use Rattle.fb_verify.specs.Cost.{head_reads, own_reads}
 use Rattle.fb_verify.specs.WellFormed.{base, start_reads}
 use Rattle.fb_verify.specs.Order.{Failure, check, ◌▷◌, start_failure, head_failure, own_failure, element_failure}
 use Rattle.fb_verify.specs.Way.{Way, way_to_start, way_to_root, way_to_field, way_to_element, way_to_table}
 use Rattle.fb_verify.specs.Stops.{in_start, in_head, fault_of, budget_failure, reads_failure, lead_reads_failure, fault_at, IsFalseAt, Trail, at_head, at_field, FieldTrail, at_own, at_element, ElementTrail, at_lead, through, IsTrail, IsFieldTrail, IsElementTrail}
-use Rattle.fb_verify.specs.TrueReasons.{FailsAtLimit, PrefixIsFalse, IdentIsFalse, OffsetIsFalse, HeadIsFalse, PlacedIsFalse, LeadIsFalse, IsOverBudget, LeadsOn, IsReached, as_root, from_above, FailsAtStart, LimitIsReached, FailsAtTable, StopsTruly, PresentIsFalse, opened_on, opened_on_field, opened_on_element, TablesRunOut}
+use Rattle.fb_verify.specs.TrueReasons.{FailsAtLimit, PrefixIsFalse, IdentIsFalse, OffsetIsFalse, HeadIsFalse, PlacedIsFalse, LeadIsFalse, IsOverBudget, HasEntry, LeadsOn, IsReached, as_root, from_above, FailsAtStart, LimitIsReached, FailsInHead, FailsInField, FailsInElement, FailsAtTable, StopsTruly, PresentIsFalse, opened_on, opened_on_field, opened_on_element, TablesRunOut}
 use Rattle.fb_verify.proofs.Budgets.{are_too_many}
 use Rattle.fb_verify.proofs.TrueReasons.{some_same, by_check, by_last, start_false, head_false, own_false, element_false}
 
@@ -89,22 +89,18 @@ module _ (L : Bounds) (w : Way) where
 module _ (c : Checks) (b : List ℕ) (S : Rows) (L : Bounds) where
   -- Along a trail.
   module _ (root begin : ℕ) where
+    at_reached : {k t above object : ℕ} {field : Option ℕ} {f : Fault} → IsReached c b S root begin k t above object field
+        → FailsAtLimit t above object field L f ⊎ (FailsInHead c b k t L f ⊎ (FailsInField c b S k t L f ⊎ FailsInElement c b S k t L f)) → FailsAtTable c b S root begin L f
+    at_reached {k} {t} {above} {object} {field} reached because = record { object = k; table = t; above = above; leading_object = object; leading_field = field; reached = reached; because = because }
+
     head_fails : (k t above object : ℕ) (field : Option ℕ) (w : Way) (f : Fault) → IsReached c b S root begin k t above object field → w.object ≡ object → w.field ≡ field → w.links ≡ above → IsFalseAt c b S L (in_head k t) w f → FailsAtTable c b S root begin L f
     unfolding fault_at
     head_fails k t above object field w f reached object_is field_is links h =
         let v : Way = record w { object = k; field = None } in
-        record {
-          object = k;
-          table = t;
-          above = above;
-          leading_object = object;
-          leading_field = field;
-          reached = reached;
-          because = elim (first_fault L w (budget_failure L w t) (fault_of v (head_failure c b t ▷ reads_failure L v.paid (head_reads c) t)) f h.first) [
-            | inl i ↦ (let r = limit_fault L w t f i in inl (record { object_is = r.object_is ∙ object_is; field_is = r.field_is ∙ field_is; because = subst (λ n. LimitIsReached L t n f.reason f.at) links r.because }))
-            | inr i ↦ (let r = place_fault L v (HeadIsFalse c b t) (head_failure c b t) (head_reads c) t f (head_false c b t) i in inr (inl (record { object = r.0; field = r.1; because = r.2 })))
-          ];
-        }
+        at_reached reached (elim (first_fault L w (budget_failure L w t) (fault_of v (head_failure c b t ▷ reads_failure L v.paid (head_reads c) t)) f h.first) [
+          | inl i ↦ (let r = limit_fault L w t f i in inl (record { object_is = r.object_is ∙ object_is; field_is = r.field_is ∙ field_is; because = subst (λ n. LimitIsReached L t n f.reason f.at) links r.because }))
+          | inr i ↦ (let r = place_fault L v (HeadIsFalse c b t) (head_failure c b t) (head_reads c) t f (head_false c b t) i in inr (inl (record { object = r.0; field = r.1; because = r.2 })))
+        ])
 
     mutual
       unfolding IsTrail IsFieldTrail IsElementTrail fault_at
@@ -117,47 +113,21 @@ module _ (c : Checks) (b : List ℕ) (S : Rows) (L : Bounds) where
       field_fails : (s : FieldTrail) (k t above object : ℕ) (field : Option ℕ) (i : ℕ) (g : Live) (w : Way) (f : Fault) → IsReached c b S root begin k t above object field → IsTable c b t → slice_get (live_fields S k) i ≡ Some g → w.object ≡ k → w.field ≡ Some g.number → w.links ≡ suc above → IsFieldTrail s c b S L t g w f → FailsAtTable c b S root begin L f
       field_fails at_own k t above object field i g w f reached head live object_is field_is links h =
           let r = place_fault L w (PlacedIsFalse c b t g (field_place b t g.slot)) (own_failure c b S t g) (own_reads b t g) t f (own_false c b S t g) h.first in
-          record {
-            object = k;
-            table = t;
-            above = above;
-            leading_object = object;
-            leading_field = field;
-            reached = reached;
-            because = inr (inr (inl (record { head = head; at_fault = g; place = i; is_live = live; object = r.0 ∙ object_is; field = r.1 ∙ field_is; because = r.2 })));
-          }
+          at_reached reached (inr (inr (inl (record { head = head; at_fault = g; place = i; is_live = live; object = r.0 ∙ object_is; field = r.1 ∙ field_is; because = r.2 }))))
       field_fails (at_element before s) k t above object field i g w f reached head live object_is field_is links h =
-          element_fails s k t above object field i (elements_length before) g h.0 (way_to_element c b S t g before w) f reached head live h.1.own h.1.next object_is field_is links h.2
+          let by : HasEntry c b S k t = record { head = head; field = g; place = i; is_live = live; own = h.1.own; entry = h.0; entry_place = elements_length before; is_entry = h.1.next } in
+          element_fails s k t above object field by (way_to_element c b S t g before w) f reached object_is field_is links h.2
 
-      element_fails : (s : ElementTrail) (k t above object : ℕ) (field : Option ℕ) (i j : ℕ) (g : Live) (x : Entry) (w : Way) (f : Fault) → IsReached c b S root begin k t above object field → IsTable c b t → slice_get (live_fields S k) i ≡ Some g → IsField c b S t g → slice_get (entries b S t g) j ≡ Some x
-          → w.object ≡ k → w.field ≡ Some g.number → w.links ≡ suc above → IsElementTrail s c b S L x w f → FailsAtTable c b S root begin L f
-      element_fails at_lead k t above object field i j g x w f reached head live own entry object_is field_is links h =
+      element_fails : (s : ElementTrail) (k t above object : ℕ) (field : Option ℕ) (by : HasEntry c b S k t) (w : Way) (f : Fault) → IsReached c b S root begin k t above object field → w.object ≡ k → w.field ≡ Some (by.field).number → w.links ≡ suc above
+          → IsElementTrail s c b S L by.entry w f → FailsAtTable c b S root begin L f
+      element_fails at_lead k t above object field by w f reached object_is field_is links h =
+          let x = by.entry in
           let r = lead_fault L w (LeadIsFalse c b x.place x.lead) x x.lead (element_failure c b x) f (element_false c b x) h.first in
-          record {
-            object = k;
-            table = t;
-            above = above;
-            leading_object = object;
-            leading_field = field;
-            reached = reached;
-            because = inr (inr (inr (record {
-              head = head;
-              at_fault = g;
-              place = i;
-              is_live = live;
-              own = own;
-              entry = x;
-              entry_place = j;
-              is_entry = entry;
-              object = r.0 ∙ object_is;
-              field = r.1 ∙ field_is;
-              because = r.2;
-            })));
-          }
-      element_fails (through s) k t above object field i j g x w f reached head live own entry object_is field_is links h =
-          let on : LeadsOn c b S k t h.0 (target b x.place) =
-          record { head = head; field = g; place = i; is_live = live; own = own; entry = x; entry_place = j; is_entry = entry; lead = h.1; offset = h.2; is_target = refl } in
-          trail_fails s h.0 (target b x.place) (suc above) k (Some g.number) (way_to_table x w) f (from_above k t above object field h.0 (target b x.place) reached on) object_is field_is links h.3
+          at_reached reached (inr (inr (inr (record { by = by; object = r.0 ∙ object_is; field = r.1 ∙ field_is; because = r.2 }))))
+      element_fails (through s) k t above object field by w f reached object_is field_is links h =
+          let x = by.entry in
+          let on : LeadsOn c b S k t h.0 (target b x.place) = record { by = by; lead = h.1; offset = h.2; is_target = refl } in
+          trail_fails s h.0 (target b x.place) (suc above) k (Some (by.field).number) (way_to_table x w) f (from_above k t above object field h.0 (target b x.place) reached on) object_is field_is links h.3
 
   start_fails : (root : ℕ) (start : Start) (ident : Ident) (f : Fault) → IsFalseAt c b S L (in_start start ident) (way_to_start root) f → FailsAtStart c b root start ident L f
   unfolding fault_at

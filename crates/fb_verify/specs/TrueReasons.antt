@@ -143,8 +143,8 @@ pub record IsOverBudget (L : Bounds) (p : ℕ) (f : Fault) : Type 0 where
   pub at : f.at ≡ p
   pub reads : AreTooMany L.reads f.reads
 
--- the table at t, of the object k, leads on to the table at u, of the object j
-pub record LeadsOn (c : Checks) (b : List ℕ) (S : Rows) (k t j u : ℕ) : Type 0 where
+-- an entry of a live field of the table at t, of the object k
+pub record HasEntry (c : Checks) (b : List ℕ) (S : Rows) (k t : ℕ) : Type 0 where
   pub head : IsTable c b t
   pub field : Live
   pub place : ℕ
@@ -153,15 +153,19 @@ pub record LeadsOn (c : Checks) (b : List ℕ) (S : Rows) (k t j u : ℕ) : Type
   pub entry : Entry
   pub entry_place : ℕ
   pub is_entry : slice_get (entries b S t field) entry_place ≡ Some entry
-  pub lead : entry.lead ≡ to_table j
-  pub offset : IsOffset c b entry.place
-  pub is_target : u ≡ target b entry.place
+
+-- that table leads on to the table at u, of the object j
+pub record LeadsOn (c : Checks) (b : List ℕ) (S : Rows) (k t j u : ℕ) : Type 0 where
+  pub by : HasEntry c b S k t
+  pub lead : (by.entry).lead ≡ to_table j
+  pub offset : IsOffset c b (by.entry).place
+  pub is_target : u ≡ target b (by.entry).place
 
 -- The tables to which a buffer leads from the table at `begin`, of the object `root`: each with the number of tables
 -- above it, and the object and field that lead to it, which are the root's and none for that table itself.
 pub data IsReached (c : Checks) (b : List ℕ) (S : Rows) (root begin : ℕ) : ℕ → ℕ → ℕ → ℕ → Option ℕ → Type 0 where
   as_root : IsReached c b S root begin root begin 0 root None
-  from_above : (k t above object : ℕ) (field : Option ℕ) (j u : ℕ) → IsReached c b S root begin k t above object field → (on : LeadsOn c b S k t j u) → IsReached c b S root begin j u (suc above) k (Some (on.field).number)
+  from_above : (k t above object : ℕ) (field : Option ℕ) (j u : ℕ) → IsReached c b S root begin k t above object field → (on : LeadsOn c b S k t j u) → IsReached c b S root begin j u (suc above) k (Some ((on.by).field).number)
 
 -- at the start
 pub record FailsAtStart (c : Checks) (b : List ℕ) (root : ℕ) (start : Start) (ident : Ident) (L : Bounds) (f : Fault) : Type 0 where
@@ -199,17 +203,10 @@ pub record FailsInField (c : Checks) (b : List ℕ) (S : Rows) (k t : ℕ) (L : 
 
 -- in an element of a field of that table
 pub record FailsInElement (c : Checks) (b : List ℕ) (S : Rows) (k t : ℕ) (L : Bounds) (f : Fault) : Type 0 where
-  pub head : IsTable c b t
-  pub at_fault : Live
-  pub place : ℕ
-  pub is_live : slice_get (live_fields S k) place ≡ Some at_fault
-  pub own : IsField c b S t at_fault
-  pub entry : Entry
-  pub entry_place : ℕ
-  pub is_entry : slice_get (entries b S t at_fault) entry_place ≡ Some entry
+  pub by : HasEntry c b S k t
   pub object : f.object ≡ k
-  pub field : f.field ≡ Some at_fault.number
-  pub because : LeadIsFalse c b entry.place entry.lead f.reason f.at ⊎ IsOverBudget L entry.place f
+  pub field : f.field ≡ Some (by.field).number
+  pub because : LeadIsFalse c b (by.entry).place (by.entry).lead f.reason f.at ⊎ IsOverBudget L (by.entry).place f
 
 -- at a table that is reached: before or in its head, in a field, or in an element of one
 pub record FailsAtTable (c : Checks) (b : List ℕ) (S : Rows) (root begin : ℕ) (L : Bounds) (f : Fault) : Type 0 where
