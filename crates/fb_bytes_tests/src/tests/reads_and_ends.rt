@@ -11,6 +11,12 @@ static ORC: [u8; 32] = [
     b'r', b'c', 0,
 ];
 
+/// Four bytes whose order shows in each number, and four of which a sign shows.
+static NUMBERS: [u8; 8] = [0x01, 0x02, 0x03, 0x84, 0xff, 0xff, 0xff, 0xff];
+
+/// What is read of them: the byte at 3, two from 1 on, and four from 0 on, also in two's complement.
+const OF_EACH_WIDTH: (u8, u16, u32, i32) = (0x84, 0x0302, 0x8403_0201, -2_080_177_663);
+
 /// A window that outlives its meter, over bytes that outlive both.
 fn name_of(bytes: &[u8]) -> Option<&[u8]> {
     let Ok(meter) = Meter::new(bytes) else {
@@ -74,15 +80,15 @@ impl Write for Fails {
 
 #[test]
 fn a_read_is_little_endian_and_counts_one(rt: HostRuntime) -> Result<(), Fail> {
-    let bytes = [0x01u8, 0x02, 0x03, 0x84, 0xff, 0xff, 0xff, 0xff];
-    let Ok(mut meter) = Meter::new(&bytes) else {
-        return Err(Fail::from("too long"));
-    };
+    let mut meter = Meter::new(&NUMBERS)?;
     assert_eq!(rt; meter.len(), 8);
-    assert_eq!(rt; meter.u8_at(3), 0x84);
-    assert_eq!(rt; meter.u16_at(1), 0x0302);
-    assert_eq!(rt; meter.u32_at(0), 0x8403_0201);
-    assert_eq!(rt; meter.i32_at(0), -2_080_177_663);
+    let numbers = (
+        meter.u8_at(3),
+        meter.u16_at(1),
+        meter.u32_at(0),
+        meter.i32_at(0),
+    );
+    assert_eq!(rt; numbers, OF_EACH_WIDTH);
     assert_eq!(rt; meter.i32_at(4), -1);
     assert_eq!(rt; meter.reads(), 5);
     Ok(())
@@ -90,9 +96,7 @@ fn a_read_is_little_endian_and_counts_one(rt: HostRuntime) -> Result<(), Fail> {
 
 #[test]
 fn a_range_fits_or_not_whatever_its_sum(rt: HostRuntime) -> Result<(), Fail> {
-    let Ok(meter) = Meter::new(&ORC) else {
-        return Err(Fail::from("too long"));
-    };
+    let meter = Meter::new(&ORC)?;
     for (at, n, want) in [
         (0, 32, true),
         (32, 0, true),
@@ -112,10 +116,7 @@ fn a_range_fits_or_not_whatever_its_sum(rt: HostRuntime) -> Result<(), Fail> {
 
 #[test]
 fn a_tally_reads_and_counts_on(rt: HostRuntime) -> Result<(), Fail> {
-    let bytes = [0x01u8, 0x02, 0x03, 0x84, 0xff, 0xff, 0xff, 0xff];
-    let Ok(mut meter) = Meter::new(&bytes) else {
-        return Err(Fail::from("too long"));
-    };
+    let mut meter = Meter::new(&NUMBERS)?;
     assert_eq!(rt; meter.u8_at(0), 0x01);
     let mut tally: Tally = meter.lend();
     assert_eq!(rt;
@@ -127,10 +128,13 @@ fn a_tally_reads_and_counts_on(rt: HostRuntime) -> Result<(), Fail> {
         ),
         (8, true, false, 1)
     );
-    assert_eq!(rt; tally.u8_at(3), 0x84);
-    assert_eq!(rt; tally.u16_at(1), 0x0302);
-    assert_eq!(rt; tally.u32_at(0), 0x8403_0201);
-    assert_eq!(rt; tally.i32_at(0), -2_080_177_663);
+    let numbers = (
+        tally.u8_at(3),
+        tally.u16_at(1),
+        tally.u32_at(0),
+        tally.i32_at(0),
+    );
+    assert_eq!(rt; numbers, OF_EACH_WIDTH);
     assert_eq!(rt; (tally.reads(), meter.reads()), (5, 1));
     meter.settle(tally);
     assert_eq!(rt; (meter.len(), meter.reads()), (8, 5));
@@ -141,10 +145,7 @@ fn a_tally_reads_and_counts_on(rt: HostRuntime) -> Result<(), Fail> {
 
 #[test]
 fn what_is_lent_is_read_and_settled(rt: HostRuntime) -> Result<(), Fail> {
-    let bytes = [0x01u8, 0x02, 0x03, 0x84, 0xff, 0xff, 0xff, 0xff];
-    let Ok(meter) = Meter::new(&bytes) else {
-        return Err(Fail::from("too long"));
-    };
+    let meter = Meter::new(&NUMBERS)?;
     let mut tally = meter.lend();
     assert_eq!(rt; tally.u8_at(0), 0x01);
     let mut reads = tally.lend();
@@ -154,10 +155,13 @@ fn what_is_lent_is_read_and_settled(rt: HostRuntime) -> Result<(), Fail> {
         (reads.len(), reads.fits(4, 4), reads.fits(5, 4)),
         (8, true, false)
     );
-    assert_eq!(rt; reads.u8_at(3), 0x84);
-    assert_eq!(rt; reads.u16_at(1), 0x0302);
-    assert_eq!(rt; reads.u32_at(0), 0x8403_0201);
-    assert_eq!(rt; reads.i32_at(0), -2_080_177_663);
+    let numbers = (
+        reads.u8_at(3),
+        reads.u16_at(1),
+        reads.u32_at(0),
+        reads.i32_at(0),
+    );
+    assert_eq!(rt; numbers, OF_EACH_WIDTH);
     tally.settle(reads);
     assert_eq!(rt; (tally.len(), tally.reads()), (8, 5));
     assert_eq!(rt; tally.i32_at(4), -1);
@@ -167,12 +171,8 @@ fn what_is_lent_is_read_and_settled(rt: HostRuntime) -> Result<(), Fail> {
 
 #[test]
 fn reads_are_counted_whoever_takes_them_back(rt: HostRuntime) -> Result<(), Fail> {
-    let Ok(meter) = Meter::new(&ORC) else {
-        return Err(Fail::from("too long"));
-    };
-    let Ok(other) = Meter::new(&[]) else {
-        return Err(Fail::from("too long"));
-    };
+    let meter = Meter::new(&ORC)?;
+    let other = Meter::new(&[])?;
     let mut tally = meter.lend();
     assert_eq!(rt; tally.u8_at(28), b'O');
     let mut passer = other.lend();
@@ -186,9 +186,7 @@ fn reads_are_counted_whoever_takes_them_back(rt: HostRuntime) -> Result<(), Fail
 #[test]
 fn a_window_lends_what_its_meter_read(rt: HostRuntime) -> Result<(), Fail> {
     assert_eq!(rt; name_of(&ORC), Some(b"Orc".as_slice()));
-    let Ok(meter) = Meter::new(&ORC) else {
-        return Err(Fail::from("too long"));
-    };
+    let meter = Meter::new(&ORC)?;
     let window: Window = meter.seal();
     assert_eq!(rt; window.len(), 32);
     assert_eq!(rt; window.u8_at(28), b'O');
