@@ -3,3 +3,5 @@ pub mod CommandLine
 pub mod Values
 pub mod Refusal
 pub mod Ranges
+-- what contracts inside say
+pub mod OptionTable
