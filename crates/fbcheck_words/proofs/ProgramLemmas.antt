@@ -5,14 +5,12 @@ use Rattle.std.proofs.lemmas.Slice.Eq.{bytes_eq-Decides}
 use Rattle.std.specs.List.{All, slice_index_or, list_all}
 use Rattle.std.specs.Prelude.{pos}
 use Rattle.std.specs.Str.{bytes_eq}
-use Rattle.clap.specs.Built.{IsParsedFrom}
 use Rattle.clap.specs.Facts.{args_of, least_values, unwrap_or_range}
-use Rattle.clap.specs.Simple.{App, IsSimple, app_of, is_ready, is_ready_leaf}
+use Rattle.clap.specs.Simple.{App, IsSimple, is_ready, is_ready_leaf}
 use Rattle.clap.specs.Texts.{items_of}
 use Rattle.clap.specs.Walk.{Rule, Text, rule_of}
 use Rattle.clap.specs.Words.{found_of, one_text}
 use Rattle.clap.specs.declared.builder.arg.Arg.{Arg}
-use Rattle.clap.specs.declared.builder.command.Command.{Command}
 use Rattle.clap.specs.declared.builder.range.ValueRange.{ValueRange}
 use Rattle.clap.specs.Values.{Accepts, read_as, reading_of}
 use Rattle.clap.specs.declared.builder.value_parser.ValueParser.{ValueParser}
@@ -22,6 +20,7 @@ use Rattle.clap.proofs.OnLiterals.{clap_on_literals}
 use Rattle.clap.proofs.SimpleLemmas.{ready_simple, simple_groups}
 use Rattle.clap.proofs.WalkLemmas.{both}
 use Rattle.fbcheck_words.specs.CommandLine.{program, number_rule, value_rule, wide_number_rule}
+use Rattle.fbcheck_words.specs.Matched.{IsReadOf}
 use Rattle.fbcheck_words.specs.Values.{HoldsNumber, HoldsWideNumber}
 use Rattle.fbcheck_words.proofs.DefaultLemmas.{IsDefaulted, default_reads}
 
@@ -30,13 +29,13 @@ rule_at [] k d = refl
 rule_at (x ∷ xs) zero d = refl
 rule_at (x ∷ xs) (suc k) d = rule_at xs k d
 
--- whether no rule has this id, and whether none has it but the one at k
+-- whether no rule has this id, and whether there is a rule at k and no other has it
 abbrev is_free_id : Text → List Rule → Bool
 is_free_id id [] = true
 is_free_id id (r ∷ rs) = not (bytes_eq r.id id) && is_free_id id rs
 
 abbrev is_id_of : Text → ℕ → List Rule → Bool
-is_id_of id k [] = true
+is_id_of id k [] = false
 is_id_of id zero (r ∷ rs) = is_free_id id rs
 is_id_of id (suc k) (r ∷ rs) = not (bytes_eq r.id id) && is_id_of id k rs
 
@@ -50,11 +49,37 @@ free_at id (r ∷ rs) zero e free lt same = not_both (bytes_eq r.id id) (both _ 
 free_at id (r ∷ rs) (suc j) e free lt same = free_at id rs j e (both _ _ free).1 (omega arith) same
 
 alone_at : (id : Text) (k : ℕ) (rs : List Rule) (j : ℕ) (e : Rule) → is_id_of id k rs ≡ true → j < length rs → bytes_eq (slice_index_or rs j e).id id ≡ true → j ≡ k
-alone_at id k [] j e one lt same = absurd (omega arith)
+alone_at id k [] j e one lt same = cc
 alone_at id zero (r ∷ rs) zero e one lt same = refl
 alone_at id zero (r ∷ rs) (suc j) e one lt same = absurd (free_at id rs j e one (omega arith) same)
 alone_at id (suc k) (r ∷ rs) zero e one lt same = absurd (not_both (bytes_eq r.id id) (both _ _ one).0 same)
 alone_at id (suc k) (r ∷ rs) (suc j) e one lt same = ap suc (alone_at id k rs j e (both _ _ one).1 (omega arith) same)
+
+within : (id : Text) (k : ℕ) (rs : List Rule) → is_id_of id k rs ≡ true → k < length rs
+within id k [] one = cc
+within id zero (r ∷ rs) one = omega arith
+within id (suc k) (r ∷ rs) one =
+    let rest : k < length rs = within id k rs (both _ _ one).1 in
+    omega arith
+
+-- whether no option that clap adds by itself has this name
+abbrev is_apart : Text → Bool
+is_apart name = not (bytes_eq name (codes "help")) && not (bytes_eq name (codes "version"))
+
+-- whether this name can be that of the option at place k alone
+abbrev is_own : Text → ℕ → Bool
+is_own name k = is_id_of name k program.top.rules && (not (bytes_eq name []) && is_apart name)
+
+differs : (a b : Text) → not (bytes_eq a b) ≡ true → a ≡ b → ⊥
+differs a b unequal e = not_both (bytes_eq a b) unequal ((bytes_eq-Decides a b).1 e)
+
+owned : (name : Text) (k : ℕ) → is_own name k ≡ true
+    → (is_id_of name k program.top.rules ≡ true) × (name ≡ [] → ⊥) × (name ≡ codes "help" → ⊥) × (name ≡ codes "version" → ⊥)
+owned name k own =
+    let alone = both (is_id_of name k program.top.rules) (not (bytes_eq name []) && is_apart name) own in
+    let some = both (not (bytes_eq name [])) (is_apart name) alone.1 in
+    let apart = both (not (bytes_eq name (codes "help"))) (not (bytes_eq name (codes "version"))) some.1 in
+    (alone.0, differs name [] some.0, differs name (codes "help") apart.0, differs name (codes "version") apart.1)
 
 ready : is_ready program.top ≡ true
 unfolding clap_on_literals
@@ -72,21 +97,24 @@ abbrev Holds : Option Text → ValueParser → Type 0
 Holds found q = (ignore_case : Bool) × (t : Text) × (found ≡ Some (read_as (reading_of q) t)) × Accepts ignore_case q t
 
 -- the option at place k of the program, of which the rule has this parser and a default
-holds_value : (c : Command) (m : ArgMatches) → app_of c ≡ program → IsParsedFrom c m → (k : ℕ) (q : ValueParser) (name default : Text) → k < 15
-    → ((d : Rule) → slice_index_or program.top.rules k d ≡ value_rule name q default) → is_id_of name k program.top.rules ≡ true
-    → (name ≡ [] → ⊥) → (name ≡ codes "help" → ⊥) → (name ≡ codes "version" → ⊥)
+holds_value : (words : List Text) (m : ArgMatches) → IsReadOf words m → (k : ℕ) (q : ValueParser) (name default : Text)
+    → ((d : Rule) → slice_index_or program.top.rules k d ≡ value_rule name q default) → is_own name k ≡ true
     → Holds (one_text (found_of m) name) q
-holds_value c m is p k q name default lt at alone named help version =
-    let rules : map rule_of (args_of c) ≡ program.top.rules = ap (λ (a : App). a.top.rules) is in
+holds_value words m read k q name default at own =
+    let c = read.command in
+    let p = read.parsed in
+    let mine = owned name k own in
+    let lt : k < 15 = within name k program.top.rules mine.0 in
+    let rules : map rule_of (args_of c) ≡ program.top.rules = ap (λ (a : App). a.top.rules) read.is in
     let long : length (args_of c) ≡ 15 = sym (length-map (args_of c) rule_of) ∙ ap length rules in
     let low : k < length (args_of c) = omega arith in
     let d = some_arg (args_of c) (omega arith) in
     let a = slice_index_or (args_of c) k d in
     let rule : rule_of a ≡ value_rule name q default = rule_at (args_of c) k d ∙ ap (λ l. slice_index_or l k (rule_of d)) rules ∙ at (rule_of d) in
     let id : a.id.now ≡ name = ap (λ (r : Rule). r.id) rule in
-    let simple : IsSimple c = ready_simple c (ap (λ (x : App). is_ready x.top) is ∙ ready) (ap (λ (x : App). list_all is_ready_leaf x.subs) is) in
+    let simple : IsSimple c = ready_simple c (ap (λ (x : App). is_ready x.top) read.is ∙ ready) (ap (λ (x : App). list_all is_ready_leaf x.subs) read.is) in
     let one = simple.args k d low in
-    let local : All (λ x. x.groups.items ≡ []) (args_of c) = simple_groups c (ap (λ (x : App). list_all (λ (r : Rule). r.is_simple) x.top.rules) is) in
+    let local : All (λ x. x.groups.items ≡ []) (args_of c) = simple_groups c (ap (λ (x : App). list_all (λ (r : Rule). r.is_simple) x.top.rules) read.is) in
     let some : length (items_of a.default_vals) ≡ 1 = sym (length-map (items_of a.default_vals) _) ∙ ap (λ (r : Rule). length r.defaults) rule in
     let defaulted : IsDefaulted c k d q = record {
       low = low;
@@ -95,34 +123,26 @@ holds_value c m is p k q name default lt at alone named help version =
       whole = one.delimiter;
       least = least_one a (ap (λ (r : Rule). r.range) rule);
       parser = ap (λ (r : Rule). r.parser) rule;
-      alone = λ j e under same. alone_at name k program.top.rules j (rule_of e) alone (omega (arith, ap length rules, length-map (args_of c) rule_of))
+      alone = λ j e under same. alone_at name k program.top.rules j (rule_of e) mine.0 (omega (arith, ap length rules, length-map (args_of c) rule_of))
           (rw (← ap (λ (r : Rule). r.id) (rule_at (args_of c) j e ∙ ap (λ l. slice_index_or l j (rule_of e)) rules), ← id) same);
-      named = λ e. named (sym id ∙ e);
-      own = λ auto. elim auto [ inl h ↦ help (sym id ∙ h) | inr h ↦ version (sym id ∙ h) ];
+      named = λ e. mine.1 (sym id ∙ e);
+      own = λ auto. elim auto [ inl h ↦ mine.2 (sym id ∙ h) | inr h ↦ mine.3 (sym id ∙ h) ];
     } in
-    let read = default_reads c m p k d q defaulted ((p.from.same_groups local).1 ∙ simple.groups) simple.globals in
-    (a.ignore_case, read.0, subst (λ (t : Text). one_text (found_of m) t ≡ Some (read_as (reading_of q) read.0)) id read.1, read.2)
+    let found = default_reads c m p k d q defaulted ((p.from.same_groups local).1 ∙ simple.groups) simple.globals in
+    (a.ignore_case, found.0, subst (λ (t : Text). one_text (found_of m) t ≡ Some (read_as (reading_of q) found.0)) id found.1, found.2)
 
 -- the option at place k of the program, of which the rule is that of a number
-pub holds_number : (c : Command) (m : ArgMatches) → app_of c ≡ program → IsParsedFrom c m → (k least most : ℕ) (name default : Text) → k < 15
-    → ((d : Rule) → slice_index_or program.top.rules k d ≡ number_rule name least most default) → is_id_of name k program.top.rules ≡ true
-    → (name ≡ [] → ⊥) → (name ≡ codes "help" → ⊥) → (name ≡ codes "version" → ⊥)
+pub holds_number : (words : List Text) (m : ArgMatches) → IsReadOf words m → (k least most : ℕ) (name default : Text)
+    → ((d : Rule) → slice_index_or program.top.rules k d ≡ number_rule name least most default) → is_own name k ≡ true
     → HoldsNumber (one_text (found_of m) name) least most
-holds_number c m is p k least most name default lt at alone named help version =
-    let held = holds_value c m is p k (parser.Signed (pos least) (pos most)) name default lt at alone named help version in
+holds_number words m read k least most name default at own =
+    let held = holds_value words m read k (parser.Signed (pos least) (pos most)) name default at own in
     (held.1, held.2, held.3)
 
 -- the same of any number
-pub holds_wide_number : (c : Command) (m : ArgMatches) → app_of c ≡ program → IsParsedFrom c m → (k : ℕ) (name default : Text) → k < 15
-    → ((d : Rule) → slice_index_or program.top.rules k d ≡ wide_number_rule name default) → is_id_of name k program.top.rules ≡ true
-    → (name ≡ [] → ⊥) → (name ≡ codes "help" → ⊥) → (name ≡ codes "version" → ⊥)
+pub holds_wide_number : (words : List Text) (m : ArgMatches) → IsReadOf words m → (k : ℕ) (name default : Text)
+    → ((d : Rule) → slice_index_or program.top.rules k d ≡ wide_number_rule name default) → is_own name k ≡ true
     → HoldsWideNumber (one_text (found_of m) name)
-holds_wide_number c m is p k name default lt at alone named help version =
-    let held = holds_value c m is p k (parser.Unsigned 0 18446744073709551615) name default lt at alone named help version in
+holds_wide_number words m read k name default at own =
+    let held = holds_value words m read k (parser.Unsigned 0 18446744073709551615) name default at own in
     (held.1, held.2, held.3)
-
-pub differs : (a b : Text) → bytes_eq a b ≡ false → a ≡ b → ⊥
-differs a b unequal e =
-    let same : bytes_eq a b ≡ true = (bytes_eq-Decides a b).1 e in
-    let bad : false ≡ true = sym unequal ∙ same in
-    cc

@@ -2,16 +2,19 @@
 use Rattle.std.proofs.Common.{◌≡◌, ◌≤◌, ◌↔◌, ℕ, Bool, true, false, not, IsTrue, List, [], ◌∷◌, codes, Option, Some, None, refl, sym, ap, subst, ◌∙◌}
 use Rattle.std.specs.Prelude.{String, is_some, option_map, string_bytes}
 use Rattle.clap.specs.Walk.{Text, first_of, one_of}
-use Rattle.clap.specs.Simple.{App, HasMatchesOf, is_simple, matches_of}
+use Rattle.clap.specs.Built.{IsParsedFrom}
+use Rattle.clap.specs.Simple.{App, HasMatchesOf, app_of, is_simple, matches_of}
 use Rattle.clap.specs.Matches.{first_value, found_of, one_text}
 use Rattle.clap.specs.Kinds.{HasKind}
+use Rattle.clap.specs.declared.builder.command.Command.{Command}
 use Rattle.clap.specs.declared.error.Error.{Error}
 use Rattle.clap.specs.Faults.{fault_of, is_simple_and_free}
 use Rattle.clap.specs.declared.parser.matches.ArgMatches.{ArgMatches}
 use Rattle.clap.proofs.OnLiterals.{clap_on_literals}
 use Rattle.clap.proofs.WalkLemmas.{first_value-rows, one_text-rows}
 use Rattle.fbcheck_words.specs.CommandLine.{program}
-use Rattle.fbcheck_words.specs.Values.{IsGiven, IsNumberOf, IsWrittenIn}
+use Rattle.fbcheck_words.specs.Matched.{IsReadOf}
+use Rattle.fbcheck_words.specs.Values.{IsGiven, IsNumberOf, IsWrittenIn, text_of}
 
 simple : is_simple program ≡ true
 unfolding clap_on_literals
@@ -29,28 +32,26 @@ no_fault app words is read = ap (λ (a : App). fault_of a words) (sym is) ∙ re
 pub refused_by : (app : App) (words : List Text) (error : Error) → app ≡ program → (is_simple_and_free app ≡ true → HasKind (fault_of app words) error) → HasKind (fault_of program words) error
 refused_by app words error is refused = subst (λ (a : App). HasKind (fault_of a words) error) is (refused (ap is_simple_and_free is ∙ simple_and_free))
 
+-- what the program's command reads is what clap reads of the words
+pub is_read : (c : Command) (words : List Text) (m : ArgMatches) → IsParsedFrom c m → app_of c ≡ program → HasMatchesOf (app_of c) words m → IsReadOf words m
+is_read c words m parsed is has = record { matches = subst (λ (a : App). HasMatchesOf a words m) is has; command = c; is = is; parsed = parsed }
+
 -- an option's text in the matches is that of the words
-pub text_of_words : (app : App) (words : List Text) (m : ArgMatches) (id : Text) → app ≡ program → HasMatchesOf app words m
-    → first_value (found_of m) id ≡ first_of id (matches_of program words)
-text_of_words app words m id is has =
-    first_value-rows (found_of m) id ∙ ap (first_of id) ((has (ap is_simple is ∙ simple)).0 ∙ ap (λ (a : App). matches_of a words) is)
+pub text_of_words : (words : List Text) (m : ArgMatches) (id : Text) → IsReadOf words m → first_value (found_of m) id ≡ text_of id words
+text_of_words words m id read = first_value-rows (found_of m) id ∙ ap (first_of id) (read.matches simple).0
 
 -- a flag that is set where its text is "true" is set where the words give it
-pub given_by_words : (app : App) (words : List Text) (m : ArgMatches) (id : Text) (set : Bool) → app ≡ program → HasMatchesOf app words m
+pub given_by_words : (words : List Text) (m : ArgMatches) (id : Text) (set : Bool) → IsReadOf words m
     → IsTrue set ↔ (first_value (found_of m) id ≡ Some (codes "true")) → IsTrue set ↔ IsGiven id words
-given_by_words app words m id set is has told =
-    subst (λ (o : Option Text). IsTrue set ↔ (o ≡ Some (codes "true"))) (text_of_words app words m id is has) told
-
-pub read_of_words : (app : App) (words : List Text) (m : ArgMatches) (id : Text) → app ≡ program → HasMatchesOf app words m
-    → one_text (found_of m) id ≡ one_of id (matches_of program words)
-read_of_words app words m id is has =
-    one_text-rows (found_of m) id ∙ ap (one_of id) ((has (ap is_simple is ∙ simple)).0 ∙ ap (λ (a : App). matches_of a words) is)
+given_by_words words m id set read told =
+    subst (λ (o : Option Text). IsTrue set ↔ (o ≡ Some (codes "true"))) (text_of_words words m id read) told
 
 -- a number that its text in the matches spells is the one that the words give
-pub number_by_words : (app : App) (words : List Text) (m : ArgMatches) (id : Text) (least most n : ℕ) → app ≡ program → HasMatchesOf app words m
+pub number_by_words : (words : List Text) (m : ArgMatches) (id : Text) (least most n : ℕ) → IsReadOf words m
     → IsWrittenIn (one_text (found_of m) id) n × (least ≤ n) × (n ≤ most) → IsNumberOf id least most words n
-number_by_words app words m id least most n is has told =
-    (subst (λ (o : Option Text). IsWrittenIn o n) (read_of_words app words m id is has) told.0, told.1, told.2)
+number_by_words words m id least most n read told =
+    let same = one_text-rows (found_of m) id ∙ ap (one_of id) (read.matches simple).0 in
+    (subst (λ (o : Option Text). IsWrittenIn o n) same told.0, told.1, told.2)
 
 -- a text that is there
 pub some_text : {A : Type 0} (found : Option (String A)) (text : Option Text) → is_some found ≡ true → option_map string_bytes found ≡ text → (t : Text) × (text ≡ Some t)

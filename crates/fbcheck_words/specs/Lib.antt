@@ -5,3 +5,4 @@ pub mod Refusal
 pub mod Ranges
 -- what contracts inside say
 pub mod OptionTable
+pub mod Matched

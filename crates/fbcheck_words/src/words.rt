@@ -5,6 +5,7 @@ ghost use Rattle.fbcheck_words.specs.Ranges.{AreInRange};
 ghost use Rattle.fbcheck_words.specs.CommandLine.{program};
 ghost use Rattle.fbcheck_words.specs.Values.{IsNumberOf, IsGiven, HoldsNumber, HoldsWideNumber, IsWrittenIn, text_of};
 ghost use Rattle.fbcheck_words.specs.Refusal.{Refuses};
+ghost use Rattle.fbcheck_words.specs.Matched.{IsReadOf};
 
 use crate::choices::{Settings, SettingsFault};
 use crate::command::command;
@@ -44,18 +45,7 @@ pub fn settings(alloc: Global, words: &[String]) -> Result<Settings, SettingsFau
     ensures names { IfOk result (λ s. IsTrue s.names ↔ IsGiven (codes "names") (map string_bytes words.now)) }
     ensures quiet { IfOk result (λ s. IsTrue s.quiet ↔ IsGiven (codes "quiet") (map string_bytes words.now)) }
 {
-    let Ok(command) = command(alloc) else {
-        return Err(SettingsFault::OutOfMemory);
-    };
-    let matches = match command.try_get_matches_from(words) {
-        Ok(matches) => matches,
-        Err(error) => {
-            return Err(match error.kind() {
-                ErrorKind::OutOfMemory => SettingsFault::OutOfMemory,
-                _ => SettingsFault::Usage(error),
-            });
-        }
-    };
+    let matches = matched(alloc, words)?;
     let Ok(ident) = identifier(&matches) else {
         return Err(SettingsFault::BadIdent);
     };
@@ -99,6 +89,27 @@ pub fn settings(alloc: Global, words: &[String]) -> Result<Settings, SettingsFau
         summary,
         names,
     })
+}
+
+/// What `clap` reads of the words.
+fn matched<'a>(alloc: Global, words: &'a [String]) -> Result<ArgMatches<'a>, SettingsFault>
+    ensures read { OnOk result (fault_of program (map string_bytes words.now) ≡ []) }
+    ensures refused { IfErr result (Refuses (map string_bytes words.now)) }
+    ensures matches { IfOk result (IsReadOf (map string_bytes words.now)) }
+{
+    let Ok(command) = command(alloc) else {
+        return Err(SettingsFault::OutOfMemory);
+    };
+    let matches = match command.try_get_matches_from(words) {
+        Ok(matches) => matches,
+        Err(error) => {
+            return Err(match error.kind() {
+                ErrorKind::OutOfMemory => SettingsFault::OutOfMemory,
+                _ => SettingsFault::Usage(error),
+            });
+        }
+    };
+    Ok(matches)
 }
 
 /// The text of `--ident` isn't four bytes long.
