@@ -4,6 +4,32 @@ use Rattle.fb_bytes.specs.Framing.{Framing, held_bytes}
 use Rattle.fb_bytes.proofs.MessageLemmas.{declared_front}
 use Rattle.fb_bytes.proofs.FramingLemmas.{Completes, completed-held, completed-front, completed-long, completed-stream, completed-oversize, completed-grown, completed-unfinished, fed-fits}
 use Rattle.fb_bytes.proofs.framer.Framer.feed.Goals as goal
+use Rattle.fb_bytes.proofs.framer.Framer.feed.Goals.{After-number_in-declared}
+
+-- the prefix is whole with what the piece gave to it
+completes : (g : _) (c : After-number_in-declared g) → Completes c.self.inside.prefix c.fill_prefix-used.new.prefix c.self.inside.body.items c.args.piece.now c.self.inside.filled c.fill_prefix-used.result
+completes g c = record {
+  four = c.self.invariant.four;
+  four' = search rules;
+  sum = search rules;
+  within = search rules;
+  bytes = c.fill_prefix-used.ensures.bytes;
+  full = c.self.invariant.full;
+  front = c.self.invariant.front;
+}
+
+held_before : (g : _) (c : After-number_in-declared g) → held_bytes c.self.inside.prefix c.self.inside.filled c.self.inside.body.items ≡ c.args.self.now.held
+held_before g c = ap (λ (v : Framing). v.held) c.self.view_is
+
+limit_before : (g : _) (c : After-number_in-declared g) → c.self.inside.limit ≡ c.args.self.now.limit
+limit_before g c = ap (λ (v : Framing). v.limit) c.self.view_is
+
+-- the stream begins with that prefix, and tells its number
+front_of : (g : _) (c : After-number_in-declared g) → take 4 (c.args.self.now.held ++ c.args.piece.now) ≡ c.fill_prefix-used.new.prefix
+front_of g c = ap (λ l. take 4 (l ++ c.args.piece.now)) (sym (held_before g c)) ∙ completed-stream _ _ _ _ _ _ (completes g c)
+
+number_of : (g : _) (c : After-number_in-declared g) → declared (c.args.self.now.held ++ c.args.piece.now) ≡ declared c.fill_prefix-used.new.prefix
+number_of g c = declared_front _ _ (front_of g c)
 
 pub returns-then-declared-self-clause-fault : goal.returns-then-declared-self-clause-fault
 returns-then-declared-self-clause-fault g c = λ fine.
@@ -12,19 +38,11 @@ returns-then-declared-self-clause-fault g c = λ fine.
     let prefix' = c.fill_prefix-used.new.prefix in
     let body = f.body.items in
     let piece = c.args.piece.now in
-    let w : Completes f.prefix prefix' body piece f.filled used = record {
-      four = c.self.invariant.four;
-      four' = search rules;
-      sum = search rules;
-      within = search rules;
-      bytes = c.fill_prefix-used.ensures.bytes;
-      full = c.self.invariant.full;
-      front = c.self.invariant.front;
-    } in
-    let held : held_bytes f.prefix f.filled body ≡ c.args.self.now.held = ap (λ (v : Framing). v.held) c.self.view_is in
-    let limit : f.limit ≡ c.args.self.now.limit = ap (λ (v : Framing). v.limit) c.self.view_is in
-    let front : take 4 (c.args.self.now.held ++ piece) ≡ prefix' = ap (λ l. take 4 (l ++ piece)) (sym held) ∙ completed-stream f.prefix prefix' body piece f.filled used w in
-    let number : declared (c.args.self.now.held ++ piece) ≡ declared prefix' = declared_front _ prefix' front in
+    let d = (goal.at.returns-then-declared-self-clause-fault g c).After-number_in-declared in
+    let w = completes g d in
+    let limit = limit_before g d in
+    let front = front_of g d in
+    let number = number_of g d in
     let told : c.number_in-declared.result ≡ declared prefix' = c.number_in-declared.ensures in
     let over : f.limit < 4 + declared prefix' = search rules in
     let alone = completed-oversize f.limit f.prefix prefix' body piece f.filled used w (c.self.invariant.within (search rules)) over in
@@ -50,17 +68,10 @@ returns-in-Ok-clause-ok g c =
     let body' = c.grow.new.body.items in
     let piece = c.args.piece.now in
     let now = held_bytes prefix' (f.filled + used) body' in
-    let w : Completes f.prefix prefix' body piece f.filled used = record {
-      four = c.self.invariant.four;
-      four' = search rules;
-      sum = search rules;
-      within = search rules;
-      bytes = c.fill_prefix-used.ensures.bytes;
-      full = c.self.invariant.full;
-      front = c.self.invariant.front;
-    } in
-    let held : held_bytes f.prefix f.filled body ≡ c.args.self.now.held = ap (λ (v : Framing). v.held) c.self.view_is in
-    let limit : f.limit ≡ c.args.self.now.limit = ap (λ (v : Framing). v.limit) c.self.view_is in
+    let d = (goal.at.returns-in-Ok-clause-ok g c).After-number_in-declared in
+    let w = completes g d in
+    let held = held_before g d in
+    let limit = limit_before g d in
     let grown = completed-grown f.prefix prefix' body body' piece f.filled used more w c.in-Ok.ensures.held in
     let at4 : length now ≡ length (held_bytes prefix' 4 body') = ap (λ n. length (held_bytes prefix' n body')) w.sum in
     let number : declared now ≡ declared prefix' = declared_front now prefix' grown.1 in
@@ -99,19 +110,12 @@ returns-in-Err-clause-fault g c = λ fine.
     let body = f.body.items in
     let piece = c.args.piece.now in
     let before = held_bytes prefix' 4 body in
-    let w : Completes f.prefix prefix' body piece f.filled used = record {
-      four = c.self.invariant.four;
-      four' = search rules;
-      sum = search rules;
-      within = search rules;
-      bytes = c.fill_prefix-used.ensures.bytes;
-      full = c.self.invariant.full;
-      front = c.self.invariant.front;
-    } in
-    let held : held_bytes f.prefix f.filled body ≡ c.args.self.now.held = ap (λ (v : Framing). v.held) c.self.view_is in
-    let limit : f.limit ≡ c.args.self.now.limit = ap (λ (v : Framing). v.limit) c.self.view_is in
-    let front : take 4 (c.args.self.now.held ++ piece) ≡ prefix' = ap (λ l. take 4 (l ++ piece)) (sym held) ∙ completed-stream f.prefix prefix' body piece f.filled used w in
-    let number : declared (c.args.self.now.held ++ piece) ≡ declared prefix' = declared_front _ prefix' front in
+    let d = (goal.at.returns-in-Err-clause-fault g c).After-number_in-declared in
+    let w = completes g d in
+    let held = held_before g d in
+    let limit = limit_before g d in
+    let front = front_of g d in
+    let number = number_of g d in
     let told : c.number_in-declared.result ≡ declared prefix' = c.number_in-declared.ensures in
     let was : before ≡ c.args.self.now.held ++ take used piece = completed-held f.prefix prefix' body piece f.filled used w ∙ ap (λ l. l ++ take used piece) held in
     let short : length before < 4 + declared (c.args.self.now.held ++ piece) = omega (arith, c.in-Err.ensures.short) in
