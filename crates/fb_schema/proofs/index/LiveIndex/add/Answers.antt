@@ -1,43 +1,43 @@
-use Rattle.std.proofs.Common.{◌<◌, slice_index_or, [], filter, if◌then◌else◌, Some, map, length, sym, ap, subst, ◌∙◌, arith, rules}
+use Rattle.std.proofs.Common.{◌<◌, slice_index_or, ◌≡◌, slice_get, [], filter, if◌then◌else◌, Some, map, length, sym, ap, subst, ◌∙◌, arith, rules}
 use Rattle.std.proofs.lemmas.List.{length-map}
 use Rattle.fb_schema.specs.Index.{view_name}
 use Rattle.fb_schema.specs.FlatLists.{lists_of}
 use Rattle.fb_schema.specs.Live.{required_end_of, live_in, live_of_view, by_slot, is_live, AreKinded, AreSpaced}
 use Rattle.fb_schema.specs.Sorting.{IsOrderOf, name_cmp}
-use Rattle.fb_schema.specs.Rows.{borrowed_rows, object_of}
+use Rattle.fb_schema.specs.Rows.{Object, borrowed_rows, object_of}
 use Rattle.fb_schema.specs.Steps.{step_of}
 use Rattle.fb_schema.proofs.IndexLemmas.{legal_slots, matched_pushed, lists_step, value_step, widest_step, kept_read, mapped_read, mapped_twice}
 use Rattle.fb_schema.proofs.Kinded.{rows_kinded, live_long}
 use Rattle.fb_schema.proofs.TypedLemmas.{rows_spaced}
 use Rattle.fb_schema.proofs.index.LiveIndex.add.Goals as goal
+use Rattle.fb_schema.proofs.index.LiveIndex.add.Goals.{After-index-rows-n}
+
+-- the object with this number, as it is read there
+abbrev object_read : (g : _) → After-index-rows-n g → Object
+object_read g c = object_of (slice_index_or c.args.rows.now.objects.now c.args.n c.index-rows-n.result)
+
+object_there : (g : _) (c : After-index-rows-n g) → slice_get (borrowed_rows c.args.rows.now).objects c.args.n ≡ Some (object_read g c)
+object_there g c =
+    let objects = c.args.rows.now.objects.now in
+    kept_read object_of objects c.args.n (slice_index_or objects c.args.n c.index-rows-n.result) c.requires.here (ap (slice_index_or objects c.args.n) c.index-rows-n.is)
 
 pub table_views-requires-clause-apart : goal.table_views-requires-clause-apart
 table_views-requires-clause-apart g c = λ table.
-    let objects = c.args.rows.now.objects.now in
-    let row = slice_index_or objects c.args.n c.index-rows-n.result in
-    let here = ap (slice_index_or objects c.args.n) c.index-rows-n.is in
-    legal_slots (borrowed_rows c.args.rows.now) c.args.n (object_of row) c.requires.legal (kept_read object_of objects c.args.n row c.requires.here here) table
+    let d = (goal.at.table_views-requires-clause-apart g c).After-index-rows-n in
+    legal_slots (borrowed_rows c.args.rows.now) c.args.n (object_read g d) c.requires.legal (object_there g d) table
 
 pub table_views-requires-clause-spaced : goal.table_views-requires-clause-spaced
 table_views-requires-clause-spaced g c = λ table.
-    let objects = c.args.rows.now.objects.now in
-    let row = slice_index_or objects c.args.n c.index-rows-n.result in
-    let here = ap (slice_index_or objects c.args.n) c.index-rows-n.is in
-    let o = object_of row in
-    subst (λ b. AreSpaced (if b then [] else by_slot (filter is_live o.fields))) table
-    (rows_spaced (borrowed_rows c.args.rows.now) c.requires.legal c.args.n o
-    (kept_read object_of objects c.args.n row c.requires.here here))
+    let d = (goal.at.table_views-requires-clause-spaced g c).After-index-rows-n in
+    subst (λ b. AreSpaced (if b then [] else by_slot (filter is_live (object_read g d).fields))) table
+    (rows_spaced (borrowed_rows c.args.rows.now) c.requires.legal c.args.n (object_read g d) (object_there g d))
 
 pub table_views-requires-clause-kinds : goal.table_views-requires-clause-kinds
 table_views-requires-clause-kinds g c = λ table.
-    let objects = c.args.rows.now.objects.now in
-    let row = slice_index_or objects c.args.n c.index-rows-n.result in
-    let here = ap (slice_index_or objects c.args.n) c.index-rows-n.is in
-    let o = object_of row in
+    let d = (goal.at.table_views-requires-clause-kinds g c).After-index-rows-n in
     let rows = borrowed_rows c.args.rows.now in
-    subst (λ b. AreKinded rows (if b then [] else by_slot (filter is_live o.fields))) table
-    (rows_kinded rows c.requires.legal c.args.n o
-    (kept_read object_of objects c.args.n row c.requires.here here))
+    subst (λ b. AreKinded rows (if b then [] else by_slot (filter is_live (object_read g d).fields))) table
+    (rows_kinded rows c.requires.legal c.args.n (object_read g d) (object_there g d))
 
 pub in_order-requires-clause-few : goal.in_order-requires-clause-few
 in_order-requires-clause-few g c = let few = c.in_ok-fields.ensures.few in rw c.deref.ensures.value (omega (arith, few))
@@ -69,6 +69,6 @@ returns g c =
           (c.required_end.ensures ∙ ap (λ fields. required_end_of (map live_of_view fields)) c.deref-6.ensures.value ∙ ap required_end_of c.in_ok-fields.ensures.value);
       widest = widest_step (map object_of objects) i o c.args.self.now.widest c.max-self.result c.len.result low is c.requires.before.widest c.max-self.ensures
           (c.len.ensures ∙ c.in_ok-fields.fields.ok.0 ∙ sym (length-map views live_of_view) ∙ ap length c.in_ok-fields.ensures.value
-          ∙ live_long rows c.requires.legal i o (kept_read object_of objects i row lt here));
+          ∙ live_long rows c.requires.legal i o (object_there g (goal.at.returns g c).After-index-rows-n));
       few = omega (arith, c.max-self.ensures, c.requires.before.few, c.in_ok-fields.ensures.few, c.len.ensures, c.in_ok-fields.fields.ok.0);
     }
