@@ -16,6 +16,9 @@ use crate::type_fields::{stands_below, type_slots};
 use crate::types::RowLists;
 use std::alloc::{AllocError, Allocator};
 
+/// The first demand that a part breaks, with the part's place. An error comes only where memory was refused.
+pub type FirstFault = Result<Option<(Code, u32)>, AllocError>;
+
 pub fn is_at(again: Option<u32>, place: usize) -> bool
     ensures { result ≡ is_at again place }
 {
@@ -32,7 +35,7 @@ pub fn struct_fields_fault<A: Allocator + Copy>(
     rows: &RowLists,
     object: &ObjectRow,
     fields: &[FieldRow],
-) -> Result<Option<(Code, u32)>, AllocError>
+) -> FirstFault
     requires { length fields.now < 2 ^ 31 }
     ensures { IfOk result (λ first. IsFirstOf (struct_asked (borrowed_rows rows.now) object.now.bytesize (map field_of fields.now)) first) }
 {
@@ -53,7 +56,7 @@ pub fn table_fields_fault<A: Allocator + Copy>(
     alloc: A,
     rows: &RowLists,
     fields: &[FieldRow],
-) -> Result<Option<(Code, u32)>, AllocError>
+) -> FirstFault
     requires { length fields.now < 2 ^ 31 }
     ensures { IfOk result (λ first. IsFirstOf (table_asked (borrowed_rows rows.now) (map field_of fields.now)) first) }
 {
@@ -94,7 +97,7 @@ pub fn members_fault<A: Allocator + Copy>(
     alloc: A,
     rows: &RowLists,
     members: &[MemberRow],
-) -> Result<Option<(Code, u32)>, AllocError>
+) -> FirstFault
     requires { length members.now < 2 ^ 31 }
     ensures { IfOk result (λ first. IsFirstOf (members_asked (borrowed_rows rows.now) (map member_of_row members.now)) first) }
 {

@@ -7,18 +7,16 @@ ghost use Rattle.fb_schema.specs.Demands.{IsLegal, AreClear, Refuses, IsFirstOf,
 
 use crate::demands::object_fault;
 use crate::fault::{Code, SchemaFault};
-use crate::first_fault::{is_at, members_fault, struct_fields_fault, table_fields_fault};
+use crate::first_fault::{
+    FirstFault, is_at, members_fault, struct_fields_fault, table_fields_fault,
+};
 use crate::rows::{EnumRow, ObjectRow};
 use crate::sorting::first_again;
 use crate::types::RowLists;
-use std::alloc::{AllocError, Allocator};
+use std::alloc::Allocator;
 
 /// The first demand that a field of an object breaks, with the field's place.
-fn fields_fault<A: Allocator + Copy>(
-    alloc: A,
-    rows: &RowLists,
-    object: &ObjectRow,
-) -> Result<Option<(Code, u32)>, AllocError>
+fn fields_fault<A: Allocator + Copy>(alloc: A, rows: &RowLists, object: &ObjectRow) -> FirstFault
     requires { vec_len object.now.fields < 2 ^ 31 }
     ensures { IfOk result (λ first. IsFirstOf (demands_of_field (borrowed_rows rows.now) (object_of object.now)) first) }
 {
@@ -32,11 +30,7 @@ fn fields_fault<A: Allocator + Copy>(
 
 /// The first demand that a member of an enum breaks, with the member's place. An enum that is no union is asked
 /// nothing.
-fn union_fault<A: Allocator + Copy>(
-    alloc: A,
-    rows: &RowLists,
-    row: &EnumRow,
-) -> Result<Option<(Code, u32)>, AllocError>
+fn union_fault<A: Allocator + Copy>(alloc: A, rows: &RowLists, row: &EnumRow) -> FirstFault
     requires { vec_len row.now.members < 2 ^ 31 }
     ensures { IfOk result (λ first. IsFirstOf (demands_of_union (borrowed_rows rows.now) (enum_of row.now)) first) }
 {
