@@ -35,7 +35,7 @@ fn union_fault<A: Allocator + Copy>(alloc: A, rows: &RowLists, row: &EnumRow) ->
     ensures { IfOk result (λ first. IsFirstOf (demands_of_union (borrowed_rows rows.now) (enum_of row.now)) first) }
 {
     if row.is_union {
-        members_fault(alloc, rows, row.members.as_slice())
+        members_fault(alloc, rows, row)
     } else {
         Ok(None)
     }
