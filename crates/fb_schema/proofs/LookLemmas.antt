@@ -1,8 +1,9 @@
 -- What the look-ups read.
-use Rattle.std.proofs.Common.{◌≡◌, ℕ, zero, suc, ◌<◌, ◌≤◌, ◌^◌, List, [], ◌∷◌, length, get_or, slice_get, map, Some, None, IsTrue, sym, ◌∙◌, ap, arith}
+use Rattle.std.proofs.Common.{◌≡◌, ℕ, ℤ, pos, negsuc, Bor, Option, option_map, refl, zero, suc, ◌<◌, ◌≤◌, ◌^◌, List, [], ◌∷◌, length, get_or, slice_get, map, Some, None, IsTrue, sym, ◌∙◌, ap, arith}
+use Rattle.std.proofs.lemmas.Option.{slice_get-map}
 use Rattle.fb_schema.specs.declared.views.Step.{Step}
 use Rattle.fb_schema.specs.Live.{Live, live_of, live_in, live_rows, live_fields, required_end, required_end_of, widest, widest_of}
-use Rattle.fb_schema.specs.Rows.{Rows, Object, is_table, is_some_table}
+use Rattle.fb_schema.specs.Rows.{Rows, Object, entry_at, is_table, is_some_table}
 use Rattle.fb_schema.specs.Steps.{step_of}
 use Rattle.fb_schema.proofs.Kept.{kept_fewer}
 
@@ -48,3 +49,15 @@ within_widest rows n = count_within rows rows.objects n
 pub few_read : (rows seen : Rows) (most n : ℕ) → most ≡ widest_of rows.objects → most ≤ 32766 → rows ≡ seen → n ≤ widest seen → n < 2 ^ 32
 unfolding widest
 few_read rows seen most n e few same h = let w = ap widest same in omega arith
+
+-- The entry that an index names, of rows as they are kept.
+entry_kept : {X Y : Type 0} (f : X → Y) (xs : List X) (index : ℤ) → option_map f (entry_at xs index) ≡ entry_at (map f xs) index
+entry_kept f xs (pos k) = sym (slice_get-map f xs k)
+entry_kept f xs (negsuc k) = refl
+
+found_kept : {X Y : Type 0} (f : X → Y) (found : Option (Bor X)) → option_map (λ x. f x.now) found ≡ option_map f (option_map (λ x. x.now) found)
+found_kept f None = refl
+found_kept f (Some x) = refl
+
+pub entry_found : {X Y : Type 0} (f : X → Y) (xs : List X) (index : ℤ) (found : Option (Bor X)) → option_map (λ x. x.now) found ≡ entry_at xs index → option_map (λ x. f x.now) found ≡ entry_at (map f xs) index
+entry_found f xs index found e = found_kept f found ∙ ap (option_map f) e ∙ entry_kept f xs index

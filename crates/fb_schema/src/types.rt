@@ -1,6 +1,6 @@
 // What types are and what they name, read off the rows.
 
-ghost use Rattle.std.specs.Prelude.{◌≡◌, Some, ◌^◌, pos, neg_ℤ, ◌*ℤ◌, ◌<ℤ◌};
+ghost use Rattle.std.specs.Prelude.{◌≡◌, Some, option_map, ◌^◌, pos, neg_ℤ, ◌*ℤ◌, ◌<ℤ◌};
 ghost use Rattle.fb_schema.specs.Rows.{entry_at, is_some_table, is_some_union, borrowed_rows, found_object, found_enum};
 ghost use Rattle.fb_schema.specs.Kinds.{element_of, shape_of, scalar_size, kind_of, object_kind, union_kind, shape_kind, struct_size, struct_align, kind_size, kind_align};
 ghost use Rattle.fb_schema.specs.Vectors.{vector_of};
@@ -164,27 +164,32 @@ fn array_bytes(length: u16, each: i32) -> i64
     i64::from(length) * i64::from(each)
 }
 
+/// The entry of a list that an index names.
+fn entry_at<T>(entries: &[T], index: i32) -> Option<&T>
+    ensures { option_map (λ x. x.now) result ≡ entry_at entries.now index }
+{
+    if index < 0 {
+        None
+    } else {
+        entries.get(index as usize)
+    }
+}
+
 impl<'r, 'n> RowLists<'r, 'n> {
     /// The object that an index names.
+    #[tactic(auto, using(crate::proofs::LookLemmas::entry_found))]
     pub fn object_at(&self, index: i32) -> Option<&'r ObjectRow<'n>>
         ensures { found_object result ≡ entry_at (borrowed_rows self.now).objects index }
     {
-        if index < 0 {
-            None
-        } else {
-            self.objects.get(index as usize)
-        }
+        entry_at(self.objects, index)
     }
 
     /// The enum that an index names.
+    #[tactic(auto, using(crate::proofs::LookLemmas::entry_found))]
     pub fn enum_at(&self, index: i32) -> Option<&'r EnumRow<'n>>
         ensures { found_enum result ≡ entry_at (borrowed_rows self.now).enums index }
     {
-        if index < 0 {
-            None
-        } else {
-            self.enums.get(index as usize)
-        }
+        entry_at(self.enums, index)
     }
 
     /// Whether a type, or its element, is an object that isn't there.
