@@ -16,7 +16,6 @@ use fb_bytes::Window;
 use fb_schema::{Kind, Schema};
 
 /// From a table to its live field with this number.
-#[tactic(auto, unfolding(crate::specs::Held::IsSpot))]
 fn spot_of_field(window: &Window<'_>, schema: &Schema<'_>, spot: Spot, number: u16) -> Option<Spot>
     requires short { length window.now < 2 ^ 31 }
     requires spot { IsSpot window.now schema.now spot }

@@ -4,6 +4,9 @@ use Rattle.fb_access.proofs.TableFields.{table_has_vtable}
 use Rattle.fb_access.proofs.FieldSpots.{field_spot_holds, field_readable}
 use Rattle.fb_access.proofs.next.spot_of_field.Goals as goal
 
+pub field_numbered-requires : goal.field_numbered-requires
+field_numbered-requires c = (at_table _ _ _ _ _ c.in-AtTable.is c.requires.spot).object
+
 pub spot_of-requires-clause-table : goal.spot_of-requires-clause-table
 spot_of-requires-clause-table c = table_has_vtable _ _ _ _ (at_table _ _ _ _ _ c.in-AtTable.is c.requires.spot)
 
