@@ -63,43 +63,29 @@ module _ (b : List ℕ) (S : Rows) where
   scalar_number (AtDefault r d) s h i = let e : s ≡ r = cc in rw e (default_number d r)
   scalar_number p s h i = absurd cc
 
--- a number is shown as its scalar is
-truth_shown : (s : Scalar) (n : ℕ) → IsTruth s → (v : Bool) × (number s n ≡ truth v)
+-- a scalar is no float, and its numbers are all shown this way
+record IsShown (X : Type 0) (way : X → Shown) (s : Scalar) : Type 0 where
+  is_number : has_default s ≡ true
+  at : (n : ℕ) → (x : X) × (number s n ≡ way x)
+
+no : {X : Type 0} → ⊥ → X
+no h = absurd h
+
+-- each scalar's numbers are shown as the scalar is
+ways : (s : Scalar) → (IsTruth s → IsShown Bool truth s) × (IsSigned s → IsShown ℤ signed s) × (IsUnsigned s → IsShown ℕ unsigned s)
 unfolding number
-truth_shown AsBool n h = (_, refl)
-truth_shown s n h = absurd h
-
-signed_shown : (s : Scalar) (n : ℕ) → IsSigned s → (z : ℤ) × (number s n ≡ signed z)
-unfolding number
-signed_shown Byte n h = (_, refl)
-signed_shown Short n h = (_, refl)
-signed_shown AsInt n h = (_, refl)
-signed_shown Long n h = (_, refl)
-signed_shown s n h = absurd h
-
-unsigned_shown : (s : Scalar) (n : ℕ) → IsUnsigned s → (m : ℕ) × (number s n ≡ unsigned m)
-unfolding number
-unsigned_shown UType n h = (_, refl)
-unsigned_shown UByte n h = (_, refl)
-unsigned_shown UShort n h = (_, refl)
-unsigned_shown AsUInt n h = (_, refl)
-unsigned_shown ULong n h = (_, refl)
-unsigned_shown s n h = absurd h
-
--- none of these scalars is a float
-truth_is_number : (s : Scalar) → IsTruth s → has_default s ≡ true
-truth_is_number AsBool h = refl
-truth_is_number s h = absurd h
-
-signed_is_number : (s : Scalar) → IsSigned s → has_default s ≡ true
-signed_is_number AsFloat h = absurd h
-signed_is_number Double h = absurd h
-signed_is_number s h = refl
-
-unsigned_is_number : (s : Scalar) → IsUnsigned s → has_default s ≡ true
-unsigned_is_number AsFloat h = absurd h
-unsigned_is_number Double h = absurd h
-unsigned_is_number s h = refl
+ways UType = (no, no, λ h. record { is_number = refl; at = λ n. (_, refl) })
+ways AsBool = (λ h. record { is_number = refl; at = λ n. (_, refl) }, no, no)
+ways Byte = (no, λ h. record { is_number = refl; at = λ n. (_, refl) }, no)
+ways UByte = (no, no, λ h. record { is_number = refl; at = λ n. (_, refl) })
+ways Short = (no, λ h. record { is_number = refl; at = λ n. (_, refl) }, no)
+ways UShort = (no, no, λ h. record { is_number = refl; at = λ n. (_, refl) })
+ways AsInt = (no, λ h. record { is_number = refl; at = λ n. (_, refl) }, no)
+ways AsUInt = (no, no, λ h. record { is_number = refl; at = λ n. (_, refl) })
+ways Long = (no, λ h. record { is_number = refl; at = λ n. (_, refl) }, no)
+ways ULong = (no, no, λ h. record { is_number = refl; at = λ n. (_, refl) })
+ways AsFloat = (no, no, no)
+ways Double = (no, no, no)
 
 -- what an answer is that shows this
 abbrev pub Form : Shown → Answer → Type 0
@@ -135,20 +121,17 @@ module _ (b : List ℕ) (S : Rows) (p : Spot) (a : Answer) (e : shown a ≡ valu
   answers_vector kind onward h i other = let v = vector_value b S p kind onward h i in let f = form_of (vector v.0) v.1 in other f.0 f.1
 
   -- a scalar that is here answers by its number
-  of_number : (s : Scalar) → has_default s ≡ true → IsHere p (AScalar s) → (n : ℕ) × Form (number s n) a
-  of_number s i h = let n = scalar_number b S p s i h in (n.0, form_of (number s n.0) n.1)
+  by_number : (X : Type 0) (way : X → Shown) (s : Scalar) → IsShown X way s → IsHere p (AScalar s) → (x : X) × Form (way x) a
+  by_number X way s w h = let n = scalar_number b S p s w.is_number h in let v = w.at n.0 in (v.0, form_of (way v.0) (n.1 ∙ v.1))
 
   pub answers_truth : (s : Scalar) → IsTruth s → IsHere p (AScalar s) → ((x : Bool) → a ≡ answer.Bool x → ⊥) → ⊥
-  answers_truth s i h other =
-      let n = of_number s (truth_is_number s i) h in let v = truth_shown s n.0 i in let f = subst (λ x. Form x a) v.1 n.1 in other f.0 f.1
+  answers_truth s i h other = let f = (by_number Bool truth s ((ways s).0 i) h).1 in other f.0 f.1
 
   pub answers_signed : (s : Scalar) → IsSigned s → IsHere p (AScalar s) → ((x : ℤ) → a ≡ answer.Int x → ⊥) → ⊥
-  answers_signed s i h other =
-      let n = of_number s (signed_is_number s i) h in let v = signed_shown s n.0 i in let f = subst (λ x. Form x a) v.1 n.1 in other f.0 f.1
+  answers_signed s i h other = let f = (by_number ℤ signed s ((ways s).1 i) h).1 in other f.0 f.1
 
   pub answers_unsigned : (s : Scalar) → IsUnsigned s → IsHere p (AScalar s) → ((x : ℕ) → a ≡ answer.UInt x → ⊥) → ⊥
-  answers_unsigned s i h other =
-      let n = of_number s (unsigned_is_number s i) h in let v = unsigned_shown s n.0 i in let f = subst (λ x. Form x a) v.1 n.1 in other f.0 f.1
+  answers_unsigned s i h other = let f = (by_number ℕ unsigned s ((ways s).2 i) h).1 in other f.0 f.1
 
 -- a field that may be here shows nothing, or is here
 module _ (b : List ℕ) (S : Rows) (p : Spot) (kind : Kind) where
