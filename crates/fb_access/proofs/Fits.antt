@@ -18,7 +18,7 @@ use Rattle.fb_access.specs.Grammar.{Part, field, element, member, number_of}
 use Rattle.fb_access.specs.Kept.{IsThere}
 use Rattle.fb_access.specs.Resolving.{field_with_name, to_field, to_element, to_kind, to_member, field_step, member_step, fitting}
 use Rattle.fb_access.proofs.Found.{found_at, none_found, found_there}
-use Rattle.fb_access.proofs.MemberKinds.{IsMemberKind, member_there}
+use Rattle.fb_access.proofs.MemberKinds.{member_there}
 use Rattle.fb_access.proofs.NumberedFields.{found_by_number}
 
 -- a table without the field
@@ -47,18 +47,6 @@ field_kind_there S f (Tables k) h = h
 field_kind_there S f (Unions e) h = h
 field_kind_there S f kind h = tt
 
-member_kind_there : (S : Rows) (kind : Kind) → IsMemberKind kind → MemberHolds S (Some kind) → IsThere S kind
-member_kind_there S (Scalar s) m h = tt
-member_kind_there S Text m h = tt
-member_kind_there S (Struct k) m h = tt
-member_kind_there S (Table k) m h = h
-member_kind_there S (Union e) m h = absurd m
-member_kind_there S (Scalars s) m h = tt
-member_kind_there S Texts m h = tt
-member_kind_there S (Structs k) m h = tt
-member_kind_there S (Tables k) m h = absurd m
-member_kind_there S (Unions e) m h = absurd m
-
 -- a step that fits, with the kind to which it leads
 abbrev fitted : Step → Kind → Fitted
 fitted step kind = record { step = step; kind = kind }
@@ -82,7 +70,7 @@ module _ (S : Rows) (legal : IsLegal S) (served : IsServed S) where
       let k = member_there S e v name legal u n in
       let w : Ok (fitted (Member v) k.0) ≡ Ok x = sym (ap (to_kind v) k.1) ∙ h in
       let same : fitted (Member v) k.0 ≡ x = cc in
-      subst (Leads S (Union e)) same (record { next = k.1; there = member_kind_there S k.0 k.2 (subst (MemberHolds S) k.1 (served.members e v)) })
+      subst (Leads S (Union e)) same (record { next = k.1; there = k.2 (subst (MemberHolds S) k.1 (served.members e v)) })
 
   element_leads : (kind : Kind) (j : ℕ) (o : Option Kind) (x : Fitted) → element_kind kind ≡ o → ((to : Kind) → element_kind kind ≡ Some to → IsThere S to) → to_element j o ≡ Ok x → Leads S kind x
   unfolding next_kind

@@ -13,9 +13,11 @@ use Rattle.fb_schema.specs.Demands.{IsLegal, first_code, member_demands, members
 use Rattle.fb_schema.specs.Kinds.{kind_of, shape_of, shape_kind, object_kind}
 use Rattle.fb_schema.specs.Members.{is_member_value, member_of, member_named, members_in, members_of}
 use Rattle.fb_schema.specs.Rows.{Rows, Object, Member, Enum, entry_at, is_union, is_some_union}
+use Rattle.fb_schema.specs.Served.{MemberHolds}
 use Rattle.fb_schema.proofs.DemandLaws.{clear_line}
 use Rattle.fb_schema.proofs.FindLemmas.{find_filter}
 use Rattle.fb_schema.proofs.LegalLemmas.{legal_clear}
+use Rattle.fb_access.specs.Kept.{IsThere}
 use Rattle.fb_access.proofs.Found.{found_there, some_found}
 use Rattle.fb_access.proofs.ScanSteps.{false≢true}
 
@@ -66,31 +68,28 @@ module _ (rows : Rows) (e : ℕ) (row : Enum) (at : slice_get rows.enums e ≡ S
   clear : IsLegal rows → (q : ℕ) → first_code (members_asked rows row.members q) ≡ None
   clear legal q = sym (ap first_code (ap (demands_of_enum rows (suc q)) at ∙ chosen row.is_union (members_asked rows row.members q) [] union)) ∙ legal_clear rows legal 1 e (suc q)
 
--- what a member may be
-abbrev pub IsMemberKind : Kind → Type 0
-IsMemberKind Text = Unit {0}
-IsMemberKind (Struct k) = Unit {0}
-IsMemberKind (Table k) = Unit {0}
-IsMemberKind _ = ⊥
+-- a member of this kind is there, where what holds of members holds of it
+abbrev pub IsKept : Rows → Kind → Type 0
+IsKept rows kind = MemberHolds rows (Some kind) → IsThere rows kind
 
-object_is_member : (n : ℕ) (b : Bool) → IsMemberKind (if b then Struct n else Table n)
-object_is_member n true = tt
-object_is_member n false = tt
+object_kept : (rows : Rows) (n : ℕ) (b : Bool) → IsKept rows (if b then Struct n else Table n)
+object_kept rows n true h = tt
+object_kept rows n false h = h
 
 -- the kind that a type has
-record HasKind (kind : Option Kind) : Type 0 where
+record HasKind (rows : Rows) (kind : Option Kind) : Type 0 where
   is : Kind
-  of_member : IsMemberKind is
+  kept : IsKept rows is
   has : kind ≡ Some is
 
 -- the type of a member is an object that is there, or a text
-kind_of_shape : (rows : Rows) (index : ℤ) (s : Option Shape) → is_for_member s ≡ true → (is_object s && is_none (entry_at rows.objects index)) ≡ false → HasKind (shape_kind rows index s)
+kind_of_shape : (rows : Rows) (index : ℤ) (s : Option Shape) → is_for_member s ≡ true → (is_object s && is_none (entry_at rows.objects index)) ≡ false → HasKind rows (shape_kind rows index s)
 kind_of_shape rows (pos n) (Some (One OfObject)) h e = go (slice_get rows.objects n) e where
-  go : (o : Option Object) → is_none o ≡ false → HasKind (object_kind (pos n) Struct Table o)
+  go : (o : Option Object) → is_none o ≡ false → HasKind rows (object_kind (pos n) Struct Table o)
   go None e = absurd (false≢true (sym e))
-  go (Some o) e = record { is = if o.is_struct then Struct n else Table n; of_member = object_is_member n o.is_struct; has = refl }
+  go (Some o) e = record { is = if o.is_struct then Struct n else Table n; kept = object_kept rows n o.is_struct; has = refl }
 kind_of_shape rows (negsuc n) (Some (One OfObject)) h e = absurd (false≢true (sym e))
-kind_of_shape rows index (Some (One OfText)) h e = record { is = Text; of_member = tt; has = refl }
+kind_of_shape rows index (Some (One OfText)) h e = record { is = Text; kept = λ h. tt; has = refl }
 kind_of_shape rows index None h e = absurd (false≢true h)
 kind_of_shape rows index (Some (One (OfScalar s))) h e = absurd (false≢true h)
 kind_of_shape rows index (Some (One OfUnion)) h e = absurd (false≢true h)
@@ -98,7 +97,7 @@ kind_of_shape rows index (Some (Vector s)) h e = absurd (false≢true h)
 kind_of_shape rows index (Some (Array s)) h e = absurd (false≢true h)
 
 -- a member that breaks no demand has a kind
-member_has_kind : (rows : Rows) (m : Member) (taken named : Bool) → first_code (member_demands rows m taken named) ≡ None → is_member_value m.value ≡ true → HasKind (kind_of rows m.ty)
+member_has_kind : (rows : Rows) (m : Member) (taken named : Bool) → first_code (member_demands rows m taken named) ≡ None → is_member_value m.value ≡ true → HasKind rows (kind_of rows m.ty)
 unfolding kind_of names_no_object
 member_has_kind rows m taken named clear h =
     let ds = member_demands rows m taken named in
@@ -107,7 +106,7 @@ member_has_kind rows m taken named clear h =
     let there = and_false (int_eq m.value (pos 0)) (is_object (shape_of m.ty) && is_none (entry_at rows.objects m.ty.index)) (clear_line ds clear 3 _ refl) real in
     kind_of_shape rows m.ty.index (shape_of m.ty) fits there
 
-asked_at : (rows : Rows) (members : List Member) (q : ℕ) (m : Member) → slice_get members q ≡ Some m → first_code (members_asked rows members q) ≡ None → is_member_value m.value ≡ true → HasKind (kind_of rows m.ty)
+asked_at : (rows : Rows) (members : List Member) (q : ℕ) (m : Member) → slice_get members q ≡ Some m → first_code (members_asked rows members q) ≡ None → is_member_value m.value ≡ true → HasKind rows (kind_of rows m.ty)
 asked_at rows members q m at clear h = member_has_kind rows m _ _ (sym (ap (λ x. first_code (demands_of_member rows members q x)) at) ∙ clear) h
 
 -- a union that is there has a row
@@ -127,7 +126,7 @@ value_found members v p m found e =
     some_found (λ m. is_member_value m.value && int_eq m.value (pos v)) members t.0 m t.1 (both (is_member_value m.value) (int_eq m.value (pos v)) real (real_value m.value v real e))
 
 -- and what is found by its value has a kind
-kind_found : (rows : Rows) (members : List Member) (v : ℕ) (y : Member) → ((q : ℕ) → first_code (members_asked rows members q) ≡ None) → find (λ m. is_member_value m.value && int_eq m.value (pos v)) members ≡ Some y → HasKind (kind_of rows y.ty)
+kind_found : (rows : Rows) (members : List Member) (v : ℕ) (y : Member) → ((q : ℕ) → first_code (members_asked rows members q) ≡ None) → find (λ m. is_member_value m.value && int_eq m.value (pos v)) members ≡ Some y → HasKind rows (kind_of rows y.ty)
 kind_found rows members v y clear found =
     let t = found_there (λ m. is_member_value m.value && int_eq m.value (pos v)) members y found in
     asked_at rows members t.0 y t.1 (clear t.0) (first (is_member_value y.value) (int_eq y.value (pos v)) t.2)
@@ -140,16 +139,16 @@ named_is : (rows : Rows) (e v : ℕ) (name : List ℕ) → member_named rows e n
 unfolding member_named
 named_is rows e v name h = named_value (find (λ m. bytes_eq m.name name) (members_of rows e)) v h
 
-in_row : (rows : Rows) (e v : ℕ) (name : List ℕ) → IsLegal rows → (row : Enum) → slice_get rows.enums e ≡ Some row → row.is_union ≡ true → member_named rows e name ≡ Some v → (kind : Kind) × (member_of rows e v ≡ Some kind) × IsMemberKind kind
+in_row : (rows : Rows) (e v : ℕ) (name : List ℕ) → IsLegal rows → (row : Enum) → slice_get rows.enums e ≡ Some row → row.is_union ≡ true → member_named rows e name ≡ Some v → (kind : Kind) × (member_of rows e v ≡ Some kind) × IsKept rows kind
 in_row rows e v name legal row at union named =
     let n = named_is rows e v name named in
     let f : find (λ m. is_member_value m.value && bytes_eq m.name name) row.members ≡ Some n.0 = sym (found_among rows e row at union (λ m. bytes_eq m.name name)) ∙ n.1 in
     let s = value_found row.members v (λ m. bytes_eq m.name name) n.0 f n.2 in
     let k = kind_found rows row.members v s.0 (clear rows e row at union legal) s.1 in
     let g : find (λ m. int_eq m.value (pos v)) (members_of rows e) ≡ Some s.0 = found_among rows e row at union (λ m. int_eq m.value (pos v)) ∙ s.1 in
-    (k.is, looked_up rows e v s.0 k.is g k.has, k.of_member)
+    (k.is, looked_up rows e v s.0 k.is g k.has, k.kept)
 
-pub member_there : (rows : Rows) (e v : ℕ) (name : List ℕ) → IsLegal rows → IsTrue (is_union rows e) → member_named rows e name ≡ Some v → (kind : Kind) × (member_of rows e v ≡ Some kind) × IsMemberKind kind
+pub member_there : (rows : Rows) (e v : ℕ) (name : List ℕ) → IsLegal rows → IsTrue (is_union rows e) → member_named rows e name ≡ Some v → (kind : Kind) × (member_of rows e v ≡ Some kind) × IsKept rows kind
 member_there rows e v name legal h named =
     let u = union_row (slice_get rows.enums e) h in
     in_row rows e v name legal u.0 u.1 u.2 named
