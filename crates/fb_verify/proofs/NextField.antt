@@ -12,7 +12,7 @@ use Rattle.fb_verify.specs.declared.stack.Walk.{Walk}
 use Rattle.fb_verify.specs.Bounds.{AreAllowed}
 use Rattle.fb_verify.specs.Cost.{own_reads}
 use Rattle.fb_verify.specs.Fields.{entries}
-use Rattle.fb_verify.specs.OffsetRows.{words_of, IsRow, IsTyped}
+use Rattle.fb_verify.specs.OffsetRows.{words_of, IsRow, IsTyped, IsAskable}
 use Rattle.fb_verify.specs.Order.{◌▷◌, own_failure}
 use Rattle.fb_verify.specs.PassesOn.{HasPassed, PassesFields}
 use Rattle.fb_verify.specs.Stack.{blank, frame_work, Waiting, IsWalking, IsStopped}
@@ -36,11 +36,12 @@ pub record AtNext (w : Walk) (m : Metered) (under : Waiting) (top : Frame) (fiel
   pub here : slice_get (live_fields w.schema.now (top.table).object) top.next ≡ Some field
 
 module _ {w : Walk} {m : Metered} {under : Waiting} {top : Frame} {field : Live} (h : AtNext w m under top field) where
-  pub kind_holds : KindHolds w.schema.now field field.kind
-  kind_holds = ((h.walking).served).kinds (top.table).object top.next field h.here
-
-  pub types_checked : IsTyped m.bytes (top.table).at field.slot field.kind
-  types_checked = next_typed w.checks m.bytes w.schema.now w.limits under.start under.frames top w.tables w.deepest m.count (h.walking).standing field (h.walking).served h.rests h.here
+  pub askable : IsAskable m.bytes w.schema.now (top.table).at field field.kind
+  askable = record {
+    served = (h.walking).served;
+    holds = ((h.walking).served).kinds (top.table).object top.next field h.here;
+    typed = next_typed w.checks m.bytes w.schema.now w.limits under.start under.frames top w.tables w.deepest m.count (h.walking).standing field (h.walking).served h.rests h.here;
+  }
 
   -- it fails by itself
   pub next_stops : (f : Fault)

@@ -1,10 +1,12 @@
 -- The offset words that are left of a field, as a walk keeps them.
-use Rattle.std.specs.Prelude.{◌≡◌, ℕ, ◌+◌, ◌-◌, ◌*◌, ◌<◌, ◌≤◌, ◌^◌, List, length, Some, IsTrue}
+use Rattle.std.specs.Prelude.{◌≡◌, ℕ, ◌+◌, ◌-◌, ◌*◌, ◌<◌, ◌≤◌, ◌^◌, List, [], length, Some, Bool, true, false, IsTrue}
 use Rattle.fb_bytes.specs.Word.{word}
 use Rattle.fb_schema.specs.declared.kinds.Kind.{Kind}
 use Rattle.fb_schema.specs.declared.kinds.Kind.TheVariants.{Scalar, Text, Struct, Table, Union, Unions}
 use Rattle.fb_schema.specs.Rows.{Rows, is_table, is_union}
 use Rattle.fb_schema.specs.Members.{member_of}
+use Rattle.fb_schema.specs.Live.{Live}
+use Rattle.fb_schema.specs.Served.{IsServed, KindHolds}
 use Rattle.fb_verify.specs.declared.offset_row.Referent.{Referent}
 use Rattle.fb_verify.specs.declared.offset_row.Referent.TheVariants.{Text as AText, Table as ATable, Struct as AStruct, Nothing}
 use Rattle.fb_verify.specs.declared.offset_row.Leads.{Leads}
@@ -78,6 +80,12 @@ pub record IsRow (b : List ℕ) (S : Rows) (r : Row) : Type 0 where
   pub left : r.left < 2 ^ 29
   pub leads : 0 < r.left → AreLeads b S r.left r.leads
 
+-- a field with these offset words was passed: it leads on, and the row is theirs; or it doesn't, and the row stays
+pub record LeavesRow (b : List ℕ) (S : Rows) (xs : List Entry) (old new : Row) (more : Bool) : Type 0 where
+  pub none : more ≡ false → (xs ≡ []) × (new ≡ old)
+  pub entries : more ≡ true → xs ≡ words_of b S new
+  pub row : more ≡ true → IsRow b S new × (0 < new.left)
+
 -- the type fields of a union and of a vector of unions were checked before: the types lie in the buffer
 pub record TypeFits (b : List ℕ) (t o : ℕ) : Type 0 where
   pub slot : 2 ≤ o
@@ -93,6 +101,12 @@ abbrev pub IsTyped : List ℕ → ℕ → ℕ → Kind → Type 0
 IsTyped b t o (Union e) = TypeFits b t o
 IsTyped b t o (Unions e) = TypesFit b t o
 IsTyped b t o _ = Unit {0}
+
+-- a walk can ask the field f of the table at t: what its kind names is there, and a union's types were checked before
+pub record IsAskable (b : List ℕ) (S : Rows) (t : ℕ) (f : Live) (kind : Kind) : Type 0 where
+  pub served : IsServed S
+  pub holds : KindHolds S f kind
+  pub typed : IsTyped b t f.slot kind
 
 -- what doesn't stand whole in its table's slot or one offset word
 abbrev pub IsVectorOrUnion : Kind → Type 0

@@ -6,8 +6,8 @@ ghost use Rattle.fb_verify.specs.Places.{target};
 ghost use Rattle.fb_verify.specs.WellFormed.{base, prefix_reads, ident_reads, start_reads};
 ghost use Rattle.fb_verify.specs.Bounds.{AreAllowed};
 ghost use Rattle.fb_verify.specs.Stops.{reads_failure};
-ghost use Rattle.fb_verify.specs.Order.{after, ◌▷◌, prefix_failure, ident_failure, start_failure};
-ghost use Rattle.fb_verify.specs.Told.{told, refused, stopped};
+ghost use Rattle.fb_verify.specs.Order.{◌▷◌, prefix_failure, ident_failure, start_failure};
+ghost use Rattle.fb_verify.specs.Told.{told, stopped, IsAsked};
 
 use crate::budget::ask_reads;
 use crate::checks::Checks;
@@ -33,10 +33,7 @@ fn base_of(start: Start) -> u64
 #[tactic(auto, unfolding(crate::specs::Order::prefix_failure))]
 fn read_prefix(meter: &mut Tally<'_>, start: Start) -> Result<(), Refusal>
     requires few { meter.old.count < 2 ^ 99 }
-    ensures ok { IfOk result (λ _. prefix_failure meter.old.bytes start ≡ None) }
-    ensures counted { IfOk result (λ _. meter.new ≡ record meter.old { count = meter.old.count + prefix_reads start }) }
-    ensures err { IfErr result (λ e. after meter.old.count (prefix_failure meter.old.bytes start) ≡ Some (refused e meter.new.count)) }
-    ensures bytes { meter.new.bytes ≡ meter.old.bytes }
+    ensures asked { IsAsked meter.old meter.new (prefix_failure meter.old.bytes start) (prefix_reads start) result }
 {
     match start {
         Start::Bare => Ok(()),
@@ -65,10 +62,7 @@ fn number_of(name: [u8; 4]) -> u32
 #[tactic(auto, unfolding(crate::specs::Order::ident_failure))]
 fn read_ident(meter: &mut Tally<'_>, at: u64, ident: Ident) -> Result<(), Refusal>
     requires few { meter.old.count < 2 ^ 99 }
-    ensures ok { IfOk result (λ _. ident_failure meter.old.bytes at ident ≡ None) }
-    ensures counted { IfOk result (λ _. meter.new ≡ record meter.old { count = meter.old.count + ident_reads ident }) }
-    ensures err { IfErr result (λ e. after meter.old.count (ident_failure meter.old.bytes at ident) ≡ Some (refused e meter.new.count)) }
-    ensures bytes { meter.new.bytes ≡ meter.old.bytes }
+    ensures asked { IsAsked meter.old meter.new (ident_failure meter.old.bytes at ident) (ident_reads ident) result }
 {
     match ident {
         Ident::Any => Ok(()),
@@ -93,12 +87,9 @@ fn check_start(
     ident: Ident,
 ) -> Result<u64, Refusal>
     requires few { meter.old.count < 2 ^ 98 }
-    ensures ok { IfOk result (λ _. start_failure checks meter.old.bytes start ident ≡ None) }
+    ensures asked { IsAsked meter.old meter.new (start_failure checks meter.old.bytes start ident) (start_reads start ident) result }
     ensures value { IfOk result (λ t. t ≡ target meter.old.bytes (base start)) }
     ensures near { IfOk result (λ t. t < 2 ^ 33) }
-    ensures counted { IfOk result (λ _. meter.new ≡ record meter.old { count = meter.old.count + start_reads start ident }) }
-    ensures err { IfErr result (λ e. after meter.old.count (start_failure checks meter.old.bytes start ident) ≡ Some (refused e meter.new.count)) }
-    ensures bytes { meter.new.bytes ≡ meter.old.bytes }
 {
     let base = base_of(start);
     read_prefix(meter, start)?;

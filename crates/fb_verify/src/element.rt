@@ -1,6 +1,6 @@
 // The tests of an offset word by which a field leads on, and of what it refers to, but for a table.
 
-ghost use Rattle.std.specs.Prelude.{◌≡◌, ◌+◌, ◌*◌, ◌^◌, ◌<◌, ◌≤◌, length, IfOk, IfErr, IfSome, MatchOption, IsTrue, Some, None};
+ghost use Rattle.std.specs.Prelude.{◌≡◌, ◌+◌, ◌^◌, ◌<◌, IfOk, IfErr, IfSome, MatchOption, IsTrue, Some, None};
 ghost use Rattle.fb_schema.specs.Rows.{is_table};
 ghost use Rattle.fb_verify.specs.declared.offset_row.Referent.TheVariants.{Table as ATable};
 ghost use Rattle.fb_verify.specs.Places.{target};
@@ -8,8 +8,8 @@ ghost use Rattle.fb_verify.specs.Cost.{lead_reads};
 ghost use Rattle.fb_verify.specs.Fields.{to_table};
 ghost use Rattle.fb_verify.specs.Bounds.{AreAllowed};
 ghost use Rattle.fb_verify.specs.Stops.{lead_reads_failure};
-ghost use Rattle.fb_verify.specs.Order.{after, ◌▷◌, lead_failure, element_failure};
-ghost use Rattle.fb_verify.specs.Told.{told, refused, stopped};
+ghost use Rattle.fb_verify.specs.Order.{◌▷◌, lead_failure, element_failure};
+ghost use Rattle.fb_verify.specs.Told.{told, stopped, IsAsked};
 ghost use Rattle.fb_verify.specs.OffsetRows.{lead_to, first_word, IsSized, IsRow, IsLeafLead};
 ghost use Rattle.fb_schema.specs.Served.{IsServed};
 
@@ -39,13 +39,10 @@ fn pass_referent(
 ) -> Result<Option<Child>, Refusal>
     requires few { meter.old.count < 2 ^ 97 }
     requires align { IsSized referent }
-    ensures ok { IfOk result (λ _. lead_failure checks meter.old.bytes place (lead_to referent) ≡ None) }
+    ensures asked { IsAsked meter.old meter.new (lead_failure checks meter.old.bytes place (lead_to referent)) (lead_reads (lead_to referent)) result }
     ensures child { IfOk result (λ o. MatchOption o (IsLeafLead (lead_to referent)) (λ child. (lead_to referent ≡ to_table child.object) × (child.at ≡ target meter.old.bytes place))) }
     ensures object { IfOk result (λ o. IfSome o (λ child. referent ≡ ATable child.object)) }
     ensures near { IfOk result (λ o. IfSome o (λ child. child.at < 2 ^ 33)) }
-    ensures counted { IfOk result (λ _. meter.new ≡ record meter.old { count = meter.old.count + lead_reads (lead_to referent) }) }
-    ensures err { IfErr result (λ e. after meter.old.count (lead_failure checks meter.old.bytes place (lead_to referent)) ≡ Some (refused e meter.new.count)) }
-    ensures bytes { meter.new.bytes ≡ meter.old.bytes }
 {
     match referent {
         Referent::Nothing => Ok(None),

@@ -1,20 +1,18 @@
 // The tests of a field of a table, by its kind, before what it leads to.
 
-ghost use Rattle.std.specs.Prelude.{◌≡◌, ◌+◌, ◌-◌, ◌*◌, ◌^◌, ◌<◌, ◌≤◌, length, [], IfOk, IfErr, IsTrue, Some, None, true, false};
+ghost use Rattle.std.specs.Prelude.{◌≡◌, ◌+◌, ◌-◌, ◌*◌, ◌^◌, ◌<◌, ◌≤◌, length, IfOk, IsTrue, Some};
 ghost use Rattle.fb_bytes.specs.Word.{word};
 ghost use Rattle.fb_schema.specs.Rows.{is_union};
 ghost use Rattle.fb_schema.specs.Members.{member_of};
 ghost use Rattle.fb_schema.specs.Live.{live_of_view};
 ghost use Rattle.fb_verify.specs.Places.{target, has_slot, field_place};
 ghost use Rattle.fb_verify.specs.Fields.{type_place, union_type, type_count, types_begin, entries_of, entries, union_entry, lead_of};
-ghost use Rattle.fb_verify.specs.Cost.{own_reads, present_reads, slot_reads, reads_if_present};
-ghost use Rattle.fb_verify.specs.Bounds.{AreAllowed};
-ghost use Rattle.fb_verify.specs.Stops.{reads_failure};
-ghost use Rattle.fb_verify.specs.Order.{after, ◌▷◌, vector_field_failure, unions_field_failure, union_field_failure, present_failure, own_failure};
+ghost use Rattle.fb_verify.specs.Cost.{own_reads, present_reads, reads_if_present};
+ghost use Rattle.fb_verify.specs.Order.{after, vector_field_failure, unions_field_failure, union_field_failure, present_failure, own_failure};
 ghost use Rattle.fb_verify.specs.declared.offset_row.Leads.TheVariants.{All, ByType};
-ghost use Rattle.fb_verify.specs.Told.{told, refused, stopped, IsHead, IsVtable};
-ghost use Rattle.fb_schema.specs.Served.{IsServed, KindHolds, MemberHolds};
-ghost use Rattle.fb_verify.specs.OffsetRows.{words_of, lead_to, IsReferent, IsRow, TypeFits, TypesFit, IsTyped, IsVectorOrUnion};
+ghost use Rattle.fb_verify.specs.Told.{IsHead, IsVtable, IsPlaced, IsAsked, IsAskedAt};
+ghost use Rattle.fb_schema.specs.Served.{IsServed, MemberHolds};
+ghost use Rattle.fb_verify.specs.OffsetRows.{words_of, IsAskable, lead_to, IsReferent, IsRow, LeavesRow, TypeFits, TypesFit, IsVectorOrUnion};
 
 use crate::budget::ask_reads;
 use crate::checks::Checks;
@@ -61,16 +59,11 @@ fn read_vector_field(
 ) -> Result<Vector, Refusal>
     requires few { meter.old.count < 2 ^ 98 }
     requires align { 0 < align }
-    requires near { spot.at < 2 ^ 33 }
-    requires near_place { spot.place < 2 ^ 34 }
-    requires head { IsHead checks meter.old.bytes spot.at spot.head }
-    ensures ok { IfOk result (λ _. vector_field_failure checks meter.old.bytes spot.at spot.place size align ≡ None) }
+    requires placed { IsPlaced checks meter.old.bytes spot.at spot.head spot.place }
+    ensures asked { IsAsked meter.old meter.new (vector_field_failure checks meter.old.bytes spot.at spot.place size align) 2 result }
     ensures at { IfOk result (λ v. v.at ≡ target meter.old.bytes spot.place) }
     ensures count { IfOk result (λ v. v.count ≡ word meter.old.bytes (target meter.old.bytes spot.place) 4) }
     ensures within { IfOk result (λ v. v.at + 4 + v.count * size < 2 ^ 31) }
-    ensures counted { IfOk result (λ _. meter.new ≡ record meter.old { count = meter.old.count + 2 }) }
-    ensures err { IfErr result (λ e. after meter.old.count (vector_field_failure checks meter.old.bytes spot.at spot.place size align) ≡ Some (refused e meter.new.count)) }
-    ensures bytes { meter.new.bytes ≡ meter.old.bytes }
 {
     check_end(meter, checks, spot.at, spot.head, spot.place, 4)?;
     let at = read_offset(meter, checks, spot.place)?;
@@ -90,13 +83,8 @@ fn check_vector_field(
 ) -> Result<(), Refusal>
     requires few { meter.old.count < 2 ^ 98 }
     requires align { 0 < align }
-    requires near { spot.at < 2 ^ 33 }
-    requires near_place { spot.place < 2 ^ 34 }
-    requires head { IsHead checks meter.old.bytes spot.at spot.head }
-    ensures ok { IfOk result (λ _. vector_field_failure checks meter.old.bytes spot.at spot.place size align ≡ None) }
-    ensures counted { IfOk result (λ _. meter.new ≡ record meter.old { count = meter.old.count + 2 }) }
-    ensures err { IfErr result (λ e. after meter.old.count (vector_field_failure checks meter.old.bytes spot.at spot.place size align) ≡ Some (refused e meter.new.count)) }
-    ensures bytes { meter.new.bytes ≡ meter.old.bytes }
+    requires placed { IsPlaced checks meter.old.bytes spot.at spot.head spot.place }
+    ensures asked { IsAsked meter.old meter.new (vector_field_failure checks meter.old.bytes spot.at spot.place size align) 2 result }
 {
     match read_vector_field(meter, checks, spot, size, align) {
         Ok(_) => Ok(()),
@@ -182,15 +170,10 @@ fn pass_union(
     requires present { IsTrue (has_slot meter.old.bytes spot.at slot) }
     requires typed { TypeFits meter.old.bytes spot.at slot }
     requires few { meter.old.count < 2 ^ 98 }
-    requires near { spot.at < 2 ^ 33 }
-    requires near_place { spot.place < 2 ^ 34 }
-    requires head { IsHead checks meter.old.bytes spot.at spot.head }
-    ensures ok { IfOk result (λ _. union_field_failure checks meter.old.bytes spot.at spot.place (member_of schema.now union (union_type meter.old.bytes (type_place meter.old.bytes spot.at slot))) ≡ None) }
+    requires placed { IsPlaced checks meter.old.bytes spot.at spot.head spot.place }
+    ensures asked { IsAsked meter.old meter.new (after (1 + reads_if_present 1 (type_place meter.old.bytes spot.at slot)) (union_field_failure checks meter.old.bytes spot.at spot.place (member_of schema.now union (union_type meter.old.bytes (type_place meter.old.bytes spot.at slot))))) (1 + reads_if_present 1 (type_place meter.old.bytes spot.at slot)) result }
     ensures entries { IfOk result (λ r. union_entry schema.now spot.place (member_of schema.now union (union_type meter.old.bytes (type_place meter.old.bytes spot.at slot))) ≡ words_of meter.old.bytes schema.now r) }
     ensures row { IfOk result (λ r. IsRow meter.old.bytes schema.now r) }
-    ensures counted { IfOk result (λ _. meter.new ≡ record meter.old { count = meter.old.count + (1 + reads_if_present 1 (type_place meter.old.bytes spot.at slot)) }) }
-    ensures err { IfErr result (λ e. after meter.old.count (after (1 + reads_if_present 1 (type_place meter.old.bytes spot.at slot)) (union_field_failure checks meter.old.bytes spot.at spot.place (member_of schema.now union (union_type meter.old.bytes (type_place meter.old.bytes spot.at slot))))) ≡ Some (refused e meter.new.count)) }
-    ensures bytes { meter.new.bytes ≡ meter.old.bytes }
 {
     let value = read_type(meter, spot, slot);
     let Some(member) = schema.member_of(union, value) else {
@@ -212,17 +195,12 @@ fn pass_unions(
     requires present { IsTrue (has_slot meter.old.bytes spot.at slot) }
     requires typed { TypesFit meter.old.bytes spot.at slot }
     requires few { meter.old.count < 2 ^ 97 }
-    requires near { spot.at < 2 ^ 33 }
-    requires near_place { spot.place < 2 ^ 34 }
-    requires head { IsHead checks meter.old.bytes spot.at spot.head }
-    ensures ok { IfOk result (λ _. unions_field_failure checks meter.old.bytes spot.at spot.place (type_place meter.old.bytes spot.at slot) ≡ None) }
+    requires placed { IsPlaced checks meter.old.bytes spot.at spot.head spot.place }
+    ensures asked { IsAsked meter.old meter.new (after (1 + reads_if_present 2 (type_place meter.old.bytes spot.at slot)) (unions_field_failure checks meter.old.bytes spot.at spot.place (type_place meter.old.bytes spot.at slot))) (1 + reads_if_present 2 (type_place meter.old.bytes spot.at slot) + 2) result }
     ensures row { IfOk result (λ r. r ≡ record { leads = ByType union (types_begin meter.old.bytes (type_place meter.old.bytes spot.at slot)); place = target meter.old.bytes spot.place + 4; left = word meter.old.bytes (target meter.old.bytes spot.place) 4 }) }
     ensures types { IfOk result (λ r. types_begin meter.old.bytes (type_place meter.old.bytes spot.at slot) + r.left ≤ length meter.old.bytes) }
     ensures types_near { IfOk result (λ r. types_begin meter.old.bytes (type_place meter.old.bytes spot.at slot) + r.left < 2 ^ 36) }
     ensures within { IfOk result (λ r. r.place + 4 * r.left < 2 ^ 31) }
-    ensures counted { IfOk result (λ _. meter.new ≡ record meter.old { count = meter.old.count + (1 + reads_if_present 2 (type_place meter.old.bytes spot.at slot) + 2) }) }
-    ensures err { IfErr result (λ e. after meter.old.count (after (1 + reads_if_present 2 (type_place meter.old.bytes spot.at slot)) (unions_field_failure checks meter.old.bytes spot.at spot.place (type_place meter.old.bytes spot.at slot))) ≡ Some (refused e meter.new.count)) }
-    ensures bytes { meter.new.bytes ≡ meter.old.bytes }
 {
     let types = read_types(meter, spot, slot);
     let values = read_vector_field(meter, checks, spot, 4, 4)?;
@@ -245,15 +223,10 @@ fn pass_vector(
     referent: Referent,
 ) -> Result<Row, Refusal>
     requires few { meter.old.count < 2 ^ 97 }
-    requires near { spot.at < 2 ^ 33 }
-    requires near_place { spot.place < 2 ^ 34 }
-    requires head { IsHead checks meter.old.bytes spot.at spot.head }
-    ensures ok { IfOk result (λ _. vector_field_failure checks meter.old.bytes spot.at spot.place 4 4 ≡ None) }
+    requires placed { IsPlaced checks meter.old.bytes spot.at spot.head spot.place }
+    ensures asked { IsAsked meter.old meter.new (vector_field_failure checks meter.old.bytes spot.at spot.place 4 4) 2 result }
     ensures row { IfOk result (λ r. r ≡ record { leads = All referent; place = target meter.old.bytes spot.place + 4; left = word meter.old.bytes (target meter.old.bytes spot.place) 4 }) }
     ensures within { IfOk result (λ r. r.place + 4 * r.left < 2 ^ 31) }
-    ensures counted { IfOk result (λ _. meter.new ≡ record meter.old { count = meter.old.count + 2 }) }
-    ensures err { IfErr result (λ e. after meter.old.count (vector_field_failure checks meter.old.bytes spot.at spot.place 4 4) ≡ Some (refused e meter.new.count)) }
-    ensures bytes { meter.new.bytes ≡ meter.old.bytes }
 {
     let vector = read_vector_field(meter, checks, spot, 4, 4)?;
     Ok(Row {
@@ -274,21 +247,14 @@ fn check_vector_or_union(
     spot: FieldSpot,
     field: &FieldView<'_>,
 ) -> Result<Row, Refusal>
-    requires served { IsServed schema.now }
-    requires kind { KindHolds schema.now (live_of_view field.now) (field.now).kind }
+    requires askable { IsAskable meter.old.bytes schema.now spot.at (live_of_view field.now) (field.now).kind }
     requires far { IsVectorOrUnion (field.now).kind }
-    requires typed { IsTyped meter.old.bytes spot.at (field.now).slot (field.now).kind }
     requires present { IsTrue (has_slot meter.old.bytes spot.at (field.now).slot) }
     requires few { meter.old.count < 2 ^ 97 }
-    requires near { spot.at < 2 ^ 33 }
-    requires near_place { spot.place < 2 ^ 34 }
-    requires head { IsHead checks meter.old.bytes spot.at spot.head }
-    ensures ok { IfOk result (λ _. present_failure checks meter.old.bytes schema.now spot.at (live_of_view field.now) spot.place (field.now).kind ≡ None) }
+    requires placed { IsPlaced checks meter.old.bytes spot.at spot.head spot.place }
+    ensures asked { IsAsked meter.old meter.new (present_failure checks meter.old.bytes schema.now spot.at (live_of_view field.now) spot.place (field.now).kind) (present_reads meter.old.bytes spot.at (field.now).slot (field.now).kind) result }
     ensures entries { IfOk result (λ r. entries_of meter.old.bytes schema.now spot.at (live_of_view field.now) spot.place (field.now).kind ≡ words_of meter.old.bytes schema.now r) }
     ensures row { IfOk result (λ r. IsRow meter.old.bytes schema.now r) }
-    ensures counted { IfOk result (λ _. meter.new ≡ record meter.old { count = meter.old.count + present_reads meter.old.bytes spot.at (field.now).slot (field.now).kind }) }
-    ensures err { IfErr result (λ e. after meter.old.count (present_failure checks meter.old.bytes schema.now spot.at (live_of_view field.now) spot.place (field.now).kind) ≡ Some (refused e meter.new.count)) }
-    ensures bytes { meter.new.bytes ≡ meter.old.bytes }
 {
     match field.kind {
         Kind::Union(union) => { pass_union(meter, schema, checks, spot, field.slot, union) }
@@ -315,21 +281,12 @@ fn check_present(
     field: &FieldView<'_>,
     row: &mut Row,
 ) -> Result<bool, Refusal>
-    requires served { IsServed schema.now }
-    requires kind { KindHolds schema.now (live_of_view field.now) (field.now).kind }
-    requires typed { IsTyped meter.old.bytes spot.at (field.now).slot (field.now).kind }
+    requires askable { IsAskable meter.old.bytes schema.now spot.at (live_of_view field.now) (field.now).kind }
     requires present { IsTrue (has_slot meter.old.bytes spot.at (field.now).slot) }
     requires few { meter.old.count < 2 ^ 97 }
-    requires near { spot.at < 2 ^ 33 }
-    requires near_place { spot.place < 2 ^ 34 }
-    requires head { IsHead checks meter.old.bytes spot.at spot.head }
-    ensures ok { IfOk result (λ _. present_failure checks meter.old.bytes schema.now spot.at (live_of_view field.now) spot.place (field.now).kind ≡ None) }
-    ensures none { IfOk result (λ more. more ≡ false → (entries_of meter.old.bytes schema.now spot.at (live_of_view field.now) spot.place (field.now).kind ≡ []) × (row.new ≡ row.old)) }
-    ensures entries { IfOk result (λ more. more ≡ true → entries_of meter.old.bytes schema.now spot.at (live_of_view field.now) spot.place (field.now).kind ≡ words_of meter.old.bytes schema.now row.new) }
-    ensures row { IfOk result (λ more. more ≡ true → IsRow meter.old.bytes schema.now row.new × (0 < (row.new).left)) }
-    ensures counted { IfOk result (λ _. meter.new ≡ record meter.old { count = meter.old.count + present_reads meter.old.bytes spot.at (field.now).slot (field.now).kind }) }
-    ensures err { IfErr result (λ e. after meter.old.count (present_failure checks meter.old.bytes schema.now spot.at (live_of_view field.now) spot.place (field.now).kind) ≡ Some (refused e meter.new.count)) }
-    ensures bytes { meter.new.bytes ≡ meter.old.bytes }
+    requires placed { IsPlaced checks meter.old.bytes spot.at spot.head spot.place }
+    ensures asked { IsAsked meter.old meter.new (present_failure checks meter.old.bytes schema.now spot.at (live_of_view field.now) spot.place (field.now).kind) (present_reads meter.old.bytes spot.at (field.now).slot (field.now).kind) result }
+    ensures leads { IfOk result (λ more. LeavesRow meter.old.bytes schema.now (entries_of meter.old.bytes schema.now spot.at (live_of_view field.now) spot.place (field.now).kind) row.old row.new more) }
 {
     match field.kind {
         Kind::Scalar(_) | Kind::Struct(_) => {
@@ -366,24 +323,14 @@ pub fn pass_present(
     field: &FieldView<'_>,
     row: &mut Row,
 ) -> Result<bool, Stop>
-    requires served { IsServed schema.now }
-    requires kind { KindHolds schema.now (live_of_view field.now) (field.now).kind }
-    requires typed { IsTyped meter.old.bytes table.at (field.now).slot (field.now).kind }
+    requires askable { IsAskable meter.old.bytes schema.now table.at (live_of_view field.now) (field.now).kind }
     requires present { field_place meter.old.bytes table.at (field.now).slot ≡ Some place }
     requires slot { IsTrue (has_slot meter.old.bytes table.at (field.now).slot) }
     requires counted { 1 ≤ meter.old.count }
     requires few { meter.old.count ≤ 2 ^ 96 + 2 ^ 95 }
-    requires near { table.at < 2 ^ 33 }
-    requires near_place { place < 2 ^ 34 }
-    requires head { IsHead checks meter.old.bytes table.at table.head }
-    ensures ok { IfOk result (λ _. own_failure checks meter.old.bytes schema.now table.at (live_of_view field.now) ≡ None) }
-    ensures none { IfOk result (λ more. more ≡ false → (entries meter.old.bytes schema.now table.at (live_of_view field.now) ≡ []) × (row.new ≡ row.old)) }
-    ensures entries { IfOk result (λ more. more ≡ true → entries meter.old.bytes schema.now table.at (live_of_view field.now) ≡ words_of meter.old.bytes schema.now row.new) }
-    ensures row { IfOk result (λ more. more ≡ true → IsRow meter.old.bytes schema.now row.new × (0 < (row.new).left)) }
-    ensures counted { IfOk result (λ _. meter.new ≡ record meter.old { count = meter.old.count - 1 + own_reads meter.old.bytes table.at (live_of_view field.now) }) }
-    ensures reads { IfOk result (λ _. AreAllowed limits.reads meter.new.count) }
-    ensures err { IfErr result (λ s. told (record { object = table.object; field = Some (field.now).number }) (meter.old.count - 1) (own_failure checks meter.old.bytes schema.now table.at (live_of_view field.now) ▷ reads_failure limits (meter.old.count - 1) (own_reads meter.old.bytes table.at (live_of_view field.now)) table.at) ≡ Some (stopped s meter.new.count)) }
-    ensures bytes { meter.new.bytes ≡ meter.old.bytes }
+    requires placed { IsPlaced checks meter.old.bytes table.at table.head place }
+    ensures asked { IsAskedAt (record { object = table.object; field = Some (field.now).number }) limits (record meter.old { count = meter.old.count - 1 }) meter.new (own_failure checks meter.old.bytes schema.now table.at (live_of_view field.now)) (own_reads meter.old.bytes table.at (live_of_view field.now)) table.at result }
+    ensures leads { IfOk result (λ more. LeavesRow meter.old.bytes schema.now (entries meter.old.bytes schema.now table.at (live_of_view field.now)) row.old row.new more) }
 {
     let site = Site {
         object: table.object,
@@ -416,20 +363,12 @@ pub fn pass_field(
     field: &FieldView<'_>,
     row: &mut Row,
 ) -> Result<bool, Stop>
-    requires served { IsServed schema.now }
-    requires kind { KindHolds schema.now (live_of_view field.now) (field.now).kind }
-    requires typed { IsTyped meter.old.bytes table.at (field.now).slot (field.now).kind }
+    requires askable { IsAskable meter.old.bytes schema.now table.at (live_of_view field.now) (field.now).kind }
     requires few { meter.old.count < 2 ^ 96 + 2 ^ 95 }
     requires near { table.at < 2 ^ 33 }
     requires head { IsHead checks meter.old.bytes table.at table.head }
-    ensures ok { IfOk result (λ _. own_failure checks meter.old.bytes schema.now table.at (live_of_view field.now) ≡ None) }
-    ensures none { IfOk result (λ more. more ≡ false → (entries meter.old.bytes schema.now table.at (live_of_view field.now) ≡ []) × (row.new ≡ row.old)) }
-    ensures entries { IfOk result (λ more. more ≡ true → entries meter.old.bytes schema.now table.at (live_of_view field.now) ≡ words_of meter.old.bytes schema.now row.new) }
-    ensures row { IfOk result (λ more. more ≡ true → IsRow meter.old.bytes schema.now row.new × (0 < (row.new).left)) }
-    ensures counted { IfOk result (λ _. meter.new ≡ record meter.old { count = meter.old.count + own_reads meter.old.bytes table.at (live_of_view field.now) }) }
-    ensures reads { IfOk result (λ _. AreAllowed limits.reads meter.new.count) }
-    ensures err { IfErr result (λ s. told (record { object = table.object; field = Some (field.now).number }) meter.old.count (own_failure checks meter.old.bytes schema.now table.at (live_of_view field.now) ▷ reads_failure limits meter.old.count (own_reads meter.old.bytes table.at (live_of_view field.now)) table.at) ≡ Some (stopped s meter.new.count)) }
-    ensures bytes { meter.new.bytes ≡ meter.old.bytes }
+    ensures asked { IsAskedAt (record { object = table.object; field = Some (field.now).number }) limits meter.old meter.new (own_failure checks meter.old.bytes schema.now table.at (live_of_view field.now)) (own_reads meter.old.bytes table.at (live_of_view field.now)) table.at result }
+    ensures leads { IfOk result (λ more. LeavesRow meter.old.bytes schema.now (entries meter.old.bytes schema.now table.at (live_of_view field.now)) row.old row.new more) }
 {
     let site = Site {
         object: table.object,

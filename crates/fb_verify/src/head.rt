@@ -1,18 +1,17 @@
 // The head of a table, and the places of its fields.
 
-ghost use Rattle.std.specs.Prelude.{◌≡◌, ◌+◌, ◌^◌, ◌<◌, ◌≤◌, length, pos, nat_lt, IfOk, IfErr, IfSome, MatchOption, Some, None, IsTrue, true, false};
-ghost use Rattle.fb_verify.specs.Places.{has_vtable, has_slot, vtable, field_place, ends_in_table};
+ghost use Rattle.std.specs.Prelude.{◌≡◌, ◌+◌, ◌^◌, ◌<◌, ◌≤◌, length, nat_lt, IfOk, IfErr, IfSome, MatchOption, Some, None, IsTrue, true, false};
+ghost use Rattle.fb_verify.specs.Places.{has_vtable, has_slot, vtable, field_place};
 ghost use Rattle.fb_verify.specs.Cost.{head_reads, slot_reads};
-ghost use Rattle.fb_verify.specs.Bounds.{AreAllowed};
-ghost use Rattle.fb_verify.specs.Order.{after, ◌▷◌, head_failure, table_failure};
-ghost use Rattle.fb_verify.specs.Stops.{reads_failure};
-ghost use Rattle.fb_verify.specs.Told.{told, refused, stopped, IsVtable, IsHead};
+ghost use Rattle.fb_verify.specs.Order.{after, head_failure, table_failure};
+ghost use Rattle.fb_verify.specs.Told.{refused, IsVtable, IsHead, IsAsked, IsAskedAt};
 
 use crate::budget::ask_reads;
 use crate::checks::Checks;
 use crate::fault::Reason;
 use crate::limits::Limits;
 use crate::site::{Refusal, Site, Stop, is_aligned, refuse};
+use crate::values::check_inline;
 use fb_bytes::Tally;
 
 /// Where a table's vtable stands, its size in bytes, and the size of what stands inline in the table.
@@ -51,21 +50,13 @@ fn read_vtable_place(meter: &mut Tally<'_>, at: u64) -> Option<u64>
 
 /// Checks the head of the table at a position, and answers it.
 #[inline(always)]
-#[tactic(auto, unfolding(crate::specs::Order::head_failure))]
+#[tactic(auto, unfolding(crate::specs::Order::head_failure, crate::specs::Order::inline_failure))]
 fn check_head(meter: &mut Tally<'_>, checks: Checks, at: u64) -> Result<Head, Refusal>
     requires few { meter.old.count < 2 ^ 98 }
-    ensures ok { IfOk result (λ _. head_failure checks meter.old.bytes at ≡ None) }
+    ensures asked { IsAsked meter.old meter.new (head_failure checks meter.old.bytes at) (head_reads checks) result }
     ensures head { IfOk result (λ h. IsHead checks meter.old.bytes at h) }
-    ensures counted { IfOk result (λ _. meter.new ≡ record meter.old { count = meter.old.count + head_reads checks }) }
-    ensures err { IfErr result (λ e. after meter.old.count (head_failure checks meter.old.bytes at) ≡ Some (refused e meter.new.count)) }
-    ensures bytes { meter.new.bytes ≡ meter.old.bytes }
 {
-    if !meter.fits(at, 4) {
-        return Err(refuse(at, Reason::OutOfBuffer));
-    }
-    if !is_aligned(checks, at, 4) {
-        return Err(refuse(at, Reason::Misaligned));
-    }
+    check_inline(meter, checks, at, 4, 4)?;
     let Some(vtable) = read_vtable_place(meter, at) else {
         return Err(refuse(at, Reason::OutOfBuffer));
     };
@@ -106,12 +97,8 @@ pub fn read_head(
     at: u64,
 ) -> Result<Head, Stop>
     requires few { meter.old.count < 2 ^ 98 }
-    ensures ok { IfOk result (λ _. head_failure checks meter.old.bytes at ≡ None) }
+    ensures asked { IsAskedAt (record { object = object; field = None }) limits meter.old meter.new (head_failure checks meter.old.bytes at) (head_reads checks) at result }
     ensures head { IfOk result (λ h. IsHead checks meter.old.bytes at h) }
-    ensures counted { IfOk result (λ _. meter.new ≡ record meter.old { count = meter.old.count + head_reads checks }) }
-    ensures reads { IfOk result (λ _. AreAllowed limits.reads meter.new.count) }
-    ensures err { IfErr result (λ s. told (record { object = object; field = None }) meter.old.count (head_failure checks meter.old.bytes at ▷ reads_failure limits meter.old.count (head_reads checks) at) ≡ Some (stopped s meter.new.count)) }
-    ensures bytes { meter.new.bytes ≡ meter.old.bytes }
 {
     let site = Site {
         object,

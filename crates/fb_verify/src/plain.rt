@@ -1,6 +1,6 @@
 // The tests of fields that lead to no table, by reads that are counted in a register.
 
-ghost use Rattle.std.specs.Prelude.{◌≡◌, ℕ, ◌+◌, ◌*◌, ◌^◌, ◌<◌, length, Some, None, IfSome, IsTrue, true, false};
+ghost use Rattle.std.specs.Prelude.{◌≡◌, ℕ, ◌+◌, ◌^◌, ◌<◌, length, Some, None, IfSome, IsTrue, true, false};
 ghost use Rattle.fb_schema.specs.declared.views.Act.TheVariants.{Other};
 ghost use Rattle.fb_verify.specs.Places.{fits, target, has_slot, field_place};
 ghost use Rattle.fb_verify.specs.Cost.{slot_reads, lead_reads};
@@ -8,8 +8,8 @@ ghost use Rattle.fb_verify.specs.Fields.{to_string};
 ghost use Rattle.fb_verify.specs.declared.offset_row.Referent.TheVariants.{Table as ATable};
 ghost use Rattle.fb_verify.specs.OffsetRows.{lead_to, IsSized};
 ghost use Rattle.fb_verify.specs.Order.{after, ◌▷◌, table_failure, offset_failure, string_failure, vector_failure, inline_failure, inline_field_failure, vector_field_failure, lead_failure};
-ghost use Rattle.fb_verify.specs.Plain.{tested_by, place_from, step_failure, step_reads, IsStep, step_failure_at, step_reads_at};
-ghost use Rattle.fb_verify.specs.Told.{IsHead, IsVtable};
+ghost use Rattle.fb_verify.specs.Plain.{tested_by, IsTested, place_from, step_failure, step_reads, IsStep, step_failure_at, step_reads_at};
+ghost use Rattle.fb_verify.specs.Told.{IsVtable, IsPlaced};
 
 use crate::checks::Checks;
 use crate::fault::Reason;
@@ -40,24 +40,37 @@ fn is_inside(reads: &Reads<'_>, at: u64, n: u64) -> bool
     at + n <= reads.len()
 }
 
+/// Tests that a scalar or struct of this size and alignment stands at a position.
+#[inline(always)]
+#[tactic(auto, unfolding(crate::specs::Order::inline_failure))]
+fn test_inline(reads: &Reads<'_>, checks: Checks, at: u64, size: u32, align: u32) -> Option<Reason>
+    requires near { at < 2 ^ 35 }
+    requires align { 0 < align }
+    ensures told { tested_by at reads.now.count result ≡ after reads.now.count (inline_failure checks reads.now.bytes at size align) }
+    ensures near { result ≡ None → at + size < 2 ^ 31 }
+{
+    if !is_inside(reads, at, u64::from(size)) {
+        return fails(Reason::OutOfBuffer);
+    }
+    if !is_aligned(checks, at, align) {
+        return fails(Reason::Misaligned);
+    }
+    None
+}
+
 /// Tests the offset word at a position, and goes on where it leads.
 #[inline(always)]
-#[tactic(auto, unfolding(crate::specs::Order::offset_failure))]
+#[tactic(auto, unfolding(crate::specs::Order::offset_failure, crate::specs::Order::inline_failure))]
 fn test_offset(reads: &mut Reads<'_>, checks: Checks, at: &mut u64) -> Option<Reason>
     requires few { reads.old.count < 2 ^ 62 }
     requires near { at.old < 2 ^ 35 }
-    ensures told { tested_by at.new reads.new.count result ≡ after reads.old.count (offset_failure checks reads.old.bytes at.old) }
+    ensures tested { IsTested reads.old reads.new at.new (offset_failure checks reads.old.bytes at.old) 1 result }
     ensures value { result ≡ None → at.new ≡ target reads.old.bytes at.old }
     ensures near { result ≡ None → at.new < 2 ^ 33 }
-    ensures counted { result ≡ None → reads.new.count ≡ reads.old.count + 1 }
-    ensures bytes { reads.new.bytes ≡ reads.old.bytes }
-    ensures before { reads.new.before ≡ reads.old.before }
 {
-    if !is_inside(reads, *at, 4) {
-        return fails(Reason::OutOfBuffer);
-    }
-    if !is_aligned(checks, *at, 4) {
-        return fails(Reason::Misaligned);
+    let word = test_inline(reads, checks, *at, 4, 4);
+    if word.is_some() {
+        return word;
     }
     let offset = u64::from(reads.u32_at(*at));
     if offset == 0 {
@@ -69,20 +82,15 @@ fn test_offset(reads: &mut Reads<'_>, checks: Checks, at: &mut u64) -> Option<Re
 
 /// Tests the string at a position: its count, so many bytes, and a byte 0. It goes on to that byte.
 #[inline(always)]
-#[tactic(auto, unfolding(crate::specs::Order::string_failure))]
+#[tactic(auto, unfolding(crate::specs::Order::string_failure, crate::specs::Order::inline_failure))]
 fn test_string(reads: &mut Reads<'_>, checks: Checks, at: &mut u64) -> Option<Reason>
     requires few { reads.old.count < 2 ^ 62 }
     requires near { at.old < 2 ^ 35 }
-    ensures told { tested_by at.new reads.new.count result ≡ after reads.old.count (string_failure checks reads.old.bytes at.old) }
-    ensures counted { result ≡ None → reads.new.count ≡ reads.old.count + 2 }
-    ensures bytes { reads.new.bytes ≡ reads.old.bytes }
-    ensures before { reads.new.before ≡ reads.old.before }
+    ensures { IsTested reads.old reads.new at.new (string_failure checks reads.old.bytes at.old) 2 result }
 {
-    if !is_inside(reads, *at, 4) {
-        return fails(Reason::OutOfBuffer);
-    }
-    if !is_aligned(checks, *at, 4) {
-        return fails(Reason::Misaligned);
+    let word = test_inline(reads, checks, *at, 4, 4);
+    if word.is_some() {
+        return word;
     }
     let count = u64::from(reads.u32_at(*at));
     *at += 4;
@@ -98,7 +106,7 @@ fn test_string(reads: &mut Reads<'_>, checks: Checks, at: &mut u64) -> Option<Re
 
 /// Tests the vector at a position, of elements of this size and alignment, and goes on to the first.
 #[inline(always)]
-#[tactic(auto, unfolding(crate::specs::Order::vector_failure))]
+#[tactic(auto, unfolding(crate::specs::Order::vector_failure, crate::specs::Order::inline_failure))]
 fn test_vector(
     reads: &mut Reads<'_>,
     checks: Checks,
@@ -109,16 +117,11 @@ fn test_vector(
     requires few { reads.old.count < 2 ^ 62 }
     requires near { at.old < 2 ^ 35 }
     requires align { 0 < align }
-    ensures told { tested_by at.new reads.new.count result ≡ after reads.old.count (vector_failure checks reads.old.bytes at.old size align) }
-    ensures counted { result ≡ None → reads.new.count ≡ reads.old.count + 1 }
-    ensures bytes { reads.new.bytes ≡ reads.old.bytes }
-    ensures before { reads.new.before ≡ reads.old.before }
+    ensures { IsTested reads.old reads.new at.new (vector_failure checks reads.old.bytes at.old size align) 1 result }
 {
-    if !is_inside(reads, *at, 4) {
-        return fails(Reason::OutOfBuffer);
-    }
-    if !is_aligned(checks, *at, 4) {
-        return fails(Reason::Misaligned);
+    let word = test_inline(reads, checks, *at, 4, 4);
+    if word.is_some() {
+        return word;
     }
     let count = reads.u32_at(*at);
     *at += 4;
@@ -141,30 +144,11 @@ fn test_end(
     place: u64,
     size: u32,
 ) -> Option<Reason>
-    requires near { table.at < 2 ^ 33 }
-    requires near_place { place < 2 ^ 34 }
-    requires head { IsHead checks reads.now.bytes table.at table.head }
+    requires placed { IsPlaced checks reads.now.bytes table.at table.head place }
     ensures told { tested_by place reads.now.count result ≡ after reads.now.count (table_failure checks reads.now.bytes table.at place size) }
 {
     if checks.inline_size && place + u64::from(size) > table.at + u64::from(table.head.inline) {
         return fails(Reason::PastTable);
-    }
-    None
-}
-
-/// Tests that a scalar or struct of this size and alignment stands at a position.
-#[inline(always)]
-#[tactic(auto, unfolding(crate::specs::Order::inline_failure))]
-fn test_inline(reads: &Reads<'_>, checks: Checks, at: u64, size: u32, align: u32) -> Option<Reason>
-    requires near { at < 2 ^ 34 }
-    requires align { 0 < align }
-    ensures told { tested_by at reads.now.count result ≡ after reads.now.count (inline_failure checks reads.now.bytes at size align) }
-{
-    if !is_inside(reads, at, u64::from(size)) {
-        return fails(Reason::OutOfBuffer);
-    }
-    if !is_aligned(checks, at, align) {
-        return fails(Reason::Misaligned);
     }
     None
 }
@@ -179,10 +163,8 @@ fn test_inline_field(
     size: u32,
     align: u32,
 ) -> Option<Reason>
-    requires near { table.at < 2 ^ 33 }
-    requires near_place { place < 2 ^ 34 }
+    requires placed { IsPlaced checks reads.now.bytes table.at table.head place }
     requires align { 0 < align }
-    requires head { IsHead checks reads.now.bytes table.at table.head }
     ensures told { tested_by place reads.now.count result ≡ after reads.now.count (inline_field_failure checks reads.now.bytes table.at place size align) }
 {
     let end = test_end(reads, checks, table, place, size);
@@ -196,9 +178,7 @@ fn test_inline_field(
 #[inline(always)]
 #[tactic(auto, using(crate::proofs::Plains::byte_aligned), unfolding(crate::specs::Order::inline_failure))]
 fn test_byte_field(reads: &Reads<'_>, checks: Checks, table: Table, place: u64) -> Option<Reason>
-    requires near { table.at < 2 ^ 33 }
-    requires near_place { place < 2 ^ 34 }
-    requires head { IsHead checks reads.now.bytes table.at table.head }
+    requires placed { IsPlaced checks reads.now.bytes table.at table.head place }
     ensures told { tested_by place reads.now.count result ≡ after reads.now.count (inline_field_failure checks reads.now.bytes table.at place 1 1) }
 {
     let end = test_end(reads, checks, table, place, 1);
@@ -216,10 +196,7 @@ fn test_byte_field(reads: &Reads<'_>, checks: Checks, table: Table, place: u64) 
 fn test_text(reads: &mut Reads<'_>, checks: Checks, at: &mut u64) -> Option<Reason>
     requires few { reads.old.count < 2 ^ 61 }
     requires near { at.old < 2 ^ 35 }
-    ensures told { tested_by at.new reads.new.count result ≡ after reads.old.count (lead_failure checks reads.old.bytes at.old to_string) }
-    ensures counted { result ≡ None → reads.new.count ≡ reads.old.count + 3 }
-    ensures bytes { reads.new.bytes ≡ reads.old.bytes }
-    ensures before { reads.new.before ≡ reads.old.before }
+    ensures { IsTested reads.old reads.new at.new (lead_failure checks reads.old.bytes at.old to_string) 3 result }
 {
     let offset = test_offset(reads, checks, at);
     if offset.is_some() {
@@ -270,13 +247,8 @@ fn test_text_field(
     at: &mut u64,
 ) -> Option<Reason>
     requires few { reads.old.count < 2 ^ 60 }
-    requires near { table.at < 2 ^ 33 }
-    requires near_place { at.old < 2 ^ 34 }
-    requires head { IsHead checks reads.old.bytes table.at table.head }
-    ensures told { tested_by at.new reads.new.count result ≡ after reads.old.count (table_failure checks reads.old.bytes table.at at.old 4 ▷ lead_failure checks reads.old.bytes at.old to_string) }
-    ensures counted { result ≡ None → reads.new.count ≡ reads.old.count + 3 }
-    ensures bytes { reads.new.bytes ≡ reads.old.bytes }
-    ensures before { reads.new.before ≡ reads.old.before }
+    requires placed { IsPlaced checks reads.old.bytes table.at table.head at.old }
+    ensures { IsTested reads.old reads.new at.new (table_failure checks reads.old.bytes table.at at.old 4 ▷ lead_failure checks reads.old.bytes at.old to_string) 3 result }
 {
     let end = test_end(reads, checks, table, *at, 4);
     if end.is_some() {
@@ -296,14 +268,9 @@ fn test_vector_field(
     align: u32,
 ) -> Option<Reason>
     requires few { reads.old.count < 2 ^ 60 }
-    requires near { table.at < 2 ^ 33 }
-    requires near_place { at.old < 2 ^ 34 }
+    requires placed { IsPlaced checks reads.old.bytes table.at table.head at.old }
     requires align { 0 < align }
-    requires head { IsHead checks reads.old.bytes table.at table.head }
-    ensures told { tested_by at.new reads.new.count result ≡ after reads.old.count (vector_field_failure checks reads.old.bytes table.at at.old size align) }
-    ensures counted { result ≡ None → reads.new.count ≡ reads.old.count + 2 }
-    ensures bytes { reads.new.bytes ≡ reads.old.bytes }
-    ensures before { reads.new.before ≡ reads.old.before }
+    ensures { IsTested reads.old reads.new at.new (vector_field_failure checks reads.old.bytes table.at at.old size align) 2 result }
 {
     let end = test_end(reads, checks, table, *at, 4);
     if end.is_some() {
@@ -345,13 +312,8 @@ fn test_present(
 ) -> Option<Reason>
     requires few { reads.old.count < 2 ^ 60 }
     requires step { IsStep step.now (step.now).act }
-    requires near { table.at < 2 ^ 33 }
-    requires near_place { at.old < 2 ^ 34 }
-    requires head { IsHead checks reads.old.bytes table.at table.head }
-    ensures told { tested_by at.new reads.new.count result ≡ after reads.old.count (step_failure checks reads.old.bytes table.at step.now at.old (step.now).act) }
-    ensures counted { result ≡ None → reads.new.count ≡ reads.old.count + step_reads (step.now).act }
-    ensures bytes { reads.new.bytes ≡ reads.old.bytes }
-    ensures before { reads.new.before ≡ reads.old.before }
+    requires placed { IsPlaced checks reads.old.bytes table.at table.head at.old }
+    ensures { IsTested reads.old reads.new at.new (step_failure checks reads.old.bytes table.at step.now at.old (step.now).act) (step_reads (step.now).act) result }
 {
     match step.act {
         Act::One => test_byte_field(reads, checks, table, *at),
@@ -377,13 +339,8 @@ pub fn test_at(
 ) -> Option<Reason>
     requires few { reads.old.count < 2 ^ 60 }
     requires step { IsStep step.now (step.now).act }
-    requires near { table.at < 2 ^ 33 }
-    requires near_place { at.old < 2 ^ 34 }
-    requires head { IsHead checks reads.old.bytes table.at table.head }
-    ensures told { tested_by at.new reads.new.count result ≡ after reads.old.count (step_failure_at checks reads.old.bytes table.at step.now (place_from table.at at.old)) }
-    ensures counted { result ≡ None → reads.new.count ≡ reads.old.count + step_reads_at step.now (place_from table.at at.old) }
-    ensures bytes { reads.new.bytes ≡ reads.old.bytes }
-    ensures before { reads.new.before ≡ reads.old.before }
+    requires placed { IsPlaced checks reads.old.bytes table.at table.head at.old }
+    ensures { IsTested reads.old reads.new at.new (step_failure_at checks reads.old.bytes table.at step.now (place_from table.at at.old)) (step_reads_at step.now (place_from table.at at.old)) result }
 {
     if *at != table.at {
         return test_present(reads, checks, table, at, step);

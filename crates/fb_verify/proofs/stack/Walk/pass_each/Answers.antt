@@ -4,7 +4,7 @@ use Rattle.fb_verify.specs.Places.{vtable_size}
 use Rattle.fb_verify.specs.PassesOn.{PassesFields}
 use Rattle.fb_verify.proofs.Absent.{others_absent}
 use Rattle.fb_verify.proofs.Frames.{item_some, field_at, length_map}
-use Rattle.fb_verify.proofs.NextField.{err_exit, AtNext, kind_holds, types_checked, next_stops, next_leads, next_over}
+use Rattle.fb_verify.proofs.NextField.{err_exit, AtNext, askable, next_stops, next_leads, next_over}
 use Rattle.fb_verify.proofs.stack.Walk.pass_each.Goals as goal
 use Rattle.fb_verify.proofs.stack.Walk.pass_each.Goals.{In-Some}
 
@@ -18,17 +18,14 @@ here g c =
       here = rw (sym i.table) at (field_at live_of_view c.fields_of-fields.result.now _ _ _ c.fields_of-fields.ensures.value (item_some _ _ _ _ c.get.ensures.lookup c.in-Some.is));
     }
 
-pub pass_field-requires-clause-kind : goal.pass_field-requires-clause-kind
-pass_field-requires-clause-kind g c = kind_holds (here g (goal.at.pass_field-requires-clause-kind g c).In-Some)
-
-pub pass_field-requires-clause-typed : goal.pass_field-requires-clause-typed
-pass_field-requires-clause-typed g c = types_checked (here g (goal.at.pass_field-requires-clause-typed g c).In-Some)
+pub pass_field-requires-clause-askable : goal.pass_field-requires-clause-askable
+pass_field-requires-clause-askable g c = askable (here g (goal.at.pass_field-requires-clause-askable g c).In-Some)
 
 pub returns-in_err-pass_field : goal.returns-in_err-pass_field
 returns-in_err-pass_field g c =
     let h = here g (goal.at.returns-in_err-pass_field g c).In-Some in
     let i = c.loop-field.invariant in
-    let e = c.in_err-pass_field.ensures in
+    let e = c.in_err-pass_field.ensures.asked in
     err_exit c.from_residual.result _ (λ r. PassesFields c.args.self.now c.args.meter.now c.pass_field.new.meter g.under c.args.top.now (record c.loop-field.top { next = c.loop-field.top.next + 1; row = c.pass_field.new.row }) r) c.from_residual.ensures.1
     (record { walking = tt; leads = tt; rests = tt; all = tt; falls = tt; grows = tt; bytes = e.bytes ∙ i.bytes; err = rw i.bytes at (next_stops h _ e.err) })
 
@@ -60,15 +57,15 @@ pub returns-then-branch : goal.returns-then-branch
 returns-then-branch g c =
     let h = here g (goal.at.returns-then-branch g c).In-Some in
     let i = c.loop-field.invariant in
-    let e = c.in_ok-pass_field.ensures in
-    let count = ap (λ m. m.count) e.counted in
+    let e = c.in_ok-pass_field.ensures.asked in
+    let leads = c.in_ok-pass_field.ensures.leads in
     let more = c.if-branch.true in
-    rw e.counted (next_leads h e.ok refl (rw e.counted at e.reads) i.falls (omega (arith, i.grows)) i.bytes c.pass_field.new.row (e.row more) (e.entries more))
+    rw e.counted (next_leads h e.ok refl (rw e.counted at e.reads) i.falls (omega (arith, i.grows)) i.bytes c.pass_field.new.row (leads.row more) (leads.entries more))
 
 pub loop-field-preserved : goal.loop-field-preserved
 loop-field-preserved g c =
     let h = here g (goal.at.loop-field-preserved g c).In-Some in
     let i = c.loop-field.invariant in
-    let e = c.in_ok-pass_field.ensures in
-    let none = e.none c.if-branch.false in
+    let e = c.in_ok-pass_field.ensures.asked in
+    let none = c.in_ok-pass_field.ensures.leads.none c.if-branch.false in
     rw (e.counted, none.1) (next_over h e.ok refl (rw e.counted at e.reads) i.falls (omega (arith, i.grows)) i.bytes i.table none.0)

@@ -7,7 +7,7 @@ use Rattle.fb_verify.specs.Stack.{frame_work, IsAtField}
 use Rattle.fb_verify.proofs.Budgets.{fewer_reads}
 use Rattle.fb_verify.proofs.Frames.{item_some, item_none, field_at, length_map, own_few}
 use Rattle.fb_verify.proofs.Passing.{own_least}
-use Rattle.fb_verify.proofs.NextField.{err_exit, AtNext, kind_holds, types_checked, next_stops, next_leads, next_over}
+use Rattle.fb_verify.proofs.NextField.{err_exit, AtNext, askable, next_stops, next_leads, next_over}
 use Rattle.fb_verify.proofs.stack.Walk.pass_fields.Goals as goal
 use Rattle.fb_verify.proofs.stack.Walk.pass_fields.Goals.{After-get, In-Some}
 
@@ -62,11 +62,8 @@ least g c =
     let h = here g c in
     omega (arith, ((c.loop-reason.invariant).passed).grows, p.grows, own_least c.pass_on.new.meter.bytes (c.pass_on.new.top.table).at (live_of_view c.in-Some.field.now) (o.present _ h.here).1)
 
-pub pass_present-requires-clause-kind : goal.pass_present-requires-clause-kind
-pass_present-requires-clause-kind g c = kind_holds (here g (goal.at.pass_present-requires-clause-kind g c).In-Some)
-
-pub pass_present-requires-clause-typed : goal.pass_present-requires-clause-typed
-pass_present-requires-clause-typed g c = types_checked (here g (goal.at.pass_present-requires-clause-typed g c).In-Some)
+pub pass_present-requires-clause-askable : goal.pass_present-requires-clause-askable
+pass_present-requires-clause-askable g c = askable (here g (goal.at.pass_present-requires-clause-askable g c).In-Some)
 
 pub pass_present-requires-clause-present : goal.pass_present-requires-clause-present
 pass_present-requires-clause-present g c =
@@ -115,17 +112,18 @@ pub returns-in_err-pass_present : goal.returns-in_err-pass_present
 returns-in_err-pass_present g c =
     let h = here g (goal.at.returns-in_err-pass_present g c).In-Some in
     let bytes = c.pass_on.ensures.bytes ∙ ((c.loop-reason.invariant).passed).bytes in
-    let e = c.in_err-pass_present.ensures in
+    let e = c.in_err-pass_present.ensures.asked in
     err_exit c.from_residual.result _ (λ r. PassesFields c.args.self.now c.args.meter.now c.pass_present.new.meter g.under c.args.top.now (record c.pass_on.new.top { next = c.pass_on.new.top.next + 1; row = c.pass_present.new.row }) r) c.from_residual.ensures.1
     (record { walking = tt; leads = tt; rests = tt; all = tt; falls = tt; grows = tt; bytes = e.bytes ∙ bytes; err = rw bytes at (next_stops h _ e.err) })
 
 pub returns-then-branch : goal.returns-then-branch
 returns-then-branch g c =
     let d = (goal.at.returns-then-branch g c).In-Some in
-    let e = c.in_ok-pass_present.ensures in
+    let e = c.in_ok-pass_present.ensures.asked in
+    let leads = c.in_ok-pass_present.ensures.leads in
     let more = c.if-branch.true in
     let bytes = c.pass_on.ensures.bytes ∙ ((c.loop-reason.invariant).passed).bytes in
-    rw e.counted (next_leads (here g d) e.ok refl (rw e.counted at e.reads) (falls g d) (least g d) bytes c.pass_present.new.row (e.row more) (e.entries more))
+    rw e.counted (next_leads (here g d) e.ok refl (rw e.counted at e.reads) (falls g d) (least g d) bytes c.pass_present.new.row (leads.row more) (leads.entries more))
 
 pub loop-reason-preserved : goal.loop-reason-preserved
 loop-reason-preserved g c =
@@ -133,8 +131,8 @@ loop-reason-preserved g c =
     let i = c.loop-reason.invariant in
     let p = c.pass_on.ensures in
     let o = (rw c.in-Ok-true.is at p.field) c.in-Ok-true.field-0-test in
-    let e = c.in_ok-pass_present.ensures in
-    let none = e.none c.if-branch.false in
+    let e = c.in_ok-pass_present.ensures.asked in
+    let none = c.in_ok-pass_present.ensures.leads.none c.if-branch.false in
     let count = ap (λ m. m.count) e.counted in
     let long = ap (λ x. length (live_fields c.args.self.now.schema.now (x.table).object)) p.same in
     let few = own_few c.pass_on.new.meter.bytes (c.pass_on.new.top.table).at (live_of_view c.in-Some.field.now) in
