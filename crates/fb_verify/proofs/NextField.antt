@@ -4,7 +4,6 @@ use Rattle.std.specs.Prelude.{slice_get}
 use Rattle.std.specs.Result.{IsErrAnd}
 use Rattle.fb_bytes.specs.Word.{Metered}
 use Rattle.fb_schema.specs.Live.{Live, live_fields}
-use Rattle.fb_schema.specs.Served.{KindHolds}
 use Rattle.fb_verify.specs.declared.fault.Fault.{Fault}
 use Rattle.fb_verify.specs.declared.offset_row.Row.{Row}
 use Rattle.fb_verify.specs.declared.scratch.Frame.{Frame}
@@ -12,7 +11,7 @@ use Rattle.fb_verify.specs.declared.stack.Walk.{Walk}
 use Rattle.fb_verify.specs.Bounds.{AreAllowed}
 use Rattle.fb_verify.specs.Cost.{own_reads}
 use Rattle.fb_verify.specs.Fields.{entries}
-use Rattle.fb_verify.specs.OffsetRows.{words_of, IsRow, IsTyped, IsAskable}
+use Rattle.fb_verify.specs.OffsetRows.{words_of, IsRow, IsAskable}
 use Rattle.fb_verify.specs.Order.{◌▷◌, own_failure}
 use Rattle.fb_verify.specs.PassesOn.{HasPassed, PassesFields}
 use Rattle.fb_verify.specs.Stack.{blank, frame_work, Waiting, IsWalking, IsStopped}

@@ -58,6 +58,63 @@ fn test_inline(reads: &Reads<'_>, checks: Checks, at: u64, size: u32, align: u32
     None
 }
 
+/// Tests that what stands inline for a field ends within the inline size of its table, where that is checked.
+#[inline(always)]
+#[tactic(auto, unfolding(crate::specs::Order::table_failure, crate::specs::Places::ends_in_table))]
+fn test_end(
+    reads: &Reads<'_>,
+    checks: Checks,
+    table: Table,
+    place: u64,
+    size: u32,
+) -> Option<Reason>
+    requires placed { IsPlaced checks reads.now.bytes table.at table.head place }
+    ensures told { tested_by place reads.now.count result ≡ after reads.now.count (table_failure checks reads.now.bytes table.at place size) }
+{
+    if checks.inline_size && place + u64::from(size) > table.at + u64::from(table.head.inline) {
+        return fails(Reason::PastTable);
+    }
+    None
+}
+
+/// Tests a field that is a single byte, which every position is aligned for.
+#[inline(always)]
+#[tactic(auto, using(crate::proofs::Plains::byte_aligned), unfolding(crate::specs::Order::inline_failure))]
+fn test_byte_field(reads: &Reads<'_>, checks: Checks, table: Table, place: u64) -> Option<Reason>
+    requires placed { IsPlaced checks reads.now.bytes table.at table.head place }
+    ensures told { tested_by place reads.now.count result ≡ after reads.now.count (inline_field_failure checks reads.now.bytes table.at place 1 1) }
+{
+    let end = test_end(reads, checks, table, place, 1);
+    if end.is_some() {
+        return end;
+    }
+    if !is_inside(reads, place, 1) {
+        return fails(Reason::OutOfBuffer);
+    }
+    None
+}
+
+/// Tests a field that is a scalar or struct of this size and alignment.
+#[inline(always)]
+fn test_inline_field(
+    reads: &Reads<'_>,
+    checks: Checks,
+    table: Table,
+    place: u64,
+    size: u32,
+    align: u32,
+) -> Option<Reason>
+    requires placed { IsPlaced checks reads.now.bytes table.at table.head place }
+    requires align { 0 < align }
+    ensures told { tested_by place reads.now.count result ≡ after reads.now.count (inline_field_failure checks reads.now.bytes table.at place size align) }
+{
+    let end = test_end(reads, checks, table, place, size);
+    if end.is_some() {
+        return end;
+    }
+    test_inline(reads, checks, place, size, align)
+}
+
 /// Tests the offset word at a position, and goes on where it leads.
 #[inline(always)]
 #[tactic(auto, unfolding(crate::specs::Order::offset_failure, crate::specs::Order::inline_failure))]
@@ -130,63 +187,6 @@ fn test_vector(
     }
     if count != 0 && !is_aligned(checks, *at, align) {
         return fails(Reason::Misaligned);
-    }
-    None
-}
-
-/// Tests that what stands inline for a field ends within the inline size of its table, where that is checked.
-#[inline(always)]
-#[tactic(auto, unfolding(crate::specs::Order::table_failure, crate::specs::Places::ends_in_table))]
-fn test_end(
-    reads: &Reads<'_>,
-    checks: Checks,
-    table: Table,
-    place: u64,
-    size: u32,
-) -> Option<Reason>
-    requires placed { IsPlaced checks reads.now.bytes table.at table.head place }
-    ensures told { tested_by place reads.now.count result ≡ after reads.now.count (table_failure checks reads.now.bytes table.at place size) }
-{
-    if checks.inline_size && place + u64::from(size) > table.at + u64::from(table.head.inline) {
-        return fails(Reason::PastTable);
-    }
-    None
-}
-
-/// Tests a field that is a scalar or struct of this size and alignment.
-#[inline(always)]
-fn test_inline_field(
-    reads: &Reads<'_>,
-    checks: Checks,
-    table: Table,
-    place: u64,
-    size: u32,
-    align: u32,
-) -> Option<Reason>
-    requires placed { IsPlaced checks reads.now.bytes table.at table.head place }
-    requires align { 0 < align }
-    ensures told { tested_by place reads.now.count result ≡ after reads.now.count (inline_field_failure checks reads.now.bytes table.at place size align) }
-{
-    let end = test_end(reads, checks, table, place, size);
-    if end.is_some() {
-        return end;
-    }
-    test_inline(reads, checks, place, size, align)
-}
-
-/// Tests a field that is a single byte, which every position is aligned for.
-#[inline(always)]
-#[tactic(auto, using(crate::proofs::Plains::byte_aligned), unfolding(crate::specs::Order::inline_failure))]
-fn test_byte_field(reads: &Reads<'_>, checks: Checks, table: Table, place: u64) -> Option<Reason>
-    requires placed { IsPlaced checks reads.now.bytes table.at table.head place }
-    ensures told { tested_by place reads.now.count result ≡ after reads.now.count (inline_field_failure checks reads.now.bytes table.at place 1 1) }
-{
-    let end = test_end(reads, checks, table, place, 1);
-    if end.is_some() {
-        return end;
-    }
-    if !is_inside(reads, place, 1) {
-        return fails(Reason::OutOfBuffer);
     }
     None
 }
@@ -301,32 +301,6 @@ pub fn slot_at(reads: &mut Reads<'_>, at: u64, head: Head, slot: u16) -> u64
     at + u64::from(reads.u16_at(head.vtable + u64::from(slot)))
 }
 
-/// Tests a field that is there, by its act.
-#[inline(always)]
-fn test_present(
-    reads: &mut Reads<'_>,
-    checks: Checks,
-    table: Table,
-    at: &mut u64,
-    step: &Step,
-) -> Option<Reason>
-    requires few { reads.old.count < 2 ^ 60 }
-    requires step { IsStep step.now (step.now).act }
-    requires placed { IsPlaced checks reads.old.bytes table.at table.head at.old }
-    ensures { IsTested reads.old reads.new at.new (step_failure checks reads.old.bytes table.at step.now at.old (step.now).act) (step_reads (step.now).act) result }
-{
-    match step.act {
-        Act::One => test_byte_field(reads, checks, table, *at),
-        Act::Two => test_inline_field(reads, checks, table, *at, 2, 2),
-        Act::Four => test_inline_field(reads, checks, table, *at, 4, 4),
-        Act::Eight => test_inline_field(reads, checks, table, *at, 8, 8),
-        Act::Inline => test_inline_field(reads, checks, table, *at, step.size, step.align),
-        Act::Text => test_text_field(reads, checks, table, at),
-        Act::Vector => test_vector_field(reads, checks, table, at, step.size, step.align),
-        Act::Other => None,
-    }
-}
-
 /// Tests the field of a step, which stands at this position or is absent, with the string or vector that it may lead
 /// to.
 #[inline(always)]
@@ -342,13 +316,22 @@ pub fn test_at(
     requires placed { IsPlaced checks reads.old.bytes table.at table.head at.old }
     ensures { IsTested reads.old reads.new at.new (step_failure_at checks reads.old.bytes table.at step.now (place_from table.at at.old)) (step_reads_at step.now (place_from table.at at.old)) result }
 {
-    if *at != table.at {
-        return test_present(reads, checks, table, at, step);
+    if *at == table.at {
+        if step.required {
+            return fails(Reason::MissingRequired);
+        }
+        return None;
     }
-    if step.required {
-        return fails(Reason::MissingRequired);
+    match step.act {
+        Act::One => test_byte_field(reads, checks, table, *at),
+        Act::Two => test_inline_field(reads, checks, table, *at, 2, 2),
+        Act::Four => test_inline_field(reads, checks, table, *at, 4, 4),
+        Act::Eight => test_inline_field(reads, checks, table, *at, 8, 8),
+        Act::Inline => test_inline_field(reads, checks, table, *at, step.size, step.align),
+        Act::Text => test_text_field(reads, checks, table, at),
+        Act::Vector => test_vector_field(reads, checks, table, at, step.size, step.align),
+        Act::Other => None,
     }
-    None
 }
 
 /// Whether the field of a step is there and may lead to a table, so that it isn't passed by its step.
