@@ -3,6 +3,9 @@ use Rattle.std.proofs.Common.{◌≡◌, ℕ, ◌+◌, ◌≤◌, inl, inr, List
 use Rattle.fb_schema.specs.Rows.{Rows}
 use Rattle.fb_verify.specs.declared.checks.Checks.{Checks}
 use Rattle.fb_verify.specs.declared.fault.Fault.{Fault}
+use Rattle.fb_verify.specs.declared.fault.Report.{Report}
+use Rattle.fb_verify.specs.declared.scratch.Frame.{Frame}
+use Rattle.fb_verify.specs.declared.site.LastLink.{LastLink}
 use Rattle.fb_verify.specs.declared.site.Site.{Site}
 use Rattle.fb_verify.specs.declared.start.Start.{Start}
 use Rattle.fb_verify.specs.declared.start.Ident.{Ident}
@@ -18,6 +21,7 @@ use Rattle.fb_verify.specs.Stops.{in_start, reads_failure, fault_at, Stops}
 use Rattle.fb_verify.specs.Links.{LeadsAlong, StopsAlong}
 use Rattle.fb_verify.specs.Told.{told, way_at}
 use Rattle.fb_verify.specs.Walked.{TableWalked, ended}
+use Rattle.fb_verify.specs.Stack.{HaltsAlong}
 use Rattle.fb_verify.specs.MostReads.{most_reads}
 use Rattle.fb_verify.specs.Verdict.{Reports, HasNone}
 use Rattle.fb_verify.proofs.Budgets.{fewer_reads, no_reads}
@@ -48,7 +52,7 @@ module _ (c : Checks) (b : List ℕ) (S : Rows) (root : ℕ) (start : Start) (id
   stops_below_start t r f links o p e h = inr ((start_none c b start ident).0 o, rw (p, root_way r e) at h)
 
   -- where links lead to a fault, there is one
-  pub stops_along : (f : Fault) (links : List Link) → StopsAlong c b S root start ident L f links → Stops c b S root start ident L f
+  stops_along : (f : Fault) (links : List Link) → StopsAlong c b S root start ident L f links → Stops c b S root start ident L f
   stops_along f links (inl h) = inl h.0
   stops_along f links (inr h) = let s = h.1 in inr (h.0, (s.0, s.1))
 
@@ -70,20 +74,14 @@ module _ (c : Checks) (b : List ℕ) (S : Rows) (root : ℕ) (start : Start) (id
         reads = z ∙ m;
       }
 
-  -- where there is a fault, there is no tree
-  pub has_none : (f : Fault) → Stops c b S root start ident L f → HasNone c b S root start ident L
-  has_none f h y i j = stops_nowhere c b S L root start ident y f i j h
-
-  -- the same where links lead to one
-  pub none_along : (f : Fault) (links : List Link) → StopsAlong c b S root start ident L f links → HasNone c b S root start ident L
-  none_along f links h = has_none f (stops_along f links h)
+module _ {c : Checks} {b : List ℕ} {S : Rows} {root : ℕ} {start : Start} {ident : Ident} {L : Bounds} where
+  -- where frames lead to a fault, there is no tree
+  pub none_along : {frames : List Frame} {last : LastLink} {f : Fault} → HaltsAlong c b S root start ident L frames last f → HasNone c b S root start ident L
+  none_along {frames} {last} {f} h y i j = stops_nowhere c b S L root start ident y f i j (stops_along c b S root start ident L f _ h.along)
 
   -- the price
-  pub price_of_no : (f : Fault) → Stops c b S root start ident L f → f.reads ≤ most_reads S L (length b)
-  price_of_no f h = reads_are_bounded c b S L root start ident f h
+  pub price_of_no : {frames : List Frame} {last : LastLink} {f : Fault} → HaltsAlong c b S root start ident L frames last f → f.reads ≤ most_reads S L (length b)
+  price_of_no {frames} {last} {f} h = reads_are_bounded c b S L root start ident f (stops_along c b S root start ident L f _ h.along)
 
-  pub price_of_yes : (t r n d q : ℕ) → start_failure c b start ident ≡ None → t ≡ target b (base start) → r ≡ start_reads start ident
-      → TableWalked c b S root t (way_at 0 0 0 r root_site) (ended (way_at 0 0 0 r root_site) n d q) → n ≤ L.tables → d ≤ L.depth → AreAllowed L.reads q → q ≤ most_reads S L (length b)
-  price_of_yes t r n d q o p e h a x w =
-      let y = reports t r n d q q o p e h a x w refl in
-      omega (arith, y.reads, cost_is_bounded c b S L root start ident y.found y.well_formed y.within)
+  pub price_of_yes : {r : Report} → Reports c b S root start ident L r → r.reads ≤ most_reads S L (length b)
+  price_of_yes {r} h = omega (arith, h.reads, cost_is_bounded c b S L root start ident h.found h.well_formed h.within)
