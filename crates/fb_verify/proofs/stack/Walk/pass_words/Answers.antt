@@ -1,4 +1,4 @@
-use Rattle.std.proofs.Common.{◌≡◌, ◌+◌, ◌*◌, refl, sym, ◌∙◌, ap, subst, arith}
+use Rattle.std.proofs.Common.{None, ◌≡◌, ◌+◌, ◌*◌, refl, sym, ◌∙◌, ap, subst, arith}
 use Rattle.fb_verify.specs.declared.scratch.Frame.{Frame}
 use Rattle.fb_verify.specs.declared.offset_row.Row.{Row}
 use Rattle.fb_verify.specs.Cost.{lead_reads}
@@ -34,38 +34,46 @@ told g c =
     word_told w.checks c.loop-row.reads.bytes w.schema.now w.limits (g.under).start (g.under).frames (top_at g c) w.tables w.deepest (c.args.reads.now.before + c.loop-row.reads.count) (c.loop-row.invariant).walking (lead_to c.first_referent-referent.result) first.lead
     c.loop-row.reads.count c.first_referent-referent.new.reads.count (ap (λ x. x.count) first.counted) _ (rw (ap (λ x. x.bytes) first.counted) at c.test_lead-failed.ensures.told)
 
+-- where it tells nothing, the word holds
+holds : (g : _) (c : After-test_lead-failed g) → c.test_lead-failed.result ≡ None → element_failure c.args.self.now.checks c.loop-row.reads.bytes (first_word c.loop-row.reads.bytes c.args.self.now.schema.now c.loop-row.row) ≡ None
+holds g c none =
+    (after_none c.loop-row.reads.count (element_failure c.args.self.now.checks c.loop-row.reads.bytes (first_word c.loop-row.reads.bytes c.args.self.now.schema.now c.loop-row.row))).0 (sym (told g c) ∙ ap (tested_by c.test_lead-failed.new.at c.test_lead-failed.new.reads.count) none)
+
+-- and was paid for
+paid : (g : _) (c : After-test_lead-failed g) → c.test_lead-failed.result ≡ None
+    → c.test_lead-failed.new.reads.count ≡ c.loop-row.reads.count + (first_word c.loop-row.reads.bytes c.args.self.now.schema.now c.loop-row.row).reads + lead_reads (first_word c.loop-row.reads.bytes c.args.self.now.schema.now c.loop-row.row).lead
+paid g c none =
+    let first = c.first_referent-referent.ensures in
+    omega (arith, c.test_lead-failed.ensures.counted none, ap lead_reads first.lead, ap (λ x. x.count) first.counted)
+
+-- the bytes stay the same
+kept : (g : _) (c : After-test_lead-failed g) → c.test_lead-failed.new.reads.bytes ≡ c.loop-row.reads.bytes
+kept g c = c.test_lead-failed.ensures.bytes ∙ ap (λ x. x.bytes) c.first_referent-referent.ensures.counted
+
 pub returns-in-Some-clause-err : goal.returns-in-Some-clause-err
 returns-in-Some-clause-err g c =
     let d = (goal.at.returns-in-Some-clause-err g c).After-test_lead-failed in
     let i = c.loop-row.invariant in
     let w = c.args.self.now in
-    let top = top_at g d in
-    let b = c.loop-row.reads.bytes in
-    let first = c.first_referent-referent.ensures in
     rw (c.stop_at_word.ensures.past, i.same) (rw i.bytes at
-    (word_fails w.checks b w.schema.now w.limits (g.under).start (g.under).frames top w.tables w.deepest (c.args.reads.now.before + c.loop-row.reads.count) i.walking (past_first c.loop-row.row) refl c.loop-row-test.true (record { at = c.test_lead-failed.new.at; reason = c.in-Some.reason }) c.args.reads.now.before c.loop-row.reads.count c.test_lead-failed.new.reads.count refl
+    (word_fails w.checks c.loop-row.reads.bytes w.schema.now w.limits (g.under).start (g.under).frames (top_at g d) w.tables w.deepest (c.args.reads.now.before + c.loop-row.reads.count) i.walking (past_first c.loop-row.row) refl c.loop-row-test.true (record { at = c.test_lead-failed.new.at; reason = c.in-Some.reason }) c.args.reads.now.before c.loop-row.reads.count c.test_lead-failed.new.reads.count refl
     (sym (told g d) ∙ ap (tested_by c.test_lead-failed.new.at c.test_lead-failed.new.reads.count) c.in-Some.is) c.stop_at_word.result (rw i.same at c.stop_at_word.ensures.stop)))
 
 pub returns-in-Table-clause-table : goal.returns-in-Table-clause-table
 returns-in-Table-clause-table g c =
     let d = (goal.at.returns-in-Table-clause-table g c).After-test_lead-failed in
     let i = c.loop-row.invariant in
-    let w = c.args.self.now in
-    let top = top_at g d in
-    let b = c.loop-row.reads.bytes in
     let first = c.first_referent-referent.ensures in
     let none = c.in_default.is in
-    let counted = c.test_lead-failed.ensures.counted none in
-    let same = ap lead_reads first.lead in
-    rw (c.test_lead-failed.ensures.bytes ∙ (ap (λ x. x.bytes) first.counted), i.same)
+    rw (kept g d, i.same)
     (record {
       before = c.args.reads.now.before + c.loop-row.reads.count;
-      count = omega (arith, counted, same, ap (λ x. x.count) first.counted);
+      count = omega (arith, paid g d none);
       walking = i.walking;
       more = c.loop-row-test.true;
-      holds = (after_none c.loop-row.reads.count (element_failure w.checks b (first_word b w.schema.now top.row))).0 (sym (told g d) ∙ ap (tested_by c.test_lead-failed.new.at c.test_lead-failed.new.reads.count) none);
+      holds = holds g d none;
       leads = sym first.lead ∙ ap lead_to c.in-Table.is;
-      table = subst (λ x. IsReferent w.schema.now x) c.in-Table.is first.referent;
+      table = subst (λ x. IsReferent c.args.self.now.schema.now x) c.in-Table.is first.referent;
       at = rw (ap (λ x. x.bytes) first.counted) at (c.test_lead-failed.ensures.value none c.in-Table.object c.in-Table.is);
       near = c.test_lead-failed.ensures.near none c.in-Table.object c.in-Table.is;
       paid = omega (arith, i.paid);
@@ -76,29 +84,24 @@ loop-row-preserved g c =
     let d = (goal.at.loop-row-preserved g c).After-test_lead-failed in
     let i = c.loop-row.invariant in
     let w = c.args.self.now in
-    let top = top_at g d in
     let b = c.loop-row.reads.bytes in
     let first = c.first_referent-referent.ensures in
     let none = c.in_default.is in
-    let counted = c.test_lead-failed.ensures.counted none in
-    let same = ap lead_reads first.lead in
+    let cost = paid g d none in
     let few = first_few b w.schema.now c.loop-row.row in
     let more = c.loop-row-test.true in
     let left = ap (λ (x : Row). x.left) c.advance.ensures in
     let q = c.args.reads.now.before + c.test_lead-failed.new.reads.count in
-    let holds = (after_none c.loop-row.reads.count (element_failure w.checks b (first_word b w.schema.now top.row))).0 (sym (told g d) ∙ ap (tested_by c.test_lead-failed.new.at c.test_lead-failed.new.reads.count) none) in
     let leaf = subst (λ x. IsLeafLead x) first.lead (is_leaf c.first_referent-referent.result (λ k e. c.in_default-referent.not-Table k e)) in
-    let kept = c.test_lead-failed.ensures.bytes ∙ (ap (λ x. x.bytes) first.counted) in
-    let cheap = fewer_reads (w.limits).reads q (c.args.reads.now.before + c.args.reads.now.count + 4 * (c.args.top.now.row).left) (omega (arith, counted, same, few, i.paid, more, ap (λ x. x.count) first.counted)) c.requires.1.0 in
+    let cheap = fewer_reads (w.limits).reads q (c.args.reads.now.before + c.args.reads.now.count + 4 * (c.args.top.now.row).left) (omega (arith, cost, few, i.paid, more)) c.requires.1.0 in
     record {
-      bytes = kept ∙ i.bytes;
+      bytes = kept g d ∙ i.bytes;
       before = c.test_lead-failed.ensures.before ∙ ap (λ x. x.before) first.counted ∙ i.before;
       same = i.same;
       fewer = omega (arith, i.fewer, left);
       walking =
-          rw kept
-          (leaf_passed w.checks b w.schema.now w.limits (g.under).start (g.under).frames top w.tables w.deepest (c.args.reads.now.before + c.loop-row.reads.count) i.walking c.advance.new.self q c.advance.ensures more holds
-          (omega (arith, counted, same, ap (λ x. x.count) first.counted)) leaf cheap);
+          rw (kept g d)
+          (leaf_passed w.checks b w.schema.now w.limits (g.under).start (g.under).frames (top_at g d) w.tables w.deepest (c.args.reads.now.before + c.loop-row.reads.count) i.walking c.advance.new.self q c.advance.ensures more (holds g d none) (omega (arith, cost)) leaf cheap);
       known = rw (ap (λ (x : Row). x.leads) c.advance.ensures) (known_on w.schema.now (c.loop-row.row).leads c.first_referent-referent.new.known first.known);
-      paid = omega (arith, counted, same, few, i.paid, more, left, ap (λ x. x.count) first.counted);
+      paid = omega (arith, cost, few, i.paid, more, left);
     }
