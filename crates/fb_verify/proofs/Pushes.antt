@@ -17,35 +17,18 @@ unfoldable pub kids_push : Kids → Elements → Kids
 kids_push no_kids ys = kid ys no_kids
 kids_push (kid xs kids) ys = kid xs (kids_push kids ys)
 
-pub elements_size-push : (ys : Elements) (y : Element) → elements_size (elements_push ys y) ≡ elements_size ys + element_size y
-unfolding elements_size elements_push
-elements_size-push no_elements y = omega arith
-elements_size-push (element x ys) y = omega (arith, elements_size-push ys y)
+-- what one more adds to the size, the depth and the length
+pub elements_pushed : (ys : Elements) (y : Element)
+    → (elements_size (elements_push ys y) ≡ elements_size ys + element_size y) × (elements_depth (elements_push ys y) ≡ max (elements_depth ys) (element_depth y)) × (elements_length (elements_push ys y) ≡ suc (elements_length ys))
+unfolding elements_size elements_depth elements_length elements_push
+elements_pushed no_elements y = (omega arith, omega arith, refl)
+elements_pushed (element x ys) y = let h = elements_pushed ys y in (omega (arith, h.0), omega (arith, h.1), ap suc h.2)
 
-pub elements_depth-push : (ys : Elements) (y : Element) → elements_depth (elements_push ys y) ≡ max (elements_depth ys) (element_depth y)
-unfolding elements_depth elements_push
-elements_depth-push no_elements y = omega arith
-elements_depth-push (element x ys) y = omega (arith, elements_depth-push ys y)
-
-pub elements_length-push : (ys : Elements) (y : Element) → elements_length (elements_push ys y) ≡ suc (elements_length ys)
-unfolding elements_length elements_push
-elements_length-push no_elements y = refl
-elements_length-push (element x ys) y = ap suc (elements_length-push ys y)
-
-pub kids_size-push : (kids : Kids) (ys : Elements) → kids_size (kids_push kids ys) ≡ kids_size kids + elements_size ys
-unfolding kids_size kids_push
-kids_size-push no_kids ys = omega arith
-kids_size-push (kid xs kids) ys = omega (arith, kids_size-push kids ys)
-
-pub kids_depth-push : (kids : Kids) (ys : Elements) → kids_depth (kids_push kids ys) ≡ max (kids_depth kids) (elements_depth ys)
-unfolding kids_depth kids_push
-kids_depth-push no_kids ys = omega arith
-kids_depth-push (kid xs kids) ys = omega (arith, kids_depth-push kids ys)
-
-pub kids_length-push : (kids : Kids) (ys : Elements) → kids_length (kids_push kids ys) ≡ suc (kids_length kids)
-unfolding kids_length kids_push
-kids_length-push no_kids ys = refl
-kids_length-push (kid xs kids) ys = ap suc (kids_length-push kids ys)
+pub kids_pushed : (kids : Kids) (ys : Elements)
+    → (kids_size (kids_push kids ys) ≡ kids_size kids + elements_size ys) × (kids_depth (kids_push kids ys) ≡ max (kids_depth kids) (elements_depth ys)) × (kids_length (kids_push kids ys) ≡ suc (kids_length kids))
+unfolding kids_size kids_depth kids_length kids_push
+kids_pushed no_kids ys = (omega arith, omega arith, refl)
+kids_pushed (kid xs kids) ys = let h = kids_pushed kids ys in (omega (arith, h.0), omega (arith, h.1), ap suc h.2)
 
 -- what is at a place is the first of what is left from there
 pub front_of : {A : Type 0} (xs : List A) (n : ℕ) (x : A) (ys : List A) → drop n xs ≡ x ∷ ys → slice_get xs n ≡ Some x

@@ -17,7 +17,7 @@ use Rattle.fb_verify.specs.declared.links.Link.{Link}
 use Rattle.fb_verify.specs.Stops.{in_head, in_field, in_element, IsFalseAt, at_head, at_field, at_own, at_element, at_lead, through, IsTrail, ElementTrail, IsElementTrail}
 use Rattle.fb_verify.specs.Links.{field_link, element_link, object_led_to, links_of, links_in_field, links_in_element, LeadsAlong}
 use Rattle.fb_verify.specs.Walked.{at_number, TableWalked, IsInside, IsInField, Waits}
-use Rattle.fb_verify.proofs.Pushes.{elements_push, kids_push, elements_size-push, elements_depth-push, elements_length-push, kids_size-push, kids_depth-push, kids_length-push, front_of, rest_of, all_of, take_all, ElementsUnfold-push, elements_cost-push, FieldsUnfold-push, kids_cost-push}
+use Rattle.fb_verify.proofs.Pushes.{elements_push, kids_push, elements_pushed, kids_pushed, front_of, rest_of, all_of, take_all, ElementsUnfold-push, elements_cost-push, FieldsUnfold-push, kids_cost-push}
 
 abbrev the_way : (links passed deepest paid leading object : ℕ) → Option ℕ → Way
 the_way links passed deepest paid leading object field =
@@ -79,9 +79,7 @@ module _ (c : Checks) (b : List ℕ) (S : Rows) (k t : ℕ) (w : Way) where
   passed_on next number x xs v u y h g e =
       let es = entries b S t h.field in
       let f = front_of es (elements_length h.before) x xs h.left_is in
-      let l = elements_length-push h.before y in
-      let s = elements_size-push h.before y in
-      let d = elements_depth-push h.before y in
+      let (s, d, l) = elements_pushed h.before y in
       let r = elements_cost-push c b S h.before es y x f in
       let o = at_number (Some (h.field).number) h.outer in
       record {
@@ -105,9 +103,7 @@ module _ (c : Checks) (b : List ℕ) (S : Rows) (k t : ℕ) (w : Way) where
       let i = h.inside in
       let fs = live_fields S k in
       let es = entries b S t h.field in
-      let l = kids_length-push i.earlier h.before in
-      let s = kids_size-push i.earlier h.before in
-      let d = kids_depth-push i.earlier h.before in
+      let (s, d, l) = kids_pushed i.earlier h.before in
       let f : slice_get fs (kids_length i.earlier) ≡ Some h.field = rw i.count h.found in
       let r = kids_cost-push c b S t i.earlier fs h.before h.field f in
       let n : next ≡ suc (kids_length i.earlier) = omega (arith, h.next_is, i.count) in
