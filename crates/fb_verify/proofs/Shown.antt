@@ -22,7 +22,7 @@ use Rattle.fb_verify.specs.Examples.{MonsterUnfolds, OneMemberUnfolds, TwoMember
 use Rattle.fb_verify.proofs.Chains.{start_none, head_none, own_none, offset_none, string_none, inline_none}
 
 -- all that is computed
-computing : ℕ
+unfoldable pub computing : ℕ
 unfolding word live_fields kind_of shape_of base_types member_of is_aligned has_vtable vtable field_place ends_in_table entries row union_row size depth Unfolds own_reads tree_cost own_failure element_failure start_failure prefix_failure ident_failure head_failure offset_failure string_failure vector_failure inline_failure table_failure IsTrail fault_at kids_length elements_length
 computing = 0
 

@@ -1,18 +1,7 @@
 -- The examples of tests, by computing.
-use Rattle.std.proofs.Common.{ℕ, refl}
-use Rattle.fb_bytes.specs.Word.{word}
-use Rattle.fb_schema.specs.Kinds.{shape_of, kind_of, base_types}
-use Rattle.fb_schema.specs.Members.{member_of}
-use Rattle.fb_verify.specs.Places.{is_aligned, has_vtable, vtable, field_place, ends_in_table}
-use Rattle.fb_verify.specs.Cost.{own_reads}
-use Rattle.fb_verify.specs.Order.{prefix_failure, ident_failure, offset_failure, start_failure, head_failure, string_failure, vector_failure, inline_failure, table_failure, own_failure, element_failure}
-use Rattle.fb_verify.specs.Stops.{fault_at}
+use Rattle.std.proofs.Common.{refl}
 use Rattle.fb_verify.specs.Tests.{PrefixTests, IdentifierTests, OffsetTests, StartTests, HeadTests, StringTests, VectorTests, InlineTests, FieldTests, UnionTests, VectorFieldTests, UnionsFieldTests, ElementTests, LimitTests}
-
--- all that is computed
-computing : ℕ
-unfolding word shape_of kind_of base_types member_of is_aligned has_vtable vtable field_place ends_in_table own_reads prefix_failure ident_failure offset_failure start_failure head_failure string_failure vector_failure inline_failure table_failure own_failure element_failure fault_at
-computing = 0
+use Rattle.fb_verify.proofs.Shown.{computing}
 
 pub prefix_tests : PrefixTests
 unfolding computing
