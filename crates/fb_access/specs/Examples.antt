@@ -1,9 +1,9 @@
 -- Examples of what paths denote in a buffer.
 use Rattle.std.specs.Prelude.{◌≡◌, pos, negsuc, true, false, List, [], ◌∷◌, codes, None}
 use Rattle.fb_verify.specs.declared.start.Start.TheVariants.{Bare, Prefixed}
-use Rattle.fb_verify.specs.Tree.{Tree, node, Kids, no_kids, kid, no_elements, element, leaf, table as a_table}
+use Rattle.fb_verify.specs.Tree.{Tree, node, Kids, no_elements, element, leaf, table as a_table}
 use Rattle.fb_verify.specs.Samples.{monsters}
-use Rattle.fb_verify.specs.Examples.{Counts, one_table}
+use Rattle.fb_verify.specs.Examples.{Counts, one_table, one_leaf, kids_of}
 use Rattle.fb_access.specs.declared.step.Step.{Step}
 use Rattle.fb_access.specs.declared.step.Step.TheVariants.{Field, Element, Member}
 use Rattle.fb_access.specs.declared.spot.Spot.TheVariants.{AtTable}
@@ -101,7 +101,7 @@ pub record PrefixedValues : Type 0 where
 -- the tables A, with the scalars and without
 abbrev pub none_below : Kids
 none_below =
-    kid no_elements (kid no_elements (kid no_elements (kid no_elements (kid no_elements (kid no_elements (kid no_elements (kid no_elements (kid no_elements (kid no_elements (kid no_elements no_kids))))))))))
+    kids_of (no_elements ∷ no_elements ∷ no_elements ∷ no_elements ∷ no_elements ∷ no_elements ∷ no_elements ∷ no_elements ∷ no_elements ∷ no_elements ∷ no_elements ∷ [])
 
 abbrev pub scalars_tree : Tree
 scalars_tree = node 2 288 none_below
@@ -112,19 +112,7 @@ empty_tree = node 2 340 none_below
 -- what the fields of the root table lead to
 abbrev pub root_kids : Kids
 root_kids =
-    kid no_elements
-    (kid (element leaf no_elements)
-    (kid no_elements
-    (kid (one_table scalars_tree)
-    (kid no_elements
-    (kid (element leaf no_elements)
-    (kid no_elements
-    (kid no_elements
-    (kid (element leaf (element leaf no_elements))
-    (kid (element (a_table scalars_tree) (one_table empty_tree))
-    (kid no_elements
-    (kid (element leaf (element leaf (element (a_table scalars_tree) (element leaf no_elements))))
-    (kid no_elements no_kids))))))))))))
+    kids_of (no_elements ∷ one_leaf ∷ no_elements ∷ one_table scalars_tree ∷ no_elements ∷ one_leaf ∷ no_elements ∷ no_elements ∷ element leaf one_leaf ∷ element (a_table scalars_tree) (one_table empty_tree) ∷ no_elements ∷ element leaf (element leaf (element (a_table scalars_tree) one_leaf)) ∷ no_elements ∷ [])
 
 -- the sample is a good buffer
 abbrev pub SampleUnfolds : Type 0

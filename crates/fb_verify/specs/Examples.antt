@@ -1,5 +1,5 @@
 -- Examples: trees with their numbers, and faults with the trails that lead to them.
-use Rattle.std.specs.Prelude.{◌≡◌, ℕ, true, List, Some, None}
+use Rattle.std.specs.Prelude.{◌≡◌, ℕ, true, List, [], ◌∷◌, Some, None}
 use Rattle.fb_schema.specs.Rows.{Rows}
 use Rattle.fb_verify.specs.declared.checks.Checks.{Checks}
 use Rattle.fb_verify.specs.declared.start.Start.TheVariants.{Bare}
@@ -32,21 +32,30 @@ in_field_of object number at reason reads = record { at = at; object = object; f
 abbrev pub one_table : Tree → Elements
 one_table y = element (table y) no_elements
 
+-- one element that is no table
+abbrev pub one_leaf : Elements
+one_leaf = element leaf no_elements
+
+-- passed fields that lead to these elements
+abbrev pub kids_of : List Elements → Kids
+kids_of [] = no_kids
+kids_of (ys ∷ rest) = kid ys (kids_of rest)
+
 -- one passed field that leads nowhere
 abbrev pub one_field : Kids
 one_field = kid no_elements no_kids
 
 -- a monster's hit points lead nowhere, and its name to a string
 abbrev pub MonsterUnfolds : Type 0
-MonsterUnfolds = Counts monster monsters 0 (node 0 12 (kid no_elements (kid (element leaf no_elements) no_kids))) 1 1 8
+MonsterUnfolds = Counts monster monsters 0 (node 0 12 (kids_of (no_elements ∷ one_leaf ∷ []))) 1 1 8
 
 -- a union leads to a table
 abbrev pub OneMemberUnfolds : Type 0
-OneMemberUnfolds = Counts one_member unions 2 (node 2 12 (kid no_elements (kid (one_table (node 0 32 one_field)) no_kids))) 2 2 11
+OneMemberUnfolds = Counts one_member unions 2 (node 2 12 (kids_of (no_elements ∷ one_table (node 0 32 one_field) ∷ []))) 2 2 11
 
 -- of two unions in a vector one leads to a string and one to nothing
 abbrev pub TwoMembersUnfold : Type 0
-TwoMembersUnfold = Counts two_members unions 3 (node 3 12 (kid no_elements (kid (element leaf (element leaf no_elements)) no_kids))) 1 1 17
+TwoMembersUnfold = Counts two_members unions 3 (node 3 12 (kids_of (no_elements ∷ element leaf one_leaf ∷ []))) 1 1 17
 
 -- a table A with its number
 abbrev pub number : Tree
@@ -55,18 +64,7 @@ number = node 0 168 one_field
 -- the fields of every kind, in their order
 abbrev pub every_kids : Kids
 every_kids =
-    kid no_elements
-    (kid (element leaf no_elements)
-    (kid no_elements
-    (kid (one_table number)
-    (kid no_elements
-    (kid (element leaf no_elements)
-    (kid no_elements
-    (kid no_elements
-    (kid (element leaf (element leaf no_elements))
-    (kid (element (table number) (one_table number))
-    (kid no_elements
-    (kid (element leaf (element (table number) (element leaf no_elements))) no_kids)))))))))))
+    kids_of (no_elements ∷ one_leaf ∷ no_elements ∷ one_table number ∷ no_elements ∷ one_leaf ∷ no_elements ∷ no_elements ∷ element leaf one_leaf ∷ element (table number) (one_table number) ∷ no_elements ∷ element leaf (element (table number) one_leaf) ∷ [])
 
 -- a field of every kind; the table at 168 is reached four times, and is four nodes
 abbrev pub EveryKindUnfolds : Type 0
@@ -91,10 +89,10 @@ CrookedStructStops = StopsBy published_checks crooked_struct unions 2 published_
 -- the tables of `shared`: its root has this middle one twice, and that has the last one twice
 
 abbrev pub last : Tree
-last = node 0 40 (kid no_elements (kid no_elements no_kids))
+last = node 0 40 (kids_of (no_elements ∷ no_elements ∷ []))
 
 abbrev pub middle : Tree
-middle = node 0 28 (kid (one_table last) (kid (one_table last) no_kids))
+middle = node 0 28 (kids_of (one_table last ∷ one_table last ∷ []))
 
 -- with 6 tables allowed: past the root's first subtable and the first of its second's, the seventh
 abbrev pub SeventhTableStops : Type 0
