@@ -59,7 +59,7 @@ within : (id : Text) (k : ℕ) (rs : List Rule) → is_id_of id k rs ≡ true �
 within id k [] one = cc
 within id zero (r ∷ rs) one = omega arith
 within id (suc k) (r ∷ rs) one =
-    let rest : k < length rs = within id k rs (both _ _ one).1 in
+    let rest : k < length rs = within id k rs (both (not (bytes_eq r.id id)) (is_id_of id k rs) one).1 in
     omega arith
 
 -- whether no option that clap adds by itself has this name
