@@ -1,6 +1,6 @@
 ghost use Rattle.std.specs.Prelude.{IfOk, ◌≡◌, false};
 ghost use Rattle.clap.specs.Words.{app_of, rule_of};
-ghost use Rattle.fbcheck_words.specs.CommandLine.{named, program, flag_rule, text_rule, value_rule};
+ghost use Rattle.fbcheck_words.specs.CommandLine.{named, program};
 ghost use Rattle.fbcheck_words.specs.OptionTable.{choice_rule};
 
 use clap::builder::ValueParser;
@@ -32,7 +32,8 @@ struct Choice<'a> {
     help: &'a str,
 }
 
-/// All options, in the order of help.
+/// All options, in the order of help. As a constant they would be built anew in the loop's function, text by text,
+/// which is dear to prove.
 static CHOICES: [Choice<'static>; 15] = [
     Choice {
         name: "schema",
@@ -111,52 +112,21 @@ static CHOICES: [Choice<'static>; 15] = [
     },
 ];
 
-fn text_arg<'a>(alloc: Global, name: &'a str, value: &'a str, help: &'a str) -> Arg<'a>
-    ensures rule { rule_of result ≡ text_rule name.entry.now }
-    ensures local { result.global ≡ false }
-{
-    Arg::new(alloc, name)
-        .long(name)
-        .value_name(value)
-        .help(help)
-}
-
-fn number_arg<'a>(
-    alloc: Global,
-    name: &'a str,
-    parser: ValueParser<'a>,
-    default: &'a str,
-    help: &'a str,
-) -> Arg<'a>
-    ensures rule { rule_of result ≡ value_rule name.entry.now parser.entry default.entry.now }
-    ensures local { result.global ≡ false }
-{
-    text_arg(alloc, name, "N", help)
-        .value_parser(parser)
-        .default_value(default)
-        .action(ArgAction::Set)
-}
-
-fn flag_arg<'a>(alloc: Global, name: &'a str, help: &'a str) -> Arg<'a>
-    ensures rule { rule_of result ≡ flag_rule name.entry.now }
-    ensures local { result.global ≡ false }
-{
-    Arg::new(alloc, name)
-        .long(name)
-        .help(help)
-        .action(ArgAction::SetTrue)
-}
-
 fn choice_arg<'a>(alloc: Global, choice: Choice<'a>) -> Arg<'a>
     ensures rule { rule_of result ≡ choice_rule choice.entry }
     ensures local { result.global ≡ false }
 {
+    let arg = Arg::new(alloc, choice.name)
+        .long(choice.name)
+        .help(choice.help);
     match choice.takes {
-        Takes::Text(value) => text_arg(alloc, choice.name, value, choice.help),
-        Takes::Number(parser, default) => {
-            number_arg(alloc, choice.name, parser, default, choice.help)
-        }
-        Takes::Nothing => flag_arg(alloc, choice.name, choice.help),
+        Takes::Text(value) => arg.value_name(value),
+        Takes::Number(parser, default) => arg
+            .value_name("N")
+            .value_parser(parser)
+            .default_value(default)
+            .action(ArgAction::Set),
+        Takes::Nothing => arg.action(ArgAction::SetTrue),
     }
 }
 
