@@ -66,20 +66,18 @@ pub record IsBounded (tally : Tally) : Type 0 where
   pub bytes : tally.bytes ≤ 2147483648 * (tally.yes + tally.no)
   pub tables : tally.tables ≤ 4294967296 * (tally.yes + tally.no)
 
--- how often a reason was given, where it was, in front of the rest
-abbrev pub reason_part : List ℕ → ℕ → List ℕ → List ℕ
-reason_part name count rest = (if count == 0 then [] else (name ++ decimal count)) ++ rest
+-- how often the reason with this number was given, where it was, in front of the rest
+abbrev pub reason_part : ℕ → ℕ → List ℕ → List ℕ
+reason_part number count rest = (if count == 0 then [] else (codes " V" ++ decimal number ++ codes "=" ++ decimal count)) ++ rest
 
--- the same of all reasons in their order
+-- the same of the reasons from this number on, in their order
+abbrev pub reasons_from : ℕ → List ℕ → List ℕ → List ℕ
+reasons_from number [] rest = rest
+reasons_from number (count ∷ counts) rest = reason_part number count (reasons_from (number + 1) counts rest)
+
+-- the same of all reasons
 abbrev pub reasons_part : List ℕ → List ℕ → List ℕ
-reasons_part counts rest =
-    reason_part (codes " V1=") (slice_index counts 0) (reason_part (codes " V2=") (slice_index counts 1)
-    (reason_part (codes " V3=") (slice_index counts 2) (reason_part (codes " V4=") (slice_index counts 3)
-    (reason_part (codes " V5=") (slice_index counts 4) (reason_part (codes " V6=") (slice_index counts 5)
-    (reason_part (codes " V7=") (slice_index counts 6) (reason_part (codes " V8=") (slice_index counts 7)
-    (reason_part (codes " V9=") (slice_index counts 8) (reason_part (codes " V10=") (slice_index counts 9)
-    (reason_part (codes " V11=") (slice_index counts 10) (reason_part (codes " V12=") (slice_index counts 11)
-    (reason_part (codes " V13=") (slice_index counts 12) rest))))))))))))
+reasons_part counts rest = reasons_from 1 counts rest
 
 -- what was counted beside the verdicts
 abbrev pub counts_part : Tally → List ℕ

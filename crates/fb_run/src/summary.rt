@@ -1,6 +1,6 @@
 //! The line that tells what a run came to.
 
-ghost use Rattle.std.specs.Prelude.{◌≡◌, ◌+◌, ◌<◌, ◌≤◌, [], length, slice_index};
+ghost use Rattle.std.specs.Prelude.{◌≡◌, ◌+◌, ◌<◌, ◌≤◌, [], length};
 ghost use Rattle.fb_run.specs.Sums.{counts_part, reason_part, reasons_part, summary_line, verdicts_part};
 
 use crate::line::Line;
@@ -53,35 +53,26 @@ fn put_reasons(line: &mut Line, counts: &[u64; 13])
     ensures text { line.new ≡ reasons_part counts.now line.old }
     ensures short { length line.new ≤ 468 }
 {
-    put_reason(line, " V13=", counts, 12);
-    put_reason(line, " V12=", counts, 11);
-    put_reason(line, " V11=", counts, 10);
-    put_reason(line, " V10=", counts, 9);
-    put_reason(line, " V9=", counts, 8);
-    put_reason(line, " V8=", counts, 7);
-    put_reason(line, " V7=", counts, 6);
-    put_reason(line, " V6=", counts, 5);
-    put_reason(line, " V5=", counts, 4);
-    put_reason(line, " V4=", counts, 3);
-    put_reason(line, " V3=", counts, 2);
-    put_reason(line, " V2=", counts, 1);
-    put_reason(line, " V1=", counts, 0);
+    let mut place = counts.len();
+    while place > 0 {
+        place -= 1;
+        put_reason(line, place as u64 + 1, counts[place]);
+    }
 }
 
-/// Puts how often the reason at this place was given, in front, where it was.
+/// Puts how often the reason with this number was given, in front, where it was.
 #[tactic(auto, using(crate::proofs::SumsLemmas::in_front))]
-fn put_reason(line: &mut Line, name: &str, counts: &[u64; 13], place: usize)
-    requires room { length line.old ≤ 600 }
-    requires name { length name.now ≤ 5 }
-    requires places { length counts.now ≡ 13 }
-    requires place { place < 13 }
-    ensures text { line.new ≡ reason_part name.now (slice_index counts.now place) line.old }
+fn put_reason(line: &mut Line, number: u64, count: u64)
+    requires room { length line.old ≤ 500 }
+    requires number { number < 100 }
+    ensures text { line.new ≡ reason_part number count line.old }
     ensures short { length line.new ≤ length line.old + 25 }
 {
-    let count = counts[place];
     if count == 0 {
         return;
     }
     line.put_number(count);
-    line.put_text(name);
+    line.put_text("=");
+    line.put_number(number);
+    line.put_text(" V");
 }

@@ -1,0 +1,13 @@
+use Rattle.std.proofs.Common.{◌≡◌, ◌+◌, ◌*◌, ◌≤◌, drop, length}
+use Rattle.fb_run.specs.Sums.{reasons_from}
+use Rattle.fb_run.proofs.summary.put_reasons.Given as goal
+
+abbrev pub invariant-loop-place : goal.invariant-loop-place
+invariant-loop-place l = record {
+  within : l.place ≤ 13;
+  text : l.line ≡ reasons_from (l.place + 1) (drop l.place l.counts) l.initial.line;
+  short : length l.line + 25 * l.place ≤ 468;
+}
+
+abbrev pub decreases-loop-place : goal.decreases-loop-place
+decreases-loop-place l = l.place
