@@ -1,12 +1,10 @@
 //! The line of a verdict.
 
-ghost use Rattle.std.specs.Prelude.{◌≡◌, ◌+◌, ◌≤◌, ◌++◌, [], length, decimal, option_map};
-ghost use Rattle.fb_access.specs.Denotes.{shown};
+ghost use Rattle.std.specs.Prelude.{◌≡◌, ◌+◌, ◌≤◌, ◌++◌, [], length, decimal};
 ghost use Rattle.fb_run.specs.Job.{verdict_of};
 ghost use Rattle.fb_run.specs.Line.{field_text, no_end, place_end, short_ending, short_line, yes_end};
 
 use crate::checker::{Found, Wrong};
-use fb_access::Answer;
 use fb_verify::{Fault, Report};
 use itoa::{Buffer, write_digits};
 use std::marker::Model;
@@ -52,13 +50,14 @@ impl Line {
 
     /// Makes it the line of message number `number`, whatever it was before. It ends with a newline, and before a value
     /// or a place with a space.
+    #[tactic(auto, using(crate::proofs::LineLemmas::ends_as))]
     pub fn set(&mut self, number: u64, verdict: &Result<Found<'_>, Wrong<'_>>)
         ensures { self.new ≡ short_line number (verdict_of verdict.now) }
     {
         self.clear();
         match verdict {
             Ok(found) => self.put_yes(&found.report, short_end(&found.answer)),
-            Err(wrong) => self.put_no(&wrong.fault, place_end_of(&wrong.place)),
+            Err(wrong) => self.put_no(&wrong.fault, short_end(&wrong.place)),
         }
         self.put_number(number);
     }
@@ -162,23 +161,12 @@ impl Line {
     }
 }
 
-/// What ends the line of a no but for its place in words.
-fn place_end_of(place: &Option<&[u8]>) -> &'static str
-    ensures end { result.now ≡ short_ending place.now }
+/// What ends a line but for the value or the place in words behind it, where there is one.
+fn short_end<T>(behind: &Option<T>) -> &'static str
+    ensures end { result.now ≡ short_ending behind.now }
     ensures short { length result.now ≤ 1 }
 {
-    match place {
-        Some(_) => " ",
-        None => "\n",
-    }
-}
-
-/// What ends a line but for a value.
-fn short_end(answer: &Option<Answer<'_>>) -> &'static str
-    ensures end { result.now ≡ short_ending (option_map shown answer.now) }
-    ensures short { length result.now ≤ 1 }
-{
-    match answer {
+    match behind {
         Some(_) => " ",
         None => "\n",
     }
