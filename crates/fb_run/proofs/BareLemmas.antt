@@ -1,5 +1,5 @@
 -- What is told of a bare input, of which a front was written.
-use Rattle.std.proofs.Common.{◌≡◌, ℕ, ◌+◌, ◌≤◌, List, ◌++◌, Option, length, subst, ◌∙◌, ap}
+use Rattle.std.proofs.Common.{◌≡◌, ℕ, ◌+◌, ◌≤◌, List, ◌++◌, Option, length, subst, sym, ◌∙◌, ap}
 use Rattle.std.specs.Io.KnownBytes.{Appends, Consumes}
 use Rattle.std.proofs.KnownBytes.{Appends-trans, Keeps-refl}
 use Rattle.fb_run.specs.Job.{Job, Verdict}
@@ -87,3 +87,9 @@ fails_through job bytes message text tally tally' before r r' s s' n (run.WriteF
     } in
     (bytes, read, (within, part))
 fails_through job bytes message text tally tally' before r r' s s' n _ read within same none zero c0 (verdict, line, told, never, counted) = absurd never
+
+-- nothing was told, where the limit is that of the job
+pub fails_untold : (job : Job) (limit : ℕ) (r r' s s' n n' : Option (List ℕ)) (told : Tally) (fault : RunFault) → limit ≡ job.limit → told ≡ no_tally
+    → FailsBare job limit r r' s s' n n' no_tally fault → FailsBare job job.limit r r' s s' n n' told fault
+fails_untold job limit r r' s s' n n' told fault is none fails =
+    subst (λ (k : ℕ). FailsBare job k r r' s s' n n' told fault) is (subst (λ (t : Tally). FailsBare job limit r r' s s' n n' t fault) (sym none) fails)

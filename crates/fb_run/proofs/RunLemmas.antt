@@ -1,18 +1,19 @@
 -- A run over a stream: what was read and written, and then one piece more.
 use Rattle.std.proofs.Common.{◌≡◌, ℕ, ◌+◌, Bool, true, false, List, [], ◌++◌, Option, length, take, drop, refl, sym, ap, subst, ◌∙◌, arith, append-nil, append_assoc, length-append, length-take-le, take-append-drop, Result, Ok, Err, IsErrAnd}
 use Rattle.std.specs.Io.KnownBytes.{Consumes, Appends}
-use Rattle.std.proofs.KnownBytes.{Consumes-nil, Consumes-trans, Appends-kept, Appends-nil, Appends-trans}
+use Rattle.std.proofs.KnownBytes.{Consumes-nil, Consumes-trans, Appends-kept, Appends-nil, Appends-trans, Keeps-refl}
 use Rattle.fb_schema.specs.Rows.{Rows}
 use Rattle.fb_verify.specs.declared.start.Start.{Start}
+use Rattle.fb_verify.specs.declared.start.Start.TheVariants as start
 use Rattle.fb_bytes.specs.declared.stream_fault.StreamFault.TheVariants as stream
 use Rattle.fb_run.specs.Faults.{IsCaused}
 use Rattle.fb_run.specs.Job.{Job, job_of, start_of}
 use Rattle.fb_run.specs.Sums.{no_tally}
 use Rattle.fb_run.specs.Prompt.{IsBarePrompt, IsPrompt, IsPromptFrom, IsStreamPrompt}
-use Rattle.fb_run.specs.Run.{IsBareRun, IsRunBeside, IsRunFrom, IsStreamRun}
+use Rattle.fb_run.specs.Run.{IsBareRun, IsRunBeside, IsRunFrom}
 use Rattle.fb_run.specs.Lines.{WritesFronts}
 use Rattle.fb_run.specs.Texts.{Texts, followed, silent, to_notes}
-use Rattle.fb_run.specs.Stream.{FailsStream, Gathers, Halts, Onward, Standing, Tells, TellsSome}
+use Rattle.fb_run.specs.Stream.{FailsStream, Gathers, Halts, Onward, Standing, Tells, TellsSome, WhyStream}
 use Rattle.fb_run.specs.declared.fault.RunFault.{RunFault}
 use Rattle.fb_run.specs.declared.fault.RunFault.TheVariants as run
 use Rattle.fb_run.specs.declared.options.Options.{Options}
@@ -34,7 +35,8 @@ sofar_nothing job stand count noted r s n is c0 n0 =
     (subst (λ (m : ℕ). Sofar job r r s s n n stand m 0) (sym c0)
     (subst (λ (t : Standing). Sofar job r r s s n n t 0 0) (sym is) ([], silent, Consumes-nil r, Appends-nil s, Appends-nil n, refl, refl, tells_nothing job job.limit)))
 
-pub fails_empty : (job : Job) (limit : ℕ) (r s n : Option (List ℕ)) → FailsStream job limit r r s s n n no_tally run.OutOfMemory
+-- nothing was read or written, and then there was no memory
+fails_empty : (job : Job) (limit : ℕ) (r s n : Option (List ℕ)) → FailsStream job limit r r s s n n no_tally run.OutOfMemory
 fails_empty job limit r s n = record {
   bytes = [];
   text = silent;
@@ -93,6 +95,19 @@ fails_counted job limit r r' s s' n n' told tally fault is fails = subst (λ (t 
 front_of : (text more : List ℕ) (taken : ℕ) → text ++ more ≡ (text ++ take taken more) ++ drop taken more
 front_of text more taken = ap (λ l. text ++ l) (sym (take-append-drop taken more)) ∙ sym (append_assoc text (take taken more) (drop taken more))
 
+-- of what is told of these bytes this was written and noted, and then came a fault that it accounts for
+fails_at : (job : Job) (bytes : List ℕ) (told gone : Texts) (tally : Tally) (r r' s s' n n' : Option (List ℕ)) (fault : RunFault)
+    → Consumes r r' bytes → Appends s s' gone.out → Appends n n' gone.notes
+    → (some : TellsSome job job.limit bytes told tally) → WhyStream job job.limit bytes some.0 some.1 gone tally fault → FailsStream job job.limit r r' s s' n n' tally fault
+fails_at job bytes told gone tally r r' s s' n n' fault read wrote noted some why = record {
+  bytes = bytes;
+  text = gone;
+  read = read;
+  wrote = wrote;
+  noted = noted;
+  rests = (some.0, some.1, some.4, why);
+}
+
 -- the writer or the notes failed at what waited
 pub fails_write : (job : Job) (before : Standing) (count count' noted noted' k : ℕ) (piece slice : List ℕ) (waits : Texts) (tally : Tally) (r r' r'' s s' s'' n n' n'' : Option (List ℕ)) (fault : RunFault)
     → slice ≡ piece → before.text ≡ silent → count' ≡ count → noted' ≡ noted → Sofar job r r' s s' n n' before count noted → Consumes r' r'' (take k piece)
@@ -102,44 +117,24 @@ fails_write job before count count' noted noted' k piece slice waits tally r r' 
     let some = gathers' bytes text (told_empty job before bytes text none tells) in
     let rest : Texts = record { out = drop front.taken waits.out; notes = waits.notes } in
     let gone : Texts = record { out = text.out ++ take front.taken waits.out; notes = text.notes } in
-    let whole : followed text waits ≡ followed gone rest = same_texts _ _ _ _ (front_of text.out waits.out front.taken) refl in record {
-      bytes = bytes ++ take k piece;
-      text = gone;
-      read = Consumes-trans r r' r'' bytes (take k piece) read second;
-      wrote = Appends-trans s s' s'' text.out (take front.taken waits.out) wrote front.wrote;
-      noted = Appends-kept n n' n'' text.notes told keeps;
-      rests = (
-        some.0,
-        some.1,
-        some.4,
-        (
-          omega (arith, front.written_is, length-append text.out (take front.taken waits.out), length-take-le front.taken waits.out front.within),
-          (rest, subst (λ (t : Texts). TellsSome job job.limit (bytes ++ take k piece) t tally) whole some),
-        ),
-      );
-    }
+    let whole : followed text waits ≡ followed gone rest = same_texts _ _ _ _ (front_of text.out waits.out front.taken) refl in
+    fails_at job (bytes ++ take k piece) (followed text waits) gone tally r r'' s s'' n n'' (run.WriteFault written) (Consumes-trans r r' r'' bytes (take k piece) read second)
+    (Appends-trans s s' s'' text.out (take front.taken waits.out) wrote front.wrote) (Appends-kept n n' n'' text.notes told keeps) some (
+      omega (arith, front.written_is, length-append text.out (take front.taken waits.out), length-take-le front.taken waits.out front.within),
+      (rest, subst (λ (t : Texts). TellsSome job job.limit (bytes ++ take k piece) t tally) whole some),
+    )
 fails_write job before count count' noted noted' k piece slice waits tally r r' r'' s s' s'' n n' n'' (run.NoteFault written) all none counts notes (bytes, text, read, wrote, told, long, broad, tells) second gathers (more, front) =
     let gathers' = subst (λ (l : List ℕ). Gathers job before (take k l) waits tally) all gathers in
     let some = gathers' bytes text (told_empty job before bytes text none tells) in
     let rest = drop front.taken waits.notes in
     let gone : Texts = record { out = text.out ++ waits.out; notes = text.notes ++ take front.taken waits.notes } in
     let whole : followed text waits ≡ followed gone (to_notes rest) =
-    same_texts _ _ _ _ (sym (append-nil (text.out ++ waits.out))) (front_of text.notes waits.notes front.taken) in record {
-      bytes = bytes ++ take k piece;
-      text = gone;
-      read = Consumes-trans r r' r'' bytes (take k piece) read second;
-      wrote = Appends-trans s s' s'' text.out waits.out wrote more;
-      noted = Appends-trans n n' n'' text.notes (take front.taken waits.notes) told front.wrote;
-      rests = (
-        some.0,
-        some.1,
-        some.4,
-        (
-          omega (arith, front.written_is, length-append text.notes (take front.taken waits.notes), length-take-le front.taken waits.notes front.within),
-          (rest, subst (λ (t : Texts). TellsSome job job.limit (bytes ++ take k piece) t tally) whole some),
-        ),
-      );
-    }
+    same_texts _ _ _ _ (sym (append-nil (text.out ++ waits.out))) (front_of text.notes waits.notes front.taken) in
+    fails_at job (bytes ++ take k piece) (followed text waits) gone tally r r'' s s'' n n'' (run.NoteFault written) (Consumes-trans r r' r'' bytes (take k piece) read second)
+    (Appends-trans s s' s'' text.out waits.out wrote more) (Appends-trans n n' n'' text.notes (take front.taken waits.notes) told front.wrote) some (
+      omega (arith, front.written_is, length-append text.notes (take front.taken waits.notes), length-take-le front.taken waits.notes front.within),
+      (rest, subst (λ (t : Texts). TellsSome job job.limit (bytes ++ take k piece) t tally) whole some),
+    )
 fails_write job before count count' noted noted' k piece slice waits tally r r' r'' s s' s'' n n' n'' _ all none counts notes sofar second gathers never = absurd never
 
 -- a flush that failed is the cause of its fault, whatever else was counted
@@ -162,16 +157,20 @@ module _ (rows : Rows) (options : Options) (job : Job) (r r' s s' n n' : Option 
     pub runs_bare : options.bare ≡ true → job ≡ job_of rows options → IsBareRun job r r' s s' n n' so_far answer → IsRunBeside (job_of rows options) r r' s s' n n' so_far answer
     runs_bare = by_options (λ from j. IsRunFrom from j r r' s s' n n' so_far answer)
 
-    -- so is one over a stream
-    pub runs_stream : options.bare ≡ false → job ≡ job_of rows options → IsStreamRun job r r' s s' n n' so_far answer → IsRunBeside (job_of rows options) r r' s s' n n' so_far answer
-    runs_stream = by_options (λ from j. IsRunFrom from j r r' s s' n n' so_far answer)
-
   -- each is prompt where that run is
   pub prompt_bare : options.bare ≡ true → job ≡ job_of rows options → IsBarePrompt job r r' s s' n n' → IsPrompt (job_of rows options) r r' s s' n n'
   prompt_bare = by_options (λ from j. IsPromptFrom from j r r' s s' n n')
 
   pub prompt_stream : options.bare ≡ false → job ≡ job_of rows options → IsStreamPrompt job r r' s s' n n' → IsPrompt (job_of rows options) r r' s s' n n'
   prompt_stream = by_options (λ from j. IsPromptFrom from j r r' s s' n n')
+
+-- so it is in a run, however its input starts
+none_from : (from : Start) (job : Job) (r s n : Option (List ℕ)) → IsRunFrom from job r r s s n n no_tally (Err run.OutOfMemory)
+none_from start.Bare job r s n = ([], Consumes-nil r, (omega arith, ((Keeps-refl s, Keeps-refl n), refl)))
+none_from start.Prefixed job r s n = fails_empty job job.limit r s n
+
+pub runs_none : (job : Job) (r s n : Option (List ℕ)) (told : Tally) → told ≡ no_tally → IsRunBeside job r r s s n n told (Err run.OutOfMemory)
+runs_none job r s n told is = subst (λ (t : Tally). IsRunBeside job r r s s n n t (Err run.OutOfMemory)) (sym is) (none_from job.start job r s n)
 
 -- the exit of a `?`
 pub err_exit : {A E : Type 0} (answer : Result A E) (x : E) (P : Result A E → Type 0) → IsErrAnd answer (λ e. e ≡ x) → P (Err x) → P answer

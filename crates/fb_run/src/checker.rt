@@ -35,12 +35,12 @@ pub struct Wrong<'t> {
 /// A schema and the options by which a run checks its buffers: the root is a table, and the path fits from there. A
 /// clause sees the job that they make.
 #[derive(Drop)]
-pub struct Checker<'s, 'n> {
+pub struct Checker<'s, 'n, 'o> {
     schema: &'s Schema<'n>,
-    options: &'s Options,
+    options: &'o Options,
 }
 
-impl<'s, 'n> Model for Checker<'s, 'n> {
+impl<'s, 'n, 'o> Model for Checker<'s, 'n, 'o> {
     ghost use Rattle.fb_run.specs.Job.{Job, Serves, job_of};
 
     ghost Value = { Job };
@@ -50,9 +50,9 @@ impl<'s, 'n> Model for Checker<'s, 'n> {
     ghost invariant = { λ c. Serves c.schema.now c.options.now };
 }
 
-impl<'s, 'n> Checker<'s, 'n> {
+impl<'s, 'n, 'o> Checker<'s, 'n, 'o> {
     /// The checker by this schema and these options.
-    pub fn new(schema: &'s Schema<'n>, options: &'s Options) -> Checker<'s, 'n>
+    pub fn new(schema: &'s Schema<'n>, options: &'o Options) -> Checker<'s, 'n, 'o>
         requires { Serves schema.now options.now }
         ensures { result ≡ job_of schema.now options.now }
     {
@@ -147,36 +147,29 @@ impl<'s, 'n> Checker<'s, 'n> {
         let Ok(meter) = Meter::new(bytes) else {
             unreachable!()
         };
-        let options = self.options;
+        let schema = self.schema;
+        let Options {
+            root,
+            ident,
+            limits,
+            ..
+        } = *self.options;
         let start = self.start();
         let checks = self.checks();
-        match options.names {
+        let scratch = &mut room.scratch;
+        let links = &mut room.links;
+        match self.options.names {
             Places::Numbers => Ok(verify(
-                meter,
-                self.schema,
-                options.root,
-                start,
-                options.ident,
-                options.limits,
-                checks,
-                &mut room.scratch,
+                meter, schema, root, start, ident, limits, checks, scratch,
             )),
             Places::Words => match verify_and_locate(
-                meter,
-                self.schema,
-                options.root,
-                start,
-                options.ident,
-                options.limits,
-                checks,
-                &mut room.scratch,
-                &mut room.links,
+                meter, schema, root, start, ident, limits, checks, scratch, links,
             ) {
                 Ok(verified) => Ok(Ok(verified)),
                 Err(Located { fault, links }) => {
                     room.text.clear();
                     let links = &room.links[..links as usize];
-                    match put_location(&mut room.text, self.schema, &fault, links) {
+                    match put_location(&mut room.text, schema, &fault, links) {
                         Ok(()) => Ok(Err(fault)),
                         Err(refused) => Err(refused),
                     }

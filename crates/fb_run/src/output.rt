@@ -62,7 +62,7 @@ impl<A: Allocator> Output<A> {
     /// Adds what is told of the next message, and counts its verdict. Where memory is refused, nothing is told of it.
     pub fn add<B: Allocator>(
         &mut self,
-        checker: &Checker<'_, '_>,
+        checker: &Checker<'_, '_, '_>,
         room: &mut Room<B>,
         message: &[u8],
     ) -> Result<(), AllocError>
@@ -91,7 +91,7 @@ impl<A: Allocator> Output<A> {
     /// memory is refused, nothing is told of the message, nor is it counted.
     pub fn add_through<B: Allocator, K: Sink>(
         &mut self,
-        checker: &Checker<'_, '_>,
+        checker: &Checker<'_, '_, '_>,
         room: &mut Room<B>,
         message: &[u8],
         writer: &mut K,

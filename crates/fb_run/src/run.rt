@@ -6,13 +6,12 @@ ghost use Rattle.fb_run.specs.Job.{Serves, job_of};
 ghost use Rattle.fb_run.specs.Prompt.{IsPrompt};
 ghost use Rattle.fb_run.specs.Run.{IsRun, IsRunBeside};
 
-use crate::bare::run_bare;
 use crate::checker::Checker;
 use crate::fault::RunFault;
 use crate::input::Input;
 use crate::options::Options;
-use crate::reading::MOST_TURNS;
-use crate::stream::run_stream;
+use crate::reading::{MOST_TURNS, read_buffer};
+use crate::stream::Carried;
 use crate::tally::Tally;
 use crate::writing::Nowhere;
 use fb_bytes::Sink;
@@ -64,11 +63,16 @@ pub fn run_beside<A: Allocator, S: Input<K, N>, K: Sink, N: Sink>(
     ensures pushes { N.calls notes.new ≤ N.calls notes.old + 2 ^ 96 }
     ensures turns { S.calls reader.new ≤ S.calls reader.old + turns }
 {
+    *so_far = Tally::new();
     let checker = Checker::new(schema, options);
+    let mut piece = read_buffer(&alloc)?;
+    let mut carried = Carried::new(&alloc, &checker)?;
     if options.bare {
-        run_bare(alloc, reader, writer, notes, &checker, turns, so_far)
+        carried.pass_whole(
+            &alloc, &mut piece, reader, writer, notes, &checker, turns, so_far,
+        )
     } else {
-        run_stream(alloc, reader, writer, notes, &checker, turns, so_far)
+        carried.pass_all(&mut piece, reader, writer, notes, &checker, turns, so_far)
     }
 }
 

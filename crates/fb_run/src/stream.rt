@@ -13,23 +13,23 @@ use crate::fault::RunFault;
 use crate::front::front_message;
 use crate::input::Input;
 use crate::output::Output;
-use crate::reading::{MOST_TURNS, PIECE, pull_piece, read_buffer};
+use crate::reading::{MOST_TURNS, PIECE, pull_piece};
 use crate::room::Room;
 use crate::tally::Tally;
 use fb_bytes::{Framer, Sink};
 use std::alloc::{AllocError, Allocator};
 
-/// What a run over a stream carries from piece to piece.
+/// What a run carries: over a stream from piece to piece, over one bare input from its start to its end.
 #[derive(Drop)]
-struct Carried<A: Allocator> {
-    room: Room<A>,
-    framer: Framer<A>,
-    output: Output<A>,
+pub struct Carried<A: Allocator> {
+    pub room: Room<A>,
+    pub framer: Framer<A>,
+    pub output: Output<A>,
 }
 
 impl<'a, A: Allocator> Carried<&'a A> {
     /// What is carried at first: nothing is told, and nothing is held.
-    fn new(alloc: &'a A, checker: &Checker<'_, '_>) -> Result<Self, AllocError>
+    pub fn new(alloc: &'a A, checker: &Checker<'_, '_, '_>) -> Result<Self, AllocError>
         ensures ready { IfOk result (λ carried. IsReady checker.now carried.framer carried.room) }
         ensures empty { IfOk result (λ carried. standing carried ≡ record { text = silent; tally = no_tally; held = [] }) }
         ensures written { IfOk result (λ carried. carried.output.out.written ≡ 0) }
@@ -49,15 +49,20 @@ impl<'a, A: Allocator> Carried<&'a A> {
 }
 
 impl<A: Allocator> Carried<A> {
-    /// Passes all of a stream from its start, a piece after the other through the read buffer, with at most `turns`
-    /// reads.
-    fn pass_all<S: Input<K, N>, K: Sink, N: Sink>(
+    /// Checks a stream of size-prefixed buffers from its start, each of at most `max_bytes` of the options, and writes
+    /// what the mode tells of each. It comes in pieces through the read buffer, with at most `turns` reads.
+    ///
+    /// What is told of all messages that are whole is written before the next read (`leave`), and before any answer.
+    /// On a fault that of all whole messages that were read is written, but for `OutOfMemory`, where it is that of the
+    /// first ones, and for `WriteFault` and `NoteFault`, where `written` bytes of it are. Then `so_far` has what was
+    /// counted by then.
+    pub fn pass_all<B: Allocator, S: Input<K, N>, K: Sink, N: Sink>(
         &mut self,
-        piece: &mut Vec<u8, A>,
+        piece: &mut Vec<u8, B>,
         reader: &mut S,
         writer: &mut K,
         notes: &mut N,
-        checker: &Checker<'_, '_>,
+        checker: &Checker<'_, '_, '_>,
         turns: u64,
         so_far: &mut Tally,
     ) -> Result<Tally, RunFault>
@@ -102,7 +107,7 @@ impl<A: Allocator> Carried<A> {
     /// counted.
     fn pass_piece<K: Sink, N: Sink>(
         &mut self,
-        checker: &Checker<'_, '_>,
+        checker: &Checker<'_, '_, '_>,
         piece: &[u8],
         writer: &mut K,
         notes: &mut N,
@@ -152,7 +157,7 @@ impl<A: Allocator> Carried<A> {
     /// written at once; nothing is to wait by then.
     fn pass_held<K: Sink>(
         &mut self,
-        checker: &Checker<'_, '_>,
+        checker: &Checker<'_, '_, '_>,
         piece: &[u8],
         writer: &mut K,
     ) -> Result<usize, RunFault>
@@ -193,7 +198,7 @@ impl<A: Allocator> Carried<A> {
     }
 
     /// Passes a whole piece, and adds what is told of the messages that end in it.
-    fn use_up(&mut self, checker: &Checker<'_, '_>, piece: &[u8]) -> Result<(), RunFault>
+    fn use_up(&mut self, checker: &Checker<'_, '_, '_>, piece: &[u8]) -> Result<(), RunFault>
         requires ready { IsReady checker.now self.old.framer self.old.room }
         requires piece { length piece.now ≤ PIECE }
         requires few { self.old.output.counter.yes + self.old.output.counter.no < 2 ^ 62 }
@@ -221,7 +226,7 @@ impl<A: Allocator> Carried<A> {
     /// Passes bytes from the front of the rest of a piece, up to the end of a message, and adds what is told of it.
     /// Answers how many bytes that were. A message that stands whole there is checked where it stands; of others the
     /// framer holds what came.
-    fn pass_some(&mut self, checker: &Checker<'_, '_>, rest: &[u8]) -> Result<usize, RunFault>
+    fn pass_some(&mut self, checker: &Checker<'_, '_, '_>, rest: &[u8]) -> Result<usize, RunFault>
         requires rest { 0 < length rest.now }
         requires ready { IsReady checker.now self.old.framer self.old.room }
         requires few { self.old.output.counter.yes + self.old.output.counter.no < 2 ^ 63 }
@@ -253,40 +258,4 @@ impl<A: Allocator> Carried<A> {
         self.framer.next();
         Ok(taken.used)
     }
-}
-
-/// Checks a stream of size-prefixed buffers, each of at most `max_bytes` of the options, and writes what the mode tells
-/// of each, with at most `turns` reads.
-///
-/// What is told of all messages that are whole is written before the next read (`leave`), and before any answer. On a
-/// fault that of all whole messages that were read is written, but for `OutOfMemory`, where it is that of the first
-/// ones, and for `WriteFault` and `NoteFault`, where `written` bytes of it are. Then `so_far` has what was counted by
-/// then.
-pub fn run_stream<A: Allocator, S: Input<K, N>, K: Sink, N: Sink>(
-    alloc: A,
-    reader: &mut S,
-    writer: &mut K,
-    notes: &mut N,
-    checker: &Checker<'_, '_>,
-    turns: u64,
-    so_far: &mut Tally,
-) -> Result<Tally, RunFault>
-    requires turns { turns ≤ MOST_TURNS }
-    requires reads { S.calls reader.old < 2 ^ 64 }
-    requires writes { K.calls writer.old < 2 ^ 64 }
-    requires tells { N.calls notes.old < 2 ^ 64 }
-    requires leave { (source sink note : Option (List ℕ)) → IsStreamPrompt checker.now (S.remaining reader.old) source
-        (K.contents writer.old) sink (N.contents notes.old) note → S.may_ask source sink note }
-    ensures run { IsStreamRun checker.now
-        (S.remaining reader.old) (S.remaining reader.new) (K.contents writer.old) (K.contents writer.new)
-        (N.contents notes.old) (N.contents notes.new) so_far.new result }
-    ensures end { EndsBeside (S.failures reader.old) (S.failures reader.new) (K.failures writer.old) (K.failures writer.new)
-        (N.failures notes.old) (N.failures notes.new) (S.calls reader.old + turns - S.calls reader.new) (S.ended reader.new) result }
-    ensures pushes { N.calls notes.new ≤ N.calls notes.old + 2 ^ 96 }
-    ensures turns { S.calls reader.new ≤ S.calls reader.old + turns }
-{
-    *so_far = Tally::new();
-    let mut piece = read_buffer(&alloc)?;
-    let mut carried = Carried::new(&alloc, checker)?;
-    carried.pass_all(&mut piece, reader, writer, notes, checker, turns, so_far)
 }

@@ -1,16 +1,29 @@
-use Rattle.fb_run.proofs.RunLemmas.{prompt_bare, prompt_stream, runs_bare, runs_stream}
+use Rattle.fb_run.specs.Job.{job_of}
+use Rattle.fb_run.specs.Run.{IsRunBeside}
+use Rattle.fb_run.proofs.RunLemmas.{err_exit, prompt_bare, prompt_stream, runs_bare, runs_none}
 use Rattle.fb_run.proofs.run.run_beside.Goals as goal
 
+pub returns-in_err-piece-clause-run : goal.returns-in_err-piece-clause-run
+returns-in_err-piece-clause-run g c =
+    err_exit c.from_residual.result _
+    (IsRunBeside (job_of c.args.schema.now c.args.options.now) (g.S.Input.remaining c.args.reader.now) (g.S.Input.remaining c.args.reader.now)
+    (g.K.Sink.contents c.args.writer.now) (g.K.Sink.contents c.args.writer.now) (g.N.Sink.contents c.args.notes.now) (g.N.Sink.contents c.args.notes.now) c.new.result)
+    c.from_residual.ensures.1 (runs_none _ _ _ _ _ c.new.ensures)
+
+pub returns-in_err-carried-clause-run : goal.returns-in_err-carried-clause-run
+returns-in_err-carried-clause-run g c =
+    err_exit c.from_residual-in_err-carried.result _
+    (IsRunBeside (job_of c.args.schema.now c.args.options.now) (g.S.Input.remaining c.args.reader.now) (g.S.Input.remaining c.args.reader.now)
+    (g.K.Sink.contents c.args.writer.now) (g.K.Sink.contents c.args.writer.now) (g.N.Sink.contents c.args.notes.now) (g.N.Sink.contents c.args.notes.now) c.new.result)
+    c.from_residual-in_err-carried.ensures.1 (runs_none _ _ _ _ _ c.new.ensures)
+
 pub returns-then-options-clause-run : goal.returns-then-options-clause-run
-returns-then-options-clause-run g c = runs_bare _ _ _ _ _ _ _ _ _ _ _ c.if-options.true c.new-checker.ensures c.run_bare.ensures.run
+returns-then-options-clause-run g c = runs_bare _ _ _ _ _ _ _ _ _ _ _ c.if-options.true c.new-checker.ensures c.pass_whole.ensures.run
 
-pub returns-else-options-clause-run : goal.returns-else-options-clause-run
-returns-else-options-clause-run g c = runs_stream _ _ _ _ _ _ _ _ _ _ _ c.if-options.false c.new-checker.ensures c.run_stream.ensures.run
-
-pub run_bare-requires-clause-leave : goal.run_bare-requires-clause-leave
-run_bare-requires-clause-leave g c source sink note prompt =
+pub pass_whole-requires-clause-leave : goal.pass_whole-requires-clause-leave
+pass_whole-requires-clause-leave g c source sink note prompt =
     c.requires.leave source sink note (prompt_bare _ _ _ _ _ _ _ _ _ c.if-options.true c.new-checker.ensures prompt)
 
-pub run_stream-requires-clause-leave : goal.run_stream-requires-clause-leave
-run_stream-requires-clause-leave g c source sink note prompt =
+pub pass_all-requires-clause-leave : goal.pass_all-requires-clause-leave
+pass_all-requires-clause-leave g c source sink note prompt =
     c.requires.leave source sink note (prompt_stream _ _ _ _ _ _ _ _ _ c.if-options.false c.new-checker.ensures prompt)
