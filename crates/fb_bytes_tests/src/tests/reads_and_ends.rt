@@ -17,6 +17,18 @@ static NUMBERS: [u8; 8] = [0x01, 0x02, 0x03, 0x84, 0xff, 0xff, 0xff, 0xff];
 /// What is read of them: the byte at 3, two from 1 on, and four from 0 on, also in two's complement.
 const OF_EACH_WIDTH: (u8, u16, u32, i32) = (0x84, 0x0302, 0x8403_0201, -2_080_177_663);
 
+/// The same by a meter, a tally or reads that were lent, which count four for it.
+macro_rules! of_each_width {
+    ($reader:expr) => {
+        (
+            $reader.u8_at(3),
+            $reader.u16_at(1),
+            $reader.u32_at(0),
+            $reader.i32_at(0),
+        )
+    };
+}
+
 /// A window that outlives its meter, over bytes that outlive both.
 fn name_of(bytes: &[u8]) -> Option<&[u8]> {
     let Ok(meter) = Meter::new(bytes) else {
@@ -82,13 +94,7 @@ impl Write for Fails {
 fn a_read_is_little_endian_and_counts_one(rt: HostRuntime) -> Result<(), Fail> {
     let mut meter = Meter::new(&NUMBERS)?;
     assert_eq!(rt; meter.len(), 8);
-    let numbers = (
-        meter.u8_at(3),
-        meter.u16_at(1),
-        meter.u32_at(0),
-        meter.i32_at(0),
-    );
-    assert_eq!(rt; numbers, OF_EACH_WIDTH);
+    assert_eq!(rt; of_each_width!(meter), OF_EACH_WIDTH);
     assert_eq!(rt; meter.i32_at(4), -1);
     assert_eq!(rt; meter.reads(), 5);
     Ok(())
@@ -128,13 +134,7 @@ fn a_tally_reads_and_counts_on(rt: HostRuntime) -> Result<(), Fail> {
         ),
         (8, true, false, 1)
     );
-    let numbers = (
-        tally.u8_at(3),
-        tally.u16_at(1),
-        tally.u32_at(0),
-        tally.i32_at(0),
-    );
-    assert_eq!(rt; numbers, OF_EACH_WIDTH);
+    assert_eq!(rt; of_each_width!(tally), OF_EACH_WIDTH);
     assert_eq!(rt; (tally.reads(), meter.reads()), (5, 1));
     meter.settle(tally);
     assert_eq!(rt; (meter.len(), meter.reads()), (8, 5));
@@ -155,13 +155,7 @@ fn what_is_lent_is_read_and_settled(rt: HostRuntime) -> Result<(), Fail> {
         (reads.len(), reads.fits(4, 4), reads.fits(5, 4)),
         (8, true, false)
     );
-    let numbers = (
-        reads.u8_at(3),
-        reads.u16_at(1),
-        reads.u32_at(0),
-        reads.i32_at(0),
-    );
-    assert_eq!(rt; numbers, OF_EACH_WIDTH);
+    assert_eq!(rt; of_each_width!(reads), OF_EACH_WIDTH);
     tally.settle(reads);
     assert_eq!(rt; (tally.len(), tally.reads()), (8, 5));
     assert_eq!(rt; tally.i32_at(4), -1);
