@@ -73,45 +73,41 @@ pub fn same(rt: &impl Abort, told: &str, want: &str, of: &str) {
 fn told_at(
     rt: &impl Abort,
     alloc: Global,
+    reading: Reading<'_>,
     bytes: &[u8],
-    schema: &Schema,
-    reading: Reading,
     steps: &str,
 ) -> Result<String, Fail> {
     let steps = steps_of(alloc, steps)?;
-    Ok(told(alloc, answer_at(rt, alloc, bytes, schema, reading, &steps))?)
+    let answer = answer_at(rt, alloc, reading, bytes, &steps)?;
+    Ok(told(alloc, answer)?)
 }
 
 /// Asserts that the steps of each case lead to what it says in these bytes.
 fn each_answered(
     rt: &impl Abort,
     alloc: Global,
+    reading: Reading<'_>,
     bytes: &[u8],
-    schema: &Schema,
-    reading: Reading,
     cases: &str,
 ) -> Result<(), Fail> {
     for line in cases.lines() {
         let (steps, want) = columns::two(line)?;
-        let told = told_at(rt, alloc, bytes, schema, reading, steps)?;
+        let told = told_at(rt, alloc, reading, bytes, steps)?;
         same(rt, told.as_str(), want, steps);
     }
     Ok(())
 }
 
-/// Asserts that the steps of each case lead to what it says, in the buffer that a text stands for, by the schema of
-/// these rows.
+/// Asserts that the steps of each case lead to what it says in the buffer that a text stands for.
 pub fn all_answered(
     rt: &impl Abort,
     alloc: Global,
+    reading: Reading<'_>,
     buffer: &str,
-    rows: &str,
-    reading: Reading,
     cases: &str,
 ) -> Result<(), Fail> {
-    let schema = schema_of(alloc, rows)?;
     let bytes = bytes_of(alloc, &[], buffer)?;
-    each_answered(rt, alloc, &bytes, &schema, reading, cases)
+    each_answered(rt, alloc, reading, &bytes, cases)
 }
 
 /// Asserts that a path has the steps of a case.

@@ -1,11 +1,13 @@
 //! Schemas for the tests, and a way through a buffer.
 
+use case_text::rows::schema_of;
 use fb_access::{Answer, Step, at_root};
 use fb_bytes::Meter;
 use fb_schema::Schema;
 use fb_verify::{Checks, Ident, Limits, Scratch, Start, Verified, verify};
 use std::alloc::Global;
 use std::process::Abort;
+use std::test::Fail;
 
 /// `table M { hp: short = 100; name: string; }`
 pub const MONSTERS: &str = "M table: hp@4 short default=100, name@6 string";
@@ -19,17 +21,19 @@ pub const UNIONS: &str =
     Q table: us_type@4 [utype], us@6 [union]#0; L table: ws@4 [obj]#1, tables@6 [obj]#0; \
     U union: A=1 obj#0, W=2 obj#1, T=3 string";
 
-/// How a buffer is verified before it is read.
+/// By the rows of which schema a buffer is read, and how it is verified before.
 #[derive(Clone, Copy)]
-pub struct Reading {
+pub struct Reading<'n> {
+    pub rows: &'n str,
     pub root: u32,
     pub start: Start,
     pub alignment: bool,
 }
 
-/// A bare buffer with this root, of which every position is aligned.
-pub fn bare(root: u32) -> Reading {
+/// A bare buffer with this root by the schema of these rows, of which every position is aligned.
+pub fn bare(rows: &str, root: u32) -> Reading<'_> {
     Reading {
+        rows,
         root,
         start: Start::Bare,
         alignment: true,
@@ -42,7 +46,7 @@ fn verified_as<'b, 's, 'n>(
     alloc: Global,
     bytes: &'b [u8],
     schema: &'s Schema<'n>,
-    reading: Reading,
+    reading: Reading<'_>,
 ) -> Verified<'b, 's, 'n> {
     let meter = Meter::new(bytes).expect(rt, "a short buffer");
     let checks = Checks {
@@ -64,17 +68,9 @@ fn verified_as<'b, 's, 'n>(
     verified.expect(rt, "a yes")
 }
 
-/// What the steps lead to; none where one of them isn't allowed.
-pub fn answer_at<'b>(
-    rt: &impl Abort,
-    alloc: Global,
-    bytes: &'b [u8],
-    schema: &Schema,
-    reading: Reading,
-    steps: &[Step],
-) -> Option<Answer<'b>> {
-    let verified = verified_as(rt, alloc, bytes, schema, reading);
-    let mut place = at_root(&verified);
+/// What the steps lead to from the root; none where one of them isn't allowed.
+fn answer_in<'b>(verified: &Verified<'b, '_, '_>, steps: &[Step]) -> Option<Answer<'b>> {
+    let mut place = at_root(verified);
     for step in steps {
         if !place.allows(*step) {
             return None;
@@ -82,4 +78,18 @@ pub fn answer_at<'b>(
         place = place.go(*step);
     }
     Some(place.answer())
+}
+
+/// What the steps lead to in these bytes; none where one of them isn't allowed. The schema, what was verified and each
+/// place are gone when it comes back.
+pub fn answer_at<'b>(
+    rt: &impl Abort,
+    alloc: Global,
+    reading: Reading<'_>,
+    bytes: &'b [u8],
+    steps: &[Step],
+) -> Result<Option<Answer<'b>>, Fail> {
+    let schema = schema_of(alloc, reading.rows)?;
+    let verified = verified_as(rt, alloc, bytes, &schema, reading);
+    Ok(answer_in(&verified, steps))
 }

@@ -4,10 +4,8 @@ use super::cases::{all_answered, same};
 use super::fixtures::{self, answer_at, bare};
 use case_text::buffer::bytes_of;
 use case_text::columns;
-use case_text::rows::schema_of;
 use fb_access::step::Step::{Element, Field};
 use fb_access::{Answer, Step};
-use fb_schema::Schema;
 use std::alloc::{AllocError, Global};
 use std::process::Abort;
 use std::test::Fail;
@@ -46,19 +44,7 @@ fn in_hex(alloc: Global, answer: Answer<'_>) -> Result<String, AllocError> {
     }
 }
 
-/// What steps lead to in these bytes of the first table, with its number in hexadecimal.
-fn hex_of(
-    rt: &impl Abort,
-    alloc: Global,
-    schema: &Schema,
-    bytes: &[u8],
-    steps: &[Step],
-) -> Result<String, AllocError> {
-    let answer = answer_at(rt, alloc, bytes, schema, bare(0), steps);
-    in_hex(alloc, answer.expect(rt, "allowed steps"))
-}
-
-/// The same in a buffer of the first of these tables.
+/// What steps lead to in a buffer of the first of these tables, with its number in hexadecimal.
 fn hex_at(
     rt: &impl Abort,
     alloc: Global,
@@ -66,9 +52,9 @@ fn hex_at(
     buffer: &str,
     steps: &[Step],
 ) -> Result<String, Fail> {
-    let schema = schema_of(alloc, rows)?;
     let bytes = bytes_of(alloc, &[], buffer)?;
-    Ok(hex_of(rt, alloc, &schema, &bytes, steps)?)
+    let answer = answer_at(rt, alloc, bare(rows, 0), &bytes, steps)?;
+    Ok(in_hex(alloc, answer.expect(rt, "allowed steps"))?)
 }
 
 /// Asserts what an element of the vector in `THREE` is, where the elements are of this type.
@@ -102,15 +88,8 @@ const FALSE: &str = "0c000000 06000800 04000000 08000000 04000000 03000000 80008
 
 #[test]
 fn a_bool_of_a_vector_is_false_where_its_byte_is_0(rt: HostRuntime) -> Result<(), Fail> {
-    let alloc = rt.alloc();
-    all_answered(
-        &rt,
-        alloc,
-        FALSE,
-        "A table: l@4 [bool]",
-        bare(0),
-        ".0 [1] | Bool(false)",
-    )
+    let reading = bare("A table: l@4 [bool]", 0);
+    all_answered(&rt, rt.alloc(), reading, FALSE, ".0 [1] | Bool(false)")
 }
 
 const BOXES: &str = "\
@@ -122,15 +101,8 @@ const BOXES: &str = "\
 
 #[test]
 fn structs_of_12_bytes_stand_12_bytes_apart(rt: HostRuntime) -> Result<(), Fail> {
-    let alloc = rt.alloc();
-    all_answered(
-        &rt,
-        alloc,
-        THREE,
-        "Boxes table: l@4 [obj]#1; Box struct 12/4: ",
-        bare(0),
-        BOXES,
-    )
+    let reading = bare("Boxes table: l@4 [obj]#1; Box struct 12/4: ", 0);
+    all_answered(&rt, rt.alloc(), reading, THREE, BOXES)
 }
 
 /// Three texts by the words from 28 on, and three tables by those from 44 on.
@@ -152,9 +124,8 @@ const LISTED: &str = "\
 
 #[test]
 fn texts_and_tables_past_the_first_are_their_own(rt: HostRuntime) -> Result<(), Fail> {
-    let alloc = rt.alloc();
     let rows = "L table: texts@4 [string], tables@6 [obj]#1; A table: v@4 int";
-    all_answered(&rt, alloc, LISTS, rows, bare(0), LISTED)
+    all_answered(&rt, rt.alloc(), bare(rows, 0), LISTS, LISTED)
 }
 
 /// Three unions: the types 3, 2 and 1 from 28 on, a text at 48, a struct at 56 and a table at 72.
@@ -177,8 +148,8 @@ const UNITED: &str = "\
 
 #[test]
 fn unions_past_the_first_have_types_of_their_own(rt: HostRuntime) -> Result<(), Fail> {
-    let alloc = rt.alloc();
-    all_answered(&rt, alloc, UNIONS, fixtures::UNIONS, bare(3), UNITED)
+    let reading = bare(fixtures::UNIONS, 3);
+    all_answered(&rt, rt.alloc(), reading, UNIONS, UNITED)
 }
 
 /// A field at 16, and there 8 bytes that count up from 0x80.

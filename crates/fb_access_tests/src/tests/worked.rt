@@ -1,9 +1,8 @@
 // Worked buffers: what stands at the end of a path.
 
 use super::cases::all_answered;
-use super::fixtures::{MONSTERS, Reading, UNIONS as TABLES_WITH_UNIONS, answer_at, bare};
+use super::fixtures::{MONSTERS, Reading, UNIONS, answer_at, bare};
 use case_text::buffer::bytes_of;
-use case_text::rows::schema_of;
 use fb_access::Answer;
 use fb_access::step::Step::Field;
 use fb_verify::Start;
@@ -25,14 +24,14 @@ const EMPTY_CASES: &str = "\
 
 #[test]
 fn a_monster_has_its_fields(rt: HostRuntime) -> Result<(), Fail> {
-    all_answered(&rt, rt.alloc(), "ORC", MONSTERS, bare(0), ORC_CASES)?;
-    all_answered(&rt, rt.alloc(), "EMPTY", MONSTERS, bare(0), EMPTY_CASES)
+    let reading = bare(MONSTERS, 0);
+    all_answered(&rt, rt.alloc(), reading, "ORC", ORC_CASES)?;
+    all_answered(&rt, rt.alloc(), reading, "EMPTY", EMPTY_CASES)
 }
 
-/// The name in these bytes: the schema, what was verified and each place are gone when it comes back.
+/// The name in these bytes.
 fn name_of<'b>(rt: &impl Abort, alloc: Global, bytes: &'b [u8]) -> Result<Answer<'b>, Fail> {
-    let schema = schema_of(alloc, MONSTERS)?;
-    let name = answer_at(rt, alloc, bytes, &schema, bare(0), &[Field(1)]);
+    let name = answer_at(rt, alloc, bare(MONSTERS, 0), bytes, &[Field(1)])?;
     Ok(name.expect(rt, "an allowed step"))
 }
 
@@ -47,18 +46,10 @@ fn a_text_outlives_all_but_the_bytes(rt: HostRuntime) -> Result<(), Fail> {
 #[test]
 fn a_prefixed_buffer_has_its_root_behind_the_prefix(rt: HostRuntime) -> Result<(), Fail> {
     let reading = Reading {
-        root: 0,
         start: Start::Prefixed,
-        alignment: true,
+        ..bare("A table: v@4 long", 0)
     };
-    all_answered(
-        &rt,
-        rt.alloc(),
-        "SEVEN",
-        "A table: v@4 long",
-        reading,
-        ".0 | Int(7)",
-    )
+    all_answered(&rt, rt.alloc(), reading, "SEVEN", ".0 | Int(7)")
 }
 
 const ONE_MEMBER_CASES: &str = "\
@@ -86,42 +77,12 @@ const UNTYPED_CASES: &str = "\
 
 #[test]
 fn a_union_leads_to_its_member(rt: HostRuntime) -> Result<(), Fail> {
-    let root = bare(2);
-    let alloc = rt.alloc();
-    all_answered(
-        &rt,
-        alloc,
-        "PICKED",
-        TABLES_WITH_UNIONS,
-        root,
-        ONE_MEMBER_CASES,
-    )?;
-    let unknown = "PICKED 20=09";
-    all_answered(
-        &rt,
-        alloc,
-        unknown,
-        TABLES_WITH_UNIONS,
-        root,
-        UNKNOWN_MEMBER_CASES,
-    )?;
-    all_answered(
-        &rt,
-        alloc,
-        "BOXED",
-        TABLES_WITH_UNIONS,
-        root,
-        STRUCT_MEMBER_CASES,
-    )?;
-    all_answered(&rt, alloc, UNTYPED, TABLES_WITH_UNIONS, root, UNTYPED_CASES)?;
-    all_answered(
-        &rt,
-        alloc,
-        "EMPTY",
-        TABLES_WITH_UNIONS,
-        root,
-        ".1 @1 | Absent",
-    )
+    let (alloc, reading) = (rt.alloc(), bare(UNIONS, 2));
+    all_answered(&rt, alloc, reading, "PICKED", ONE_MEMBER_CASES)?;
+    all_answered(&rt, alloc, reading, "PICKED 20=09", UNKNOWN_MEMBER_CASES)?;
+    all_answered(&rt, alloc, reading, "BOXED", STRUCT_MEMBER_CASES)?;
+    all_answered(&rt, alloc, reading, UNTYPED, UNTYPED_CASES)?;
+    all_answered(&rt, alloc, reading, "EMPTY", ".1 @1 | Absent")
 }
 
 const UNIONS_CASES: &str = "\
@@ -136,14 +97,7 @@ const UNIONS_CASES: &str = "\
 
 #[test]
 fn a_vector_of_unions_has_a_type_for_each_element(rt: HostRuntime) -> Result<(), Fail> {
-    all_answered(
-        &rt,
-        rt.alloc(),
-        "HI",
-        TABLES_WITH_UNIONS,
-        bare(3),
-        UNIONS_CASES,
-    )
+    all_answered(&rt, rt.alloc(), bare(UNIONS, 3), "HI", UNIONS_CASES)
 }
 
 /// A field of each scalar type but floats.
@@ -172,14 +126,8 @@ const NUMBERS_CASES: &str = "\
 
 #[test]
 fn a_number_has_the_sign_and_width_of_its_type(rt: HostRuntime) -> Result<(), Fail> {
-    all_answered(
-        &rt,
-        rt.alloc(),
-        NUMBERS,
-        NUMBER_ROWS,
-        bare(0),
-        NUMBERS_CASES,
-    )
+    let reading = bare(NUMBER_ROWS, 0);
+    all_answered(&rt, rt.alloc(), reading, NUMBERS, NUMBERS_CASES)
 }
 
 /// Fields whose defaults are wider than they are, a float's, and an optional one's.
@@ -201,14 +149,8 @@ const DEFAULTS_CASES: &str = "\
 
 #[test]
 fn an_absent_scalar_has_the_low_bytes_of_its_default(rt: HostRuntime) -> Result<(), Fail> {
-    all_answered(
-        &rt,
-        rt.alloc(),
-        "EMPTY",
-        DEFAULT_ROWS,
-        bare(0),
-        DEFAULTS_CASES,
-    )
+    let reading = bare(DEFAULT_ROWS, 0);
+    all_answered(&rt, rt.alloc(), reading, "EMPTY", DEFAULTS_CASES)
 }
 
 /// The float 1.5.
@@ -216,23 +158,10 @@ const FLOAT_BYTES: &str = "0c000000 06000800 04000000 08000000 0000c03f";
 
 #[test]
 fn a_float_is_its_bytes(rt: HostRuntime) -> Result<(), Fail> {
+    let reading = bare("A table: f@4 float", 0);
     let present = ".0 | Float([0, 0, 192, 63])";
-    all_answered(
-        &rt,
-        rt.alloc(),
-        FLOAT_BYTES,
-        "A table: f@4 float",
-        bare(0),
-        present,
-    )?;
-    all_answered(
-        &rt,
-        rt.alloc(),
-        "EMPTY",
-        "A table: f@4 float",
-        bare(0),
-        ".0 | Absent",
-    )
+    all_answered(&rt, rt.alloc(), reading, FLOAT_BYTES, present)?;
+    all_answered(&rt, rt.alloc(), reading, "EMPTY", ".0 | Absent")
 }
 
 const NO_LONGS_CASES: &str = "\
@@ -242,41 +171,20 @@ const NO_LONGS_CASES: &str = "\
 
 #[test]
 fn a_vector_of_longs_may_be_empty_or_crooked(rt: HostRuntime) -> Result<(), Fail> {
+    let aligned = bare("A table: l@4 [long]", 0);
     let none = "LONGS 24=00 ..28";
-    all_answered(
-        &rt,
-        rt.alloc(),
-        none,
-        "A table: l@4 [long]",
-        bare(0),
-        NO_LONGS_CASES,
-    )?;
-    let unaligned = Reading {
+    all_answered(&rt, rt.alloc(), aligned, none, NO_LONGS_CASES)?;
+    let anywhere = Reading {
         alignment: false,
-        ..bare(0)
+        ..aligned
     };
-    let case = ".0 [0] | Int(1)";
-    all_answered(
-        &rt,
-        rt.alloc(),
-        "LONGS",
-        "A table: l@4 [long]",
-        unaligned,
-        case,
-    )
+    all_answered(&rt, rt.alloc(), anywhere, "LONGS", ".0 [0] | Int(1)")
 }
 
 #[test]
 fn two_vectors_share_a_text(rt: HostRuntime) -> Result<(), Fail> {
-    let case = ".1 [1] | Text(\"hi\")";
-    all_answered(
-        &rt,
-        rt.alloc(),
-        "TWICE",
-        "A table: a@4 [string], b@6 [string]",
-        bare(0),
-        case,
-    )
+    let reading = bare("A table: a@4 [string], b@6 [string]", 0);
+    all_answered(&rt, rt.alloc(), reading, "TWICE", ".1 [1] | Text(\"hi\")")
 }
 
 /// Two structs W, 1 and 2, and one table A with v 5.
@@ -299,14 +207,7 @@ const LISTS_CASES: &str = "\
 fn elements_are_structs_in_place_and_tables_behind_offset_words(
     rt: HostRuntime,
 ) -> Result<(), Fail> {
-    all_answered(
-        &rt,
-        rt.alloc(),
-        LISTS,
-        TABLES_WITH_UNIONS,
-        bare(4),
-        LISTS_CASES,
-    )
+    all_answered(&rt, rt.alloc(), bare(UNIONS, 4), LISTS, LISTS_CASES)
 }
 
 const ONE_MEMBER_ALLOWS: &str = "\
@@ -332,20 +233,7 @@ const UNIONS_ALLOW: &str = "\
 
 #[test]
 fn what_is_here_allows_its_own_steps_alone(rt: HostRuntime) -> Result<(), Fail> {
-    all_answered(
-        &rt,
-        rt.alloc(),
-        "PICKED",
-        TABLES_WITH_UNIONS,
-        bare(2),
-        ONE_MEMBER_ALLOWS,
-    )?;
-    all_answered(
-        &rt,
-        rt.alloc(),
-        "HI",
-        TABLES_WITH_UNIONS,
-        bare(3),
-        UNIONS_ALLOW,
-    )
+    let (one, several) = (bare(UNIONS, 2), bare(UNIONS, 3));
+    all_answered(&rt, rt.alloc(), one, "PICKED", ONE_MEMBER_ALLOWS)?;
+    all_answered(&rt, rt.alloc(), several, "HI", UNIONS_ALLOW)
 }
