@@ -143,20 +143,12 @@ impl<'s, 'n> Engine<'s, 'n> {
         bytes: &'b [u8],
     ) -> Result<Verified<'b, 's, 'n>, Fault> {
         let meter = Meter::new(bytes).ok().expect(rt, "a short buffer");
-        let limits = limits_of(rt, question);
-        assert!(rt; self.schema.is_table(question.root));
-        assert!(rt; limits.depth() <= self.scratch.depth());
+        let (schema, scratch) = (self.schema, &mut self.scratch);
+        let (root, limits) = (question.root, limits_of(rt, question));
+        assert!(rt; schema.is_table(root));
+        assert!(rt; limits.depth() <= scratch.depth());
         let (start, ident, checks) = asked(question);
-        verify(
-            meter,
-            self.schema,
-            question.root,
-            start,
-            ident,
-            limits,
-            checks,
-            &mut self.scratch,
-        )
+        verify(meter, schema, root, start, ident, limits, checks, scratch)
     }
 
     /// What `verify_and_locate` answers of a buffer to which `verify` said no.
