@@ -70,11 +70,18 @@ def counts_are_added(cases):
 
 
 def the_time_is_told(cases):
-    top = folder_of("time", {"rt": f"sleep 1\n{tells(1, 0)}", "nproc": "echo 2"})
-    write(top / "tests" / "test_0.py", tells(1, 0))
-    told = [re.fullmatch(r"== (.*) ended after 0 min (\d+) s \(2 cores\)", line) for line in called(top)[1]]
-    told = [(line[1], int(line[2]) >= 1) for line in told if line]
-    cases.same("that of the proofs, and of all", told, [("rt ci", True), ("the last test", True)])
+    busy = """
+until times >spent; read -r user _ <spent; [ "${user:2:1}" -ge 1 ]; do
+    for ((turn = 0; turn < 10000; turn++)); do :; done
+done"""
+    top = folder_of("time", {"rt": busy + "\n" + tells(1, 0), "nproc": "echo 2"})
+    write(top / "tests" / "test_0.py", busy + "\n" + tells(1, 0))
+    line = re.compile(r"== (.*) ended after 0 min (\d+) s \(2 cores, (\d+) s of processor time\)")
+    told = [line.fullmatch(text) for text in called(top)[1]]
+    told = [(match[1], int(match[2]) >= 1, int(match[3])) for match in told if match]
+    cases.same("that of the proofs, and of all", [what for what, _, _ in told], ["rt ci", "the last test"])
+    cases.holds("by the clock", all(is_later for _, is_later, _ in told), told)
+    cases.holds("by the processors", told[0][2] >= 1 and told[1][2] >= 2, told)
 
 
 def checks_stand_side_by_side(cases):
