@@ -178,23 +178,18 @@ def a_schema_file_of_two_gibibytes(cases):
 
 
 def faults_of_paths(cases):
-    for root, path, want in [
-        ("R", "", "P1 BadText at=0"),
-        ("R", "u..v", "P1 BadText at=2"),
-        ("R", "u[01]", "P1 BadText at=3"),
-        ("R", "u.", "P1 BadText at=2"),
-        ("R", "u ", "P1 BadText at=1"),
-        ("Q", "us[4294967296]", "P1 BadText at=12"),
-        ("R", "x", "P2 NoSuchField step=0"),
-        ("R", "u[0]", "P3 NotIndexable step=1"),
-        ("Q", "us@A", "P4 NotAUnion step=1"),
-        ("R", "u@Z", "P5 NoSuchMember step=1"),
-        ("R", "u@NONE", "P5 NoSuchMember step=1"),
-        ("R", "u.v", "P6 NotATable step=1"),
-        ("R", "u@T.v", "P6 NotATable step=2"),
+    for root, fault, paths in [
+        ("R", "P1 BadText at", {"": 0, "u..v": 2, "u[01]": 3, "u.": 2, "u ": 1}),
+        ("Q", "P1 BadText at", {"us[4294967296]": 12}),
+        ("R", "P2 NoSuchField step", {"x": 0}),
+        ("R", "P3 NotIndexable step", {"u[0]": 1}),
+        ("Q", "P4 NotAUnion step", {"us@A": 1}),
+        ("R", "P5 NoSuchMember step", {"u@Z": 1, "u@NONE": 1}),
+        ("R", "P6 NotATable step", {"u.v": 1, "u@T.v": 2}),
     ]:
-        got = run("--schema", FILES["X"], "--root", root, f"--path={path}", given=MEMBER)
-        cases.same(f"{path!r} from {root}", got, refused(f"path: {want}"))
+        for path, place in paths.items():
+            got = run("--schema", FILES["X"], "--root", root, f"--path={path}", given=MEMBER)
+            cases.same(f"{path!r} from {root}", got, refused(f"path: {fault}={place}"))
     cases.same("the root comes before the path", run(*BY_M, "--root", "Q", "--path", "x"), refused("no root table"))
     cases.same("the schema comes before the root", run("--schema", "/dev/null", "--root", "Q", "--path", "x"),
                refused("schema: L1 V2 OutOfBuffer at=4 object=9 field=- reads=0"))

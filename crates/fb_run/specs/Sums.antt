@@ -1,25 +1,13 @@
 -- What messages come to by their verdicts, and the line that tells it.
 use Rattle.std.specs.Prelude.{◌≡◌, ℕ, ◌+◌, ◌-◌, ◌*◌, ◌≤◌, ◌^◌, ◌==◌, min, if◌then◌else◌, List, [], ◌∷◌, ◌++◌, All, Ok, Err, length, slice_index, slice_set, codes, decimal}
+use Rattle.fb_verify.specs.Reasons.{reason_number}
 use Rattle.fb_verify.specs.declared.fault.Reason.{Reason}
-use Rattle.fb_verify.specs.declared.fault.Reason.TheVariants.{WrongPrefix, OutOfBuffer, Misaligned, ZeroOffset, WrongIdentifier, TooDeep, TooManyTables, BadVtable, MissingRequired, NoTerminator, LengthsDiffer, PastTable, TooManyReads}
 use Rattle.fb_run.specs.Job.{Verdict}
 use Rattle.fb_run.specs.declared.tally.Tally.{Tally}
 
--- the place of a reason among the counts of all reasons
+-- the place of a reason among the counts of all reasons, that of V1 first
 abbrev pub place_of : Reason → ℕ
-place_of WrongPrefix = 0
-place_of OutOfBuffer = 1
-place_of Misaligned = 2
-place_of ZeroOffset = 3
-place_of WrongIdentifier = 4
-place_of TooDeep = 5
-place_of TooManyTables = 6
-place_of BadVtable = 7
-place_of MissingRequired = 8
-place_of NoTerminator = 9
-place_of LengthsDiffer = 10
-place_of PastTable = 11
-place_of TooManyReads = 12
+place_of reason = reason_number reason - 1
 
 -- what no messages come to
 abbrev pub no_tally : Tally

@@ -41,19 +41,5 @@ pub fn place_of(reason: Reason) -> usize
     ensures place { result ≡ place_of reason }
     ensures within { result < 13 }
 {
-    match reason {
-        Reason::WrongPrefix => 0,
-        Reason::OutOfBuffer => 1,
-        Reason::Misaligned => 2,
-        Reason::ZeroOffset => 3,
-        Reason::WrongIdentifier => 4,
-        Reason::TooDeep => 5,
-        Reason::TooManyTables => 6,
-        Reason::BadVtable => 7,
-        Reason::MissingRequired => 8,
-        Reason::NoTerminator => 9,
-        Reason::LengthsDiffer => 10,
-        Reason::PastTable => 11,
-        Reason::TooManyReads => 12,
-    }
+    reason as usize
 }

@@ -16,12 +16,11 @@ ghost use Rattle.fb_schema.specs.Served.{IsServed};
 use crate::budget::ask_reads;
 use crate::checks::Checks;
 use crate::field::referent_of;
-use crate::limits::Limits;
 use crate::offset_row::{Leads, Referent, Row};
 use crate::site::{Refusal, Site, Stop};
+use crate::stack::Walk;
 use crate::values::{check_inline, read_offset, read_string};
 use fb_bytes::Tally;
-use fb_schema::Schema;
 
 /// A table that is to be opened: its object's number and its position.
 #[derive(Clone, Copy)]
@@ -63,43 +62,43 @@ fn pass_referent(
     }
 }
 
-/// Checks the first offset word of a row, and answers the table to which it leads, if it does; else the budget is
-/// asked. What fails does so at this site.
-#[tactic(auto, using(crate::proofs::Refusals::told_after), unfolding(crate::specs::Order::element_failure))]
-pub fn pass_element(
-    meter: &mut Tally<'_>,
-    schema: &Schema<'_>,
-    limits: Limits,
-    checks: Checks,
-    site: Site,
-    row: Row,
-) -> Result<Option<Child>, Stop>
-    requires served { IsServed schema.now }
-    requires more { 0 < row.left }
-    requires row { IsRow meter.old.bytes schema.now row }
-    requires few { meter.old.count < 2 ^ 96 }
-    ensures ok { IfOk result (λ _. element_failure checks meter.old.bytes (first_word meter.old.bytes schema.now row) ≡ None) }
-    ensures child { IfOk result (λ o. MatchOption o (IsLeafLead (first_word meter.old.bytes schema.now row).lead) (λ child. ((first_word meter.old.bytes schema.now row).lead ≡ to_table child.object) × (child.at ≡ target meter.old.bytes row.place))) }
-    ensures table { IfOk result (λ o. IfSome o (λ child. IsTrue (is_table schema.now child.object))) }
-    ensures near { IfOk result (λ o. IfSome o (λ child. child.at < 2 ^ 33)) }
-    ensures counted { IfOk result (λ _. meter.new ≡ record meter.old { count = meter.old.count + (first_word meter.old.bytes schema.now row).reads + lead_reads (first_word meter.old.bytes schema.now row).lead }) }
-    ensures reads { IfOk result (λ o. o ≡ None → AreAllowed limits.reads meter.new.count) }
-    ensures err { IfErr result (λ s. told site meter.old.count (element_failure checks meter.old.bytes (first_word meter.old.bytes schema.now row) ▷ lead_reads_failure limits meter.old.count (first_word meter.old.bytes schema.now row) (first_word meter.old.bytes schema.now row).lead) ≡ Some (stopped s meter.new.count)) }
-    ensures bytes { meter.new.bytes ≡ meter.old.bytes }
-{
-    let referent = match row.leads {
-        Leads::All(referent) => referent,
-        Leads::ByType(union, types) => {
-            let value = meter.u8_at(types);
-            referent_of(schema, schema.member_of(union, value))
+impl<'s, 'n> Walk<'s, 'n> {
+    /// Checks the first offset word of a row, and answers the table to which it leads, if it does; else the budget is
+    /// asked. What fails does so at this site.
+    #[tactic(auto, using(crate::proofs::Refusals::told_after), unfolding(crate::specs::Order::element_failure))]
+    pub fn pass_element(
+        &self,
+        meter: &mut Tally<'_>,
+        site: Site,
+        row: Row,
+    ) -> Result<Option<Child>, Stop>
+        requires served { IsServed self.now.schema.now }
+        requires more { 0 < row.left }
+        requires row { IsRow meter.old.bytes self.now.schema.now row }
+        requires few { meter.old.count < 2 ^ 96 }
+        ensures ok { IfOk result (λ _. element_failure self.now.checks meter.old.bytes (first_word meter.old.bytes self.now.schema.now row) ≡ None) }
+        ensures child { IfOk result (λ o. MatchOption o (IsLeafLead (first_word meter.old.bytes self.now.schema.now row).lead) (λ child. ((first_word meter.old.bytes self.now.schema.now row).lead ≡ to_table child.object) × (child.at ≡ target meter.old.bytes row.place))) }
+        ensures table { IfOk result (λ o. IfSome o (λ child. IsTrue (is_table self.now.schema.now child.object))) }
+        ensures near { IfOk result (λ o. IfSome o (λ child. child.at < 2 ^ 33)) }
+        ensures counted { IfOk result (λ _. meter.new ≡ record meter.old { count = meter.old.count + (first_word meter.old.bytes self.now.schema.now row).reads + lead_reads (first_word meter.old.bytes self.now.schema.now row).lead }) }
+        ensures reads { IfOk result (λ o. o ≡ None → AreAllowed (self.now.limits).reads meter.new.count) }
+        ensures err { IfErr result (λ s. told site meter.old.count (element_failure self.now.checks meter.old.bytes (first_word meter.old.bytes self.now.schema.now row) ▷ lead_reads_failure self.now.limits meter.old.count (first_word meter.old.bytes self.now.schema.now row) (first_word meter.old.bytes self.now.schema.now row).lead) ≡ Some (stopped s meter.new.count)) }
+        ensures bytes { meter.new.bytes ≡ meter.old.bytes }
+    {
+        let referent = match row.leads {
+            Leads::All(referent) => referent,
+            Leads::ByType(union, types) => {
+                let value = meter.u8_at(types);
+                referent_of(self.schema, self.schema.member_of(union, value))
+            }
+        };
+        match pass_referent(meter, self.checks, row.place, referent) {
+            Ok(Some(child)) => Ok(Some(child)),
+            Ok(None) => {
+                ask_reads(meter, self.limits, site, row.place)?;
+                Ok(None)
+            }
+            Err(refusal) => Err(Stop { site, refusal }),
         }
-    };
-    match pass_referent(meter, checks, row.place, referent) {
-        Ok(Some(child)) => Ok(Some(child)),
-        Ok(None) => {
-            ask_reads(meter, limits, site, row.place)?;
-            Ok(None)
-        }
-        Err(refusal) => Err(Stop { site, refusal }),
     }
 }

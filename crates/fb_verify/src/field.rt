@@ -1,26 +1,24 @@
 // The tests of a field of a table, by its kind, before what it leads to.
 
-ghost use Rattle.std.specs.Prelude.{◌≡◌, ◌+◌, ◌-◌, ◌*◌, ◌^◌, ◌<◌, ◌≤◌, length, IfOk, IsTrue, Some};
+ghost use Rattle.std.specs.Prelude.{◌≡◌, ◌+◌, ◌-◌, ◌*◌, ◌^◌, ◌<◌, ◌≤◌, length, IfOk, IsTrue};
 ghost use Rattle.fb_bytes.specs.Word.{word};
 ghost use Rattle.fb_schema.specs.Rows.{is_union};
 ghost use Rattle.fb_schema.specs.Members.{member_of};
 ghost use Rattle.fb_schema.specs.Live.{live_of_view};
-ghost use Rattle.fb_verify.specs.Places.{target, has_slot, field_place};
-ghost use Rattle.fb_verify.specs.Fields.{type_place, union_type, type_count, types_begin, entries_of, entries, union_entry, lead_of};
-ghost use Rattle.fb_verify.specs.Cost.{own_reads, present_reads, reads_if_present};
-ghost use Rattle.fb_verify.specs.Order.{after, vector_field_failure, unions_field_failure, union_field_failure, present_failure, own_failure};
+ghost use Rattle.fb_verify.specs.Places.{target, has_slot};
+ghost use Rattle.fb_verify.specs.Fields.{type_place, union_type, type_count, types_begin, entries_of, union_entry, lead_of};
+ghost use Rattle.fb_verify.specs.Cost.{present_reads, reads_if_present};
+ghost use Rattle.fb_verify.specs.Order.{after, vector_field_failure, unions_field_failure, union_field_failure, present_failure};
 ghost use Rattle.fb_verify.specs.declared.offset_row.Leads.TheVariants.{All, ByType};
-ghost use Rattle.fb_verify.specs.Told.{IsHead, IsVtable, IsPlaced, IsAsked, IsAskedAt};
+ghost use Rattle.fb_verify.specs.Told.{IsVtable, IsPlaced, IsAsked};
 ghost use Rattle.fb_schema.specs.Served.{IsServed, MemberHolds};
 ghost use Rattle.fb_verify.specs.OffsetRows.{words_of, IsAskable, lead_to, IsReferent, IsRow, LeavesRow, TypeFits, TypesFit, IsVectorOrUnion};
 
-use crate::budget::ask_reads;
 use crate::checks::Checks;
 use crate::fault::Reason;
 use crate::head::{Head, check_end, read_slot};
-use crate::limits::Limits;
 use crate::offset_row::{Leads, NO_ROW, Referent, Row};
-use crate::site::{Refusal, Site, Stop, refuse};
+use crate::site::{Refusal, refuse};
 use crate::values::{check_inline, read_offset, read_vector};
 use fb_bytes::Tally;
 use fb_schema::{FieldView, Kind, Schema};
@@ -35,10 +33,10 @@ pub struct Table {
 
 /// A present field: the position and the head of its table, and the position that its slot tells.
 #[derive(Clone, Copy)]
-struct FieldSpot {
-    at: u64,
-    head: Head,
-    place: u64,
+pub struct FieldSpot {
+    pub at: u64,
+    pub head: Head,
+    pub place: u64,
 }
 
 /// A vector: the position of its count, and that count.
@@ -273,7 +271,7 @@ fn check_vector_or_union(
 /// offset words.
 #[inline(always)]
 #[tactic(auto, using(crate::proofs::Words::row_none), unfolding(crate::specs::Order::own_failure, crate::specs::Cost::own_reads, crate::specs::Fields::entries, crate::specs::Fields::row, crate::specs::Fields::union_row))]
-fn check_present(
+pub fn check_present(
     meter: &mut Tally<'_>,
     schema: &Schema<'_>,
     checks: Checks,
@@ -306,81 +304,4 @@ fn check_present(
         }
         _ => Ok(check_vector_or_union(meter, schema, checks, spot, field)?.put_into(row)),
     }
-}
-
-/// Goes on with a field of a table that stands at this place, whose slot was the last read: checks it by itself, asks
-/// the budget, and answers whether the field leads on, and then by which offset words. What fails does so at this
-/// field.
-#[inline(always)]
-#[tactic(auto, using(crate::proofs::Refusals::told_after), unfolding(crate::specs::Order::own_failure, crate::specs::Cost::own_reads, crate::specs::Fields::entries))]
-pub fn pass_present(
-    meter: &mut Tally<'_>,
-    schema: &Schema<'_>,
-    limits: Limits,
-    checks: Checks,
-    table: Table,
-    place: u64,
-    field: &FieldView<'_>,
-    row: &mut Row,
-) -> Result<bool, Stop>
-    requires askable { IsAskable meter.old.bytes schema.now table.at (live_of_view field.now) (field.now).kind }
-    requires present { field_place meter.old.bytes table.at (field.now).slot ≡ Some place }
-    requires slot { IsTrue (has_slot meter.old.bytes table.at (field.now).slot) }
-    requires counted { 1 ≤ meter.old.count }
-    requires few { meter.old.count ≤ 2 ^ 96 + 2 ^ 95 }
-    requires placed { IsPlaced checks meter.old.bytes table.at table.head place }
-    ensures asked { IsAskedAt (record { object = table.object; field = Some (field.now).number }) limits (record meter.old { count = meter.old.count - 1 }) meter.new (own_failure checks meter.old.bytes schema.now table.at (live_of_view field.now)) (own_reads meter.old.bytes table.at (live_of_view field.now)) table.at result }
-    ensures leads { IfOk result (λ more. LeavesRow meter.old.bytes schema.now (entries meter.old.bytes schema.now table.at (live_of_view field.now)) row.old row.new more) }
-{
-    let site = Site {
-        object: table.object,
-        field: Some(field.number),
-    };
-    let spot = FieldSpot {
-        at: table.at,
-        head: table.head,
-        place,
-    };
-    match check_present(meter, schema, checks, spot, field, row) {
-        Ok(more) => {
-            ask_reads(meter, limits, site, spot.at)?;
-            Ok(more)
-        }
-        Err(refusal) => Err(Stop { site, refusal }),
-    }
-}
-
-/// Checks a field of a table by itself, asks the budget, and answers whether the field leads on, and then by which
-/// offset words. What fails does so at this field.
-#[inline(always)]
-#[tactic(auto, using(crate::proofs::Refusals::told_after), unfolding(crate::specs::Order::own_failure, crate::specs::Cost::own_reads, crate::specs::Fields::entries))]
-pub fn pass_field(
-    meter: &mut Tally<'_>,
-    schema: &Schema<'_>,
-    limits: Limits,
-    checks: Checks,
-    table: Table,
-    field: &FieldView<'_>,
-    row: &mut Row,
-) -> Result<bool, Stop>
-    requires askable { IsAskable meter.old.bytes schema.now table.at (live_of_view field.now) (field.now).kind }
-    requires few { meter.old.count < 2 ^ 96 + 2 ^ 95 }
-    requires near { table.at < 2 ^ 33 }
-    requires head { IsHead checks meter.old.bytes table.at table.head }
-    ensures asked { IsAskedAt (record { object = table.object; field = Some (field.now).number }) limits meter.old meter.new (own_failure checks meter.old.bytes schema.now table.at (live_of_view field.now)) (own_reads meter.old.bytes table.at (live_of_view field.now)) table.at result }
-    ensures leads { IfOk result (λ more. LeavesRow meter.old.bytes schema.now (entries meter.old.bytes schema.now table.at (live_of_view field.now)) row.old row.new more) }
-{
-    let site = Site {
-        object: table.object,
-        field: Some(field.number),
-    };
-    let Some(place) = read_slot(meter, table.at, table.head, field.slot) else {
-        if field.required {
-            let refusal = refuse(table.at, Reason::MissingRequired);
-            return Err(Stop { site, refusal });
-        }
-        ask_reads(meter, limits, site, table.at)?;
-        return Ok(false);
-    };
-    pass_present(meter, schema, limits, checks, table, place, field, row)
 }

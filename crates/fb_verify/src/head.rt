@@ -4,13 +4,11 @@ ghost use Rattle.std.specs.Prelude.{◌≡◌, ◌+◌, ◌^◌, ◌<◌, ◌≤
 ghost use Rattle.fb_verify.specs.Places.{has_vtable, has_slot, vtable, field_place};
 ghost use Rattle.fb_verify.specs.Cost.{head_reads, slot_reads};
 ghost use Rattle.fb_verify.specs.Order.{after, head_failure, table_failure};
-ghost use Rattle.fb_verify.specs.Told.{refused, IsVtable, IsHead, IsAsked, IsAskedAt};
+ghost use Rattle.fb_verify.specs.Told.{refused, IsVtable, IsHead, IsAsked};
 
-use crate::budget::ask_reads;
 use crate::checks::Checks;
 use crate::fault::Reason;
-use crate::limits::Limits;
-use crate::site::{Refusal, Site, Stop, is_aligned, refuse};
+use crate::site::{Refusal, is_aligned, refuse};
 use crate::values::check_inline;
 use fb_bytes::Tally;
 
@@ -51,7 +49,7 @@ fn read_vtable_place(meter: &mut Tally<'_>, at: u64) -> Option<u64>
 /// Checks the head of the table at a position, and answers it.
 #[inline(always)]
 #[tactic(auto, unfolding(crate::specs::Order::head_failure, crate::specs::Order::inline_failure))]
-fn check_head(meter: &mut Tally<'_>, checks: Checks, at: u64) -> Result<Head, Refusal>
+pub fn check_head(meter: &mut Tally<'_>, checks: Checks, at: u64) -> Result<Head, Refusal>
     requires few { meter.old.count < 2 ^ 98 }
     ensures asked { IsAsked meter.old meter.new (head_failure checks meter.old.bytes at) (head_reads checks) result }
     ensures head { IfOk result (λ h. IsHead checks meter.old.bytes at h) }
@@ -83,34 +81,6 @@ fn check_head(meter: &mut Tally<'_>, checks: Checks, at: u64) -> Result<Head, Re
         size,
         inline,
     })
-}
-
-/// Reads the head of the table at a position, of this object, and asks the budget. What fails does so in this table,
-/// before its first field.
-#[inline(always)]
-#[tactic(auto, using(crate::proofs::Refusals::told_after))]
-pub fn read_head(
-    meter: &mut Tally<'_>,
-    limits: Limits,
-    checks: Checks,
-    object: u32,
-    at: u64,
-) -> Result<Head, Stop>
-    requires few { meter.old.count < 2 ^ 98 }
-    ensures asked { IsAskedAt (record { object = object; field = None }) limits meter.old meter.new (head_failure checks meter.old.bytes at) (head_reads checks) at result }
-    ensures head { IfOk result (λ h. IsHead checks meter.old.bytes at h) }
-{
-    let site = Site {
-        object,
-        field: None,
-    };
-    match check_head(meter, checks, at) {
-        Ok(head) => {
-            ask_reads(meter, limits, site, at)?;
-            Ok(head)
-        }
-        Err(refusal) => Err(Stop { site, refusal }),
-    }
 }
 
 /// Reads where the field with this slot stands in the table at a position, none where it is absent.

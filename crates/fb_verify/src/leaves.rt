@@ -9,7 +9,7 @@ ghost use Rattle.fb_verify.specs.OffsetRows.{lead_to, first_word, past_first, Is
 ghost use Rattle.fb_verify.specs.Stack.{Waiting, IsWalking, IsWalkingBy, IsAtTable, IsStoppedBehind};
 ghost use Rattle.fb_verify.specs.Told.{stopped};
 
-use crate::element::{Child, pass_element};
+use crate::element::Child;
 use crate::fault::Reason;
 use crate::field::referent_of;
 use crate::offset_row::{Leads, Referent, Row};
@@ -161,7 +161,7 @@ impl Walk<'_, '_> {
         }
         let site = top.site();
         let row = top.row;
-        let passed = pass_element(meter, self.schema, self.limits, self.checks, site, row);
+        let passed = self.pass_element(meter, site, row);
         let child = match passed {
             Ok(child) => child,
             Err(stop) => {

@@ -3,7 +3,6 @@
 ghost use Rattle.std.specs.Prelude.{◌≡◌, ◌<◌, ◌%◌, ◌==◌};
 ghost use Rattle.fb_verify.specs.Places.{is_aligned};
 ghost use Rattle.fb_verify.specs.Told.{stopped};
-ghost use Rattle.fb_verify.specs.declared.site.LastLink.TheVariants.{Behind, InField};
 
 use crate::checks::Checks;
 use crate::fault::{Fault, Reason};
@@ -58,25 +57,14 @@ pub struct Halt {
 }
 
 impl Stop {
-    /// A halt behind the words of so many frames.
-    pub fn behind(self, links: u32) -> Halt
-        ensures { result ≡ record { stop = self; links = links; last = Behind } }
+    /// A halt where the words of so many frames lead, and what they leave to be told.
+    pub fn halt(self, links: u32, last: LastLink) -> Halt
+        ensures { result ≡ record { stop = self; links = links; last = last } }
     {
         Halt {
             stop: self,
             links,
-            last: LastLink::Behind,
-        }
-    }
-
-    /// A halt in a field of the table to which the words of so many frames lead.
-    pub fn in_field(self, links: u32) -> Halt
-        ensures { result ≡ record { stop = self; links = links; last = InField } }
-    {
-        Halt {
-            stop: self,
-            links,
-            last: LastLink::InField,
+            last,
         }
     }
 

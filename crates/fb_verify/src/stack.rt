@@ -3,28 +3,33 @@
 ghost use Rattle.std.specs.Prelude.{◌≡◌, ◌+◌, ◌-◌, ◌*◌, ◌^◌, ◌<◌, ◌≤◌, max, length, List, take, slice_get, slice_index_or, [], ◌∷◌, ◌++◌, IfOk, IfErr, IfSome, MatchOption, IsTrue, Some, None, true, false};
 ghost use Rattle.fb_bytes.specs.Lent.{taken_back};
 ghost use Rattle.fb_schema.specs.Rows.{is_table};
-ghost use Rattle.fb_schema.specs.Live.{Live, live_fields, required_end};
+ghost use Rattle.fb_schema.specs.Live.{Live, live_fields, live_of_view, required_end};
 ghost use Rattle.fb_schema.specs.Served.{IsServed};
 ghost use Rattle.fb_verify.specs.Bounds.{AreAllowed};
-ghost use Rattle.fb_verify.specs.Cost.{head_reads};
-ghost use Rattle.fb_verify.specs.Order.{◌▷◌, head_failure};
+ghost use Rattle.fb_verify.specs.Cost.{head_reads, own_reads};
+ghost use Rattle.fb_verify.specs.Fields.{entries};
+ghost use Rattle.fb_verify.specs.Order.{◌▷◌, head_failure, own_failure};
+ghost use Rattle.fb_verify.specs.OffsetRows.{IsAskable, LeavesRow};
 ghost use Rattle.fb_verify.specs.Stops.{budget_failure, reads_failure};
+ghost use Rattle.fb_verify.specs.Places.{field_place, has_slot};
 ghost use Rattle.fb_verify.specs.PassesOn.{IsBetween, HasRoom, PassesOn, PassesFields};
-ghost use Rattle.fb_verify.specs.Told.{told, stopped, way_at, IsHead};
+ghost use Rattle.fb_verify.specs.Told.{told, stopped, way_at, IsAskedAt, IsHead, IsPlaced};
 ghost use Rattle.fb_verify.specs.Walked.{TableWalked, ended};
 ghost use Rattle.fb_verify.specs.Stack.{blank, Origin, Waiting, frame_work, work, opened, IsWalking, IsOver, IsStopped, HaltsIn, links_left};
 
+use crate::budget::ask_reads;
 use crate::checks::Checks;
 use crate::element::Child;
 use crate::fault::Reason;
-use crate::field::{Table, pass_field, pass_present};
-use crate::head::read_head;
+use crate::field::{FieldSpot, Table, check_present};
+use crate::head::{Head, check_head, read_slot};
 use crate::limits::Limits;
+use crate::offset_row::Row;
 use crate::plain::{leads_on, slot_at, test_at};
 use crate::scratch::Frame;
-use crate::site::{Halt, Refusal, Site, Stop, refuse};
+use crate::site::{Halt, LastLink, Refusal, Site, Stop, refuse};
 use fb_bytes::{Reads, Tally};
-use fb_schema::Schema;
+use fb_schema::{FieldView, Schema};
 
 /// What a walk carries: what it is asked, the tables that it opened, and the greatest number of them that were open at
 /// once.
@@ -38,6 +43,28 @@ pub struct Walk<'s, 'n> {
 }
 
 impl<'s, 'n> Walk<'s, 'n> {
+    /// Reads the head of the table at a position, of this object, and asks the budget. What fails does so in this
+    /// table, before its first field.
+    #[inline(always)]
+    #[tactic(auto, using(crate::proofs::Refusals::told_after))]
+    fn read_head(&self, meter: &mut Tally<'_>, object: u32, at: u64) -> Result<Head, Stop>
+        requires few { meter.old.count < 2 ^ 98 }
+        ensures asked { IsAskedAt (record { object = object; field = None }) self.now.limits meter.old meter.new (head_failure self.now.checks meter.old.bytes at) (head_reads self.now.checks) at result }
+        ensures head { IfOk result (λ h. IsHead self.now.checks meter.old.bytes at h) }
+    {
+        let site = Site {
+            object,
+            field: None,
+        };
+        match check_head(meter, self.checks, at) {
+            Ok(head) => {
+                ask_reads(meter, self.limits, site, at)?;
+                Ok(head)
+            }
+            Err(refusal) => Err(Stop { site, refusal }),
+        }
+    }
+
     /// Opens a table, if the limits allow it, and reads its head. So many tables are open before.
     #[inline(always)]
     fn open_table(
@@ -71,7 +98,7 @@ impl<'s, 'n> Walk<'s, 'n> {
         }
         self.tables += 1;
         self.deepest = self.deepest.max(links + 1);
-        let head = read_head(meter, self.limits, self.checks, child.object, child.at)?;
+        let head = self.read_head(meter, child.object, child.at)?;
         Ok(Table {
             object: child.object,
             at: child.at,
@@ -88,6 +115,79 @@ impl<'s, 'n> Walk<'s, 'n> {
         ensures free { result ≡ true → required_end self.now.schema.now table.object ≤ next }
     {
         table.head.ends_before(slot) && self.schema.required_end(table.object) <= next
+    }
+
+    /// Goes on with a field of a table that stands at this place, whose slot was the last read: checks it by itself,
+    /// asks the budget, and answers whether the field leads on, and then by which offset words. What fails does so at
+    /// this field.
+    #[inline(always)]
+    #[tactic(auto, using(crate::proofs::Refusals::told_after), unfolding(crate::specs::Order::own_failure, crate::specs::Cost::own_reads, crate::specs::Fields::entries))]
+    fn pass_present(
+        &self,
+        meter: &mut Tally<'_>,
+        table: Table,
+        place: u64,
+        field: &FieldView<'_>,
+        row: &mut Row,
+    ) -> Result<bool, Stop>
+        requires askable { IsAskable meter.old.bytes self.now.schema.now table.at (live_of_view field.now) (field.now).kind }
+        requires present { field_place meter.old.bytes table.at (field.now).slot ≡ Some place }
+        requires slot { IsTrue (has_slot meter.old.bytes table.at (field.now).slot) }
+        requires counted { 1 ≤ meter.old.count }
+        requires few { meter.old.count ≤ 2 ^ 96 + 2 ^ 95 }
+        requires placed { IsPlaced self.now.checks meter.old.bytes table.at table.head place }
+        ensures asked { IsAskedAt (record { object = table.object; field = Some (field.now).number }) self.now.limits (record meter.old { count = meter.old.count - 1 }) meter.new (own_failure self.now.checks meter.old.bytes self.now.schema.now table.at (live_of_view field.now)) (own_reads meter.old.bytes table.at (live_of_view field.now)) table.at result }
+        ensures leads { IfOk result (λ more. LeavesRow meter.old.bytes self.now.schema.now (entries meter.old.bytes self.now.schema.now table.at (live_of_view field.now)) row.old row.new more) }
+    {
+        let site = Site {
+            object: table.object,
+            field: Some(field.number),
+        };
+        let spot = FieldSpot {
+            at: table.at,
+            head: table.head,
+            place,
+        };
+        match check_present(meter, self.schema, self.checks, spot, field, row) {
+            Ok(more) => {
+                ask_reads(meter, self.limits, site, spot.at)?;
+                Ok(more)
+            }
+            Err(refusal) => Err(Stop { site, refusal }),
+        }
+    }
+
+    /// Checks a field of a table by itself, asks the budget, and answers whether the field leads on, and then by which
+    /// offset words. What fails does so at this field.
+    #[inline(always)]
+    #[tactic(auto, using(crate::proofs::Refusals::told_after), unfolding(crate::specs::Order::own_failure, crate::specs::Cost::own_reads, crate::specs::Fields::entries))]
+    fn pass_field(
+        &self,
+        meter: &mut Tally<'_>,
+        table: Table,
+        field: &FieldView<'_>,
+        row: &mut Row,
+    ) -> Result<bool, Stop>
+        requires askable { IsAskable meter.old.bytes self.now.schema.now table.at (live_of_view field.now) (field.now).kind }
+        requires few { meter.old.count < 2 ^ 96 + 2 ^ 95 }
+        requires near { table.at < 2 ^ 33 }
+        requires head { IsHead self.now.checks meter.old.bytes table.at table.head }
+        ensures asked { IsAskedAt (record { object = table.object; field = Some (field.now).number }) self.now.limits meter.old meter.new (own_failure self.now.checks meter.old.bytes self.now.schema.now table.at (live_of_view field.now)) (own_reads meter.old.bytes table.at (live_of_view field.now)) table.at result }
+        ensures leads { IfOk result (λ more. LeavesRow meter.old.bytes self.now.schema.now (entries meter.old.bytes self.now.schema.now table.at (live_of_view field.now)) row.old row.new more) }
+    {
+        let site = Site {
+            object: table.object,
+            field: Some(field.number),
+        };
+        let Some(place) = read_slot(meter, table.at, table.head, field.slot) else {
+            if field.required {
+                let refusal = refuse(table.at, Reason::MissingRequired);
+                return Err(Stop { site, refusal });
+            }
+            ask_reads(meter, self.limits, site, table.at)?;
+            return Ok(false);
+        };
+        self.pass_present(meter, table, place, field, row)
     }
 
     /// Passes fields of the top table one by one until one leads on, and answers whether one does. It serves where the
@@ -107,15 +207,7 @@ impl<'s, 'n> Walk<'s, 'n> {
                 return Ok(false);
             }
             top.next += 1;
-            if pass_field(
-                meter,
-                self.schema,
-                self.limits,
-                self.checks,
-                top.table,
-                field,
-                &mut top.row,
-            )? {
+            if self.pass_field(meter, top.table, field, &mut top.row)? {
                 top.number = field.number;
                 return Ok(true);
             }
@@ -272,16 +364,7 @@ impl<'s, 'n> Walk<'s, 'n> {
                 return Ok(false);
             };
             top.next += 1;
-            if pass_present(
-                meter,
-                self.schema,
-                self.limits,
-                self.checks,
-                top.table,
-                at,
-                field,
-                &mut top.row,
-            )? {
+            if self.pass_present(meter, top.table, at, field, &mut top.row)? {
                 top.number = field.number;
                 return Ok(true);
             }
@@ -348,19 +431,19 @@ impl<'s, 'n> Walk<'s, 'n> {
         while top.row.left > 0 {
             let child = match self.next_child(meter, top) {
                 Ok(child) => child,
-                Err(stop) => return Err(stop.behind(waiting + 1)),
+                Err(stop) => return Err(stop.halt(waiting + 1, LastLink::Behind)),
             };
             if let Some(child) = child {
                 top.row.advance();
                 let site = top.site();
                 let table = match self.open_table(meter, waiting + 1, site, child) {
                     Ok(table) => table,
-                    Err(stop) => return Err(stop.behind(waiting + 1)),
+                    Err(stop) => return Err(stop.halt(waiting + 1, LastLink::Behind)),
                 };
                 match self.pass_below(meter, top, table, &mut room[0]) {
                     Ok(true) => return Ok(true),
                     Ok(false) => {}
-                    Err(stop) => return Err(stop.in_field(waiting + 1)),
+                    Err(stop) => return Err(stop.halt(waiting + 1, LastLink::InField)),
                 }
             }
         }
@@ -401,7 +484,7 @@ impl<'s, 'n> Walk<'s, 'n> {
         if top.row.left == 0 {
             let leads = match self.pass_fields(meter, top) {
                 Ok(leads) => leads,
-                Err(stop) => return Err(stop.in_field(waiting)),
+                Err(stop) => return Err(stop.halt(waiting, LastLink::InField)),
             };
             if !leads {
                 if waiting == 0 {
@@ -444,7 +527,7 @@ impl<'s, 'n> Walk<'s, 'n> {
     {
         let table = match self.open_table(meter, 0, site, root) {
             Ok(table) => table,
-            Err(stop) => return Err(stop.behind(0)),
+            Err(stop) => return Err(stop.halt(0, LastLink::Behind)),
         };
         frames[0] = Frame::opened(table);
         let mut waiting = 0;

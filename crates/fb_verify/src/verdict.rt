@@ -14,7 +14,7 @@ use crate::element::Child;
 use crate::fault::{Fault, Report};
 use crate::limits::Limits;
 use crate::scratch::{Frame, Scratch};
-use crate::site::{Halt, Site};
+use crate::site::{Halt, LastLink, Site};
 use crate::stack::Walk;
 use crate::start::{Ident, Start};
 use fb_bytes::{Meter, Tally};
@@ -104,7 +104,7 @@ pub(crate) fn trace(
     };
     let at = match read_start(meter, limits, checks, site, start, ident) {
         Ok(at) => at,
-        Err(stop) => return Err(stop.behind(0)),
+        Err(stop) => return Err(stop.halt(0, LastLink::Behind)),
     };
     let mut walk = Walk {
         schema,

@@ -2,10 +2,9 @@
 use Rattle.std.specs.Prelude.{◌≡◌, ℕ, ◌==◌, nat_le, List, ◌++◌, drop, find, length, slice_get, Option, Some, None, option_and_then, option_map, if◌then◌else◌}
 use Rattle.fb_schema.specs.Live.{live_fields}
 use Rattle.fb_schema.specs.Rows.{Rows, is_table}
-use Rattle.fb_verify.specs.Reasons.{reason_text}
+use Rattle.fb_verify.specs.Reasons.{reason_number, reason_text}
 use Rattle.fb_verify.specs.declared.fault.Reason.{Reason}
 use Rattle.fbcheck_c.specs.declared.session.Session.{Session}
-use Rattle.fbcheck_c.specs.Told.{reason_number}
 
 -- no reason has this number
 abbrev pub NumbersNothing : ℕ → Type 0

@@ -3,8 +3,7 @@ use Rattle.std.specs.Prelude.{ℕ, min, Option, Some, None}
 use Rattle.fb_schema.specs.declared.fault.Code.{Code}
 use Rattle.fb_schema.specs.declared.fault.Code.TheVariants.{NoSuchObject, NoSuchEnum, Unsupported, BadSlot, NoTypeField, BadStruct, BadMember, NameTwice, OutOfMemory as NoMemory}
 use Rattle.fb_verify.specs.declared.fault.Fault.{Fault}
-use Rattle.fb_verify.specs.declared.fault.Reason.{Reason}
-use Rattle.fb_verify.specs.declared.fault.Reason.TheVariants.{WrongPrefix, OutOfBuffer, Misaligned, ZeroOffset, WrongIdentifier, TooDeep, TooManyTables, BadVtable, MissingRequired, NoTerminator, LengthsDiffer, PastTable, TooManyReads}
+use Rattle.fb_verify.specs.Reasons.{reason_number}
 use Rattle.fb_access.specs.declared.path_fault.PathFault.{PathFault}
 use Rattle.fb_access.specs.declared.path_fault.PathFault.TheVariants as path
 use Rattle.fb_bytes.specs.declared.stream_fault.StreamFault.{StreamFault}
@@ -15,23 +14,7 @@ use Rattle.fbcheck_c.specs.declared.answer.Answer.{Answer}
 use Rattle.fbcheck_c.specs.declared.answer.Answer.TheVariants.{Done, Good, Bad, UnknownOptions, OutOfRange, Empty, NoRoot, TooLong, NoSchema, NoSpan, BadStream, BadPath, NoRoom, Misfit}
 use Rattle.fbcheck_c.specs.declared.answer.Verdict.{Verdict}
 
--- a reason's number is that of its code
-abbrev pub reason_number : Reason → ℕ
-reason_number WrongPrefix = 1
-reason_number OutOfBuffer = 2
-reason_number Misaligned = 3
-reason_number ZeroOffset = 4
-reason_number WrongIdentifier = 5
-reason_number TooDeep = 6
-reason_number TooManyTables = 7
-reason_number BadVtable = 8
-reason_number MissingRequired = 9
-reason_number NoTerminator = 10
-reason_number LengthsDiffer = 11
-reason_number PastTable = 12
-reason_number TooManyReads = 13
-
--- and so is that of what is wrong with rows
+-- what is wrong with rows, by the number of its code
 abbrev pub code_number : Code → ℕ
 code_number NoSuchObject = 1
 code_number NoSuchEnum = 2

@@ -2,7 +2,7 @@
 
 ghost use Rattle.std.specs.Prelude.{◌≡◌, ℕ, List, MatchOption, Option, length, option_map};
 ghost use Rattle.fbcheck_c.specs.Names.{IsNameTold, IsReasonName, NumbersNothing, field_name, filled, object_name};
-ghost use Rattle.fbcheck_c.specs.Told.{reason_number};
+ghost use Rattle.fb_verify.specs.Reasons.{reason_number};
 
 use fb_schema::Schema;
 use fb_verify::Reason;

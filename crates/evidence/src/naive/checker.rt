@@ -134,16 +134,16 @@ struct Entry {
 
 /// A walk through a buffer, with the reads made and the tables opened so far, and the steps to what is under check.
 #[derive(Drop)]
-struct Walk<'r, 'n, 'b> {
+struct Walk<'q, 'r, 'n, 'b> {
     alloc: Global,
-    question: Question<'r, 'n>,
+    question: &'q Question<'r, 'n>,
     bytes: &'b [u8],
     reads: u64,
     opened: u64,
     way: Vec<Step>,
 }
 
-impl<'r, 'n, 'b> Walk<'r, 'n, 'b> {
+impl<'q, 'r, 'n, 'b> Walk<'q, 'r, 'n, 'b> {
     /// V2: the `size` bytes at `at` are in the buffer.
     fn fits(&self, at: u64, size: u64) -> bool {
         at.checked_add(size)
@@ -334,8 +334,8 @@ impl<'r, 'n, 'b> Walk<'r, 'n, 'b> {
     #[cycle(walk)]
     fn each_field(&mut self, head: Head, left: u32, node: &mut Node) -> Result<(), Stop> {
         let mut last = 0;
-        for _ in 0..field_count(&self.question, head.object) {
-            let Some(row) = next_live(&self.question, head.object, last) else {
+        for _ in 0..field_count(self.question, head.object) {
+            let Some(row) = next_live(self.question, head.object, last) else {
                 break;
             };
             last = row.slot;
@@ -389,7 +389,7 @@ impl<'r, 'n, 'b> Walk<'r, 'n, 'b> {
     /// A present field, by its kind.
     #[cycle(walk)]
     fn present(&mut self, place: Place, ty: TypeRow, kids: &mut Kids) -> Result<Found, Stop> {
-        match kind_of(&self.question, ty) {
+        match kind_of(self.question, ty) {
             Some(Kind::Scalar(base)) => self.scalar(place, base),
             Some(Kind::Struct(shape)) => self.structure(place, shape),
             Some(Kind::Table(object)) => self.table_field(place, object, kids),
@@ -616,7 +616,7 @@ impl<'r, 'n, 'b> Walk<'r, 'n, 'b> {
     fn union_field(&mut self, place: Place, union: u32, kids: &mut Kids) -> Result<Found, Stop> {
         let type_at = self.type_field(place)?;
         let value = self.type_value(type_at, place.here)?;
-        let kind = member_kind(&self.question, union, value);
+        let kind = member_kind(self.question, union, value);
         self.union_value(place, value, kind, kids)?;
         Ok(Found::Union {
             typed: type_at.is_some(),
@@ -682,7 +682,7 @@ impl<'r, 'n, 'b> Walk<'r, 'n, 'b> {
         let mut members = Members::NONE;
         for index in 0..count {
             let value = self.element_type(index, element_at(types, 1, index), place.here)?;
-            let kind = member_kind(&self.question, union, value);
+            let kind = member_kind(self.question, union, value);
             self.union_element(place, element_at(start, WORD, index), kind, kids)?;
             members = members.and(kind);
         }
@@ -719,7 +719,7 @@ impl<'r, 'n, 'b> Walk<'r, 'n, 'b> {
 
     /// Counts the finished tree, and compares it with what was counted along the way.
     fn counted(&self, tree: &Node) -> Verdict {
-        let question = &self.question;
+        let question = self.question;
         let start = 1 + u64::from(question.prefixed) + u64::from(question.ident.is_some());
         let head = 2 + u64::from(question.inline_size);
         let reads = tree.cost(head).saturating_add(start);
@@ -749,7 +749,7 @@ pub fn check(
 ) -> Result<Outcome, AllocError> {
     let mut walk = Walk {
         alloc,
-        question: *question,
+        question,
         bytes,
         reads: 0,
         opened: 0,

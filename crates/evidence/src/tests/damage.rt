@@ -111,8 +111,7 @@ fn each_prefix(
     Ok(())
 }
 
-/// The sweep over one fixture under these checks: every prefix, and every change of the bytes from one place on and
-/// before another.
+/// The sweep over one fixture under these checks: every prefix, and every change of the bytes at these places.
 fn run_sweep(
     rt: &impl Abort,
     alloc: Global,
@@ -137,78 +136,43 @@ fn run_sweep(
     Ok(sweep.count)
 }
 
-/// The sweep over one buffer under every choice of the checks.
-fn sweep_short(rt: &impl Abort, alloc: Global, swept: Swept) -> Result<(), Fail> {
+/// The sweep over one buffer under every choice of the checks, with changes of the bytes from one place on and before
+/// another, as far as it has them.
+fn sweep(
+    rt: &impl Abort,
+    alloc: Global,
+    swept: Swept,
+    first: usize,
+    end: usize,
+) -> Result<(), Fail> {
     let fixture = swept.fixture(alloc)?;
     let ways = ways(rt, alloc, &fixture)?;
-    let places = fixture.bytes.len();
     for checks in ALL_CHECKS {
-        let count = run_sweep(rt, alloc, &fixture, &ways, checks, 0..places)?;
+        let count = run_sweep(rt, alloc, &fixture, &ways, checks, first..end)?;
         assert!(rt; count.is_mixed(), "{swept:?} {count:?}");
     }
     Ok(())
 }
 
+/// The bytes of the schema file, the longest of the buffers.
+const LONGEST: usize = 208;
+
 #[test]
 fn short_buffers_that_are_damaged_are_answered_alike(rt: HostRuntime) -> Result<(), Fail> {
     for swept in ALL {
         if swept.is_short() {
-            sweep_short(&rt, rt.alloc(), swept)?;
+            sweep(&rt, rt.alloc(), swept, 0, LONGEST)?;
         }
     }
     Ok(())
 }
 
-/// The sweep over a schema file under these checks, with changes of these bytes.
-fn sweep_schema_file(
-    rt: &impl Abort,
-    alloc: Global,
-    checks: Checks,
-    places: Range<usize>,
-) -> Result<(), Fail> {
-    let fixture = Swept::SchemaFile.fixture(alloc)?;
-    let ways = ways(rt, alloc, &fixture)?;
-    let count = run_sweep(rt, alloc, &fixture, &ways, checks, places)?;
-    assert!(rt; count.is_mixed(), "{count:?}");
-    Ok(())
-}
-
 #[test]
 fn a_schema_file_damaged_in_front_is_answered_alike(rt: HostRuntime) -> Result<(), Fail> {
-    sweep_schema_file(&rt, rt.alloc(), ALL_CHECKS[0], 0..104)
+    sweep(&rt, rt.alloc(), Swept::SchemaFile, 0, 104)
 }
 
 #[test]
 fn a_schema_file_damaged_in_the_back_is_answered_alike(rt: HostRuntime) -> Result<(), Fail> {
-    sweep_schema_file(&rt, rt.alloc(), ALL_CHECKS[0], 104..208)
-}
-
-#[test]
-fn the_front_with_the_inline_size(rt: HostRuntime) -> Result<(), Fail> {
-    sweep_schema_file(&rt, rt.alloc(), ALL_CHECKS[1], 0..104)
-}
-
-#[test]
-fn the_back_with_the_inline_size(rt: HostRuntime) -> Result<(), Fail> {
-    sweep_schema_file(&rt, rt.alloc(), ALL_CHECKS[1], 104..208)
-}
-
-#[test]
-fn the_front_without_alignment(rt: HostRuntime) -> Result<(), Fail> {
-    sweep_schema_file(&rt, rt.alloc(), ALL_CHECKS[2], 0..104)
-}
-
-#[test]
-fn the_back_without_alignment(rt: HostRuntime) -> Result<(), Fail> {
-    sweep_schema_file(&rt, rt.alloc(), ALL_CHECKS[2], 104..208)
-}
-
-#[test]
-fn the_front_with_the_inline_size_and_without_alignment(rt: HostRuntime) -> Result<(), Fail> {
-    sweep_schema_file(&rt, rt.alloc(), ALL_CHECKS[3], 0..104)
-}
-
-#[test]
-fn the_back_with_the_inline_size_and_without_alignment(rt: HostRuntime) -> Result<(), Fail> {
-    sweep_schema_file(&rt, rt.alloc(), ALL_CHECKS[3], 104..208)
+    sweep(&rt, rt.alloc(), Swept::SchemaFile, 104, LONGEST)
 }

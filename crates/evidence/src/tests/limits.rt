@@ -68,19 +68,23 @@ fn yes_of_prefixes(
     Ok(yes)
 }
 
-/// The sweep over one fixture with every pair of small limits and every small budget.
-fn small_limits(rt: &impl Abort, alloc: Global, fixture: &Fixture<'_>) -> Result<(), Fail> {
-    for (depth, tables) in SMALL {
-        for reads in BUDGETS {
-            let question = Question {
-                depth,
-                tables,
-                reads,
-                ..fixture.question(Checks::published())
-            };
-            let yes = yes_of_prefixes(rt, alloc, fixture, &question)?;
-            assert!(rt; yes == 0 || depth > 0 && tables > 0, "{depth} {tables}");
-        }
+/// The sweep over one fixture with these limits and every small budget.
+fn small_limits(
+    rt: &impl Abort,
+    alloc: Global,
+    fixture: &Fixture<'_>,
+    depth: u32,
+    tables: u32,
+) -> Result<(), Fail> {
+    for reads in BUDGETS {
+        let question = Question {
+            depth,
+            tables,
+            reads,
+            ..fixture.question(Checks::published())
+        };
+        let yes = yes_of_prefixes(rt, alloc, fixture, &question)?;
+        assert!(rt; yes == 0 || depth > 0 && tables > 0, "{depth} {tables}");
     }
     Ok(())
 }
@@ -88,7 +92,10 @@ fn small_limits(rt: &impl Abort, alloc: Global, fixture: &Fixture<'_>) -> Result
 #[test]
 fn small_limits_are_kept_alike(rt: HostRuntime) -> Result<(), Fail> {
     for swept in ALL {
-        small_limits(&rt, rt.alloc(), &swept.fixture(rt.alloc())?)?;
+        let fixture = swept.fixture(rt.alloc())?;
+        for (depth, tables) in SMALL {
+            small_limits(&rt, rt.alloc(), &fixture, depth, tables)?;
+        }
     }
     Ok(())
 }

@@ -1,30 +1,25 @@
 //! What the look-ups of a schema answer, beside plain walks over its rows.
 
 use case_text::rows::Rows;
+use fb_schema::Scalar::{
+    Bool, Byte, Double, Float, Int, Long, Short, UByte, UInt, ULong, UShort, UType,
+};
 use fb_schema::base_type::{OBJ, STRING, VECTOR};
 use fb_schema::{EnumRow, FieldRow, FieldView, Kind, ObjectRow, Scalar, Schema, TypeRow};
 use std::process::Abort;
 
-/// The scalar types with their sizes, from base type 1 on.
-const SCALARS: [(Scalar, u32); 12] = [
-    (Scalar::UType, 1),
-    (Scalar::Bool, 1),
-    (Scalar::Byte, 1),
-    (Scalar::UByte, 1),
-    (Scalar::Short, 2),
-    (Scalar::UShort, 2),
-    (Scalar::Int, 4),
-    (Scalar::UInt, 4),
-    (Scalar::Long, 8),
-    (Scalar::ULong, 8),
-    (Scalar::Float, 4),
-    (Scalar::Double, 8),
+/// The scalar types, from base type 1 on.
+const SCALARS: [Scalar; 12] = [
+    UType, Bool, Byte, UByte, Short, UShort, Int, UInt, Long, ULong, Float, Double,
 ];
+
+/// Their sizes.
+const SIZES: [u32; 12] = [1, 1, 1, 1, 2, 2, 4, 4, 8, 8, 4, 8];
 
 /// What one value of this base type is, with its size and alignment; none where it is no value of a table.
 fn single(rows: &Rows<'_>, base: i8, index: i32) -> Option<(Kind, u32, u32)> {
-    let place = usize::try_from(base).ok()?;
-    if let Some((scalar, size)) = SCALARS.get(place.checked_sub(1)?) {
+    let place = usize::try_from(base).ok()?.checked_sub(1)?;
+    if let (Some(scalar), Some(size)) = (SCALARS.get(place), SIZES.get(place)) {
         return Some((Kind::Scalar(*scalar), *size, *size));
     }
     if base == STRING {

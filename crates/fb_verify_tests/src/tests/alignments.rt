@@ -2,6 +2,7 @@
 
 use super::question::answered;
 use std::alloc::{AllocError, Global};
+use std::process::Abort;
 use std::test::Fail;
 
 /// A table for each scalar type, with one field of it.
@@ -16,89 +17,76 @@ const VECTORS: &str =
     Short table: v@4 [short]; Ushort table: v@4 [ushort]; Int table: v@4 [int]; Uint table: v@4 [uint]; \
     Long table: v@4 [long]; Ulong table: v@4 [ulong]; Float table: v@4 [float]; Double table: v@4 [double]";
 
+/// The names of these tables, each with the size of its scalar.
+const SIZES: &str =
+    "Utype=1 Bool=1 Byte=1 Ubyte=1 Short=2 Ushort=2 Int=4 Uint=4 Long=8 Ulong=8 Float=4 Double=8";
+
+/// The number, name and scalar's size of each of these tables.
+fn tables(alloc: Global) -> Result<Vec<(u32, &'static str, u8)>, Fail> {
+    let mut tables = Vec::new(alloc);
+    for (object, word) in (0u32..).zip(SIZES.split(' ')) {
+        let (name, size) = word.split_once('=').ok_or("no size")?;
+        tables.push((object, name, size.parse::<u8>()?))?;
+    }
+    Ok(tables)
+}
+
+/// Asserts what is answered of a scalar whose vtable has this slot, in so many bytes.
+fn scalar_is(
+    rt: &impl Abort,
+    alloc: Global,
+    name: &str,
+    slot: u32,
+    end: u32,
+    want: &str,
+) -> Result<(), Fail> {
+    let case = format!(in alloc; "{name} | TABLE 8={slot:02x} ..{end} | root={name} | {want}")?;
+    answered(rt, alloc, SCALARS, &case)
+}
+
 #[test]
 fn a_scalar_lies_in_the_buffer_to_its_last_byte(rt: HostRuntime) -> Result<(), Fail> {
-    let cases = "\
-        utype                | TABLE ..17 | root=Utype  | yes 1 1 4\n\
-        utype, a byte short  | TABLE ..16 | root=Utype  | OutOfBuffer 16 0.0 4\n\
-        bool                 | TABLE ..17 | root=Bool   | yes 1 1 4\n\
-        bool, a byte short   | TABLE ..16 | root=Bool   | OutOfBuffer 16 1.0 4\n\
-        byte                 | TABLE ..17 | root=Byte   | yes 1 1 4\n\
-        byte, a byte short   | TABLE ..16 | root=Byte   | OutOfBuffer 16 2.0 4\n\
-        ubyte                | TABLE ..17 | root=Ubyte  | yes 1 1 4\n\
-        ubyte, a byte short  | TABLE ..16 | root=Ubyte  | OutOfBuffer 16 3.0 4\n\
-        short                | TABLE ..18 | root=Short  | yes 1 1 4\n\
-        short, a byte short  | TABLE ..17 | root=Short  | OutOfBuffer 16 4.0 4\n\
-        ushort               | TABLE ..18 | root=Ushort | yes 1 1 4\n\
-        ushort, a byte short | TABLE ..17 | root=Ushort | OutOfBuffer 16 5.0 4\n\
-        int                  | TABLE ..20 | root=Int    | yes 1 1 4\n\
-        int, a byte short    | TABLE ..19 | root=Int    | OutOfBuffer 16 6.0 4\n\
-        uint                 | TABLE ..20 | root=Uint   | yes 1 1 4\n\
-        uint, a byte short   | TABLE ..19 | root=Uint   | OutOfBuffer 16 7.0 4\n\
-        long                 | TABLE ..24 | root=Long   | yes 1 1 4\n\
-        long, a byte short   | TABLE ..23 | root=Long   | OutOfBuffer 16 8.0 4\n\
-        ulong                | TABLE ..24 | root=Ulong  | yes 1 1 4\n\
-        ulong, a byte short  | TABLE ..23 | root=Ulong  | OutOfBuffer 16 9.0 4\n\
-        float                | TABLE ..20 | root=Float  | yes 1 1 4\n\
-        float, a byte short  | TABLE ..19 | root=Float  | OutOfBuffer 16 10.0 4\n\
-        double               | TABLE ..24 | root=Double | yes 1 1 4\n\
-        double, a byte short | TABLE ..23 | root=Double | OutOfBuffer 16 11.0 4\n\
-    ";
-    answered(&rt, rt.alloc(), SCALARS, cases)
+    let alloc = rt.alloc();
+    for (object, name, size) in tables(alloc)? {
+        let end = 16 + u32::from(size);
+        scalar_is(&rt, alloc, name, 4, end, "yes 1 1 4")?;
+        let cut = format!(in alloc; "OutOfBuffer 16 {object}.0 4")?;
+        scalar_is(&rt, alloc, name, 4, end - 1, &cut)?;
+    }
+    Ok(())
 }
 
 #[test]
 fn scalars_of_a_vector_lie_in_the_buffer_to_their_last_byte(rt: HostRuntime) -> Result<(), Fail> {
-    let cases = "\
-        utype                | TABLE 04000000 03000000 ..27 | root=Utype  | yes 1 1 6\n\
-        utype, a byte short  | TABLE 04000000 03000000 ..26 | root=Utype  | OutOfBuffer 24 0.0 6\n\
-        bool                 | TABLE 04000000 03000000 ..27 | root=Bool   | yes 1 1 6\n\
-        bool, a byte short   | TABLE 04000000 03000000 ..26 | root=Bool   | OutOfBuffer 24 1.0 6\n\
-        byte                 | TABLE 04000000 03000000 ..27 | root=Byte   | yes 1 1 6\n\
-        byte, a byte short   | TABLE 04000000 03000000 ..26 | root=Byte   | OutOfBuffer 24 2.0 6\n\
-        ubyte                | TABLE 04000000 03000000 ..27 | root=Ubyte  | yes 1 1 6\n\
-        ubyte, a byte short  | TABLE 04000000 03000000 ..26 | root=Ubyte  | OutOfBuffer 24 3.0 6\n\
-        short                | TABLE 04000000 03000000 ..30 | root=Short  | yes 1 1 6\n\
-        short, a byte short  | TABLE 04000000 03000000 ..29 | root=Short  | OutOfBuffer 24 4.0 6\n\
-        ushort               | TABLE 04000000 03000000 ..30 | root=Ushort | yes 1 1 6\n\
-        ushort, a byte short | TABLE 04000000 03000000 ..29 | root=Ushort | OutOfBuffer 24 5.0 6\n\
-        int                  | TABLE 04000000 03000000 ..36 | root=Int    | yes 1 1 6\n\
-        int, a byte short    | TABLE 04000000 03000000 ..35 | root=Int    | OutOfBuffer 24 6.0 6\n\
-        uint                 | TABLE 04000000 03000000 ..36 | root=Uint   | yes 1 1 6\n\
-        uint, a byte short   | TABLE 04000000 03000000 ..35 | root=Uint   | OutOfBuffer 24 7.0 6\n\
-        long                 | TABLE 04000000 03000000 ..48 | root=Long   | yes 1 1 6\n\
-        long, a byte short   | TABLE 04000000 03000000 ..47 | root=Long   | OutOfBuffer 24 8.0 6\n\
-        ulong                | TABLE 04000000 03000000 ..48 | root=Ulong  | yes 1 1 6\n\
-        ulong, a byte short  | TABLE 04000000 03000000 ..47 | root=Ulong  | OutOfBuffer 24 9.0 6\n\
-        float                | TABLE 04000000 03000000 ..36 | root=Float  | yes 1 1 6\n\
-        float, a byte short  | TABLE 04000000 03000000 ..35 | root=Float  | OutOfBuffer 24 10.0 6\n\
-        double               | TABLE 04000000 03000000 ..48 | root=Double | yes 1 1 6\n\
-        double, a byte short | TABLE 04000000 03000000 ..47 | root=Double | OutOfBuffer 24 11.0 6\n\
-    ";
-    answered(&rt, rt.alloc(), VECTORS, cases)
+    let alloc = rt.alloc();
+    for (object, name, size) in tables(alloc)? {
+        let (end, short) = (24 + 3 * u32::from(size), 23 + 3 * u32::from(size));
+        let cases = format!(in alloc;
+            "\
+            {name}, whole | TABLE 04000000 03000000 ..{end}   | root={name} | yes 1 1 6\n\
+            {name}, cut   | TABLE 04000000 03000000 ..{short} | root={name} | OutOfBuffer 24 {object}.0 6\n\
+        "
+        )?;
+        answered(&rt, alloc, VECTORS, &cases)?;
+    }
+    Ok(())
 }
 
 #[test]
 fn a_scalar_stands_at_a_multiple_of_its_size(rt: HostRuntime) -> Result<(), Fail> {
-    let cases = "\
-        short                    | TABLE 8=05 ..32 | root=Short  | Misaligned 17 4.0 4\n\
-        short, past the end too  | TABLE 8=05 ..18 | root=Short  | OutOfBuffer 17 4.0 4\n\
-        ushort                   | TABLE 8=05 ..32 | root=Ushort | Misaligned 17 5.0 4\n\
-        ushort, past the end too | TABLE 8=05 ..18 | root=Ushort | OutOfBuffer 17 5.0 4\n\
-        int                      | TABLE 8=06 ..32 | root=Int    | Misaligned 18 6.0 4\n\
-        int, past the end too    | TABLE 8=06 ..19 | root=Int    | OutOfBuffer 18 6.0 4\n\
-        uint                     | TABLE 8=06 ..32 | root=Uint   | Misaligned 18 7.0 4\n\
-        uint, past the end too   | TABLE 8=06 ..19 | root=Uint   | OutOfBuffer 18 7.0 4\n\
-        long                     | TABLE 8=08 ..32 | root=Long   | Misaligned 20 8.0 4\n\
-        long, past the end too   | TABLE 8=08 ..21 | root=Long   | OutOfBuffer 20 8.0 4\n\
-        ulong                    | TABLE 8=08 ..32 | root=Ulong  | Misaligned 20 9.0 4\n\
-        ulong, past the end too  | TABLE 8=08 ..21 | root=Ulong  | OutOfBuffer 20 9.0 4\n\
-        float                    | TABLE 8=06 ..32 | root=Float  | Misaligned 18 10.0 4\n\
-        float, past the end too  | TABLE 8=06 ..19 | root=Float  | OutOfBuffer 18 10.0 4\n\
-        double                   | TABLE 8=08 ..32 | root=Double | Misaligned 20 11.0 4\n\
-        double, past the end too | TABLE 8=08 ..21 | root=Double | OutOfBuffer 20 11.0 4\n\
-    ";
-    answered(&rt, rt.alloc(), SCALARS, cases)
+    let alloc = rt.alloc();
+    for (object, name, size) in tables(alloc)? {
+        // From 16, which is a multiple of each, half a scalar on.
+        let half = u32::from(size) / 2;
+        if half > 0 {
+            let (slot, at) = (4 + half, 16 + half);
+            let skewed = format!(in alloc; "Misaligned {at} {object}.0 4")?;
+            scalar_is(&rt, alloc, name, slot, 32, &skewed)?;
+            let past_the_end_too = format!(in alloc; "OutOfBuffer {at} {object}.0 4")?;
+            scalar_is(&rt, alloc, name, slot, at + 1, &past_the_end_too)?;
+        }
+    }
+    Ok(())
 }
 
 /// Alignments, with places where a struct is asked: in a field, and as the value of a union.

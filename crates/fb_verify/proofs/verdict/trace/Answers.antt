@@ -37,7 +37,7 @@ tells c =
     c.reads.result c.in-Ok.ensures.ok c.in-Ok.ensures.value (omega (arith, c.requires.fresh, ap (λ m. m.count) c.in-Ok.ensures.counted)) (rw (ap (λ m. m.bytes) c.in-Ok.ensures.counted) at ran.ok) ran.within ran.shallow ran.reads c.reads.ensures
 
 pub returns-in-Err-clause-along : goal.returns-in-Err-clause-along
-returns-in-Err-clause-along c = rw c.behind.ensures (fails_at_start (goal.at.returns-in-Err-clause-along c).In-Err)
+returns-in-Err-clause-along c = rw c.halt.ensures (fails_at_start (goal.at.returns-in-Err-clause-along c).In-Err)
 
 pub returns-in-Err-clause-none : goal.returns-in-Err-clause-none
 returns-in-Err-clause-none c = none_along (fails_at_start (goal.at.returns-in-Err-clause-none c).In-Err)

@@ -36,7 +36,7 @@ returns-in-Err-open_table-clause-err g c =
     let limits = ap (λ (x : Walk). x.limits) i.same in
     let o = rw c.in-Some.is at c.in-Ok.ensures.table in
     let bytes = c.in-Ok.ensures.bytes ∙ i.bytes in
-    rw c.behind-in-Err-open_table.ensures
+    rw c.halt-in-Err-open_table.ensures
     (rw (sym checks, sym schema, sym limits, sym bytes)
     (child_stops w c.next_child.new.meter.bytes c.next_child.new.meter.count (g.under).start (g.under).frames c.next_child.new.top _ c.in-Some.child o
     (c.args.waiting + 1) (omega (arith, c.requires.0)) c.advance.new.self c.advance.ensures c.site-site.result c.site-site.ensures _ c.in-Err-open_table.ensures.err))

@@ -17,7 +17,7 @@ returns-in-Err-clause-err g c =
     let s : Origin = record { object = c.args.root.object; position = c.args.root.at; way = way_at 0 c.args.self.now.tables c.args.self.now.deepest c.args.meter.now.count c.args.site } in
     let stops = stop_at_root ch b S c.args.self.now.limits s c.args.root.at c.args.site c.args.self.now.tables c.args.self.now.deepest c.args.meter.now.count _ refl refl c.requires.1.1.1.1.1.0 c.requires.1.1.1.1.1.1.0 c.requires.1.1.1.1.1.1.1.0 c.in-Err.ensures.err in
     let none : StopsIn ch b S c.args.self.now.limits s [] [] (stopped c.in-Err.stop c.open_table.new.meter.count) = record { along = stops; linked = All-nil (IsLinked ch b S) } in
-    rw (c.behind.ensures, c.requires.0) none
+    rw (c.halt.ensures, c.requires.0) none
 
 pub loop-after-init : goal.loop-after-init
 unfolding work
