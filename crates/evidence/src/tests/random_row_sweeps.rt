@@ -72,8 +72,20 @@ fn schemas_from(rt: &impl Abort, alloc: Global, seed: u64) -> Result<(), Fail> {
 
 #[test]
 fn random_rows_are_judged_alike(rt: HostRuntime) -> Result<(), Fail> {
-    for seed in 1..5 {
-        schemas_from(&rt, rt.alloc(), seed)?;
-    }
-    Ok(())
+    schemas_from(&rt, rt.alloc(), 1)
+}
+
+#[test]
+fn other_random_rows_are_judged_alike(rt: HostRuntime) -> Result<(), Fail> {
+    schemas_from(&rt, rt.alloc(), 2)
+}
+
+#[test]
+fn more_random_rows_are_judged_alike(rt: HostRuntime) -> Result<(), Fail> {
+    schemas_from(&rt, rt.alloc(), 3)
+}
+
+#[test]
+fn still_more_random_rows_are_judged_alike(rt: HostRuntime) -> Result<(), Fail> {
+    schemas_from(&rt, rt.alloc(), 4)
 }
