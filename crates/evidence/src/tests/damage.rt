@@ -138,7 +138,7 @@ fn run_sweep(
 
 /// The sweep over one buffer under every choice of the checks, with changes of the bytes from one place on and before
 /// another, as far as it has them.
-fn sweep(
+fn sweep_all_checks(
     rt: &impl Abort,
     alloc: Global,
     swept: Swept,
@@ -161,7 +161,7 @@ const LONGEST: usize = 208;
 fn short_buffers_that_are_damaged_are_answered_alike(rt: HostRuntime) -> Result<(), Fail> {
     for swept in ALL {
         if swept.is_short() {
-            sweep(&rt, rt.alloc(), swept, 0, LONGEST)?;
+            sweep_all_checks(&rt, rt.alloc(), swept, 0, LONGEST)?;
         }
     }
     Ok(())
@@ -169,10 +169,10 @@ fn short_buffers_that_are_damaged_are_answered_alike(rt: HostRuntime) -> Result<
 
 #[test]
 fn a_schema_file_damaged_in_front_is_answered_alike(rt: HostRuntime) -> Result<(), Fail> {
-    sweep(&rt, rt.alloc(), Swept::SchemaFile, 0, 104)
+    sweep_all_checks(&rt, rt.alloc(), Swept::SchemaFile, 0, 104)
 }
 
 #[test]
 fn a_schema_file_damaged_in_the_back_is_answered_alike(rt: HostRuntime) -> Result<(), Fail> {
-    sweep(&rt, rt.alloc(), Swept::SchemaFile, 104, LONGEST)
+    sweep_all_checks(&rt, rt.alloc(), Swept::SchemaFile, 104, LONGEST)
 }
