@@ -1,5 +1,7 @@
+use crate::tests::reads_and_ends::same;
 use fb_bytes::{Framer, LimitOutOfRange, StreamFault, Taken};
 use std::alloc::Global;
+use std::process::Abort;
 use std::test::Fail;
 
 /// A prefix of 28 and as many bytes: a size-prefixed buffer whose one field, a long, is 7.
@@ -15,6 +17,16 @@ fn twice() -> [u8; 64] {
     stream
 }
 
+/// What is asked of a framer, with what it answers.
+#[derive(Drop)]
+enum Call<'p> {
+    Feed(&'p [u8], Result<Taken, StreamFault>),
+    Message(Option<&'p [u8]>),
+    Next,
+    Held(u64),
+    Finish(Result<(), StreamFault>),
+}
+
 fn taken(used: usize, whole: bool) -> Result<Taken, StreamFault> {
     Ok(Taken { used, whole })
 }
@@ -23,78 +35,102 @@ fn framer_of_32(alloc: Global) -> Result<Framer<Global>, LimitOutOfRange> {
     Framer::new(alloc, 32)
 }
 
+/// Whether the framer answers this call so.
+fn answers(framer: &mut Framer<Global>, call: &Call<'_>) -> bool {
+    match call {
+        Call::Feed(piece, want) => framer.feed(piece) == *want,
+        Call::Message(want) => framer.message() == *want,
+        Call::Next => {
+            framer.next();
+            true
+        }
+        Call::Held(want) => framer.held() == *want,
+        Call::Finish(want) => framer.finish() == *want,
+    }
+}
+
+/// Asks a framer with a limit of 32 bytes all of this, one after another.
+fn asks(rt: &impl Abort, alloc: Global, calls: &[Call<'_>]) -> Result<(), Fail> {
+    let mut framer = framer_of_32(alloc)?;
+    for (number, call) in calls.iter().enumerate() {
+        same(rt, (number, answers(&mut framer, call)), (number, true));
+    }
+    Ok(())
+}
+
 #[test]
 fn holds_one_message_at_a_time(rt: HostRuntime) -> Result<(), Fail> {
     let stream = twice();
-    let mut framer = framer_of_32(rt.alloc())?;
-    assert_eq!(rt; framer.feed(stream.as_slice()), taken(32, true));
-    assert_eq!(rt; framer.feed(&stream[32..]), taken(0, true));
-    assert_eq!(rt; framer.message(), Some(LONG_SEVEN.as_slice()));
-    framer.next();
-    assert_eq!(rt; framer.held(), 0);
-    assert_eq!(rt; framer.feed(&stream[32..]), taken(32, true));
-    framer.next();
-    assert_eq!(rt; framer.finish(), Ok(()));
-    Ok(())
+    let calls = [
+        Call::Feed(&stream, taken(32, true)),
+        Call::Feed(&stream[32..], taken(0, true)),
+        Call::Message(Some(&LONG_SEVEN)),
+        Call::Next,
+        Call::Held(0),
+        Call::Feed(&stream[32..], taken(32, true)),
+        Call::Next,
+        Call::Finish(Ok(())),
+    ];
+    asks(&rt, rt.alloc(), &calls)
 }
 
 #[test]
 fn an_empty_piece_changes_nothing(rt: HostRuntime) -> Result<(), Fail> {
-    let mut framer = framer_of_32(rt.alloc())?;
-    assert_eq!(rt; framer.feed([].as_slice()), taken(0, false));
-    assert_eq!(rt; framer.finish(), Ok(()));
-    Ok(())
+    let calls = [Call::Feed(&[], taken(0, false)), Call::Finish(Ok(()))];
+    asks(&rt, rt.alloc(), &calls)
 }
 
 #[test]
 fn an_end_in_mid_prefix_is_truncated(rt: HostRuntime) -> Result<(), Fail> {
-    let mut framer = framer_of_32(rt.alloc())?;
-    assert_eq!(rt; framer.feed([0, 0].as_slice()), taken(2, false));
-    assert!(rt; framer.message().is_none());
-    assert_eq!(rt; framer.finish(), Err(StreamFault::Truncated { held: 2 }));
-    assert_eq!(rt; framer.feed([0, 0].as_slice()), Err(StreamFault::Failed));
-    assert_eq!(rt; framer.finish(), Err(StreamFault::Failed));
-    framer.next();
-    assert_eq!(rt; framer.held(), 2);
-    Ok(())
+    let calls = [
+        Call::Feed(&[0, 0], taken(2, false)),
+        Call::Message(None),
+        Call::Finish(Err(StreamFault::Truncated { held: 2 })),
+        Call::Feed(&[0, 0], Err(StreamFault::Failed)),
+        Call::Finish(Err(StreamFault::Failed)),
+        Call::Next,
+        Call::Held(2),
+    ];
+    asks(&rt, rt.alloc(), &calls)
 }
 
 #[test]
 fn an_end_in_mid_message_is_truncated(rt: HostRuntime) -> Result<(), Fail> {
     let stream = twice();
-    let mut framer = framer_of_32(rt.alloc())?;
-    assert_eq!(rt; framer.feed(stream.as_slice()), taken(32, true));
-    framer.next();
-    assert_eq!(rt; framer.feed(&stream[32..63]), taken(31, false));
-    assert!(rt; framer.message().is_none());
-    assert_eq!(rt; framer.finish(), Err(StreamFault::Truncated { held: 31 }));
-    assert_eq!(rt; framer.feed(&stream[63..]), Err(StreamFault::Failed));
-    assert_eq!(rt; framer.finish(), Err(StreamFault::Failed));
-    assert_eq!(rt; framer.held(), 31);
-    Ok(())
+    let calls = [
+        Call::Feed(&stream, taken(32, true)),
+        Call::Next,
+        Call::Feed(&stream[32..63], taken(31, false)),
+        Call::Message(None),
+        Call::Finish(Err(StreamFault::Truncated { held: 31 })),
+        Call::Feed(&stream[63..], Err(StreamFault::Failed)),
+        Call::Finish(Err(StreamFault::Failed)),
+        Call::Held(31),
+    ];
+    asks(&rt, rt.alloc(), &calls)
 }
 
 #[test]
 fn a_prefix_past_the_limit_is_oversize(rt: HostRuntime) -> Result<(), Fail> {
-    let mut framer = framer_of_32(rt.alloc())?;
-    assert_eq!(rt; framer.feed([29, 0, 0].as_slice()), taken(3, false));
-    assert_eq!(rt;
-        framer.feed([0, 1, 2].as_slice()),
-        Err(StreamFault::Oversize { declared: 29 })
-    );
-    assert_eq!(rt; framer.held(), 4);
-    assert!(rt; framer.message().is_none());
-    assert_eq!(rt; framer.feed([0].as_slice()), Err(StreamFault::Failed));
-    assert_eq!(rt; framer.finish(), Err(StreamFault::Failed));
-    Ok(())
+    let oversize = StreamFault::Oversize { declared: 29 };
+    let calls = [
+        Call::Feed(&[29, 0, 0], taken(3, false)),
+        Call::Feed(&[0, 1, 2], Err(oversize)),
+        Call::Held(4),
+        Call::Message(None),
+        Call::Feed(&[0], Err(StreamFault::Failed)),
+        Call::Finish(Err(StreamFault::Failed)),
+    ];
+    asks(&rt, rt.alloc(), &calls)
 }
 
 #[test]
 fn a_prefix_of_zero_is_a_message_of_four_bytes(rt: HostRuntime) -> Result<(), Fail> {
-    let mut framer = framer_of_32(rt.alloc())?;
-    assert_eq!(rt; framer.feed([0, 0, 0, 0, 1].as_slice()), taken(4, true));
-    assert_eq!(rt; framer.message(), Some([0; 4].as_slice()));
-    Ok(())
+    let calls = [
+        Call::Feed(&[0, 0, 0, 0, 1], taken(4, true)),
+        Call::Message(Some(&[0; 4])),
+    ];
+    asks(&rt, rt.alloc(), &calls)
 }
 
 #[test]
@@ -107,18 +143,15 @@ fn the_limit_counts_the_prefix(rt: HostRuntime) -> Result<(), Fail> {
         (2_147_483_648, false),
         (4_294_967_295, false),
     ] {
-        assert_eq!(rt;
-            Framer::new(rt.alloc(), limit).is_ok(),
-            in_range,
-            "at {limit}"
-        );
+        let made = Framer::new(rt.alloc(), limit).is_ok();
+        same(&rt, (limit, made), (limit, in_range));
     }
     for (limit, want) in [
         (32, taken(32, true)),
         (31, Err(StreamFault::Oversize { declared: 28 })),
     ] {
         let mut framer = Framer::new(rt.alloc(), limit)?;
-        assert_eq!(rt; framer.feed(LONG_SEVEN.as_slice()), want, "at {limit}");
+        same(&rt, framer.feed(&LONG_SEVEN), want);
     }
     Ok(())
 }
@@ -146,8 +179,12 @@ fn the_messages_are_the_streams_however_it_is_cut(rt: HostRuntime) -> Result<(),
         for piece in stream.chunks(length) {
             use_up(&mut framer, piece, &mut all)?;
         }
-        assert_eq!(rt; all.as_slice(), stream.as_slice(), "in pieces of {length}");
-        assert_eq!(rt; framer.finish(), Ok(()), "in pieces of {length}");
+        let whole = all.as_slice() == stream.as_slice();
+        same(
+            &rt,
+            (length, whole, framer.finish()),
+            (length, true, Ok(())),
+        );
     }
     Ok(())
 }

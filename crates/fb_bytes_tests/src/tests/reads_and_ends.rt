@@ -1,8 +1,10 @@
 //! What no contract says: that calls succeed, on bytes and answers known from outside.
 
 use fb_bytes::{Counted, Meter, Sink, Source, Tally, Window};
+use std::fmt::Debug;
 use std::io;
 use std::io::{ErrorKind, Read, Write};
+use std::process::Abort;
 use std::test::Fail;
 
 /// A buffer of one table with a short and a string.
@@ -27,6 +29,11 @@ macro_rules! of_each_width {
             $reader.i32_at(0),
         )
     };
+}
+
+/// One comparison for all tests, since each that is written out takes seconds of proof.
+pub fn same<T: PartialEq + Debug + Drop>(rt: &impl Abort, answer: T, want: T) {
+    assert_eq!(rt; answer, want);
 }
 
 /// A window that outlives its meter, over bytes that outlive both.
@@ -93,10 +100,10 @@ impl Write for Fails {
 #[test]
 fn a_read_is_little_endian_and_counts_one(rt: HostRuntime) -> Result<(), Fail> {
     let mut meter = Meter::new(&NUMBERS)?;
-    assert_eq!(rt; meter.len(), 8);
-    assert_eq!(rt; of_each_width!(meter), OF_EACH_WIDTH);
-    assert_eq!(rt; meter.i32_at(4), -1);
-    assert_eq!(rt; meter.reads(), 5);
+    same(&rt, meter.len(), 8);
+    same(&rt, of_each_width!(meter), OF_EACH_WIDTH);
+    same(&rt, meter.i32_at(4), -1);
+    same(&rt, meter.reads(), 5);
     Ok(())
 }
 
@@ -114,32 +121,33 @@ fn a_range_fits_or_not_whatever_its_sum(rt: HostRuntime) -> Result<(), Fail> {
         (1, u64::MAX, false),
         (u64::MAX, u64::MAX, false),
     ] {
-        assert_eq!(rt; meter.fits(at, n), want, "at {at}, {n} bytes");
+        same(&rt, (at, n, meter.fits(at, n)), (at, n, want));
     }
-    assert_eq!(rt; meter.reads(), 0);
+    same(&rt, meter.reads(), 0);
     Ok(())
 }
 
 #[test]
 fn a_tally_reads_and_counts_on(rt: HostRuntime) -> Result<(), Fail> {
     let mut meter = Meter::new(&NUMBERS)?;
-    assert_eq!(rt; meter.u8_at(0), 0x01);
+    same(&rt, meter.u8_at(0), 0x01);
     let mut tally: Tally = meter.lend();
-    assert_eq!(rt;
+    same(
+        &rt,
         (
             tally.len(),
             tally.fits(4, 4),
             tally.fits(5, 4),
-            tally.reads()
+            tally.reads(),
         ),
-        (8, true, false, 1)
+        (8, true, false, 1),
     );
-    assert_eq!(rt; of_each_width!(tally), OF_EACH_WIDTH);
-    assert_eq!(rt; (tally.reads(), meter.reads()), (5, 1));
+    same(&rt, of_each_width!(tally), OF_EACH_WIDTH);
+    same(&rt, (tally.reads(), meter.reads()), (5, 1));
     meter.settle(tally);
-    assert_eq!(rt; (meter.len(), meter.reads()), (8, 5));
-    assert_eq!(rt; meter.i32_at(4), -1);
-    assert_eq!(rt; meter.reads(), 6);
+    same(&rt, (meter.len(), meter.reads()), (8, 5));
+    same(&rt, meter.i32_at(4), -1);
+    same(&rt, meter.reads(), 6);
     Ok(())
 }
 
@@ -147,19 +155,20 @@ fn a_tally_reads_and_counts_on(rt: HostRuntime) -> Result<(), Fail> {
 fn what_is_lent_is_read_and_settled(rt: HostRuntime) -> Result<(), Fail> {
     let meter = Meter::new(&NUMBERS)?;
     let mut tally = meter.lend();
-    assert_eq!(rt; tally.u8_at(0), 0x01);
+    same(&rt, tally.u8_at(0), 0x01);
     let mut reads = tally.lend();
     // Of what is lent out nothing is left to read.
-    assert_eq!(rt; (tally.len(), tally.fits(0, 1)), (0, false));
-    assert_eq!(rt;
+    same(&rt, (tally.len(), tally.fits(0, 1)), (0, false));
+    same(
+        &rt,
         (reads.len(), reads.fits(4, 4), reads.fits(5, 4)),
-        (8, true, false)
+        (8, true, false),
     );
-    assert_eq!(rt; of_each_width!(reads), OF_EACH_WIDTH);
+    same(&rt, of_each_width!(reads), OF_EACH_WIDTH);
     tally.settle(reads);
-    assert_eq!(rt; (tally.len(), tally.reads()), (8, 5));
-    assert_eq!(rt; tally.i32_at(4), -1);
-    assert_eq!(rt; tally.reads(), 6);
+    same(&rt, (tally.len(), tally.reads()), (8, 5));
+    same(&rt, tally.i32_at(4), -1);
+    same(&rt, tally.reads(), 6);
     Ok(())
 }
 
@@ -168,26 +177,26 @@ fn reads_are_counted_whoever_takes_them_back(rt: HostRuntime) -> Result<(), Fail
     let meter = Meter::new(&ORC)?;
     let other = Meter::new(&[])?;
     let mut tally = meter.lend();
-    assert_eq!(rt; tally.u8_at(28), b'O');
+    same(&rt, tally.u8_at(28), b'O');
     let mut passer = other.lend();
     passer.settle(tally.lend());
-    assert_eq!(rt; passer.u8_at(28), b'O');
+    same(&rt, passer.u8_at(28), b'O');
     tally.settle(passer.lend());
-    assert_eq!(rt; tally.reads(), 2);
+    same(&rt, tally.reads(), 2);
     Ok(())
 }
 
 #[test]
 fn a_window_lends_what_its_meter_read(rt: HostRuntime) -> Result<(), Fail> {
-    assert_eq!(rt; name_of(&ORC), Some(b"Orc".as_slice()));
+    same(&rt, name_of(&ORC), Some(b"Orc".as_slice()));
     let meter = Meter::new(&ORC)?;
     let window: Window = meter.seal();
-    assert_eq!(rt; window.len(), 32);
-    assert_eq!(rt; window.u8_at(28), b'O');
-    assert_eq!(rt; window.u16_at(20), 300);
-    assert_eq!(rt; window.u32_at(24), 3);
-    assert_eq!(rt; window.i32_at(12), 8);
-    assert_eq!(rt; window.u64_at(20), 0x0000_0003_0000_012c);
+    same(&rt, window.len(), 32);
+    same(&rt, window.u8_at(28), b'O');
+    same(&rt, window.u16_at(20), 300);
+    same(&rt, window.u32_at(24), 3);
+    same(&rt, window.i32_at(12), 8);
+    same(&rt, window.u64_at(20), 0x0000_0003_0000_012c);
     Ok(())
 }
 
@@ -196,20 +205,22 @@ fn a_source_tells_calls_failures_and_end(rt: HostRuntime) -> Result<(), Fail> {
     let mut source = Counted::new(Falters { calls: 0 });
     let mut piece = [0u8; 4];
     let mut nothing = [0u8; 0];
-    assert_eq!(rt; source.pull(&mut piece).ok(), Some(1));
-    assert!(rt; source.pull(&mut piece).is_err());
-    assert_eq!(rt;
+    same(&rt, source.pull(&mut piece).ok(), Some(1));
+    same(&rt, source.pull(&mut piece).is_err(), true);
+    same(
+        &rt,
         (source.calls(), source.failures(), source.ended()),
-        (2, 1, false)
+        (2, 1, false),
     );
-    assert_eq!(rt; source.pull(&mut nothing).ok(), Some(0));
-    assert!(rt; !source.ended());
-    assert_eq!(rt; source.pull(&mut piece).ok(), Some(0));
-    assert_eq!(rt;
+    same(&rt, source.pull(&mut nothing).ok(), Some(0));
+    same(&rt, source.ended(), false);
+    same(&rt, source.pull(&mut piece).ok(), Some(0));
+    same(
+        &rt,
         (source.calls(), source.failures(), source.ended()),
-        (4, 1, true)
+        (4, 1, true),
     );
-    assert_eq!(rt; source.get_ref().calls, 4);
+    same(&rt, source.get_ref().calls, 4);
     Ok(())
 }
 
@@ -217,12 +228,12 @@ fn a_source_tells_calls_failures_and_end(rt: HostRuntime) -> Result<(), Fail> {
 fn a_sink_that_takes_nothing_has_failed(rt: HostRuntime) -> Result<(), Fail> {
     let mut room = [0u8; 2];
     let mut sink = Counted::new(room.as_mut_slice());
-    assert_eq!(rt; sink.push(b"ab").ok(), Some(2));
-    assert_eq!(rt; sink.push(b"").ok(), Some(0));
-    assert_eq!(rt; (sink.calls(), sink.failures()), (2, 0));
-    assert_eq!(rt; sink.push(b"c").ok(), Some(0));
-    assert_eq!(rt; (sink.calls(), sink.failures()), (3, 1));
-    assert_eq!(rt; sink.into_inner().len(), 0);
+    same(&rt, sink.push(b"ab").ok(), Some(2));
+    same(&rt, sink.push(b"").ok(), Some(0));
+    same(&rt, (sink.calls(), sink.failures()), (2, 0));
+    same(&rt, sink.push(b"c").ok(), Some(0));
+    same(&rt, (sink.calls(), sink.failures()), (3, 1));
+    same(&rt, sink.into_inner().len(), 0);
     Ok(())
 }
 
@@ -230,12 +241,16 @@ fn a_sink_that_takes_nothing_has_failed(rt: HostRuntime) -> Result<(), Fail> {
 fn a_call_that_fails_was_passed_on_once(rt: HostRuntime) -> Result<(), Fail> {
     let mut source = Counted::new(Fails { calls: 0 });
     let mut piece = [0u8; 4];
-    assert!(rt; source.pull(&mut piece).is_err());
-    assert!(rt; source.pull(&mut piece).is_err());
-    assert_eq!(rt; (Source::failures(&source), source.get_ref().calls), (2, 2));
+    same(&rt, source.pull(&mut piece).is_err(), true);
+    same(&rt, source.pull(&mut piece).is_err(), true);
+    same(
+        &rt,
+        (Source::failures(&source), source.get_ref().calls),
+        (2, 2),
+    );
     let mut sink = Counted::new(Fails { calls: 0 });
-    assert!(rt; sink.push(b"ab").is_err());
-    assert!(rt; sink.push(b"ab").is_err());
-    assert_eq!(rt; (Sink::failures(&sink), sink.get_ref().calls), (2, 2));
+    same(&rt, sink.push(b"ab").is_err(), true);
+    same(&rt, sink.push(b"ab").is_err(), true);
+    same(&rt, (Sink::failures(&sink), sink.get_ref().calls), (2, 2));
     Ok(())
 }
