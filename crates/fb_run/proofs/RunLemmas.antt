@@ -1,22 +1,20 @@
 -- A run over a stream: what was read and written, and then one piece more.
-use Rattle.std.proofs.Common.{◌≡◌, ℕ, ◌+◌, Bool, true, false, List, [], ◌++◌, Option, length, take, drop, refl, sym, ap, subst, ◌∙◌, arith, append-nil, append_assoc, length-append, length-take-le, take-append-drop, Result, Ok, Err, IsErrAnd}
+use Rattle.std.proofs.Common.{◌≡◌, ℕ, ◌+◌, Bool, List, [], ◌++◌, Option, length, take, drop, refl, sym, ap, subst, ◌∙◌, arith, append-nil, append_assoc, length-append, length-take-le, take-append-drop, Result, Ok, Err, IsErrAnd}
 use Rattle.std.specs.Io.KnownBytes.{Consumes, Appends}
 use Rattle.std.proofs.KnownBytes.{Consumes-nil, Consumes-trans, Appends-kept, Appends-nil, Appends-trans, Keeps-refl}
-use Rattle.fb_schema.specs.Rows.{Rows}
 use Rattle.fb_verify.specs.declared.start.Start.{Start}
 use Rattle.fb_verify.specs.declared.start.Start.TheVariants as start
 use Rattle.fb_bytes.specs.declared.stream_fault.StreamFault.TheVariants as stream
 use Rattle.fb_run.specs.Faults.{IsCaused}
-use Rattle.fb_run.specs.Job.{Job, job_of, start_of}
+use Rattle.fb_run.specs.Job.{Job}
 use Rattle.fb_run.specs.Sums.{no_tally}
-use Rattle.fb_run.specs.Prompt.{IsBarePrompt, IsPrompt, IsPromptFrom, IsStreamPrompt}
-use Rattle.fb_run.specs.Run.{IsBareRun, IsRunBeside, IsRunFrom}
+use Rattle.fb_run.specs.Prompt.{IsPrompt, IsPromptFrom, IsStreamPrompt}
+use Rattle.fb_run.specs.Run.{IsBareRun, IsRunBeside, IsRunFrom, IsStreamRun}
 use Rattle.fb_run.specs.Lines.{WritesFronts}
 use Rattle.fb_run.specs.Texts.{Texts, followed, silent, to_notes}
 use Rattle.fb_run.specs.Stream.{FailsStream, Gathers, Halts, Onward, Standing, Tells, TellsSome, WhyStream}
 use Rattle.fb_run.specs.declared.fault.RunFault.{RunFault}
 use Rattle.fb_run.specs.declared.fault.RunFault.TheVariants as run
-use Rattle.fb_run.specs.declared.options.Options.{Options}
 use Rattle.fb_run.specs.declared.tally.Tally.{Tally}
 use Rattle.fb_run.proofs.StreamLemmas.{rests_memory, tells_nothing}
 use Rattle.fb_run.proofs.TextsLemmas.{followed_silent, same_texts}
@@ -147,22 +145,34 @@ caused_flush f f' w w' w0 k k' k0 left ended run.TooManyTurns sw sk caused = cau
 caused_flush f f' w w' w0 k k' k0 left ended (run.Stream (stream.Truncated held)) sw sk caused = caused 0 left ended
 caused_flush f f' w w' w0 k k' k0 left ended _ sw sk caused = caused 0 left ended
 
-module _ (rows : Rows) (options : Options) (job : Job) (r r' s s' n n' : Option (List ℕ)) where
-  -- what is so by a start and a job is so by those of the options
-  by_options : {b : Bool} (P : Start → Job → Type 0) → options.bare ≡ b → job ≡ job_of rows options → P (start_of b) job → P (start_of options.bare) (job_of rows options)
-  by_options {b} P is same p = subst (λ (x : Bool). P (start_of x) (job_of rows options)) (sym is) (subst (λ (j : Job). P (start_of b) j) same p)
+-- what is so of a bare start, or of the other, is so of the start that a job says
+at_bare : (P : Start → Type 0) (from says : Start) → from ≡ says → from ≡ start.Bare → P start.Bare → P says
+at_bare P from says is bare p = subst P (sym bare ∙ is) p
 
+at_stream : (P : Start → Type 0) (from says : Start) → from ≡ says → (from ≡ start.Bare → ⊥) → P start.Prefixed → P says
+at_stream P start.Bare says is other p = absurd (other refl)
+at_stream P start.Prefixed says is other p = subst P is p
+
+module _ (job : Job) (from : Start) (r r' s s' n n' : Option (List ℕ)) (is : from ≡ job.start) where
   module _ (so_far : Tally) (answer : Result Tally RunFault) where
-    -- a run over one bare input is the run of options that say so
-    pub runs_bare : options.bare ≡ true → job ≡ job_of rows options → IsBareRun job r r' s s' n n' so_far answer → IsRunBeside (job_of rows options) r r' s s' n n' so_far answer
-    runs_bare = by_options (λ from j. IsRunFrom from j r r' s s' n n' so_far answer)
+    -- a run over one bare input is the run of a job that says so, and so is one over a stream
+    pub runs_bare : from ≡ start.Bare → IsBareRun job r r' s s' n n' so_far answer → IsRunBeside job r r' s s' n n' so_far answer
+    runs_bare = at_bare (λ x. IsRunFrom x job r r' s s' n n' so_far answer) from job.start is
 
-  -- each is prompt where that run is
-  pub prompt_bare : options.bare ≡ true → job ≡ job_of rows options → IsBarePrompt job r r' s s' n n' → IsPrompt (job_of rows options) r r' s s' n n'
-  prompt_bare = by_options (λ from j. IsPromptFrom from j r r' s s' n n')
+    pub runs_stream : (from ≡ start.Bare → ⊥) → IsStreamRun job r r' s s' n n' so_far answer → IsRunBeside job r r' s s' n n' so_far answer
+    runs_stream = at_stream (λ x. IsRunFrom x job r r' s s' n n' so_far answer) from job.start is
 
-  pub prompt_stream : options.bare ≡ false → job ≡ job_of rows options → IsStreamPrompt job r r' s s' n n' → IsPrompt (job_of rows options) r r' s s' n n'
-  prompt_stream = by_options (λ from j. IsPromptFrom from j r r' s s' n n')
+  -- it is prompt where that run is
+  pub prompt_stream : (from ≡ start.Bare → ⊥) → IsStreamPrompt job r r' s s' n n' → IsPrompt job r r' s s' n n'
+  prompt_stream = at_stream (λ x. IsPromptFrom x job r r' s s' n n') from job.start is
+
+-- a job that is the same has the same run, and is prompt with it
+pub runs_by : (job job' : Job) (r r' s s' n n' : Option (List ℕ)) (so_far : Tally) (answer : Result Tally RunFault) → job ≡ job'
+    → IsRunBeside job r r' s s' n n' so_far answer → IsRunBeside job' r r' s s' n n' so_far answer
+runs_by job job' r r' s s' n n' so_far answer is run = subst (λ (j : Job). IsRunBeside j r r' s s' n n' so_far answer) is run
+
+pub prompt_by : (job job' : Job) (r r' s s' n n' : Option (List ℕ)) → job ≡ job' → IsPrompt job r r' s s' n n' → IsPrompt job' r r' s s' n n'
+prompt_by job job' r r' s s' n n' is prompt = subst (λ (j : Job). IsPrompt j r r' s s' n n') is prompt
 
 -- so it is in a run, however its input starts
 none_from : (from : Start) (job : Job) (r s n : Option (List ℕ)) → IsRunFrom from job r r s s n n no_tally (Err run.OutOfMemory)

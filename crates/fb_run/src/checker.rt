@@ -111,7 +111,7 @@ impl<'s, 'n, 'o> Checker<'s, 'n, 'o> {
     }
 
     /// How each buffer begins.
-    fn start(&self) -> Start
+    pub fn start(&self) -> Start
         ensures { result ≡ self.now.start }
     {
         if self.options.bare {

@@ -67,13 +67,9 @@ pub fn run_beside<A: Allocator, S: Input<K, N>, K: Sink, N: Sink>(
     let checker = Checker::new(schema, options);
     let mut piece = read_buffer(&alloc)?;
     let mut carried = Carried::new(&alloc, &checker)?;
-    if options.bare {
-        carried.pass_whole(
-            &alloc, &mut piece, reader, writer, notes, &checker, turns, so_far,
-        )
-    } else {
-        carried.pass_all(&mut piece, reader, writer, notes, &checker, turns, so_far)
-    }
+    carried.pass_all(
+        &alloc, &mut piece, reader, writer, notes, &checker, turns, so_far,
+    )
 }
 
 /// The same without notes: what would be noted is dropped, and only [`Filter`](crate::options::Mode::Filter) notes

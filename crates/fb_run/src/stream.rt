@@ -1,22 +1,24 @@
-//! A run over a stream of size-prefixed buffers.
+//! A run over a stream of size-prefixed buffers, or over one bare buffer.
 
 ghost use Rattle.std.specs.Prelude.{IfOk, IfErr, OnOk, ◌≡◌, ◌+◌, ◌-◌, ◌*◌, ◌<◌, ◌≤◌, ◌^◌, ℕ, Bool, List, Option, [], length, take};
 ghost use Rattle.fb_run.specs.Faults.{EndsBeside, IsCaused};
-ghost use Rattle.fb_run.specs.Prompt.{IsStreamPrompt};
-ghost use Rattle.fb_run.specs.Run.{IsStreamRun};
+ghost use Rattle.fb_run.specs.Prompt.{IsPrompt};
+ghost use Rattle.fb_run.specs.Run.{IsRunBeside};
 ghost use Rattle.fb_run.specs.Stream.{Gathers, Halts, HaltsThrough, IsFeedFault, IsReady, Onward, OnwardThrough, PassesPiece, StopsAmid, standing};
 ghost use Rattle.fb_run.specs.Sums.{no_tally};
 ghost use Rattle.fb_run.specs.Texts.{silent, waiting};
 
+use crate::bare::tell_whole;
 use crate::checker::Checker;
 use crate::fault::RunFault;
 use crate::front::front_message;
 use crate::input::Input;
 use crate::output::Output;
-use crate::reading::{MOST_TURNS, PIECE, pull_piece};
+use crate::reading::{MOST_TURNS, PIECE, pull_piece, read_whole};
 use crate::room::Room;
 use crate::tally::Tally;
 use fb_bytes::{Framer, Sink};
+use fb_verify::Start;
 use std::alloc::{AllocError, Allocator};
 
 /// What a run carries: over a stream from piece to piece, over one bare input from its start to its end.
@@ -49,16 +51,18 @@ impl<'a, A: Allocator> Carried<&'a A> {
 }
 
 impl<A: Allocator> Carried<A> {
-    /// Checks a stream of size-prefixed buffers from its start, each of at most `max_bytes` of the options, and writes
-    /// what the mode tells of each. It comes in pieces through the read buffer, with at most `turns` reads.
+    /// Checks the buffers of an input from its start, and writes what the mode tells of each: one bare buffer, or a
+    /// stream of size-prefixed ones, each of at most `max_bytes` of the options. It comes in pieces through the read
+    /// buffer, with at most `turns` reads.
     ///
-    /// What is told of all messages that are whole is written before the next read (`leave`), and before any answer.
-    /// On a fault that of all whole messages that were read is written, but for `OutOfMemory`, where it is that of the
-    /// first ones, and for `WriteFault` and `NoteFault`, where `written` bytes of it are. Then `so_far` has what was
-    /// counted by then.
-    pub fn pass_all<B: Allocator, S: Input<K, N>, K: Sink, N: Sink>(
+    /// What is told of all messages that are whole is written before the next read (`leave`), and before any answer;
+    /// of a bare input nothing is before its end. On a fault that of all whole messages that were read is written, but
+    /// for `OutOfMemory`, where it is that of the first ones, and for `WriteFault` and `NoteFault`, where `written`
+    /// bytes of it are. Then `so_far` has what was counted by then.
+    pub fn pass_all<B: Allocator, C: Allocator, S: Input<K, N>, K: Sink, N: Sink>(
         &mut self,
-        piece: &mut Vec<u8, B>,
+        alloc: &B,
+        piece: &mut Vec<u8, C>,
         reader: &mut S,
         writer: &mut K,
         notes: &mut N,
@@ -76,10 +80,10 @@ impl<A: Allocator> Carried<A> {
         requires reads { S.calls reader.old < 2 ^ 64 }
         requires writes { K.calls writer.old < 2 ^ 64 }
         requires tells { N.calls notes.old < 2 ^ 64 }
-        requires leave { (source sink note : Option (List ℕ)) → IsStreamPrompt checker.now (S.remaining reader.old) source
+        requires leave { (source sink note : Option (List ℕ)) → IsPrompt checker.now (S.remaining reader.old) source
             (K.contents writer.old) sink (N.contents notes.old) note → S.may_ask source sink note }
 
-        ensures run { IsStreamRun checker.now
+        ensures run { IsRunBeside checker.now
             (S.remaining reader.old) (S.remaining reader.new) (K.contents writer.old) (K.contents writer.new)
             (N.contents notes.old) (N.contents notes.new) so_far.new result }
         ensures end { EndsBeside (S.failures reader.old) (S.failures reader.new) (K.failures writer.old) (K.failures writer.new)
@@ -87,6 +91,19 @@ impl<A: Allocator> Carried<A> {
         ensures pushes { N.calls notes.new ≤ N.calls notes.old + 2 ^ 96 }
         ensures turns { S.calls reader.new ≤ S.calls reader.old + turns }
     {
+        if let Start::Bare = checker.start() {
+            let limit = checker.limit();
+            let whole = read_whole(alloc, reader, piece, writer, notes, limit, turns)?;
+            return tell_whole(
+                &mut self.output,
+                checker,
+                &mut self.room,
+                whole.as_slice(),
+                writer,
+                notes,
+                so_far,
+            );
+        }
         let mut left = turns;
         while left > 0 {
             left -= 1;

@@ -1,6 +1,6 @@
 use Rattle.fb_run.specs.Job.{job_of}
 use Rattle.fb_run.specs.Run.{IsRunBeside}
-use Rattle.fb_run.proofs.RunLemmas.{err_exit, prompt_bare, prompt_stream, runs_bare, runs_none}
+use Rattle.fb_run.proofs.RunLemmas.{err_exit, prompt_by, runs_by, runs_none}
 use Rattle.fb_run.proofs.run.run_beside.Goals as goal
 
 pub returns-in_err-piece-clause-run : goal.returns-in_err-piece-clause-run
@@ -17,13 +17,9 @@ returns-in_err-carried-clause-run g c =
     (g.K.Sink.contents c.args.writer.now) (g.K.Sink.contents c.args.writer.now) (g.N.Sink.contents c.args.notes.now) (g.N.Sink.contents c.args.notes.now) c.new.result)
     c.from_residual-in_err-carried.ensures.1 (runs_none _ _ _ _ _ c.new.ensures)
 
-pub returns-then-options-clause-run : goal.returns-then-options-clause-run
-returns-then-options-clause-run g c = runs_bare _ _ _ _ _ _ _ _ _ _ _ c.if-options.true c.new-checker.ensures c.pass_whole.ensures.run
-
-pub pass_whole-requires-clause-leave : goal.pass_whole-requires-clause-leave
-pass_whole-requires-clause-leave g c source sink note prompt =
-    c.requires.leave source sink note (prompt_bare _ _ _ _ _ _ _ _ _ c.if-options.true c.new-checker.ensures prompt)
+pub returns-clause-run : goal.returns-clause-run
+returns-clause-run g c = runs_by _ _ _ _ _ _ _ _ _ _ c.new-checker.ensures c.pass_all.ensures.run
 
 pub pass_all-requires-clause-leave : goal.pass_all-requires-clause-leave
 pass_all-requires-clause-leave g c source sink note prompt =
-    c.requires.leave source sink note (prompt_stream _ _ _ _ _ _ _ _ _ c.if-options.false c.new-checker.ensures prompt)
+    c.requires.leave source sink note (prompt_by _ _ _ _ _ _ _ _ c.new-checker.ensures prompt)

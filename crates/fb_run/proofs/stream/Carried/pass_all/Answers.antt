@@ -1,10 +1,43 @@
-use Rattle.std.proofs.Common.{◌+◌, ◌-◌, rules, ap}
+use Rattle.std.proofs.Common.{ℕ, Bool, ◌+◌, ◌-◌, rules, ap, subst, sym}
 use Rattle.fb_run.specs.Faults.{EndsBeside}
-use Rattle.fb_run.specs.Run.{IsStreamRun}
-use Rattle.fb_run.proofs.RunLemmas.{caused_flush, err_exit, fails_counted, sofar_nothing}
+use Rattle.fb_run.specs.Run.{IsRunBeside}
+use Rattle.fb_run.proofs.BareLemmas.{fails_untold}
+use Rattle.fb_run.proofs.RunLemmas.{caused_flush, err_exit, fails_counted, prompt_stream, runs_bare, runs_stream, sofar_nothing}
 use Rattle.fb_run.proofs.ThroughLemmas.{fails_piece, sofar_piece}
 use Rattle.fb_run.specs.Stream.{Standing, standing}
 use Rattle.fb_run.proofs.stream.Carried.pass_all.Goals as goal
+
+pub returns-in_err-whole-clause-run : goal.returns-in_err-whole-clause-run
+returns-in_err-whole-clause-run g c =
+    let sink = g.K.Sink.contents c.args.writer.now in
+    let notes = g.N.Sink.contents c.args.notes.now in
+    err_exit c.from_residual.result _
+    (IsRunBeside c.args.checker.now (g.S.Input.remaining c.args.reader.now) (g.S.Input.remaining c.read_whole.new.source) sink sink notes notes c.args.so_far.now)
+    c.from_residual.ensures.1
+    (runs_bare _ _ _ _ _ _ _ _ c.start.ensures _ _ c.in-Bare.is
+    (fails_untold _ _ _ _ _ _ _ _ _ _ c.limit-limit.ensures.value c.requires.counted (c.in_err-whole.ensures.fault c.args.checker.now sink notes)))
+
+pub returns-in_err-whole-clause-end : goal.returns-in_err-whole-clause-end
+returns-in_err-whole-clause-end g c =
+    err_exit c.from_residual.result _
+    (EndsBeside (g.S.Input.failures c.args.reader.now) (g.S.Input.failures c.read_whole.new.source) (g.K.Sink.failures c.args.writer.now)
+    (g.K.Sink.failures c.args.writer.now) (g.N.Sink.failures c.args.notes.now) (g.N.Sink.failures c.args.notes.now)
+    (g.S.Input.calls c.args.reader.now + c.args.turns - g.S.Input.calls c.read_whole.new.source)
+    (g.S.Input.ended c.read_whole.new.source))
+    c.from_residual.ensures.1 (c.in_err-whole.ensures.cause _ _)
+
+pub returns-in-Bare-clause-end : goal.returns-in-Bare-clause-end
+returns-in-Bare-clause-end g c =
+    let old = g.S.Input.failures c.args.reader.now in
+    let left = g.S.Input.calls c.args.reader.now + c.args.turns - g.S.Input.calls c.read_whole.new.source in
+    let ends : ℕ → Bool → Type 0 = λ new ended. EndsBeside old new (g.K.Sink.failures c.args.writer.now) (g.K.Sink.failures c.tell_whole.new.writer)
+    (g.N.Sink.failures c.args.notes.now) (g.N.Sink.failures c.tell_whole.new.notes) left ended c.tell_whole.result in
+    subst (λ (new : ℕ). ends new (g.S.Input.ended c.read_whole.new.source)) (sym c.in_ok-whole.ensures.unfailed)
+    (subst (ends old) (sym c.in_ok-whole.ensures.end) (c.tell_whole.ensures.end old left))
+
+pub pull_piece-requires-clause-leave : goal.pull_piece-requires-clause-leave
+pull_piece-requires-clause-leave g c =
+    c.requires.leave _ _ _ (prompt_stream _ _ _ _ _ _ _ _ c.start.ensures c.in_default.not-Bare (search rules))
 
 pub loop-left-init : goal.loop-left-init
 loop-left-init g c = record {
@@ -35,7 +68,7 @@ loop-left-preserved g c =
       empty = passed.empty;
       counted = passed.counted;
       told = sofar_piece _ (standing c.loop-left.self) _ _ _ _ _ _ _ _ _ _ _ _ _ _
-          c.as_slice.ensures.value before.empty before.told c.in-Ok.ensures.ok _ _ _ passed.passes;
+          c.as_slice-in-loop-left.ensures.value before.empty before.told c.in-Ok.ensures.ok _ _ _ passed.passes;
       fewer = search rules;
       calls = search rules;
       few = search rules;
@@ -52,11 +85,12 @@ pub returns-in_err-pass_piece-clause-run : goal.returns-in_err-pass_piece-clause
 returns-in_err-pass_piece-clause-run g c =
     let before = c.loop-left.invariant in
     err_exit c.from_residual-in_err-pass_piece.result _
-    (IsStreamRun c.args.checker.now (g.S.Input.remaining c.args.reader.now) (g.S.Input.remaining c.pull_piece.new.source) (g.K.Sink.contents c.args.writer.now) (g.K.Sink.contents c.pass_piece.new.writer) (g.N.Sink.contents c.args.notes.now) (g.N.Sink.contents c.pass_piece.new.notes) c.pass_piece.new.so_far)
+    (IsRunBeside c.args.checker.now (g.S.Input.remaining c.args.reader.now) (g.S.Input.remaining c.pull_piece.new.source) (g.K.Sink.contents c.args.writer.now) (g.K.Sink.contents c.pass_piece.new.writer) (g.N.Sink.contents c.args.notes.now) (g.N.Sink.contents c.pass_piece.new.notes) c.pass_piece.new.so_far)
     c.from_residual-in_err-pass_piece.ensures.1
+    (runs_stream _ _ _ _ _ _ _ _ c.start.ensures _ _ c.in_default.not-Bare
     (fails_counted _ _ _ _ _ _ _ _ _ _ _ c.pass_piece.ensures.counted
     (fails_piece _ (standing c.loop-left.self) _ _ _ _ _ _ _ _ _ _ _ _ _ _
-    c.as_slice.ensures.value before.empty before.told c.in-Ok.ensures.ok _ _ c.in_err-pass_piece.ensures.stops))
+    c.as_slice-in-loop-left.ensures.value before.empty before.told c.in-Ok.ensures.ok _ _ c.in_err-pass_piece.ensures.stops)))
 
 pub returns-in_err-pass_piece-clause-end : goal.returns-in_err-pass_piece-clause-end
 returns-in_err-pass_piece-clause-end g c =

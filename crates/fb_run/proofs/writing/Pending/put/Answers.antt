@@ -10,7 +10,7 @@ returns-in_err-self-clause-err g c =
     let flushed = c.in_ok-flush.ensures in
     if_err_exit c.from_residual-in_err-self.result _ (λ cause. WritesFront _ _ _ _ cause.written) c.from_residual-in_err-self.ensures.1
     (front_behind _ [] _ c.args.text.now _ _ _ _ _ _ (behind_flushed _ _ _ _ _ _ _ same flushed.empty flushed.ok flushed.written)
-    (subst (λ (l : List ℕ). WritesFront (l ++ c.args.text.now) (g.K.Sink.contents c.flush.new.sink) (g.K.Sink.contents c.write_all.new.sink) c.flush.new.self.written c.in_err-self.field-0.0.written) (sym flushed.empty) c.in_err-self.ensures.err))
+    (subst (λ (l : List ℕ). WritesFront (l ++ c.args.text.now) (g.K.Sink.contents c.flush.new.sink) (g.K.Sink.contents c.write_all.new.sink) c.flush.new.self.written c.in_err-self.field-0.0.written) (sym {A = List ℕ} flushed.empty) c.in_err-self.ensures.err))
 
 pub returns-in_ok-self-clause-ok : goal.returns-in_ok-self-clause-ok
 returns-in_ok-self-clause-ok g c =
