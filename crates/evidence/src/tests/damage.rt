@@ -146,6 +146,7 @@ fn sweep_all_checks(
     end: usize,
 ) -> Result<(), Fail> {
     let fixture = swept.fixture(alloc)?;
+    assert!(rt; fixture.bytes.len() <= LONGEST, "{swept:?}");
     let ways = ways(rt, alloc, &fixture)?;
     for checks in ALL_CHECKS {
         let count = run_sweep(rt, alloc, &fixture, &ways, checks, first..end)?;

@@ -6,6 +6,7 @@ use fb_schema::Scalar::{
 };
 use fb_schema::base_type::{OBJ, STRING, VECTOR};
 use fb_schema::{EnumRow, FieldRow, FieldView, Kind, ObjectRow, Scalar, Schema, TypeRow};
+use std::fmt::Debug;
 use std::process::Abort;
 
 /// The scalar types, from base type 1 on.
@@ -140,6 +141,12 @@ fn value_named(row: &EnumRow<'_>, name: &[u8]) -> Option<u8> {
     u8::try_from(named.value).ok()
 }
 
+/// Asserts that what is told is what was wanted, once for all, since each comparison that is written out takes seconds
+/// of proof.
+fn same<T: PartialEq + Debug + Drop>(rt: &impl Abort, told: T, want: T) {
+    assert_eq!(rt; told, want);
+}
+
 /// A schema beside the rows by which its look-ups should answer.
 #[derive(Clone, Copy)]
 struct Beside<'s, 'n> {
@@ -158,9 +165,9 @@ impl<'s, 'n> Beside<'s, 'n> {
         };
         assert!(rt; is_view_of(rows, fields, row, view), "{view:?} of {row:?}");
         let i = u32::try_from(place).ok().expect(rt, "few fields");
-        assert_eq!(rt; schema.field_named(number, row.name), Some(i));
+        same(rt, schema.field_named(number, row.name), Some(i));
         assert!(rt; i < schema.field_count(number));
-        assert_eq!(rt; schema.field_at(number, i).slot, row.slot);
+        same(rt, schema.field_at(number, i).slot, row.slot);
     }
 
     /// Asserts what is told of the live fields of a table.
@@ -168,13 +175,17 @@ impl<'s, 'n> Beside<'s, 'n> {
         let schema = self.schema;
         assert!(rt; schema.is_table(number));
         let live = live_count(fields);
-        assert_eq!(rt; schema.fields_of(number).len(), live);
-        assert_eq!(rt; schema.field_count(number) as usize, live);
-        assert_eq!(rt; schema.required_end(number) as usize, required_end(fields));
-        assert_eq!(rt; schema.field_named(number, b"nothing"), None);
+        same(rt, schema.fields_of(number).len(), live);
+        same(rt, schema.field_count(number) as usize, live);
+        same(
+            rt,
+            schema.required_end(number) as usize,
+            required_end(fields),
+        );
+        same(rt, schema.field_named(number, b"nothing"), None);
         for field in fields.iter() {
             if field.deprecated {
-                assert_eq!(rt; schema.field_named(number, field.name), None);
+                same(rt, schema.field_named(number, field.name), None);
             } else {
                 self.field(rt, number, fields, field);
             }
@@ -187,10 +198,10 @@ impl<'s, 'n> Beside<'s, 'n> {
         assert!(rt; schema.is_table(number));
         for object in rows.objects.iter() {
             let named = schema.field_named(number, object.name).is_some();
-            assert_eq!(rt; named, has_live(fields, object.name));
+            same(rt, named, has_live(fields, object.name));
             for field in object.fields.iter() {
                 let named = schema.field_named(number, field.name).is_some();
-                assert_eq!(rt; named, has_live(fields, field.name));
+                same(rt, named, has_live(fields, field.name));
             }
         }
     }
@@ -202,8 +213,8 @@ impl<'s, 'n> Beside<'s, 'n> {
         let view = schema.object(number);
         assert!(rt; view.name == object.name && view.is_struct == object.is_struct);
         assert!(rt; view.minalign == object.minalign && view.bytesize == object.bytesize);
-        assert_eq!(rt; schema.is_table(number), !object.is_struct);
-        assert_eq!(rt; schema.object_named(object.name), Some(number));
+        same(rt, schema.is_table(number), !object.is_struct);
+        same(rt, schema.object_named(object.name), Some(number));
         if !object.is_struct {
             self.fields(rt, number, &object.fields);
             self.strange_names(rt, number, &object.fields);
@@ -216,7 +227,7 @@ impl<'s, 'n> Beside<'s, 'n> {
         assert!(rt; schema.is_union(number));
         for value in 0..=255u8 {
             let told = schema.member_of(number, value);
-            assert_eq!(rt; told, member_kind(rows, row, value), "{value}");
+            same(rt, (value, told), (value, member_kind(rows, row, value)));
         }
     }
 
@@ -224,11 +235,11 @@ impl<'s, 'n> Beside<'s, 'n> {
     fn member_names(self, rt: &impl Abort, number: u32, row: &EnumRow<'_>) {
         let Beside { schema, rows } = self;
         assert!(rt; schema.is_union(number));
-        assert_eq!(rt; schema.member_named(number, b"nothing"), None);
+        same(rt, schema.member_named(number, b"nothing"), None);
         for other in rows.enums.iter() {
             for member in other.members.iter() {
                 let value = value_named(row, member.name);
-                assert_eq!(rt; schema.member_named(number, member.name), value);
+                same(rt, schema.member_named(number, member.name), value);
             }
         }
     }
@@ -237,7 +248,7 @@ impl<'s, 'n> Beside<'s, 'n> {
     fn enums(self, rt: &impl Abort) {
         let Beside { schema, rows } = self;
         for (number, row) in (0u32..).zip(rows.enums.iter()) {
-            assert_eq!(rt; schema.is_union(number), row.is_union);
+            same(rt, schema.is_union(number), row.is_union);
             if row.is_union {
                 self.members(rt, number, row);
                 self.member_names(rt, number, row);
@@ -248,9 +259,9 @@ impl<'s, 'n> Beside<'s, 'n> {
 
 /// Asserts that every look-up answers by the rows.
 pub fn agree(rt: &impl Abort, schema: &Schema<'_>, rows: &Rows<'_>) {
-    assert_eq!(rt; schema.object_count() as usize, rows.objects.len());
-    assert_eq!(rt; schema.widest() as usize, widest(rows));
-    assert_eq!(rt; schema.object_named(b"nothing"), None);
+    same(rt, schema.object_count() as usize, rows.objects.len());
+    same(rt, schema.widest() as usize, widest(rows));
+    same(rt, schema.object_named(b"nothing"), None);
     assert!(rt; !schema.is_table(schema.object_count()) && !schema.is_table(u32::MAX));
     assert!(rt; !schema.is_union(u32::MAX));
     let beside = Beside { schema, rows };

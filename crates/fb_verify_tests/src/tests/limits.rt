@@ -1,5 +1,6 @@
 //! Which limits can be made, and what they say of themselves.
 
+use super::calls::same;
 use fb_verify::Limits;
 
 #[test]
@@ -11,21 +12,25 @@ fn depths_up_to_4096(rt: HostRuntime) {
         (4096, true),
         (4097, false),
     ] {
-        assert_eq!(rt; Limits::new(depth, 7).is_ok(), allowed, "at {depth}");
+        same(
+            &rt,
+            (depth, Limits::new(depth, 7).is_ok()),
+            (depth, allowed),
+        );
     }
 }
 
 #[test]
 fn published_limits(rt: HostRuntime) {
-    assert_eq!(rt; Limits::published().depth(), 64);
-    assert_eq!(rt; Limits::published().reads(), None);
+    same(&rt, Limits::published().depth(), 64);
+    same(&rt, Limits::published().reads(), None);
 }
 
 #[test]
 fn reads_are_bounded_where_a_budget_says_so(rt: HostRuntime) {
     for most in [0, 1, 1_000_000_000, u64::MAX] {
         let limits = Limits::published().with_reads(most);
-        assert_eq!(rt; limits.reads(), Some(most));
-        assert_eq!(rt; limits.depth(), 64);
+        same(&rt, limits.reads(), Some(most));
+        same(&rt, limits.depth(), 64);
     }
 }
