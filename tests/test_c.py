@@ -663,7 +663,7 @@ def texts_of_the_pages(cases):
         program = compiled(cases, "pasted from " + page.replace("/", " "), file_of("pasted.c", text.encode()), *SHARED)
         for name, rows, given, want in [
             ("a good buffer", "good", ORC, (0, good)),
-            ("one whose last text is torn", "good", ORC[:-1], (1, "bad: 1, V2 at 28\n")),
+            ("one whose last text is torn", "good", ORC[:-1], (1, "not good: 1, V2 at 28\n")),
             ("a longer one than there is room for", "good", ORC + bytes(1 << 16), (2, "too long\n")),
             ("no schema", "bad", ORC, (2, no_schema)),
         ]:

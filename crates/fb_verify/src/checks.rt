@@ -14,7 +14,7 @@ pub struct Checks {
 }
 
 impl Checks {
-    /// The checks of the published verifier: alignment, and not the inline size.
+    /// The checks of FlatBuffers' own verifier for C++: alignment, and not the inline size.
     pub fn published() -> Self
         ensures { result ≡ record { alignment = true; inline_size = false } }
     {

@@ -64,7 +64,7 @@ impl Limits {
         }
     }
 
-    /// The limits of the published verifier: depth 64, and 1,000,000 tables. Reads aren't bounded.
+    /// The limits of FlatBuffers' own verifier for C++: depth 64, and 1,000,000 tables. Reads aren't bounded.
     pub fn published() -> Self
         ensures { result ≡ record { depth = 64; tables = 1000000; reads = None } }
     {

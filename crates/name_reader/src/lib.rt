@@ -1,4 +1,4 @@
-//! Reads one string out of buffers that come from strangers.
+//! Reads a string out of buffers from strangers.
 #![tactic(auto)]
 
 use fb_access::{Answer, Path, get};
@@ -10,10 +10,10 @@ use std::alloc::Global;
 #[cfg(test)]
 mod tests;
 
-/// The string at `to.name` of a good buffer; none where it is absent, or anything is wrong.
+/// The string at `to.name`, if the buffer is good and has one.
 pub fn name_in<'b>(alloc: Global, schema_file: &[u8], buffer: &'b [u8]) -> Option<&'b [u8]> {
-    // Once: the schema, its root table, the path, and room for a walk.
-    let limits = Limits::published();
+    // To be done once: schema, root table, path, and room for a walk.
+    let limits = Limits::published().with_reads(1_000_000_000);
     let loaded = load(alloc, schema_file, limits).ok()?;
     let root = loaded.root?;
     let path = Path::resolve(alloc, &loaded.schema, root, b"to.name").ok()?;

@@ -1,4 +1,5 @@
 use crate::{Plan, Refusing};
+use std::process::Abort;
 use std::test::Fail;
 
 #[test]
@@ -21,17 +22,22 @@ fn a_plan_refuses_one_request_or_all_later_ones(rt: HostRuntime) -> Result<(), F
     Ok(())
 }
 
+/// Asserts how many requests were made, once for all, since each comparison that is written out takes seconds of proof.
+fn asks(rt: &impl Abort, made: u64, want: u64, by: &str) {
+    assert_eq!(rt; made, want, "{by}");
+}
+
 #[test]
 fn a_growth_is_one_request(rt: HostRuntime) -> Result<(), Fail> {
     let heap = Refusing::new(rt.alloc(), Plan::RefuseFrom(2));
     let mut items = Vec::from_slice(&heap, [1u8, 2, 3].as_slice())?;
-    assert_eq!(rt; heap.asked(), 1, "the first memory of a vector");
+    asks(&rt, heap.asked(), 1, "the first memory of a vector");
     items.reserve(100)?;
-    assert_eq!(rt; heap.asked(), 2, "a growth");
+    asks(&rt, heap.asked(), 2, "a growth");
     items.push(4)?;
-    assert_eq!(rt; heap.asked(), 2, "a push into room that is there");
+    asks(&rt, heap.asked(), 2, "a push into room that is there");
     assert!(rt; items.reserve(1000).is_err());
-    assert_eq!(rt; heap.asked(), 3, "a growth that is refused");
-    assert_eq!(rt; items.as_slice(), [1, 2, 3, 4].as_slice());
+    asks(&rt, heap.asked(), 3, "a growth that is refused");
+    assert!(rt; items.as_slice() == [1, 2, 3, 4].as_slice());
     Ok(())
 }
