@@ -1,4 +1,5 @@
-use Rattle.std.proofs.Common.{rules, refl, take, ◌++◌, ◌≤◌, ◌<◌, ◌+◌, length}
+use Rattle.std.proofs.Common.{rules, refl, take, ◌++◌, ◌≤◌, ◌<◌, ◌+◌, length, arith}
+use Rattle.std.proofs.lemmas.Grind.{common_steps}
 use Rattle.std.proofs.KnownBytes.{Consumes-trans, Keeps-refl}
 use Rattle.fb_run.proofs.Pieces.{length-with}
 use Rattle.fb_run.proofs.reading.read_whole.Goals as goal
@@ -22,3 +23,6 @@ returns-in_default-clause-fault g c job sink notes =
       Consumes-trans _ _ _ _ _ c.loop-left.invariant.read read.ok,
       (search rules, ((Keeps-refl sink, Keeps-refl notes), refl)),
     )
+
+pub loop-left-preserved : goal.loop-left-preserved
+loop-left-preserved g c = grind (arith, common_steps)

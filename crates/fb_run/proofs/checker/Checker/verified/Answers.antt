@@ -1,4 +1,5 @@
-use Rattle.std.proofs.Common.{sym, ap}
+use Rattle.std.proofs.Common.{sym, ap, arith}
+use Rattle.std.proofs.lemmas.Grind.{common_steps}
 use Rattle.fb_verify.specs.Stops.{Stops}
 use Rattle.fb_verify.specs.Links.{StopsAlong}
 use Rattle.std.specs.Prelude.{take}
@@ -19,3 +20,9 @@ returns-after-put_location-clause-refused g c =
       | in-Ok-put_location w ↦ rw w.result-is tt
       | in-Err-put_location w ↦ rw w.result-is (has_place job bytes fault links (rw (sym c.self.view_is) c.in-Words.is) stops along)
     ]
+
+pub returns-in-Ok-verify_and_locate-clause-room : goal.returns-in-Ok-verify_and_locate-clause-room
+returns-in-Ok-verify_and_locate-clause-room g c = grind (arith, common_steps)
+
+pub returns-after-put_location-clause-verdict : goal.returns-after-put_location-clause-verdict
+returns-after-put_location-clause-verdict g c = grind (arith, common_steps)

@@ -1,4 +1,5 @@
-use Rattle.std.proofs.Common.{List, ℕ, ◌++◌, subst}
+use Rattle.std.proofs.Common.{List, ℕ, ◌++◌, subst, arith}
+use Rattle.std.proofs.lemmas.Grind.{common_steps}
 use Rattle.std.proofs.lemmas.Result.{IfErr-weaker, on_ok_weaker}
 use Rattle.std.specs.List.{flat_map}
 use Rattle.fb_verify.proofs.Frames.{if_err_exit}
@@ -68,3 +69,6 @@ returns-clause-err g c =
     (front_behind _ end.label.now _ (value ++ end.close.now) _ _ _ _ _ _ c.in_ok-put-2.ensures.ok
     (front_behind _ value _ end.close.now _ _ _ _ _ _ c.in_ok-put_bytes.ensures.ok last))))
     c.put-3.ensures.err
+
+pub returns-in_err-put-clause-err : goal.returns-in_err-put-clause-err
+returns-in_err-put-clause-err g c = grind (arith, common_steps)
