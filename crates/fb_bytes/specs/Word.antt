@@ -15,3 +15,7 @@ signed_word bytes p = cast_signed w32 (word bytes p 4)
 pub record Metered : Type 0 where
   pub bytes : List ℕ
   pub count : ℕ
+
+-- the count of a meter whose bytes are lent, more than any reads come to: what was read is told once they are settled
+abbrev pub while_lent : ℕ
+while_lent = 340282366920938463463374607431768211455

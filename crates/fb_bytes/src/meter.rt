@@ -1,7 +1,7 @@
 //! A buffer whose reads are counted.
 
 ghost use Rattle.std.specs.Prelude.{◌≡◌, ◌+◌, ◌^◌, ◌<◌, ◌≤◌, length, IfOk, IsErr, IsTrue, ◌↔◌};
-ghost use Rattle.fb_bytes.specs.Word.{word, signed_word};
+ghost use Rattle.fb_bytes.specs.Word.{word, signed_word, while_lent};
 
 use crate::tally::Tally;
 use crate::window::Window;
@@ -15,10 +15,12 @@ pub struct TooLong;
 ///
 /// A contract sees it as its bytes and its count. A read is the little-endian number at a position
 /// (FlatBuffers Internals: scalars are little-endian) and counts one, whatever its width. What only
-/// compares lengths, as [`Meter::fits`], counts nothing.
+/// compares lengths, as [`Meter::fits`], counts nothing. While the bytes are lent the count is one that no reads come
+/// to (`while_lent`): such a meter is neither read nor lent nor sealed before the reads are settled.
 #[derive(Drop)]
 pub struct Meter<'a> {
-    tally: Tally<'a>,
+    window: Window<'a>,
+    count: u128,
 }
 
 impl<'a> Model for Meter<'a> {
@@ -26,11 +28,14 @@ impl<'a> Model for Meter<'a> {
 
     ghost Value = { Metered };
 
-    ghost view = { λ m. m.tally };
+    ghost view = { λ m. record { bytes = m.window; count = m.count } };
 }
 
 /// The longest buffer, in bytes.
 const LONGEST: usize = 0x7FFF_FFFF;
+
+/// The count while the bytes are lent.
+const WHILE_LENT: u128 = u128::MAX;
 
 impl<'a> Meter<'a> {
     /// A meter over these bytes, of which no read was made. `TooLong` comes for 2^31 bytes or more, and
@@ -43,7 +48,8 @@ impl<'a> Meter<'a> {
             return Err(TooLong);
         }
         Ok(Meter {
-            tally: Tally::over(Window::over(bytes), 0),
+            window: Window::over(bytes),
+            count: 0,
         })
     }
 
@@ -52,7 +58,7 @@ impl<'a> Meter<'a> {
         ensures len { result ≡ length self.now.bytes }
         ensures short { length self.now.bytes < 2 ^ 31 }
     {
-        self.tally.len()
+        self.window.len()
     }
 
     /// Whether the `n` bytes at `at` are in the buffer, for every `at` and `n`.
@@ -60,14 +66,14 @@ impl<'a> Meter<'a> {
         ensures fits { IsTrue result ↔ at + n ≤ length self.now.bytes }
         ensures short { length self.now.bytes < 2 ^ 31 }
     {
-        self.tally.fits(at, n)
+        self.window.fits(at, n)
     }
 
     /// How many reads were made.
     pub fn reads(&self) -> u128
         ensures { result ≡ self.now.count }
     {
-        self.tally.reads()
+        self.count
     }
 
     /// Reads the byte at `at`.
@@ -77,7 +83,8 @@ impl<'a> Meter<'a> {
         ensures number { result ≡ word self.old.bytes at 1 }
         ensures counted { self.new ≡ record self.old { count = self.old.count + 1 } }
     {
-        self.tally.u8_at(at)
+        self.count += 1;
+        self.window.u8_at(at)
     }
 
     /// Reads the two bytes at `at`, as a `voffset` or a vtable's size is read.
@@ -87,7 +94,8 @@ impl<'a> Meter<'a> {
         ensures number { result ≡ word self.old.bytes at 2 }
         ensures counted { self.new ≡ record self.old { count = self.old.count + 1 } }
     {
-        self.tally.u16_at(at)
+        self.count += 1;
+        self.window.u16_at(at)
     }
 
     /// Reads the four bytes at `at`, as a `uoffset` or a count is read.
@@ -97,7 +105,8 @@ impl<'a> Meter<'a> {
         ensures number { result ≡ word self.old.bytes at 4 }
         ensures counted { self.new ≡ record self.old { count = self.old.count + 1 } }
     {
-        self.tally.u32_at(at)
+        self.count += 1;
+        self.window.u32_at(at)
     }
 
     /// Reads the four bytes at `at` in two's complement, as an `soffset` is read.
@@ -107,32 +116,40 @@ impl<'a> Meter<'a> {
         ensures number { result ≡ signed_word self.old.bytes at }
         ensures counted { self.new ≡ record self.old { count = self.old.count + 1 } }
     {
-        self.tally.i32_at(at)
+        self.count += 1;
+        self.window.i32_at(at)
     }
 
-    /// Lends the bytes to a walk, under a count that goes on from this one. [`Meter::settle`] takes that count.
+    /// Lends the bytes to a walk, under a count that goes on from this one. Until [`Meter::settle`] takes that count,
+    /// nothing is told of the reads, so that no walk is made beside it that nobody counts.
     #[inline(always)]
-    pub fn lend(&self) -> Tally<'a>
-        ensures { result ≡ self.now }
+    pub fn lend(&mut self) -> Tally<'a>
+        requires few { self.old.count < 2 ^ 100 }
+        ensures lent { result ≡ self.old }
+        ensures untold { self.new ≡ record self.old { count = while_lent } }
     {
-        self.tally.again()
+        let tally = Tally::over(self.window.again(), self.count);
+        self.count = WHILE_LENT;
+        tally
     }
 
-    /// Takes the count of a tally of these bytes.
+    /// Takes the count of a tally of these bytes, which were lent.
     #[inline(always)]
     pub fn settle(&mut self, tally: Tally<'_>)
         requires same { tally.bytes ≡ self.old.bytes }
-        requires onward { self.old.count ≤ tally.count }
-        ensures { self.new ≡ record self.old { count = tally.entry.count } }
+        requires lent { self.old.count ≡ while_lent }
+        ensures count { self.new ≡ record self.old { count = tally.entry.count } }
+        ensures settled { self.new.count < while_lent }
     {
-        self.tally.take_count(tally);
+        self.count = tally.reads();
     }
 
     /// The same bytes behind a [`Window`], whose reads aren't counted. Nothing makes a meter of a window.
     pub fn seal(self) -> Window<'a>
+        requires settled { self.count < while_lent }
         ensures bytes { result ≡ self.entry.bytes }
         ensures short { length self.entry.bytes < 2 ^ 31 }
     {
-        self.tally.into_window()
+        self.window
     }
 }

@@ -6,49 +6,42 @@ ghost use Rattle.fb_bytes.specs.Word.{word, signed_word};
 use crate::window::Window;
 use std::marker::Model;
 
-/// The bytes of a [`crate::Tally`], the reads that it counted before it lent them, and the number of those made since.
+/// The bytes of a [`crate::Tally`] under its count, which goes on in 64 bits: a loop keeps those in a register.
 ///
-/// A contract sees it as these three (`Lent`). Reads count as a tally's do, but in 64 bits, which a loop keeps in a
-/// register; so whoever holds one settles it before 2^63 reads. There is no way to the bytes but by a counted read:
-/// nothing of them is lent on, and nothing seals them. The count before goes with the bytes, so that whichever tally
-/// takes them back has every read that was made of them. [`crate::Tally::lend`] makes one, and
-/// [`crate::Tally::settle`] takes it back.
+/// A contract sees it as a meter: as its bytes and its count. Whoever holds one settles it before 2^63 reads. There is no
+/// way to the bytes but by a counted read: nothing of them is lent on, and nothing seals them. The count goes with the
+/// bytes, so that whichever tally takes them back has every read that was made of them. [`crate::Tally::lend`] makes
+/// one, and [`crate::Tally::settle`] takes it back.
 #[derive(Drop)]
 pub struct Reads<'a> {
     window: Window<'a>,
-    before: u128,
     count: u64,
 }
 
 impl<'a> Model for Reads<'a> {
-    ghost use Rattle.fb_bytes.specs.Lent.{Lent};
+    ghost use Rattle.fb_bytes.specs.Word.{Metered};
 
-    ghost Value = { Lent };
+    ghost Value = { Metered };
 
-    ghost view = { λ r. record { bytes = r.window; before = r.before; count = r.count } };
+    ghost view = { λ r. record { bytes = r.window; count = r.count } };
 }
 
 impl<'a> Reads<'a> {
-    /// A window that is lent after so many reads.
+    /// A window of which so many reads were made.
     #[inline(always)]
-    pub(crate) fn over(window: Window<'a>, before: u128) -> Self
-        ensures { result ≡ record { bytes = window.entry; before = before; count = 0 } }
+    pub(crate) fn over(window: Window<'a>, count: u64) -> Self
+        ensures { result ≡ record { bytes = window.entry; count = count } }
     {
-        Reads {
-            window,
-            before,
-            count: 0,
-        }
+        Reads { window, count }
     }
 
     /// The window, and all reads that were made of it.
     #[inline(always)]
-    pub(crate) fn into_parts(self) -> (Window<'a>, u128)
-        requires few { self.before < 2 ^ 100 }
+    pub(crate) fn into_parts(self) -> (Window<'a>, u64)
         ensures window { result.0 ≡ self.entry.bytes }
-        ensures count { result.1 ≡ self.entry.before + self.entry.count }
+        ensures count { result.1 ≡ self.entry.count }
     {
-        (self.window, self.before + u128::from(self.count))
+        (self.window, self.count)
     }
 
     /// How many bytes there are.

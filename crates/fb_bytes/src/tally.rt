@@ -1,7 +1,6 @@
 //! A buffer's bytes under count, as a walk holds them.
 
 ghost use Rattle.std.specs.Prelude.{◌≡◌, ◌+◌, ◌^◌, ◌<◌, ◌≤◌, [], length, IsTrue, ◌↔◌};
-ghost use Rattle.fb_bytes.specs.Lent.{taken_back};
 ghost use Rattle.fb_bytes.specs.Word.{word, signed_word};
 
 use crate::reads::Reads;
@@ -21,45 +20,24 @@ pub struct Tally<'a> {
 }
 
 impl<'a> Model for Tally<'a> {
+    ghost use Rattle.std.specs.Prelude.{◌^◌, ◌≤◌};
     ghost use Rattle.fb_bytes.specs.Word.{Metered};
 
     ghost Value = { Metered };
 
     ghost view = { λ t. record { bytes = t.window; count = t.count } };
+
+    ghost invariant = { λ t. t.count ≤ 2 ^ 100 };
 }
 
 impl<'a> Tally<'a> {
     /// A tally over this window that begins at this count.
     #[inline(always)]
     pub(crate) fn over(window: Window<'a>, count: u128) -> Self
+        requires few { count ≤ 2 ^ 100 }
         ensures { result ≡ record { bytes = window.entry; count = count } }
     {
         Tally { window, count }
-    }
-
-    /// Another tally over the same bytes that begins at the same count.
-    #[inline(always)]
-    pub(crate) fn again(&self) -> Self
-        ensures { result ≡ self.now }
-    {
-        Tally::over(self.window.again(), self.count)
-    }
-
-    /// Takes over the count of another.
-    #[inline(always)]
-    pub(crate) fn take_count(&mut self, other: Tally<'_>)
-        ensures { self.new ≡ record self.old { count = other.entry.count } }
-    {
-        self.count = other.count;
-    }
-
-    /// The window under the count.
-    #[inline(always)]
-    pub(crate) fn into_window(self) -> Window<'a>
-        ensures bytes { result ≡ self.entry.bytes }
-        ensures short { length self.entry.bytes < 2 ^ 31 }
-    {
-        self.window
     }
 
     /// How many bytes there are.
@@ -83,7 +61,8 @@ impl<'a> Tally<'a> {
     /// How many reads were made.
     #[inline(always)]
     pub fn reads(&self) -> u128
-        ensures { result ≡ self.now.count }
+        ensures count { result ≡ self.now.count }
+        ensures few { result ≤ 2 ^ 100 }
     {
         self.count
     }
@@ -136,27 +115,25 @@ impl<'a> Tally<'a> {
         self.window.i32_at(at)
     }
 
-    /// Lends the bytes to be read under a count of their own, with the count so far. Until [`Tally::settle`] takes them
-    /// back, the tally has no bytes.
+    /// Lends the bytes to be read under a count in 64 bits, which goes on from this one. Until [`Tally::settle`] takes
+    /// them back, the tally has no bytes.
     #[inline(always)]
     pub fn lend(&mut self) -> Reads<'a>
-        ensures lent { result ≡ record { bytes = self.old.bytes; before = self.old.count; count = 0 } }
+        requires short { self.old.count < 2 ^ 62 }
+        ensures lent { result ≡ self.old }
         ensures bare { self.new ≡ record self.old { bytes = [] } }
     {
-        Reads::over(
-            mem::replace(&mut self.window, Window::over(&[])),
-            self.count,
-        )
+        let window = mem::replace(&mut self.window, Window::over(&[]));
+        Reads::over(window, self.count as u64)
     }
 
     /// Takes bytes back, with the count of all reads that were made of them.
     #[inline(always)]
     pub fn settle(&mut self, reads: Reads<'a>)
-        requires few { reads.before < 2 ^ 100 }
-        ensures { self.new ≡ taken_back reads.entry }
+        ensures { self.new ≡ reads.entry }
     {
         let (window, count) = reads.into_parts();
         self.window = window;
-        self.count = count;
+        self.count = u128::from(count);
     }
 }

@@ -55,7 +55,7 @@ slice_get_end [] x y (suc n) e = absurd (let w : None ≡ Some y = e in cc)
 slice_get_end (z ∷ zs) x y zero e = inl e
 slice_get_end (z ∷ zs) x y (suc n) e = elim (slice_get_end zs x y n e) [ inl a ↦ inl a | inr b ↦ inr (ap suc b.0, b.1) ]
 
-slice_get_below : {X : Type 0} (xs : List X) (x : X) (n : ℕ) → slice_get xs n ≡ Some x → n < length xs
+pub slice_get_below : {X : Type 0} (xs : List X) (x : X) (n : ℕ) → slice_get xs n ≡ Some x → n < length xs
 slice_get_below [] x n e = absurd (let w : None ≡ Some x = e in cc)
 slice_get_below (y ∷ ys) x zero e = omega arith
 slice_get_below (y ∷ ys) x (suc n) e = let w = slice_get_below ys x n e in omega arith

@@ -14,6 +14,7 @@ pub mod PositionLemmas
 pub mod LiveLemmas
 pub mod IndexLemmas
 pub mod PlaceLemmas
+pub mod NextRequired
 pub mod LookLemmas
 pub mod LegalLemmas
 pub mod FindLemmas

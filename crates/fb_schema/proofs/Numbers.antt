@@ -34,6 +34,11 @@ slice_get_some [] i h = absurd (omega arith)
 slice_get_some (x ∷ xs) zero h = (x, refl)
 slice_get_some (x ∷ xs) (suc i) h = slice_get_some xs i (omega arith)
 
+pub slice_get_reads : {X : Type 0} (xs : List X) (i : ℕ) (x : X) → slice_get xs i ≡ Some x → x ≡ get_or xs i x
+slice_get_reads [] i x e = absurd (let w : None ≡ Some x = e in cc)
+slice_get_reads (y ∷ ys) zero x e = let w : y ≡ x = cc in sym w
+slice_get_reads (y ∷ ys) (suc i) x e = slice_get_reads ys i x e
+
 pub get_or_default : {X : Type 0} (xs : List X) (i : ℕ) (d e : X) → i < length xs → get_or xs i d ≡ get_or xs i e
 get_or_default [] i d e h = absurd (omega arith)
 get_or_default (x ∷ xs) zero d e h = refl

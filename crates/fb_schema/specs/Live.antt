@@ -1,5 +1,5 @@
 -- The live fields of a table in rising slot, with what a reader of buffers needs.
-use Rattle.std.specs.Prelude.{◌≡◌, ◌<◌, ◌≤◌, slice_index_or, ℕ, ◌+◌, ◌*◌, ◌-◌, ◌/◌, ℤ, Bool, not, ◌||◌, nat_le, nat_lt, ◌==◌, if◌then◌else◌, List, [], ◌∷◌, filter, length, max, position, slice_get, Option, Some, None, IsSome, option_map}
+use Rattle.std.specs.Prelude.{◌≡◌, ◌<◌, ◌≤◌, slice_index_or, ℕ, ◌+◌, ◌*◌, ◌-◌, ◌/◌, ℤ, Bool, not, ◌||◌, nat_le, nat_lt, ◌==◌, if◌then◌else◌, List, [], ◌∷◌, filter, length, drop, max, position, slice_get, Option, Some, None, IsSome, option_map}
 use Rattle.std.specs.List.{filter_map}
 use Rattle.std.specs.Str.{bytes_eq}
 use Rattle.fb_schema.specs.declared.kinds.Kind.{Kind}
@@ -85,6 +85,14 @@ required_end_of (f ∷ fs) = if f.required || nat_lt 0 (required_end_of fs) then
 -- the same of the live fields of table n
 abbrev pub required_end : Rows → ℕ → ℕ
 required_end rows n = required_end_of (live_fields rows n)
+
+-- the place of the next required one of these fields, at this place or behind it; none where no such field is required
+abbrev pub next_required_of : List Live → ℕ → Option ℕ
+next_required_of fields i = option_map (λ j. i + j) (position (λ f. f.required) (drop i fields))
+
+-- the same of the live fields of table n
+abbrev pub next_required : Rows → ℕ → ℕ → Option ℕ
+next_required rows n i = next_required_of (live_fields rows n) i
 
 abbrev pub widest_of : List Object → ℕ
 widest_of [] = 0

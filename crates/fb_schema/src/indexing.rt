@@ -3,7 +3,7 @@
 ghost use Rattle.std.specs.Prelude.{◌≡◌, ◌<◌, ◌^◌, ◌+◌, map, length, take, IfOk, OnOk, All, vec_len};
 ghost use Rattle.fb_schema.specs.Sorting.{IsOrderOf, name_cmp};
 ghost use Rattle.fb_schema.specs.Rows.{borrowed_rows, member_of_row};
-ghost use Rattle.fb_schema.specs.Index.{view_name, IsLiveIndex, IsMemberIndex};
+ghost use Rattle.fb_schema.specs.Index.{view_name, AreNextRequired, IsLiveIndex, IsMemberIndex};
 ghost use Rattle.fb_schema.specs.Kinds.{kind_of};
 ghost use Rattle.fb_schema.specs.Demands.{IsLegal};
 ghost use Rattle.fb_schema.specs.Live.{live_of_view, required_end_of};
@@ -31,6 +31,23 @@ fn required_end(fields: &[FieldView]) -> u32
         }
     }
     end
+}
+
+/// At each field the place of the next required one, at its place or behind it; how many fields there are where none
+/// is.
+fn next_required<A: Allocator>(alloc: A, fields: &[FieldView]) -> Result<Vec<u32, A>, AllocError>
+    requires { length fields.now < 2 ^ 31 }
+    ensures { IfOk result (λ places. AreNextRequired (map live_of_view fields.now) places.items) }
+{
+    let mut places = vec![in alloc; 0; fields.len()]?;
+    let mut next = fields.len() as u32;
+    for i in (0..fields.len()).rev() {
+        if fields[i].required {
+            next = i as u32;
+        }
+        places[i] = next;
+    }
+    Ok(places)
 }
 
 /// The kinds of members, none for a type that no union holds.
@@ -65,6 +82,8 @@ impl<'n, A: Allocator + Copy> LiveIndex<'n, A> {
         self.names.push(&names)?;
         self.steps.push(&steps)?;
         self.required.push(required_end(&fields))?;
+        let next = next_required(alloc, &fields)?;
+        self.next_required.push(&next)?;
         Ok(())
     }
 }
@@ -102,6 +121,7 @@ pub fn live_index<'n, A: Allocator + Copy>(
         names: Lists::new(alloc),
         steps: Lists::new(alloc),
         required: Vec::new(alloc),
+        next_required: Lists::new(alloc),
         widest: 0,
     };
     for n in 0..rows.objects.len() {

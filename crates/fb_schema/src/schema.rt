@@ -6,7 +6,7 @@ ghost use Rattle.std.specs.Ordering.{int_eq};
 ghost use Rattle.std.specs.Str.{bytes_eq};
 ghost use Rattle.fb_schema.specs.Rows.{AreFew, rows_of, is_table, is_union, table_named, member_of_row};
 ghost use Rattle.fb_schema.specs.Heads.{head_of, head_of_view};
-ghost use Rattle.fb_schema.specs.Live.{live_fields, live_of_view, field_named, required_end, widest};
+ghost use Rattle.fb_schema.specs.Live.{live_fields, live_of_view, field_named, required_end, next_required, widest};
 ghost use Rattle.fb_schema.specs.Members.{member_of, member_named, member_name};
 ghost use Rattle.fb_schema.specs.Demands.{IsLegal, Refuses};
 ghost use Rattle.fb_schema.specs.Served.{IsServed, HaveKinds};
@@ -200,6 +200,20 @@ impl<'n, A: Allocator + Copy> Schema<'n, A> {
         ensures { result ≡ required_end self.now n }
     {
         self.live.required[n as usize]
+    }
+
+    /// The place of the next live field of a table that is required, from place `i` on, none where none is: so fields
+    /// that may be absent are passed at once.
+    #[inline(always)]
+    pub fn next_required(&self, n: u32, i: u32) -> Option<u32>
+        requires { IsTrue (is_table self.now n) }
+        ensures { result ≡ next_required self.now n i }
+    {
+        let places = self.live.next_required.get(n as usize);
+        match places.get(i as usize) {
+            Some(place) if (*place as usize) < places.len() => Some(*place),
+            _ => None,
+        }
     }
 
     /// The kind of the member of a union with this value, none where no member has it. The value 0 is the union without

@@ -1,7 +1,8 @@
 -- What a budget of reads allows.
-use Rattle.std.proofs.Common.{◌≡◌, ℕ, ◌+◌, ◌≤◌, true, false, refl, arith, Option, Some, None}
+use Rattle.std.proofs.Common.{◌≡◌, ◌↔◌, ℕ, ◌+◌, ◌*◌, ◌≤◌, true, false, refl, arith, Option, Some, None}
 use Rattle.std.proofs.lemmas.Bool.Decides.{nat_tests}
-use Rattle.fb_verify.specs.Bounds.{AreAllowed, allowed, AreTooMany}
+use Rattle.fb_verify.specs.Bounds.{AreAllowed, allowed, AreTooMany, lesser_budget}
+use Rattle.fb_verify.specs.Laws.{LengthAllows}
 
 -- fewer reads are allowed too
 pub fewer_reads : (budget : Option ℕ) (m n : ℕ) → m ≤ n → AreAllowed budget n → AreAllowed budget m
@@ -45,3 +46,11 @@ near (Some most) m n h r = omega (arith, h, r)
 pub more_reads : (budget : Option ℕ) (m n : ℕ) → m ≤ n → AreTooMany budget m → AreTooMany budget n
 more_reads None m n l t = t
 more_reads (Some most) m n l t = omega arith
+
+-- the lesser of two budgets allows what both allow
+lesser_allows : (budget : Option ℕ) (fair n : ℕ) → (n ≤ lesser_budget budget fair) ↔ (AreAllowed budget n × (n ≤ fair))
+lesser_allows None fair n = (λ h. (tt, h), λ h. h.1)
+lesser_allows (Some most) fair n = (λ h. (omega (arith, h), omega (arith, h)), λ h. omega (arith, h))
+
+pub length_allows : LengthAllows
+length_allows L per_byte len n = lesser_allows L.reads (per_byte * len + 4096) n

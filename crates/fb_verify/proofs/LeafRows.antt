@@ -21,7 +21,6 @@ use Rattle.fb_verify.specs.Stack.{Origin, IsUnderWay, StopsIn}
 use Rattle.fb_verify.specs.Stops.{lead_reads_failure}
 use Rattle.fb_verify.specs.Told.{refused, stopped}
 use Rattle.fb_verify.proofs.Plains.{after_twice}
-use Rattle.fb_verify.proofs.Passing.{failed_after}
 use Rattle.fb_verify.proofs.Refusals.{told_after, told_first}
 use Rattle.fb_verify.proofs.Stopping.{word_stops}
 use Rattle.fb_verify.proofs.Words.{first_place}
@@ -39,14 +38,14 @@ module _ (c : Checks) (b : List ℕ) (S : Rows) (L : Bounds) (s : Origin) (below
       ∙ ap (λ p. after (m + word.reads) (lead_failure c b p word.lead)) (sym (first_place b S top.row)) ∙ sym (after_twice m word.reads (lead_failure c b word.place word.lead))
 
   -- where it fails
-  pub word_fails : (row : Row) → row ≡ past_first top.row → 0 < (top.row).left → (e : Refusal) → (k m q : ℕ) → r ≡ k + m → after m (element_failure c b word) ≡ Some (refused e q) → (stop : Stop) → stop ≡ record { refusal = e; site = record { object = (top.table).object; field = Some top.number } }
-      → StopsIn c b S L s (below ++ record { table = top.table; next = top.next; number = top.number; row = row } ∷ []) [] (stopped stop (k + q))
-  word_fails row re l e k m q z x stop is =
+  pub word_fails : (row : Row) → row ≡ past_first top.row → 0 < (top.row).left → (e : Refusal) → (m q : ℕ) → r ≡ m → after m (element_failure c b word) ≡ Some (refused e q) → (stop : Stop) → stop ≡ record { refusal = e; site = record { object = (top.table).object; field = Some top.number } }
+      → StopsIn c b S L s (below ++ record { table = top.table; next = top.next; number = top.number; row = row } ∷ []) [] (stopped stop q)
+  word_fails row re l e m q z x stop is =
       let site : Site = record { object = (top.table).object; field = Some top.number } in
-      let told = ap (λ w. after w (element_failure c b word)) z ∙ failed_after k m q e (element_failure c b word) x in
-      let fault = stopped (record { refusal = e; site = site }) (k + q) in
-      subst (λ (y : Stop). StopsIn c b S L s (below ++ record { table = top.table; next = top.next; number = top.number; row = row } ∷ []) [] (stopped y (k + q))) (sym is)
-      (word_stops c b S L s below top n d r h fault row re l (told_first site r (element_failure c b word) (lead_reads_failure L r word word.lead) fault (told_after site r (k + q) (element_failure c b word) e told)))
+      let told = ap (λ w. after w (element_failure c b word)) z ∙ x in
+      let fault = stopped (record { refusal = e; site = site }) q in
+      subst (λ (y : Stop). StopsIn c b S L s (below ++ record { table = top.table; next = top.next; number = top.number; row = row } ∷ []) [] (stopped y q)) (sym is)
+      (word_stops c b S L s below top n d r h fault row re l (told_first site r (element_failure c b word) (lead_reads_failure L r word word.lead) fault (told_after site r q (element_failure c b word) e told)))
 
 -- what is no table is a leaf
 pub is_leaf : (referent : Referent) → ((k : ℕ) → referent ≡ ATable k → ⊥) → IsLeafLead (lead_to referent)

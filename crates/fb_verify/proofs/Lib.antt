@@ -4,6 +4,7 @@ pub mod Chains
 pub mod Unique
 pub mod Overruns
 pub mod OneFault
+pub mod LastLinks
 pub mod Refusals
 pub mod Nones
 pub mod Price
@@ -24,6 +25,7 @@ pub mod Verdicts
 pub mod Prices
 pub mod Shown
 pub mod ShownTests
+pub mod ShownLinks
 pub mod TrueReasons
 pub mod TrueFaults
 pub mod OneVerdict

@@ -45,10 +45,6 @@ use Rattle.fb_verify.proofs.Stopping.{field_stops, stops_in_field}
 use Rattle.fb_verify.proofs.Walking.{goes_on, field_skipped}
 use Rattle.fb_verify.proofs.Words.{row_none}
 
--- a failure that a test tells is told after the reads before it
-pub failed_after : (k m q : ℕ) (e : Refusal) (x : Option Failure) → after m x ≡ Some (refused e q) → after (k + m) x ≡ Some (refused e (k + q))
-failed_after k m q e x h = sym (after_twice k m x) ∙ ap (after k) h
-
 -- a stop is its parts
 stop_is : (s : Stop) (e : Refusal) (object number reads : ℕ) → s.refusal ≡ e → (s.site).object ≡ object → (s.site).field ≡ Some number
     → stopped (record { refusal = e; site = record { object = object; field = Some number } }) reads ≡ stopped s reads
@@ -215,15 +211,15 @@ module _ {w : Walk} {m : Metered} {under : Waiting} {top : Frame} {steps : List 
         plain_passed w.checks b w.schema.now w.limits under.start under.frames top w.tables w.deepest m.count h.walking h.rests found.0 found.1 plain_field q (z ∙ ap (λ x. m.count + plain_reads b table_at x) found.2) cheap (sym chain_is ∙ none)
 
     -- or fails, and the walk stops there
-    pub step_stops : {reason : Reason} → failed ≡ Some reason → (before : ℕ) → m.count ≡ before + k → AreAllowed (w.limits).reads (m.count + 6) → (stop : Stop) → IsStopAt w.schema.now top at reason stop
-        → IsStopped w m under.start under.frames (stopped stop (before + new))
-    step_stops {reason} e before z room stop is =
+    pub step_stops : {reason : Reason} → failed ≡ Some reason → m.count ≡ k → AreAllowed (w.limits).reads (m.count + 6) → (stop : Stop) → IsStopAt w.schema.now top at reason stop
+        → IsStopped w m under.start under.frames (stopped stop new)
+    step_stops {reason} e z room stop is =
         let by : Refusal = record { at = at; reason = reason } in
         let here = sym told ∙ ap (tested_by at new) e in
-        let x = failed_after before k new by (plain_failure w.checks b table_at (step_of found.0)) (ap (after k) (sym chain_is) ∙ here) in
+        let x = ap (after k) (sym chain_is) ∙ here in
         let cheap = fewer_reads (w.limits).reads (m.count + own_reads b table_at found.0) (m.count + 6) (omega (arith, own_few b table_at found.0)) room in
-        subst (λ f. IsStopped w m under.start under.frames f) (stop_is stop by (top.table).object (found.0).number (before + new) is.refusal is.object (is.field found.0 found.1))
-        (plain_stops w.checks b w.schema.now w.limits under.start under.frames top w.tables w.deepest m.count h.walking h.rests found.0 found.1 plain_field cheap by (before + new) (ap (λ x'. after x' (plain_failure w.checks b table_at (step_of found.0))) z ∙ x))
+        subst (λ f. IsStopped w m under.start under.frames f) (stop_is stop by (top.table).object (found.0).number new is.refusal is.object (is.field found.0 found.1))
+        (plain_stops w.checks b w.schema.now w.limits under.start under.frames top w.tables w.deepest m.count h.walking h.rests found.0 found.1 plain_field cheap by new (ap (λ x'. after x' (plain_failure w.checks b table_at (step_of found.0))) z ∙ x))
 
   -- its slot was read, and tells that its field stands there and may lead to a table
   pub at_field : (place : Option ℕ) → place ≡ field_place b table_at step.slot → IfSome place (λ _. IsTrue (has_slot b table_at step.slot)) → IfSome place (λ p. p < 2 ^ 34)

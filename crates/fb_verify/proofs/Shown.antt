@@ -18,7 +18,7 @@ use Rattle.fb_verify.specs.WellFormed.{IsStart}
 use Rattle.fb_verify.specs.Order.{own_failure, element_failure, start_failure, prefix_failure, ident_failure, head_failure, offset_failure, string_failure, vector_failure, inline_failure, table_failure}
 use Rattle.fb_verify.specs.Stops.{fault_at, IsTrail}
 use Rattle.fb_verify.specs.Samples.{published_checks, nodes, unions, every_kind, shared}
-use Rattle.fb_verify.specs.Examples.{MonsterUnfolds, OneMemberUnfolds, TwoMembersUnfold, number, EveryKindUnfolds, last, middle, OpenNameStops, NoNameStops, ThreeValuesStop, CrookedStructStops, SeventhTableStops, ThirdLevelStops, OddVtableStops, ShortTableStops, FirstReadStops, LastTextStops, SeventhHeadStops, LastFieldStops}
+use Rattle.fb_verify.specs.Examples.{MonsterUnfolds, OneMemberUnfolds, TwoMembersUnfold, number, EveryKindUnfolds, last, middle, OpenNameStops, NoNameStops, ThreeValuesStop, CrookedStructStops, SeventhTableStops, ThirdLevelStops, OddVtableStops, ShortTableStops, FirstReadStops, LastTextStops, SeventhHeadStops, LastFieldStops, BudgetsByLength}
 use Rattle.fb_verify.proofs.Chains.{start_none, head_none, own_none, offset_none, string_none, inline_none}
 
 -- all that is computed
@@ -139,3 +139,15 @@ pub last_field_stops : LastFieldStops
 unfolding computing
 last_field_stops =
     (start refl, (_, record { head = head refl; passed = (own _ _ _ _ _ refl, tt, tt); next = refl }, (_, record { own = own _ _ _ _ _ refl; passed = tt; next = refl }, (_, refl, offset refl, (_, record { head = head refl; passed = tt; next = refl }, record { within = record { tables = omega arith; depth = omega arith; reads = omega arith }; first = refl })))))
+
+pub budgets_by_length : BudgetsByLength
+unfolding computing
+budgets_by_length = record {
+  of_none = refl;
+  of_32 = refl;
+  of_2_mebibytes = refl;
+  unbounded = refl;
+  no_read_a_byte = refl;
+  too_many_of_32 = omega arith;
+  allowed_of_64 = omega arith;
+}

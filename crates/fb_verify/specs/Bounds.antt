@@ -1,5 +1,5 @@
 -- What limits are, as contracts see them.
-use Rattle.std.specs.Prelude.{ℕ, ◌≤◌, ◌<◌, Bool, true, nat_le, Option, Some, None}
+use Rattle.std.specs.Prelude.{ℕ, ◌+◌, ◌*◌, ◌≤◌, ◌<◌, min, Bool, true, nat_le, Option, Some, None}
 
 -- how many tables may be open at once, how many may be opened, and, if these are bounded, how many reads may be made
 pub record Bounds : Type 0 where
@@ -26,3 +26,16 @@ AreTooMany (Some most) n = most < n
 abbrev pub most_of : Option ℕ → ℕ
 most_of None = 340282366920938463463374607431768211455
 most_of (Some most) = most
+
+-- how many reads a buffer of so many bytes may take: so many a byte, and 4,096 beside
+abbrev pub reads_of_length : ℕ → ℕ → ℕ
+reads_of_length per_byte len = per_byte * len + 4096
+
+-- the lesser of a budget, if there is one, and this one
+abbrev pub lesser_budget : Option ℕ → ℕ → ℕ
+lesser_budget None n = n
+lesser_budget (Some most) n = min most n
+
+-- these limits for a buffer of so many bytes, which may take so many reads a byte
+abbrev pub limits_of_length : Bounds → ℕ → ℕ → Bounds
+limits_of_length L per_byte len = record L { reads = Some (lesser_budget L.reads (reads_of_length per_byte len)) }

@@ -7,7 +7,7 @@ use Rattle.fb_verify.specs.declared.start.Ident.TheVariants.{Any}
 use Rattle.fb_verify.specs.declared.fault.Fault.{Fault}
 use Rattle.fb_verify.specs.declared.fault.Reason.{Reason}
 use Rattle.fb_verify.specs.declared.fault.Reason.TheVariants.{Misaligned, ZeroOffset, TooDeep, TooManyTables, BadVtable, NoTerminator, LengthsDiffer, PastTable, TooManyReads}
-use Rattle.fb_verify.specs.Bounds.{Bounds}
+use Rattle.fb_verify.specs.Bounds.{Bounds, AreAllowed, AreTooMany, limits_of_length}
 use Rattle.fb_verify.specs.Places.{target}
 use Rattle.fb_verify.specs.Tree.{Tree, node, Kids, no_kids, kid, Elements, no_elements, element, leaf, table, size, depth}
 use Rattle.fb_verify.specs.WellFormed.{IsStart, IsWellFormed, cost}
@@ -135,3 +135,14 @@ OddVtableStops =
 -- where the inline size is checked: the hit points end past it
 abbrev pub ShortTableStops : Type 0
 ShortTableStops = StopsBy (record { alignment = true; inline_size = true }) short_table monsters 0 published_limits (at_field no_kids at_own) (in_field_of 0 0 20 PastTable 5)
+
+-- what buffers may read by 64 reads a byte, within 100 million: the shortest and the longest of these, and one for
+-- which 7,000 reads are too many, where a longer buffer may make them
+pub record BudgetsByLength : Type 0 where
+  pub of_none : limits_of_length (with_reads 100000000) 64 0 ≡ with_reads 4096
+  pub of_32 : limits_of_length (with_reads 100000000) 64 32 ≡ with_reads 6144
+  pub of_2_mebibytes : limits_of_length (with_reads 100000000) 64 2097152 ≡ with_reads 100000000
+  pub unbounded : limits_of_length published_limits 64 32 ≡ with_reads 6144
+  pub no_read_a_byte : limits_of_length published_limits 0 32 ≡ with_reads 4096
+  pub too_many_of_32 : AreTooMany (limits_of_length published_limits 64 32).reads 7000
+  pub allowed_of_64 : AreAllowed (limits_of_length published_limits 64 64).reads 7000

@@ -1,5 +1,5 @@
 -- The laws of the definitions.
-use Rattle.std.specs.Prelude.{◌≡◌, ◌↔◌, ◌⊎◌, ℕ, ◌+◌, ◌<◌, ◌≤◌, List, length, slice_index, None}
+use Rattle.std.specs.Prelude.{◌≡◌, ◌↔◌, ◌⊎◌, ℕ, ◌+◌, ◌*◌, ◌<◌, ◌≤◌, List, length, slice_index, None}
 use Rattle.fb_bytes.specs.Word.{word}
 use Rattle.fb_schema.specs.Rows.{Rows}
 use Rattle.fb_schema.specs.Live.{Live}
@@ -9,7 +9,7 @@ use Rattle.fb_verify.specs.declared.start.Ident.{Ident}
 use Rattle.fb_verify.specs.declared.fault.Reason.TheVariants.{TooDeep, TooManyTables, TooManyReads}
 use Rattle.fb_verify.specs.declared.fault.Fault.{Fault}
 use Rattle.fb_verify.specs.declared.links.Link.{Link}
-use Rattle.fb_verify.specs.Bounds.{Bounds, AreTooMany}
+use Rattle.fb_verify.specs.Bounds.{Bounds, AreAllowed, AreTooMany, limits_of_length}
 use Rattle.fb_verify.specs.Places.{target}
 use Rattle.fb_verify.specs.Facts.{IsTable, IsOffset, IsString, IsVector, IsInline}
 use Rattle.fb_verify.specs.Fields.{IsField, Lead, to_table, to_struct, to_string, to_nothing, Entry}
@@ -100,3 +100,7 @@ CostIsBounded =
 abbrev pub ReadsAreBounded : Type 0
 ReadsAreBounded =
     (c : Checks) (b : List ℕ) (S : Rows) (root : ℕ) (start : Start) (ident : Ident) (L : Bounds) (f : Fault) → Stops c b S root start ident L f → f.reads ≤ most_reads S L (length b)
+
+-- by the limits of a length so many reads are allowed exactly where the limits allow them, and the length does
+abbrev pub LengthAllows : Type 0
+LengthAllows = (L : Bounds) (per_byte len n : ℕ) → AreAllowed (limits_of_length L per_byte len).reads n ↔ (AreAllowed L.reads n × (n ≤ per_byte * len + 4096))

@@ -16,11 +16,13 @@ pub mod MostReads
 pub mod Verdict
 pub mod Sealed
 pub mod Laws
+pub mod LinkLaws
 pub mod TrueReasons
 pub mod Answers
 pub mod Samples
 pub mod Examples
 pub mod Tests
+pub mod LinkExamples
 -- What proofs alone need.
 pub mod OffsetRows
 pub mod Plain

@@ -1,5 +1,5 @@
 -- What it takes to pass fields of the top of a walk, and what that leaves.
-use Rattle.std.specs.Prelude.{◌≡◌, ℕ, ◌+◌, ◌-◌, ◌*◌, ◌<◌, ◌≤◌, Bool, true, false, Result, IfOk, IfErr, length}
+use Rattle.std.specs.Prelude.{◌≡◌, ℕ, ◌+◌, ◌-◌, ◌*◌, ◌^◌, ◌<◌, ◌≤◌, Bool, true, false, Result, IfOk, IfErr, length}
 use Rattle.fb_schema.specs.Rows.{Rows}
 use Rattle.fb_schema.specs.Live.{live_fields}
 use Rattle.fb_bytes.specs.Word.{Metered}
@@ -21,9 +21,10 @@ pub record IsBetween (w : Walk) (m : Metered) (under : Waiting) (top : Frame) : 
 abbrev pub fields_left : Rows → Frame → ℕ
 fields_left S fr = length (live_fields S (fr.table).object) - fr.next
 
--- the budget allows whatever these cost, six reads each
-abbrev pub HasRoom : Walk → Metered → Frame → Type 0
-HasRoom w m top = AreAllowed (w.limits).reads (m.count + 6 * fields_left w.schema.now top)
+-- the budget allows whatever these cost, six reads each, and a count of 64 bits holds it
+pub record HasRoom (w : Walk) (m : Metered) (top : Frame) : Type 0 where
+  pub allowed : AreAllowed (w.limits).reads (m.count + 6 * fields_left w.schema.now top)
+  pub short : m.count + 6 * fields_left w.schema.now top < 2 ^ 56
 
 -- fields of the top were passed that lead on nowhere, and the walk is between two fields again
 pub record HasPassed (w : Walk) (m new : Metered) (under : Waiting) (top past : Frame) : Type 0 where

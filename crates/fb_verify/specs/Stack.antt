@@ -6,7 +6,6 @@ use Rattle.fb_schema.specs.declared.kinds.Kind.TheVariants.{Union, Texts, Tables
 use Rattle.fb_schema.specs.Rows.{Rows, is_table}
 use Rattle.fb_schema.specs.Live.{Live, live_fields}
 use Rattle.fb_schema.specs.Served.{IsServed}
-use Rattle.fb_bytes.specs.Lent.{Lent}
 use Rattle.fb_bytes.specs.Word.{Metered, word}
 use Rattle.fb_verify.specs.declared.checks.Checks.{Checks}
 use Rattle.fb_verify.specs.declared.fault.Fault.{Fault}
@@ -112,10 +111,6 @@ pub record IsUnderWay (c : Checks) (b : List ℕ) (S : Rows) (L : Bounds) (s : O
 -- the same of what a walk carries and of the buffer that it reads
 abbrev pub IsWalking : Walk → Metered → Origin → List Frame → Frame → Type 0
 IsWalking w m s below top = IsUnderWay w.checks m.bytes w.schema.now w.limits s below top w.tables w.deepest m.count
-
--- the same while the buffer is lent, after so many reads before
-abbrev pub IsWalkingBy : Walk → ℕ → Lent → Origin → List Frame → Frame → Type 0
-IsWalkingBy w before l s below top = IsUnderWay w.checks l.bytes w.schema.now w.limits s below top w.tables w.deepest (before + l.count)
 
 -- a walk through these bytes, which came to r reads, where the last one was the slot of the top's next field, which
 -- tells that this stands at a place

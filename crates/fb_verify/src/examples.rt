@@ -1,6 +1,6 @@
 //! Examples of the definitions: each is a clause of a function that does nothing.
 
-ghost use Rattle.fb_verify.specs.Examples.{MonsterUnfolds, OneMemberUnfolds, TwoMembersUnfold, EveryKindUnfolds, OpenNameStops, NoNameStops, ThreeValuesStop, CrookedStructStops, SeventhTableStops, ThirdLevelStops, OddVtableStops, ShortTableStops, FirstReadStops, LastTextStops, SeventhHeadStops, LastFieldStops};
+ghost use Rattle.fb_verify.specs.Examples.{MonsterUnfolds, OneMemberUnfolds, TwoMembersUnfold, EveryKindUnfolds, OpenNameStops, NoNameStops, ThreeValuesStop, CrookedStructStops, SeventhTableStops, ThirdLevelStops, OddVtableStops, ShortTableStops, FirstReadStops, LastTextStops, SeventhHeadStops, LastFieldStops, BudgetsByLength};
 
 /// Buffers with their trees, and the tables, depth and reads of these.
 #[tactic(auto, using(crate::proofs::Shown::monster_unfolds, crate::proofs::Shown::one_member_unfolds, crate::proofs::Shown::two_members_unfold, crate::proofs::Shown::every_kind_unfolds))]
@@ -26,4 +26,10 @@ pub fn faults()
     ensures too_many_reads_in_a_text { LastTextStops }
     ensures too_many_reads_in_a_head { SeventhHeadStops }
     ensures too_many_reads_in_a_field { LastFieldStops }
+{}
+
+/// What buffers of some lengths may read.
+#[tactic(auto, using(crate::proofs::Shown::budgets_by_length))]
+pub fn budgets()
+    ensures { BudgetsByLength }
 {}

@@ -1,6 +1,6 @@
 //! Laws of the definitions: each is the contract of a function that does nothing.
 
-ghost use Rattle.fb_verify.specs.Laws.{StartLaw, HeadLaw, OffsetLaw, StringLaw, VectorLaw, InlineLaw, FieldLaw, ElementLaw, IdentifierLaw, HasOneTree, StopsOnlyAtLimits, StopsOnce, LeadsOneWay, StopsNowhereWithin, CostIsBounded, ReadsAreBounded};
+ghost use Rattle.fb_verify.specs.Laws.{StartLaw, HeadLaw, OffsetLaw, StringLaw, VectorLaw, InlineLaw, FieldLaw, ElementLaw, IdentifierLaw, HasOneTree, StopsOnlyAtLimits, StopsOnce, LeadsOneWay, StopsNowhereWithin, CostIsBounded, ReadsAreBounded, LengthAllows};
 ghost use Rattle.fb_verify.specs.Answers.{HasOneVerdict};
 ghost use Rattle.fb_verify.specs.TrueReasons.{StopsTruly, TablesRunOut};
 
@@ -114,4 +114,10 @@ pub fn stops_truly()
 #[tactic(auto, using(crate::proofs::TrueFaults::tables_run_out))]
 pub fn tables_run_out()
     ensures { TablesRunOut }
+{}
+
+/// The limits of a length allow what both allow, the limits and the length.
+#[tactic(auto, using(crate::proofs::Budgets::length_allows))]
+pub fn length_allows()
+    ensures { LengthAllows }
 {}

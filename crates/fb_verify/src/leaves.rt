@@ -1,12 +1,11 @@
 // The offset words by which a field leads on, passed by reads that are counted in a register.
 
 ghost use Rattle.std.specs.Prelude.{◌≡◌, ◌+◌, ◌*◌, ◌^◌, ◌<◌, ◌≤◌, [], ◌∷◌, ◌++◌, IfOk, IfErr, IfSome, Some, None, true};
-ghost use Rattle.fb_bytes.specs.Lent.{taken_back};
 ghost use Rattle.fb_schema.specs.Served.{IsServed};
 ghost use Rattle.fb_verify.specs.Bounds.{AreAllowed};
 ghost use Rattle.fb_verify.specs.Known.{IsKnown};
 ghost use Rattle.fb_verify.specs.OffsetRows.{lead_to, first_word, past_first, IsReferent, IsRow, AreTypesNear};
-ghost use Rattle.fb_verify.specs.Stack.{Waiting, IsWalking, IsWalkingBy, IsAtTable, IsStoppedBehind};
+ghost use Rattle.fb_verify.specs.Stack.{Waiting, IsWalking, IsAtTable, IsStoppedBehind};
 ghost use Rattle.fb_verify.specs.Told.{stopped};
 
 use crate::element::Child;
@@ -86,13 +85,14 @@ impl Walk<'_, '_> {
     #[inline(always)]
     fn may_pass_words(&self, meter: &Tally<'_>, top: &Frame) -> bool
         requires few { meter.now.count < 2 ^ 96 }
-        ensures { result ≡ true → AreAllowed (self.now.limits).reads (meter.now.count + 4 * (top.now.row).left) }
+        ensures allowed { result ≡ true → AreAllowed (self.now.limits).reads (meter.now.count + 4 * (top.now.row).left) }
+        ensures short { result ≡ true → meter.now.count + 4 * (top.now.row).left < 2 ^ 56 }
     {
         if let Leads::All(Referent::Table(_)) = top.row.leads {
             return false;
         }
         self.limits
-            .allows(meter.reads() + u128::from(4 * u64::from(top.row.left)))
+            .allows_short(meter.reads() + u128::from(4 * u64::from(top.row.left)))
     }
 
     /// Passes offset words that are left of the top table's field, with the strings and structs that they lead to,
@@ -101,18 +101,18 @@ impl Walk<'_, '_> {
     #[inline(always)]
     fn pass_words(&self, reads: &mut Reads<'_>, top: &mut Frame) -> Result<Option<Child>, Stop>
         ghost under: { Waiting }
-        requires walking { IsWalkingBy self.now reads.old.before reads.old under.start under.frames top.old }
-        requires room { AreAllowed (self.now.limits).reads (reads.old.before + reads.old.count + 4 * (top.old.row).left) }
-        requires few { reads.old.count < 2 ^ 40 }
-        ensures walking { IfOk result (λ o. o ≡ None → IsWalkingBy self.now reads.old.before reads.new under.start under.frames top.new) }
-        ensures table { IfOk result (λ o. IfSome o (λ child. IsAtTable self.now reads.new.bytes (reads.old.before + reads.new.count) under.start under.frames top.new (reads.old.before + reads.old.count + 4 * (top.old.row).left) child)) }
+        requires walking { IsWalking self.now reads.old under.start under.frames top.old }
+        requires room { AreAllowed (self.now.limits).reads (reads.old.count + 4 * (top.old.row).left) }
+        requires few { reads.old.count + 4 * (top.old.row).left < 2 ^ 56 }
+        ensures walking { IfOk result (λ o. o ≡ None → IsWalking self.now reads.new under.start under.frames top.new) }
+        ensures table { IfOk result (λ o. IfSome o (λ child. IsAtTable self.now reads.new.bytes reads.new.count under.start under.frames top.new (reads.old.count + 4 * (top.old.row).left) child)) }
         ensures top { IfOk result (λ _. top.new ≡ record top.old { row = top.new.row }) }
         ensures fewer { IfOk result (λ _. (top.new.row).left ≤ (top.old.row).left) }
         ensures none { IfOk result (λ o. o ≡ None → (top.new.row).left ≡ 0) }
         ensures paid { IfOk result (λ o. o ≡ None → reads.new.count ≤ reads.old.count + 4 * (top.old.row).left) }
+        ensures grows { IfOk result (λ _. reads.old.count ≤ reads.new.count) }
         ensures bytes { reads.new.bytes ≡ reads.old.bytes }
-        ensures before { reads.new.before ≡ reads.old.before }
-        ensures err { IfErr result (λ s. IsStoppedBehind self.now (taken_back reads.old) under.start (under.frames ++ top.new ∷ []) (stopped s (reads.old.before + reads.new.count))) }
+        ensures err { IfErr result (λ s. IsStoppedBehind self.now reads.old under.start (under.frames ++ top.new ∷ []) (stopped s reads.new.count)) }
     {
         let checks = self.checks;
         let mut row = top.row;

@@ -13,6 +13,7 @@ mod head;
 pub mod laws;
 mod leaves;
 pub mod limits;
+pub mod link_laws;
 mod links;
 mod most;
 mod offset_row;

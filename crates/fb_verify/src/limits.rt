@@ -1,15 +1,21 @@
 // How deep tables may lie in one another, how many may be opened, and how many reads may be made.
 
-ghost use Rattle.std.specs.Prelude.{◌≡◌, ◌<◌, ◌≤◌, MatchResult, Some, None};
-ghost use Rattle.fb_verify.specs.Bounds.{allowed};
+ghost use Rattle.std.specs.Prelude.{◌≡◌, ◌^◌, ◌<◌, ◌≤◌, MatchResult, Some, None, true};
+ghost use Rattle.fb_verify.specs.Bounds.{AreAllowed, allowed, limits_of_length};
 
 use std::marker::Model;
 
 /// The greatest depth limit.
 const DEEPEST: u32 = 4096;
 
+/// How many reads a buffer may take beside those that its length allows.
+const FREE_READS: u64 = 4096;
+
 /// More reads than any walk makes. In place of a budget, so that with and without one a walk makes the same test.
 const NO_BUDGET: u128 = u128::MAX;
+
+/// Fewer reads than this may be counted in 64 bits: no field or row costs so many that they would be too few.
+const SHORT: u128 = 1 << 56;
 
 /// How many tables may be open at once, 0 to 4,096, how many may be opened in all, and how many reads may be made, if
 /// these are bounded. A table that is visited again counts again, with its reads.
@@ -88,6 +94,21 @@ impl Limits {
         }
     }
 
+    /// These limits for one buffer of so many bytes, which may take no more than `reads_per_byte` counted reads for each
+    /// of them and 4,096 beside. What a builder writes is read about once, and only what is shared is read again, so a
+    /// short buffer can't ask for the time of a long one.
+    pub fn of_length(self, reads_per_byte: u32, length: u64) -> Self
+        requires short { length < 2 ^ 31 }
+        ensures { result ≡ limits_of_length self reads_per_byte length }
+    {
+        let fair = u64::from(reads_per_byte) * length + FREE_READS;
+        let most = match self.reads {
+            Some(most) => most.min(fair),
+            None => fair,
+        };
+        self.with_reads(most)
+    }
+
     /// How many tables may be open at once.
     pub fn depth(&self) -> u32
         ensures value { result ≡ self.now.depth }
@@ -108,6 +129,14 @@ impl Limits {
         ensures { result ≡ self.now.reads }
     {
         self.reads
+    }
+
+    /// Whether so many reads may be made, and a count of 64 bits holds them with room to spare.
+    pub(crate) fn allows_short(&self, reads: u128) -> bool
+        ensures allowed { result ≡ true → AreAllowed self.now.reads reads }
+        ensures short { result ≡ true → reads < 2 ^ 56 }
+    {
+        reads < SHORT && self.allows(reads)
     }
 
     /// Whether so many reads may be made.

@@ -222,7 +222,6 @@ pub fn test_lead(
     ensures near { result ≡ None → (object : ℕ) → referent ≡ ATable object → at.new < 2 ^ 33 }
     ensures counted { result ≡ None → reads.new.count ≡ reads.old.count + lead_reads (lead_to referent) }
     ensures bytes { reads.new.bytes ≡ reads.old.bytes }
-    ensures before { reads.new.before ≡ reads.old.before }
 {
     match referent {
         Referent::Nothing => None,

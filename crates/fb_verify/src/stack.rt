@@ -1,7 +1,6 @@
 // The walk: a loop over the frames of the open tables.
 
 ghost use Rattle.std.specs.Prelude.{◌≡◌, ◌+◌, ◌-◌, ◌*◌, ◌^◌, ◌<◌, ◌≤◌, max, length, List, take, slice_get, slice_index_or, [], ◌∷◌, ◌++◌, IfOk, IfErr, IfSome, MatchOption, IsTrue, Some, None, true, false};
-ghost use Rattle.fb_bytes.specs.Lent.{taken_back};
 ghost use Rattle.fb_schema.specs.Rows.{is_table};
 ghost use Rattle.fb_schema.specs.Live.{Live, live_fields, live_of_view, required_end};
 ghost use Rattle.fb_schema.specs.Served.{IsServed};
@@ -226,7 +225,7 @@ impl<'s, 'n> Walk<'s, 'n> {
     {
         let left = self.schema.field_count(top.table.object) - top.next;
         self.limits
-            .allows(meter.reads() + u128::from(6 * u64::from(left)))
+            .allows_short(meter.reads() + u128::from(6 * u64::from(left)))
     }
 
     /// Where the walk stops at the next field of a table of this object.
@@ -262,12 +261,10 @@ impl<'s, 'n> Walk<'s, 'n> {
         at: &mut u64,
     ) -> Result<bool, Reason>
         ghost under: { Waiting }
-        requires between { IsBetween self.now (taken_back reads.old) under top.old }
-        requires room { HasRoom self.now (taken_back reads.old) top.old }
-        requires few { reads.old.count < 2 ^ 40 }
+        requires between { IsBetween self.now reads.old under top.old }
+        requires room { HasRoom self.now reads.old top.old }
         requires same { checks ≡ self.now.checks }
-        ensures passes { PassesOn self.now (taken_back reads.old) (taken_back reads.new) under top.old top.new at.new result }
-        ensures before { reads.new.before ≡ reads.old.before }
+        ensures { PassesOn self.now reads.old reads.new under top.old top.new at.new result }
     {
         let table = top.table;
         let steps = self.schema.steps_of(table.object);
@@ -309,7 +306,6 @@ impl<'s, 'n> Walk<'s, 'n> {
         ghost under: { Waiting }
         requires between { IsBetween self.now meter.old under top.old }
         requires room { HasRoom self.now meter.old top.old }
-        requires few { meter.old.count < 2 ^ 98 }
         ensures { PassesOn self.now meter.old meter.new under top.old top.new at.new result }
     {
         let mut reads = meter.lend();
@@ -324,7 +320,6 @@ impl<'s, 'n> Walk<'s, 'n> {
         ghost under: { Waiting }
         requires between { IsBetween self.now meter.old under top.old }
         requires room { HasRoom self.now meter.old top.old }
-        requires few { meter.old.count < 2 ^ 98 }
         ensures { PassesOn self.now meter.old meter.new under top.old top.new at.new result }
     {
         let checks = self.checks;

@@ -1,6 +1,7 @@
 // The verdict on a buffer.
 
-ghost use Rattle.std.specs.Prelude.{◌≡◌, ◌+◌, ◌≤◌, length, take, IfOk, IfErr, IsTrue};
+ghost use Rattle.std.specs.Prelude.{◌≡◌, ◌+◌, ◌<◌, ◌≤◌, length, take, IfOk, IfErr, IsTrue};
+ghost use Rattle.fb_bytes.specs.Word.{while_lent};
 ghost use Rattle.fb_schema.specs.Rows.{is_table};
 ghost use Rattle.fb_verify.specs.MostReads.{most_reads};
 ghost use Rattle.fb_verify.specs.Stops.{Stops};
@@ -54,6 +55,7 @@ pub fn walk<A: Allocator>(
     ensures read { IfOk result (λ r. meter.new.count ≡ r.reads) }
     ensures stopped { IfErr result (λ f. meter.new.count ≡ f.reads) }
     ensures bytes { meter.new.bytes ≡ meter.old.bytes }
+    ensures settled { meter.new.count < while_lent }
     ensures scratch { scratch.new ≡ scratch.old }
 {
     let mut tally = meter.lend();

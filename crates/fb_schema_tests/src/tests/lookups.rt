@@ -92,6 +92,31 @@ const REQUIRED: &str =
     Gone table: a@4 int, b@6 string required, c@8 string required gone, d@10 int; \
     AllGone table: a@4 string required gone, b@6 int";
 
+/// Asserts which field of a table is the next required one, from each place on to one behind the last.
+fn next_required_are(rt: &impl Abort, schema: &Schema, n: u32, want: &[Option<u32>]) {
+    assert!(rt; schema.is_table(n));
+    for (i, place) in want.iter().enumerate() {
+        let i = i.min(65_535) as u32;
+        assert_eq!(rt;
+            schema.next_required(n, i),
+            *place,
+            "table {n}, from {i} on"
+        );
+    }
+}
+
+#[test]
+fn the_next_required_field_is_found_among_those_that_are_live(rt: HostRuntime) -> Result<(), Fail> {
+    let schema = schema_of(rt.alloc(), REQUIRED)?;
+    next_required_are(&rt, &schema, 0, &[None]);
+    next_required_are(&rt, &schema, 1, &[None, None, None]);
+    next_required_are(&rt, &schema, 2, &[Some(0), None, None]);
+    next_required_are(&rt, &schema, 3, &[Some(0), Some(2), Some(2), None]);
+    next_required_are(&rt, &schema, 4, &[Some(1), Some(1), None, None]);
+    next_required_are(&rt, &schema, 5, &[None, None]);
+    Ok(())
+}
+
 /// Asserts that the required fields of a table end here.
 fn required_end_is(rt: &impl Abort, schema: &Schema, n: u32, want: u32) {
     assert!(rt; schema.is_table(n));

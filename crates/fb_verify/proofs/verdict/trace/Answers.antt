@@ -34,7 +34,7 @@ tells c =
     let a = c.args in
     let ran = c.in_ok-run.ensures in
     reports a.checks a.meter.now.bytes a.schema.now a.root a.start a.ident a.limits c.in-Ok.at c.read_start.new.meter.count c.run.new.self.tables c.run.new.self.deepest c.run.new.meter.count
-    c.reads.result c.in-Ok.ensures.ok c.in-Ok.ensures.value (omega (arith, c.requires.fresh, ap (λ m. m.count) c.in-Ok.ensures.counted)) (rw (ap (λ m. m.bytes) c.in-Ok.ensures.counted) at ran.ok) ran.within ran.shallow ran.reads c.reads.ensures
+    c.reads.result c.in-Ok.ensures.ok c.in-Ok.ensures.value (omega (arith, c.requires.fresh, ap (λ m. m.count) c.in-Ok.ensures.counted)) (rw (ap (λ m. m.bytes) c.in-Ok.ensures.counted) at ran.ok) ran.within ran.shallow ran.reads c.reads.ensures.count
 
 pub returns-in-Err-clause-along : goal.returns-in-Err-clause-along
 returns-in-Err-clause-along c = rw c.halt.ensures (fails_at_start (goal.at.returns-in-Err-clause-along c).In-Err)
@@ -58,4 +58,4 @@ pub returns-clause-yes : goal.returns-clause-yes
 returns-clause-yes c = tells (goal.at.returns-clause-yes c).After-reads
 
 pub returns-clause-price : goal.returns-clause-price
-returns-clause-price c = omega (arith, price_of_yes (tells (goal.at.returns-clause-price c).After-reads), c.reads.ensures)
+returns-clause-price c = omega (arith, price_of_yes (tells (goal.at.returns-clause-price c).After-reads), c.reads.ensures.count)

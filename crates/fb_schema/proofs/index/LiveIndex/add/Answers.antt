@@ -1,12 +1,12 @@
 use Rattle.std.proofs.Common.{◌<◌, slice_index_or, ◌≡◌, slice_get, [], filter, if◌then◌else◌, Some, map, length, sym, ap, subst, ◌∙◌, arith, rules}
 use Rattle.std.proofs.lemmas.List.{length-map}
-use Rattle.fb_schema.specs.Index.{view_name}
+use Rattle.fb_schema.specs.Index.{view_name, AreNextRequired}
 use Rattle.fb_schema.specs.FlatLists.{lists_of}
 use Rattle.fb_schema.specs.Live.{required_end_of, live_in, live_of_view, by_slot, is_live, AreKinded, AreSpaced}
 use Rattle.fb_schema.specs.Sorting.{IsOrderOf, name_cmp}
 use Rattle.fb_schema.specs.Rows.{Object, borrowed_rows, object_of}
 use Rattle.fb_schema.specs.Steps.{step_of}
-use Rattle.fb_schema.proofs.IndexLemmas.{legal_slots, matched_pushed, lists_step, value_step, widest_step, kept_read, mapped_read, mapped_twice}
+use Rattle.fb_schema.proofs.IndexLemmas.{legal_slots, matched_pushed, matched_step, lists_step, value_step, widest_step, kept_read, mapped_read, mapped_twice}
 use Rattle.fb_schema.proofs.Kinded.{rows_kinded, live_long}
 use Rattle.fb_schema.proofs.TypedLemmas.{rows_spaced}
 use Rattle.fb_schema.proofs.index.LiveIndex.add.Goals as goal
@@ -67,6 +67,9 @@ returns g c =
           ∙ ap (λ fields. map step_of (map live_of_view fields)) c.deref-2.ensures.value ∙ ap (map step_of) c.in_ok-fields.ensures.value);
       required = value_step (λ o. required_end_of (live_in rows (Some o))) (map object_of objects) i o c.args.self.now.required.items _ c.required_end.result low is c.requires.before.required c.in_ok-push-4.ensures.items
           (c.required_end.ensures ∙ ap (λ fields. required_end_of (map live_of_view fields)) c.deref-6.ensures.value ∙ ap required_end_of c.in_ok-fields.ensures.value);
+      next_required = matched_step (λ o places. AreNextRequired (live_in rows (Some o)) places) (map object_of objects) i o (lists_of c.args.self.now.next_required) _ c.deref-8.result.now low is c.requires.before.next_required c.in_ok-push-5.ensures
+          (subst (λ fields. AreNextRequired fields c.deref-8.result.now) (ap (map live_of_view) c.deref-7.ensures.value ∙ c.in_ok-fields.ensures.value)
+          (subst (AreNextRequired (map live_of_view c.deref-7.result.now)) (sym c.deref-8.ensures.value) c.in_ok-next.ensures));
       widest = widest_step (map object_of objects) i o c.args.self.now.widest c.max-self.result c.len.result low is c.requires.before.widest c.max-self.ensures
           (c.len.ensures ∙ c.in_ok-fields.fields.ok.0 ∙ sym (length-map views live_of_view) ∙ ap length c.in_ok-fields.ensures.value
           ∙ live_long rows c.requires.legal i o (object_there g (goal.at.returns g c).After-index-rows-n));

@@ -138,5 +138,8 @@ loop-reason-preserved g c =
     let few = own_few c.pass_on.new.meter.bytes (c.pass_on.new.top.table).at (live_of_view c.in-Some.field.now) in
     record {
       passed = rw (e.counted, none.1) (next_over (here g d) e.ok refl (rw e.counted at e.reads) (falls g d) (least g d) (p.bytes ∙ (i.passed).bytes) (ap (λ x. x.table) p.same ∙ (i.passed).table) none.0);
-      room = fewer_reads (c.args.self.now.limits).reads _ _ (omega (arith, (rw c.in-Ok-true.is at p.paid), count, few, o.within, o.count, long)) i.room;
+      room = record {
+        allowed = fewer_reads (c.args.self.now.limits).reads _ _ (omega (arith, (rw c.in-Ok-true.is at p.paid), count, few, o.within, o.count, long)) (i.room).allowed;
+        short = omega (arith, (rw c.in-Ok-true.is at p.paid), count, few, o.within, o.count, long, (i.room).short);
+      };
     }

@@ -1,7 +1,6 @@
-use Rattle.std.proofs.Math.Nat.{add-zero}
 use Rattle.fb_verify.proofs.stack.Walk.pass_on_by_checks.Goals as goal
 
 pub returns : goal.returns
 returns g c =
     let answer = c.pass_plain-answer.ensures in
-    rw c.settle.ensures (rw (c.lend-reads.ensures.lent, add-zero) at answer.passes)
+    rw c.settle.ensures (rw c.lend-reads.ensures.lent at answer)

@@ -1,6 +1,5 @@
 use Rattle.std.proofs.Common.{◌≡◌, ◌+◌, ◌*◌, ◌<◌, length, slice_get, None, refl, sym, ◌∙◌, ap, arith}
 use Rattle.std.proofs.lemmas.List.{length-map}
-use Rattle.fb_bytes.specs.Lent.{taken_back}
 use Rattle.fb_schema.specs.declared.views.Act.TheVariants.{Other}
 use Rattle.fb_schema.specs.Live.{live_fields}
 use Rattle.fb_schema.specs.Steps.{step_of}
@@ -22,18 +21,18 @@ abbrev top_at : (g : _) → In-Some g → Frame
 top_at g c = record c.args.top.now { next = c.loop-step.next }
 
 -- the step that comes
-here : (g : _) (c : In-Some g) → AtStep c.args.self.now (taken_back c.loop-step.reads) g.under (top_at g c) c.steps_of-steps.result.now c.in-Some.step.now
+here : (g : _) (c : In-Some g) → AtStep c.args.self.now c.loop-step.reads g.under (top_at g c) c.steps_of-steps.result.now c.in-Some.step.now
 here g c = record { walking = ((c.loop-step.invariant).between).walking; rests = ((c.loop-step.invariant).between).rests; all = c.steps_of-steps.ensures.value; got = item_some _ _ _ _ c.get.ensures.lookup c.in-Some.is }
 
-pub returns-then-others_are_absent-clause-passes : goal.returns-then-others_are_absent-clause-passes
-returns-then-others_are_absent-clause-passes g c =
-    let d = (goal.at.returns-then-others_are_absent-clause-passes g c).In-Some in
+pub returns-then-others_are_absent : goal.returns-then-others_are_absent
+returns-then-others_are_absent g c =
+    let d = (goal.at.returns-then-others_are_absent g c).In-Some in
     let s = here g d in
     let i = c.loop-step.invariant in
     let ends = c.if-others_are_absent.true in
     let all = long s in
     let past : vtable_size c.loop-step.reads.bytes (c.args.top.now.table).at < (c.in-Some.step.now).slot + 2 = omega (arith, c.others_are_absent.ensures.past ends, (((((i.between).walking).frame).head).vtable).size) in
-    rw i.same (none_left refl (rest_passed s past (c.others_are_absent.ensures.free ends)) (omega (arith, i.forth, all, next_within s)) (omega (arith, all)) (omega (arith, all)) (omega (arith, i.paid, all, i.before)) (omega (arith, i.grows, i.before)) i.bytes)
+    rw i.same (none_left refl (rest_passed s past (c.others_are_absent.ensures.free ends)) (omega (arith, i.forth, all, next_within s)) (omega (arith, all)) (omega (arith, all)) (omega (arith, i.paid, all)) (omega (arith, i.grows)) i.bytes)
 
 pub test_at-failed-requires-clause-step : goal.test_at-failed-requires-clause-step
 test_at-failed-requires-clause-step g c =
@@ -53,23 +52,22 @@ told g c =
     let w = c.args.self.now in
     let slot = c.slot_at-place.ensures in
     plain_told w.checks c.loop-step.reads.bytes (c.args.top.now.table).at c.loop-step.reads.count c.slot_at-place.new.reads.count c.test_at-failed.new.reads.count c.in-Some.step.now (place_from (c.args.top.now.table).at c.slot_at-place.result) slot.value (ap (λ m. m.count) slot.counted) _
-    (rw (ap (λ m. m.bytes) slot.counted, c.requires.1.1.1) at c.test_at-failed.ensures.told)
+    (rw (ap (λ m. m.bytes) slot.counted, c.requires.1.1) at c.test_at-failed.ensures.told)
 
-pub returns-in-Some-failed-clause-passes : goal.returns-in-Some-failed-clause-passes
-returns-in-Some-failed-clause-passes g c =
-    let d = (goal.at.returns-in-Some-failed-clause-passes g c).After-test_at-failed in
-    let e = (goal.at.returns-in-Some-failed-clause-passes g c).In-Some in
+pub returns-in-Some-failed : goal.returns-in-Some-failed
+returns-in-Some-failed g c =
+    let d = (goal.at.returns-in-Some-failed g c).After-test_at-failed in
+    let e = (goal.at.returns-in-Some-failed g c).In-Some in
     let s = here g e in
     let i = c.loop-step.invariant in
     let w = c.args.self.now in
     let slot = c.slot_at-place.ensures in
     let bytes = c.test_at-failed.ensures.bytes ∙ ap (λ m. m.bytes) slot.counted ∙ i.bytes in
-    let before = c.test_at-failed.ensures.before ∙ ap (λ m. m.before) slot.counted in
     let failed = c.in-Some-failed.is in
     let within = next_within s in
     let grows = told_grows _ (rw failed at (told g d)) in
-    let room = fewer_reads (w.limits).reads (c.loop-step.reads.before + c.loop-step.reads.count + 6) (c.args.reads.now.before + c.args.reads.now.count + 6 * fields_left w.schema.now c.args.top.now) (omega (arith, i.paid, within, i.before)) c.requires.1.0 in
-    rw (before, i.same) (record {
+    let room = fewer_reads (w.limits).reads (c.loop-step.reads.count + 6) (c.args.reads.now.count + 6 * fields_left w.schema.now c.args.top.now) (omega (arith, i.paid, within)) (c.requires.1.0).allowed in
+    rw i.same (record {
       walking = tt;
       field = tt;
       same = refl;
@@ -78,22 +76,22 @@ returns-in-Some-failed-clause-passes g c =
       all = tt;
       ends = tt;
       paid = tt;
-      grows = omega (arith, grows, i.grows, i.before);
+      grows = omega (arith, grows, i.grows);
       bytes = bytes;
       next = omega (arith, within);
-      err = λ stop is. rw i.bytes at (step_stops s (plain g d) _ _ _ _ (told g d) failed c.loop-step.reads.before refl room stop is);
+      err = λ stop is. rw i.bytes at (step_stops s (plain g d) _ _ _ _ (told g d) failed refl room stop is);
     })
 
-pub returns-then-leads_on-clause-passes : goal.returns-then-leads_on-clause-passes
-returns-then-leads_on-clause-passes g c =
-    let s = here g (goal.at.returns-then-leads_on-clause-passes g c).In-Some in
+pub returns-then-leads_on : goal.returns-then-leads_on
+returns-then-leads_on g c =
+    let s = here g (goal.at.returns-then-leads_on g c).In-Some in
     let i = c.loop-step.invariant in
     let t = (c.args.top.now.table).at in
     let slot = c.slot_at-place.ensures in
     let within = next_within s in
     let few = slot_few c.loop-step.reads.bytes t (c.in-Some.step.now).slot in
     let place = place_from t c.slot_at-place.result in
-    let at = at_field s place slot.value slot.within (place_near t c.slot_at-place.result _ slot.near) (c.loop-step.reads.before + (c.loop-step.reads.count + slot_reads c.loop-step.reads.bytes t (c.in-Some.step.now).slot)) (omega arith) in
+    let at = at_field s place slot.value slot.within (place_near t c.slot_at-place.result _ slot.near) (c.loop-step.reads.count + slot_reads c.loop-step.reads.bytes t (c.in-Some.step.now).slot) (omega arith) in
     rw (slot.counted, i.same) (record {
       walking = λ e. absurd cc;
       field = λ _. rw (c.leads_on.ensures.there c.if-leads_on.true) at at;
@@ -102,19 +100,19 @@ returns-then-leads_on-clause-passes g c =
       within = omega (arith, within);
       all = λ e. absurd cc;
       ends = λ e. absurd cc;
-      paid = omega (arith, i.paid, few, i.before);
-      grows = omega (arith, i.grows, i.before);
+      paid = omega (arith, i.paid, few);
+      grows = omega (arith, i.grows);
       bytes = i.bytes;
       next = tt;
       err = tt;
     })
 
-pub returns-clause-passes : goal.returns-clause-passes
-returns-clause-passes g c =
+pub returns : goal.returns
+returns g c =
     let i = c.loop-step.invariant in
     let past = item_none _ _ _ c.get.ensures.lookup c.in_default.is in
     let long = ap length c.steps_of-steps.ensures.value ∙ length-map (live_fields c.args.self.now.schema.now (c.args.top.now.table).object) step_of in
-    rw i.same (none_left refl (i.between).walking i.forth (((i.between).walking).frame).next (omega (arith, past, long)) (omega (arith, i.paid, i.before)) (omega (arith, i.grows, i.before)) i.bytes)
+    rw i.same (none_left refl (i.between).walking i.forth (((i.between).walking).frame).next (omega (arith, past, long)) (omega (arith, i.paid)) (omega (arith, i.grows)) i.bytes)
 
 pub loop-step-preserved : goal.loop-step-preserved
 loop-step-preserved g c =
@@ -131,14 +129,12 @@ loop-step-preserved g c =
     let few = plain_few b t step in
     let within = next_within s in
     let kept = c.test_at-failed.ensures.bytes ∙ ap (λ m. m.bytes) slot.counted in
-    let before = c.test_at-failed.ensures.before ∙ ap (λ m. m.before) slot.counted in
-    let cheap = fewer_reads (w.limits).reads (c.loop-step.reads.before + c.test_at-failed.new.reads.count) (c.args.reads.now.before + c.args.reads.now.count + 6 * fields_left w.schema.now c.args.top.now) (omega (arith, counted, few, i.paid, within, i.before)) c.requires.1.0 in
+    let cheap = fewer_reads (w.limits).reads c.test_at-failed.new.reads.count (c.args.reads.now.count + 6 * fields_left w.schema.now c.args.top.now) (omega (arith, counted, few, i.paid, within)) (c.requires.1.0).allowed in
     record {
       bytes = kept ∙ i.bytes;
-      before = before ∙ i.before;
       same = i.same;
       forth = omega (arith, i.forth);
       grows = omega (arith, counted, i.grows);
-      between = record { walking = rw (kept, before) (step_passed s (plain g d) _ _ _ _ (told g d) none (c.loop-step.reads.before + c.test_at-failed.new.reads.count) (omega (arith, counted)) cheap); rests = (i.between).rests };
+      between = record { walking = rw kept (step_passed s (plain g d) _ _ _ _ (told g d) none c.test_at-failed.new.reads.count (omega (arith, counted)) cheap); rests = (i.between).rests };
       paid = omega (arith, counted, few, i.paid, within);
     }

@@ -1,5 +1,4 @@
 use Rattle.std.proofs.Common.{◌≡◌, ◌+◌, ◌-◌, ◌*◌, ◌≤◌, length}
-use Rattle.fb_bytes.specs.Lent.{taken_back}
 use Rattle.fb_verify.specs.PassesOn.{IsBetween, fields_left}
 use Rattle.fb_verify.proofs.stack.Walk.pass_plain.Given as goal
 
@@ -7,11 +6,10 @@ use Rattle.fb_verify.proofs.stack.Walk.pass_plain.Given as goal
 abbrev pub invariant-loop-step : goal.invariant-loop-step
 invariant-loop-step g l = record {
   bytes : l.reads.bytes ≡ l.fn.reads.bytes;
-  before : l.reads.before ≡ l.fn.reads.before;
   same : l.top ≡ l.fn.top;
   forth : l.fn.top.next ≤ l.next;
   grows : l.fn.reads.count ≤ l.reads.count;
-  between : IsBetween l.self (taken_back l.reads) g.under (record l.fn.top { next = l.next });
+  between : IsBetween l.self l.reads g.under (record l.fn.top { next = l.next });
   paid : l.reads.count + 6 * fields_left l.self.schema.now (record l.fn.top { next = l.next }) ≤ l.fn.reads.count + 6 * fields_left l.self.schema.now l.fn.top;
 }
 

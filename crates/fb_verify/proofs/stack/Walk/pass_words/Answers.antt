@@ -31,7 +31,7 @@ told : (g : _) (c : After-test_lead-failed g)
 told g c =
     let w = c.args.self.now in
     let first = c.first_referent-referent.ensures in
-    word_told w.checks c.loop-row.reads.bytes w.schema.now w.limits (g.under).start (g.under).frames (top_at g c) w.tables w.deepest (c.args.reads.now.before + c.loop-row.reads.count) (c.loop-row.invariant).walking (lead_to c.first_referent-referent.result) first.lead
+    word_told w.checks c.loop-row.reads.bytes w.schema.now w.limits (g.under).start (g.under).frames (top_at g c) w.tables w.deepest c.loop-row.reads.count (c.loop-row.invariant).walking (lead_to c.first_referent-referent.result) first.lead
     c.loop-row.reads.count c.first_referent-referent.new.reads.count (ap (λ x. x.count) first.counted) _ (rw (ap (λ x. x.bytes) first.counted) at c.test_lead-failed.ensures.told)
 
 -- where it tells nothing, the word holds
@@ -56,7 +56,7 @@ returns-in-Some-clause-err g c =
     let i = c.loop-row.invariant in
     let w = c.args.self.now in
     rw (c.stop_at_word.ensures.past, i.same) (rw i.bytes at
-    (word_fails w.checks c.loop-row.reads.bytes w.schema.now w.limits (g.under).start (g.under).frames (top_at g d) w.tables w.deepest (c.args.reads.now.before + c.loop-row.reads.count) i.walking (past_first c.loop-row.row) refl c.loop-row-test.true (record { at = c.test_lead-failed.new.at; reason = c.in-Some.reason }) c.args.reads.now.before c.loop-row.reads.count c.test_lead-failed.new.reads.count refl
+    (word_fails w.checks c.loop-row.reads.bytes w.schema.now w.limits (g.under).start (g.under).frames (top_at g d) w.tables w.deepest c.loop-row.reads.count i.walking (past_first c.loop-row.row) refl c.loop-row-test.true (record { at = c.test_lead-failed.new.at; reason = c.in-Some.reason }) c.loop-row.reads.count c.test_lead-failed.new.reads.count refl
     (sym (told g d) ∙ ap (tested_by c.test_lead-failed.new.at c.test_lead-failed.new.reads.count) c.in-Some.is) c.stop_at_word.result (rw i.same at c.stop_at_word.ensures.stop)))
 
 pub returns-in-Table-clause-table : goal.returns-in-Table-clause-table
@@ -67,7 +67,7 @@ returns-in-Table-clause-table g c =
     let none = c.in_default.is in
     rw (kept g d, i.same)
     (record {
-      before = c.args.reads.now.before + c.loop-row.reads.count;
+      before = c.loop-row.reads.count;
       count = omega (arith, paid g d none);
       walking = i.walking;
       more = c.loop-row-test.true;
@@ -91,17 +91,17 @@ loop-row-preserved g c =
     let few = first_few b w.schema.now c.loop-row.row in
     let more = c.loop-row-test.true in
     let left = ap (λ (x : Row). x.left) c.advance.ensures in
-    let q = c.args.reads.now.before + c.test_lead-failed.new.reads.count in
+    let q = c.test_lead-failed.new.reads.count in
     let leaf = subst (λ x. IsLeafLead x) first.lead (is_leaf c.first_referent-referent.result (λ k e. c.in_default-referent.not-Table k e)) in
-    let cheap = fewer_reads (w.limits).reads q (c.args.reads.now.before + c.args.reads.now.count + 4 * (c.args.top.now.row).left) (omega (arith, cost, few, i.paid, more)) c.requires.1.0 in
+    let cheap = fewer_reads (w.limits).reads q (c.args.reads.now.count + 4 * (c.args.top.now.row).left) (omega (arith, cost, few, i.paid, more)) c.requires.1.0 in
     record {
       bytes = kept g d ∙ i.bytes;
-      before = c.test_lead-failed.ensures.before ∙ ap (λ x. x.before) first.counted ∙ i.before;
       same = i.same;
+      grows = omega (arith, cost, i.grows);
       fewer = omega (arith, i.fewer, left);
       walking =
           rw (kept g d)
-          (leaf_passed w.checks b w.schema.now w.limits (g.under).start (g.under).frames (top_at g d) w.tables w.deepest (c.args.reads.now.before + c.loop-row.reads.count) i.walking c.advance.new.self q c.advance.ensures more (holds g d none) (omega (arith, cost)) leaf cheap);
+          (leaf_passed w.checks b w.schema.now w.limits (g.under).start (g.under).frames (top_at g d) w.tables w.deepest c.loop-row.reads.count i.walking c.advance.new.self q c.advance.ensures more (holds g d none) (omega (arith, cost)) leaf cheap);
       known = rw (ap (λ (x : Row). x.leads) c.advance.ensures) (known_on w.schema.now (c.loop-row.row).leads c.first_referent-referent.new.known first.known);
       paid = omega (arith, cost, few, i.paid, more, left);
     }
