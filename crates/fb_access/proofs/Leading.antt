@@ -9,7 +9,7 @@ use Rattle.fb_verify.specs.Places.{target}
 use Rattle.fb_verify.specs.Fields.{Lead, to_table, to_struct, to_string, to_nothing, lead_of, Entry, entry, row, union_row}
 use Rattle.fb_verify.specs.Tree.{Elements, no_elements, element, Element, leaf, table}
 use Rattle.fb_verify.specs.Unfolds.{ElementsUnfold, ElementUnfolds}
-use Rattle.fb_access.specs.Held.{IsTableAt, IsCounted, IsLed, AreLed}
+use Rattle.fb_access.specs.Held.{IsTableAt, IsTextAt, IsLed, AreLed}
 
 module _ (c : Checks) (b : List ℕ) (S : Rows) where
   -- each element of a row unfolds
@@ -52,9 +52,16 @@ module _ (c : Checks) (b : List ℕ) (S : Rows) where
   table_found leaf p k o u = absurd u
   table_found (table y) p k o u = (u.0.within, record { object = o; checks = c; found = y; unfolds = u.1 })
 
-  string_found : (y : Element) (p : ℕ) → ElementUnfolds y c b S p to_string → (p + 4 ≤ length b) × IsCounted b (target b p) 1
+  string_found : (y : Element) (p : ℕ) → ElementUnfolds y c b S p to_string → (p + 4 ≤ length b) × IsTextAt b (target b p)
   unfolding ElementUnfolds
-  string_found leaf p u = (u.0.within, record { count = u.1.count; within = omega (arith, u.1.within) })
+  string_found leaf p u = (
+    u.0.within,
+    record {
+      counted = record { count = u.1.count; within = omega (arith, u.1.within) };
+      ends = omega (arith, u.1.within);
+      terminated = u.1.terminated;
+    },
+  )
   string_found (table y) p u = absurd u
 
   struct_found : (y : Element) (p size align : ℕ) → ElementUnfolds y c b S p (to_struct size align) → (p + 4 ≤ length b) × (target b p + size ≤ length b)
@@ -67,7 +74,7 @@ module _ (b : List ℕ) (S : Rows) (p : ℕ) where
   pub led_to_table : (k : ℕ) → IsTrue (is_table S k) → IsLed b S p (to_table k) → (p + 4 ≤ length b) × IsTableAt b S k (target b p)
   led_to_table k o h = table_found h.checks b S h.found p k o h.unfolds
 
-  pub led_to_string : IsLed b S p to_string → (p + 4 ≤ length b) × IsCounted b (target b p) 1
+  pub led_to_string : IsLed b S p to_string → (p + 4 ≤ length b) × IsTextAt b (target b p)
   led_to_string h = string_found h.checks b S h.found p h.unfolds
 
   pub led_to_struct : (size align : ℕ) → IsLed b S p (to_struct size align) → (p + 4 ≤ length b) × (target b p + size ≤ length b)

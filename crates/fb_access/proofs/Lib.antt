@@ -31,3 +31,5 @@ pub mod ShownTree
 pub mod ShownPaths
 pub mod ShownLocations
 pub mod Ways
+pub mod UniqueNames
+pub mod Arriving

@@ -31,16 +31,16 @@ and_false : (a b : Bool) → (not a && b) ≡ false → a ≡ false → b ≡ fa
 and_false true b h e = absurd (false≢true (sym e))
 and_false false b h e = h
 
-first : (a b : Bool) → (a && b) ≡ true → a ≡ true
+pub first : (a b : Bool) → (a && b) ≡ true → a ≡ true
 first true b h = refl
 first false b h = h
 
-both : (a b : Bool) → a ≡ true → b ≡ true → (a && b) ≡ true
+pub both : (a b : Bool) → a ≡ true → b ≡ true → (a && b) ≡ true
 both true b e h = h
 both false b e h = e
 
 -- Values.
-real_not_zero : (z : ℤ) → is_member_value z ≡ true → int_eq z (pos 0) ≡ false
+pub real_not_zero : (z : ℤ) → is_member_value z ≡ true → int_eq z (pos 0) ≡ false
 real_not_zero z h = go (int_eq z (pos 0)) refl where
   zero_not_real : (z : ℤ) → z ≡ pos 0 → is_member_value z ≡ true → ⊥
   zero_not_real z e h = false≢true (ap is_member_value (sym e) ∙ h)
@@ -62,15 +62,26 @@ module _ (rows : Rows) (e : ℕ) (row : Enum) (at : slice_get rows.enums e ≡ S
   members_are : members_of rows e ≡ filter (λ m. is_member_value m.value) row.members
   members_are = ap members_in at ∙ chosen row.is_union (filter (λ m. is_member_value m.value) row.members) [] union
 
-  found_among : (p : Member → Bool) → find p (members_of rows e) ≡ find (λ m. is_member_value m.value && p m) row.members
+  pub found_among : (p : Member → Bool) → find p (members_of rows e) ≡ find (λ m. is_member_value m.value && p m) row.members
   found_among p = ap (find p) members_are ∙ find_filter p (λ m. is_member_value m.value) row.members
 
-  clear : IsLegal rows → (q : ℕ) → first_code (members_asked rows row.members q) ≡ None
+  pub clear : IsLegal rows → (q : ℕ) → first_code (members_asked rows row.members q) ≡ None
   clear legal q = sym (ap first_code (ap (demands_of_enum rows (suc q)) at ∙ chosen row.is_union (members_asked rows row.members q) [] union)) ∙ legal_clear rows legal 1 e (suc q)
 
 -- a member of this kind is there, where what holds of members holds of it
 abbrev pub IsKept : Rows → Kind → Type 0
 IsKept rows kind = MemberHolds rows (Some kind) → IsThere rows kind
+
+-- a member is a table, a struct or a text
+abbrev pub IsOfMember : Kind → Type 0
+IsOfMember (Table n) = Unit {0}
+IsOfMember (Struct n) = Unit {0}
+IsOfMember Text = Unit {0}
+IsOfMember _ = ⊥
+
+object_fits : (n : ℕ) (b : Bool) → IsOfMember (if b then Struct n else Table n)
+object_fits n true = tt
+object_fits n false = tt
 
 object_kept : (rows : Rows) (n : ℕ) (b : Bool) → IsKept rows (if b then Struct n else Table n)
 object_kept rows n true h = tt
@@ -80,6 +91,7 @@ object_kept rows n false h = h
 record HasKind (rows : Rows) (kind : Option Kind) : Type 0 where
   is : Kind
   kept : IsKept rows is
+  fits : IsOfMember is
   has : kind ≡ Some is
 
 -- the type of a member is an object that is there, or a text
@@ -87,9 +99,9 @@ kind_of_shape : (rows : Rows) (index : ℤ) (s : Option Shape) → is_for_member
 kind_of_shape rows (pos n) (Some (One OfObject)) h e = go (slice_get rows.objects n) e where
   go : (o : Option Object) → is_none o ≡ false → HasKind rows (object_kind (pos n) Struct Table o)
   go None e = absurd (false≢true (sym e))
-  go (Some o) e = record { is = if o.is_struct then Struct n else Table n; kept = object_kept rows n o.is_struct; has = refl }
+  go (Some o) e = record { is = if o.is_struct then Struct n else Table n; kept = object_kept rows n o.is_struct; fits = object_fits n o.is_struct; has = refl }
 kind_of_shape rows (negsuc n) (Some (One OfObject)) h e = absurd (false≢true (sym e))
-kind_of_shape rows index (Some (One OfText)) h e = record { is = Text; kept = λ h. tt; has = refl }
+kind_of_shape rows index (Some (One OfText)) h e = record { is = Text; kept = λ h. tt; fits = tt; has = refl }
 kind_of_shape rows index None h e = absurd (false≢true h)
 kind_of_shape rows index (Some (One (OfScalar s))) h e = absurd (false≢true h)
 kind_of_shape rows index (Some (One OfUnion)) h e = absurd (false≢true h)
@@ -110,7 +122,7 @@ asked_at : (rows : Rows) (members : List Member) (q : ℕ) (m : Member) → slic
 asked_at rows members q m at clear h = member_has_kind rows m _ _ (sym (ap (λ x. first_code (demands_of_member rows members q x)) at) ∙ clear) h
 
 -- a union that is there has a row
-union_row : (o : Option Enum) → IsTrue (is_some_union o) → (row : Enum) × (o ≡ Some row) × (row.is_union ≡ true)
+pub union_row : (o : Option Enum) → IsTrue (is_some_union o) → (row : Enum) × (o ≡ Some row) × (row.is_union ≡ true)
 union_row None h = absurd (false≢true h)
 union_row (Some row) h = (row, refl, h)
 
@@ -139,16 +151,16 @@ named_is : (rows : Rows) (e v : ℕ) (name : List ℕ) → member_named rows e n
 unfolding member_named
 named_is rows e v name h = named_value (find (λ m. bytes_eq m.name name) (members_of rows e)) v h
 
-in_row : (rows : Rows) (e v : ℕ) (name : List ℕ) → IsLegal rows → (row : Enum) → slice_get rows.enums e ≡ Some row → row.is_union ≡ true → member_named rows e name ≡ Some v → (kind : Kind) × (member_of rows e v ≡ Some kind) × IsKept rows kind
+in_row : (rows : Rows) (e v : ℕ) (name : List ℕ) → IsLegal rows → (row : Enum) → slice_get rows.enums e ≡ Some row → row.is_union ≡ true → member_named rows e name ≡ Some v → (kind : Kind) × (member_of rows e v ≡ Some kind) × IsKept rows kind × IsOfMember kind
 in_row rows e v name legal row at union named =
     let n = named_is rows e v name named in
     let f : find (λ m. is_member_value m.value && bytes_eq m.name name) row.members ≡ Some n.0 = sym (found_among rows e row at union (λ m. bytes_eq m.name name)) ∙ n.1 in
     let s = value_found row.members v (λ m. bytes_eq m.name name) n.0 f n.2 in
     let k = kind_found rows row.members v s.0 (clear rows e row at union legal) s.1 in
     let g : find (λ m. int_eq m.value (pos v)) (members_of rows e) ≡ Some s.0 = found_among rows e row at union (λ m. int_eq m.value (pos v)) ∙ s.1 in
-    (k.is, looked_up rows e v s.0 k.is g k.has, k.kept)
+    (k.is, looked_up rows e v s.0 k.is g k.has, k.kept, k.fits)
 
-pub member_there : (rows : Rows) (e v : ℕ) (name : List ℕ) → IsLegal rows → IsTrue (is_union rows e) → member_named rows e name ≡ Some v → (kind : Kind) × (member_of rows e v ≡ Some kind) × IsKept rows kind
+pub member_there : (rows : Rows) (e v : ℕ) (name : List ℕ) → IsLegal rows → IsTrue (is_union rows e) → member_named rows e name ≡ Some v → (kind : Kind) × (member_of rows e v ≡ Some kind) × IsKept rows kind × IsOfMember kind
 member_there rows e v name legal h named =
     let u = union_row (slice_get rows.enums e) h in
     in_row rows e v name legal u.0 u.1 u.2 named

@@ -1,5 +1,5 @@
 -- The examples, by computing.
-use Rattle.std.proofs.Common.{ℕ, refl}
+use Rattle.std.proofs.Common.{◌≡◌, ℕ, ◌<◌, ◌≤◌, refl, arith}
 use Rattle.fb_bytes.specs.Word.{word}
 use Rattle.fb_schema.specs.Live.{live_fields}
 use Rattle.fb_schema.specs.Kinds.{shape_of, kind_of, base_types}
@@ -7,7 +7,7 @@ use Rattle.fb_schema.specs.Members.{member_of}
 use Rattle.fb_verify.specs.Places.{has_vtable, vtable, field_place}
 use Rattle.fb_access.specs.Spots.{present_spot, default_spot, absent_spot, spot_of_element, member_spot}
 use Rattle.fb_access.specs.Denotes.{next_spot, number, inline_value, default_value, value}
-use Rattle.fb_access.specs.Examples.{FieldValues, ElementValues, MemberValues, ScalarValues, DefaultValues, StayingValues, LackingFields, PrefixedValues}
+use Rattle.fb_access.specs.Examples.{FieldValues, ElementValues, MemberValues, ScalarValues, DefaultValues, StayingValues, LackingFields, PrefixedValues, InsideValues}
 
 -- all that is computed
 computing : ℕ
@@ -109,4 +109,18 @@ unfolding computing
 prefixed_values = record {
   hit_points = (_, (_, refl, refl), refl);
   name = (_, (_, refl, refl), refl);
+}
+
+-- what lies inside
+pub inside_values : InsideValues
+unfolding computing
+inside_values = record {
+  a_text = record { counted = record { count = omega arith; within = omega arith }; ends = omega arith; terminated = refl };
+  a_text_that_goes_on = λ h. (let e : 1 ≡ 0 = h.terminated in omega arith);
+  a_text_up_to_the_end = λ h. (let e : 6 < 6 = h.ends in omega arith);
+  an_empty_text = record { counted = record { count = omega arith; within = omega arith }; ends = omega arith; terminated = refl };
+  a_union = omega arith;
+  a_union_past_the_end = λ h. (let e : 4 ≤ 3 = h in omega arith);
+  a_union_of_an_unknown_type = tt;
+  a_union_without_a_value = tt;
 }

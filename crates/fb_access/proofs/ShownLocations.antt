@@ -5,7 +5,7 @@ use Rattle.fb_schema.specs.Kinds.{base_types, shape_of, kind_of}
 use Rattle.fb_schema.specs.Live.{live_fields}
 use Rattle.fb_schema.specs.Members.{member_name}
 use Rattle.fb_access.specs.Location.{location_text}
-use Rattle.fb_access.specs.LocationTests.{Told, Nameless, Masked}
+use Rattle.fb_access.specs.LocationTests.{Told, Nameless, Masked, Ways}
 
 -- all that is computed
 computing : ℕ
@@ -39,4 +39,15 @@ nameless_shown = record {
 
 pub masked_shown : Masked
 unfolding computing
-masked_shown = record { in_a_line = refl }
+masked_shown = record { beside = refl; in_a_line = refl }
+
+pub ways_shown : Ways
+unfolding computing
+ways_shown = record {
+  to_the_root = refl;
+  to_a_type = refl;
+  to_a_vector = refl;
+  to_a_third_table = refl;
+  to_its_field = refl;
+  to_one_too_many = refl;
+}

@@ -11,8 +11,11 @@ use Rattle.fb_schema.specs.Kinds.{scalar_size, struct_size, struct_align}
 use Rattle.fb_schema.specs.Live.{Live}
 use Rattle.fb_schema.specs.Members.{member_of}
 use Rattle.fb_schema.specs.Served.{MemberHolds, IsServed}
+use Rattle.fb_verify.specs.declared.checks.Checks.{Checks}
 use Rattle.fb_verify.specs.Places.{target}
-use Rattle.fb_verify.specs.Fields.{lead_of}
+use Rattle.fb_verify.specs.Fields.{Lead, to_table, to_struct, to_string, to_nothing, lead_of}
+use Rattle.fb_verify.specs.Tree.{Element as Found, leaf, table}
+use Rattle.fb_verify.specs.Unfolds.{ElementUnfolds}
 use Rattle.fb_verify.specs.WellFormed.{base}
 use Rattle.fb_access.specs.declared.step.Step.{Step}
 use Rattle.fb_access.specs.declared.step.Step.TheVariants.{Field, Element, Member}
@@ -22,7 +25,7 @@ use Rattle.fb_access.specs.Fitting.{numbered}
 use Rattle.fb_access.specs.Spots.{field_spot, spot_of_field, if_element, spot_of_element, member_spot, spot_of_member}
 use Rattle.fb_access.specs.Denotes.{next_spot, Reaches, root_spot}
 use Rattle.fb_access.specs.Held.{IsTableAt, IsLed, IsUnionAt, IsSpot}
-use Rattle.fb_access.specs.Inside.{LiesInside, ValuesLieInside}
+use Rattle.fb_access.specs.Inside.{OffsetLies, LiesInside, ValuesLieInside}
 use Rattle.fb_access.proofs.FieldSpots.{field_spot_holds}
 use Rattle.fb_access.proofs.Leading.{led_to_table, led_to_string, led_to_struct}
 use Rattle.fb_access.proofs.TableFields.{table_has_vtable}
@@ -105,6 +108,18 @@ module _ (b : List ℕ) (S : Rows) where
   steps_stay p [] q served h r = subst (IsSpot b S) r h
   steps_stay p (s ∷ steps) q served h r = steps_stay r.0 steps q served (step_stays p s r.0 served h r.1) r.2
 
+  -- an offset word that leads to something
+  offset_lies : (c : Checks) (y : Found) (p : ℕ) (lead : Lead) → ElementUnfolds y c b S p lead → OffsetLies b p lead
+  unfolding ElementUnfolds
+  offset_lies c leaf p (to_table k) u = absurd u
+  offset_lies c leaf p (to_struct size align) u = u.0.within
+  offset_lies c leaf p to_string u = u.0.within
+  offset_lies c leaf p to_nothing u = tt
+  offset_lies c (table y) p (to_table k) u = u.0.within
+  offset_lies c (table y) p (to_struct size align) u = absurd u
+  offset_lies c (table y) p to_string u = absurd u
+  offset_lies c (table y) p to_nothing u = absurd u
+
   lies : (q : Spot) → IsSpot b S q → LiesInside b S q
   unfolding IsSpot
   lies (AtTable k t) h = table_has_vtable b S k t h
@@ -116,6 +131,7 @@ module _ (b : List ℕ) (S : Rows) where
   lies (AtTexts c) h = h.counted
   lies (AtTables k c) h = h.counted
   lies (AtUnions e y c) h = (h.types, h.counted)
+  lies (AtUnion e y p) h = offset_lies h.led.checks h.led.found p (lead_of S (member_of S e y)) h.led.unfolds
   lies q h = tt
 
 pub values_lie_inside : ValuesLieInside

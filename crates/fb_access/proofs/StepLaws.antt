@@ -31,7 +31,7 @@ some_same h = cc
 
 module _ (b : List ℕ) (S : Rows) (k t n : ℕ) (f : Live) (e : numbered S k n ≡ Some f) where
   -- the field step
-  field_step : Leads b S (AtTable k t) (Field n) (field_spot b t f)
+  pub field_step : Leads b S (AtTable k t) (Field n) (field_spot b t f)
   unfolding next_spot
   field_step = ap (option_map (field_spot b t)) e
 
@@ -66,12 +66,12 @@ fields_stand_in_place b S k t n f q e l = subst (IsFieldOf b t f) (one_step b S 
 
 -- Offset words.
 
-one_entry : (y x : Entry) (j : ℕ) → slice_get (y ∷ []) j ≡ Some x → y ≡ x
+pub one_entry : (y x : Entry) (j : ℕ) → slice_get (y ∷ []) j ≡ Some x → y ≡ x
 one_entry y x zero h = some_same h
 one_entry y x (suc j) h = absurd cc
 
 -- the j-th of n offset words
-row_get : (lead : Lead) (p n j : ℕ) (x : Entry) → slice_get (row lead p n) j ≡ Some x → (j < n) × (entry lead (p + 4 * j) 0 ≡ x)
+pub row_get : (lead : Lead) (p n j : ℕ) (x : Entry) → slice_get (row lead p n) j ≡ Some x → (j < n) × (entry lead (p + 4 * j) 0 ≡ x)
 unfolding row
 row_get lead p zero j x h = absurd cc
 row_get lead p (suc n) zero x h = let e : p + 4 * 0 ≡ p = omega arith in (omega arith, rw e (some_same h))
@@ -86,7 +86,7 @@ row_end lead p zero j h = omega arith
 row_end lead p (suc n) zero h = absurd cc
 row_end lead p (suc n) (suc j) h = let r = row_end lead (p + 4) n j h in omega (arith, r)
 
-union_row_get : (b : List ℕ) (S : Rows) (e q p n j : ℕ) (x : Entry) → slice_get (union_row b S e q p n) j ≡ Some x → (j < n) × (entry (lead_of S (member_of S e (word b (q + j) 1))) (p + 4 * j) 1 ≡ x)
+pub union_row_get : (b : List ℕ) (S : Rows) (e q p n j : ℕ) (x : Entry) → slice_get (union_row b S e q p n) j ≡ Some x → (j < n) × (entry (lead_of S (member_of S e (word b (q + j) 1))) (p + 4 * j) 1 ≡ x)
 unfolding union_row
 union_row_get b S e q p zero j x h = absurd cc
 union_row_get b S e q p (suc n) zero x h =
@@ -106,7 +106,7 @@ union_row_end b S e q p (suc n) zero h = absurd cc
 union_row_end b S e q p (suc n) (suc j) h = let r = union_row_end b S e (q + 1) (p + 4) n j h in omega (arith, r)
 
 -- an element below the count, and one past it
-element_there : (b : List ℕ) (c j : ℕ) (spot : Spot) → j < word b c 4 → if_element b c j spot ≡ spot
+pub element_there : (b : List ℕ) (c j : ℕ) (spot : Spot) → j < word b c 4 → if_element b c j spot ≡ spot
 element_there b c j spot lt = let t : nat_lt j (word b c 4) ≡ true = grind (arith, nat_tests) in rw t refl
 
 element_past : (b : List ℕ) (c j : ℕ) (spot : Spot) → word b c 4 ≤ j → if_element b c j spot ≡ AtNoElement

@@ -10,7 +10,7 @@ use Rattle.fb_schema.specs.declared.kinds.Kind.TheVariants.{Table}
 use Rattle.fb_schema.specs.Rows.{Rows}
 use Rattle.fb_verify.specs.declared.links.Link.{Link}
 use Rattle.fb_access.proofs.ScanAccepts.{AreDigits}
-use Rattle.fb_access.specs.Grammar.{begins_name, goes_on, is_digit, number_from, Part, field, element, member, IsName, IsNumber, IsPart, spelling}
+use Rattle.fb_access.specs.Grammar.{begins_name, goes_on, is_digit, number_from, number_of, Part, field, element, member, IsName, IsNumber, IsPart, spelling}
 use Rattle.fb_access.specs.Resolving.{Follows}
 use Rattle.fb_access.specs.Location.{name_text, named, link_member, element_text, link_text}
 use Rattle.fb_access.specs.LocationLaws.{field_parts, element_parts, member_parts, link_parts, parts_of, IsShort, IsNameIfAny, IsNamed, AreNamed, WaysResolve}
@@ -47,6 +47,9 @@ folds = record { empty = λ n. refl; more = λ n c cs k. ap (λ m. number_from m
 
 own : IsNumeralModel AreDigits (number_from 0)
 own = numerals_by_fold AreDigits tells number_from folds
+
+pub read_back : (j : ℕ) → j < 2 ^ 32 → number_of (decimal j) ≡ j
+read_back j h = digits_value-decimal own j (omega arith)
 
 is_number : (j : ℕ) → j < 2 ^ 32 → IsNumber (decimal j)
 is_number zero h = subst IsNumber (sym (decimal_digit 0 (omega arith))) (inl (refl, refl))

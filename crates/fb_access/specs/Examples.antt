@@ -2,12 +2,13 @@
 use Rattle.std.specs.Prelude.{◌≡◌, pos, negsuc, true, false, List, [], ◌∷◌, codes, None}
 use Rattle.fb_verify.specs.declared.start.Start.TheVariants.{Bare, Prefixed}
 use Rattle.fb_verify.specs.Tree.{Tree, node, Kids, no_elements, element, leaf, table as a_table}
-use Rattle.fb_verify.specs.Samples.{monsters}
+use Rattle.fb_verify.specs.Samples.{monsters, monster, open_name}
 use Rattle.fb_verify.specs.Examples.{Counts, one_table, one_leaf, kids_of}
 use Rattle.fb_access.specs.declared.step.Step.{Step}
 use Rattle.fb_access.specs.declared.step.Step.TheVariants.{Field, Element, Member}
-use Rattle.fb_access.specs.declared.spot.Spot.TheVariants.{AtTable}
+use Rattle.fb_access.specs.declared.spot.Spot.TheVariants.{AtTable, AtText, AtUnion}
 use Rattle.fb_access.specs.Denotes.{next_spot, Shown, nothing, no_element, other_member, truth, signed, unsigned, float, text, structure, vector, table, union, Denotes}
+use Rattle.fb_access.specs.Inside.{LiesInside}
 use Rattle.fb_access.specs.Samples.{rows, bytes, prefixed_monster}
 
 -- in the sample these steps from the root table lead to this value
@@ -117,3 +118,14 @@ root_kids =
 -- the sample is a good buffer
 abbrev pub SampleUnfolds : Type 0
 SampleUnfolds = Counts bytes rows 0 (node 0 36 root_kids) 5 2 98
+
+-- a text lies in a buffer with the byte 0 behind it, and a union that leads to something with its offset word
+pub record InsideValues : Type 0 where
+  pub a_text : LiesInside monster monsters (AtText 24)
+  pub a_text_that_goes_on : LiesInside open_name monsters (AtText 24) → ⊥
+  pub a_text_up_to_the_end : LiesInside (2 ∷ 0 ∷ 0 ∷ 0 ∷ 104 ∷ 105 ∷ []) rows (AtText 0) → ⊥
+  pub an_empty_text : LiesInside (0 ∷ 0 ∷ 0 ∷ 0 ∷ 0 ∷ []) rows (AtText 0)
+  pub a_union : LiesInside (9 ∷ 0 ∷ 0 ∷ 0 ∷ []) rows (AtUnion 0 2 0)
+  pub a_union_past_the_end : LiesInside (9 ∷ 0 ∷ 0 ∷ []) rows (AtUnion 0 2 0) → ⊥
+  pub a_union_of_an_unknown_type : LiesInside [] rows (AtUnion 0 9 0)
+  pub a_union_without_a_value : LiesInside [] rows (AtUnion 0 0 0)

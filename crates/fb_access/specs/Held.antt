@@ -1,6 +1,6 @@
 -- What holds at a spot of a buffer that was verified, whatever the checks were, so that reading there stays in the
 -- buffer.
-use Rattle.std.specs.Prelude.{ℕ, ◌+◌, ◌*◌, ◌<◌, ◌≤◌, List, length, IsTrue}
+use Rattle.std.specs.Prelude.{◌≡◌, ℕ, ◌+◌, ◌*◌, ◌<◌, ◌≤◌, List, length, IsTrue}
 use Rattle.fb_bytes.specs.Word.{word}
 use Rattle.fb_schema.specs.declared.kinds.Kind.{Kind}
 use Rattle.fb_schema.specs.declared.kinds.Kind.TheVariants.{Scalar, Text, Struct, Table, Union, Scalars, Texts, Structs, Tables, Unions}
@@ -44,6 +44,12 @@ pub record IsCounted (b : List ℕ) (v size : ℕ) : Type 0 where
   pub count : v + 4 ≤ length b
   pub within : v + 4 + word b v 4 * size ≤ length b
 
+-- a string stands at c: its count, so many bytes, and a byte 0
+pub record IsTextAt (b : List ℕ) (c : ℕ) : Type 0 where
+  pub counted : IsCounted b c 1
+  pub ends : c + 4 + word b c 4 < length b
+  pub terminated : word b (c + 4 + word b c 4) 1 ≡ 0
+
 -- vectors of structs, strings and tables
 pub record AreStructsAt (b : List ℕ) (S : Rows) (k v : ℕ) : Type 0 where
   pub object : k < length S.objects
@@ -75,7 +81,7 @@ unfoldable pub IsSpot : List ℕ → Rows → Spot → Type 0
 IsSpot b S (AtTable k t) = IsTableAt b S k t
 IsSpot b S (AtInline s p) = p + scalar_size s ≤ length b
 IsSpot b S (AtStruct k p) = IsStructAt b S k p
-IsSpot b S (AtText c) = IsCounted b c 1
+IsSpot b S (AtText c) = IsTextAt b c
 IsSpot b S (AtScalars s c) = IsCounted b c (scalar_size s)
 IsSpot b S (AtStructs k c) = AreStructsAt b S k c
 IsSpot b S (AtTexts c) = AreTextsAt b S c

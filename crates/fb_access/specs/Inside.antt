@@ -4,28 +4,36 @@ use Rattle.std.specs.Prelude.{ℕ, ◌+◌, ◌≤◌, List, length}
 use Rattle.fb_bytes.specs.Word.{word}
 use Rattle.fb_schema.specs.Rows.{Rows}
 use Rattle.fb_schema.specs.Kinds.{scalar_size, struct_size}
+use Rattle.fb_schema.specs.Members.{member_of}
 use Rattle.fb_schema.specs.Served.{IsServed}
+use Rattle.fb_verify.specs.Fields.{Lead, to_nothing, lead_of}
 use Rattle.fb_verify.specs.Sealed.{Sealed, IsUnfolded}
 use Rattle.fb_access.specs.declared.step.Step.{Step}
 use Rattle.fb_access.specs.declared.spot.Spot.{Spot}
 use Rattle.fb_access.specs.declared.spot.Spot.TheVariants.{AtTable, AtInline, AtStruct, AtText, AtScalars, AtStructs, AtTexts, AtTables, AtUnions, AtUnion, AtDefault, AtAbsent, AtNoElement, AtOtherMember}
 use Rattle.fb_access.specs.Denotes.{Reaches, root_spot}
-use Rattle.fb_access.specs.Held.{IsCounted, HasVtable}
+use Rattle.fb_access.specs.Held.{IsCounted, IsTextAt, HasVtable}
+
+-- the offset word of a union that leads to something
+abbrev pub OffsetLies : List ℕ → ℕ → Lead → Type 0
+OffsetLies b p to_nothing = Unit {0}
+OffsetLies b p _ = p + 4 ≤ length b
 
 -- of a table its soffset and its vtable; of a value in place all its bytes; of a string or a vector its count and so
--- many bytes or elements behind it, an offset word being 4 bytes, and of unions their types too; what stands behind an
--- offset word is a spot of its own
+-- many bytes or elements behind it, an offset word being 4 bytes; behind a string's bytes a byte 0; of a vector of
+-- unions their types too; of a union whose type the schema knows its offset word; what stands behind an offset word is
+-- a spot of its own
 abbrev pub LiesInside : List ℕ → Rows → Spot → Type 0
 LiesInside b S (AtTable k t) = HasVtable b t
 LiesInside b S (AtInline s p) = p + scalar_size s ≤ length b
 LiesInside b S (AtStruct k p) = p + struct_size S k ≤ length b
-LiesInside b S (AtText c) = IsCounted b c 1
+LiesInside b S (AtText c) = IsTextAt b c
 LiesInside b S (AtScalars s c) = IsCounted b c (scalar_size s)
 LiesInside b S (AtStructs k c) = IsCounted b c (struct_size S k)
 LiesInside b S (AtTexts c) = IsCounted b c 4
 LiesInside b S (AtTables k c) = IsCounted b c 4
 LiesInside b S (AtUnions e q c) = (q + word b c 4 ≤ length b) × IsCounted b c 4
-LiesInside b S (AtUnion e y p) = Unit {0}
+LiesInside b S (AtUnion e y p) = OffsetLies b p (lead_of S (member_of S e y))
 LiesInside b S (AtDefault s d) = Unit {0}
 LiesInside b S AtAbsent = Unit {0}
 LiesInside b S AtNoElement = Unit {0}

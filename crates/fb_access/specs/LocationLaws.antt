@@ -1,13 +1,29 @@
--- The law that ties the text of a way to a fault to the paths of the grammar.
-use Rattle.std.specs.Prelude.{◌≡◌, ℕ, ◌<◌, ◌^◌, List, [], ◌∷◌, ◌++◌, Option, Some, None, decimal}
+-- The laws of what is told of the way to a fault: its text is a path, and its links lead to what is under check.
+use Rattle.std.specs.Prelude.{◌≡◌, ℕ, ◌<◌, ◌^◌, List, [], ◌∷◌, ◌++◌, length, Option, Some, None, decimal}
 use Rattle.fb_schema.specs.declared.kinds.Kind.{Kind}
 use Rattle.fb_schema.specs.declared.kinds.Kind.TheVariants.{Table}
+use Rattle.fb_schema.specs.Demands.{IsLegal}
 use Rattle.fb_schema.specs.Rows.{Rows}
+use Rattle.fb_schema.specs.Served.{IsServed}
+use Rattle.fb_verify.specs.declared.checks.Checks.{Checks}
+use Rattle.fb_verify.specs.declared.start.Start.{Start}
+use Rattle.fb_verify.specs.declared.start.Ident.{Ident}
+use Rattle.fb_verify.specs.declared.fault.Fault.{Fault}
 use Rattle.fb_verify.specs.declared.links.Link.{Link}
+use Rattle.fb_verify.specs.Bounds.{Bounds}
+use Rattle.fb_verify.specs.Fields.{Lead, to_nothing}
+use Rattle.fb_verify.specs.Way.{Way}
+use Rattle.fb_verify.specs.Stops.{Place, in_start, in_head, in_field, in_element, IsFalseAt}
+use Rattle.fb_verify.specs.Links.{StopsAlong}
 use Rattle.fb_access.specs.declared.step.Step.{Step}
+use Rattle.fb_access.specs.declared.spot.Spot.{Spot}
+use Rattle.fb_access.specs.declared.spot.Spot.TheVariants.{AtTable, AtUnion}
+use Rattle.fb_access.specs.Denotes.{Reaches, root_spot}
 use Rattle.fb_access.specs.Grammar.{Part, field, element, member, IsName}
 use Rattle.fb_access.specs.Resolving.{Follows, Resolves}
 use Rattle.fb_access.specs.Location.{field_name, link_member, path_text}
+use Rattle.fb_access.specs.Spots.{field_spot}
+use Rattle.fb_access.specs.StepLaws.{IsLedTo}
 
 -- the parts of a path that a link is: its field, its element and its member, where it has them
 abbrev pub field_parts : Option (List ℕ) → List Part
@@ -55,3 +71,37 @@ AreNamed S (link ∷ links) = IsNamed S link × AreNamed S links
 -- is a path that resolves to the same steps
 abbrev pub WaysResolve : Type 0
 WaysResolve = (S : Rows) (root : ℕ) (link : Link) (links : List Link) (steps : List Step) (last : Kind) → AreNamed S (link ∷ links) → Follows S (Table root) (parts_of S (link ∷ links)) steps last → Resolves S root (path_text S (link ∷ links)) steps
+
+-- Where links lead.
+
+-- what stands behind the offset word at p by its lead, and the union itself where its type leads to nothing
+abbrev pub IsBehind : List ℕ → Rows → ℕ → Lead → Spot → Type 0
+IsBehind b S p to_nothing q = (e : ℕ) × (y : ℕ) × (q ≡ AtUnion e y p)
+IsBehind b S p lead q = IsLedTo b S p lead q
+
+-- what is under check at a place: the table in whose head it is, the field, or what an offset word of one leads to; at
+-- the start nothing is yet
+abbrev pub IsUnderCheck : List ℕ → Rows → Place → Spot → Type 0
+IsUnderCheck b S (in_start start ident) q = Unit {0}
+IsUnderCheck b S (in_head k t) q = q ≡ AtTable k t
+IsUnderCheck b S (in_field t g) q = q ≡ field_spot b t g
+IsUnderCheck b S (in_element x) q = IsBehind b S x.place x.lead q
+
+-- by the names of the schema the parts of these links follow one another from this kind, and in the buffer their steps
+-- lead from this spot to what is under check where the fault is the first condition that fails
+pub record Arrives (c : Checks) (b : List ℕ) (S : Rows) (L : Bounds) (kind : Kind) (from : Spot) (f : Fault) (links : List Link) : Type 0 where
+  pub steps : List Step
+  pub last : Kind
+  pub follows : Follows S kind (parts_of S links) steps last
+  pub end : Spot
+  pub reaches : Reaches b S from steps end
+  pub place : Place
+  pub way : Way
+  pub fails : IsFalseAt c b S L place way f
+  pub is_there : IsUnderCheck b S place end
+
+-- the links to a fault do so from the root
+abbrev pub LinksArrive : Type 0
+LinksArrive =
+    (c : Checks) (b : List ℕ) (S : Rows) (root : ℕ) (start : Start) (ident : Ident) (L : Bounds) (f : Fault) (links : List Link) → IsLegal S → IsServed S → length b < 2 ^ 31 → StopsAlong c b S root start ident L f links
+    → Arrives c b S L (Table root) (root_spot b start root) f links

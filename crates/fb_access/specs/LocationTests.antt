@@ -3,18 +3,15 @@ use Rattle.std.specs.Prelude.{◌≡◌, ℕ, List, [], ◌∷◌, codes, Option
 use Rattle.fb_schema.specs.Rows.{Rows}
 use Rattle.fb_verify.specs.Samples.{short, field, table}
 use Rattle.fb_verify.specs.declared.fault.Fault.{Fault}
-use Rattle.fb_verify.specs.declared.fault.Reason.TheVariants.{OutOfBuffer}
+use Rattle.fb_verify.specs.declared.fault.Reason.TheVariants.{OutOfBuffer, ZeroOffset, TooManyTables}
 use Rattle.fb_verify.specs.declared.links.Link.{Link}
-use Rattle.fb_access.specs.Location.{location_text}
+use Rattle.fb_verify.specs.LinkExamples.{herds, link, fault, to_third}
+use Rattle.fb_access.specs.Location.{name_text, location_text}
 use Rattle.fb_access.specs.Samples.{rows}
 
 -- a fault in a table of this object, at the field with this number if there is one
 abbrev pub fault_in : ℕ → Option ℕ → Fault
 fault_in object field = record { at = 0; object = object; field = field; reads = 0; reason = OutOfBuffer }
-
--- a link to what a field of this object leads to, and to an element and a member of it
-abbrev pub link : ℕ → ℕ → Option ℕ → Option ℕ → Link
-link object field element member = record { object = object; field = field; element = element; member = member }
 
 -- in the sample's rows this is told of this fault
 abbrev pub IsIn : Fault → List Link → List ℕ → Type 0
@@ -45,6 +42,16 @@ pub record Nameless : Type 0 where
 abbrev pub rows_with_lines : Rows
 rows_with_lines = record { objects = table (codes "a.b\n2 ok") (field (codes "x [y]\n") 4 short ∷ []) ∷ []; enums = [] }
 
--- a byte that no name has is written as `?`
+-- a byte that no name has is written as `?`; the bytes beside each range
 pub record Masked : Type 0 where
+  pub beside : name_text (0 ∷ 10 ∷ 32 ∷ 45 ∷ 46 ∷ 47 ∷ 48 ∷ 57 ∷ 58 ∷ 64 ∷ 65 ∷ 90 ∷ 91 ∷ 94 ∷ 95 ∷ 96 ∷ 97 ∷ 122 ∷ 123 ∷ 127 ∷ 128 ∷ 255 ∷ []) ≡ codes "????.?09??AZ??_?az????"
   pub in_a_line : location_text rows_with_lines (fault_in 0 (Some 0)) (link 0 0 None None ∷ []) ≡ codes "in x??y?? [a.b?2?ok.x??y??]"
+
+-- what is told of the faults whose links are shown for the verifier
+pub record Ways : Type 0 where
+  pub to_the_root : location_text herds (fault OutOfBuffer 4 0 None 2) [] ≡ codes "in . [M]"
+  pub to_a_type : location_text herds (fault OutOfBuffer 212 0 (Some 0) 4) (link 0 0 None None ∷ []) ≡ codes "in t [M.t]"
+  pub to_a_vector : location_text herds (fault OutOfBuffer 116 1 (Some 0) 5) (link 1 0 None None ∷ []) ≡ codes "in list [H.list]"
+  pub to_a_third_table : location_text herds (fault OutOfBuffer 64 2 None 21) (to_third []) ≡ codes "in u@H.list[2] [C]"
+  pub to_its_field : location_text herds (fault ZeroOffset 68 2 (Some 0) 24) (to_third (link 2 0 None None ∷ [])) ≡ codes "in u@H.list[2].name [C.name]"
+  pub to_one_too_many : location_text herds (fault TooManyTables 64 1 (Some 0) 20) (to_third []) ≡ codes "in u@H.list[2] [H.list]"

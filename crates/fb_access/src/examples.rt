@@ -1,8 +1,8 @@
 //! Examples of the definitions: each is a clause of a function that does nothing.
 
 ghost use Rattle.fb_access.specs.PathTests.{Words, Spellings, Resolved, Unfit};
-ghost use Rattle.fb_access.specs.LocationTests.{Told, Nameless, Masked};
-ghost use Rattle.fb_access.specs.Examples.{SampleUnfolds, FieldValues, ElementValues, MemberValues, ScalarValues, DefaultValues, StayingValues, LackingFields, PrefixedValues};
+ghost use Rattle.fb_access.specs.LocationTests.{Told, Nameless, Masked, Ways};
+ghost use Rattle.fb_access.specs.Examples.{SampleUnfolds, FieldValues, ElementValues, MemberValues, ScalarValues, DefaultValues, StayingValues, LackingFields, PrefixedValues, InsideValues};
 
 /// A buffer with a field of each kind is good, and what paths denote in it.
 #[tactic(auto, using(crate::proofs::Shown::field_values, crate::proofs::Shown::element_values, crate::proofs::Shown::member_values, crate::proofs::Shown::scalar_values, crate::proofs::Shown::default_values, crate::proofs::Shown::staying_values, crate::proofs::Shown::lacking_fields, crate::proofs::ShownTree::sample_unfolds))]
@@ -23,6 +23,12 @@ pub fn values_behind_a_prefix()
     ensures { PrefixedValues }
 {}
 
+/// What lies in a buffer, and what doesn't: a text with the byte behind it, and the offset word of a union.
+#[tactic(auto, using(crate::proofs::Shown::inside_values))]
+pub fn inside()
+    ensures { InsideValues }
+{}
+
 /// Texts of paths: names and numbers at their bounds, how parts are written, and what a text resolves to, or why not.
 #[tactic(auto, using(crate::proofs::ShownPaths::words_shown, crate::proofs::ShownPaths::spellings_shown, crate::proofs::ShownPaths::resolved_shown, crate::proofs::ShownPaths::unfit_shown))]
 pub fn paths()
@@ -33,10 +39,11 @@ pub fn paths()
 {}
 
 /// Where faults are, in words: at the root, in a field, an element and a member, in what has no name, and in what has a
-/// name that would forge a line.
-#[tactic(auto, using(crate::proofs::ShownLocations::told_shown, crate::proofs::ShownLocations::nameless_shown, crate::proofs::ShownLocations::masked_shown))]
+/// name that would forge a line; and where those are of which `fb_verify::link_laws::links_found` tells the links.
+#[tactic(auto, using(crate::proofs::ShownLocations::told_shown, crate::proofs::ShownLocations::nameless_shown, crate::proofs::ShownLocations::masked_shown, crate::proofs::ShownLocations::ways_shown))]
 pub fn locations()
     ensures told { Told }
     ensures nameless { Nameless }
     ensures masked { Masked }
+    ensures ways { Ways }
 {}

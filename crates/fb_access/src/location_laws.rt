@@ -1,7 +1,7 @@
-//! The law that ties what is told of a fault to the paths of the grammar. The function has no body: its contract is the
-//! theorem.
+//! The laws that tie what is told of a fault to the paths of the grammar, and to where they lead. These functions have
+//! no body: their contracts are the theorems.
 
-ghost use Rattle.fb_access.specs.LocationLaws.{WaysResolve};
+ghost use Rattle.fb_access.specs.LocationLaws.{WaysResolve, LinksArrive};
 
 /// Where the names of links are of the grammar, and their parts (each link's field, element and member by the names
 /// that are told) follow one another from the root table, the text of their way is a path: it resolves to the same
@@ -9,4 +9,12 @@ ghost use Rattle.fb_access.specs.LocationLaws.{WaysResolve};
 #[tactic(auto, using(crate::proofs::Ways::ways_resolve))]
 pub fn ways_resolve()
     ensures { WaysResolve }
+{}
+
+/// The parts of the links that lead to a fault follow one another from the root table by the names of the schema, so
+/// that the path that is told is one that leads somewhere; and in the buffer its steps lead to what is under check
+/// there: to the table in whose head the fault is, to the field, or to what the field's offset word leads to. The rows
+/// are to be legal and such as serve, and each schema's are, by the clauses `legal` and `served` of `Schema::lawful`.
+pub fn links_arrive()
+    ensures { LinksArrive }
 {}

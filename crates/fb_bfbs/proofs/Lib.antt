@@ -6,6 +6,7 @@ pub mod Narrow
 pub mod FixedFields
 pub mod Outcomes
 pub mod OneFile
+pub mod Counts
 pub mod OneLoad
 pub mod Shown
 pub mod ShownFiles

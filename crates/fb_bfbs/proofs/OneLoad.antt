@@ -1,5 +1,5 @@
 -- At most one answer applies to the bytes of a schema file.
-use Rattle.std.proofs.Common.{◌≡◌, ℕ, ◌<◌, ◌≤◌, ◌^◌, List, [], ◌∷◌, length, refl, sym, ◌∙◌, ap, subst, arith, Option, Some, None, Result, Ok, Err}
+use Rattle.std.proofs.Common.{◌≡◌, ℕ, ◌<◌, ◌≤◌, ◌^◌, List, [], ◌∷◌, length, refl, sym, ◌∙◌, ap, subst, arith, inl, inr, Option, Some, None, Result, Ok, Err}
 use Rattle.std.specs.Borrow.{Bor}
 use Rattle.fb_schema.specs.Rows.{Rows, table_named}
 use Rattle.fb_schema.specs.declared.fault.SchemaFault.{SchemaFault}
@@ -18,12 +18,14 @@ use Rattle.fb_access.specs.Denotes.{Leads, next_spot, root_spot, text, nothing, 
 use Rattle.fb_access.proofs.Callers.{shows_one}
 use Rattle.fb_bfbs.specs.declared.loading.Loaded.{Loaded}
 use Rattle.fb_bfbs.specs.declared.load_fault.LoadFault.{LoadFault}
-use Rattle.fb_bfbs.specs.declared.load_fault.LoadFault.TheVariants.{NotWellFormed, BadSchema, RootNotListed, OutOfMemory, TooLong}
+use Rattle.fb_bfbs.specs.declared.load_fault.LoadFault.TheVariants.{NotWellFormed, BadSchema, RootNotListed, OutOfMemory, TooLong, TooMuchShared}
 use Rattle.fb_bfbs.specs.Fixed.{fixed}
 use Rattle.fb_bfbs.specs.Says.{text_or_nothing}
 use Rattle.fb_bfbs.specs.Describes.{Describes, NamesRoot, IsRoot, HasStrayRoot}
-use Rattle.fb_bfbs.specs.Loads.{IsSchemaFile, IsBadSchema, IsLoaded, told, published, schema_number, schema_ident}
+use Rattle.fb_bfbs.specs.Loads.{ArePaidFor, SharesTooMuch, IsSchemaFile, IsBadSchema, IsLoaded, told, published, schema_number, schema_ident}
 use Rattle.fb_bfbs.specs.LoadLaws.{ident_bytes, IsSameLoad, IsSameAnswer, Applies}
+use Rattle.fb_bfbs.specs.Sums.{IsOver, names_length}
+use Rattle.fb_bfbs.proofs.Counts.{counted}
 use Rattle.fb_bfbs.proofs.OneFile.{IsSingle, describes_once, one_text, text_is_something}
 
 -- a file says one thing of each path
@@ -88,6 +90,13 @@ module _ (b : List ℕ) (L : Bounds) where
   legal_and_bad rows f described legal bad =
       no_first_if_legal rows legal f (subst (λ r. IsFirstIllegal r f) (one_description b bad.rows rows bad.described described) bad.first)
 
+  -- rows that are paid for aren't too many, nor too long their names
+  paid_and_over : (rows : Rows) → Describes (told b) rows → ArePaidFor b L rows → SharesTooMuch b L → ⊥
+  paid_and_over rows described paid s = go s.over where
+    go : IsOver (told b) (length b) → ⊥
+    go (inl (m, has, more)) = omega (arith, more, (paid s.budget).count, counted (told b) rows m (file_is_single b) has described)
+    go (inr (others, same, more)) = omega (arith, more, (paid s.budget).names, ap names_length (one_description b others rows same described))
+
   one_load : (x y : Loaded) → IsLoaded b L x → IsLoaded b L y → IsSameLoad x y
   one_load x y h i =
       let same = one_description b x.schema y.schema h.rows i.rows in
@@ -102,6 +111,7 @@ module _ (b : List ℕ) (L : Bounds) where
   load_and_fault x (BadSchema f) h i = legal_and_bad x.schema f h.rows h.legal i
   load_and_fault x RootNotListed h i = listed_or_stray b x.schema x.root h.root (subst (HasStrayRoot (told b)) (one_description b i.rows x.schema i.described h.rows) i.stray)
   load_and_fault x OutOfMemory h i = absurd i
+  load_and_fault x TooMuchShared h i = paid_and_over x.schema h.rows h.paid i
   load_and_fault x TooLong h i = too_long_and_short i h.file.short
 
   one_fault : (f g : LoadFault) → Applies b L (Err f) → Applies b L (Err g) → f ≡ g
@@ -123,6 +133,15 @@ module _ (b : List ℕ) (L : Bounds) where
   one_fault RootNotListed (NotWellFormed g) h i = absurd (file_and_stop g h.file i.1)
   one_fault RootNotListed (BadSchema g) h i = absurd (legal_and_bad h.rows g h.described h.legal i)
   one_fault RootNotListed RootNotListed h i = refl
+  one_fault TooMuchShared TooMuchShared h i = refl
+  one_fault TooMuchShared TooLong h i = absurd (too_long_and_short i h.file.short)
+  one_fault TooMuchShared (NotWellFormed g) h i = absurd (file_and_stop g h.file i.1)
+  one_fault TooMuchShared (BadSchema g) h i = absurd (paid_and_over i.rows i.described i.paid h)
+  one_fault TooMuchShared RootNotListed h i = absurd (paid_and_over i.rows i.described i.paid h)
+  one_fault TooLong TooMuchShared h i = absurd (too_long_and_short h i.file.short)
+  one_fault (NotWellFormed f) TooMuchShared h i = absurd (file_and_stop f i.file h.1)
+  one_fault (BadSchema f) TooMuchShared h i = absurd (paid_and_over h.rows h.described h.paid i)
+  one_fault RootNotListed TooMuchShared h i = absurd (paid_and_over h.rows h.described h.paid i)
 
   pub one_answer : (x y : Result Loaded LoadFault) → Applies b L x → Applies b L y → IsSameAnswer x y
   one_answer (Ok x) (Ok y) h i = one_load x y h i

@@ -1,5 +1,5 @@
 -- The plain file is loaded: it unfolds, its rows are legal, and its root is among them.
-use Rattle.std.proofs.Common.{◌≡◌, ℕ, refl, arith, length}
+use Rattle.std.proofs.Common.{◌≡◌, ℕ, false, true, refl, arith, length}
 use Rattle.std.specs.Prelude.{codes}
 use Rattle.fb_bytes.specs.Word.{word}
 use Rattle.fb_schema.specs.Rows.{table_named}
@@ -104,5 +104,5 @@ pub plain_file : PlainFile
 unfolding reading
 plain_file = record {
   rows = plain_described;
-  loaded = record { file = plain_is_file; rows = plain_described; legal = plain_is_legal; root = (codes "M", (_, (_, refl, (_, refl, refl)), refl), refl); root_is_table = refl; ident = (_, (_, refl, refl), refl) };
+  loaded = record { file = plain_is_file; rows = plain_described; paid = λ h. absurd (let w : false ≡ true = h in cc); legal = plain_is_legal; root = (codes "M", (_, (_, refl, (_, refl, refl)), refl), refl); root_is_table = refl; ident = (_, (_, refl, refl), refl) };
 }

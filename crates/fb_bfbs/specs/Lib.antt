@@ -2,6 +2,7 @@
 pub mod Fixed
 pub mod Says
 pub mod Describes
+pub mod Sums
 pub mod FileRows
 pub mod Loads
 pub mod LoadLaws

@@ -1,5 +1,5 @@
 -- What is answered of a schema file.
-use Rattle.std.specs.Prelude.{ℕ, ◌<◌, ◌≤◌, ◌^◌, true, false, IfSome, IsTrue, List, [], ◌∷◌, length}
+use Rattle.std.specs.Prelude.{ℕ, ◌<◌, ◌≤◌, ◌^◌, true, false, IfSome, IsSome, IsTrue, List, [], ◌∷◌, length}
 use Rattle.fb_schema.specs.Rows.{Rows, is_table}
 use Rattle.fb_schema.specs.declared.fault.Code.{Code}
 use Rattle.fb_schema.specs.declared.fault.Code.TheVariants.{OutOfMemory as NoMemory}
@@ -17,10 +17,11 @@ use Rattle.fb_access.specs.declared.step.Step.TheVariants.{Field as ToField}
 use Rattle.fb_access.specs.Denotes.{Denotes}
 use Rattle.fb_bfbs.specs.declared.loading.Loaded.{Loaded}
 use Rattle.fb_bfbs.specs.declared.load_fault.LoadFault.{LoadFault}
-use Rattle.fb_bfbs.specs.declared.load_fault.LoadFault.TheVariants.{NotWellFormed, BadSchema, RootNotListed, OutOfMemory, TooLong}
+use Rattle.fb_bfbs.specs.declared.load_fault.LoadFault.TheVariants.{NotWellFormed, BadSchema, RootNotListed, OutOfMemory, TooLong, TooMuchShared}
 use Rattle.fb_bfbs.specs.Fixed.{fixed}
 use Rattle.fb_bfbs.specs.Says.{Says, text_or_nothing}
 use Rattle.fb_bfbs.specs.Describes.{Describes, IsRoot, HasStrayRoot}
+use Rattle.fb_bfbs.specs.Sums.{IsPaid, IsOver}
 
 -- the number of the table Schema in the fixed table
 abbrev pub schema_number : ℕ
@@ -49,10 +50,15 @@ told b = Denotes b fixed Bare schema_number
 abbrev pub HasTableForRoot : Loaded → Type 0
 HasTableForRoot loaded = IfSome loaded.root (λ n. IsTrue (is_table loaded.schema n))
 
+-- rows that the file's length pays for, where the limits have a budget of reads
+abbrev pub ArePaidFor : List ℕ → Bounds → Rows → Type 0
+ArePaidFor b L rows = IsSome L.reads → IsPaid rows (length b)
+
 -- what is loaded of a schema file
 pub record IsLoaded (b : List ℕ) (L : Bounds) (loaded : Loaded) : Type 0 where
   pub file : IsSchemaFile b L
   pub rows : Describes (told b) loaded.schema
+  pub paid : ArePaidFor b L loaded.schema
   pub legal : IsLegal loaded.schema
   pub root : IsRoot (told b) loaded.schema loaded.root
   pub root_is_table : HasTableForRoot loaded
@@ -63,6 +69,7 @@ pub record IsBadSchema (b : List ℕ) (L : Bounds) (fault : SchemaFault) : Type 
   pub file : IsSchemaFile b L
   pub rows : Rows
   pub described : Describes (told b) rows
+  pub paid : ArePaidFor b L rows
   pub first : IsFirstIllegal rows fault
 
 -- the rows of a schema file are a schema, but without the file's root
@@ -70,8 +77,15 @@ pub record LacksRoot (b : List ℕ) (L : Bounds) : Type 0 where
   pub file : IsSchemaFile b L
   pub rows : Rows
   pub described : Describes (told b) rows
+  pub paid : ArePaidFor b L rows
   pub legal : IsLegal rows
   pub stray : HasStrayRoot (told b) rows
+
+-- the limits have a budget of reads, and a schema file has more rows, or longer names, than its length pays for
+pub record SharesTooMuch (b : List ℕ) (L : Bounds) : Type 0 where
+  pub file : IsSchemaFile b L
+  pub budget : IsSome L.reads
+  pub over : IsOver (told b) (length b)
 
 -- why nothing is loaded; memory may be refused wherever the bytes aren't too many
 abbrev pub IsLoadFault : List ℕ → Bounds → LoadFault → Type 0
@@ -80,6 +94,7 @@ IsLoadFault b L (NotWellFormed fault) = (length b < 2 ^ 31) × Stops published b
 IsLoadFault b L (BadSchema fault) = IsBadSchema b L fault
 IsLoadFault b L RootNotListed = LacksRoot b L
 IsLoadFault b L OutOfMemory = length b < 2 ^ 31
+IsLoadFault b L TooMuchShared = SharesTooMuch b L
 
 -- the fault that a schema fault is: memory was refused, or the rows are no schema
 abbrev pub build_fault : Code → SchemaFault → LoadFault

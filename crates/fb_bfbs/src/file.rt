@@ -1,7 +1,7 @@
 // What a schema file says.
 #![tactic(auto, using(crate::proofs::FixedFields::always, crate::proofs::FixedFields::maybe), unfolding(crate::proofs::FixedFields::computing))]
 
-ghost use Rattle.std.specs.Prelude.{◌≡◌, ◌<◌, ◌^◌, [], ◌∷◌, length, IfOk};
+ghost use Rattle.std.specs.Prelude.{◌≡◌, ◌<◌, ◌^◌, [], ◌∷◌, length, IfOk, IfSome, IfNone, MatchOption};
 ghost use Rattle.fb_schema.specs.Rows.{AreFew, rows_of};
 ghost use Rattle.fb_access.specs.declared.step.Step.TheVariants.{Field as ToField};
 ghost use Rattle.fb_access.specs.Denotes.{Denotes};
@@ -10,8 +10,11 @@ ghost use Rattle.fb_bfbs.specs.Says.{text_or_nothing};
 ghost use Rattle.fb_bfbs.specs.Seen.{seen, IsAt};
 ghost use Rattle.fb_bfbs.specs.Describes.{Describes, IsRootName};
 ghost use Rattle.fb_bfbs.specs.FileRows.{IsTold};
+ghost use Rattle.fb_bfbs.specs.Sums.{ArePaid, IsOver, IsToldFew};
 
+use crate::counted::{FieldCount, MemberCount};
 use crate::lists::rows_in;
+use crate::taking::is_enough_for;
 use crate::values::{table_or_none, text_in, text_or_none};
 use fb_access::{Place, at_root};
 use fb_schema::{EnumRow, Kind, ObjectRow};
@@ -55,17 +58,69 @@ fn schema_rows<'b>(alloc: Global, place: &Place<'_, 'b, '_, '_>) -> Result<FileR
     })
 }
 
-/// The rows of a schema file that was verified by the fixed table.
+/// So many rows are read of a file of any length, and one more for each four bytes, which an offset takes.
+const ROWS: u64 = 0x1_0000;
+
+/// So many bytes of names are read of a file of any length, and 16 more for each byte.
+const NAMES: u64 = 0x10_0000;
+
+/// Whether a schema file has so many rows at most.
+fn has_few_rows(alloc: Global, place: &Place<'_, '_, '_, '_>, most: u64) -> Result<bool, AllocError>
+    requires { IsAt place.now (Kind.Table 9) }
+    ensures { IfOk result (λ few. IsToldFew (seen place.now) most few) }
+{
+    let objects: Vec<FieldCount> = rows_in(alloc, place, 0)?;
+    let enums: Vec<MemberCount> = rows_in(alloc, place, 1)?;
+    Ok(is_enough_for(most, objects.as_slice(), enums.as_slice()))
+}
+
+/// A table Schema as far as so many bytes pay for its rows and their names: none where they don't.
+fn paid_rows<'b>(
+    alloc: Global,
+    place: &Place<'_, 'b, '_, '_>,
+    len: u64,
+) -> Result<Option<FileRows<'b>>, AllocError>
+    requires at { IsAt place.now (Kind.Table 9) }
+    requires short { length ((place.now).sealed).bytes < 2 ^ 31 }
+    requires len { len < 2 ^ 31 }
+    ensures told { IfOk result (λ o. IfSome o (λ f. IsTold (seen place.now) f)) }
+    ensures few { IfOk result (λ o. IfSome o (λ f. AreFew f.objects.items f.enums.items)) }
+    ensures paid { IfOk result (λ o. IfSome o (λ f. ArePaid (seen place.now) (rows_of f.objects.items f.enums.items) len)) }
+    ensures over { IfOk result (λ o. IfNone o (IsOver (seen place.now) len)) }
+{
+    if !has_few_rows(alloc, place, len / 4 + ROWS)? {
+        return Ok(None);
+    }
+    let rows = schema_rows(alloc, place)?;
+    if !is_enough_for(
+        16 * len + NAMES,
+        rows.objects.as_slice(),
+        rows.enums.as_slice(),
+    ) {
+        return Ok(None);
+    }
+    Ok(Some(rows))
+}
+
+/// The rows of a schema file that was verified by the fixed table: all of them, or as far as so many bytes pay for them
+/// and their names, none where they don't.
 pub fn file_rows<'b>(
     alloc: Global,
     verified: &Verified<'b, '_, '_>,
-) -> Result<FileRows<'b>, AllocError>
+    paying: Option<u64>,
+) -> Result<Option<FileRows<'b>>, AllocError>
     requires by_fixed { (verified.now).schema ≡ fixed }
     requires root { (verified.now).root ≡ 9 }
     requires short { length (verified.now).bytes < 2 ^ 31 }
-    ensures told { IfOk result (λ f. IsTold (Denotes (verified.now).bytes (verified.now).schema (verified.now).start (verified.now).root) f) }
-    ensures few { IfOk result (λ f. AreFew f.objects.items f.enums.items) }
+    requires len { IfSome paying (λ len. len < 2 ^ 31) }
+    ensures told { IfOk result (λ o. IfSome o (λ f. IsTold (Denotes (verified.now).bytes (verified.now).schema (verified.now).start (verified.now).root) f)) }
+    ensures few { IfOk result (λ o. IfSome o (λ f. AreFew f.objects.items f.enums.items)) }
+    ensures paid { IfOk result (λ o. IfSome o (λ f. IfSome paying (ArePaid (Denotes (verified.now).bytes (verified.now).schema (verified.now).start (verified.now).root) (rows_of f.objects.items f.enums.items)))) }
+    ensures over { IfOk result (λ o. IfNone o (MatchOption paying ⊥ (IsOver (Denotes (verified.now).bytes (verified.now).schema (verified.now).start (verified.now).root)))) }
 {
     let place = at_root(verified);
-    schema_rows(alloc, &place)
+    match paying {
+        Some(len) => paid_rows(alloc, &place, len),
+        None => Ok(Some(schema_rows(alloc, &place)?)),
+    }
 }

@@ -2,6 +2,7 @@
 #![tactic(auto)]
 
 mod copied;
+mod counted;
 pub mod examples;
 mod file;
 mod fixed;
@@ -11,6 +12,7 @@ pub mod load_laws;
 mod loading;
 mod rows;
 mod tables;
+mod taking;
 mod values;
 
 pub use fixed::reflection;

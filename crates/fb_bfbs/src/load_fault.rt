@@ -11,7 +11,8 @@ use std::alloc::AllocError;
 use std::error::Error;
 use std::fmt;
 
-/// Why a schema file gives no schema. They are asked in the order L5, L1, L2, L3; L4 may come in place of any but L5.
+/// Why a schema file gives no schema. They are asked in the order L5, L1, L6, L2, L3; L4 may come in place of any but
+/// L5.
 #[derive(Clone, Copy, Debug, PartialEq, Eq)]
 pub enum LoadFault {
     /// L1: the bytes aren't a bare buffer with the identifier `BFBS` that is well formed by the fixed table, within the
@@ -25,6 +26,10 @@ pub enum LoadFault {
     OutOfMemory,
     /// L5: there are 2^31 bytes or more.
     TooLong,
+    /// L6: the limits have a budget of reads, and the file has more rows, or these have longer names, than its length
+    /// pays for, counted in every place where they stand: more rows than 65,536 and one for each four bytes, or more
+    /// bytes of names than 1,048,576 and 16 for each byte.
+    TooMuchShared,
 }
 
 impl From<TooLong> for LoadFault {
@@ -109,6 +114,7 @@ impl fmt::Display for LoadFault {
             LoadFault::RootNotListed => write!(f, "L3 RootNotListed"),
             LoadFault::OutOfMemory => write!(f, "L4 OutOfMemory"),
             LoadFault::TooLong => write!(f, "L5 TooLong"),
+            LoadFault::TooMuchShared => write!(f, "L6 TooMuchShared"),
         }
     }
 }

@@ -1,10 +1,10 @@
 // A schema out of its file.
 
-ghost use Rattle.std.specs.Prelude.{◌≡◌, ◌<◌, ◌≤◌, ◌^◌, length, IfOk, OnOk, IfErr};
+ghost use Rattle.std.specs.Prelude.{◌≡◌, ◌<◌, ◌≤◌, ◌^◌, length, option_map, IfOk, OnOk, IfErr};
 ghost use Rattle.fb_bfbs.specs.Fixed.{fixed};
-ghost use Rattle.fb_schema.specs.Rows.{AreFew};
+ghost use Rattle.fb_schema.specs.Rows.{AreFew, rows_of};
 ghost use Rattle.fb_bfbs.specs.FileRows.{IsTold};
-ghost use Rattle.fb_bfbs.specs.Loads.{IsSchemaFile, HasTableForRoot, IsLoaded, IsLoadFault, told};
+ghost use Rattle.fb_bfbs.specs.Loads.{ArePaidFor, IsSchemaFile, HasTableForRoot, IsLoaded, IsLoadFault, told};
 
 use crate::file::{FileRows, file_rows};
 use crate::fixed::reflection;
@@ -31,7 +31,7 @@ pub struct Loaded<'b> {
 
 /// Room for as many open tables as the limits allow.
 fn scratch_of(alloc: Global, limits: Limits) -> Result<Scratch, AllocError>
-    ensures { IfOk result (λ s. limits.depth ≤ s) }
+    ensures { IfOk result (λ s. s ≡ limits.depth) }
 {
     match Scratch::new(alloc, limits.depth()) {
         Ok(scratch) => Ok(scratch),
@@ -40,11 +40,23 @@ fn scratch_of(alloc: Global, limits: Limits) -> Result<Scratch, AllocError>
     }
 }
 
+/// How many bytes pay for the rows of a file of this length, none where the limits have no budget of reads and the rows
+/// no bound.
+fn paying(limits: Limits, len: u64) -> Option<u64>
+    ensures { result ≡ option_map (λ _. len) limits.reads }
+{
+    match limits.reads() {
+        Some(_) => Some(len),
+        None => None,
+    }
+}
+
 /// Verifies the bytes by the fixed table, and reads the rows.
 fn read<'b>(alloc: Global, bytes: &'b [u8], limits: Limits) -> Result<FileRows<'b>, LoadFault>
     ensures file { OnOk result (IsSchemaFile bytes.now limits) }
     ensures told { IfOk result (λ f. IsTold (told bytes.now) f) }
     ensures few { IfOk result (λ f. AreFew f.objects.items f.enums.items) }
+    ensures paid { IfOk result (λ f. ArePaidFor bytes.now limits (rows_of f.objects.items f.enums.items)) }
     ensures no { IfErr result (λ fault. IsLoadFault bytes.now limits fault) }
 {
     let meter = Meter::new(bytes)?;
@@ -65,8 +77,10 @@ fn read_by<'b>(
     ensures file { OnOk result (IsSchemaFile meter.entry.bytes limits) }
     ensures told { IfOk result (λ f. IsTold (told meter.entry.bytes) f) }
     ensures few { IfOk result (λ f. AreFew f.objects.items f.enums.items) }
+    ensures paid { IfOk result (λ f. ArePaidFor meter.entry.bytes limits (rows_of f.objects.items f.enums.items)) }
     ensures no { IfErr result (λ fault. IsLoadFault meter.entry.bytes limits fault) }
 {
+    let paying = paying(limits, meter.len());
     let mut scratch = scratch_of(alloc, limits)?;
     let ident = Ident::Want(*b"BFBS");
     let checks = Checks::published();
@@ -80,7 +94,10 @@ fn read_by<'b>(
         checks,
         &mut scratch,
     )?;
-    Ok(file_rows(alloc, &verified)?)
+    match file_rows(alloc, &verified, paying)? {
+        Some(rows) => Ok(rows),
+        None => Err(LoadFault::TooMuchShared),
+    }
 }
 
 /// Loads a schema file: verifies it by the fixed table ([`reflection`]) as a bare buffer with the identifier `BFBS`,
@@ -91,9 +108,10 @@ fn read_by<'b>(
 ///
 /// # Errors
 ///
-/// L5 where there are 2^31 bytes or more; then L1 where the verifier says no; then L2 where the rows that the file
-/// describes are no schema; then L3 where the file has a root table and no listed table has its name. L4 may come in
-/// place of any but L5.
+/// L5 where there are 2^31 bytes or more; then L1 where the verifier says no; then, where the limits have a budget of
+/// reads, L6 where the file has more rows, or longer names, than its length pays for; then L2 where the rows that the
+/// file describes are no schema; then L3 where the file has a root table and no listed table has its name. L4 may come
+/// in place of any but L5.
 pub fn load<'b>(alloc: Global, bytes: &'b [u8], limits: Limits) -> Result<Loaded<'b>, LoadFault>
     ensures yes { IfOk result (λ loaded. IsLoaded bytes.now limits loaded) }
     ensures root { IfOk result (λ loaded. HasTableForRoot loaded) }

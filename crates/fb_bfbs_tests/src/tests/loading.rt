@@ -126,9 +126,11 @@ fn a_union_of_flatc_has_its_members(rt: HostRuntime) -> Result<(), Fail> {
 
 /// What each file shows, the file, and why it isn't loaded.
 const REFUSED: &str = "\
-    another identifier       | FILE 4=58   | L1 V5 WrongIdentifier at=4 object=9 field=- reads=1\n\
-    rows that are no schema  | FILE 156=12 | L2 C3 Unsupported owner=0 part=0\n\
-    a root that isn't listed | FILE 44=00  | L3 RootNotListed\n\
+    another identifier       | FILE 4=58         | L1 V5 WrongIdentifier at=4 object=9 field=- reads=1\n\
+    a table out of alignment | FILE 0=1a         | L1 V3 Misaligned at=26 object=9 field=- reads=2\n\
+    rows that are no schema  | FILE 156=12       | L2 C3 Unsupported owner=0 part=0\n\
+    these, and no such root  | OF_FLATC 104=01   | L2 C1 NoSuchObject owner=1 part=2\n\
+    a root that isn't listed | FILE 44=00        | L3 RootNotListed\n\
 ";
 
 /// Asserts why a file isn't loaded within these limits.
@@ -220,6 +222,12 @@ fn texts_of_the_other_faults(rt: HostRuntime) -> Result<(), Fail> {
     });
     is_told(&rt, rt.alloc(), twice, "L2 C8 NameTwice owner=3 part=-")?;
     is_told(&rt, rt.alloc(), LoadFault::TooLong, "L5 TooLong")?;
+    is_told(
+        &rt,
+        rt.alloc(),
+        LoadFault::TooMuchShared,
+        "L6 TooMuchShared",
+    )?;
     is_told(&rt, rt.alloc(), LoadFault::OutOfMemory, "L4 OutOfMemory")
 }
 

@@ -1,9 +1,12 @@
-use Rattle.std.proofs.Common.{◌<◌, ◌^◌, length, refl}
+use Rattle.std.proofs.Common.{◌<◌, ◌^◌, length, refl, ◌∙◌, ap}
 use Rattle.fb_verify.specs.declared.start.Start.TheVariants.{Bare}
+use Rattle.fb_schema.specs.Rows.{rows_of}
+use Rattle.fb_verify.specs.Sealed.{Sealed}
 use Rattle.fb_verify.specs.Stops.{Stops}
 use Rattle.fb_verify.proofs.Frames.{if_err_exit}
 use Rattle.fb_bfbs.specs.Fixed.{fixed}
 use Rattle.fb_bfbs.specs.Loads.{IsLoadFault, published, schema_number, schema_ident}
+use Rattle.fb_bfbs.proofs.Outcomes.{paid_for}
 use Rattle.fb_bfbs.proofs.loading.read_by.Goals as goal
 
 pub verify-requires-clause-table : goal.verify-requires-clause-table
@@ -17,3 +20,13 @@ returns-in_err-verified-clause-no c =
     let no : Stops published b fixed schema_number Bare schema_ident c.args.limits c.in_err-verified.field-0.0 =
     rw (c.requires.table, c.published-checks.ensures) at c.in_err-verified.ensures.no in
     if_err_exit c.from_residual-in_err-verified.result _ (IsLoadFault b c.args.limits) c.from_residual-in_err-verified.ensures.1 (short, no)
+
+pub returns-in-Some-clause-paid : goal.returns-in-Some-clause-paid
+returns-in-Some-clause-paid c =
+    let b = c.args.meter.bytes in
+    let v = c.in_ok-verified.verified in
+    let kept = c.in_ok-verified.ensures.kept in
+    let rows = c.in-Some.rows in
+    paid_for b c.args.limits v (ap (λ (x : Sealed). x.bytes) kept) (ap (λ (x : Sealed). x.schema) kept ∙ c.requires.table) (ap (λ (x : Sealed). x.start) kept) (ap (λ (x : Sealed). x.root) kept)
+    (rows_of rows.objects.items rows.enums.items) c.len.result c.paying-paying.result c.len.ensures.len c.paying-paying.ensures
+    (rw c.in-Some.is at c.in_ok-rows.ensures.told).rows (rw c.in-Some.is at c.in_ok-rows.ensures.paid)

@@ -1,0 +1,334 @@
+-- The links to a fault lead to what is under check.
+use Rattle.std.proofs.Common.{◌≡◌, ℕ, zero, suc, ◌+◌, ◌*◌, ◌<◌, ◌^◌, ◌==◌, if◌then◌else◌, Bool, true, false, List, [], ◌∷◌, ◌++◌, length, slice_get, decimal, option_map, option_and_then, IsTrue, Option, Some, None, Ok, append-nil, refl, sym, ◌∙◌, ap, subst, arith, inl, inr}
+use Rattle.std.proofs.lemmas.Bool.Decides.{Decides-eqb}
+use Rattle.fb_bytes.specs.Word.{word}
+use Rattle.fb_schema.specs.declared.kinds.Kind.{Kind}
+use Rattle.fb_schema.specs.declared.kinds.Kind.TheVariants.{Scalar, Text, Struct, Table, Union, Scalars, Texts, Structs, Tables, Unions}
+use Rattle.fb_schema.specs.Demands.{IsLegal}
+use Rattle.fb_schema.specs.Live.{Live, live_fields}
+use Rattle.fb_schema.specs.Members.{member_of, member_name}
+use Rattle.fb_schema.specs.Rows.{Rows, is_union}
+use Rattle.fb_schema.specs.Served.{KindHolds, IsServed}
+use Rattle.fb_verify.specs.declared.checks.Checks.{Checks}
+use Rattle.fb_verify.specs.declared.fault.Fault.{Fault}
+use Rattle.fb_verify.specs.declared.links.Link.{Link}
+use Rattle.fb_verify.specs.Bounds.{Bounds}
+use Rattle.fb_verify.specs.Places.{target, field_place}
+use Rattle.fb_verify.specs.Fields.{type_place, union_type, types_begin, IsVectorField, IsPresent, IsPresentOrAbsent, IsField, Lead, to_table, to_struct, to_string, to_nothing, lead_of, Entry, entry, union_entry, entries_of, entries_at, entries}
+use Rattle.fb_verify.specs.Tree.{kids_length, elements_length}
+use Rattle.fb_verify.specs.WellFormed.{base}
+use Rattle.fb_verify.specs.Way.{Way, way_to_start, way_to_root, way_to_field, way_to_element, way_to_table}
+use Rattle.fb_verify.specs.Stops.{in_start, in_head, in_field, in_element, Trail, at_head, at_field, FieldTrail, at_own, at_element, ElementTrail, at_lead, through, IsTrail, IsFieldTrail, IsElementTrail}
+use Rattle.fb_verify.specs.Links.{element_of, type_of, field_link, element_link, object_led_to, links_of, links_in_field, links_in_element}
+use Rattle.fb_access.specs.declared.step.Step.{Step}
+use Rattle.fb_access.specs.declared.step.Step.TheVariants.{Field, Element, Member}
+use Rattle.fb_access.specs.declared.spot.Spot.{Spot}
+use Rattle.fb_access.specs.declared.spot.Spot.TheVariants.{AtTable, AtText, AtTexts, AtTables, AtUnions, AtUnion, AtOtherMember}
+use Rattle.fb_access.specs.declared.misfit.Fitted.{Fitted}
+use Rattle.fb_access.specs.Denotes.{next_spot, Leads, Reaches}
+use Rattle.fb_access.specs.Fitting.{element_kind}
+use Rattle.fb_access.specs.Grammar.{Part, field, element, member, number_of}
+use Rattle.fb_access.specs.Location.{member_of_kind}
+use Rattle.fb_access.specs.LocationLaws.{field_parts, element_parts, member_parts, link_parts, parts_of, IsBehind, Arrives, LinksArrive}
+use Rattle.fb_access.specs.Resolving.{to_field, to_element, to_kind, to_member, fitting, Follows}
+use Rattle.fb_access.specs.Spots.{present_spot, spot_at, field_spot, spot_of_element, member_spot}
+use Rattle.fb_access.proofs.MemberKinds.{member_there, IsOfMember}
+use Rattle.fb_access.proofs.NumberedFields.{found_by_number}
+use Rattle.fb_access.proofs.StepLaws.{field_step, one_entry, row_get, union_row_get, element_there}
+use Rattle.fb_access.proofs.UniqueNames.{found_by_name, named_again, has_name}
+use Rattle.fb_access.proofs.Ways.{read_back}
+
+-- a step, and the kind to which it leads
+abbrev fitted : Step → Kind → Fitted
+fitted step kind = record { step = step; kind = kind }
+
+-- no table is led to by another lead
+string_is_no_table : (k : ℕ) → to_string ≡ to_table k → ⊥
+string_is_no_table k e = cc
+
+nothing_is_no_table : (k : ℕ) → to_nothing ≡ to_table k → ⊥
+nothing_is_no_table k e = cc
+
+struct_is_no_table : (size align k : ℕ) → to_struct size align ≡ to_table k → ⊥
+struct_is_no_table size align k e = cc
+
+same_table : {k j : ℕ} → to_table k ≡ to_table j → k ≡ j
+same_table h = cc
+
+module _ (b : List ℕ) (S : Rows) where
+  -- One way behind another.
+  follows_on : (kind mid last : Kind) (ps qs : List Part) (ss rs : List Step) → Follows S kind ps ss mid → Follows S mid qs rs last → Follows S kind (ps ++ qs) (ss ++ rs) last
+  follows_on kind mid last [] qs ss rs h g = subst (λ k. Follows S k qs (ss ++ rs) last) (sym h.1) (subst (λ xs. Follows S mid qs (xs ++ rs) last) (sym h.0) g)
+  follows_on kind mid last (p ∷ ps) qs ss rs h g = (h.0, h.1, h.2 ++ rs, ap (λ xs. xs ++ rs) h.3, follows_on (h.0).kind mid last ps qs h.2 rs h.4 g)
+
+  reaches_on : (p m q : Spot) (ss rs : List Step) → Reaches b S p ss m → Reaches b S m rs q → Reaches b S p (ss ++ rs) q
+  reaches_on p m q [] rs h g = subst (λ x. Reaches b S x rs q) (sym h) g
+  reaches_on p m q (s ∷ ss) rs h g = (h.0, h.1, reaches_on h.0 m q ss rs h.2 g)
+
+  -- By parts from a kind at a spot to what is behind an offset word.
+  record GoesTo (kind : Kind) (from : Spot) (parts : List Part) (place : ℕ) (lead : Lead) : Type 0 where
+    steps : List Step
+    last : Kind
+    end : Spot
+    follows : Follows S kind parts steps last
+    reaches : Reaches b S from steps end
+    behind : IsBehind b S place lead end
+    table : (k : ℕ) → lead ≡ to_table k → (last ≡ Table k) × (end ≡ AtTable k (target b place))
+
+  abbrev GoesBy : Kind → Spot → List Part → Entry → Type 0
+  GoesBy kind from parts x = GoesTo kind from parts x.place x.lead
+
+  -- one step before
+  goes_after : (kind next : Kind) (from at : Spot) (p : Part) (ps : List Part) (s : Step) (place : ℕ) (lead : Lead) → fitting S kind p ≡ Ok (fitted s next) → Leads b S from s at → GoesTo next at ps place lead → GoesTo kind from (p ∷ ps) place lead
+  goes_after kind next from at p ps s place lead fit leads g = record {
+    steps = s ∷ g.steps;
+    last = g.last;
+    end = g.end;
+    follows = (fitted s next, fit, g.steps, refl, g.follows);
+    reaches = (at, leads, g.reaches);
+    behind = g.behind;
+    table = g.table;
+  }
+
+  -- here
+  goes_here : (kind : Kind) (from : Spot) (place : ℕ) (lead : Lead) → IsBehind b S place lead from → ((k : ℕ) → lead ≡ to_table k → (kind ≡ Table k) × (from ≡ AtTable k (target b place))) → GoesTo kind from [] place lead
+  goes_here kind from place lead behind table = record { steps = []; last = kind; end = from; follows = (refl, refl); reaches = refl; behind = behind; table = table }
+
+  text_here : (p : ℕ) → GoesTo Text (AtText (target b p)) [] p to_string
+  text_here p = goes_here Text (AtText (target b p)) p to_string refl (λ k e. absurd (string_is_no_table k e))
+
+  table_here : (k p : ℕ) → GoesTo (Table k) (AtTable k (target b p)) [] p (to_table k)
+  table_here k p = goes_here (Table k) (AtTable k (target b p)) p (to_table k) refl (λ j e. (ap Table (same_table e), ap (λ n. AtTable n (target b p)) (same_table e)))
+
+  -- a member
+  member_here : (p : ℕ) (kind : Kind) → IsOfMember kind → GoesTo kind (member_spot b p kind) [] p (lead_of S (Some kind))
+  unfolding member_spot
+  member_here p Text is = text_here p
+  member_here p (Table k) is = table_here k p
+  member_here p (Struct k) is = goes_here (Struct k) (member_spot b p (Struct k)) p (lead_of S (Some (Struct k))) (k, refl, refl, refl) (λ j e. absurd (struct_is_no_table _ _ j e))
+  member_here p (Scalar s) is = absurd is
+  member_here p (Union e) is = absurd is
+  member_here p (Scalars s) is = absurd is
+  member_here p Texts is = absurd is
+  member_here p (Structs k) is = absurd is
+  member_here p (Tables k) is = absurd is
+  member_here p (Unions e) is = absurd is
+
+  same_type : (y : ℕ) {X : Type 0} (q r : X) → (if y == y then q else r) ≡ q
+  same_type y q r = go (y == y) ((Decides-eqb y y).1 refl) where
+    go : (t : Bool) → t ≡ true → (if t then q else r) ≡ q
+    go true e = refl
+    go false e = absurd cc
+
+  module _ (legal : IsLegal S) where
+    -- a union, and its member if the type has one
+    union_goes : (e y p : ℕ) → IsTrue (is_union S e) → GoesTo (Union e) (AtUnion e y p) (member_parts (member_name S e y)) p (lead_of S (member_of S e y))
+    unfolding next_spot
+    union_goes e y p there = named (member_name S e y) refl where
+      nameless : (kind : Option Kind) → member_of S e y ≡ kind → member_name S e y ≡ None → GoesTo (Union e) (AtUnion e y p) [] p (lead_of S kind)
+      nameless None h none = goes_here (Union e) (AtUnion e y p) p to_nothing (e, y, refl) (λ k i. absurd (nothing_is_no_table k i))
+      nameless (Some kind) h none = absurd (has_name S e y kind h none)
+
+      named : (name : Option (List ℕ)) → member_name S e y ≡ name → GoesTo (Union e) (AtUnion e y p) (member_parts name) p (lead_of S (member_of S e y))
+      named None h = nameless (member_of S e y) refl h
+      named (Some name) h =
+          let v = named_again S e y name legal there h in
+          let k = member_there S e y name legal there v in
+          let leads : Leads b S (AtUnion e y p) (Member y) (member_spot b p k.0) = ap (option_map (λ kind. if y == y then member_spot b p kind else AtOtherMember)) k.1 ∙ ap Some (same_type y (member_spot b p k.0) AtOtherMember) in
+          subst (λ o. GoesTo (Union e) (AtUnion e y p) (member name ∷ []) p (lead_of S o)) (sym k.1)
+          (goes_after (Union e) k.0 (AtUnion e y p) (member_spot b p k.0) (member name) [] (Member y) p (lead_of S (Some k.0)) (ap (to_member S e) v ∙ ap (to_kind y) k.1) leads (member_here p k.0 k.3))
+
+    -- an element of a vector
+    element_goes : (kind next : Kind) (from at : Spot) (j : ℕ) (ps : List Part) (place : ℕ) (lead : Lead) → j < 2 ^ 32 → element_kind kind ≡ Some next → Leads b S from (Element j) at → GoesTo next at ps place lead → GoesTo kind from (element (decimal j) ∷ ps) place lead
+    element_goes kind next from at j ps place lead small is leads g =
+        let fit : fitting S kind (element (decimal j)) ≡ Ok (fitted (Element j) next) = ap (to_element (number_of (decimal j))) is ∙ ap (λ n. Ok (fitted (Element n) next)) (read_back j small) in
+        goes_after kind next from at (element (decimal j)) ps (Element j) place lead fit leads g
+
+    module _ (t p j : ℕ) (g : Live) where
+      -- what a link has behind its field's name
+      abbrev parts_behind : Kind → List Part
+      parts_behind kind = element_parts (element_of j kind) ++ member_parts (option_and_then (λ value. member_of_kind S value kind) (type_of b t g j kind))
+
+      abbrev Behind : Kind → Entry → Type 0
+      Behind kind x = GoesBy kind (present_spot b t g.slot p kind) (parts_behind kind) x
+
+      one_union : (member : Option Kind) (x : Entry) → slice_get (union_entry S p member) j ≡ Some x → (x.place ≡ p) × (x.lead ≡ lead_of S member)
+      one_union None x h = absurd cc
+      one_union (Some kind) x h = let e = one_entry (entry (lead_of S (Some kind)) p 0) x j h in (ap (λ (y : Entry). y.place) (sym e), ap (λ (y : Entry). y.lead) (sym e))
+
+      text_goes : (x : Entry) (c : ℕ) → j < 2 ^ 32 → (j < word b c 4) × (entry to_string (c + 4 + 4 * j) 0 ≡ x) → GoesBy Texts (AtTexts c) (element (decimal j) ∷ []) x
+      unfolding next_spot spot_of_element
+      text_goes x c small h =
+          let q = AtText (target b (c + 4 + 4 * j)) in
+          subst (GoesBy Texts (AtTexts c) (element (decimal j) ∷ [])) h.1 (element_goes Texts Text (AtTexts c) q j [] (c + 4 + 4 * j) to_string small refl (ap Some (element_there b c j q h.0)) (text_here (c + 4 + 4 * j)))
+
+      table_goes : (x : Entry) (k c : ℕ) → j < 2 ^ 32 → (j < word b c 4) × (entry (to_table k) (c + 4 + 4 * j) 0 ≡ x) → GoesBy (Tables k) (AtTables k c) (element (decimal j) ∷ []) x
+      unfolding next_spot spot_of_element
+      table_goes x k c small h =
+          let q = AtTable k (target b (c + 4 + 4 * j)) in
+          subst (GoesBy (Tables k) (AtTables k c) (element (decimal j) ∷ [])) h.1 (element_goes (Tables k) (Table k) (AtTables k c) q j [] (c + 4 + 4 * j) (to_table k) small refl (ap Some (element_there b c j q h.0)) (table_here k (c + 4 + 4 * j)))
+
+      union_element_goes : (x : Entry) (e y c : ℕ) → IsTrue (is_union S e) → j < 2 ^ 32 → (j < word b c 4) × (entry (lead_of S (member_of S e (word b (y + j) 1))) (c + 4 + 4 * j) 1 ≡ x)
+          → GoesBy (Unions e) (AtUnions e y c) (element (decimal j) ∷ member_parts (member_name S e (word b (y + j) 1))) x
+      unfolding next_spot spot_of_element
+      union_element_goes x e y c there small h =
+          let z = word b (y + j) 1 in
+          let q = AtUnion e z (c + 4 + 4 * j) in
+          let ps = member_parts (member_name S e z) in
+          subst (GoesBy (Unions e) (AtUnions e y c) (element (decimal j) ∷ ps)) h.1
+          (element_goes (Unions e) (Union e) (AtUnions e y c) q j ps (c + 4 + 4 * j) (lead_of S (member_of S e z)) small refl (ap Some (element_there b c j q h.0)) (union_goes e z (c + 4 + 4 * j) there))
+
+      entry_goes : (kind : Kind) (x : Entry) → KindHolds S g kind → j < 2 ^ 32 → slice_get (entries_of b S t g p kind) j ≡ Some x → Behind kind x
+      unfolding present_spot
+      entry_goes (Scalar s) x holds small h = absurd cc
+      entry_goes (Struct k) x holds small h = absurd cc
+      entry_goes (Scalars s) x holds small h = absurd cc
+      entry_goes (Structs k) x holds small h = absurd cc
+      entry_goes Text x holds small h = subst (GoesBy Text (AtText (target b p)) []) (one_entry (entry to_string p 0) x j h) (text_here p)
+      entry_goes (Table k) x holds small h = subst (GoesBy (Table k) (AtTable k (target b p)) []) (one_entry (entry (to_table k) p 0) x j h) (table_here k p)
+      entry_goes (Union e) x holds small h =
+          let y = union_type b (type_place b t g.slot) in
+          let i = one_union (member_of S e y) x h in
+          let ps = member_parts (member_name S e y) in
+          subst (λ lead. GoesTo (Union e) (AtUnion e y p) ps x.place lead) (sym i.1) (subst (λ place. GoesTo (Union e) (AtUnion e y p) ps place (lead_of S (member_of S e y))) (sym i.0) (union_goes e y p holds))
+      entry_goes Texts x holds small h = text_goes x (target b p) small (row_get to_string (target b p + 4) (word b (target b p) 4) j x h)
+      entry_goes (Tables k) x holds small h = table_goes x k (target b p) small (row_get (to_table k) (target b p + 4) (word b (target b p) 4) j x h)
+      entry_goes (Unions e) x holds small h =
+          let y = types_begin b (type_place b t g.slot) in
+          union_element_goes x e y (target b p) holds small (union_row_get b S e y (target b p + 4) (word b (target b p) 4) j x h)
+
+    -- a field's offset words are not more than the buffer has room for
+    module _ (c : Checks) (short : length b < 2 ^ 31) (t j : ℕ) (g : Live) where
+      in_vector : (p : ℕ) → IsVectorField c b t p 4 4 → j < word b (target b p) 4 → j < 2 ^ 32
+      in_vector p h lt = omega (arith, h.vector.within, lt)
+
+      alone : (y x : Entry) → slice_get (y ∷ []) j ≡ Some x → j < 2 ^ 32
+      alone y x h = go j h where
+        go : (i : ℕ) → slice_get (y ∷ []) i ≡ Some x → i < 2 ^ 32
+        go zero h = omega arith
+        go (suc i) h = absurd cc
+
+      in_union : (p : ℕ) (member : Option Kind) (x : Entry) → slice_get (union_entry S p member) j ≡ Some x → j < 2 ^ 32
+      in_union p None x h = absurd cc
+      in_union p (Some kind) x h = alone (entry (lead_of S (Some kind)) p 0) x h
+
+      few_of : (p : ℕ) (kind : Kind) (x : Entry) → IsPresent c b S t g p kind → slice_get (entries_of b S t g p kind) j ≡ Some x → j < 2 ^ 32
+      few_of p (Scalar s) x h e = absurd cc
+      few_of p (Struct k) x h e = absurd cc
+      few_of p (Scalars s) x h e = absurd cc
+      few_of p (Structs k) x h e = absurd cc
+      few_of p Text x h e = alone (entry to_string p 0) x e
+      few_of p (Table k) x h e = alone (entry (to_table k) p 0) x e
+      few_of p (Union u) x h e = in_union p (member_of S u (union_type b (type_place b t g.slot))) x e
+      few_of p Texts x h e = in_vector p h (row_get to_string (target b p + 4) (word b (target b p) 4) j x e).0
+      few_of p (Tables k) x h e = in_vector p h (row_get (to_table k) (target b p + 4) (word b (target b p) 4) j x e).0
+      few_of p (Unions u) x h e = in_vector p h.field (union_row_get b S u (types_begin b (type_place b t g.slot)) (target b p + 4) (word b (target b p) 4) j x e).0
+
+      -- past a field, where it stands somewhere
+      field_goes : (place : Option ℕ) (x : Entry) → IsPresentOrAbsent c b S t g place → KindHolds S g g.kind → slice_get (entries_at b S t g place) j ≡ Some x → GoesBy g.kind (spot_at b t g place) (parts_behind t 0 j g g.kind) x
+      field_goes None x h holds e = absurd cc
+      field_goes (Some p) x h holds e = entry_goes t p j g g.kind x holds (few_of p g.kind x h e) e
+
+    module _ (served : IsServed S) (k t i : ℕ) (g : Live) (at : slice_get (live_fields S k) i ≡ Some g) where
+      -- the field of a link, and what it has behind it
+      field_first : (j value : Option ℕ) → link_parts S (record { object = k; field = g.number; element = j; member = value })
+          ≡ field g.name ∷ (element_parts j ++ member_parts (option_and_then (λ v. member_of_kind S v g.kind) value))
+      field_first j value =
+          ap (λ n. field_parts (option_map (λ (f : Live). f.name) n) ++ element_parts j ++ member_parts (option_and_then (λ (f : Live). option_and_then (λ v. member_of_kind S v f.kind) value) n)) (found_by_number S served k i g at)
+
+      field_fits : fitting S (Table k) (field g.name) ≡ Ok (fitted (Field g.number) g.kind)
+      field_fits = ap to_field (found_by_name S legal k served i g at)
+
+      field_leads : Leads b S (AtTable k t) (Field g.number) (field_spot b t g)
+      field_leads = field_step b S k t g.number g (found_by_number S served k i g at)
+
+      -- a link through an offset word of a field that holds
+      link_goes : (c : Checks) (j : ℕ) (x : Entry) → length b < 2 ^ 31 → IsField c b S t g → slice_get (entries b S t g) j ≡ Some x → GoesBy (Table k) (AtTable k t) (link_parts S (element_link b k t g j)) x
+      unfolding IsField entries
+      link_goes c j x short own next =
+          let behind = field_goes c short t j g (field_place b t g.slot) x own (served.kinds k i g at) next in
+          subst (λ ps. GoesBy (Table k) (AtTable k t) ps x) (sym (field_first (element_of j g.kind) (type_of b t g j g.kind)))
+          (goes_after (Table k) g.kind (AtTable k t) (field_spot b t g) (field g.name) (parts_behind t 0 j g g.kind) (Field g.number) x.place x.lead field_fits field_leads behind)
+
+  -- Along a trail.
+  module _ (legal : IsLegal S) (served : IsServed S) (short : length b < 2 ^ 31) (c : Checks) (L : Bounds) (f : Fault) where
+    abbrev ArrivesFrom : Kind → Spot → List Link → Type 0
+    ArrivesFrom kind from links = Arrives c b S L kind from f links
+
+    -- behind a link
+    arrives_on : (kind : Kind) (from : Spot) (link : Link) (links : List Link) (x : Entry) (k : ℕ) → x.lead ≡ to_table k → GoesBy kind from (link_parts S link) x → ArrivesFrom (Table k) (AtTable k (target b x.place)) links → ArrivesFrom kind from (link ∷ links)
+    arrives_on kind from link links x k lead g r =
+        let to = g.table k lead in
+        record {
+          steps = g.steps ++ r.steps;
+          last = r.last;
+          follows = follows_on kind g.last r.last (link_parts S link) (parts_of S links) g.steps r.steps g.follows (subst (λ z. Follows S z (parts_of S links) r.steps r.last) (sym to.0) r.follows);
+          end = r.end;
+          reaches = reaches_on from g.end r.end g.steps r.steps g.reaches (subst (λ z. Reaches b S z r.steps r.end) (sym to.1) r.reaches);
+          place = r.place;
+          way = r.way;
+          fails = r.fails;
+          is_there = r.is_there;
+        }
+
+    one_link : (S : Rows) (link : Link) → link_parts S link ++ [] ≡ link_parts S link
+    one_link S link = append-nil (link_parts S link)
+
+    mutual
+      unfolding IsTrail IsFieldTrail IsElementTrail links_of links_in_field links_in_element
+
+      trail_arrives : (s : Trail) (k t : ℕ) (w : Way) → IsTrail s c b S L k t w f → ArrivesFrom (Table k) (AtTable k t) (links_of s b S k t)
+      trail_arrives at_head k t w h = record { steps = []; last = Table k; follows = (refl, refl); end = AtTable k t; reaches = refl; place = in_head k t; way = w; fails = h; is_there = refl }
+      trail_arrives (at_field earlier s) k t w h =
+          subst (λ g. ArrivesFrom (Table k) (AtTable k t) (links_in_field s b S k t g)) (sym h.1.next) (field_arrives s k t (kids_length earlier) h.0 (way_to_field c b S k t earlier h.0 w) h.1.next h.2)
+
+      field_arrives : (s : FieldTrail) (k t i : ℕ) (g : Live) (w : Way) → slice_get (live_fields S k) i ≡ Some g → IsFieldTrail s c b S L t g w f → ArrivesFrom (Table k) (AtTable k t) (links_in_field s b S k t (Some g))
+      field_arrives at_own k t i g w at h = record {
+        steps = Field g.number ∷ [];
+        last = g.kind;
+        follows = subst (λ ps. Follows S (Table k) ps (Field g.number ∷ []) g.kind) (sym (one_link S (field_link k g) ∙ field_first legal served k t i g at None None)) (fitted (Field g.number) g.kind, field_fits legal served k t i g at, [], refl, (refl, refl));
+        end = field_spot b t g;
+        reaches = (field_spot b t g, field_leads legal served k t i g at, refl);
+        place = in_field t g;
+        way = w;
+        fails = h;
+        is_there = refl;
+      }
+      field_arrives (at_element before s) k t i g w at h =
+          let link = element_link b k t g (elements_length before) in
+          subst (λ x. ArrivesFrom (Table k) (AtTable k t) (link ∷ links_in_element s b S x)) (sym h.1.next)
+          (element_arrives s (Table k) (AtTable k t) link h.0 (way_to_element c b S t g before w) (link_goes legal served k t i g at c (elements_length before) h.0 short h.1.own h.1.next) h.2)
+
+      element_arrives : (s : ElementTrail) (kind : Kind) (from : Spot) (link : Link) (x : Entry) (w : Way) → GoesBy kind from (link_parts S link) x → IsElementTrail s c b S L x w f → ArrivesFrom kind from (link ∷ links_in_element s b S (Some x))
+      element_arrives at_lead kind from link x w g h = record {
+        steps = g.steps;
+        last = g.last;
+        follows = subst (λ ps. Follows S kind ps g.steps g.last) (sym (one_link S link)) g.follows;
+        end = g.end;
+        reaches = g.reaches;
+        place = in_element x;
+        way = w;
+        fails = h;
+        is_there = g.behind;
+      }
+      element_arrives (through s) kind from link x w g h =
+          let t = target b x.place in
+          arrives_on kind from link (links_of s b S (object_led_to x.lead) t) x h.0 h.1 g
+          (subst (λ k. ArrivesFrom (Table h.0) (AtTable h.0 t) (links_of s b S k t)) (sym (ap object_led_to h.1)) (trail_arrives s h.0 t (way_to_table x w) h.3))
+
+pub links_arrive : LinksArrive
+links_arrive c b S root start ident L f links legal served short (inl h) =
+    subst (Arrives c b S L (Table root) (AtTable root (target b (base start))) f) (sym h.1) (record {
+      steps = [];
+      last = Table root;
+      follows = (refl, refl);
+      end = AtTable root (target b (base start));
+      reaches = refl;
+      place = in_start start ident;
+      way = way_to_start root;
+      fails = h.0;
+      is_there = tt;
+    })
+links_arrive c b S root start ident L f links legal served short (inr h) =
+    let t = target b (base start) in
+    subst (Arrives c b S L (Table root) (AtTable root t) f) h.1.2 (trail_arrives b S legal served short c L f h.1.0 root t (way_to_root root start ident) h.1.1)

@@ -1,0 +1,48 @@
+-- How many rows a schema file says that it has, and how many it describes.
+use Rattle.std.proofs.Common.{◌≡◌, ℕ, ◌+◌, ◌≤◌, List, [], ◌∷◌, map, length, refl, sym, ◌∙◌, ap, subst}
+use Rattle.std.specs.List.{sum_by}
+use Rattle.std.proofs.lemmas.List.Sums.{sum_by-cons}
+use Rattle.fb_schema.specs.Rows.{Object, Enum, Rows}
+use Rattle.fb_access.specs.declared.step.Step.TheVariants.{Field as ToField}
+use Rattle.fb_access.specs.Denotes.{vector}
+use Rattle.fb_bfbs.specs.Says.{Says, after, AreRows}
+use Rattle.fb_bfbs.specs.Describes.{IsObjectRow, IsEnumRow, Describes}
+use Rattle.fb_bfbs.specs.Sums.{rows_count, object_rows, Lists, listed_rows, HasRows, IsPaid, ArePaid, most_rows}
+use Rattle.fb_bfbs.proofs.Composed.{mapped_rows}
+use Rattle.fb_bfbs.proofs.OneFile.{IsSingle, IsOnly, only_rows}
+
+abbrev fields_of : Object → ℕ
+fields_of o = length o.fields
+
+abbrev members_of : Enum → ℕ
+members_of e = length e.members
+
+-- a list has one length
+only_list : IsOnly Lists
+only_list D m n h a b = let e = h (ToField 1 ∷ []) (vector m) (vector n) a b in cc
+
+pub sum_mapped : {X Y : Type 0} (f : Y → ℕ) (g : X → Y) (xs : List X) → sum_by f (map g xs) ≡ sum_by (λ x. f (g x)) xs
+sum_mapped f g [] = refl
+sum_mapped f g (x ∷ xs) = sum_by-cons f (g x) (map g xs) ∙ ap (λ n. f (g x) + n) (sum_mapped f g xs) ∙ sym (sum_by-cons (λ y. f (g y)) x xs)
+
+objects_listed : (D : Says) (os : List Object) → AreRows IsObjectRow D os → AreRows Lists D (map fields_of os)
+objects_listed D os rows = mapped_rows Lists D fields_of os (record { count = rows.count; each = λ j o e. ((rows.each j o e).fields).count })
+
+enums_listed : (D : Says) (es : List Enum) → AreRows IsEnumRow D es → AreRows Lists D (map members_of es)
+enums_listed D es rows = mapped_rows Lists D members_of es (record { count = rows.count; each = λ j e is. ((rows.each j e is).members).count })
+
+-- what a file describes is as much as it says that it has
+pub counted : (D : Says) (rows : Rows) (n : ℕ) → IsSingle D → HasRows D n → Describes D rows → n ≡ rows_count rows
+counted D rows n single has described =
+    let objects = only_rows Lists only_list (after D (ToField 0)) has.objects (map fields_of rows.objects) (λ steps x y. single (ToField 0 ∷ steps) x y) has.fields (objects_listed (after D (ToField 0)) rows.objects described.objects) in
+    let enums = only_rows Lists only_list (after D (ToField 1)) has.enums (map members_of rows.enums) (λ steps x y. single (ToField 1 ∷ steps) x y) has.members (enums_listed (after D (ToField 1)) rows.enums described.enums) in
+    has.total ∙ ap (λ xs. sum_by listed_rows xs + sum_by listed_rows has.enums) objects ∙ ap (λ xs. sum_by listed_rows (map fields_of rows.objects) + sum_by listed_rows xs) enums
+    ∙ ap (λ m. m + sum_by listed_rows (map members_of rows.enums)) (sum_mapped listed_rows fields_of rows.objects)
+    ∙ ap (λ m. sum_by object_rows rows.objects + m) (sum_mapped listed_rows members_of rows.enums)
+
+-- rows that are paid for, by what the file says that it has
+pub paid_rows : (D : Says) (rows : Rows) (n : ℕ) → IsSingle D → Describes D rows → ArePaid D rows n → IsPaid rows n
+paid_rows D rows n single described paid = record {
+  count = subst (λ m. m ≤ most_rows n) (counted D rows paid.count single paid.has described) paid.few;
+  names = paid.names;
+}

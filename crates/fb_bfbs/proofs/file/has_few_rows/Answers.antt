@@ -1,0 +1,34 @@
+use Rattle.std.proofs.Common.{◌≡◌, ℕ, ◌+◌, ◌≤◌, ◌↔◌, IsTrue, map, refl, sym, ◌∙◌, ap, subst}
+use Rattle.std.specs.List.{sum_by}
+use Rattle.fb_bfbs.specs.declared.counted.FieldCount.{FieldCount}
+use Rattle.fb_bfbs.specs.declared.counted.MemberCount.{MemberCount}
+use Rattle.fb_bfbs.specs.Sums.{Lists, listed_rows}
+use Rattle.fb_bfbs.proofs.Composed.{mapped_rows}
+use Rattle.fb_bfbs.proofs.Counts.{sum_mapped}
+use Rattle.fb_bfbs.proofs.file.has_few_rows.Goals as goal
+
+abbrev field_count : FieldCount → ℕ
+field_count c = c.count
+
+abbrev member_count : MemberCount → ℕ
+member_count c = c.count
+
+pub returns : goal.returns
+returns c =
+    let objects = c.in_ok-objects.objects.items in
+    let enums = c.in_ok-enums.enums.items in
+    let fields : sum_by (λ (x : FieldCount). listed_rows x.count) c.as_slice.result.now ≡ sum_by listed_rows (map field_count objects) =
+    ap (sum_by (λ (x : FieldCount). listed_rows x.count)) c.as_slice.ensures.value ∙ sym (sum_mapped listed_rows field_count objects) in
+    let members : sum_by (λ (x : MemberCount). listed_rows x.count) c.as_slice-2.result.now ≡ sum_by listed_rows (map member_count enums) =
+    ap (sum_by (λ (x : MemberCount). listed_rows x.count)) c.as_slice-2.ensures.value ∙ sym (sum_mapped listed_rows member_count enums) in
+    record {
+      rows = sum_by listed_rows (map field_count objects) + sum_by listed_rows (map member_count enums);
+      has = record {
+        objects = map field_count objects;
+        enums = map member_count enums;
+        fields = mapped_rows Lists _ field_count objects c.in_ok-objects.ensures.rows;
+        members = mapped_rows Lists _ member_count enums c.in_ok-enums.ensures.rows;
+        total = refl;
+      };
+      told = subst (λ n. IsTrue c.is_enough_for.result ↔ (n ≤ c.args.most)) (ap (λ n. n + sum_by (λ (x : MemberCount). listed_rows x.count) c.as_slice-2.result.now) fields ∙ ap (λ n. sum_by listed_rows (map field_count objects) + n) members) c.is_enough_for.ensures;
+    }
