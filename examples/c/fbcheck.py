@@ -95,14 +95,14 @@ class Options(ctypes.Structure):
     _fields_ = [
         *_fields(_U32, "version max_depth"),
         ("max_reads", _U64),
-        ("max_tables", _U32),
+        *_fields(_U32, "max_tables reads_per_byte"),
         ("ident", _U8 * 4),
         *_fields(_U8, "has_ident prefixed no_alignment inline_size"),
-        ("reserved", _U32 * 9),
+        ("reserved", _U32 * 8),
     ]
 
     def __init__(self, ident: bytes | None = None, **words):
-        super().__init__(version=VERSION, max_depth=64, max_reads=1_000_000_000, max_tables=1_000_000)
+        super().__init__(version=VERSION, max_depth=64, max_reads=100_000_000, max_tables=1_000_000, reads_per_byte=64)
         for name, value in words.items():
             if name not in dict(self._fields_) or name in ("ident", "has_ident", "reserved"):
                 raise TypeError(f"no option {name}")

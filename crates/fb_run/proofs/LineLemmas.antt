@@ -1,26 +1,44 @@
 -- A line that stands at the end of its room.
-use Rattle.std.proofs.Common.{◌≡◌, ℕ, ◌+◌, ◌<◌, ◌≤◌, ◌^◌, List, [], ◌++◌, Option, Some, None, length, drop, arith, ap, refl, length-drop, length-append}
-use Rattle.std.specs.Prelude.{decimal, option_map}
+use Rattle.std.proofs.Common.{suc, ◌∷◌, get_or, subst, ◌≡◌, ℕ, ◌+◌, ◌-◌, ◌<◌, ◌≤◌, ◌^◌, List, [], ◌++◌, Option, Some, None, length, drop, drop-cons, arith, ap, refl, append_assoc, length-append}
+use Rattle.std.specs.Prelude.{decimal, option_map, slice_index_or, slice_set}
 use Rattle.std.proofs.Math.ListN.{drop_of_length-le}
-use Rattle.std.proofs.lemmas.Fmt.{length-decimal-le}
+use Rattle.std.proofs.lemmas.List.{drop-set}
+use Rattle.std.proofs.lemmas.Fmt.{decimal_digit, length-decimal-le}
 use Rattle.fb_run.specs.Line.{short_ending}
 
 -- nothing stands behind the end
 pub drop_whole : (room : List ℕ) (n : ℕ) → length room ≡ n → drop n room ≡ []
 drop_whole room n long = drop_of_length-le room (omega (arith, long))
 
--- twenty places are room for a number of 64 bits
-pub digits_fit : (line room : List ℕ) (number start : ℕ) → line ≡ drop start room → length room ≡ 640 → start ≤ 640 → length line + 20 ≤ 640 → number < 2 ^ 64
-    → length (decimal number) ≤ start
-digits_fit line room number start is long within free bits =
-    let digits = length-decimal-le 20 number (omega arith) (omega arith) bits in
-    omega (arith, ap length is, length-drop start room)
+-- a number of 64 bits has at most twenty digits
+pub digits_few : (number : ℕ) → number < 2 ^ 64 → length (decimal number) ≤ 20
+digits_few number bits = length-decimal-le 20 number (omega arith) (omega arith) bits
+
+-- a digit that was put before a place stands in front of what stands there
+pub digit_before : (room : List ℕ) (place digit : ℕ) → digit < 10 → 0 < place → place ≤ length room → drop (place - 1) (slice_set room (place - 1) (48 + digit)) ≡ decimal digit ++ drop place room
+digit_before room place digit small behind within =
+    let e : place - 1 + 1 ≡ place = omega arith in
+    rw (drop-set room (place - 1) (48 + digit) (omega arith), e, decimal_digit digit small)
+
+-- a byte that was put before a place, from before the end of a text that stands there, is the front of more of it
+pub byte_before : (room text behind : List ℕ) (place left : ℕ) → 0 < left → left ≤ length text → 0 < place → place ≤ length room → drop place room ≡ drop left text ++ behind
+    → drop (place - 1) (slice_set room (place - 1) (slice_index_or text (left - 1) 0)) ≡ drop (left - 1) text ++ behind
+byte_before room text behind place left some inside later within is =
+    let e : place - 1 + 1 ≡ place = omega arith in
+    let e' : suc (left - 1) ≡ left = omega arith in
+    let front : drop (left - 1) text ≡ get_or text (left - 1) 0 ∷ drop left text = subst (λ (k : ℕ). drop (left - 1) text ≡ get_or text (left - 1) 0 ∷ drop k text) e' (drop-cons text (left - 1) 0 (omega arith)) in
+    rw (drop-set room (place - 1) (slice_index_or text (left - 1) 0) (omega arith), e, is, front)
 
 -- a number in front makes a line longer by no more than that
 pub digits_more : (line line' rest : List ℕ) (number : ℕ) → line' ≡ decimal number ++ rest → rest ≡ line → number < 2 ^ 64 → length line' ≤ length line + 20
 digits_more line line' rest number is same bits =
-    let digits = length-decimal-le 20 number (omega arith) (omega arith) bits in
+    let digits = digits_few number bits in
     omega (arith, ap length is, ap length same, length-append (decimal number) rest)
+
+-- what a line was put together from, one in front of the other, are the same parts one after another
+pub parts_joined : (a b c d e f g : List ℕ) → a ++ (b ++ (c ++ (d ++ (e ++ (f ++ g))))) ≡ a ++ b ++ c ++ d ++ e ++ f ++ g
+parts_joined a b c d e f g =
+    rw (append_assoc (a ++ b ++ c ++ d ++ e) f g, append_assoc (a ++ b ++ c ++ d) e (f ++ g), append_assoc (a ++ b ++ c) d (e ++ (f ++ g)), append_assoc (a ++ b) c (d ++ (e ++ (f ++ g))), append_assoc a b (c ++ (d ++ (e ++ (f ++ g)))))
 
 -- a line ends the same whatever is said of what stands behind it
 pub ends_as : {A B : Type 0} (f : A → B) (behind : Option A) → short_ending (option_map f behind) ≡ short_ending behind

@@ -6,13 +6,13 @@ use Rattle.fb_verify.specs.Reasons.{reason_text}
 use Rattle.fb_verify.specs.Stops.{Stops}
 use Rattle.fb_verify.specs.declared.fault.Fault.{Fault}
 use Rattle.fb_verify.specs.declared.links.Link.{Link}
-use Rattle.fb_run.specs.Job.{IsVerdict, Job, No, Verdict}
+use Rattle.fb_run.specs.Job.{IsVerdict, Job, No, Verdict, limits_for}
 use Rattle.fb_run.specs.Line.{field_text, no_end, short_line, verdict_line, with_place}
 use Rattle.fb_run.specs.declared.options.Places.TheVariants.{Words}
 
 -- where words are asked for, there is a verdict with them
-pub has_place : (job : Job) (bytes : List ℕ) (fault : Fault) (links : List Link) → job.names ≡ Words → Stops job.checks bytes job.rows job.root job.start job.ident job.limits fault
-    → StopsAlong job.checks bytes job.rows job.root job.start job.ident job.limits fault links → (verdict : Verdict) × IsVerdict job bytes verdict
+pub has_place : (job : Job) (bytes : List ℕ) (fault : Fault) (links : List Link) → job.names ≡ Words → Stops job.checks bytes job.rows job.root job.start job.ident (limits_for job bytes) fault
+    → StopsAlong job.checks bytes job.rows job.root job.start job.ident (limits_for job bytes) fault links → (verdict : Verdict) × IsVerdict job bytes verdict
 has_place job bytes fault links words stops along =
     (Err (record { fault = fault; place = Some (location_text job.rows fault links) }), (stops, (words, links, along, refl)))
 

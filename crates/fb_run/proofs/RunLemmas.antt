@@ -4,17 +4,17 @@ use Rattle.std.specs.Io.KnownBytes.{Consumes, Appends}
 use Rattle.std.proofs.KnownBytes.{Consumes-nil, Consumes-trans, Appends-kept, Appends-nil, Appends-trans, Keeps-refl}
 use Rattle.fb_verify.specs.declared.start.Start.{Start}
 use Rattle.fb_verify.specs.declared.start.Start.TheVariants as start
-use Rattle.fb_bytes.specs.declared.stream_fault.StreamFault.TheVariants as stream
-use Rattle.fb_run.specs.Faults.{IsCaused}
+use Rattle.fb_run.specs.Faults.{End, EndsBeside, IsCaused, end_of}
 use Rattle.fb_run.specs.Job.{Job}
 use Rattle.fb_run.specs.Sums.{no_tally}
 use Rattle.fb_run.specs.Prompt.{IsPrompt, IsPromptFrom, IsStreamPrompt}
-use Rattle.fb_run.specs.Run.{IsBareRun, IsRunBeside, IsRunFrom, IsStreamRun}
+use Rattle.fb_run.specs.Run.{IsBareRun, answer_by, IsRunBeside, IsRunFrom, IsStreamRun}
 use Rattle.fb_run.specs.Lines.{WritesFronts}
 use Rattle.fb_run.specs.Texts.{Texts, followed, silent, to_notes}
 use Rattle.fb_run.specs.Stream.{FailsStream, Gathers, Halts, Onward, Standing, Tells, TellsSome, WhyStream}
 use Rattle.fb_run.specs.declared.fault.RunFault.{RunFault}
 use Rattle.fb_run.specs.declared.fault.RunFault.TheVariants as run
+use Rattle.fb_run.specs.declared.run.Ran.{Ran}
 use Rattle.fb_run.specs.declared.tally.Tally.{Tally}
 use Rattle.fb_run.proofs.StreamLemmas.{rests_memory, tells_nothing}
 use Rattle.fb_run.proofs.TextsLemmas.{followed_silent, same_texts}
@@ -84,11 +84,6 @@ fails_used job before count noted k piece slice waits tally r r' r'' s s' s'' n 
       rests = halts' bytes text (told_empty job before bytes text none tells);
     }
 
--- what was counted is the same
-pub fails_counted : (job : Job) (limit : ℕ) (r r' s s' n n' : Option (List ℕ)) (told tally : Tally) (fault : RunFault) → told ≡ tally
-    → FailsStream job limit r r' s s' n n' tally fault → FailsStream job limit r r' s s' n n' told fault
-fails_counted job limit r r' s s' n n' told tally fault is fails = subst (λ (t : Tally). FailsStream job limit r r' s s' n n' t fault) (sym is) fails
-
 -- a text with the front of more behind it, and then the rest
 front_of : (text more : List ℕ) (taken : ℕ) → text ++ more ≡ (text ++ take taken more) ++ drop taken more
 front_of text more taken = ap (λ l. text ++ l) (sym (take-append-drop taken more)) ∙ sym (append_assoc text (take taken more) (drop taken more))
@@ -136,14 +131,11 @@ fails_write job before count count' noted noted' k piece slice waits tally r r' 
 fails_write job before count count' noted noted' k piece slice waits tally r r' r'' s s' s'' n n' n'' _ all none counts notes sofar second gathers never = absurd never
 
 -- a flush that failed is the cause of its fault, whatever else was counted
-pub caused_flush : (f f' w w' w0 k k' k0 left : ℕ) (ended : Bool) (fault : RunFault) → w ≡ w0 → k ≡ k0
+pub caused_flush : (f f' w w' w0 k k' k0 left : ℕ) (ended : Bool) (fault : RunFault) → f' ≡ f → w ≡ w0 → k ≡ k0
     → ((x y : ℕ) (z : Bool) → IsCaused x x w w' k k' y z fault) → IsCaused f f' w0 w' k0 k' left ended fault
-caused_flush f f' w w' w0 k k' k0 left ended run.ReadFault sw sk caused = absurd (omega (arith, caused 0 left ended))
-caused_flush f f' w w' w0 k k' k0 left ended (run.WriteFault written) sw sk caused = omega (arith, sw, caused 0 left ended)
-caused_flush f f' w w' w0 k k' k0 left ended (run.NoteFault written) sw sk caused = omega (arith, sk, caused 0 left ended)
-caused_flush f f' w w' w0 k k' k0 left ended run.TooManyTurns sw sk caused = caused 0 left ended
-caused_flush f f' w w' w0 k k' k0 left ended (run.Stream (stream.Truncated held)) sw sk caused = caused 0 left ended
-caused_flush f f' w w' w0 k k' k0 left ended _ sw sk caused = caused 0 left ended
+caused_flush f f' w w' w0 k k' k0 left ended fault sf sw sk caused =
+    subst (λ (x : ℕ). IsCaused f x w0 w' k0 k' left ended fault) (sym sf)
+    (subst (λ (x : ℕ). IsCaused f f x w' k0 k' left ended fault) sw (subst (λ (x : ℕ). IsCaused f f w w' x k' left ended fault) sk (caused f left ended)))
 
 -- what is so of a bare start, or of the other, is so of the start that a job says
 at_bare : (P : Start → Type 0) (from says : Start) → from ≡ says → from ≡ start.Bare → P start.Bare → P says
@@ -154,22 +146,22 @@ at_stream P start.Bare says is other p = absurd (other refl)
 at_stream P start.Prefixed says is other p = subst P is p
 
 module _ (job : Job) (from : Start) (r r' s s' n n' : Option (List ℕ)) (is : from ≡ job.start) where
-  module _ (so_far : Tally) (answer : Result Tally RunFault) where
+  module _ (tally : Tally) (end : End) where
     -- a run over one bare input is the run of a job that says so, and so is one over a stream
-    pub runs_bare : from ≡ start.Bare → IsBareRun job r r' s s' n n' so_far answer → IsRunBeside job r r' s s' n n' so_far answer
-    runs_bare = at_bare (λ x. IsRunFrom x job r r' s s' n n' so_far answer) from job.start is
+    pub runs_bare : from ≡ start.Bare → IsBareRun job r r' s s' n n' tally end → IsRunBeside job r r' s s' n n' tally end
+    runs_bare = at_bare (λ x. IsRunFrom x job r r' s s' n n' tally end) from job.start is
 
-    pub runs_stream : (from ≡ start.Bare → ⊥) → IsStreamRun job r r' s s' n n' so_far answer → IsRunBeside job r r' s s' n n' so_far answer
-    runs_stream = at_stream (λ x. IsRunFrom x job r r' s s' n n' so_far answer) from job.start is
+    pub runs_stream : (from ≡ start.Bare → ⊥) → IsStreamRun job r r' s s' n n' tally end → IsRunBeside job r r' s s' n n' tally end
+    runs_stream = at_stream (λ x. IsRunFrom x job r r' s s' n n' tally end) from job.start is
 
   -- it is prompt where that run is
   pub prompt_stream : (from ≡ start.Bare → ⊥) → IsStreamPrompt job r r' s s' n n' → IsPrompt job r r' s s' n n'
   prompt_stream = at_stream (λ x. IsPromptFrom x job r r' s s' n n') from job.start is
 
 -- a job that is the same has the same run, and is prompt with it
-pub runs_by : (job job' : Job) (r r' s s' n n' : Option (List ℕ)) (so_far : Tally) (answer : Result Tally RunFault) → job ≡ job'
-    → IsRunBeside job r r' s s' n n' so_far answer → IsRunBeside job' r r' s s' n n' so_far answer
-runs_by job job' r r' s s' n n' so_far answer is run = subst (λ (j : Job). IsRunBeside j r r' s s' n n' so_far answer) is run
+pub runs_by : (job job' : Job) (r r' s s' n n' : Option (List ℕ)) (tally : Tally) (end : End) → job ≡ job'
+    → IsRunBeside job r r' s s' n n' tally end → IsRunBeside job' r r' s s' n n' tally end
+runs_by job job' r r' s s' n n' tally end is run = subst (λ (j : Job). IsRunBeside j r r' s s' n n' tally end) is run
 
 pub prompt_by : (job job' : Job) (r r' s s' n n' : Option (List ℕ)) → job ≡ job' → IsPrompt job r r' s s' n n' → IsPrompt job' r r' s s' n n'
 prompt_by job job' r r' s s' n n' is prompt = subst (λ (j : Job). IsPrompt j r r' s s' n n') is prompt
@@ -179,8 +171,16 @@ none_from : (from : Start) (job : Job) (r s n : Option (List ℕ)) → IsRunFrom
 none_from start.Bare job r s n = ([], Consumes-nil r, (omega arith, ((Keeps-refl s, Keeps-refl n), refl)))
 none_from start.Prefixed job r s n = fails_empty job job.limit r s n
 
-pub runs_none : (job : Job) (r s n : Option (List ℕ)) (told : Tally) → told ≡ no_tally → IsRunBeside job r r s s n n told (Err run.OutOfMemory)
-runs_none job r s n told is = subst (λ (t : Tally). IsRunBeside job r r s s n n t (Err run.OutOfMemory)) (sym is) (none_from job.start job r s n)
+pub runs_none : (job : Job) (r s n : Option (List ℕ)) (ran : Ran) → ran ≡ record { tally = no_tally; end = Err run.OutOfMemory } → IsRunBeside job r r s s n n ran.tally ran.end
+runs_none job r s n ran is = subst (λ (t : Ran). IsRunBeside job r r s s n n t.tally t.end) (sym is) (none_from job.start job r s n)
+
+pub ends_none : (f w k left : ℕ) (ended : Bool) (ran : Ran) → ran ≡ record { tally = no_tally; end = Err run.OutOfMemory } → EndsBeside f f w w k k left ended ran.end
+ends_none f w k left ended ran is = subst (λ (t : Ran). EndsBeside f f w w k k left ended t.end) (sym is) (refl, refl, refl)
+
+-- the end that an answer tells is that of its run
+pub same_end : (tally : Tally) (end : End) → end_of (answer_by tally end) ≡ end
+same_end tally (Ok done) = refl
+same_end tally (Err fault) = refl
 
 -- the exit of a `?`
 pub err_exit : {A E : Type 0} (answer : Result A E) (x : E) (P : Result A E → Type 0) → IsErrAnd answer (λ e. e ≡ x) → P (Err x) → P answer

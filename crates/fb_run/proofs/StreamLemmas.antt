@@ -189,9 +189,6 @@ some_of job limit bytes text tally run.TooManyTurns kind rests = absurd kind
 some_of job limit bytes text tally (run.WriteFault written) kind rests = absurd kind
 some_of job limit bytes text tally (run.NoteFault written) kind rests = absurd kind
 some_of job limit bytes text tally (run.BareTooLong most) kind rests = absurd kind
-some_of job limit bytes text tally (run.Load fault) kind rests = absurd kind
-some_of job limit bytes text tally (run.Path fault) kind rests = absurd kind
-some_of job limit bytes text tally run.NoRoot kind rests = absurd kind
 
 -- so does one in which the run came to rest
 pub gathers_halts : (job : Job) (before : Standing) (piece : List ℕ) (text : Texts) (tally : Tally) (fault : RunFault) → IsFeedFault fault → Halts job before piece text tally fault

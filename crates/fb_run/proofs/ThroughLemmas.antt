@@ -65,25 +65,19 @@ through_halts job before piece s s' count text tally run.TooManyTurns kind none 
 through_halts job before piece s s' count text tally (run.WriteFault written) kind none keeps halts = absurd kind
 through_halts job before piece s s' count text tally (run.NoteFault written) kind none keeps halts = absurd kind
 through_halts job before piece s s' count text tally (run.BareTooLong most) kind none keeps halts = absurd kind
-through_halts job before piece s s' count text tally (run.Load fault) kind none keeps halts = absurd kind
-through_halts job before piece s s' count text tally (run.Path fault) kind none keeps halts = absurd kind
-through_halts job before piece s s' count text tally run.NoRoot kind none keeps halts = absurd kind
 
--- such a fault has no other cause
-pub feed_caused : (f w w' k left : ℕ) (ended : Bool) (fault : RunFault) → IsFeedFault fault → IsCaused f f w w' k k left ended fault
-feed_caused f w w' k left ended (run.Stream (stream.Oversize number)) kind = tt
-feed_caused f w w' k left ended run.OutOfMemory kind = tt
-feed_caused f w w' k left ended (run.Stream (stream.Truncated held)) kind = absurd kind
-feed_caused f w w' k left ended (run.Stream stream.OutOfMemory) kind = absurd kind
-feed_caused f w w' k left ended (run.Stream stream.Failed) kind = absurd kind
-feed_caused f w w' k left ended run.ReadFault kind = absurd kind
-feed_caused f w w' k left ended run.TooManyTurns kind = absurd kind
-feed_caused f w w' k left ended (run.WriteFault written) kind = absurd kind
-feed_caused f w w' k left ended (run.NoteFault written) kind = absurd kind
-feed_caused f w w' k left ended (run.BareTooLong most) kind = absurd kind
-feed_caused f w w' k left ended (run.Load fault) kind = absurd kind
-feed_caused f w w' k left ended (run.Path fault) kind = absurd kind
-feed_caused f w w' k left ended run.NoRoot kind = absurd kind
+-- such a fault has no call that failed
+pub feed_caused : (f w k left : ℕ) (ended : Bool) (fault : RunFault) → IsFeedFault fault → IsCaused f f w w k k left ended fault
+feed_caused f w k left ended (run.Stream (stream.Oversize number)) kind = (refl, refl, refl)
+feed_caused f w k left ended run.OutOfMemory kind = (refl, refl, refl)
+feed_caused f w k left ended (run.Stream (stream.Truncated held)) kind = absurd kind
+feed_caused f w k left ended (run.Stream stream.OutOfMemory) kind = absurd kind
+feed_caused f w k left ended (run.Stream stream.Failed) kind = absurd kind
+feed_caused f w k left ended run.ReadFault kind = absurd kind
+feed_caused f w k left ended run.TooManyTurns kind = absurd kind
+feed_caused f w k left ended (run.WriteFault written) kind = absurd kind
+feed_caused f w k left ended (run.NoteFault written) kind = absurd kind
+feed_caused f w k left ended (run.BareTooLong most) kind = absurd kind
 
 -- what is told of a message came to rest
 pub through_stops : (job : Job) (before : Standing) (old new : Framing) (piece message : List ℕ) (used : ℕ) (whole : Bool) (tally' : Tally) (s s' : Option (List ℕ)) (count : ℕ) (fault : RunFault)
@@ -188,9 +182,6 @@ module _ (job : Job) (before : Standing) (piece : List ℕ) (tally : Tally) (s s
   stops_held (run.NoteFault written) halts = still (run.NoteFault written) halts
   stops_held (run.Stream cause) halts = still (run.Stream cause) halts
   stops_held (run.BareTooLong most) halts = still (run.BareTooLong most) halts
-  stops_held (run.Load cause) halts = still (run.Load cause) halts
-  stops_held (run.Path cause) halts = still (run.Path cause) halts
-  stops_held run.NoRoot halts = still run.NoRoot halts
 
 module _ (job : Job) (before : Standing) (count noted k : ℕ) (piece slice : List ℕ) (r r' r'' s s' s'' n n' n'' : Option (List ℕ)) (all : slice ≡ piece) (none : before.text ≡ silent)
     (sofar : Sofar job r r' s s' n n' before count noted) (read : Consumes r' r'' (take k piece)) where

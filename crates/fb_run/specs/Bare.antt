@@ -8,7 +8,7 @@ use Rattle.fb_run.specs.Sums.{no_tally, tally_with}
 use Rattle.fb_run.specs.declared.tally.Tally.{Tally}
 use Rattle.fb_run.specs.Lines.{WritesFronts}
 use Rattle.fb_run.specs.declared.fault.RunFault.{RunFault}
-use Rattle.fb_run.specs.declared.fault.RunFault.TheVariants.{ReadFault, WriteFault, NoteFault, Stream, TooManyTurns, OutOfMemory, BareTooLong, Load, Path, NoRoot}
+use Rattle.fb_run.specs.declared.fault.RunFault.TheVariants.{ReadFault, WriteFault, NoteFault, Stream, TooManyTurns, OutOfMemory, BareTooLong}
 
 -- the whole input was read, is within the limit, and what is told of it was written
 pub record PassesBare (job : Job) (limit : ℕ) (source source' sink sink' notes notes' : Option (List ℕ)) (tally : Tally) : Type 0 where
@@ -46,9 +46,6 @@ WhyBare job limit bytes sink sink' notes notes' tally (NoteFault written) = (len
 WhyBare job limit bytes sink sink' notes notes' tally ReadFault = (length bytes ≤ limit) × Untold sink sink' notes notes' tally
 WhyBare job limit bytes sink sink' notes notes' tally TooManyTurns = (length bytes ≤ limit) × Untold sink sink' notes notes' tally
 WhyBare job limit bytes sink sink' notes notes' tally (Stream fault) = ⊥
-WhyBare job limit bytes sink sink' notes notes' tally (Load fault) = ⊥
-WhyBare job limit bytes sink sink' notes notes' tally (Path fault) = ⊥
-WhyBare job limit bytes sink sink' notes notes' tally NoRoot = ⊥
 WhyBare job limit bytes sink sink' notes notes' tally OutOfMemory = (length bytes ≤ limit) × Untold sink sink' notes notes' tally
 
 -- these bytes were read, and then came the fault

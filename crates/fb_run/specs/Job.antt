@@ -1,8 +1,8 @@
 -- What the buffers of a run are checked by, and what a verdict on one of them says.
-use Rattle.std.specs.Prelude.{◌≡◌, ℕ, ◌<◌, ◌≤◌, ◌^◌, IsTrue, Bool, true, false, List, Option, Some, None, Result, Ok, Err, option_map}
+use Rattle.std.specs.Prelude.{◌≡◌, ℕ, ◌<◌, ◌≤◌, ◌^◌, IsTrue, Bool, true, false, List, length, Option, Some, None, Result, Ok, Err, option_map}
 use Rattle.std.specs.Borrow.{Bor}
 use Rattle.fb_schema.specs.Rows.{Rows, is_table}
-use Rattle.fb_verify.specs.Bounds.{Bounds}
+use Rattle.fb_verify.specs.Bounds.{Bounds, limits_of_length}
 use Rattle.fb_verify.specs.Stops.{Stops}
 use Rattle.fb_verify.specs.Links.{StopsAlong}
 use Rattle.fb_verify.specs.declared.links.Link.{Link}
@@ -26,19 +26,25 @@ use Rattle.fb_run.specs.declared.options.Places.{Places}
 use Rattle.fb_run.specs.declared.options.Places.TheVariants.{Numbers, Words}
 use Rattle.fb_run.specs.declared.options.Options.{Options}
 
--- a schema with its root, how a buffer starts, the identifier, the limits and the checks, the steps to the value that
--- is asked for, the most bytes that a message may have, what is told of messages, and how of the places of faults
+-- a schema with its root, how a buffer starts, the identifier, the limits, the reads that each byte of a buffer allows,
+-- the checks, the steps to the value that is asked for, the most bytes that a message may have, what is told of
+-- messages, and how of the places of faults
 pub record Job : Type 0 where
   pub rows : Rows
   pub root : ℕ
   pub start : Start
   pub ident : Ident
   pub limits : Bounds
+  pub per_byte : ℕ
   pub checks : Checks
   pub steps : Option (List Step)
   pub limit : ℕ
   pub mode : Mode
   pub names : Places
+
+-- the limits of a buffer, by its length
+abbrev pub limits_for : Job → List ℕ → Bounds
+limits_for job bytes = limits_of_length job.limits job.per_byte (length bytes)
 
 -- a yes: what was counted, and the value that was asked for
 pub record Yes : Type 0 where
@@ -65,13 +71,13 @@ IsAnswer bytes rows start root _ _ = ⊥
 abbrev pub IsPlace : Job → List ℕ → Fault → Option (List ℕ) → Type 0
 IsPlace job bytes fault None = job.names ≡ Numbers
 IsPlace job bytes fault (Some text) =
-    (job.names ≡ Words) × (links : List Link) × StopsAlong job.checks bytes job.rows job.root job.start job.ident job.limits fault links × (text ≡ location_text job.rows fault links)
+    (job.names ≡ Words) × (links : List Link) × StopsAlong job.checks bytes job.rows job.root job.start job.ident (limits_for job bytes) fault links × (text ≡ location_text job.rows fault links)
 
 -- what a verdict on these bytes says: a yes counts a tree that is well formed and within the limits, and has the value
 -- that is asked for; a no is the one fault that stops, with its place
 abbrev pub IsVerdict : Job → List ℕ → Verdict → Type 0
-IsVerdict job bytes (Ok found) = Reports job.checks bytes job.rows job.root job.start job.ident job.limits found.report × IsAnswer bytes job.rows job.start job.root job.steps found.answer
-IsVerdict job bytes (Err bad) = Stops job.checks bytes job.rows job.root job.start job.ident job.limits bad.fault × IsPlace job bytes bad.fault bad.place
+IsVerdict job bytes (Ok found) = Reports job.checks bytes job.rows job.root job.start job.ident (limits_for job bytes) found.report × IsAnswer bytes job.rows job.start job.root job.steps found.answer
+IsVerdict job bytes (Err bad) = Stops job.checks bytes job.rows job.root job.start job.ident (limits_for job bytes) bad.fault × IsPlace job bytes bad.fault bad.place
 
 -- a verdict without where the bytes of its value or place lie in memory
 abbrev pub verdict_of : Result Found Wrong → Verdict
@@ -88,10 +94,23 @@ abbrev pub verdict_beside : Job → List ℕ → Result Found Fault → Verdict
 verdict_beside job text (Ok found) = Ok (record { report = found.report; answer = option_map shown found.answer })
 verdict_beside job text (Err fault) = Err (record { fault = fault; place = place_beside job.names text })
 
+-- whether no more is asked of a buffer than what was counted, or its fault by numbers: neither a value nor words
+abbrev pub asks_little : Option (List Step) → Places → Bool
+asks_little None Numbers = true
+asks_little _ _ = false
+
+abbrev pub is_brief : Job → Bool
+is_brief job = asks_little job.steps job.names
+
+-- a verdict where no more is asked
+abbrev pub brief_verdict : Result Report Fault → Verdict
+brief_verdict (Ok report) = Ok (record { report = report; answer = None })
+brief_verdict (Err fault) = Err (record { fault = fault; place = None })
+
 -- a buffer that is well formed by a job, or its fault with these words
 abbrev pub IsVerified : Job → List ℕ → List ℕ → Result Sealed Fault → Type 0
 IsVerified job bytes text (Ok v) =
-    Reports job.checks bytes job.rows job.root job.start job.ident job.limits v.report
+    Reports job.checks bytes job.rows job.root job.start job.ident (limits_for job bytes) v.report
     × (v ≡ record { bytes = bytes; schema = job.rows; root = job.root; start = job.start; checks = job.checks; report = v.report })
 IsVerified job bytes text (Err fault) = IsVerdict job bytes (Err (record { fault = fault; place = place_beside job.names text }))
 
@@ -108,6 +127,7 @@ job_of rows options = record {
   start = start_of options.bare;
   ident = options.ident;
   limits = options.limits;
+  per_byte = options.reads_per_byte;
   checks = record { alignment = options.alignment; inline_size = options.inline_size };
   steps = options.path;
   limit = options.max_bytes;

@@ -3,8 +3,9 @@ use Rattle.std.specs.Prelude.{◌≡◌, ℕ, ◌+◌, ◌≤◌, List, [], ◌�
 use Rattle.std.specs.Io.KnownBytes.{Appends, Keeps}
 use Rattle.fb_run.specs.Job.{Job, Verdict}
 use Rattle.fb_run.specs.Texts.{Texts, followed, silent, to_out}
-use Rattle.fb_run.specs.Line.{IsTold}
+use Rattle.fb_run.specs.Line.{IsTold, told_of}
 use Rattle.fb_run.specs.Sums.{no_tally, tally_with}
+use Rattle.fb_run.specs.declared.options.Mode.{Mode}
 use Rattle.fb_run.specs.declared.tally.Tally.{Tally}
 use Rattle.fb_run.specs.declared.fault.RunFault.{RunFault}
 use Rattle.fb_run.specs.declared.fault.RunFault.TheVariants.{OutOfMemory, WriteFault, NoteFault}
@@ -28,6 +29,12 @@ pub record AddsTold (job : Job) (k : ℕ) (message : List ℕ) (text : Texts) (t
   pub is_line : IsTold job k message verdict line
   pub out_is : text'.out ≡ text.out ++ line.out
   pub notes_are : text'.notes ≡ text.notes ++ line.notes
+  pub tally_is : tally' ≡ tally_with message verdict tally
+
+-- behind this text came what the mode tells of message number k by this verdict, which was counted
+pub record Adds (mode : Mode) (k : ℕ) (message : List ℕ) (verdict : Verdict) (text : Texts) (tally : Tally) (text' : Texts) (tally' : Tally) : Type 0 where
+  pub out_is : text'.out ≡ text.out ++ (told_of mode k message verdict).out
+  pub notes_are : text'.notes ≡ text.notes ++ (told_of mode k message verdict).notes
   pub tally_is : tally' ≡ tally_with message verdict tally
 
 -- a write came to rest within this text: its first bytes are written, with which so many were in all

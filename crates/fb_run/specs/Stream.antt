@@ -10,7 +10,7 @@ use Rattle.fb_run.specs.Lines.{AreTold, WritesFront, WritesFronts}
 use Rattle.fb_run.specs.declared.stream.Carried.{Carried}
 use Rattle.fb_run.specs.declared.tally.Tally.{Tally}
 use Rattle.fb_run.specs.declared.fault.RunFault.{RunFault}
-use Rattle.fb_run.specs.declared.fault.RunFault.TheVariants.{ReadFault, WriteFault, NoteFault, Stream, TooManyTurns, OutOfMemory, BareTooLong, Load, Path, NoRoot}
+use Rattle.fb_run.specs.declared.fault.RunFault.TheVariants.{ReadFault, WriteFault, NoteFault, Stream, TooManyTurns, OutOfMemory, BareTooLong}
 
 -- these bytes are messages of which this is told, and the rest is held
 abbrev pub Tells : Job → ℕ → List ℕ → Texts → Tally → List ℕ → Type 0
@@ -33,9 +33,6 @@ WhyStream job limit bytes messages rest text tally OutOfMemory = TellsSome job l
 WhyStream job limit bytes messages rest text tally (WriteFault written) = (written ≡ length text.out) × ((more : Texts) × TellsSome job limit bytes (followed text more) tally)
 WhyStream job limit bytes messages rest text tally (NoteFault written) = (written ≡ length text.notes) × ((more : List ℕ) × TellsSome job limit bytes (followed text (to_notes more)) tally)
 WhyStream job limit bytes messages rest text tally (BareTooLong most) = ⊥
-WhyStream job limit bytes messages rest text tally (Load fault) = ⊥
-WhyStream job limit bytes messages rest text tally (Path fault) = ⊥
-WhyStream job limit bytes messages rest text tally NoRoot = ⊥
 
 -- a run over these bytes came to rest so
 abbrev pub Rests : Job → ℕ → List ℕ → Texts → Tally → RunFault → Type 0

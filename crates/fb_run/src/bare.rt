@@ -12,11 +12,10 @@ use crate::checker::Checker;
 use crate::fault::RunFault;
 use crate::output::Output;
 use crate::room::Room;
-use crate::tally::Tally;
 use fb_bytes::Sink;
 use std::alloc::Allocator;
 
-/// Writes what is told of the whole input. Then `so_far` has what was counted.
+/// Writes what is told of the whole input, and counts its verdict.
 pub fn tell_whole<A: Allocator, K: Sink, N: Sink>(
     output: &mut Output<A>,
     checker: &Checker<'_, '_, '_>,
@@ -24,8 +23,7 @@ pub fn tell_whole<A: Allocator, K: Sink, N: Sink>(
     bytes: &[u8],
     writer: &mut K,
     notes: &mut N,
-    so_far: &mut Tally,
-) -> Result<Tally, RunFault>
+) -> Result<(), RunFault>
     requires empty { waiting output.old ≡ silent }
     requires counted { output.old.counter ≡ no_tally }
     requires written { output.old.out.written ≡ 0 }
@@ -36,14 +34,12 @@ pub fn tell_whole<A: Allocator, K: Sink, N: Sink>(
     requires writes { K.calls writer.old < 2 ^ 64 }
     requires tells { N.calls notes.old < 2 ^ 64 }
     ensures run { (source source' : Option (List ℕ)) → Consumes source source' bytes.now
-        → IsBareRun checker.now source source' (K.contents writer.old) (K.contents writer.new) (N.contents notes.old) (N.contents notes.new) so_far.new result }
+        → IsBareRun checker.now source source' (K.contents writer.old) (K.contents writer.new) (N.contents notes.old) (N.contents notes.new) output.new.counter result }
     ensures end { (failures left : ℕ) → EndsBeside failures failures (K.failures writer.old) (K.failures writer.new)
         (N.failures notes.old) (N.failures notes.new) left true result }
     ensures pushes { N.calls notes.new ≤ N.calls notes.old + 2 ^ 64 }
 {
-    let added = output.add_through(checker, room, bytes, writer);
-    *so_far = output.tally();
-    added?;
+    output.add_through(checker, room, bytes, writer)?;
     output.flush(writer, notes)?;
-    Ok(output.tally())
+    Ok(())
 }

@@ -1,16 +1,18 @@
 //! The verifier, with what a run hands it for every buffer.
 
-ghost use Rattle.std.specs.Prelude.{IfOk, IfErr, ◌≡◌, ◌<◌, ◌≤◌, ◌^◌, length, option_map};
+ghost use Rattle.std.specs.Prelude.{IfOk, IfErr, IsTrue, ◌≡◌, ◌<◌, ◌≤◌, ◌^◌, length, option_map};
 ghost use Rattle.fb_access.specs.Denotes.{shown};
 ghost use Rattle.fb_run.specs.declared.options.Places.TheVariants.{Words};
-ghost use Rattle.fb_run.specs.Job.{HasRoom, IsAnswer, IsVerdict, IsVerified, PathFits, Serves, Verdict, job_of, verdict_beside, verdict_of};
+ghost use Rattle.fb_run.specs.Job.{HasRoom, IsAnswer, IsVerdict, IsVerified, PathFits, Serves, Verdict, brief_verdict, is_brief, job_of, limits_for, verdict_beside, verdict_of};
 
 use crate::options::{Mode, Options, Places};
 use crate::room::Room;
 use fb_access::{Answer, Path, get, put_location};
 use fb_bytes::Meter;
 use fb_schema::Schema;
-use fb_verify::{Checks, Fault, Located, Report, Start, Verified, verify, verify_and_locate};
+use fb_verify::{
+    Checks, Fault, Limits, Located, Report, Start, Verified, verify, verify_and_locate, walk,
+};
 use std::alloc::{AllocError, Allocator};
 use std::marker::Model;
 
@@ -110,6 +112,39 @@ impl<'s, 'n, 'o> Checker<'s, 'n, 'o> {
         }
     }
 
+    /// Whether no more is asked of a buffer than a report, or a fault by its numbers: neither a value nor words.
+    #[inline(always)]
+    pub fn is_brief(&self) -> bool
+        ensures { result ≡ is_brief self.now }
+    {
+        self.options.path.is_none() && self.options.names == Places::Numbers
+    }
+
+    /// The verdict on one buffer, where no more is asked: the report, or the fault.
+    #[inline(always)]
+    pub fn report<A: Allocator>(&self, room: &mut Room<A>, bytes: &[u8]) -> Result<Report, Fault>
+        requires brief { IsTrue (is_brief self.now) }
+        requires room { HasRoom self.now room.old }
+        requires short { length bytes.now < 2 ^ 31 }
+        ensures verdict { IsVerdict self.now bytes.now (brief_verdict result) }
+        ensures room { HasRoom self.now room.new }
+    {
+        let Ok(mut meter) = Meter::new(bytes) else {
+            unreachable!()
+        };
+        let Options { root, ident, .. } = *self.options;
+        walk(
+            &mut meter,
+            self.schema,
+            root,
+            self.start(),
+            ident,
+            self.limits_for(bytes),
+            self.checks(),
+            &mut room.scratch,
+        )
+    }
+
     /// How each buffer begins.
     pub fn start(&self) -> Start
         ensures { result ≡ self.now.start }
@@ -119,6 +154,19 @@ impl<'s, 'n, 'o> Checker<'s, 'n, 'o> {
         } else {
             Start::Prefixed
         }
+    }
+
+    /// The limits of a buffer, by its length.
+    fn limits_for(&self, bytes: &[u8]) -> Limits
+        requires short { length bytes.now < 2 ^ 31 }
+        ensures { result ≡ limits_for self.now bytes.now }
+    {
+        let Options {
+            limits,
+            reads_per_byte,
+            ..
+        } = *self.options;
+        limits.of_length(reads_per_byte, bytes.len() as u64)
     }
 
     /// What is checked beside what always is.
@@ -148,12 +196,8 @@ impl<'s, 'n, 'o> Checker<'s, 'n, 'o> {
             unreachable!()
         };
         let schema = self.schema;
-        let Options {
-            root,
-            ident,
-            limits,
-            ..
-        } = *self.options;
+        let Options { root, ident, .. } = *self.options;
+        let limits = self.limits_for(bytes);
         let start = self.start();
         let checks = self.checks();
         let scratch = &mut room.scratch;

@@ -1,11 +1,12 @@
 //! Counts verdicts.
 
-ghost use Rattle.std.specs.Prelude.{◌≡◌, ◌+◌, ◌<◌, ◌^◌, length};
-ghost use Rattle.fb_run.specs.Job.{verdict_of};
+ghost use Rattle.std.specs.Prelude.{Ok, ◌≡◌, ◌+◌, ◌<◌, ◌^◌, length};
+ghost use Rattle.fb_run.specs.Job.{brief_verdict, verdict_of};
 ghost use Rattle.fb_run.specs.Sums.{no_tally, tally_with};
 
 use crate::checker::{Found, Wrong};
 use crate::tally::{Tally, place_of};
+use fb_verify::Report;
 use std::marker::Model;
 
 /// What a run came to so far. No sum is more than so many messages can have.
@@ -49,6 +50,20 @@ impl Counter {
         ensures { result ≡ self.now.yes + self.now.no }
     {
         self.tally.yes + self.tally.no
+    }
+
+    /// Counts a message with this report, of which no more is asked.
+    #[inline(always)]
+    pub fn count_yes(&mut self, message: &[u8], report: &Report)
+        requires few { self.old.yes + self.old.no < 2 ^ 63 }
+        requires short { length message.now < 2 ^ 31 }
+        ensures { self.new ≡ tally_with message.now (brief_verdict (Ok report.now)) self.old }
+    {
+        let tally = &mut self.tally;
+        tally.bytes += message.len() as u128;
+        tally.yes += 1;
+        tally.tables += u128::from(report.tables);
+        tally.reads = tally.reads.saturating_add(report.reads);
     }
 
     /// Counts a message with this verdict.

@@ -27,6 +27,6 @@ pub use input::Input;
 pub use line::Line;
 pub use options::{Mode, Options, Places};
 pub use reading::MOST_TURNS;
-pub use run::{run_beside, run_within};
+pub use run::{Ran, run_beside, run_within};
 pub use tally::Tally;
 pub use writing::{Nowhere, push_all};

@@ -1,7 +1,7 @@
 //! The line of a verdict.
 
-ghost use Rattle.std.specs.Prelude.{◌≡◌, ◌+◌, ◌≤◌, ◌++◌, [], length, decimal};
-ghost use Rattle.fb_run.specs.Job.{verdict_of};
+ghost use Rattle.std.specs.Prelude.{Ok, ◌≡◌, ◌+◌, ◌≤◌, ◌++◌, [], drop, length, decimal};
+ghost use Rattle.fb_run.specs.Job.{brief_verdict, verdict_of};
 ghost use Rattle.fb_run.specs.Line.{field_text, no_end, place_end, short_ending, short_line, yes_end};
 
 use crate::checker::{Found, Wrong};
@@ -60,6 +60,22 @@ impl Line {
             Err(wrong) => self.put_no(&wrong.fault, short_end(&wrong.place)),
         }
         self.put_number(number);
+    }
+
+    /// Makes it the line of message number `number` with this report and no value, whatever it was before.
+    #[inline(always)]
+    pub fn set_yes(&mut self, number: u64, report: &Report)
+        ensures { self.new ≡ short_line number (brief_verdict (Ok report.now)) }
+    {
+        let room = &mut self.room;
+        let mut start = put_bytes(room, ROOM, b"\n");
+        start = put_reads(room, start, report.reads);
+        start = put_bytes(room, start, b" reads=");
+        start = put_digits(room, start, u64::from(report.depth));
+        start = put_bytes(room, start, b" depth=");
+        start = put_digits(room, start, u64::from(report.tables));
+        start = put_bytes(room, start, b" ok tables=");
+        self.start = put_digits(room, start, number);
     }
 
     fn clear(&mut self)
@@ -121,9 +137,7 @@ impl Line {
         ensures text { self.new ≡ text.now ++ self.old }
         ensures length { length self.new ≡ length text.now + length self.old }
     {
-        let end = self.start;
-        self.start -= text.len();
-        self.room[self.start..end].copy_from_slice(text.as_bytes());
+        self.start = put(&mut self.room, self.start, text);
     }
 
     /// Puts a number in front.
@@ -133,7 +147,7 @@ impl Line {
         ensures text { self.new ≡ decimal number ++ self.old }
         ensures length { length self.new ≤ length self.old + 20 }
     {
-        self.start = write_digits(number, &mut self.room, self.start);
+        self.start = put_digits(&mut self.room, self.start, number);
     }
 
     /// Puts a number in front that may have up to 128 bits.
@@ -143,10 +157,7 @@ impl Line {
         ensures text { self.new ≡ decimal number ++ self.old }
         ensures length { length self.new ≤ length self.old + 40 }
     {
-        match u64::try_from(number) {
-            Ok(number) => self.put_number(number),
-            Err(_) => self.put_text(Buffer::new().format(number)),
-        }
+        self.start = put_reads(&mut self.room, self.start, number);
     }
 
     fn put_field(&mut self, field: Option<u16>)
@@ -159,6 +170,101 @@ impl Line {
             None => self.put_text("-"),
         }
     }
+}
+
+/// Puts a text in front of what starts at `end`, and answers where it starts.
+#[inline(always)]
+fn put(room: &mut [u8; ROOM], end: usize, text: &str) -> usize
+    requires fits { length text.now ≤ end }
+    requires end { end ≤ ROOM }
+    ensures start { result + length text.now ≡ end }
+    ensures long { length room.new ≡ ROOM }
+    ensures text { drop result room.new ≡ text.now ++ drop end room.old }
+{
+    let start = end - text.len();
+    room[start..end].copy_from_slice(text.as_bytes());
+    start
+}
+
+/// The same of a text whose length the compiler knows: it puts several bytes at a time.
+#[inline(always)]
+fn put_bytes<const N: usize>(room: &mut [u8; ROOM], end: usize, text: &[u8; N]) -> usize
+    requires fits { N ≤ end }
+    requires end { end ≤ ROOM }
+    ensures start { result + N ≡ end }
+    ensures long { length room.new ≡ ROOM }
+    ensures text { drop result room.new ≡ text.now ++ drop end room.old }
+{
+    let mut start = end;
+    let mut left = N;
+    while left > 0 {
+        left -= 1;
+        start -= 1;
+        room[start] = text[left];
+    }
+    start
+}
+
+/// Puts a number in front of what starts at `end`, and answers where it starts. One digit is put at once.
+#[inline(always)]
+#[tactic(auto, using(crate::proofs::LineLemmas::digit_before))]
+fn put_digits(room: &mut [u8; ROOM], end: usize, number: u64) -> usize
+    requires fits { 20 ≤ end }
+    requires end { end ≤ ROOM }
+    ensures start { result ≤ end }
+    ensures short { end ≤ result + 20 }
+    ensures long { length room.new ≡ ROOM }
+    ensures text { drop result room.new ≡ decimal number ++ drop end room.old }
+{
+    if number < 10 {
+        room[end - 1] = b'0' + number as u8;
+        return end - 1;
+    }
+    put_many_digits(room, end, number)
+}
+
+/// The same of any number.
+#[inline(never)]
+#[tactic(auto, using(crate::proofs::LineLemmas::digits_few))]
+fn put_many_digits(room: &mut [u8; ROOM], end: usize, number: u64) -> usize
+    requires fits { 20 ≤ end }
+    requires end { end ≤ ROOM }
+    ensures start { result ≤ end }
+    ensures short { end ≤ result + 20 }
+    ensures long { length room.new ≡ ROOM }
+    ensures text { drop result room.new ≡ decimal number ++ drop end room.old }
+{
+    write_digits(number, room, end)
+}
+
+/// Puts a number of up to 128 bits in front of what starts at `end`, and answers where it starts.
+#[inline(always)]
+fn put_reads(room: &mut [u8; ROOM], end: usize, number: u128) -> usize
+    requires fits { 40 ≤ end }
+    requires end { end ≤ ROOM }
+    ensures start { result ≤ end }
+    ensures short { end ≤ result + 40 }
+    ensures long { length room.new ≡ ROOM }
+    ensures text { drop result room.new ≡ decimal number ++ drop end room.old }
+{
+    match u64::try_from(number) {
+        Ok(number) => put_digits(room, end, number),
+        Err(_) => put_wide_digits(room, end, number),
+    }
+}
+
+/// The same of any number.
+#[cold]
+#[inline(never)]
+fn put_wide_digits(room: &mut [u8; ROOM], end: usize, number: u128) -> usize
+    requires fits { 40 ≤ end }
+    requires end { end ≤ ROOM }
+    ensures start { result ≤ end }
+    ensures short { end ≤ result + 40 }
+    ensures long { length room.new ≡ ROOM }
+    ensures text { drop result room.new ≡ decimal number ++ drop end room.old }
+{
+    put(room, end, Buffer::new().format(number))
 }
 
 /// What ends a line but for the value or the place in words behind it, where there is one.

@@ -86,7 +86,7 @@ impl<'b> LongEnd<'b> {
             (K.contents sink.old) (K.contents sink.new) out.old.written out.new.written) }
         ensures err { IfErr result (λ cause. WritesFront (out.old.bytes.items ++ (line.now ++ self.now)) (K.contents sink.old)
             (K.contents sink.new) out.old.written cause.written) }
-        ensures failed { OnErr result (K.failures sink.old < K.failures sink.new) }
+        ensures failed { OnErr result (K.failures sink.new ≡ K.failures sink.old + 1) }
         ensures unfailed { OnOk result (K.failures sink.new ≡ K.failures sink.old) }
         ensures calls { OnOk result (K.calls sink.new ≤ K.calls sink.old + 2 ^ 67) }
         ensures count { OnOk result (out.new.written ≤ out.old.written + 2 ^ 67) }
@@ -111,7 +111,7 @@ fn put_bytes<A: Allocator, K: Sink>(
         (K.contents sink.old) (K.contents sink.new) out.old.written out.new.written) }
     ensures err { IfErr result (λ cause. WritesFront (out.old.bytes.items ++ flat_map (spelled spelling) bytes.now)
         (K.contents sink.old) (K.contents sink.new) out.old.written cause.written) }
-    ensures failed { OnErr result (K.failures sink.old < K.failures sink.new) }
+    ensures failed { OnErr result (K.failures sink.new ≡ K.failures sink.old + 1) }
     ensures unfailed { OnOk result (K.failures sink.new ≡ K.failures sink.old) }
     ensures calls { OnOk result (K.calls sink.new + length out.new.bytes.items
         ≤ K.calls sink.old + length out.old.bytes.items + 4 * length bytes.now) }

@@ -34,6 +34,8 @@ pub struct Options {
     pub path: Option<Path>,
     /// The limits of each buffer: depth, tables, and counted reads, where these have a budget.
     pub limits: Limits,
+    /// How many counted reads each byte of a buffer allows, beside 4,096 for the whole buffer.
+    pub reads_per_byte: u32,
     /// The longest message, prefix included, or the longest bare input: 8 to 2,147,483,647 bytes.
     pub max_bytes: u32,
     /// Whether the input is one bare buffer, and no stream of size-prefixed ones.

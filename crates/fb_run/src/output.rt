@@ -1,14 +1,14 @@
 //! What a run tells: gathered, counted, and written together.
 
-ghost use Rattle.std.specs.Prelude.{IfErr, OnOk, OnErr, ◌≡◌, ◌+◌, ◌<◌, ◌≤◌, ◌^◌, ◌++◌, length, codes, take, ℕ, Bool, List, option_map};
+ghost use Rattle.std.specs.Prelude.{Err, IfErr, Ok, OnOk, OnErr, ◌≡◌, ◌+◌, ◌<◌, ◌≤◌, ◌^◌, ◌++◌, length, codes, take, ℕ, Bool, List, option_map};
 ghost use Rattle.std.specs.Borrow.{Bor};
 ghost use Rattle.std.specs.Io.KnownBytes.{Appends};
 ghost use Rattle.fb_access.specs.Denotes.{shown};
 ghost use Rattle.fb_run.specs.AnswerText.{answer_text};
 ghost use Rattle.fb_run.specs.Faults.{IsCaused};
-ghost use Rattle.fb_run.specs.Job.{HasRoom, verdict_of};
+ghost use Rattle.fb_run.specs.Job.{HasRoom, brief_verdict, verdict_of};
 ghost use Rattle.fb_run.specs.Line.{told_of, verdict_line, with_place};
-ghost use Rattle.fb_run.specs.Lines.{AddsThrough, AddsTold, ComesBehind, StopsBehind, StopsIn, WritesFronts};
+ghost use Rattle.fb_run.specs.Lines.{Adds, AddsThrough, AddsTold, ComesBehind, StopsBehind, StopsIn, WritesFronts};
 ghost use Rattle.fb_run.specs.Sums.{no_tally};
 ghost use Rattle.fb_run.specs.Texts.{silent, waiting};
 
@@ -24,6 +24,7 @@ use crate::value_text::put_answer;
 use crate::writing::{Pending, Unwritten};
 use fb_access::Answer;
 use fb_bytes::Sink;
+use fb_verify::{Fault, Report};
 use std::alloc::{AllocError, Allocator};
 
 /// What a run has told so far: the verdicts, and what waits to be written to the writer and to the notes.
@@ -61,6 +62,78 @@ impl<'a, A: Allocator> Output<&'a A> {
 impl<A: Allocator> Output<A> {
     /// Adds what is told of the next message, and counts its verdict. Where memory is refused, nothing is told of it.
     pub fn add<B: Allocator>(
+        &mut self,
+        checker: &Checker<'_, '_, '_>,
+        room: &mut Room<B>,
+        message: &[u8],
+    ) -> Result<(), AllocError>
+        requires room { HasRoom checker.now room.old }
+        requires few { self.old.counter.yes + self.old.counter.no < 2 ^ 63 }
+        requires short { length message.now < 2 ^ 31 }
+        ensures ok { OnOk result (AddsTold checker.now (1 + (self.old.counter.yes + self.old.counter.no)) message.now
+            (waiting self.old) self.old.counter (waiting self.new) self.new.counter) }
+        ensures one { OnOk result (self.new.counter.yes + self.new.counter.no ≡ self.old.counter.yes + self.old.counter.no + 1) }
+        ensures err_text { OnErr result (waiting self.new ≡ waiting self.old) }
+        ensures err_counted { OnErr result (self.new.counter ≡ self.old.counter) }
+        ensures written { self.new.out.written ≡ self.old.out.written }
+        ensures noted { self.new.notes.written ≡ self.old.notes.written }
+        ensures room { HasRoom checker.now room.new }
+    {
+        if checker.is_brief() {
+            return match checker.report(room, message) {
+                Ok(report) => self.add_yes(checker.mode(), message, &report),
+                Err(fault) => self.add_no(checker.mode(), message, fault),
+            };
+        }
+        self.add_at_length(checker, room, message)
+    }
+
+    /// Adds what the mode tells of the next message with this report, where no more is asked, and counts it.
+    #[inline(always)]
+    fn add_yes(&mut self, mode: Mode, message: &[u8], report: &Report) -> Result<(), AllocError>
+        requires few { self.old.counter.yes + self.old.counter.no < 2 ^ 63 }
+        requires short { length message.now < 2 ^ 31 }
+        ensures ok { OnOk result (Adds mode (1 + (self.old.counter.yes + self.old.counter.no)) message.now (brief_verdict (Ok report.now))
+            (waiting self.old) self.old.counter (waiting self.new) self.new.counter) }
+        ensures err_text { OnErr result (waiting self.new ≡ waiting self.old) }
+        ensures err_counted { OnErr result (self.new.counter ≡ self.old.counter) }
+        ensures written { self.new.out.written ≡ self.old.out.written }
+        ensures noted { self.new.notes.written ≡ self.old.notes.written }
+    {
+        match mode {
+            Mode::Lines => {
+                self.line.set_yes(1 + self.counter.messages(), report);
+                self.out.bytes.extend_from_slice(self.line.bytes())?;
+            }
+            Mode::BadLines => {}
+            Mode::Filter => self.out.bytes.extend_from_slice(message)?,
+        }
+        self.counter.count_yes(message, report);
+        Ok(())
+    }
+
+    /// Adds what the mode tells of the next message with this fault, where no more is asked, and counts it.
+    #[inline(never)]
+    fn add_no(&mut self, mode: Mode, message: &[u8], fault: Fault) -> Result<(), AllocError>
+        requires few { self.old.counter.yes + self.old.counter.no < 2 ^ 63 }
+        requires short { length message.now < 2 ^ 31 }
+        ensures ok { OnOk result (Adds mode (1 + (self.old.counter.yes + self.old.counter.no)) message.now (brief_verdict (Err fault))
+            (waiting self.old) self.old.counter (waiting self.new) self.new.counter) }
+        ensures err_text { OnErr result (waiting self.new ≡ waiting self.old) }
+        ensures err_counted { OnErr result (self.new.counter ≡ self.old.counter) }
+        ensures written { self.new.out.written ≡ self.old.out.written }
+        ensures noted { self.new.notes.written ≡ self.old.notes.written }
+    {
+        let verdict = Err(Wrong { fault, place: None });
+        let number = 1 + self.counter.messages();
+        self.tell(mode, number, message, &verdict)?;
+        self.counter.count(message, &verdict);
+        Ok(())
+    }
+
+    /// Adds what is told of the next message, also where a value or words are asked for, and counts its verdict.
+    #[inline(never)]
+    fn add_at_length<B: Allocator>(
         &mut self,
         checker: &Checker<'_, '_, '_>,
         room: &mut Room<B>,

@@ -1,10 +1,11 @@
 //! A run over an input, by a schema.
 
-ghost use Rattle.std.specs.Prelude.{◌+◌, ◌-◌, ◌<◌, ◌≤◌, ◌^◌, ℕ, List, Option, None};
+ghost use Rattle.std.specs.Prelude.{◌≡◌, length, ◌+◌, ◌-◌, ◌<◌, ◌≤◌, ◌^◌, ℕ, List, Option, None};
 ghost use Rattle.fb_run.specs.Faults.{EndsBeside, EndsBy};
 ghost use Rattle.fb_run.specs.Job.{Serves, job_of};
 ghost use Rattle.fb_run.specs.Prompt.{IsPrompt};
-ghost use Rattle.fb_run.specs.Run.{IsRun, IsRunBeside};
+ghost use Rattle.fb_run.specs.Run.{IsRun, IsRunBeside, answer_by};
+ghost use Rattle.fb_run.specs.Sums.{no_tally};
 
 use crate::checker::Checker;
 use crate::fault::RunFault;
@@ -18,6 +19,35 @@ use fb_bytes::Sink;
 use fb_schema::Schema;
 use std::alloc::Allocator;
 
+/// What a run came to: what was counted in it, and how it ended.
+#[derive(Clone, Copy, Debug)]
+pub struct Ran {
+    pub tally: Tally,
+    pub end: Result<(), RunFault>,
+}
+
+impl Ran {
+    /// That of a run that ended with this fault before it counted anything.
+    fn none(fault: RunFault) -> Ran
+        ensures { result ≡ record { tally = no_tally; end = Err fault } }
+    {
+        Ran {
+            tally: Tally::new(),
+            end: Err(fault),
+        }
+    }
+
+    /// What was counted, where the run ended well, or else the fault.
+    pub fn answer(&self) -> Result<Tally, RunFault>
+        ensures { result ≡ answer_by self.now.tally self.now.end }
+    {
+        match self.end {
+            Ok(()) => Ok(self.tally),
+            Err(fault) => Err(fault),
+        }
+    }
+}
+
 /// Checks the buffers of an input by a schema, and writes what the mode of the options tells of each, with at most
 /// `turns` reads. Where the options have a path, the line of a yes ends with the value there.
 ///
@@ -25,10 +55,10 @@ use std::alloc::Allocator;
 /// buffer. What is told of all messages that are whole is written before the next read, and before any answer: first to
 /// the writer, then to the notes. A reader that may be asked for more only where this is so can be run over (`leave`).
 ///
-/// After a fault `so_far` has what was counted by then: that of the messages that are told, or in a write that failed
-/// were to be.
+/// # Ends
 ///
-/// # Errors
+/// What a run comes to is that of the messages that are told, or in a write that failed were to be. It ends well, or for
+/// one of these:
 ///
 /// - `ReadFault` where the reader failed, `TooManyTurns` where `turns` reads were made and a further one is needed, and
 /// `Stream` where a prefix declares too much or the stream ends in mid-message: what is told of all whole messages that
@@ -45,8 +75,7 @@ pub fn run_beside<A: Allocator, S: Input<K, N>, K: Sink, N: Sink>(
     schema: &Schema<'_>,
     options: &Options,
     turns: u64,
-    so_far: &mut Tally,
-) -> Result<Tally, RunFault>
+) -> Ran
     requires serves { Serves schema.now options.now }
     requires turns { turns ≤ MOST_TURNS }
     requires reads { S.calls reader.old < 2 ^ 64 }
@@ -56,20 +85,24 @@ pub fn run_beside<A: Allocator, S: Input<K, N>, K: Sink, N: Sink>(
         (K.contents writer.old) sink (N.contents notes.old) note → S.may_ask source sink note }
 
     ensures run { IsRunBeside (job_of schema.now options.now) (S.remaining reader.old) (S.remaining reader.new)
-        (K.contents writer.old) (K.contents writer.new) (N.contents notes.old) (N.contents notes.new) so_far.new result }
+        (K.contents writer.old) (K.contents writer.new) (N.contents notes.old) (N.contents notes.new) result.tally result.end }
     ensures end { EndsBeside (S.failures reader.old) (S.failures reader.new)
         (K.failures writer.old) (K.failures writer.new) (N.failures notes.old) (N.failures notes.new)
-        (S.calls reader.old + turns - S.calls reader.new) (S.ended reader.new) result }
+        (S.calls reader.old + turns - S.calls reader.new) (S.ended reader.new) result.end }
+    ensures places { length result.tally.reasons ≡ 13 }
     ensures pushes { N.calls notes.new ≤ N.calls notes.old + 2 ^ 96 }
     ensures turns { S.calls reader.new ≤ S.calls reader.old + turns }
 {
-    *so_far = Tally::new();
     let checker = Checker::new(schema, options);
-    let mut piece = read_buffer(&alloc)?;
-    let mut carried = Carried::new(&alloc, &checker)?;
-    carried.pass_all(
-        &alloc, &mut piece, reader, writer, notes, &checker, turns, so_far,
-    )
+    let Ok(mut piece) = read_buffer(&alloc) else {
+        return Ran::none(RunFault::OutOfMemory);
+    };
+    let Ok(mut carried) = Carried::new(&alloc, &checker) else {
+        return Ran::none(RunFault::OutOfMemory);
+    };
+    let end = carried.pass_all(&alloc, &mut piece, reader, writer, notes, &checker, turns);
+    let tally = carried.output.tally();
+    Ran { tally, end }
 }
 
 /// The same without notes: what would be noted is dropped, and only [`Filter`](crate::options::Mode::Filter) notes
@@ -96,17 +129,7 @@ pub fn run_within<A: Allocator, S: Input<K, Nowhere>, K: Sink>(
     ensures turns { S.calls reader.new ≤ S.calls reader.old + turns }
 {
     let mut notes = Nowhere::new();
-    let mut so_far = Tally::new();
-    run_beside(
-        alloc,
-        reader,
-        writer,
-        &mut notes,
-        schema,
-        options,
-        turns,
-        &mut so_far,
-    )
+    run_beside(alloc, reader, writer, &mut notes, schema, options, turns).answer()
 }
 
 /// The same without notes, with at most 2^32 reads.

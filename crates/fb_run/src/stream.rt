@@ -16,7 +16,6 @@ use crate::input::Input;
 use crate::output::Output;
 use crate::reading::{MOST_TURNS, PIECE, pull_piece, read_whole};
 use crate::room::Room;
-use crate::tally::Tally;
 use fb_bytes::{Framer, Sink};
 use fb_verify::Start;
 use std::alloc::{AllocError, Allocator};
@@ -58,7 +57,7 @@ impl<A: Allocator> Carried<A> {
     /// What is told of all messages that are whole is written before the next read (`leave`), and before any answer;
     /// of a bare input nothing is before its end. On a fault that of all whole messages that were read is written, but
     /// for `OutOfMemory`, where it is that of the first ones, and for `WriteFault` and `NoteFault`, where `written`
-    /// bytes of it are. Then `so_far` has what was counted by then.
+    /// bytes of it are. What was counted is that of the messages that are told, or in a write that failed were to be.
     pub fn pass_all<B: Allocator, C: Allocator, S: Input<K, N>, K: Sink, N: Sink>(
         &mut self,
         alloc: &B,
@@ -68,14 +67,12 @@ impl<A: Allocator> Carried<A> {
         notes: &mut N,
         checker: &Checker<'_, '_, '_>,
         turns: u64,
-        so_far: &mut Tally,
-    ) -> Result<Tally, RunFault>
+    ) -> Result<(), RunFault>
         requires room { length piece.old.items ≡ PIECE }
         requires ready { IsReady checker.now self.old.framer self.old.room }
         requires start { standing self.old ≡ record { text = silent; tally = no_tally; held = [] } }
         requires written { self.old.output.out.written ≡ 0 }
         requires noted { self.old.output.notes.written ≡ 0 }
-        requires counted { so_far.old ≡ no_tally }
         requires turns { turns ≤ MOST_TURNS }
         requires reads { S.calls reader.old < 2 ^ 64 }
         requires writes { K.calls writer.old < 2 ^ 64 }
@@ -85,7 +82,7 @@ impl<A: Allocator> Carried<A> {
 
         ensures run { IsRunBeside checker.now
             (S.remaining reader.old) (S.remaining reader.new) (K.contents writer.old) (K.contents writer.new)
-            (N.contents notes.old) (N.contents notes.new) so_far.new result }
+            (N.contents notes.old) (N.contents notes.new) self.new.output.counter result }
         ensures end { EndsBeside (S.failures reader.old) (S.failures reader.new) (K.failures writer.old) (K.failures writer.new)
             (N.failures notes.old) (N.failures notes.new) (S.calls reader.old + turns - S.calls reader.new) (S.ended reader.new) result }
         ensures pushes { N.calls notes.new ≤ N.calls notes.old + 2 ^ 96 }
@@ -101,7 +98,6 @@ impl<A: Allocator> Carried<A> {
                 whole.as_slice(),
                 writer,
                 notes,
-                so_far,
             );
         }
         let mut left = turns;
@@ -110,25 +106,23 @@ impl<A: Allocator> Carried<A> {
             let read = match pull_piece(reader, piece, writer, notes) {
                 Ok(0) => {
                     self.framer.finish()?;
-                    return Ok(self.output.tally());
+                    return Ok(());
                 }
                 Ok(read) => read,
                 Err(_) => return Err(RunFault::ReadFault),
             };
-            self.pass_piece(checker, &piece.as_slice()[..read], writer, notes, so_far)?;
+            self.pass_piece(checker, &piece.as_slice()[..read], writer, notes)?;
         }
         Err(RunFault::TooManyTurns)
     }
 
-    /// Passes a whole piece, and writes what is told of the messages that end in it. Then `so_far` has what was
-    /// counted.
+    /// Passes a whole piece, and writes what is told of the messages that end in it.
     fn pass_piece<K: Sink, N: Sink>(
         &mut self,
         checker: &Checker<'_, '_, '_>,
         piece: &[u8],
         writer: &mut K,
         notes: &mut N,
-        so_far: &mut Tally,
     ) -> Result<(), RunFault>
         requires ready { IsReady checker.now self.old.framer self.old.room }
         requires piece { length piece.now ≤ PIECE }
@@ -146,7 +140,6 @@ impl<A: Allocator> Carried<A> {
         ensures empty { OnOk result (waiting self.new.output ≡ silent) }
         ensures few { OnOk result (self.new.output.counter.yes + self.new.output.counter.no
             ≤ self.old.output.counter.yes + self.old.output.counter.no + PIECE + 1) }
-        ensures counted { so_far.new ≡ self.new.output.counter }
 
         ensures stops { IfErr result (λ fault. StopsAmid checker.now (standing self.old) piece.now self.new.output.counter
             (K.contents writer.old) (K.contents writer.new) (N.contents notes.old) (N.contents notes.new)
@@ -160,11 +153,8 @@ impl<A: Allocator> Carried<A> {
         ensures calls { OnOk result (K.calls writer.new ≤ K.calls writer.old + 9 * 2 ^ 64) }
         ensures tells { N.calls notes.new ≤ N.calls notes.old + 2 ^ 64 }
     {
-        let held = self.pass_held(checker, piece, writer);
-        *so_far = self.output.tally();
-        let held = held?;
+        let held = self.pass_held(checker, piece, writer)?;
         let used = self.use_up(checker, &piece[held..]);
-        *so_far = self.output.tally();
         self.output.flush(writer, notes)?;
         Ok(used?)
     }

@@ -14,7 +14,7 @@ pub fn push_all<K: Sink>(sink: &mut K, text: &[u8]) -> usize
     requires { K.calls sink.old + length text.now < 2 ^ 100 }
     ensures within { result ≤ length text.now }
     ensures bytes { Appends (K.contents sink.old) (K.contents sink.new) (take result text.now) }
-    ensures failed { result < length text.now → K.failures sink.old < K.failures sink.new }
+    ensures failed { result < length text.now → K.failures sink.new ≡ K.failures sink.old + 1 }
     ensures unfailed { result ≡ length text.now → K.failures sink.new ≡ K.failures sink.old }
     ensures calls { K.calls sink.new ≤ K.calls sink.old + length text.now }
 {
@@ -41,7 +41,7 @@ fn write_all<K: Sink>(sink: &mut K, text: &[u8], before: u128) -> Result<u128, U
     ensures ok { OnOk result (Appends (K.contents sink.old) (K.contents sink.new) text.now) }
     ensures written { IfOk result (λ written. written ≡ before + length text.now) }
     ensures err { IfErr result (λ cause. WritesFront text.now (K.contents sink.old) (K.contents sink.new) before cause.written) }
-    ensures failed { OnErr result (K.failures sink.old < K.failures sink.new) }
+    ensures failed { OnErr result (K.failures sink.new ≡ K.failures sink.old + 1) }
     ensures unfailed { OnOk result (K.failures sink.new ≡ K.failures sink.old) }
     ensures calls { K.calls sink.new ≤ K.calls sink.old + length text.now }
 {
@@ -86,7 +86,7 @@ impl<A: Allocator> Pending<A> {
         ensures written { OnOk result (self.new.written ≡ self.old.written + length self.old.bytes.items) }
         ensures err { IfErr result (λ cause. WritesFront self.old.bytes.items (K.contents sink.old) (K.contents sink.new)
             self.old.written cause.written) }
-        ensures failed { OnErr result (K.failures sink.old < K.failures sink.new) }
+        ensures failed { OnErr result (K.failures sink.new ≡ K.failures sink.old + 1) }
         ensures unfailed { OnOk result (K.failures sink.new ≡ K.failures sink.old) }
         ensures little { self.new.written ≤ self.old.written + 2 ^ 64 }
         ensures calls { K.calls sink.new ≤ K.calls sink.old + 2 ^ 64 }
@@ -106,7 +106,7 @@ impl<A: Allocator> Pending<A> {
             (K.contents sink.old) (K.contents sink.new) self.old.written self.new.written) }
         ensures err { IfErr result (λ cause. WritesFront (self.old.bytes.items ++ text.now) (K.contents sink.old) (K.contents sink.new)
             self.old.written cause.written) }
-        ensures failed { OnErr result (K.failures sink.old < K.failures sink.new) }
+        ensures failed { OnErr result (K.failures sink.new ≡ K.failures sink.old + 1) }
         ensures unfailed { OnOk result (K.failures sink.new ≡ K.failures sink.old) }
         ensures calls { OnOk result (K.calls sink.new + length self.new.bytes.items ≤ K.calls sink.old + length self.old.bytes.items + length text.now) }
         ensures count { OnOk result (self.new.written + length self.new.bytes.items ≡ self.old.written + length self.old.bytes.items + length text.now) }

@@ -1,4 +1,3 @@
 mod AskedLemmas
-mod CheckLemmas
 mod OneAsk
 mod ServingLemmas

@@ -1,5 +1,5 @@
 -- A schema file and the settings ask at most one thing.
-use Rattle.std.proofs.Common.{◌≡◌, ℕ, List, refl, sym, ◌∙◌, ap, subst, Option, Some, None, option_map, string_bytes, Result, Ok, Err}
+use Rattle.std.proofs.Common.{◌≡◌, ℕ, List, refl, sym, ◌∙◌, ap, subst, Option, Some, None, option_map, string_bytes, Result, Ok, Err, length}
 use Rattle.std.specs.Borrow.{Bor}
 use Rattle.fb_schema.specs.Rows.{Rows}
 use Rattle.fb_access.specs.declared.step.Step.{Step}
@@ -13,8 +13,8 @@ use Rattle.fb_run.specs.Job.{Job, job_of}
 use Rattle.fbcheck.specs.Asked.{AsksBy, IsAsked, IsPath, IsPathFault, HasPathFault, asked_root, options_of}
 use Rattle.fbcheck.specs.Checking.{Asks, IsSchema, IsNoSchema, schema_limits}
 use Rattle.fbcheck_words.specs.declared.choices.Settings.{Settings}
-use Rattle.fb_run.specs.declared.fault.RunFault.{RunFault}
-use Rattle.fb_run.specs.declared.fault.RunFault.TheVariants.{Load, Path, NoRoot}
+use Rattle.fbcheck.specs.declared.fault.AskFault.{AskFault}
+use Rattle.fbcheck.specs.declared.fault.AskFault.TheVariants.{Load, Path, NoRoot}
 
 module _ (rows : Rows) (root : ℕ) where
   one_path : (text : Option (List ℕ)) (x y : Option (List Step)) → IsPath rows root text x → IsPath rows root text y → x ≡ y
@@ -61,7 +61,7 @@ module _ (rows : Rows) (own : Option ℕ) (settings : Settings) where
       let r = same_root (asked_root rows own settings) h.0 i.0 h.1 i.1 in
       one_path_fault rows i.0 path_text f g (subst (λ n. IsPathFault rows n path_text f) r h.2) i.2
 
-  asks_by_once : (x y : Result Job RunFault) → AsksBy rows own settings x → AsksBy rows own settings y → x ≡ y
+  asks_by_once : (x y : Result Job AskFault) → AsksBy rows own settings x → AsksBy rows own settings y → x ≡ y
   asks_by_once (Ok x) (Ok y) h i = ap Ok (one_job x y h i)
   asks_by_once (Ok x) (Err NoRoot) h i = absurd (no_root_or_one (asked_root rows own settings) h.root h.root_is i)
   asks_by_once (Ok x) (Err (Path f)) h i = absurd (job_or_path_fault x f h i)
@@ -77,44 +77,45 @@ module _ (rows : Rows) (own : Option ℕ) (settings : Settings) where
   asks_by_once (Err _) y h i = absurd h
 
 -- a file that gives no schema has that fault
-as_fault : (bytes : Bor (List ℕ)) (f : LoadFault) → IsNoSchema (Some bytes) f → Applies bytes.now schema_limits (Err f)
+as_fault : (bytes : Bor (List ℕ)) (f : LoadFault) → IsNoSchema (Some bytes) f → Applies bytes.now (schema_limits (length bytes.now)) (Err f)
 as_fault bytes load.OutOfMemory h = absurd h
 as_fault bytes (load.NotWellFormed f) h = h
 as_fault bytes (load.BadSchema f) h = h
 as_fault bytes load.RootNotListed h = h
 as_fault bytes load.TooLong h = h
+as_fault bytes load.TooMuchShared h = h
 
 schema_or_none : (file : Option (Bor (List ℕ))) (rows : Rows) (own : Option ℕ) (f : LoadFault) → IsSchema file rows own → IsNoSchema file f → ⊥
 schema_or_none None rows own f h i = i
-schema_or_none (Some bytes) rows own f h i = one_load bytes.now schema_limits (Ok h.0) (Err f) h.1 (as_fault bytes f i)
+schema_or_none (Some bytes) rows own f h i = one_load bytes.now (schema_limits (length bytes.now)) (Ok h.0) (Err f) h.1 (as_fault bytes f i)
 
 one_no_schema : (file : Option (Bor (List ℕ))) (f g : LoadFault) → IsNoSchema file f → IsNoSchema file g → f ≡ g
 one_no_schema None f g h i = absurd h
-one_no_schema (Some bytes) f g h i = one_load bytes.now schema_limits (Err f) (Err g) (as_fault bytes f h) (as_fault bytes g i)
+one_no_schema (Some bytes) f g h i = one_load bytes.now (schema_limits (length bytes.now)) (Err f) (Err g) (as_fault bytes f h) (as_fault bytes g i)
 
 same_rows : (file : Option (Bor (List ℕ))) (rows others : Rows) (own other : Option ℕ) → IsSchema file rows own → IsSchema file others other → rows ≡ others
 same_rows None rows others own other h i = h.0 ∙ sym i.0
 same_rows (Some bytes) rows others own other h i =
-    let e = one_load bytes.now schema_limits (Ok h.0) (Ok i.0) h.1 i.1 in
+    let e = one_load bytes.now (schema_limits (length bytes.now)) (Ok h.0) (Ok i.0) h.1 i.1 in
     h.2 ∙ e.schema ∙ sym i.2
 
 same_own : (file : Option (Bor (List ℕ))) (rows others : Rows) (own other : Option ℕ) → IsSchema file rows own → IsSchema file others other → own ≡ other
 same_own None rows others own other h i = h.1 ∙ sym i.1
 same_own (Some bytes) rows others own other h i =
-    let e = one_load bytes.now schema_limits (Ok h.0) (Ok i.0) h.1 i.1 in
+    let e = one_load bytes.now (schema_limits (length bytes.now)) (Ok h.0) (Ok i.0) h.1 i.1 in
     h.3 ∙ e.root ∙ sym i.3
 
 -- what is asked by the rows of a file
-abbrev AsksOf : Option (Bor (List ℕ)) → Settings → Result Job RunFault → Type 0
+abbrev AsksOf : Option (Bor (List ℕ)) → Settings → Result Job AskFault → Type 0
 AsksOf file settings answer = (rows : Rows) × (own : Option ℕ) × IsSchema file rows own × AsksBy rows own settings answer
 
-of_one_file : (file : Option (Bor (List ℕ))) (settings : Settings) (x y : Result Job RunFault) → AsksOf file settings x → AsksOf file settings y → x ≡ y
+of_one_file : (file : Option (Bor (List ℕ))) (settings : Settings) (x y : Result Job AskFault) → AsksOf file settings x → AsksOf file settings y → x ≡ y
 of_one_file file settings x y h i =
     let r = same_rows file h.0 i.0 h.1 i.1 h.2 i.2 in
     let o = same_own file h.0 i.0 h.1 i.1 h.2 i.2 in
     asks_by_once i.0 i.1 settings x y (subst (λ own. AsksBy i.0 own settings x) o (subst (λ rows. AsksBy rows h.1 settings x) r h.3)) i.3
 
-pub asks_once : (file : Option (Bor (List ℕ))) (settings : Settings) (x y : Result Job RunFault) → Asks file settings x → Asks file settings y → x ≡ y
+pub asks_once : (file : Option (Bor (List ℕ))) (settings : Settings) (x y : Result Job AskFault) → Asks file settings x → Asks file settings y → x ≡ y
 asks_once file settings (Err (Load f)) (Err (Load g)) h i = ap (λ f. Err (Load f)) (one_no_schema file f g h i)
 asks_once file settings (Err (Load f)) y h i = absurd (schema_or_none file i.0 i.1 f i.2 h)
 asks_once file settings x (Err (Load g)) h i = absurd (schema_or_none file h.0 h.1 g h.2 i)

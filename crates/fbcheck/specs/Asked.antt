@@ -1,5 +1,5 @@
 -- What the settings ask, by a schema that has a root table of its own, or none.
-use Rattle.std.specs.Prelude.{◌≡◌, ℕ, ◌<◌, ◌≤◌, ◌^◌, Bool, true, false, List, Option, Some, None, Result, Ok, Err, option_map, string_bytes}
+use Rattle.std.specs.Prelude.{◌≡◌, ℕ, Bool, true, false, List, Option, Some, None, Result, Ok, Err, option_map, string_bytes}
 use Rattle.fb_schema.specs.Rows.{Rows, table_named}
 use Rattle.fb_access.specs.declared.step.Step.{Step}
 use Rattle.fb_access.specs.declared.path_fault.PathFault.{PathFault}
@@ -13,8 +13,8 @@ use Rattle.fb_run.specs.declared.options.Mode.TheVariants.{Lines, BadLines, Filt
 use Rattle.fb_run.specs.declared.options.Places.{Places}
 use Rattle.fb_run.specs.declared.options.Places.TheVariants.{Numbers, Words}
 use Rattle.fb_run.specs.declared.options.Options.{Options}
-use Rattle.fb_run.specs.declared.fault.RunFault.{RunFault}
-use Rattle.fb_run.specs.declared.fault.RunFault.TheVariants.{Path, NoRoot, OutOfMemory}
+use Rattle.fbcheck.specs.declared.fault.AskFault.{AskFault}
+use Rattle.fbcheck.specs.declared.fault.AskFault.TheVariants.{Path, NoRoot, OutOfMemory}
 
 -- the root table: the listed one of the name that is asked for, or else the schema's own
 abbrev pub root_of : Rows → Option (List ℕ) → Option ℕ → Option ℕ
@@ -59,6 +59,7 @@ options_of settings root steps = record {
   ident = ident_of settings.ident;
   path = steps;
   limits = record { depth = settings.depth; tables = settings.tables; reads = Some settings.reads };
+  reads_per_byte = settings.reads_per_byte;
   max_bytes = settings.max_bytes;
   bare = settings.bare;
   alignment = settings.alignment;
@@ -82,14 +83,14 @@ HasPathFault rows own settings fault =
 
 -- by these rows and this own root, the settings ask that the buffers are checked by a job, or have nothing to check
 -- them by
-abbrev pub AsksBy : Rows → Option ℕ → Settings → Result Job RunFault → Type 0
+abbrev pub AsksBy : Rows → Option ℕ → Settings → Result Job AskFault → Type 0
 AsksBy rows own settings (Ok job) = IsAsked rows own settings job
 AsksBy rows own settings (Err NoRoot) = asked_root rows own settings ≡ None
 AsksBy rows own settings (Err (Path fault)) = HasPathFault rows own settings fault
 AsksBy rows own settings (Err _) = ⊥
 
 -- why a text gives no path
-abbrev pub PathFails : Rows → ℕ → Option (List ℕ) → RunFault → Type 0
+abbrev pub PathFails : Rows → ℕ → Option (List ℕ) → AskFault → Type 0
 PathFails rows root text (Path fault) = IsPathFault rows root text fault
 PathFails rows root text OutOfMemory = Unit {0}
 PathFails rows root text _ = ⊥

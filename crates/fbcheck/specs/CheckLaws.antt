@@ -4,8 +4,8 @@ use Rattle.std.specs.Borrow.{Bor}
 use Rattle.fb_run.specs.Job.{Job}
 use Rattle.fbcheck.specs.Checking.{Asks}
 use Rattle.fbcheck_words.specs.declared.choices.Settings.{Settings}
-use Rattle.fb_run.specs.declared.fault.RunFault.{RunFault}
+use Rattle.fbcheck.specs.declared.fault.AskFault.{AskFault}
 
 -- a schema file and the settings ask at most one thing
 abbrev pub AsksOnce : Type 0
-AsksOnce = (file : Option (Bor (List ℕ))) (settings : Settings) (x y : Result Job RunFault) → Asks file settings x → Asks file settings y → x ≡ y
+AsksOnce = (file : Option (Bor (List ℕ))) (settings : Settings) (x y : Result Job AskFault) → Asks file settings x → Asks file settings y → x ≡ y

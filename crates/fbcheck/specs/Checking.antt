@@ -1,9 +1,9 @@
 -- A run by the schema of a file, or without one by the fixed table of schema files.
-use Rattle.std.specs.Prelude.{◌≡◌, ℕ, ◌⊎◌, List, Option, Some, None, Result, Ok, Err}
+use Rattle.std.specs.Prelude.{◌≡◌, ℕ, Bool, List, Option, Some, None, Result, Ok, Err, min, length}
 use Rattle.std.specs.Borrow.{Bor}
 use Rattle.std.specs.Io.KnownBytes.{Keeps}
 use Rattle.fb_schema.specs.Rows.{Rows}
-use Rattle.fb_verify.specs.Bounds.{Bounds}
+use Rattle.fb_verify.specs.Bounds.{Bounds, limits_of_length}
 use Rattle.fb_bfbs.specs.Fixed.{fixed}
 use Rattle.fb_bfbs.specs.Loads.{IsLoaded, IsLoadFault, schema_number}
 use Rattle.fb_bfbs.specs.declared.loading.Loaded.{Loaded}
@@ -13,67 +13,78 @@ use Rattle.fbcheck.specs.Asked.{AsksBy}
 use Rattle.fb_run.specs.Job.{Job}
 use Rattle.fb_run.specs.Prompt.{IsPrompt}
 use Rattle.fb_run.specs.Run.{IsRunBeside}
-use Rattle.fb_run.specs.Sums.{no_tally}
 use Rattle.fbcheck_words.specs.declared.choices.Settings.{Settings}
-use Rattle.fb_run.specs.declared.fault.RunFault.{RunFault}
-use Rattle.fb_run.specs.declared.fault.RunFault.TheVariants.{Load, NoRoot, OutOfMemory, Path}
+use Rattle.fbcheck.specs.declared.fault.AskFault.{AskFault}
+use Rattle.fbcheck.specs.declared.fault.AskFault.TheVariants.{Load, OutOfMemory}
+use Rattle.fbcheck.specs.declared.fault.CheckFault.{CheckFault}
+use Rattle.fbcheck.specs.declared.fault.CheckFault.TheVariants as check
+use Rattle.fb_run.specs.Faults.{End, EndsBeside, IsUnfailed}
+use Rattle.fb_run.specs.declared.run.Ran.{Ran}
 use Rattle.fb_run.specs.declared.tally.Tally.{Tally}
 
--- the limits by which schema files are verified: the published ones, with a budget of reads
-abbrev pub schema_limits : Bounds
-schema_limits = record { depth = 64; tables = 1000000; reads = Some 1000000000 }
+-- the limits by which a schema file of so many bytes is verified: the published ones, with a budget of 100,000,000
+-- reads, and of 64 a byte and 4,096 beside (one too long for offsets is refused by its length)
+abbrev pub schema_limits : ℕ → Bounds
+schema_limits len = limits_of_length (record { depth = 64; tables = 1000000; reads = Some 100000000 }) 64 (min len 2147483647)
 
 -- the rows of a schema file and the root table that it names; without a file the fixed table, and its table Schema
 abbrev pub IsSchema : Option (Bor (List ℕ)) → Rows → Option ℕ → Type 0
 IsSchema None rows own = (rows ≡ fixed) × (own ≡ Some schema_number)
-IsSchema (Some bytes) rows own = (loaded : Loaded) × IsLoaded bytes.now schema_limits loaded × (rows ≡ loaded.schema) × (own ≡ loaded.root)
+IsSchema (Some bytes) rows own = (loaded : Loaded) × IsLoaded bytes.now (schema_limits (length bytes.now)) loaded × (rows ≡ loaded.schema) × (own ≡ loaded.root)
 
 -- why a schema file gives no schema
 abbrev pub IsNoSchema : Option (Bor (List ℕ)) → LoadFault → Type 0
 IsNoSchema None fault = ⊥
 IsNoSchema (Some bytes) load.OutOfMemory = ⊥
-IsNoSchema (Some bytes) fault = IsLoadFault bytes.now schema_limits fault
+IsNoSchema (Some bytes) fault = IsLoadFault bytes.now (schema_limits (length bytes.now)) fault
 
 -- a schema file, or none, and the settings ask that the buffers are checked by a job; or there is nothing to check them
 -- by, and why
-abbrev pub Asks : Option (Bor (List ℕ)) → Settings → Result Job RunFault → Type 0
+abbrev pub Asks : Option (Bor (List ℕ)) → Settings → Result Job AskFault → Type 0
 Asks file settings (Err (Load fault)) = IsNoSchema file fault
 Asks file settings answer = (rows : Rows) × (own : Option ℕ) × IsSchema file rows own × AsksBy rows own settings answer
 
 -- why there is no schema, where memory may be refused
-abbrev pub LacksSchema : Option (Bor (List ℕ)) → RunFault → Type 0
+abbrev pub LacksSchema : Option (Bor (List ℕ)) → AskFault → Type 0
 LacksSchema file (Load fault) = IsNoSchema file fault
 LacksSchema file OutOfMemory = Unit {0}
 LacksSchema file _ = ⊥
 
 -- why there is no job, where memory may be refused
-abbrev pub LacksJob : Option (Bor (List ℕ)) → Settings → RunFault → Type 0
+abbrev pub LacksJob : Option (Bor (List ℕ)) → Settings → AskFault → Type 0
 LacksJob file settings OutOfMemory = Unit {0}
 LacksJob file settings fault = Asks file settings (Err fault)
 
--- there was nothing to check the buffers by
-abbrev pub IsRefusal : RunFault → Type 0
-IsRefusal (Load fault) = Unit {0}
-IsRefusal NoRoot = Unit {0}
-IsRefusal (Path fault) = Unit {0}
-IsRefusal _ = ⊥
+-- nothing was read, written or noted
+abbrev pub IsIdle : Option (List ℕ) → Option (List ℕ) → Option (List ℕ) → Option (List ℕ) → Option (List ℕ) → Option (List ℕ) → Type 0
+IsIdle source source' sink sink' notes notes' = Keeps source source' × Keeps sink sink' × Keeps notes notes'
 
--- what was read, written and noted by a run that was asked for and answered this, and what it came to before its fault
-abbrev pub RunsAsAsked : Option (Bor (List ℕ)) → Settings → Option (List ℕ) → Option (List ℕ) → Option (List ℕ) → Option (List ℕ) → Option (List ℕ) → Option (List ℕ) → Tally → Result Tally RunFault → Type 0
-RunsAsAsked file settings source source' sink sink' notes notes' so_far answer = (job : Job) × Asks file settings (Ok job) × IsRunBeside job source source' sink sink' notes notes' so_far answer
+-- what was read, written and noted by a run that was asked for, which ended so and came to these numbers by then
+abbrev pub RunsAsAsked : Option (Bor (List ℕ)) → Settings → Option (List ℕ) → Option (List ℕ) → Option (List ℕ) → Option (List ℕ) → Option (List ℕ) → Option (List ℕ) → Tally → End → Type 0
+RunsAsAsked file settings source source' sink sink' notes notes' tally end = (job : Job) × Asks file settings (Ok job) × IsRunBeside job source source' sink sink' notes notes' tally end
 
--- the same where it may be that nothing was asked for, or that memory was refused before the run began
-abbrev pub IsCheckedBeside : Option (Bor (List ℕ)) → Settings → Option (List ℕ) → Option (List ℕ) → Option (List ℕ) → Option (List ℕ) → Option (List ℕ) → Option (List ℕ) → Tally → Result Tally RunFault → Type 0
-IsCheckedBeside file settings source source' sink sink' notes notes' so_far (Err (Load fault)) = Asks file settings (Err (Load fault))
-IsCheckedBeside file settings source source' sink sink' notes notes' so_far (Err NoRoot) = Asks file settings (Err NoRoot)
-IsCheckedBeside file settings source source' sink sink' notes notes' so_far (Err (Path fault)) = Asks file settings (Err (Path fault))
-IsCheckedBeside file settings source source' sink sink' notes notes' so_far (Err OutOfMemory) =
-    (Keeps source source' × Keeps sink sink' × Keeps notes notes' × (so_far ≡ no_tally)) ⊎ RunsAsAsked file settings source source' sink sink' notes notes' so_far (Err OutOfMemory)
-IsCheckedBeside file settings source source' sink sink' notes notes' so_far answer = RunsAsAsked file settings source source' sink sink' notes notes' so_far answer
+-- the same where it may be that no run began, since nothing was asked for or memory was refused before
+abbrev pub IsCheckedBeside : Option (Bor (List ℕ)) → Settings → Option (List ℕ) → Option (List ℕ) → Option (List ℕ) → Option (List ℕ) → Option (List ℕ) → Option (List ℕ) → Result Ran AskFault → Type 0
+IsCheckedBeside file settings source source' sink sink' notes notes' (Ok ran) = RunsAsAsked file settings source source' sink sink' notes notes' ran.tally ran.end
+IsCheckedBeside file settings source source' sink sink' notes notes' (Err fault) = LacksJob file settings fault × IsIdle source source' sink sink' notes notes'
 
--- the same where no notes are known, nor what it came to before its fault
-abbrev pub IsChecked : Option (Bor (List ℕ)) → Settings → Option (List ℕ) → Option (List ℕ) → Option (List ℕ) → Option (List ℕ) → Result Tally RunFault → Type 0
-IsChecked file settings source source' sink sink' answer = (so_far : Tally) × IsCheckedBeside file settings source source' sink sink' None None so_far answer
+-- the same of an answer alone, where no notes are known
+abbrev pub IsChecked : Option (Bor (List ℕ)) → Settings → Option (List ℕ) → Option (List ℕ) → Option (List ℕ) → Option (List ℕ) → Result Tally CheckFault → Type 0
+IsChecked file settings source source' sink sink' (Ok tally) = RunsAsAsked file settings source source' sink sink' None None tally (Ok tt)
+IsChecked file settings source source' sink sink' (Err (check.Run fault)) = (tally : Tally) × RunsAsAsked file settings source source' sink sink' None None tally (Err fault)
+IsChecked file settings source source' sink sink' (Err (check.Ask fault)) = LacksJob file settings fault × Keeps source source' × Keeps sink sink'
+
+-- there was nothing to check by
+abbrev pub IsUnasked : CheckFault → Type 0
+IsUnasked (check.Ask fault) = Unit {0}
+IsUnasked (check.Run fault) = ⊥
+
+-- how it ended, by the failures of the reader and the writer before and after, the reads that were left, and whether the
+-- input's end was told: a run by its end or the cause of its fault
+abbrev pub EndsChecked : ℕ → ℕ → ℕ → ℕ → ℕ → Bool → Result Tally CheckFault → Type 0
+EndsChecked failures failures' refusals refusals' left ended (Ok tally) = EndsBeside failures failures' refusals refusals' 0 0 left ended (Ok tt)
+EndsChecked failures failures' refusals refusals' left ended (Err (check.Run fault)) = EndsBeside failures failures' refusals refusals' 0 0 left ended (Err fault)
+EndsChecked failures failures' refusals refusals' left ended (Err (check.Ask fault)) = IsUnfailed failures failures' refusals refusals' 0 0
 
 -- all that was read by now is told, of a run that was asked for
 abbrev pub IsPromptAsAsked : Option (Bor (List ℕ)) → Settings → Option (List ℕ) → Option (List ℕ) → Option (List ℕ) → Option (List ℕ) → Option (List ℕ) → Option (List ℕ) → Type 0

@@ -1,4 +1,5 @@
 -- What public contracts say, in reading order.
+pub mod Faults
 pub mod Asked
 pub mod Checking
 pub mod Serving

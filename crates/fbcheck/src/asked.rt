@@ -7,9 +7,10 @@ ghost use Rattle.fbcheck.specs.Checking.{Asks, IsSchema, LacksJob, LacksSchema, 
 ghost use Rattle.fbcheck_words.specs.Ranges.{AreInRange};
 ghost use Rattle.fb_run.specs.Job.{PathFits, Serves, job_of};
 
+use crate::fault::AskFault;
 use fb_access::Path;
 use fb_bfbs::{Loaded, load, reflection};
-use fb_run::{Mode, Options, Places, RunFault};
+use fb_run::{Mode, Options, Places};
 use fb_schema::Schema;
 use fb_verify::{Ident, Limits};
 use fbcheck_words::Settings;
@@ -18,23 +19,27 @@ use std::alloc::Global;
 /// The number of the table `reflection.Schema` in the fixed table (reflection.fbs).
 const SCHEMA: u32 = 9;
 
-/// The limits by which schema files are verified, whatever the settings say: the published ones with a budget of
-/// 1,000,000,000 reads.
-fn schema_limits() -> Limits
-    ensures { result ≡ schema_limits }
+/// The longest buffer, in bytes.
+const LONGEST: u64 = 0x7FFF_FFFF;
+
+/// The limits by which a schema file of so many bytes is verified, whatever the settings say: the published ones with
+/// a budget of 100,000,000 reads, and of 64 a byte and 4,096 beside.
+fn schema_limits(length: u64) -> Limits
+    ensures { result ≡ schema_limits length }
 {
-    Limits::published().with_reads(1_000_000_000)
+    let limits = Limits::published().with_reads(100_000_000);
+    limits.of_length(64, length.min(LONGEST))
 }
 
 /// The schema of a schema file with its root table; without a file the fixed table, with its table `Schema`.
 #[tactic(auto, using(crate::proofs::AskedLemmas::schema_is_table))]
-fn schema_of(alloc: Global, schema_bytes: Option<&[u8]>) -> Result<Loaded<'_>, RunFault>
+fn schema_of(alloc: Global, schema_bytes: Option<&[u8]>) -> Result<Loaded<'_>, AskFault>
     ensures schema { IfOk result (λ loaded. IsSchema schema_bytes.entry loaded.schema loaded.root) }
     ensures table { IfOk result (λ loaded. IfSome loaded.root (λ n. IsTrue (is_table loaded.schema n))) }
     ensures no { IfErr result (LacksSchema schema_bytes.entry) }
 {
     match schema_bytes {
-        Some(bytes) => Ok(load(alloc, bytes, schema_limits())?),
+        Some(bytes) => Ok(load(alloc, bytes, schema_limits(bytes.len() as u64))?),
         None => Ok(Loaded {
             schema: reflection(alloc)?,
             root: Some(SCHEMA),
@@ -61,7 +66,7 @@ fn find_path(
     schema: &Schema<'_>,
     root: u32,
     text: &Option<String>,
-) -> Result<Option<Path>, RunFault>
+) -> Result<Option<Path>, AskFault>
     requires { IsTrue (is_table schema.now root) }
     ensures path { IfOk result (λ path. IsPath schema.now root (option_map string_bytes text.now) path) }
     ensures fits { IfOk result (λ path. PathFits schema.now root path) }
@@ -120,6 +125,7 @@ fn options(settings: &Settings, root: u32, path: Option<Path>) -> Options
         ident: wanted(settings.ident),
         path,
         limits: limits.with_reads(settings.reads),
+        reads_per_byte: settings.reads_per_byte,
         max_bytes: settings.max_bytes,
         bare: settings.bare,
         alignment: settings.alignment,
@@ -147,14 +153,14 @@ pub fn asked_of<'b>(
     alloc: Global,
     schema_bytes: Option<&'b [u8]>,
     settings: &Settings,
-) -> Result<Asked<'b>, RunFault>
+) -> Result<Asked<'b>, AskFault>
     requires { AreInRange settings.now }
     ensures job { IfOk result (λ asked. Asks schema_bytes.entry settings.now (Ok (job_of asked.schema asked.options))) }
     ensures serves { IfOk result (λ asked. Serves asked.schema asked.options) }
     ensures none { IfErr result (LacksJob schema_bytes.entry settings.now) }
 {
     let Loaded { schema, root, .. } = schema_of(alloc, schema_bytes)?;
-    let root = find_root(&schema, &settings.root, root).ok_or(RunFault::NoRoot)?;
+    let root = find_root(&schema, &settings.root, root).ok_or(AskFault::NoRoot)?;
     let path = find_path(alloc, &schema, root, &settings.path)?;
     let options = options(settings, root, path);
     Ok(Asked { schema, options })

@@ -1,20 +1,21 @@
 //! A run by a schema file, as the settings of the command line ask.
 
-ghost use Rattle.std.specs.Prelude.{IfErr, ◌≡◌, ◌+◌, ◌-◌, ◌<◌, ◌≤◌, ◌^◌, ℕ, List, Option, None};
+ghost use Rattle.std.specs.Prelude.{IfErr, IfOk, OnErr, length, ◌≡◌, ◌+◌, ◌-◌, ◌<◌, ◌≤◌, ◌^◌, ℕ, List, Option, None};
 ghost use Rattle.fbcheck_words.specs.Ranges.{AreInRange};
-ghost use Rattle.fbcheck.specs.Checking.{IsChecked, IsCheckedBeside, IsPromptAsAsked, IsRefusal};
-ghost use Rattle.fb_run.specs.Faults.{EndsBeside, EndsBy};
+ghost use Rattle.fbcheck.specs.Checking.{EndsChecked, IsChecked, IsCheckedBeside, IsPromptAsAsked, IsUnasked};
+ghost use Rattle.fb_run.specs.Faults.{EndsBeside};
 
 use crate::asked::asked_of;
+use crate::fault::{AskFault, CheckFault};
 use fb_bytes::Sink;
-use fb_run::{Input, MOST_TURNS, Nowhere, RunFault, Tally, run_beside};
+use fb_run::{Input, MOST_TURNS, Nowhere, Ran, Tally, run_beside};
 use fbcheck_words::Settings;
 use std::alloc::Global;
 
 /// Checks the buffers of an input by the schema of a schema file (`.bfbs`), as the settings ask; without a file they
 /// are checked as schema files themselves, by the fixed table.
 ///
-/// The schema file is verified under the published limits and checks, and within 1,000,000,000 counted reads, whatever
+/// The schema file is verified under the published limits and checks, and within 100,000,000 counted reads, and 64 a byte and 4,096 beside, whatever
 /// the settings say; these are for the buffers. The root is the table of the settings' name, or else that of the schema
 /// file, or `reflection.Schema` without one.
 ///
@@ -22,7 +23,7 @@ use std::alloc::Global;
 ///
 /// `Load` where the schema file gives no schema, then `NoRoot` where there is no root table, then `Path` where the path
 /// isn't one from there; all before anything is read of the input, and `OutOfMemory` in place of any where memory was
-/// refused. Then as [`run_beside`](fb_run::run_beside), with at most 2^32 reads.
+/// refused. A run ends as [`run_beside`](fb_run::run_beside) says, with at most 2^32 reads.
 pub fn check_beside<S: Input<K, N>, K: Sink, N: Sink>(
     alloc: Global,
     schema_bytes: Option<&[u8]>,
@@ -30,8 +31,7 @@ pub fn check_beside<S: Input<K, N>, K: Sink, N: Sink>(
     reader: &mut S,
     writer: &mut K,
     notes: &mut N,
-    so_far: &mut Tally,
-) -> Result<Tally, RunFault>
+) -> Result<Ran, AskFault>
     requires ranges { AreInRange settings.now }
     requires reads { S.calls reader.old < 2 ^ 64 }
     requires writes { K.calls writer.old < 2 ^ 64 }
@@ -40,19 +40,19 @@ pub fn check_beside<S: Input<K, N>, K: Sink, N: Sink>(
         (K.contents writer.old) sink (N.contents notes.old) note → S.may_ask source sink note }
 
     ensures run { IsCheckedBeside schema_bytes.entry settings.now (S.remaining reader.old) (S.remaining reader.new)
-        (K.contents writer.old) (K.contents writer.new) (N.contents notes.old) (N.contents notes.new) so_far.new result }
-    ensures unread { IfErr result (λ fault. IsRefusal fault → reader.new ≡ reader.old) }
-    ensures unwritten { IfErr result (λ fault. IsRefusal fault → writer.new ≡ writer.old) }
-    ensures unnoted { IfErr result (λ fault. IsRefusal fault → notes.new ≡ notes.old) }
-    ensures end { EndsBeside (S.failures reader.old) (S.failures reader.new)
+        (K.contents writer.old) (K.contents writer.new) (N.contents notes.old) (N.contents notes.new) result }
+    ensures places { IfOk result (λ ran. length ran.tally.reasons ≡ 13) }
+    ensures unread { OnErr result (reader.new ≡ reader.old) }
+    ensures unwritten { OnErr result (writer.new ≡ writer.old) }
+    ensures unnoted { OnErr result (notes.new ≡ notes.old) }
+    ensures end { IfOk result (λ ran. EndsBeside (S.failures reader.old) (S.failures reader.new)
         (K.failures writer.old) (K.failures writer.new) (N.failures notes.old) (N.failures notes.new)
-        (S.calls reader.old + MOST_TURNS - S.calls reader.new) (S.ended reader.new) result }
+        (S.calls reader.old + MOST_TURNS - S.calls reader.new) (S.ended reader.new) ran.end) }
     ensures pushes { N.calls notes.new ≤ N.calls notes.old + 2 ^ 96 }
     ensures turns { S.calls reader.new ≤ S.calls reader.old + MOST_TURNS }
 {
-    *so_far = Tally::new();
     let asked = asked_of(alloc, schema_bytes, settings)?;
-    run_beside(
+    Ok(run_beside(
         alloc,
         reader,
         writer,
@@ -60,8 +60,7 @@ pub fn check_beside<S: Input<K, N>, K: Sink, N: Sink>(
         &asked.schema,
         &asked.options,
         MOST_TURNS,
-        so_far,
-    )
+    ))
 }
 
 /// The same without notes: what would be noted is dropped, and only a filter notes anything.
@@ -71,7 +70,7 @@ pub fn check<S: Input<K, Nowhere>, K: Sink>(
     settings: &Settings,
     reader: &mut S,
     writer: &mut K,
-) -> Result<Tally, RunFault>
+) -> Result<Tally, CheckFault>
     requires ranges { AreInRange settings.now }
     requires reads { S.calls reader.old < 2 ^ 64 }
     requires writes { K.calls writer.old < 2 ^ 64 }
@@ -80,21 +79,21 @@ pub fn check<S: Input<K, Nowhere>, K: Sink>(
 
     ensures run { IsChecked schema_bytes.entry settings.now
         (S.remaining reader.old) (S.remaining reader.new) (K.contents writer.old) (K.contents writer.new) result }
-    ensures unread { IfErr result (λ fault. IsRefusal fault → reader.new ≡ reader.old) }
-    ensures unwritten { IfErr result (λ fault. IsRefusal fault → writer.new ≡ writer.old) }
-    ensures end { EndsBy (S.failures reader.old) (S.failures reader.new) (K.failures writer.old) (K.failures writer.new)
+    ensures unread { IfErr result (λ fault. IsUnasked fault → reader.new ≡ reader.old) }
+    ensures unwritten { IfErr result (λ fault. IsUnasked fault → writer.new ≡ writer.old) }
+    ensures end { EndsChecked (S.failures reader.old) (S.failures reader.new) (K.failures writer.old) (K.failures writer.new)
         (S.calls reader.old + MOST_TURNS - S.calls reader.new) (S.ended reader.new) result }
     ensures turns { S.calls reader.new ≤ S.calls reader.old + MOST_TURNS }
 {
     let mut notes = Nowhere::new();
-    let mut so_far = Tally::new();
-    check_beside(
-        alloc,
-        schema_bytes,
-        settings,
-        reader,
-        writer,
-        &mut notes,
-        &mut so_far,
-    )
+    match check_beside(alloc, schema_bytes, settings, reader, writer, &mut notes) {
+        Ok(Ran { tally, end: Ok(()) }) => Ok(tally),
+        Ok(
+            Ran {
+                end: Err(fault),
+                ..
+            },
+        ) => Err(CheckFault::Run(fault)),
+        Err(fault) => Err(CheckFault::Ask(fault)),
+    }
 }

@@ -12,6 +12,7 @@ ghost use Rattle.std.specs.Prelude.{⊤};
 mod asked;
 mod check;
 mod check_laws;
+mod fault;
 mod files;
 mod serve;
 mod stop;

@@ -1,15 +1,16 @@
 //! What the program does, from its words to its exit status.
 
-ghost use Rattle.std.specs.Prelude.{IfSome, ◌≡◌, ◌+◌, ◌-◌, ◌<◌, ◌≤◌, ◌^◌, ℕ, List, Option, false, length};
+ghost use Rattle.std.specs.Prelude.{IfOk, IfSome, ◌≡◌, ◌+◌, ◌-◌, ◌<◌, ◌≤◌, ◌^◌, ℕ, Bool, List, Option, length, string_len};
 ghost use Rattle.fbcheck.specs.Serving.{ComesTo, EndsSo, IsPromptAsGiven, IsServed, Unserved, summed, words_of};
 
 use crate::check::check_beside;
 use crate::files::{Files, read_schema};
 use crate::stop::{Ending, Stop, WordsFault, exit_status, sum_up, tell};
+use clap::Error;
 use fb_bytes::Sink;
-use fb_run::{Input, MOST_TURNS, RunFault, Tally, push_all};
+use fb_run::{Input, MOST_TURNS, Tally, push_all};
 use fbcheck_words::{SettingsFault, settings};
-use std::alloc::Global;
+use std::alloc::{AllocError, Global};
 
 /// Does what the words ask, the program's name first, and answers the exit status: reads the schema file that they
 /// name, checks the buffers of the reader by it, and tells of them as [`check_beside`](crate::check::check_beside)
@@ -76,35 +77,30 @@ fn come_to<F: Files, S: Input<K, N>, K: Sink, N: Sink>(
         Err(fault) => return without_settings(alloc, fault, writer),
     };
     let file = read_schema(files, &settings.schema)?;
-    let mut so_far = Tally::new();
-    let answer = check_beside(
-        alloc,
-        file.as_deref(),
-        &settings,
-        reader,
-        writer,
-        notes,
-        &mut so_far,
-    );
-    *sums = summed(settings.summary, &answer, &so_far);
-    match answer {
-        Ok(tally) => Ok(Ending::Checked(tally)),
+    let ran = check_beside(alloc, file.as_deref(), &settings, reader, writer, notes)?;
+    *sums = summed(settings.summary, ran.tally);
+    match ran.end {
+        Ok(()) => Ok(Ending::Checked(ran.tally)),
         Err(fault) => Err(Stop::Run(fault)),
     }
 }
 
-/// The numbers of a run that are told where its settings ask for them.
-fn summed(asked: bool, answer: &Result<Tally, RunFault>, so_far: &Tally) -> Option<Tally>
-    ensures { result ≡ summed asked answer.now so_far.now }
+/// The numbers that are told where the settings ask for them.
+fn summed(asked: bool, tally: Tally) -> Option<Tally>
+    ensures { result ≡ summed asked tally }
 {
-    if !asked {
-        return None;
+    if asked { Some(tally) } else { None }
+}
+
+/// The text of an error of `clap`. No contract says that there is one: the program's name stands for it where not.
+fn text_of(alloc: Global, error: &Error) -> Result<String, AllocError>
+    ensures { IfOk result (λ text. 0 < string_len text) }
+{
+    let text = format!(in alloc; "{error}")?;
+    if text.is_empty() {
+        return String::from_str(alloc, "fbcheck\n");
     }
-    match answer {
-        Ok(tally) => Some(*tally),
-        Err(RunFault::Load(_) | RunFault::Path(_) | RunFault::NoRoot) => None,
-        Err(_) => Some(*so_far),
-    }
+    Ok(text)
 }
 
 /// What the program comes to where the words give no settings: help is written where they ask for it.
@@ -115,13 +111,14 @@ fn without_settings<K: Sink>(
 ) -> Result<Ending, Stop>
     requires { K.calls writer.old < 2 ^ 64 }
     ensures comes { Unserved fault (K.contents writer.old) (K.contents writer.new) result }
-    ensures ends { EndsSo 0 0 (K.failures writer.old) (K.failures writer.new) 0 0 0 false result }
+    ensures ends { (failures complaints left : ℕ) (ended : Bool)
+        → EndsSo failures failures (K.failures writer.old) (K.failures writer.new) complaints complaints left ended result }
 {
     let status = fault.status();
     let SettingsFault::Usage(error) = &fault else {
         return Err(Stop::Settings(fault));
     };
-    let text = format!(in alloc; "{error}")?;
+    let text = text_of(alloc, error)?;
     if status != 0 {
         return Err(Stop::Usage(text));
     }

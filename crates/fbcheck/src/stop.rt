@@ -1,10 +1,11 @@
 //! How the program comes to its end: well, or for a cause.
 
-ghost use Rattle.std.specs.Prelude.{Bool, IfSome, OnOk, ℕ, ◌≤◌, ◌≡◌, ◌<◌, ◌^◌, length};
-ghost use Rattle.fbcheck.specs.Serving.{Complains, EndsSo, IsComplaint, SumsUp, exit_status, stop_status};
+ghost use Rattle.std.specs.Prelude.{IfSome, ◌≡◌, ◌+◌, ◌<◌, ◌^◌, length};
+ghost use Rattle.fbcheck.specs.Serving.{Complains, IsNoted, SumsUp, exit_status, stop_status};
 ghost use Rattle.fbcheck_words.specs.declared.choices.SettingsFault.TheVariants as refusal;
 ghost use Rattle.fbcheck.specs.declared.stop.Stop.TheVariants as stop;
 
+use crate::fault::AskFault;
 use crate::files::FileFault;
 use arrayvec::ArrayString;
 use fb_bytes::Sink;
@@ -17,8 +18,14 @@ use std::io;
 use std::io::ErrorKind;
 use thiserror::Error;
 
-/// More bytes than the line of any stop has, but for the text of `clap`.
+/// How a line begins that tells why the program comes to rest.
+const NAME: &str = "fbcheck: ";
+
+/// More bytes than any stop has to tell, but for the text of `clap`.
 const ROOM: usize = 256;
+
+/// That with the program's name before it.
+const LINE: usize = ROOM + NAME.len();
 
 /// Why the words of the command line can't be read.
 #[derive(Clone, Copy, Debug, PartialEq, Eq, Error)]
@@ -71,6 +78,9 @@ pub enum Stop {
     /// The schema file can't be read.
     #[error("{0}")]
     File(FileFault),
+    /// There was nothing to check by.
+    #[error("{0}")]
+    Ask(AskFault),
     /// The run came to rest.
     #[error("{0}")]
     Run(RunFault),
@@ -81,6 +91,14 @@ impl From<AllocError> for Stop {
 
     fn from(_: AllocError) -> Self {
         Self::Settings(SettingsFault::OutOfMemory)
+    }
+}
+
+impl From<AskFault> for Stop {
+    ghost from_gives = { λ cause s. s ≡ stop.Ask cause };
+
+    fn from(cause: AskFault) -> Self {
+        Self::Ask(cause)
     }
 }
 
@@ -104,6 +122,7 @@ impl Stop {
             Stop::Words(WordsFault::OutOfMemory) | Stop::File(FileFault::OutOfMemory) => 3,
             Stop::CutOff { .. } | Stop::Unsummed { .. } => 3,
             Stop::Settings(fault) => fault.status(),
+            Stop::Ask(fault) => fault.status(),
             Stop::Run(fault) => status(&Err(*fault)),
         }
     }
@@ -111,17 +130,27 @@ impl Stop {
     /// Writes the text of `clap`, or else a line that begins with the program's name. What can't be written is left.
     fn tell<N: Sink>(&self, notes: &mut N)
         requires { N.calls notes.old < 2 ^ 99 }
-        ensures told { IsComplaint (N.contents notes.old) (N.contents notes.new) }
-        ensures failures { N.failures notes.old ≤ N.failures notes.new }
+        ensures { Complains (Err self.now) (N.contents notes.old) (N.contents notes.new) (N.failures notes.old) (N.failures notes.new) }
     {
         if let Stop::Usage(text) = self {
-            push_all(notes, text.as_bytes());
+            note(notes, text.as_bytes());
             return;
         }
-        let mut line = ArrayString::<ROOM>::new();
-        let _ = writeln!(line, "fbcheck: {self}");
-        push_all(notes, line.as_str().as_bytes());
+        let mut why = ArrayString::<ROOM>::new();
+        let _ = writeln!(why, "{self}");
+        let mut line = ArrayString::<LINE>::new();
+        line.push_str(NAME);
+        line.push_str(why.as_str());
+        note(notes, line.as_str().as_bytes());
     }
+}
+
+/// Notes this text. What can't be written is left.
+fn note<N: Sink>(notes: &mut N, text: &[u8])
+    requires { N.calls notes.old + length text.now < 2 ^ 100 }
+    ensures { IsNoted text.now (N.contents notes.old) (N.contents notes.new) (N.failures notes.old) (N.failures notes.new) }
+{
+    push_all(notes, text);
 }
 
 /// Notes a summary of these numbers, where there are some, and answers how the program ends with that.
@@ -132,9 +161,7 @@ pub fn sum_up<N: Sink>(
 ) -> Result<Ending, Stop>
     requires calls { N.calls notes.old < 2 ^ 98 }
     requires places { IfSome sums.now (λ tally. length tally.reasons ≡ 13) }
-    ensures summed { SumsUp sums.now (N.contents notes.old) (N.contents notes.new) (N.failures notes.new) outcome result }
-    ensures ends { (f f' w w' k left : ℕ) (ended : Bool) → EndsSo f f' w w' k (N.failures notes.old) left ended outcome
-        → EndsSo f f' w w' k (N.failures notes.new) left ended result }
+    ensures summed { SumsUp sums.now (N.contents notes.old) (N.contents notes.new) (N.failures notes.old) (N.failures notes.new) outcome result }
     ensures calls { N.calls notes.new < 2 ^ 99 }
 {
     let Some(tally) = sums else {
@@ -155,9 +182,7 @@ pub fn sum_up<N: Sink>(
 /// Tells on standard error why the program came to rest, if it did, and nothing else.
 pub fn tell<N: Sink>(outcome: &Result<Ending, Stop>, notes: &mut N)
     requires { N.calls notes.old < 2 ^ 99 }
-    ensures told { Complains outcome.now (N.contents notes.old) (N.contents notes.new) }
-    ensures failures { N.failures notes.old ≤ N.failures notes.new }
-    ensures unfailed { OnOk outcome.now (N.failures notes.new ≡ N.failures notes.old) }
+    ensures { Complains outcome.now (N.contents notes.old) (N.contents notes.new) (N.failures notes.old) (N.failures notes.new) }
 {
     if let Err(stop) = outcome {
         stop.tell(notes);

@@ -18,7 +18,7 @@ at_value o x P e h = subst (λ v. IsSomeAnd v P) e h
 
 module _ (s : Session) (o : Options) (b : List ℕ) (root : ℕ) (c : CanServe s o b root) where
   pub good_gets_yes : (y : Tree) (a : Answer) → IsWellFormed (checks_asked o) b s.loaded.schema root (start_asked o) (ident_asked o) y
-      → IsWithin y (checks_asked o) b s.loaded.schema (start_asked o) (ident_asked o) (limits_of o) → IsChecked s o b a → (told a).status ≡ 0
+      → IsWithin y (checks_asked o) b s.loaded.schema (start_asked o) (ident_asked o) (limits_of o (length b)) → IsChecked s o b a → (told a).status ≡ 0
   good_gets_yes y (Good r) w i h = refl
   good_gets_yes y (Bad f) w i h = let bad = at_value (root_table s) root (IsBadFrom s o b f) c.root_is h.1 in absurd (bad.none y w i)
   good_gets_yes y Done w i h = absurd h
@@ -34,7 +34,7 @@ module _ (s : Session) (o : Options) (b : List ℕ) (root : ℕ) (c : CanServe s
   good_gets_yes y NoRoom w i h = absurd h
   good_gets_yes y Misfit w i h = absurd h
 
-  pub bad_gets_no : (a : Answer) → HasNone (checks_asked o) b s.loaded.schema root (start_asked o) (ident_asked o) (limits_of o) → IsChecked s o b a → (told a).status ≡ 1
+  pub bad_gets_no : (a : Answer) → HasNone (checks_asked o) b s.loaded.schema root (start_asked o) (ident_asked o) (limits_of o (length b)) → IsChecked s o b a → (told a).status ≡ 1
   bad_gets_no (Good r) none h = let good = at_value (root_table s) root (IsGoodFrom s o b r) c.root_is h.1 in absurd (none good.found good.well_formed good.within)
   bad_gets_no (Bad f) none h = refl
   bad_gets_no Done none h = absurd h

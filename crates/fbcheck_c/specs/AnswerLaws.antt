@@ -21,12 +21,12 @@ abbrev pub GoodGetsYes : Type 0
 GoodGetsYes = (s : Session) (o : Options) (b : List ℕ) (root : ℕ) (y : Tree) (a : Answer)
     → CanServe s o b root
     → IsWellFormed (checks_asked o) b s.loaded.schema root (start_asked o) (ident_asked o) y
-    → IsWithin y (checks_asked o) b s.loaded.schema (start_asked o) (ident_asked o) (limits_of o)
+    → IsWithin y (checks_asked o) b s.loaded.schema (start_asked o) (ident_asked o) (limits_of o (length b))
     → IsChecked s o b a → (told a).status ≡ 0
 
 -- where none is, every answer is the number of a no
 abbrev pub BadGetsNo : Type 0
 BadGetsNo = (s : Session) (o : Options) (b : List ℕ) (root : ℕ) (a : Answer)
     → CanServe s o b root
-    → HasNone (checks_asked o) b s.loaded.schema root (start_asked o) (ident_asked o) (limits_of o)
+    → HasNone (checks_asked o) b s.loaded.schema root (start_asked o) (ident_asked o) (limits_of o (length b))
     → IsChecked s o b a → (told a).status ≡ 1

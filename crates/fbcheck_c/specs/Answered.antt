@@ -21,13 +21,13 @@ use Rattle.fbcheck_c.specs.Told.{low, told}
 -- asked
 pub record IsOpened (file : List ℕ) (o : Options) (s : Session) : Type 0 where
   pub known : AreKnown o
-  pub loaded : IsLoaded file (limits_of o) s.loaded
+  pub loaded : IsLoaded file (limits_of o (length file)) s.loaded
   pub root : s.root ≡ s.loaded.root
   pub levels : s.scratch ≡ o.max_depth
 
 -- why there is none
 abbrev pub IsNotOpened : List ℕ → Options → Answer → Type 0
-IsNotOpened file o (NoSchema fault) = AreKnown o × IsLoadFault file (limits_of o) fault
+IsNotOpened file o (NoSchema fault) = AreKnown o × IsLoadFault file (limits_of o (length file)) fault
 IsNotOpened file o a = LimitsFail o 4096 a
 
 -- ---- a session
@@ -50,12 +50,12 @@ IsChosen s name s' _ = ⊥
 -- some tree of the buffer is well formed by the session's schema from this root, within the limits, and the report
 -- counts it
 abbrev pub IsGoodFrom : Session → Options → List ℕ → Report → ℕ → Type 0
-IsGoodFrom s o b r root = Reports (checks_asked o) b s.loaded.schema root (start_asked o) (ident_asked o) (limits_of o) r
+IsGoodFrom s o b r root = Reports (checks_asked o) b s.loaded.schema root (start_asked o) (ident_asked o) (limits_of o (length b)) r
 
 -- none is, and this is the first condition that fails
 pub record IsBadFrom (s : Session) (o : Options) (b : List ℕ) (f : Fault) (root : ℕ) : Type 0 where
-  pub none : HasNone (checks_asked o) b s.loaded.schema root (start_asked o) (ident_asked o) (limits_of o)
-  pub stops : Stops (checks_asked o) b s.loaded.schema root (start_asked o) (ident_asked o) (limits_of o) f
+  pub none : HasNone (checks_asked o) b s.loaded.schema root (start_asked o) (ident_asked o) (limits_of o (length b))
+  pub stops : Stops (checks_asked o) b s.loaded.schema root (start_asked o) (ident_asked o) (limits_of o (length b)) f
 
 -- the options ask for what the session has room for
 abbrev pub HasLimits : Session → Options → Type 0
@@ -66,10 +66,10 @@ abbrev pub IsUnserved : Session → Options → Answer → Type 0
 IsUnserved s o NoRoot = root_table s ≡ None
 IsUnserved s o a = LimitsFail o s.scratch a
 
--- the limits and the root of a check
-pub record Begins (s : Session) (o : Options) (limits : Bounds) (root : ℕ) : Type 0 where
+-- the limits and the root of a check of so many bytes
+pub record Begins (s : Session) (o : Options) (n : ℕ) (limits : Bounds) (root : ℕ) : Type 0 where
   pub has : HasLimits s o
-  pub limits_are : limits ≡ limits_of o
+  pub limits_are : limits ≡ limits_of o n
   pub root_is : root_table s ≡ Some root
   pub is_table : IsTrue (is_table s.loaded.schema root)
 
@@ -85,7 +85,7 @@ IsChecked s o b _ = ⊥
 
 -- what the most reads of a check are said to be
 abbrev pub IsPriced : Session → Options → ℕ → Result ℕ Answer → Type 0
-IsPriced s o n (Ok most) = HasLimits s o × (most ≡ low (most_reads s.loaded.schema (limits_of o) n))
+IsPriced s o n (Ok most) = HasLimits s o × (most ≡ low (most_reads s.loaded.schema (limits_of o n) n))
 IsPriced s o n (Err a) = LimitsFail o s.scratch a
 
 -- ---- a handle: a session, or nothing

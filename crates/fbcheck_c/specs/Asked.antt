@@ -1,6 +1,6 @@
 -- What options ask.
 use Rattle.std.specs.Prelude.{◌≡◌, ℕ, ◌<◌, ◌==◌, min, Bool, true, false, not, List, replicate, Some}
-use Rattle.fb_verify.specs.Bounds.{Bounds}
+use Rattle.fb_verify.specs.Bounds.{Bounds, limits_of_length}
 use Rattle.fb_verify.specs.declared.checks.Checks.{Checks}
 use Rattle.fb_verify.specs.declared.start.Ident.{Ident}
 use Rattle.fb_verify.specs.declared.start.Ident.TheVariants.{Any, Want}
@@ -34,9 +34,9 @@ ident_asked o = ident_of (o.has_ident == 0) o.ident
 abbrev pub checks_asked : Options → Checks
 checks_asked o = checks_of (o.no_alignment == 0) (o.inline_size == 0)
 
--- the limits
-abbrev pub limits_of : Options → Bounds
-limits_of o = record { depth = o.max_depth; tables = o.max_tables; reads = Some o.max_reads }
+-- the limits for so many bytes (what is too long for offsets is refused by its length)
+abbrev pub limits_of : Options → ℕ → Bounds
+limits_of o n = limits_of_length (record { depth = o.max_depth; tables = o.max_tables; reads = Some o.max_reads }) o.reads_per_byte (min n 2147483647)
 
 -- this library knows the options
 abbrev pub AreKnown : Options → Type 0
@@ -48,17 +48,19 @@ LimitsFail o levels UnknownOptions = AreKnown o → ⊥
 LimitsFail o levels OutOfRange = AreKnown o × (min 4096 levels < o.max_depth)
 LimitsFail o levels _ = ⊥
 
--- the published limits and checks with a budget of 1,000,000,000 reads, for a bare buffer with any identifier
+-- the published limits and checks with a budget of 100,000,000 reads, and of 64 a byte, for a bare buffer with any
+-- identifier
 abbrev pub published : Options
 published = record {
   version = 1;
   max_depth = 64;
-  max_reads = 1000000000;
+  max_reads = 100000000;
   max_tables = 1000000;
+  reads_per_byte = 64;
   ident = replicate 4 0;
   has_ident = 0;
   prefixed = 0;
   no_alignment = 0;
   inline_size = 0;
-  reserved = replicate 9 0;
+  reserved = replicate 8 0;
 }

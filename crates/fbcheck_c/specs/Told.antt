@@ -57,6 +57,7 @@ load_told (load.NotWellFormed f) = fault_told 8 f
 load_told (load.BadSchema f) = record (blank 9) { reason = code_number f.code; object = f.owner; field = part_number f.part }
 load_told load.RootNotListed = blank 10
 load_told load.OutOfMemory = blank 11
+load_told load.TooMuchShared = blank 20
 
 -- what is wrong with a stream
 abbrev pub stream_number : StreamFault → ℕ

@@ -32,7 +32,7 @@ pub enum Answer {
     NoRoot,
     /// 7: the buffer has 2^31 bytes or more.
     TooLong,
-    /// 7 to 11: the schema file gives no schema.
+    /// 7 to 11 and 20: the schema file gives no schema.
     NoSchema(LoadFault),
     /// 12: the span doesn't lie in the block.
     NoSpan,
@@ -151,6 +151,7 @@ fn load_told(fault: LoadFault) -> Verdict
         },
         LoadFault::RootNotListed => blank(10),
         LoadFault::OutOfMemory => blank(11),
+        LoadFault::TooMuchShared => blank(20),
     }
 }
 

@@ -47,7 +47,7 @@ impl Session {
     pub fn open(alloc: Global, file: &'static [u8], options: &Options) -> Result<Session, Answer>
         ensures { MatchResult result (IsOpened file.now options.now) (IsNotOpened file.now options.now) }
     {
-        let limits = options.limits(DEEPEST)?;
+        let limits = options.limits(DEEPEST, file.len() as u64)?;
         let loaded = match load(alloc, file, limits) {
             Ok(loaded) => loaded,
             Err(fault) => return Err(Answer::NoSchema(fault)),
@@ -87,15 +87,15 @@ impl Session {
         }
     }
 
-    /// The limits of a check by these options, and the root table where it begins.
+    /// The limits of a check of so many bytes by these options, and the root table where it begins.
     ///
     /// # Errors
     ///
     /// As [`Options::limits`] has it for the levels of the session; then `NoRoot`.
-    fn begin(&self, options: &Options) -> Result<(Limits, u32), Answer>
-        ensures { MatchResult result (λ begun. Begins self.now options.now begun.0 begun.1) (IsUnserved self.now options.now) }
+    fn begin(&self, options: &Options, length: u64) -> Result<(Limits, u32), Answer>
+        ensures { MatchResult result (λ begun. Begins self.now options.now length begun.0 begun.1) (IsUnserved self.now options.now) }
     {
-        let limits = options.limits(self.scratch.depth())?;
+        let limits = options.limits(self.scratch.depth(), length)?;
         match self.root_table() {
             Some(root) => Ok((limits, root)),
             None => Err(Answer::NoRoot),
@@ -108,7 +108,7 @@ impl Session {
         ensures answer { IsChecked self.old options.now buffer.now result }
         ensures kept { self.new ≡ self.old }
     {
-        let limits = match options.limits(self.scratch.depth()) {
+        let limits = match options.limits(self.scratch.depth(), buffer.len() as u64) {
             Ok(limits) => limits,
             Err(answer) => return answer,
         };
@@ -146,7 +146,7 @@ impl Session {
         ensures answer { IsRead self.old options.now buffer.now steps.now value.old value.new room.old room.new result }
         ensures kept { self.new ≡ self.old }
     {
-        let (limits, root) = match self.begin(options) {
+        let (limits, root) = match self.begin(options, buffer.len() as u64) {
             Ok(begun) => begun,
             Err(answer) => return answer,
         };
@@ -203,7 +203,7 @@ impl Session {
     pub fn most_reads(&self, options: &Options, length: u64) -> Result<u64, Answer>
         ensures { IsPriced self.now options.now length result }
     {
-        let limits = options.limits(self.scratch.depth())?;
+        let limits = options.limits(self.scratch.depth(), length)?;
         Ok(low(most_reads(&self.loaded.schema, limits, length)))
     }
 }

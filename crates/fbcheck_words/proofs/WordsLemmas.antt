@@ -1,6 +1,6 @@
 -- What a parse of the program's words gives.
 use Rattle.std.proofs.Common.{◌≡◌, ◌≤◌, ◌↔◌, ℕ, Bool, true, false, not, IsTrue, List, [], ◌∷◌, codes, Option, Some, None, refl, sym, ap, subst, ◌∙◌}
-use Rattle.std.specs.Prelude.{String, is_some, option_map, string_bytes}
+use Rattle.std.specs.Prelude.{IfSome, String, is_some, length, option_map, string_bytes}
 use Rattle.clap.specs.Walk.{Text, first_of, one_of}
 use Rattle.clap.specs.Built.{IsParsedFrom}
 use Rattle.clap.specs.Simple.{App, HasMatchesOf, app_of, is_simple, matches_of}
@@ -52,6 +52,10 @@ pub number_by_words : (words : List Text) (m : ArgMatches) (id : Text) (least mo
 number_by_words words m id least most n read told =
     let same = one_text-rows (found_of m) id ∙ ap (one_of id) (read.matches simple).0 in
     (subst (λ (o : Option Text). IsWrittenIn o n) same told.0, told.1, told.2)
+
+-- an identifier that was read is four bytes long
+pub four_bytes : (ident text : Option Text) → ident ≡ text → IfSome ident (λ bytes. length bytes ≡ 4) → (t : Text) → text ≡ Some t → length t ≡ 4
+four_bytes ident text same four t is = let h : ident ≡ Some t = same ∙ is in subst (λ (o : Option Text). IfSome o (λ bytes. length bytes ≡ 4)) h four
 
 -- a text that is there
 pub some_text : {A : Type 0} (found : Option (String A)) (text : Option Text) → is_some found ≡ true → option_map string_bytes found ≡ text → (t : Text) × (text ≡ Some t)

@@ -35,7 +35,10 @@ abbrev pub tables_rule : Rule
 tables_rule = number_rule (codes "max-tables") 0 4294967295 (codes "1000000")
 
 abbrev pub reads_rule : Rule
-reads_rule = wide_number_rule (codes "max-reads") (codes "1000000000")
+reads_rule = wide_number_rule (codes "max-reads") (codes "100000000")
+
+abbrev pub by_length_rule : Rule
+by_length_rule = number_rule (codes "reads-per-byte") 0 4294967295 (codes "64")
 
 abbrev pub bytes_rule : Rule
 bytes_rule = number_rule (codes "max-bytes") 8 2147483647 (codes "67108864")
@@ -52,7 +55,7 @@ abbrev pub texts : App
 texts = with_rule (with_rule (with_rule (with_rule named (text_rule (codes "schema"))) (text_rule (codes "root"))) (text_rule (codes "ident"))) (text_rule (codes "path"))
 
 abbrev pub numbers : App
-numbers = with_rule (with_rule (with_rule (with_rule texts depth_rule) tables_rule) reads_rule) bytes_rule
+numbers = with_rule (with_rule (with_rule (with_rule (with_rule texts depth_rule) tables_rule) reads_rule) by_length_rule) bytes_rule
 
 abbrev pub switches : App
 switches = with_rule (with_rule (with_rule numbers (flag_rule (codes "bare"))) (flag_rule (codes "no-alignment"))) (flag_rule (codes "inline-size"))

@@ -11,12 +11,16 @@ use Rattle.fbcheck_words.specs.Values.{IsGiven, text_of}
 use Rattle.fbcheck_words.specs.declared.choices.SettingsFault.{SettingsFault}
 use Rattle.fbcheck_words.specs.declared.choices.SettingsFault.TheVariants.{Usage, BadIdent, PathInFilter, OutOfMemory}
 
--- `clap` refuses the words by an error of that kind; or it reads them, and the identifier isn't four bytes long, or a
--- filter is asked for together with a path; or there was no memory
+-- an identifier that the words give is four bytes long
+abbrev pub IsFourBytes : List Text → Type 0
+IsFourBytes words = (t : Text) → text_of (codes "ident") words ≡ Some t → length t ≡ 4
+
+-- `clap` refuses the words by an error of that kind; or it reads them, and the identifier isn't four bytes long, or else
+-- a filter is asked for together with a path; or there was no memory
 abbrev pub Refuses : List Text → SettingsFault → Type 0
 Refuses words (Usage error) = (kind_of error ≢ kind.OutOfMemory) × HasKind (fault_of program words) error
 Refuses words BadIdent = (fault_of program words ≡ []) × ((t : Text) × (text_of (codes "ident") words ≡ Some t) × (length t ≢ 4))
-Refuses words PathInFilter = (fault_of program words ≡ []) × IsGiven (codes "filter") words × ((t : Text) × (text_of (codes "path") words ≡ Some t))
+Refuses words PathInFilter = (fault_of program words ≡ []) × IsFourBytes words × IsGiven (codes "filter") words × ((t : Text) × (text_of (codes "path") words ≡ Some t))
 Refuses words OutOfMemory = Unit {0}
 
 -- texts that are asked for are no mistake

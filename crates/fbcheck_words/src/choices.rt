@@ -21,8 +21,10 @@ pub struct Settings {
     pub depth: u32,
     /// How many tables may be visited in one buffer (`--max-tables`, 1,000,000).
     pub tables: u32,
-    /// How many counted reads one buffer may take, 0 to 18,446,744,073,709,551,615 (`--max-reads`, 1,000,000,000).
+    /// How many counted reads one buffer may take, 0 to 18,446,744,073,709,551,615 (`--max-reads`, 100,000,000).
     pub reads: u64,
+    /// How many of them each byte of a buffer allows, beside 4,096 (`--reads-per-byte`, 64).
+    pub reads_per_byte: u32,
     /// How many bytes a message may have, prefix included, 8 to 2,147,483,647 (`--max-bytes`,
     /// 67,108,864).
     pub max_bytes: u32,

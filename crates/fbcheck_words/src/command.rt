@@ -34,7 +34,7 @@ struct Choice<'a> {
 
 /// All options, in the order of help. As a constant they would be built anew in the loop's function, text by text,
 /// which is dear to prove.
-static CHOICES: [Choice<'static>; 15] = [
+static CHOICES: [Choice<'static>; 16] = [
     Choice {
         name: "schema",
         takes: Takes::Text("FILE"),
@@ -67,8 +67,13 @@ static CHOICES: [Choice<'static>; 15] = [
     },
     Choice {
         name: "max-reads",
-        takes: Takes::Number(ValueParser::Unsigned(0, u64::MAX), "1000000000"),
+        takes: Takes::Number(ValueParser::Unsigned(0, u64::MAX), "100000000"),
         help: "Most reads of one buffer, 0 to 18446744073709551615",
+    },
+    Choice {
+        name: "reads-per-byte",
+        takes: Takes::Number(ValueParser::Signed(0, 4_294_967_295), "64"),
+        help: "Most reads for each byte of a buffer, beside 4096 for all, 0 to 4294967295",
     },
     Choice {
         name: "max-bytes",

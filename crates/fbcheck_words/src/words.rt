@@ -1,9 +1,10 @@
-ghost use Rattle.std.specs.Prelude.{IfOk, IfErr, IfSome, OnOk, OnErr, ℕ, ◌≢◌, length, option_map, IsTrue, ◌≡◌, ◌≤◌, ◌↔◌, List, map, string_bytes, [], Some, codes, false};
+ghost use Rattle.std.specs.Prelude.{IfOk, IfErr, IfSome, OnOk, OnErr, ℕ, ◌≢◌, length, option_map, IsTrue, ◌≡◌, ◌≤◌, ◌↔◌, List, map, string_bytes, [], Some, codes};
 ghost use Rattle.clap.specs.Faults.{fault_of};
 ghost use Rattle.clap.specs.Words.{first_value, found_of, one_text};
 ghost use Rattle.fbcheck_words.specs.Ranges.{AreInRange};
 ghost use Rattle.fbcheck_words.specs.CommandLine.{program};
-ghost use Rattle.fbcheck_words.specs.Values.{IsNumberOf, IsGiven, HoldsNumber, HoldsWideNumber, IsWrittenIn, text_of};
+ghost use Rattle.fbcheck_words.specs.Given.{AreGiven};
+ghost use Rattle.fbcheck_words.specs.Values.{HoldsNumber, HoldsWideNumber, IsWrittenIn};
 ghost use Rattle.fbcheck_words.specs.Refusal.{Refuses};
 ghost use Rattle.fbcheck_words.specs.Matched.{IsReadOf};
 
@@ -20,30 +21,9 @@ use std::alloc::{AllocError, Global};
 /// `Usage` where `clap` refuses them, help included, `BadIdent` where it reads them and the identifier isn't four bytes
 /// long, then `PathInFilter` where they ask for a filter and a path, and `OutOfMemory` for want of memory.
 pub fn settings(alloc: Global, words: &[String]) -> Result<Settings, SettingsFault>
-    ensures read { OnOk result (fault_of program (map string_bytes words.now) ≡ []) }
-    ensures refused { IfErr result (Refuses (map string_bytes words.now)) }
-
-    ensures schema { IfOk result (λ s. option_map string_bytes s.schema ≡ text_of (codes "schema") (map string_bytes words.now)) }
-    ensures root { IfOk result (λ s. option_map string_bytes s.root ≡ text_of (codes "root") (map string_bytes words.now)) }
-    ensures ident { IfOk result (λ s. s.ident ≡ text_of (codes "ident") (map string_bytes words.now)) }
-    ensures four { IfOk result (λ s. IfSome s.ident (λ bytes. length bytes ≡ 4)) }
-    ensures path { IfOk result (λ s. option_map string_bytes s.path ≡ text_of (codes "path") (map string_bytes words.now)) }
-
-    ensures depth { IfOk result (λ s. IsNumberOf (codes "max-depth") 0 4096 (map string_bytes words.now) s.depth) }
-    ensures tables { IfOk result (λ s. IsNumberOf (codes "max-tables") 0 4294967295 (map string_bytes words.now) s.tables) }
-    ensures reads { IfOk result (λ s. IsNumberOf (codes "max-reads") 0 18446744073709551615 (map string_bytes words.now) s.reads) }
-    ensures bytes { IfOk result (λ s. IsNumberOf (codes "max-bytes") 8 2147483647 (map string_bytes words.now) s.max_bytes) }
-
+    ensures given { IfOk result (AreGiven (map string_bytes words.now)) }
     ensures ranges { IfOk result AreInRange }
-
-    ensures bare { IfOk result (λ s. IsTrue s.bare ↔ IsGiven (codes "bare") (map string_bytes words.now)) }
-    ensures alignment { IfOk result (λ s. (s.alignment ≡ false) ↔ IsGiven (codes "no-alignment") (map string_bytes words.now)) }
-    ensures inline_size { IfOk result (λ s. IsTrue s.inline_size ↔ IsGiven (codes "inline-size") (map string_bytes words.now)) }
-    ensures filter { IfOk result (λ s. IsTrue s.filter ↔ IsGiven (codes "filter") (map string_bytes words.now)) }
-    ensures apart { IfOk result (λ s. IsTrue s.filter → s.path ≡ None) }
-    ensures summary { IfOk result (λ s. IsTrue s.summary ↔ IsGiven (codes "summary") (map string_bytes words.now)) }
-    ensures names { IfOk result (λ s. IsTrue s.names ↔ IsGiven (codes "names") (map string_bytes words.now)) }
-    ensures quiet { IfOk result (λ s. IsTrue s.quiet ↔ IsGiven (codes "quiet") (map string_bytes words.now)) }
+    ensures refused { IfErr result (Refuses (map string_bytes words.now)) }
 {
     let matches = matched(alloc, words)?;
     let Ok(ident) = identifier(&matches) else {
@@ -61,6 +41,7 @@ pub fn settings(alloc: Global, words: &[String]) -> Result<Settings, SettingsFau
     let depth = number(&matches, "max-depth", 0, 4096);
     let tables = number(&matches, "max-tables", 0, u32::MAX);
     let reads = wide_number(&matches, "max-reads");
+    let reads_per_byte = number(&matches, "reads-per-byte", 0, u32::MAX);
     let max_bytes = number(&matches, "max-bytes", 8, 2_147_483_647);
     let bare = flag(&matches, "bare");
     let alignment = !flag(&matches, "no-alignment");
@@ -80,6 +61,7 @@ pub fn settings(alloc: Global, words: &[String]) -> Result<Settings, SettingsFau
         depth,
         tables,
         reads,
+        reads_per_byte,
         max_bytes,
         bare,
         alignment,

@@ -13,7 +13,7 @@ mod tests;
 /// The string at `to.name`, if the buffer is good and has one.
 pub fn name_in<'b>(alloc: Global, schema_file: &[u8], buffer: &'b [u8]) -> Option<&'b [u8]> {
     // To be done once: schema, root table, path, and room for a walk.
-    let limits = Limits::published().with_reads(1_000_000_000);
+    let limits = Limits::published().with_reads(100_000_000);
     let loaded = load(alloc, schema_file, limits).ok()?;
     let root = loaded.root?;
     let path = Path::resolve(alloc, &loaded.schema, root, b"to.name").ok()?;
@@ -21,6 +21,7 @@ pub fn name_in<'b>(alloc: Global, schema_file: &[u8], buffer: &'b [u8]) -> Optio
 
     // For each buffer; this takes no memory and copies nothing.
     let meter = Meter::new(buffer).ok()?;
+    let limits = limits.of_length(64, meter.len());
     let verified = verify(
         meter,
         &loaded.schema,

@@ -1,4 +1,3 @@
-use Rattle.fbcheck.proofs.ServingLemmas.{ends_later, sums_later}
 use Rattle.fbcheck.proofs.serve.serve.Goals as goal
 
 pub returns-clause-served : goal.returns-clause-served
@@ -6,11 +5,13 @@ returns-clause-served g c = record {
   outcome = c.come_to-outcome.result;
   sums = c.come_to-outcome.new.sums;
   between = g.N.Sink.contents c.come_to-outcome.new.notes;
+  complaints_between = g.N.Sink.failures c.come_to-outcome.new.notes;
   comes = c.come_to-outcome.ensures.comes;
+  ends = c.come_to-outcome.ensures.ends;
   ending = c.sum_up-ending.result;
   behind = g.N.Sink.contents c.sum_up-ending.new.notes;
-  summed = sums_later _ _ _ _ _ _ _ c.tell.ensures.failures c.sum_up-ending.ensures.summed;
-  ends = ends_later _ _ _ _ _ _ _ _ _ c.sum_up-ending.result c.tell.ensures.unfailed c.tell.ensures.failures (c.sum_up-ending.ensures.ends _ _ _ _ _ _ _ c.come_to-outcome.ensures.ends);
-  told = c.tell.ensures.told;
+  complaints_behind = g.N.Sink.failures c.sum_up-ending.new.notes;
+  summed = c.sum_up-ending.ensures.summed;
+  told = c.tell.ensures;
   status_is = c.exit_status.ensures;
 }

@@ -2,7 +2,7 @@ use Rattle.std.proofs.Common.{ℕ, Bool, ◌+◌, ◌-◌, rules, ap, subst, sym
 use Rattle.fb_run.specs.Faults.{EndsBeside}
 use Rattle.fb_run.specs.Run.{IsRunBeside}
 use Rattle.fb_run.proofs.BareLemmas.{fails_untold}
-use Rattle.fb_run.proofs.RunLemmas.{caused_flush, err_exit, fails_counted, prompt_stream, runs_bare, runs_stream, sofar_nothing}
+use Rattle.fb_run.proofs.RunLemmas.{caused_flush, err_exit, prompt_stream, runs_bare, runs_stream, sofar_nothing}
 use Rattle.fb_run.proofs.ThroughLemmas.{fails_piece, sofar_piece}
 use Rattle.fb_run.specs.Stream.{Standing, standing}
 use Rattle.fb_run.proofs.stream.Carried.pass_all.Goals as goal
@@ -12,10 +12,10 @@ returns-in_err-whole-clause-run g c =
     let sink = g.K.Sink.contents c.args.writer.now in
     let notes = g.N.Sink.contents c.args.notes.now in
     err_exit c.from_residual.result _
-    (IsRunBeside c.args.checker.now (g.S.Input.remaining c.args.reader.now) (g.S.Input.remaining c.read_whole.new.source) sink sink notes notes c.args.so_far.now)
+    (IsRunBeside c.args.checker.now (g.S.Input.remaining c.args.reader.now) (g.S.Input.remaining c.read_whole.new.source) sink sink notes notes c.args.self.now.output.counter)
     c.from_residual.ensures.1
     (runs_bare _ _ _ _ _ _ _ _ c.start.ensures _ _ c.in-Bare.is
-    (fails_untold _ _ _ _ _ _ _ _ _ _ c.limit-limit.ensures.value c.requires.counted (c.in_err-whole.ensures.fault c.args.checker.now sink notes)))
+    (fails_untold _ _ _ _ _ _ _ _ _ _ c.limit-limit.ensures.value (ap (λ (s : Standing). s.tally) c.requires.start) (c.in_err-whole.ensures.fault c.args.checker.now sink notes)))
 
 pub returns-in_err-whole-clause-end : goal.returns-in_err-whole-clause-end
 returns-in_err-whole-clause-end g c =
@@ -44,7 +44,6 @@ loop-left-init g c = record {
   room = search rules;
   ready = c.requires.ready;
   empty = ap (λ (s : Standing). s.text) c.requires.start;
-  counted = search rules;
   told = sofar_nothing _ (standing c.args.self.now) _ _ _ _ _ c.requires.start c.requires.written c.requires.noted;
   fewer = search rules;
   calls = search rules;
@@ -66,7 +65,6 @@ loop-left-preserved g c =
       room = search rules;
       ready = passed.ready;
       empty = passed.empty;
-      counted = passed.counted;
       told = sofar_piece _ (standing c.loop-left.self) _ _ _ _ _ _ _ _ _ _ _ _ _ _
           c.as_slice-in-loop-left.ensures.value before.empty before.told c.in-Ok.ensures.ok _ _ _ passed.passes;
       fewer = search rules;
@@ -85,12 +83,11 @@ pub returns-in_err-pass_piece-clause-run : goal.returns-in_err-pass_piece-clause
 returns-in_err-pass_piece-clause-run g c =
     let before = c.loop-left.invariant in
     err_exit c.from_residual-in_err-pass_piece.result _
-    (IsRunBeside c.args.checker.now (g.S.Input.remaining c.args.reader.now) (g.S.Input.remaining c.pull_piece.new.source) (g.K.Sink.contents c.args.writer.now) (g.K.Sink.contents c.pass_piece.new.writer) (g.N.Sink.contents c.args.notes.now) (g.N.Sink.contents c.pass_piece.new.notes) c.pass_piece.new.so_far)
+    (IsRunBeside c.args.checker.now (g.S.Input.remaining c.args.reader.now) (g.S.Input.remaining c.pull_piece.new.source) (g.K.Sink.contents c.args.writer.now) (g.K.Sink.contents c.pass_piece.new.writer) (g.N.Sink.contents c.args.notes.now) (g.N.Sink.contents c.pass_piece.new.notes) c.pass_piece.new.self.output.counter)
     c.from_residual-in_err-pass_piece.ensures.1
     (runs_stream _ _ _ _ _ _ _ _ c.start.ensures _ _ c.in_default.not-Bare
-    (fails_counted _ _ _ _ _ _ _ _ _ _ _ c.pass_piece.ensures.counted
     (fails_piece _ (standing c.loop-left.self) _ _ _ _ _ _ _ _ _ _ _ _ _ _
-    c.as_slice-in-loop-left.ensures.value before.empty before.told c.in-Ok.ensures.ok _ _ c.in_err-pass_piece.ensures.stops)))
+    c.as_slice-in-loop-left.ensures.value before.empty before.told c.in-Ok.ensures.ok _ _ c.in_err-pass_piece.ensures.stops))
 
 pub returns-in_err-pass_piece-clause-end : goal.returns-in_err-pass_piece-clause-end
 returns-in_err-pass_piece-clause-end g c =
@@ -99,4 +96,4 @@ returns-in_err-pass_piece-clause-end g c =
     (EndsBeside (g.S.Input.failures c.args.reader.now) (g.S.Input.failures c.pull_piece.new.source) (g.K.Sink.failures c.args.writer.now) (g.K.Sink.failures c.pass_piece.new.writer) (g.N.Sink.failures c.args.notes.now) (g.N.Sink.failures c.pass_piece.new.notes)
     (g.S.Input.calls c.args.reader.now + c.args.turns - g.S.Input.calls c.pull_piece.new.source) (g.S.Input.ended c.pull_piece.new.source))
     c.from_residual-in_err-pass_piece.ensures.1
-    (caused_flush _ _ _ _ _ _ _ _ _ _ c.in_err-pass_piece.field-0.0 before.refusals before.complaints c.in_err-pass_piece.ensures.failed)
+    (caused_flush _ _ _ _ _ _ _ _ _ _ c.in_err-pass_piece.field-0.0 (search rules) before.refusals before.complaints c.in_err-pass_piece.ensures.failed)

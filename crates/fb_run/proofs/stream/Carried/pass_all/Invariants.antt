@@ -9,7 +9,6 @@ invariant-loop-left g l = record {
   room : length l.piece.items ≡ 65536;
   ready : IsReady l.checker l.self.framer l.self.room;
   empty : waiting l.self.output ≡ silent;
-  counted : l.so_far ≡ l.self.output.counter;
   told : Sofar l.checker (g.S.Input.remaining l.initial.reader) (g.S.Input.remaining l.reader) (g.K.Sink.contents l.initial.writer) (g.K.Sink.contents l.writer)
       (g.N.Sink.contents l.initial.notes) (g.N.Sink.contents l.notes) (standing l.self) l.self.output.out.written l.self.output.notes.written;
   fewer : l.left ≤ l.initial.left;

@@ -23,7 +23,7 @@ pub returns-in_err-taken-clause-failed : goal.returns-in_err-taken-clause-failed
 returns-in_err-taken-clause-failed g c =
     let w = g.K.Sink.failures c.args.writer.now in
     if_err_exit c.from_residual.result _ (λ fault. (f k left : ℕ) (ended : Bool) → IsCaused f f w w k k left ended fault) c.from_residual.ensures.1
-    (λ f k left ended. feed_caused f w w k left ended _
+    (λ f k left ended. feed_caused f w k left ended _
     (feed_kind c.args.self.now.framer c.feed.new.self c.args.piece.now c.in_err-taken.field-0.0 _ refl (c.in_err-taken.ensures.fault c.requires.ready.fine)))
 
 pub returns-in_err-add_through-clause-halts : goal.returns-in_err-add_through-clause-halts
