@@ -11,10 +11,10 @@ _fbcheck() {
         compopt -o filenames 2>/dev/null
         mapfile -t COMPREPLY < <(compgen -d -- "$word"; compgen -f -X '!*.bfbs' -- "$word")
         ;;
-    --root | --ident | --path | --max-depth | --max-tables | --max-reads | --max-bytes) ;;
+    --root | --ident | --path | --max-depth | --max-tables | --max-reads | --reads-per-byte | --max-bytes) ;;
     *)
         mapfile -t COMPREPLY < <(compgen -W "--schema --root --ident --path --max-depth --max-tables --max-reads \
-            --max-bytes --bare --no-alignment --inline-size --quiet --filter --summary --names --help --version" -- "$word")
+            --reads-per-byte --max-bytes --bare --no-alignment --inline-size --quiet --filter --summary --names --help --version" -- "$word")
         ;;
     esac
 }

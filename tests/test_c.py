@@ -6,78 +6,27 @@ both libraries, and under the address sanitizer too.
 
 import array
 import ctypes
-import importlib.util
-import os
 import re
 import shutil
 import socket
 import struct
 import subprocess
 
-import outside
-import schemas
-import test_beside_naive as bent
-from outside import FOLDER, TOP, buffer, file_of, prefixed, run, spelled
-from schemas import schema
+from tests.support import schemas
+from tests.support.buffers import ORC, POST
+from tests.support.builder import buffer, messages_of, prefixed
+from tests.support.every_kind import FILE, LITTLE, OPTIONS, WHOLE, variants, words_of
+from tests.support.library import OUT, SANITIZED, SHARED, STATIC, LibraryCase, module, ran
+from tests.support.preloaded import shared_library
+from tests.support.program import FOLDER, TOP, file_of, run
+from tests.support.schemas import INT, an_object, field, schema, table
 
-OUT = TOP / "out"
 HEADER = (TOP / "include/fbcheck.h").read_text()
-STRICT = ["-Wall", "-Wextra", "-Wpedantic", "-Werror", "-I", TOP / "include"]
-SANITIZED = ["-g", "-fsanitize=address,undefined", "-fno-sanitize-recover=all"]
-SHARED = [OUT / "libfbcheck.so", f"-Wl,-rpath,{OUT}"]
-STATIC = [OUT / "libfbcheck.a"]
 
 # How C++ is compiled, where there is a compiler for it.
 CPP = {"compiler": "c++", "standard": "-std=c++11"} if shutil.which("c++") else None
 ORDERS = TOP / "examples/deliveries.bfbs"
-ALL = schema(bent.OBJECTS, [bent.UNION], root="All")
-
-# By schemas.M, the hit points 300 and the name "Orc": one table, and the reads 8.
-ORC = spelled("0c000000 08000c00 08000400 08000000 08000000 2c010000 03000000 4f726300")
-
-
-def ran(*words, given=None, seconds=120, **environment):
-    """How a process ends, and what it writes."""
-    words = [word if isinstance(word, bytes) else str(word) for word in words]
-    told = subprocess.run(words, input=given, stdin=None if given is not None else subprocess.DEVNULL,
-                          capture_output=True, timeout=seconds, env={**os.environ, **environment})
-    return told.returncode, told.stdout.decode(), told.stderr.decode()
-
-
-def compiled(cases, name, source, *words, compiler="cc", standard="-std=gnu99"):
-    """The program that a source is compiled to."""
-    made = FOLDER / name
-    told = ran(compiler, standard, "-O1", *STRICT, source, "-o", made, *words)
-    cases.same(f"{name} compiles without a warning", told, (0, "", ""))
-    return made
-
-
-def module():
-    """The example for Python, on the library that was built."""
-    os.environ["FBCHECK_LIBRARY"] = str(OUT / "libfbcheck.so.1")
-    spec = importlib.util.spec_from_file_location("fbcheck", TOP / "examples/c/fbcheck.py")
-    found = importlib.util.module_from_spec(spec)
-    spec.loader.exec_module(found)
-    return found
-
-
-def what_is_built(cases):
-    status, out, err = ran(TOP / "build_c", seconds=3600)
-    cases.same("./build_c builds", (status, out), (0, ""))
-    calls = sorted(re.findall(r"^(?:uint32_t|size_t|void) (fbcheck_\w+)\(", HEADER, re.M))
-    for library, words in [("libfbcheck.a", ["-g"]), ("libfbcheck.so.1", ["-D"])]:
-        _, symbols, _ = ran("nm", *words, "--defined-only", OUT / library)
-        found = sorted(line.split()[2] for line in symbols.splitlines() if len(line.split()) == 3)
-        cases.same(f"{library} defines the header's calls and nothing else", found, calls)
-        _, symbols, _ = ran("nm", *words, "--undefined-only", OUT / library)
-        wanted = {line.split()[1].partition("@")[0] for line in symbols.splitlines() if line.split()[:1] == ["U"]}
-        cases.holds(f"{library} needs the C library's heap and memory alone",
-                    wanted <= {"malloc", "free", "realloc", "memcpy", "memmove", "memset", "memcmp", "bcmp"}, wanted)
-    cases.same("a word is refused", ran(TOP / "build_c", "here")[0], 2)
-    before = (OUT / "libfbcheck.a").stat().st_mtime_ns
-    cases.same("once all is made, nothing is done, and no rt is needed",
-               (ran(TOP / "build_c", PATH="/usr/bin:/bin")[0], (OUT / "libfbcheck.a").stat().st_mtime_ns), (0, before))
-
+ALL = file_of("all.bfbs", FILE)
 
 NUMBERS = r"""
 #include <fbcheck.h>
@@ -105,186 +54,20 @@ int main(void)
 """
 
 
-def the_header(cases):
-    """Its numbers are those of the reference and of the module for Python, and its structs those of the library."""
-    constants = re.findall(r"^    (FBCHECK_\w+) = (\d+)", HEADER, re.M)
-    python = module()
-    fields = {"fbcheck_options": python.Options, "fbcheck_verdict": python._Verdict, "fbcheck_handle": python._Handle,
-              "fbcheck_span": python._Span, "fbcheck_framer": python._Framer,
-              "fbcheck_step": python._Step, "fbcheck_value": python._Value}
-    lines = [f'    printf("{name} %d\\n", (int){name});' for name, _ in constants]
-    lines += [f"    FIELD({name}, {field});" for name, of in fields.items() for field, _ in of._fields_]
-    source = file_of("numbers.c", NUMBERS.replace("@LINES@", "\n".join(lines)).encode())
-    offsets = [f"{name} {field} {getattr(of, field).offset}" for name, of in fields.items() for field, _ in of._fields_]
-    sizes = ["options 64 64", "verdict 40 40", "handle 8 8", "span 16 16", "framer 16 16", "step 8 8", "value 32 32"]
-    want = [*sizes, "init 0", *map(" ".join, constants), *offsets]
-    programs = {"C99": compiled(cases, "numbers_c", source, *STATIC, standard="-std=c99")}
-    if CPP:
-        as_cpp = file_of("numbers.cpp", source.read_bytes())
-        programs["C++11"] = compiled(cases, "numbers_cpp", as_cpp, *STATIC, **CPP)
-    for name, made in programs.items():
-        status, out, _ = ran(made)
-        cases.same(f"{name}: numbers, sizes and places", (status, out.splitlines()), (0, want))
-    told = [ctypes.sizeof(of) for of in fields.values()]
-    cases.same("sizes of the structs of Python", told, [64, 40, 8, 16, 16, 8, 32])
-    told = {name.removeprefix("FBCHECK_"): int(number) for name, number in constants}
-    for names in (python.Status, python.Reason, python.Kind):
-        cases.same(f"{names.__name__} of Python", {one.name: told.get(one.name) for one in names},
-                   {one.name: int(one) for one in names})
-    page = (TOP / "docs/REFERENCE.md").read_text()
-    for code, name in re.findall(r"`V(\d+) (\w+)`", page.split("## Reasons")[1].split("\n## ")[0]):
-        cases.same(f"V{code}", told["_".join(re.findall(r"[A-Z][a-z]+", name)).upper()], int(code))
-
-
 def without_names(lines):
     """The lines of the program without the names of reasons."""
     return re.sub(rb"bad (V\d+) \w+", rb"bad \1", lines)
 
 
-def words_of(options):
-    return bent.words_of({"tables": 500, **options})
-
-
 def streams():
     """Streams of good and damaged buffers, each with the words that ask for them."""
-    whole = file_of("all.bfbs", ALL)
-    for root in (bent.WHOLE, bent.LITTLE):
+    for root in (WHOLE, LITTLE):
         data = buffer(root, b"KIND", prefix=True)[4:]
-        given = b"".join(map(prefixed, bent.variants(data, [1, 2, 4, 16, 252])))
-        for options in bent.OPTIONS:
-            yield options, ["--schema", whole, *words_of(options)], given
-    rows = (TOP / "examples/deliveries.bin").read_bytes()
-    yield "deliveries", ["--schema", ORDERS], rows
-    yield "another root", ["--schema", ORDERS, "--root", "post.Person"], rows
-
-
-def verdicts(cases):
-    """Those of the program, on every buffer, by the shared library and by the static one under the sanitizers: of each
-    alone, and of all of a stream at once."""
-    tell = TOP / "tests/c/tell.c"
-    programs = [compiled(cases, "tell_shared", tell, *SHARED), compiled(cases, "tell_sane", tell, *SANITIZED, *STATIC)]
-    buffers = reasons = 0
-    seen = set()
-    for name, words, given in streams():
-        want = run(*words, given=given).out
-        for program in programs:
-            status, out, err = ran(program, *words, given=given)
-            cases.same(f"{name}, {program.name}: it ends well", (status, err), (0, ""))
-            differing = [pair for pair in zip(out.encode().splitlines(), want.splitlines()) if pair[0] != pair[1]]
-            cases.same(f"{name}, {program.name}: lines that differ from the program's", differing[:5], [])
-            cases.same(f"{name}, {program.name}: their number", out.count("\n"), want.count(b"\n"))
-        buffers += want.count(b"\n")
-        seen |= set(re.findall(rb"bad (V\d+)", want))
-    cases.holds("there are more than 10,000 buffers", buffers > 10_000, buffers)
-    cases.same("with each reason but a wrong prefix", sorted(seen, key=lambda code: int(code[1:])),
-               [b"V%d" % number for number in range(2, 14)])
-
-
-def batches(cases):
-    """Spans that overlap, stand in any order, are empty, or don't lie in the block."""
-    python = module()
-    status, block = python.Status, b"?" * 4 + ORC + ORC[:-1]
-    good, torn, end = (4, len(ORC)), (4 + len(ORC), len(ORC) - 1), len(block)
-    beyond = [(end + 1, 0), (0, end + 1), (end, 1), (2**64 - 1, 2**64 - 1), (1, 2**64 - 1), (2**63, 2**63)]
-    with python.Verifier(schemas.M) as verifier:
-        told = verifier.verify_each(block, [torn, good, (end, 0), *beyond, good])
-        single = [verifier.verify(buffer) for buffer in (ORC[:-1], ORC, b"")]
-        cases.same("those in the block, as each alone", [*told[:3], told[-1]], [*single, single[1]])
-        cases.same("those that aren't", told[3:-1], [python.Verdict(12, 0, 0, None, 0, 0, 0, 0)] * len(beyond))
-        calls, handle, verdict = verifier._calls, verifier._handle, python._Verdict(status=77)
-        one = lambda *spans: (python._Span * len(spans))(*spans)
-        for spans, answer in [([good], 0), ([torn], 1), (beyond[:1], 1), ([], 0)]:
-            got = calls.fbcheck_verify_each(handle, None, block, len(block), one(*spans), verdict, len(spans))
-            cases.same(f"the answer to {spans}", got, answer)
-        cases.same("no spans at all", calls.fbcheck_verify_each(handle, None, None, 0, None, None, 0), status.OK)
-        got = calls.fbcheck_verify_each(handle, None, None, 0, one((0, 0)), verdict, 1)
-        cases.same("an empty block has an empty buffer", (got, verdict.status, verdict.reason), (1, 1, 2))
-        verdict.status = 77
-        words = [handle, None, block, 9, one(good), verdict, 1]
-        for place in (0, 2, 4, 5):
-            got = calls.fbcheck_verify_each(*[None if place == i else word for i, word in enumerate(words)])
-            cases.same(f"without word {place} nothing is told", (got, verdict.status), (status.NULL, 77))
-        for options, answer in [(python.Options(version=2), 3), (python.Options(max_depth=65), 4)]:
-            told = verifier.verify_each(block, [good, beyond[0], torn], options)
-            cases.same(f"options that can't be served: {answer}", [one.status for one in told], [answer, 12, answer])
-        verifier.close()
-        told = verifier.verify_each(block, [good, beyond[0]])
-        cases.same("a handle that holds nothing", [one.status for one in told], [5, 12])
-
-
-def framers(cases):
-    """The messages of a stream, however it is cut, and what may be wrong with one."""
-    python = module()
-    calls, status = python._library(), python.Status
-    m, used = prefixed(ORC), ctypes.c_size_t(77)
-    cut = lambda given, size: [given[at:at + size] for at in range(0, len(given), size)]
-    stream = m + prefixed(b"") + m + prefixed(b"abc")
-    for size in range(1, len(stream) + 1):
-        framer = python.Framer(len(m))
-        told = [message for piece in cut(stream, size) for message in framer.messages(piece)]
-        cases.same(f"messages in pieces of {size}", told, [m, bytes(4), m, prefixed(b"abc")])
-        cases.same(f"and the end in pieces of {size}", framer.finish(), None)
-
-    def fed(framer, piece):
-        answer = calls.fbcheck_framer_feed(*framer._room, piece, len(piece), used)
-        return answer, used.value, framer._framer.held
-
-    framer = python.Framer(len(m))
-    finish = lambda: calls.fbcheck_framer_finish(*framer._room)
-    steps = [fed(framer, m + m), fed(framer, m), finish(), calls.fbcheck_framer_next(*framer._room), fed(framer, b"")]
-    n = len(m)
-    cases.same("a message is held until it is given up", steps, [(0, n, n), (0, 0, n), 0, 0, (13, 0, 0)])
-    steps = [fed(framer, m[:2]), calls.fbcheck_framer_next(*framer._room), fed(framer, m[2:9])]
-    cases.same("a part isn't given up", steps, [(13, 2, 2), 0, (13, 7, 9)])
-    steps = [finish(), fed(framer, m), finish(), framer._framer.held]
-    cases.same("nor may a stream end in one", steps, [15, (16, 7, 9), 16, 9])
-    for limit, first, want in [(n, n - 4, (13, 5, 5)), (n - 1, n - 4, (14, 77, 4)), (8, 2**32 - 1, (14, 77, 4))]:
-        framer, used.value = python.Framer(limit), 77
-        got = fed(framer, struct.pack("<I", first) + b"?")
-        cases.same(f"{first} declared for room of {limit}", got, want)
-        declared = first if want[0] == 14 else 0
-        cases.same("which is told", (framer._framer.declared, bool(framer._framer.failed)), (declared, declared != 0))
-    for limit, want in [(7, 4), (8, 13), (2**31 - 1, 13), (2**31, 4)]:
-        framer = python.Framer(8)
-        room = (framer._framer, framer._room[1], limit)
-        got = [calls.fbcheck_framer_feed(*room, b"", 0, used), calls.fbcheck_framer_next(*room),
-               calls.fbcheck_framer_finish(*room)]
-        cases.same(f"room of {limit}", got, [want, 0, 0] if want == 13 else [4] * 3)
-    framer._framer.held, room = 9, (framer._framer, framer._room[1], 8)
-    cases.same("more held than there is room for", calls.fbcheck_framer_feed(*room, b"?", 1, used), status.FAILED)
-    for place in (0, 1, 3, 5):
-        words = [*room, b"?", 1, used]
-        words[place] = None
-        cases.same(f"no word {place}", calls.fbcheck_framer_feed(*words), status.NULL)
-        if place < 2:
-            cases.same("none either at the end", calls.fbcheck_framer_finish(*words[:3]), status.NULL)
-            cases.same("or to give up", calls.fbcheck_framer_next(*words[:3]), status.NULL)
-
-
-def framers_of_python(cases):
-    """What a loop leaves is kept for the next one, and a fault has what is known of it."""
-    python, three = module(), [prefixed(b"1"), prefixed(b"22"), prefixed(b"333")]
-    framer, stream = python.Framer(8), b"".join(three)
-    for message in framer.messages(stream):
-        break
-    cases.same("a loop that is left", message, three[0])
-    cases.same("leaves the rest of the piece", why(ValueError, framer.finish),
-               ("not all of the stream was gone through: messages() still has some of it",))
-    cases.same("to the next loop", list(framer.messages(stream[:3])), three[1:])
-    framer.messages(stream[3:])
-    cases.same("also where none was begun", list(framer.messages()), three)
-    cases.same("and then it may end", framer.finish(), None)
-    for kind in (bytes, bytearray, memoryview, lambda given: array.array("B", given)):
-        cases.same(f"a piece that is {type(kind(b'')).__name__}", list(framer.messages(kind(stream))), three)
-    declared = lambda: list(framer.messages(three[0] + b"\5\0\0\0" + stream))
-    cases.same("one that is too long", why(python.Error, declared), ("OVERSIZE", "declared=5"))
-    cases.same("has failed", why(python.Error, framer.finish)[0], "FAILED")
-    failed = python.Framer(8)
-    list(failed.messages(b"\4\0\0\0abc"))
-    try:
-        failed.finish()
-    except python.Error as error:
-        cases.same("another fault declares nothing", (error.verdict.status, error.declared), (15, None))
+        given = b"".join(map(prefixed, variants(data, [1, 2, 4, 16, 252])))
+        for options in OPTIONS:
+            yield options, ["--schema", ALL, *words_of({"tables": 500, **options})], given
+    yield "deliveries", ["--schema", ORDERS], POST
+    yield "another root", ["--schema", ORDERS, "--root", "post.Person"], POST
 
 
 def why(kind, call):
@@ -296,58 +79,6 @@ def why(kind, call):
     return None
 
 
-def given_to_python(cases):
-    """Bytes may be given as anything that has bytes, and what has none is refused, as are wrong identifiers."""
-    python = module()
-    for kind in (bytes, bytearray, memoryview, lambda given: array.array("B", given)):
-        name = type(kind(b"")).__name__
-        with python.Verifier(kind(schemas.M)) as verifier:
-            cases.same(f"{name}: verify", verifier.verify(kind(ORC)).ok, True)
-            told = verifier.verify_each(kind(ORC), [(0, len(ORC))])
-            cases.same(f"{name}: verify_each", [verdict.ok for verdict in told], [True])
-            told = verifier.read(kind(ORC), verifier.resolve("name"))
-            cases.same(f"{name}: read", told, (python.Kind.TEXT, b"Orc"))
-            cases.same(f"{name}: an identifier", verifier.verify(ORC, python.Options(kind(b"NONE"))).reason, 5)
-    for given, text in [(b"abc", "b'abc' has 3"), (b"", "b'' has 0"), (b"abcde", "b'abcde' has 5")]:
-        told = why(ValueError, lambda: python.Options(ident=given))
-        cases.same(f"the identifier {given}", told, (f"a file identifier has 4 bytes, and {text}",))
-    for given in (5, "text", None):
-        for name, call in [("a schema", python.Verifier), ("a piece", python.Framer().messages)]:
-            cases.holds(f"{name} that is {given!r} is refused", why(TypeError, lambda: call(given)))
-
-
-def through_pipes(cases):
-    """The example that checks a stream: the program's lines, from a pipe and a socket, in pieces of any length."""
-    program = compiled(cases, "stream_shared", TOP / "examples/c/stream.c", *SHARED)
-    sane = compiled(cases, "stream_sane", TOP / "examples/c/stream.c", *SANITIZED, *STATIC)
-    whole = file_of("all.bfbs", ALL)
-    for root in (bent.WHOLE, bent.LITTLE):
-        data = buffer(root, b"KIND", prefix=True)[4:]
-        given = b"".join(map(prefixed, bent.variants(data, [1, 252])))
-        want = run("--schema", str(whole), given=given)
-        for made in (program, sane):
-            cases.same(f"a stream by {made.name}", ran(made, whole, given=given), (want.status, want.out.decode(), ""))
-    rows = (TOP / "examples/deliveries.bin").read_bytes()
-    want = run("--schema", str(ORDERS), given=rows).out.decode()
-    for size in (1, 3, 17, 64, 1000):
-        mine, theirs = socket.socketpair()
-        with subprocess.Popen([sane, ORDERS], stdin=theirs, stdout=subprocess.PIPE, text=True) as running:
-            theirs.close()
-            for at in range(0, len(rows), size):
-                mine.sendall(rows[at:at + size])
-            mine.close()
-            cases.same(f"a socket in pieces of {size}", (running.stdout.read(), running.wait()), (want, 1))
-    for name, given, words, wanted in [
-        ("no messages", b"", [ORDERS], (0, "")), ("a part of one", rows[:-1], [ORDERS], (3, "after")),
-        ("too long a one", b"\xff\xff\xff\xff", [ORDERS], (3, "4294967295 bytes is too long")),
-        ("no schema", rows, [TOP / "README.md"], (2, "no schema")),
-        ("no file", rows, [FOLDER / "nowhere"], (2, "usage")),
-        ("no words", rows, [], (2, "usage")), ("no such table", rows, [ORDERS, "post.Nobody"], (2, "no table")),
-    ]:
-        status, _, err = ran(sane, *words, given=given)
-        cases.same(name, (status, wanted[1] in err), (wanted[0], True))
-
-
 def value_line(kind, value):
     """A value as the program writes it at the end of a line, where no byte of a text is to be escaped."""
     if kind.name in ("FLOAT", "STRUCT"):
@@ -355,217 +86,6 @@ def value_line(kind, value):
     return {"ABSENT": "absent", "NO_ELEMENT": "no-element", "OTHER_MEMBER": "other-member", "TABLE": "table",
             "BOOL": ["false", "true"][value == 1], "INT": str(value), "UINT": str(value), "VECTOR": f"vector:{value}",
             "UNION": f"union:{value}", "TEXT": f'"{value.decode()}"' if kind.name == "TEXT" else ""}[kind.name]
-
-
-def paths(cases):
-    """Values at the end of paths: those that the program writes, on the messages of the example."""
-    python = module()
-    calls, status = python._library(), python.Status
-    rows, messages = (TOP / "examples/deliveries.bin").read_bytes(), []
-    while rows:
-        size = 4 + struct.unpack_from("<I", rows)[0]
-        messages, rows = [*messages, rows[:size]], rows[size:]
-    with python.Verifier(ORDERS.read_bytes()) as verifier:
-        for path in ["to.name", "items", "items[0]", "items[0]@Parcel", "items[1]@Letter", "items[0]@Parcel.tags",
-                     "items[0]@Parcel.tags[1]", "items[9]", "to", "first", "first@Parcel.fragile", "price", "floor",
-                     "route", "route[0]", "helpers", "notes", "notes[0]", "stamps", "from.home", "items_type",
-                     "retired", "items@Parcel", "to.name.x", "first@Nobody", "items[4294967296]"]:
-            whole = b"".join(messages)
-            told = run("--schema", str(ORDERS), "--path", path, given=whole)
-            try:
-                steps = verifier.resolve(path)
-            except python.Error as error:
-                want = re.search(rb"P(\d) \w+ (?:at|step)=(\d+)", told.err)
-                cases.same(f"{path} is refused", [error.verdict.status, error.verdict.reason, error.verdict.at],
-                           [status.BAD_PATH, *map(int, want.groups())])
-                continue
-            for number, message in enumerate(messages):
-                line = told.out.splitlines()[number]
-                if b" bad " in line:
-                    continue
-                kind, value = verifier.read(message, steps, python.Options(prefixed=1))
-                text = line.partition(b"reads=")[2].partition(b" ")[2].decode()
-                cases.same(f"{path} of {number}", value_line(kind, value), text)
-        steps, handle = verifier.resolve("to.name"), verifier._handle
-        cases.same("steps", [(step.kind, step.number) for step in steps][0][0], 1)
-        count, value, verdict = ctypes.c_size_t(77), python._Value(kind=77), python._Verdict()
-        for text, want in [(b"", (17, 1, 0)), (b"to..x", (17, 1, 3)), (b"to.nobody", (17, 2, 1)),
-                           (b"to[0]", (17, 3, 1))]:
-            got = calls.fbcheck_resolve(handle, text, len(text), steps, len(steps), count, verdict)
-            cases.same(f"the text {text}", (got, verdict.reason, verdict.at, count.value), (*want, 77))
-        got = calls.fbcheck_resolve(handle, b"to.name", 7, steps, 1, count, verdict)
-        cases.same("too little room for steps", (got, count.value), (status.NO_ROOM, 2))
-        room = ctypes.create_string_buffer(b"?" * 8, 8)
-        data, options = messages[0], python.Options(prefixed=1)
-        read = lambda steps, size: calls.fbcheck_read(handle, options, data, len(data), steps, len(steps), value, room,
-                                                      size, verdict)
-        told = (read(steps, 2), value.kind, value.size, room.raw)
-        cases.same("too little room for a text", told, (0, 7, 3, b"?" * 8))
-        cases.same("just enough", (read(steps, 3), value.size, room.raw), (0, 3, b"Ada?????"))
-        value.kind = 77
-        for name, wrong in [("no kind", (9, 0)), ("no such field", (1, 999)), ("too great a field", (1, 65536)),
-                            ("an element of a table", (2, 0)), ("a member of a table", (3, 1))]:
-            got = read((python._Step * 1)(wrong), 8)
-            cases.same(f"a step that is {name}", (got, verdict.status, value.kind), (status.MISFIT, 19, 77))
-        cases.same("the root itself", (read((python._Step * 0)(), 8), value.kind), (0, 10))
-        bad = calls.fbcheck_read(handle, None, b"", 0, steps, len(steps), value, room, 8, verdict)
-        cases.same("a bad buffer", (bad, verdict.reason), (1, 2))
-        verifier.choose_root("post.Person")
-        cases.same("steps from another root", read(steps, 8) in (status.BAD, status.MISFIT), True)
-        for place in (0, 1, 3, 5):
-            words = [handle, b"to", 2, steps, 2, count, verdict]
-            words[place] = None
-            cases.same(f"no word {place} to resolve", calls.fbcheck_resolve(*words), status.NULL)
-        for place in (0, 2, 4, 6, 7):
-            words = [handle, None, b"", 9, steps, 2, value, room, 8, verdict]
-            words[place] = None
-            cases.same(f"no word {place} to read", calls.fbcheck_read(*words), status.NULL)
-        verifier.close()
-        cases.same("of a handle that holds nothing", (calls.fbcheck_resolve(handle, b"to", 2, steps, 2, count, None),
-                                                      read(steps, 8)), (status.EMPTY, status.EMPTY))
-
-
-def under_valgrind(cases):
-    """Where there is one: the messages of the example and some damaged ones, with nothing read that isn't there."""
-    if not shutil.which("valgrind"):
-        return
-    data = buffer(bent.LITTLE, b"KIND", prefix=True)[4:]
-    whole = file_of("all.bfbs", ALL)
-    given = b"".join(map(prefixed, bent.variants(data, [1])))
-    status, out, err = ran("valgrind", "-q", "--error-exitcode=9", "--leak-check=full", FOLDER / "tell_shared",
-                           "--schema", whole, given=given, seconds=600)
-    cases.same("valgrind has nothing to say", (status, err), (0, ""))
-    cases.same("and the lines are the program's", out, run("--schema", str(whole), given=given).out.decode())
-
-
-def memory(cases):
-    """Loads and frees leave the heap as it was."""
-    bare = file_of("bare", buffer(bent.WHOLE))
-    whole = file_of("all.bfbs", ALL)
-    loads = compiled(cases, "loads", TOP / "tests/c/loads.c", *SHARED)
-    # Without the blocks that the heap keeps by for the next request, which are counted as in use.
-    tunables = {"GLIBC_TUNABLES": "glibc.malloc.tcache_count=0"}
-    cases.same("10,000 rounds", ran(loads, whole, bare, 10_000, **tunables), (0, "flat\n", ""))
-    sane = compiled(cases, "loads_sane", TOP / "tests/c/loads.c", *SANITIZED, *STATIC)
-    status, _, err = ran(sane, whole, bare, 2_000)
-    cases.same("and none under the sanitizers leaks", (status, err), (0, ""))
-    refuse = FOLDER / "refuse_c.so"
-    made = ran("cc", "-O1", "-shared", "-fPIC", TOP / "tests/memory/refuse.c", "-o", refuse)
-    cases.same("refuse.c compiles", made, (0, "", ""))
-    starved = compiled(cases, "starved", TOP / "tests/c/starved.c", *SHARED)
-    statuses = []
-    while statuses[-1:] != [0] and len(statuses) < 1000:
-        told = ran(starved, whole, bare, LD_PRELOAD=str(refuse), REFUSE_FIRST=str(len(statuses) + 1))
-        statuses.append(told[0])
-    cases.same("each request of a load that is refused", statuses, [11] * (len(statuses) - 1) + [0])
-    cases.holds("of which there are some", len(statuses) > 10, len(statuses))
-
-
-def nulls(cases):
-    """Null pointers, handles that hold nothing, and options that can't be served are answered."""
-    python = module()
-    calls, status = python._library(), python.Status
-    handle, verdict, options = python._Handle(), python._Verdict(), python.Options()
-    file = ORDERS.read_bytes()
-    told = lambda: (verdict.status, verdict.reason, verdict.object, verdict.field, verdict.at, verdict.reads)
-    blank = lambda number: (number, 0, 0, python.NONE, 0, 0)
-    cases.same("no handle to load into", calls.fbcheck_load(None, file, len(file), options, verdict), status.NULL)
-    cases.same("and it is told", told(), blank(2))
-    cases.same("no file", calls.fbcheck_load(handle, None, 9, None, None), status.NULL)
-    cases.same("an empty file", calls.fbcheck_load(handle, None, 0, None, verdict), status.NOT_WELL_FORMED)
-    cases.same("no handle to check by", calls.fbcheck_verify(None, options, b"", 0, verdict), status.NULL)
-    cases.same("a handle that holds nothing", calls.fbcheck_verify(handle, options, b"", 0, verdict), status.EMPTY)
-    cases.same("and it is told", told(), blank(5))
-    cases.same("nor a root", calls.fbcheck_choose_root(handle, b"A", 1), status.EMPTY)
-    reads = ctypes.c_uint64(77)
-    cases.same("nor most reads", calls.fbcheck_most_reads(handle, None, 9, reads), status.EMPTY)
-    cases.same("which stay as they were", reads.value, 77)
-    calls.fbcheck_free(None)
-    calls.fbcheck_free(handle)
-    cases.same("a schema", calls.fbcheck_load(handle, file, len(file), None, verdict), status.OK)
-    cases.same("is told so", told(), blank(0))
-    cases.same("no buffer", calls.fbcheck_verify(handle, options, None, 9, verdict), status.NULL)
-    cases.same("an empty buffer", calls.fbcheck_verify(handle, None, None, 0, verdict), status.BAD)
-    cases.same("is out of buffer at 0, in the root's object", told()[:5], (1, 2, 1, python.NONE, 0))
-    cases.same("no root's name", calls.fbcheck_choose_root(handle, None, 3), status.NULL)
-    cases.same("an empty root's name", calls.fbcheck_choose_root(handle, None, 0), status.NO_ROOT)
-    cases.same("no place for reads", calls.fbcheck_most_reads(handle, None, 9, None), status.NULL)
-    for asked, answer in [
-        (python.Options(version=0), status.UNKNOWN_OPTIONS), (python.Options(version=2), status.UNKNOWN_OPTIONS),
-        (python.Options(max_depth=65), status.OUT_OF_RANGE), (python.Options(max_depth=64), status.BAD),
-    ]:
-        cases.same(f"options {asked.version}, {asked.max_depth}",
-                   calls.fbcheck_verify(handle, asked, b"", 0, verdict), answer)
-    deepest, deeper = python.Options(max_depth=4096), python.Options(max_depth=4097)
-    answer = calls.fbcheck_load(handle, file, len(file), deeper, None)
-    cases.same("a depth that no load has", answer, status.OUT_OF_RANGE)
-    cases.same("leaves the handle as it was", calls.fbcheck_verify(handle, None, b"", 0, None), status.BAD)
-    cases.same("the greatest depth", calls.fbcheck_load(handle, file, len(file), deepest, None), status.OK)
-    cases.same("serves up to it", calls.fbcheck_verify(handle, deepest, b"", 0, verdict), status.BAD)
-    cases.same("a buffer that is too long", calls.fbcheck_verify(handle, None, b"", 1 << 31, verdict), status.TOO_LONG)
-    cases.same("options to make", calls.fbcheck_options_init(None), status.NULL)
-    cases.same("sizes to tell", calls.fbcheck_struct_sizes(None), status.NULL)
-    calls.fbcheck_free(handle)
-    calls.fbcheck_free(handle)
-    cases.same("what was freed holds nothing", calls.fbcheck_verify(handle, None, b"", 0, None), status.EMPTY)
-    cases.same("and is null", handle.session, None)
-
-
-def names(cases):
-    """Names by their numbers, as the schema and the reference have them."""
-    python = module()
-    page = (TOP / "docs/REFERENCE.md").read_text()
-    reasons = re.findall(r"V\d+ [A-Z]\w+", page.split("## Reasons")[1].split("\n## ")[0])
-    rows = [table.split() for table in ["A v", "W", "R u_type u", "Q us_type us"]]
-    with python.Verifier(schemas.X) as verifier:
-        cases.same("reasons", [verifier.reason_name(n) for n in range(15)], [None, *reasons, None])
-        for number, (table, *fields) in enumerate(rows):
-            cases.same(f"object {number}", verifier.object_name(number), table)
-            told = [verifier.field_name(number, n) for n in range(len(fields) + 1)]
-            cases.same(f"fields of {table}", told, [*fields, None])
-        numbers = (4, 65536, 2**32 - 1)
-        cases.same("no such object", [verifier.object_name(n) for n in numbers], [None] * 3)
-        cases.same("no such table", [verifier.field_name(n, 0) for n in numbers], [None] * 3)
-        cases.same("no such field", [verifier.field_name(2, n) for n in numbers], [None] * 3)
-        calls, handle, text = verifier._calls, verifier._handle, ctypes.create_string_buffer(b"?" * 8, 8)
-        cases.same("too little room", (calls.fbcheck_field_name(handle, 3, 0, text, 6), text.raw), (7, b"?" * 8))
-        cases.same("just enough", (calls.fbcheck_field_name(handle, 3, 0, text, 7), text.raw), (7, b"us_type?"))
-        cases.same("no room", (calls.fbcheck_field_name(handle, 3, 0, None, 9), calls.fbcheck_reason_name(1, None, 9),
-                               calls.fbcheck_object_name(handle, 0, None, 9)), (0, 0, 0))
-        cases.same("no handle", (calls.fbcheck_object_name(None, 0, text, 8),
-                                 calls.fbcheck_field_name(None, 0, 0, text, 8)), (0, 0))
-        verifier.close()
-        cases.same("of a handle that holds nothing", (verifier.object_name(0), verifier.field_name(0, 0)), (None, None))
-        cases.same("a reason has its name still", verifier.reason_name(13), "V13 TooManyReads")
-
-
-def loads(cases):
-    """Why a schema file gives no schema, as the program tells it."""
-    python = module()
-    file = ORDERS.read_bytes()
-    for name, given in {
-        "empty": b"", "cut off": file[:100], "no schema": b"hello, world",
-        "another identifier": file[:4] + b"BFBX" + file[8:],
-        "no such object": schema([bent.table("T", bent.field("o", bent.an_object(7), 4))]),
-        "a slot twice": schema([bent.table("T", bent.field("a", bent.INT, 4), bent.field("b", bent.INT, 4))]),
-        "a root that isn't listed": schema([bent.table("T")], root="S"),
-    }.items():
-        want = run("--schema", str(file_of("wrong.bfbs", given))).err.decode().removeprefix("fbcheck: schema: ").strip()
-        try:
-            python.Verifier(given)
-            got = "a schema"
-        except python.Error as error:
-            why = error.verdict
-            field = "-" if why.field is None else why.field
-            got = {
-                8: f"L1 V{why.reason} at={why.at} object={why.object} field={field} reads={why.reads}",
-                9: f"L2 C{why.reason} owner={why.object} part={field}",
-                10: "L3",
-            }.get(why.status, why)
-        cases.same(name, got, re.sub(r"(L3|[VC]\d+) \w+", r"\1", want))
-    for option, reason in [("max_reads", 13), ("max_tables", 7), ("max_depth", 6)]:
-        why = reason_of_load(python, file, python.Options(**{option: 2}))
-        cases.same(f"a file past its {option}", why, (8, reason))
 
 
 def reason_of_load(python, file, options):
@@ -576,103 +96,521 @@ def reason_of_load(python, file, options):
         return error.verdict.status, error.verdict.reason
 
 
-def examples(cases):
-    """The programs of examples/c, and the module for Python, on the messages of the example."""
-    messages, rest = [], (TOP / "examples/deliveries.bin").read_bytes()
-    while rest:
-        size = 4 + struct.unpack_from("<I", rest)[0]
-        messages, rest = [*messages, rest[:size]], rest[size:]
-    words = SHARED
-    if shutil.which("pkg-config"):
-        words = ran("pkg-config", "--cflags", "--libs", "fbcheck", PKG_CONFIG_PATH=str(OUT))[1].split()
-    check = compiled(cases, "check_c", TOP / "examples/c/check.c", *words, *SHARED[1:])
-    if CPP:
-        check_cpp = compiled(cases, "check_cpp", TOP / "examples/c/check.cpp", *words, *SHARED[1:], **CPP)
-    compiled(cases, "check_sane", TOP / "examples/c/check.c", *SANITIZED, *STATIC)
-    python = module()
-    with python.Verifier(ORDERS.read_bytes()) as verifier:
-        for number, message in enumerate(messages):
-            want = run("--bare", "--no-alignment", "--schema", str(ORDERS), given=message[4:]).out.decode()
-            told = verifier.verify(message[4:], python.Options(no_alignment=1))
-            text = (f"ok tables={told.tables} depth={told.depth}" if told.ok else
-                    f"bad V{told.reason} at={told.at} object={told.object} field={told.field}") + f" reads={told.reads}"
-            cases.same(f"message {number + 1} by Python", f"1 {text}\n", without_names(want.encode()).decode())
-            cases.same(f"message {number + 1} by its prefix",
-                       verifier.verify(message, python.Options(prefixed=1)).status, int(number == 4))
-            cases.same(f"message {number + 1} with another prefix",
-                       verifier.verify(b"\0" + message[1:], python.Options(prefixed=1)).reason, 1)
-        for ident, reason in [(b"POST", 0), (b"PAST", 5)]:
-            told = verifier.verify(messages[0], python.Options(ident, prefixed=1))
-            cases.same(f"the identifier {ident}", told.reason, reason)
-        most = verifier.most_reads(len(messages[0]), python.Options(max_tables=2, max_reads=1000))
-        cases.same("the most reads are the budget and 7", most, 1007)
-        cases.same("or fewer", verifier.most_reads(10, python.Options(max_tables=0)), 4)
-        most = verifier.most_reads(2**64 - 1, python.Options(max_reads=2**64 - 1))
-        cases.same("or as many as there is room for", most, 2**64 - 1)
-        verifier.choose_root("post.Person")
-        cases.same("another root", verifier.verify(b"").object != 1, True)
-        try:
-            verifier.choose_root("post.Nobody")
-            cases.holds("a root that isn't there is refused", False)
-        except python.Error as error:
-            cases.same("a root that isn't there is refused", error.verdict.status, 6)
-    small, orc, torn = file_of("M.bfbs", schemas.M), file_of("orc", ORC), file_of("torn", ORC[:-1])
-    for name, words, wanted, line in [
-        ("good", [small, orc], 0, "ok tables=1 depth=1 reads=8"), ("with its root", [small, orc, "M"], 0, None),
-        ("torn", [small, torn], 1, "bad V2 OutOfBuffer at=28 object=0 field=1 reads=7\nin M.name"),
-        ("empty", [small, file_of("empty", b"")], 1, "bad V2 OutOfBuffer at=0 object=0 field=- reads=0\nin M"),
-        ("no such table", [small, orc, "N"], 2, ""),
-        ("no schema", [orc, orc], 2, ""), ("no buffer", [small, FOLDER / "nowhere"], 2, ""), ("no words", [], 2, ""),
-    ]:
-        if line is None:
-            told = run("--bare", "--schema", small, given=words[1].read_bytes())
-            line = told.out.decode().removeprefix("1 ").strip()
-        for program in (check, FOLDER / "check_sane"):
-            status, out, err = ran(program, *words)
-            cases.same(f"{name}, {program.name}", (status, out.strip(), bool(err)), (wanted, line, wanted == 2))
+class LibraryForC(LibraryCase):
+    def test_what_is_built(self):
+        status, out, err = ran(TOP / "build_c", seconds=3600)
+        self.same("./build_c builds", (status, out), (0, ""))
+        calls = sorted(re.findall(r"^(?:uint32_t|size_t|void) (fbcheck_\w+)\(", HEADER, re.M))
+        for library, words in [("libfbcheck.a", ["-g"]), ("libfbcheck.so.1", ["-D"])]:
+            _, symbols, _ = ran("nm", *words, "--defined-only", OUT / library)
+            found = sorted(line.split()[2] for line in symbols.splitlines() if len(line.split()) == 3)
+            self.same(f"{library} defines the header's calls and nothing else", found, calls)
+            _, symbols, _ = ran("nm", *words, "--undefined-only", OUT / library)
+            wanted = {line.split()[1].partition("@")[0] for line in symbols.splitlines() if line.split()[:1] == ["U"]}
+            self.holds(f"{library} needs the C library's heap and memory alone",
+                       wanted <= {"malloc", "free", "realloc", "memcpy", "memmove", "memset", "memcmp", "bcmp"}, wanted)
+        self.same("a word is refused", ran(TOP / "build_c", "here")[0], 2)
+        before = (OUT / "libfbcheck.a").stat().st_mtime_ns
+        self.same("once all is made, nothing is done, and no rt is needed",
+                  (ran(TOP / "build_c", PATH="/usr/bin:/bin")[0], (OUT / "libfbcheck.a").stat().st_mtime_ns),
+                  (0, before))
+
+    def test_the_header(self):
+        """Its numbers are those of the reference and of the module for Python, and its structs those of the library."""
+        constants = re.findall(r"^    (FBCHECK_\w+) = (\d+)", HEADER, re.M)
+        python = module()
+        fields = {"fbcheck_options": python.Options, "fbcheck_verdict": python._Verdict,
+                  "fbcheck_handle": python._Handle, "fbcheck_span": python._Span, "fbcheck_framer": python._Framer,
+                  "fbcheck_step": python._Step, "fbcheck_value": python._Value}
+        lines = [f'    printf("{name} %d\\n", (int){name});' for name, _ in constants]
+        lines += [f"    FIELD({name}, {field});" for name, of in fields.items() for field, _ in of._fields_]
+        source = file_of("numbers.c", NUMBERS.replace("@LINES@", "\n".join(lines)).encode())
+        offsets = [f"{name} {field} {getattr(of, field).offset}" for name, of in fields.items() for field,
+                   _ in of._fields_]
+        sizes = ["options 64 64", "verdict 40 40", "handle 8 8", "span 16 16", "framer 16 16", "step 8 8",
+                 "value 32 32"]
+        want = [*sizes, "init 0", *map(" ".join, constants), *offsets]
+        programs = {"C99": self.compiled("numbers_c", source, *STATIC, standard="-std=c99")}
         if CPP:
-            status, out, err = ran(check_cpp, *words)
-            shown = without_names(line.encode()).decode()
-            told = (status, shown.startswith(out.strip()), bool(err))
-            cases.same(f"{name}, check_cpp", told, (wanted, True, wanted == 2))
-    for name, words, text in [
-        ("no schema", [orc, orc], "check: no schema: 8, reason 5 at 4\n"),
-        ("no schema file", [FOLDER / "nowhere", orc], f"check: {FOLDER}/nowhere can't be read\n"),
-        ("no buffer", [small, FOLDER / "nowhere"], f"check: {FOLDER}/nowhere can't be read\n"),
-        ("a folder", [small, FOLDER], f"check: {FOLDER} can't be read\n"),
-        ("no root table", [file_of("rootless", schema([bent.table("T")])), orc], "check: nothing was checked: 6\n"),
-    ]:
-        for program in [check, check_cpp] if CPP else [check]:
-            cases.same(f"{name}, told by {program.name}", ran(program, *words), (2, "", text))
-    if CPP:
-        moved = compiled(cases, "moved", TOP / "tests/c/moved.cpp", *SANITIZED, *STATIC, **CPP)
-        cases.same("a Verifier that is moved", ran(moved, small, orc), (0, "5 0 0 5 0 M\n", ""))
+            as_cpp = file_of("numbers.cpp", source.read_bytes())
+            programs["C++11"] = self.compiled("numbers_cpp", as_cpp, *STATIC, **CPP)
+        for name, made in programs.items():
+            status, out, _ = ran(made)
+            self.same(f"{name}: numbers, sizes and places", (status, out.splitlines()), (0, want))
+        told = [ctypes.sizeof(of) for of in fields.values()]
+        self.same("sizes of the structs of Python", told, [64, 40, 8, 16, 16, 8, 32])
+        told = {name.removeprefix("FBCHECK_"): int(number) for name, number in constants}
+        for names in (python.Status, python.Reason, python.Kind):
+            self.same(f"{names.__name__} of Python", {one.name: told.get(one.name) for one in names},
+                      {one.name: int(one) for one in names})
+        page = (TOP / "docs/REFERENCE.md").read_text()
+        for code, name in re.findall(r"`V(\d+) (\w+)`", page.split("## Reasons")[1].split("\n## ")[0]):
+            self.same(f"V{code}", told["_".join(re.findall(r"[A-Z][a-z]+", name)).upper()], int(code))
 
+    def test_verdicts(self):
+        """Those of the program, on every buffer, by the shared library and by the static one under the sanitizers: of
+        each alone, and of all of a stream at once."""
+        tell = TOP / "tests/c/tell.c"
+        programs = [self.compiled("tell_shared", tell, *SHARED), self.compiled("tell_sane", tell, *SANITIZED, *STATIC)]
+        buffers = reasons = 0
+        seen = set()
+        for name, words, given in streams():
+            want = run(*words, given=given).out
+            for program in programs:
+                status, out, err = ran(program, *words, given=given)
+                self.same(f"{name}, {program.name}: it ends well", (status, err), (0, ""))
+                differing = [pair for pair in zip(out.encode().splitlines(), want.splitlines()) if pair[0] != pair[1]]
+                self.same(f"{name}, {program.name}: lines that differ from the program's", differing[:5], [])
+                self.same(f"{name}, {program.name}: their number", out.count("\n"), want.count(b"\n"))
+            buffers += want.count(b"\n")
+            seen |= set(re.findall(rb"bad (V\d+)", want))
+        self.holds("there are more than 10,000 buffers", buffers > 10_000, buffers)
+        self.same("with each reason but a wrong prefix", sorted(seen, key=lambda code: int(code[1:])),
+                  [b"V%d" % number for number in range(2, 14)])
 
-def texts_of_the_pages(cases):
-    """The C that README.md and docs/REFERENCE.md show works when it is pasted."""
-    for rows in ("good", "bad"):
-        (FOLDER / rows).mkdir()
-    file_of("good/my.bfbs", schemas.M)
-    file_of("bad/my.bfbs", ORC)
-    for page, good, no_schema in [
-        ("README.md", "good: 1 tables\n", "no schema: 8\n"),
-        ("docs/REFERENCE.md", "good: 1 tables, 8 reads\n", "no schema: 8\n"),
-    ]:
-        text = re.search(r"```c\n(.*?)```", (TOP / page).read_text(), re.S)[1]
-        program = compiled(cases, "pasted from " + page.replace("/", " "), file_of("pasted.c", text.encode()), *SHARED)
+    def test_batches(self):
+        """Spans that overlap, stand in any order, are empty, or don't lie in the block."""
+        python = module()
+        status, block = python.Status, b"?" * 4 + ORC + ORC[:-1]
+        good, torn, end = (4, len(ORC)), (4 + len(ORC), len(ORC) - 1), len(block)
+        beyond = [(end + 1, 0), (0, end + 1), (end, 1), (2**64 - 1, 2**64 - 1), (1, 2**64 - 1), (2**63, 2**63)]
+        with python.Verifier(schemas.M) as verifier:
+            told = verifier.verify_each(block, [torn, good, (end, 0), *beyond, good])
+            single = [verifier.verify(buffer) for buffer in (ORC[:-1], ORC, b"")]
+            self.same("those in the block, as each alone", [*told[:3], told[-1]], [*single, single[1]])
+            self.same("those that aren't", told[3:-1], [python.Verdict(12, 0, 0, None, 0, 0, 0, 0)] * len(beyond))
+            calls, handle, verdict = verifier._calls, verifier._handle, python._Verdict(status=77)
+            one = lambda *spans: (python._Span * len(spans))(*spans)
+            for spans, answer in [([good], 0), ([torn], 1), (beyond[:1], 1), ([], 0)]:
+                got = calls.fbcheck_verify_each(handle, None, block, len(block), one(*spans), verdict, len(spans))
+                self.same(f"the answer to {spans}", got, answer)
+            self.same("no spans at all", calls.fbcheck_verify_each(handle, None, None, 0, None, None, 0), status.OK)
+            got = calls.fbcheck_verify_each(handle, None, None, 0, one((0, 0)), verdict, 1)
+            self.same("an empty block has an empty buffer", (got, verdict.status, verdict.reason), (1, 1, 2))
+            verdict.status = 77
+            words = [handle, None, block, 9, one(good), verdict, 1]
+            for place in (0, 2, 4, 5):
+                got = calls.fbcheck_verify_each(*[None if place == i else word for i, word in enumerate(words)])
+                self.same(f"without word {place} nothing is told", (got, verdict.status), (status.NULL, 77))
+            for options, answer in [(python.Options(version=2), 3), (python.Options(max_depth=65), 4)]:
+                told = verifier.verify_each(block, [good, beyond[0], torn], options)
+                self.same(f"options that can't be served: {answer}", [one.status for one in told], [answer, 12, answer])
+            verifier.close()
+            told = verifier.verify_each(block, [good, beyond[0]])
+            self.same("a handle that holds nothing", [one.status for one in told], [5, 12])
+
+    def test_framers(self):
+        """The messages of a stream, however it is cut, and what may be wrong with one."""
+        python = module()
+        calls, status = python._library(), python.Status
+        m, used = prefixed(ORC), ctypes.c_size_t(77)
+        cut = lambda given, size: [given[at:at + size] for at in range(0, len(given), size)]
+        stream = m + prefixed(b"") + m + prefixed(b"abc")
+        for size in range(1, len(stream) + 1):
+            framer = python.Framer(len(m))
+            told = [message for piece in cut(stream, size) for message in framer.messages(piece)]
+            self.same(f"messages in pieces of {size}", told, [m, bytes(4), m, prefixed(b"abc")])
+            self.same(f"and the end in pieces of {size}", framer.finish(), None)
+
+        def fed(framer, piece):
+            answer = calls.fbcheck_framer_feed(*framer._room, piece, len(piece), used)
+            return answer, used.value, framer._framer.held
+
+        framer = python.Framer(len(m))
+        finish = lambda: calls.fbcheck_framer_finish(*framer._room)
+        steps = [fed(framer, m + m), fed(framer, m), finish(), calls.fbcheck_framer_next(*framer._room),
+                 fed(framer, b"")]
+        n = len(m)
+        self.same("a message is held until it is given up", steps, [(0, n, n), (0, 0, n), 0, 0, (13, 0, 0)])
+        steps = [fed(framer, m[:2]), calls.fbcheck_framer_next(*framer._room), fed(framer, m[2:9])]
+        self.same("a part isn't given up", steps, [(13, 2, 2), 0, (13, 7, 9)])
+        steps = [finish(), fed(framer, m), finish(), framer._framer.held]
+        self.same("nor may a stream end in one", steps, [15, (16, 7, 9), 16, 9])
+        for limit, first, want in [(n, n - 4, (13, 5, 5)), (n - 1, n - 4, (14, 77, 4)), (8, 2**32 - 1, (14, 77, 4))]:
+            framer, used.value = python.Framer(limit), 77
+            got = fed(framer, struct.pack("<I", first) + b"?")
+            self.same(f"{first} declared for room of {limit}", got, want)
+            declared = first if want[0] == 14 else 0
+            self.same("which is told", (framer._framer.declared, bool(framer._framer.failed)),
+                      (declared, declared != 0))
+        for limit, want in [(7, 4), (8, 13), (2**31 - 1, 13), (2**31, 4)]:
+            framer = python.Framer(8)
+            room = (framer._framer, framer._room[1], limit)
+            got = [calls.fbcheck_framer_feed(*room, b"", 0, used), calls.fbcheck_framer_next(*room),
+                   calls.fbcheck_framer_finish(*room)]
+            self.same(f"room of {limit}", got, [want, 0, 0] if want == 13 else [4] * 3)
+        framer._framer.held, room = 9, (framer._framer, framer._room[1], 8)
+        self.same("more held than there is room for", calls.fbcheck_framer_feed(*room, b"?", 1, used), status.FAILED)
+        for place in (0, 1, 3, 5):
+            words = [*room, b"?", 1, used]
+            words[place] = None
+            self.same(f"no word {place}", calls.fbcheck_framer_feed(*words), status.NULL)
+            if place < 2:
+                self.same("none either at the end", calls.fbcheck_framer_finish(*words[:3]), status.NULL)
+                self.same("or to give up", calls.fbcheck_framer_next(*words[:3]), status.NULL)
+
+    def test_framers_of_python(self):
+        """What a loop leaves is kept for the next one, and a fault has what is known of it."""
+        python, three = module(), [prefixed(b"1"), prefixed(b"22"), prefixed(b"333")]
+        framer, stream = python.Framer(8), b"".join(three)
+        for message in framer.messages(stream):
+            break
+        self.same("a loop that is left", message, three[0])
+        self.same("leaves the rest of the piece", why(ValueError, framer.finish),
+                  ("not all of the stream was gone through: messages() still has some of it",))
+        self.same("to the next loop", list(framer.messages(stream[:3])), three[1:])
+        framer.messages(stream[3:])
+        self.same("also where none was begun", list(framer.messages()), three)
+        self.same("and then it may end", framer.finish(), None)
+        for kind in (bytes, bytearray, memoryview, lambda given: array.array("B", given)):
+            self.same(f"a piece that is {type(kind(b'')).__name__}", list(framer.messages(kind(stream))), three)
+        declared = lambda: list(framer.messages(three[0] + b"\5\0\0\0" + stream))
+        self.same("one that is too long", why(python.Error, declared), ("OVERSIZE", "declared=5"))
+        self.same("has failed", why(python.Error, framer.finish)[0], "FAILED")
+        failed = python.Framer(8)
+        list(failed.messages(b"\4\0\0\0abc"))
+        try:
+            failed.finish()
+        except python.Error as error:
+            self.same("another fault declares nothing", (error.verdict.status, error.declared), (15, None))
+
+    def test_given_to_python(self):
+        """Bytes may be given as anything that has bytes, and what has none is refused, as are wrong identifiers."""
+        python = module()
+        for kind in (bytes, bytearray, memoryview, lambda given: array.array("B", given)):
+            name = type(kind(b"")).__name__
+            with python.Verifier(kind(schemas.M)) as verifier:
+                self.same(f"{name}: verify", verifier.verify(kind(ORC)).ok, True)
+                told = verifier.verify_each(kind(ORC), [(0, len(ORC))])
+                self.same(f"{name}: verify_each", [verdict.ok for verdict in told], [True])
+                told = verifier.read(kind(ORC), verifier.resolve("name"))
+                self.same(f"{name}: read", told, (python.Kind.TEXT, b"Orc"))
+                self.same(f"{name}: an identifier", verifier.verify(ORC, python.Options(kind(b"NONE"))).reason, 5)
+        for given, text in [(b"abc", "b'abc' has 3"), (b"", "b'' has 0"), (b"abcde", "b'abcde' has 5")]:
+            told = why(ValueError, lambda: python.Options(ident=given))
+            self.same(f"the identifier {given}", told, (f"a file identifier has 4 bytes, and {text}",))
+        for given in (5, "text", None):
+            for name, call in [("a schema", python.Verifier), ("a piece", python.Framer().messages)]:
+                self.holds(f"{name} that is {given!r} is refused", why(TypeError, lambda: call(given)))
+
+    def test_through_pipes(self):
+        """The example that checks a stream: the program's lines, from a pipe and a socket, in pieces of any length."""
+        program = self.compiled("stream_shared", TOP / "examples/c/stream.c", *SHARED)
+        sane = self.compiled("stream_sane", TOP / "examples/c/stream.c", *SANITIZED, *STATIC)
+        for root in (WHOLE, LITTLE):
+            data = buffer(root, b"KIND", prefix=True)[4:]
+            given = b"".join(map(prefixed, variants(data, [1, 252])))
+            want = run("--schema", str(ALL), given=given)
+            for made in (program, sane):
+                self.same(f"a stream by {made.name}", ran(made, ALL, given=given),
+                          (want.status, want.out.decode(), ""))
+        want = run("--schema", str(ORDERS), given=POST).out.decode()
+        for size in (1, 3, 17, 64, 1000):
+            mine, theirs = socket.socketpair()
+            with subprocess.Popen([sane, ORDERS], stdin=theirs, stdout=subprocess.PIPE, text=True) as running:
+                theirs.close()
+                for at in range(0, len(POST), size):
+                    mine.sendall(POST[at:at + size])
+                mine.close()
+                self.same(f"a socket in pieces of {size}", (running.stdout.read(), running.wait()), (want, 1))
+        for name, given, words, wanted in [
+            ("no messages", b"", [ORDERS], (0, "")), ("a part of one", POST[:-1], [ORDERS], (3, "after")),
+            ("too long a one", b"\xff\xff\xff\xff", [ORDERS], (3, "4294967295 bytes is too long")),
+            ("no schema", POST, [TOP / "README.md"], (2, "no schema")),
+            ("no file", POST, [FOLDER / "nowhere"], (2, "usage")),
+            ("no words", POST, [], (2, "usage")), ("no such table", POST, [ORDERS, "post.Nobody"], (2, "no table")),
+        ]:
+            status, _, err = ran(sane, *words, given=given)
+            self.same(name, (status, wanted[1] in err), (wanted[0], True))
+
+    def test_paths(self):
+        """Values at the end of paths: those that the program writes, on the messages of the example."""
+        python = module()
+        calls, status = python._library(), python.Status
+        messages = messages_of(POST)
+        with python.Verifier(ORDERS.read_bytes()) as verifier:
+            for path in ["to.name", "items", "items[0]", "items[0]@Parcel", "items[1]@Letter", "items[0]@Parcel.tags",
+                         "items[0]@Parcel.tags[1]", "items[9]", "to", "first", "first@Parcel.fragile", "price", "floor",
+                         "route", "route[0]", "helpers", "notes", "notes[0]", "stamps", "from.home", "items_type",
+                         "retired", "items@Parcel", "to.name.x", "first@Nobody", "items[4294967296]"]:
+                told = run("--schema", str(ORDERS), "--path", path, given=POST)
+                try:
+                    steps = verifier.resolve(path)
+                except python.Error as error:
+                    want = re.search(rb"P(\d) \w+ (?:at|step)=(\d+)", told.err)
+                    self.same(f"{path} is refused", [error.verdict.status, error.verdict.reason, error.verdict.at],
+                              [status.BAD_PATH, *map(int, want.groups())])
+                    continue
+                for number, message in enumerate(messages):
+                    line = told.out.splitlines()[number]
+                    if b" bad " in line:
+                        continue
+                    kind, value = verifier.read(message, steps, python.Options(prefixed=1))
+                    text = line.partition(b"reads=")[2].partition(b" ")[2].decode()
+                    self.same(f"{path} of {number}", value_line(kind, value), text)
+            steps, handle = verifier.resolve("to.name"), verifier._handle
+            self.same("steps", [(step.kind, step.number) for step in steps][0][0], 1)
+            count, value, verdict = ctypes.c_size_t(77), python._Value(kind=77), python._Verdict()
+            for text, want in [(b"", (17, 1, 0)), (b"to..x", (17, 1, 3)), (b"to.nobody", (17, 2, 1)),
+                               (b"to[0]", (17, 3, 1))]:
+                got = calls.fbcheck_resolve(handle, text, len(text), steps, len(steps), count, verdict)
+                self.same(f"the text {text}", (got, verdict.reason, verdict.at, count.value), (*want, 77))
+            got = calls.fbcheck_resolve(handle, b"to.name", 7, steps, 1, count, verdict)
+            self.same("too little room for steps", (got, count.value), (status.NO_ROOM, 2))
+            room = ctypes.create_string_buffer(b"?" * 8, 8)
+            data, options = messages[0], python.Options(prefixed=1)
+            read = lambda steps, size: calls.fbcheck_read(handle, options, data, len(data), steps, len(steps), value,
+                                                          room, size, verdict)
+            told = (read(steps, 2), value.kind, value.size, room.raw)
+            self.same("too little room for a text", told, (0, 7, 3, b"?" * 8))
+            self.same("just enough", (read(steps, 3), value.size, room.raw), (0, 3, b"Ada?????"))
+            value.kind = 77
+            for name, wrong in [("no kind", (9, 0)), ("no such field", (1, 999)), ("too great a field", (1, 65536)),
+                                ("an element of a table", (2, 0)), ("a member of a table", (3, 1))]:
+                got = read((python._Step * 1)(wrong), 8)
+                self.same(f"a step that is {name}", (got, verdict.status, value.kind), (status.MISFIT, 19, 77))
+            self.same("the root itself", (read((python._Step * 0)(), 8), value.kind), (0, 10))
+            bad = calls.fbcheck_read(handle, None, b"", 0, steps, len(steps), value, room, 8, verdict)
+            self.same("a bad buffer", (bad, verdict.reason), (1, 2))
+            verifier.choose_root("post.Person")
+            self.same("steps from another root", read(steps, 8) in (status.BAD, status.MISFIT), True)
+            for place in (0, 1, 3, 5):
+                words = [handle, b"to", 2, steps, 2, count, verdict]
+                words[place] = None
+                self.same(f"no word {place} to resolve", calls.fbcheck_resolve(*words), status.NULL)
+            for place in (0, 2, 4, 6, 7):
+                words = [handle, None, b"", 9, steps, 2, value, room, 8, verdict]
+                words[place] = None
+                self.same(f"no word {place} to read", calls.fbcheck_read(*words), status.NULL)
+            verifier.close()
+            self.same("of a handle that holds nothing",
+                      (calls.fbcheck_resolve(handle, b"to", 2, steps, 2, count, None), read(steps, 8)),
+                      (status.EMPTY, status.EMPTY))
+
+    def test_under_valgrind(self):
+        """Where there is one: the messages of the example and some damaged ones, with nothing read that isn't there."""
+        if not shutil.which("valgrind"):
+            self.skipTest("valgrind isn't there")
+        tell = self.compiled("tell_plain", TOP / "tests/c/tell.c", *SHARED)
+        data = buffer(LITTLE, b"KIND", prefix=True)[4:]
+        given = b"".join(map(prefixed, variants(data, [1])))
+        status, out, err = ran("valgrind", "-q", "--error-exitcode=9", "--leak-check=full", tell, "--schema", ALL,
+                               given=given, seconds=600)
+        self.same("valgrind has nothing to say", (status, err), (0, ""))
+        self.same("and the lines are the program's", out, run("--schema", str(ALL), given=given).out.decode())
+
+    def test_memory(self):
+        """Loads and frees leave the heap as it was."""
+        bare = file_of("bare", buffer(WHOLE))
+        loads = self.compiled("loads", TOP / "tests/c/loads.c", *SHARED)
+        # Without the blocks that the heap keeps by for the next request, which are counted as in use.
+        tunables = {"GLIBC_TUNABLES": "glibc.malloc.tcache_count=0"}
+        self.same("10,000 rounds", ran(loads, ALL, bare, 10_000, **tunables), (0, "flat\n", ""))
+        sane = self.compiled("loads_sane", TOP / "tests/c/loads.c", *SANITIZED, *STATIC)
+        status, _, err = ran(sane, ALL, bare, 2_000)
+        self.same("and none under the sanitizers leaks", (status, err), (0, ""))
+        refuse = shared_library("memory/refuse.c")
+        starved = self.compiled("starved", TOP / "tests/c/starved.c", *SHARED)
+        statuses = []
+        while statuses[-1:] != [0] and len(statuses) < 1000:
+            more = {"LD_PRELOAD": str(refuse), "REFUSE_FIRST": str(len(statuses) + 1)}
+            statuses.append(ran(starved, ALL, bare, **more)[0])
+        self.same("each request of a load that is refused", statuses, [11] * (len(statuses) - 1) + [0])
+        self.holds("of which there are some", len(statuses) > 10, len(statuses))
+
+    def test_nulls(self):
+        """Null pointers, handles that hold nothing, and options that can't be served are answered."""
+        python = module()
+        calls, status = python._library(), python.Status
+        handle, verdict, options = python._Handle(), python._Verdict(), python.Options()
+        file = ORDERS.read_bytes()
+        told = lambda: (verdict.status, verdict.reason, verdict.object, verdict.field, verdict.at, verdict.reads)
+        blank = lambda number: (number, 0, 0, python.NONE, 0, 0)
+        self.same("no handle to load into", calls.fbcheck_load(None, file, len(file), options, verdict), status.NULL)
+        self.same("and it is told", told(), blank(2))
+        self.same("no file", calls.fbcheck_load(handle, None, 9, None, None), status.NULL)
+        self.same("an empty file", calls.fbcheck_load(handle, None, 0, None, verdict), status.NOT_WELL_FORMED)
+        self.same("no handle to check by", calls.fbcheck_verify(None, options, b"", 0, verdict), status.NULL)
+        self.same("a handle that holds nothing", calls.fbcheck_verify(handle, options, b"", 0, verdict), status.EMPTY)
+        self.same("and it is told", told(), blank(5))
+        self.same("nor a root", calls.fbcheck_choose_root(handle, b"A", 1), status.EMPTY)
+        reads = ctypes.c_uint64(77)
+        self.same("nor most reads", calls.fbcheck_most_reads(handle, None, 9, reads), status.EMPTY)
+        self.same("which stay as they were", reads.value, 77)
+        calls.fbcheck_free(None)
+        calls.fbcheck_free(handle)
+        self.same("a schema", calls.fbcheck_load(handle, file, len(file), None, verdict), status.OK)
+        self.same("is told so", told(), blank(0))
+        self.same("no buffer", calls.fbcheck_verify(handle, options, None, 9, verdict), status.NULL)
+        self.same("an empty buffer", calls.fbcheck_verify(handle, None, None, 0, verdict), status.BAD)
+        self.same("is out of buffer at 0, in the root's object", told()[:5], (1, 2, 1, python.NONE, 0))
+        self.same("no root's name", calls.fbcheck_choose_root(handle, None, 3), status.NULL)
+        self.same("an empty root's name", calls.fbcheck_choose_root(handle, None, 0), status.NO_ROOT)
+        self.same("no place for reads", calls.fbcheck_most_reads(handle, None, 9, None), status.NULL)
+        for asked, answer in [
+            (python.Options(version=0), status.UNKNOWN_OPTIONS), (python.Options(version=2), status.UNKNOWN_OPTIONS),
+            (python.Options(max_depth=65), status.OUT_OF_RANGE), (python.Options(max_depth=64), status.BAD),
+        ]:
+            self.same(f"options {asked.version}, {asked.max_depth}",
+                      calls.fbcheck_verify(handle, asked, b"", 0, verdict), answer)
+        deepest, deeper = python.Options(max_depth=4096), python.Options(max_depth=4097)
+        answer = calls.fbcheck_load(handle, file, len(file), deeper, None)
+        self.same("a depth that no load has", answer, status.OUT_OF_RANGE)
+        self.same("leaves the handle as it was", calls.fbcheck_verify(handle, None, b"", 0, None), status.BAD)
+        self.same("the greatest depth", calls.fbcheck_load(handle, file, len(file), deepest, None), status.OK)
+        self.same("serves up to it", calls.fbcheck_verify(handle, deepest, b"", 0, verdict), status.BAD)
+        self.same("a buffer that is too long", calls.fbcheck_verify(handle, None, b"", 1 << 31, verdict),
+                  status.TOO_LONG)
+        self.same("options to make", calls.fbcheck_options_init(None), status.NULL)
+        self.same("sizes to tell", calls.fbcheck_struct_sizes(None), status.NULL)
+        calls.fbcheck_free(handle)
+        calls.fbcheck_free(handle)
+        self.same("what was freed holds nothing", calls.fbcheck_verify(handle, None, b"", 0, None), status.EMPTY)
+        self.same("and is null", handle.session, None)
+
+    def test_names(self):
+        """Names by their numbers, as the schema and the reference have them."""
+        python = module()
+        page = (TOP / "docs/REFERENCE.md").read_text()
+        reasons = re.findall(r"V\d+ [A-Z]\w+", page.split("## Reasons")[1].split("\n## ")[0])
+        rows = [table.split() for table in ["A v", "W", "R u_type u", "Q us_type us"]]
+        with python.Verifier(schemas.X) as verifier:
+            self.same("reasons", [verifier.reason_name(n) for n in range(15)], [None, *reasons, None])
+            for number, (table, *fields) in enumerate(rows):
+                self.same(f"object {number}", verifier.object_name(number), table)
+                told = [verifier.field_name(number, n) for n in range(len(fields) + 1)]
+                self.same(f"fields of {table}", told, [*fields, None])
+            numbers = (4, 65536, 2**32 - 1)
+            self.same("no such object", [verifier.object_name(n) for n in numbers], [None] * 3)
+            self.same("no such table", [verifier.field_name(n, 0) for n in numbers], [None] * 3)
+            self.same("no such field", [verifier.field_name(2, n) for n in numbers], [None] * 3)
+            calls, handle, text = verifier._calls, verifier._handle, ctypes.create_string_buffer(b"?" * 8, 8)
+            self.same("too little room", (calls.fbcheck_field_name(handle, 3, 0, text, 6), text.raw), (7, b"?" * 8))
+            self.same("just enough", (calls.fbcheck_field_name(handle, 3, 0, text, 7), text.raw), (7, b"us_type?"))
+            self.same("no room",
+                      (calls.fbcheck_field_name(handle, 3, 0, None, 9), calls.fbcheck_reason_name(1, None, 9),
+                       calls.fbcheck_object_name(handle, 0, None, 9)), (0, 0, 0))
+            self.same("no handle",
+                      (calls.fbcheck_object_name(None, 0, text, 8), calls.fbcheck_field_name(None, 0, 0, text, 8)),
+                      (0, 0))
+            verifier.close()
+            self.same("of a handle that holds nothing", (verifier.object_name(0), verifier.field_name(0, 0)),
+                      (None, None))
+            self.same("a reason has its name still", verifier.reason_name(13), "V13 TooManyReads")
+
+    def test_loads(self):
+        """Why a schema file gives no schema, as the program tells it."""
+        python = module()
+        file = ORDERS.read_bytes()
+        for name, given in {
+            "empty": b"", "cut off": file[:100], "no schema": b"hello, world",
+            "another identifier": file[:4] + b"BFBX" + file[8:],
+            "no such object": schema([table("T", field("o", an_object(7), 4))]),
+            "a slot twice": schema([table("T", field("a", INT, 4), field("b", INT, 4))]),
+            "a root that isn't listed": schema([table("T")], root="S"),
+        }.items():
+            want = run("--schema",
+                       str(file_of("wrong.bfbs", given))).err.decode().removeprefix("fbcheck: schema: ").strip()
+            try:
+                python.Verifier(given)
+                got = "a schema"
+            except python.Error as error:
+                why = error.verdict
+                part = "-" if why.field is None else why.field
+                got = {
+                    8: f"L1 V{why.reason} at={why.at} object={why.object} field={part} reads={why.reads}",
+                    9: f"L2 C{why.reason} owner={why.object} part={part}",
+                    10: "L3",
+                }.get(why.status, why)
+            self.same(name, got, re.sub(r"(L3|[VC]\d+) \w+", r"\1", want))
+        for option, reason in [("max_reads", 13), ("max_tables", 7), ("max_depth", 6)]:
+            why = reason_of_load(python, file, python.Options(**{option: 2}))
+            self.same(f"a file past its {option}", why, (8, reason))
+
+    def test_examples(self):
+        """The programs of examples/c, and the module for Python, on the messages of the example."""
+        messages = messages_of(POST)
+        words = SHARED
+        if shutil.which("pkg-config"):
+            words = ran("pkg-config", "--cflags", "--libs", "fbcheck", PKG_CONFIG_PATH=str(OUT))[1].split()
+        check = self.compiled("check_c", TOP / "examples/c/check.c", *words, *SHARED[1:])
+        if CPP:
+            check_cpp = self.compiled("check_cpp", TOP / "examples/c/check.cpp", *words, *SHARED[1:], **CPP)
+        self.compiled("check_sane", TOP / "examples/c/check.c", *SANITIZED, *STATIC)
+        python = module()
+        with python.Verifier(ORDERS.read_bytes()) as verifier:
+            for number, message in enumerate(messages):
+                want = run("--bare", "--no-alignment", "--schema", str(ORDERS), given=message[4:]).out.decode()
+                told = verifier.verify(message[4:], python.Options(no_alignment=1))
+                got = (f"ok tables={told.tables} depth={told.depth}" if told.ok else
+                       f"bad V{told.reason} at={told.at} object={told.object} field={told.field}")
+                text = f"{got} reads={told.reads}"
+                self.same(f"message {number + 1} by Python", f"1 {text}\n", without_names(want.encode()).decode())
+                self.same(f"message {number + 1} by its prefix",
+                          verifier.verify(message, python.Options(prefixed=1)).status, int(number == 4))
+                self.same(f"message {number + 1} with another prefix",
+                          verifier.verify(b"\0" + message[1:], python.Options(prefixed=1)).reason, 1)
+            for ident, reason in [(b"POST", 0), (b"PAST", 5)]:
+                told = verifier.verify(messages[0], python.Options(ident, prefixed=1))
+                self.same(f"the identifier {ident}", told.reason, reason)
+            most = verifier.most_reads(len(messages[0]), python.Options(max_tables=2, max_reads=1000))
+            self.same("the most reads are the budget and 7", most, 1007)
+            self.same("or fewer", verifier.most_reads(10, python.Options(max_tables=0)), 4)
+            most = verifier.most_reads(2**64 - 1, python.Options(max_reads=2**64 - 1))
+            self.same("or as many as there is room for", most, 2**64 - 1)
+            verifier.choose_root("post.Person")
+            self.same("another root", verifier.verify(b"").object != 1, True)
+            try:
+                verifier.choose_root("post.Nobody")
+                self.holds("a root that isn't there is refused", False)
+            except python.Error as error:
+                self.same("a root that isn't there is refused", error.verdict.status, 6)
+        small, orc, torn = file_of("M.bfbs", schemas.M), file_of("orc", ORC), file_of("torn", ORC[:-1])
+        for name, words, wanted, line in [
+            ("good", [small, orc], 0, "ok tables=1 depth=1 reads=8"), ("with its root", [small, orc, "M"], 0, None),
+            ("torn", [small, torn], 1, "bad V2 OutOfBuffer at=28 object=0 field=1 reads=7\nin M.name"),
+            ("empty", [small, file_of("empty", b"")], 1, "bad V2 OutOfBuffer at=0 object=0 field=- reads=0\nin M"),
+            ("no such table", [small, orc, "N"], 2, ""),
+            ("no schema", [orc, orc], 2, ""), ("no buffer", [small, FOLDER / "nowhere"], 2, ""),
+            ("no words", [], 2, ""),
+        ]:
+            if line is None:
+                told = run("--bare", "--schema", small, given=words[1].read_bytes())
+                line = told.out.decode().removeprefix("1 ").strip()
+            for program in (check, FOLDER / "check_sane"):
+                status, out, err = ran(program, *words)
+                self.same(f"{name}, {program.name}", (status, out.strip(), bool(err)), (wanted, line, wanted == 2))
+            if CPP:
+                status, out, err = ran(check_cpp, *words)
+                shown = without_names(line.encode()).decode()
+                told = (status, shown.startswith(out.strip()), bool(err))
+                self.same(f"{name}, check_cpp", told, (wanted, True, wanted == 2))
+        for name, words, text in [
+            ("no schema", [orc, orc], "check: no schema: 8, reason 5 at 4\n"),
+            ("no schema file", [FOLDER / "nowhere", orc], f"check: {FOLDER}/nowhere can't be read\n"),
+            ("no buffer", [small, FOLDER / "nowhere"], f"check: {FOLDER}/nowhere can't be read\n"),
+            ("a folder", [small, FOLDER], f"check: {FOLDER} can't be read\n"),
+            ("no root table", [file_of("rootless", schema([table("T")])), orc], "check: nothing was checked: 6\n"),
+        ]:
+            for program in [check, check_cpp] if CPP else [check]:
+                self.same(f"{name}, told by {program.name}", ran(program, *words), (2, "", text))
+        if CPP:
+            moved = self.compiled("moved", TOP / "tests/c/moved.cpp", *SANITIZED, *STATIC, **CPP)
+            self.same("a Verifier that is moved", ran(moved, small, orc), (0, "5 0 0 5 0 M\n", ""))
+
+    def test_texts_of_the_pages(self):
+        """The C that README.md shows works when it is pasted."""
+        for rows in ("good", "bad"):
+            (FOLDER / rows).mkdir()
+        file_of("good/my.bfbs", schemas.M)
+        file_of("bad/my.bfbs", ORC)
+        text = re.search(r"```c\n(.*?)```", (TOP / "README.md").read_text(), re.S)[1]
+        program = self.compiled("pasted", file_of("pasted.c", text.encode()), *SHARED)
         for name, rows, given, want in [
-            ("a good buffer", "good", ORC, (0, good)),
+            ("a good buffer", "good", ORC, (0, "good: 1 tables\n")),
             ("one whose last text is torn", "good", ORC[:-1], (1, "not good: 1, V2 at 28\n")),
             ("a longer one than there is room for", "good", ORC + bytes(1 << 16), (2, "too long\n")),
-            ("no schema", "bad", ORC, (2, no_schema)),
+            ("no schema", "bad", ORC, (2, "no schema: 8\n")),
         ]:
             told = ran("env", "-C", FOLDER / rows, program, "my.bfbs", given=given)
-            cases.same(f"{page}: {name}", told[:2], want)
-
-
-if __name__ == "__main__":
-    outside.main(
-        what_is_built, the_header, verdicts, batches, framers, framers_of_python, given_to_python, through_pipes, paths,
-        under_valgrind, memory, nulls, names, loads, examples, texts_of_the_pages,
-    )
+            self.same(name, told[:2], want)

@@ -1,102 +1,72 @@
-"""Standard input and output that give and take little at a call, or fail at a given one.
+"""Standard input and output that give and take little at a call, or fail at a given one."""
 
-tests/ends/narrow.c, which `cc` builds here, is loaded before the program and stands between it and its ends.
-"""
-
-import os
-import subprocess
-
-import outside
-import schemas
-from buffers import ORC, SEVEN
-from outside import FOLDER, TOP, Ran, bad, failed, file_of, good, lines, refused, run, spelled
+from tests.support import schemas
+from tests.support.buffers import ORC, SEVEN
+from tests.support.builder import spelled
+from tests.support.cases import Case
+from tests.support.preloaded import counted, narrowed
+from tests.support.program import Ran, bad, failed, good, lines, refused, run
 
 FILES = schemas.files()
 BY_M = ("--schema", FILES["M"], "--bare")
 BY_N = ("--schema", FILES["N"])
 SEVENS = "1 ok tables=1 depth=1 reads=5", "2 ok tables=1 depth=1 reads=5"
-NARROW = FOLDER / "narrow.so"
 
 
-def narrowed(*words, given, **limits):
-    """A run whose ends have these limits, by the names of narrow.c without NARROW_."""
-    limits = {f"NARROW_{name.upper()}": str(limit) for name, limit in limits.items()}
-    return run(*words, given=given, env={**os.environ, "LD_PRELOAD": str(NARROW), **limits})
+class Ends(Case):
+    def test_pieces_of_each_length(self):
+        stream = SEVEN + SEVEN
+        for most in range(1, len(stream) + 1):
+            want = good(*SEVENS), -(-len(stream) // most) + 1
+            self.same(f"a stream by {most}", counted(*BY_N, given=stream, read=most, write=1), want)
+        for most in range(1, len(ORC) + 1):
+            want = good("1 ok tables=1 depth=1 reads=8"), -(-len(ORC) // most) + 1
+            self.same(f"a bare input by {most}", counted(*BY_M, given=ORC, read=most, write=1), want)
 
+    def test_reads_that_fail(self):
+        """Byte by byte: the read with this number fails, after as many bytes as reads before it."""
+        for fails in range(1, 66):
+            messages = (fails - 1) // len(SEVEN)
+            want = failed("read failed", *SEVENS[:messages])
+            self.same(f"of a stream read {fails}", counted(*BY_N, given=SEVEN + SEVEN, read=1, fails=fails),
+                      (want, fails))
+            want = Ran(3, SEVEN * messages, b"fbcheck: read failed\n")
+            self.same(f"of a filter read {fails}", counted(*BY_N, "--filter", given=SEVEN + SEVEN, read=1, fails=fails),
+                      (want, fails))
+        self.same("a read behind the end", counted(*BY_N, given=SEVEN + SEVEN, read=1, fails=66), (good(*SEVENS), 65))
+        for fails in range(1, len(ORC) + 2):
+            self.same(f"of a bare input read {fails}", counted(*BY_M, given=ORC, read=1, fails=fails),
+                      (failed("read failed"), fails))
 
-def counted(*words, given, **limits):
-    """Such a run, with the number of reads that it made of standard input."""
-    report = file_of("reads", b"")
-    return narrowed(*words, given=given, report=report, **limits), int(report.read_bytes())
+    def test_reads_that_are_not_made(self):
+        for name, words, given, want in [
+            ("past a prefix that declares too much", BY_N, SEVEN + spelled("ffffffff") + SEVEN,
+             (failed("stream: S1 Oversize declared=4294967295", SEVENS[0]), 36)),
+            ("past the limit of a bare input", (*BY_M, "--max-bytes", "8"), bytes(32),
+             (failed("input longer than 8 bytes"), 9)),
+            ("for a root that isn't there", (*BY_N, "--root", "Q"), SEVEN, (refused("no root table"), 0)),
+            ("for a path that doesn't fit", (*BY_N, "--path", "x"), SEVEN, (refused("path: P2 NoSuchField step=0"), 0)),
+            ("for a schema file that is none", ("--schema", "/dev/null"), SEVEN,
+             (refused("schema: L1 V2 OutOfBuffer at=4 object=9 field=- reads=0"), 0)),
+        ]:
+            self.same(f"byte by byte, {name}", counted(*words, given=given, read=1), want)
 
-
-def the_library_is_built(cases):
-    made = subprocess.run(["cc", "-O2", "-shared", "-fPIC", "-o", NARROW, TOP / "tests/ends/narrow.c"],
-                          capture_output=True, timeout=outside.SECONDS)
-    cases.same("narrow.c compiles", (made.returncode, made.stdout + made.stderr), (0, b""))
-
-
-def pieces_of_each_length(cases):
-    stream = SEVEN + SEVEN
-    for most in range(1, len(stream) + 1):
-        want = good(*SEVENS), -(-len(stream) // most) + 1
-        cases.same(f"a stream by {most}", counted(*BY_N, given=stream, read=most, write=1), want)
-    for most in range(1, len(ORC) + 1):
-        want = good("1 ok tables=1 depth=1 reads=8"), -(-len(ORC) // most) + 1
-        cases.same(f"a bare input by {most}", counted(*BY_M, given=ORC, read=most, write=1), want)
-
-
-def reads_that_fail(cases):
-    """Byte by byte: the read with this number fails, after as many bytes as reads before it."""
-    for fails in range(1, 66):
-        messages = (fails - 1) // len(SEVEN)
-        want = failed("read failed", *SEVENS[:messages])
-        cases.same(f"of a stream read {fails}", counted(*BY_N, given=SEVEN + SEVEN, read=1, fails=fails),
-                   (want, fails))
-        want = Ran(3, SEVEN * messages, b"fbcheck: read failed\n")
-        cases.same(f"of a filter read {fails}",
-                   counted(*BY_N, "--filter", given=SEVEN + SEVEN, read=1, fails=fails), (want, fails))
-    cases.same("a read behind the end", counted(*BY_N, given=SEVEN + SEVEN, read=1, fails=66), (good(*SEVENS), 65))
-    for fails in range(1, len(ORC) + 2):
-        cases.same(f"of a bare input read {fails}", counted(*BY_M, given=ORC, read=1, fails=fails),
-                   (failed("read failed"), fails))
-
-
-def reads_that_are_not_made(cases):
-    for name, words, given, want in [
-        ("past a prefix that declares too much", BY_N, SEVEN + spelled("ffffffff") + SEVEN,
-         (failed("stream: S1 Oversize declared=4294967295", SEVENS[0]), 36)),
-        ("past the limit of a bare input", (*BY_M, "--max-bytes", "8"), bytes(32),
-         (failed("input longer than 8 bytes"), 9)),
-        ("for a root that isn't there", (*BY_N, "--root", "Q"), SEVEN, (refused("no root table"), 0)),
-        ("for a path that doesn't fit", (*BY_N, "--path", "x"), SEVEN, (refused("path: P2 NoSuchField step=0"), 0)),
-        ("for a schema file that is none", ("--schema", "/dev/null"), SEVEN,
-         (refused("schema: L1 V2 OutOfBuffer at=4 object=9 field=- reads=0"), 0)),
-    ]:
-        cases.same(f"byte by byte, {name}", counted(*words, given=given, read=1), want)
-
-
-def outputs_with_little_room(cases):
-    """Of what is written the front for which there is room, and that it ends there, whether a write fails then or takes
-    nothing."""
-    stream, no = SEVEN + SEVEN, bad("1 bad V4 ZeroOffset at=0 object=0 field=- reads=1")
-    helped = run("--help")
-    for name, words, given, want, rooms in [
-        ("the lines", BY_N, stream, good(*SEVENS), range(61)),
-        ("a bare input's line", BY_M, ORC, good("1 ok tables=1 depth=1 reads=8"), range(31)),
-        ("a bare input's no", BY_M, bytes(8), no, range(len(no.out) + 1)),
-        ("the messages of a filter", (*BY_N, "--filter"), stream, Ran(0, stream, b""), range(65)),
-        ("help", ["--help"], b"", helped, [0, 7, len(helped.out) - 1, len(helped.out)]),
-    ]:
-        for room in rooms:
-            told = want
-            if room < len(want.out):
-                told = Ran(3, want.out[:room], lines(f"fbcheck: write failed after {room} bytes"))
-            for limits in [{"read": 1}, {"write": 1}, {"read": 1, "write": 1, "full": 1}]:
-                cases.same(f"{name}, {room} bytes, {limits}", narrowed(*words, given=given, room=room, **limits), told)
-
-
-if __name__ == "__main__":
-    outside.main(
-        the_library_is_built, pieces_of_each_length, reads_that_fail, reads_that_are_not_made, outputs_with_little_room,
-    )
+    def test_outputs_with_little_room(self):
+        """Of what is written the front for which there is room, and that it ends there, whether a write fails then or
+        takes nothing."""
+        stream, no = SEVEN + SEVEN, bad("1 bad V4 ZeroOffset at=0 object=0 field=- reads=1")
+        helped = run("--help")
+        for name, words, given, want, rooms in [
+            ("the lines", BY_N, stream, good(*SEVENS), range(61)),
+            ("a bare input's line", BY_M, ORC, good("1 ok tables=1 depth=1 reads=8"), range(31)),
+            ("a bare input's no", BY_M, bytes(8), no, range(len(no.out) + 1)),
+            ("the messages of a filter", (*BY_N, "--filter"), stream, Ran(0, stream, b""), range(65)),
+            ("help", ["--help"], b"", helped, [0, 7, len(helped.out) - 1, len(helped.out)]),
+        ]:
+            for room in rooms:
+                told = want
+                if room < len(want.out):
+                    told = Ran(3, want.out[:room], lines(f"fbcheck: write failed after {room} bytes"))
+                for limits in [{"read": 1}, {"write": 1}, {"read": 1, "write": 1, "full": 1}]:
+                    self.same(f"{name}, {room} bytes, {limits}", narrowed(*words, given=given, room=room, **limits),
+                              told)

@@ -2,73 +2,25 @@
 
 import os
 import re
-import resource
+import subprocess
 import threading
-import tty
 
-import buffers
-import outside
-import schemas
-from buffers import MEMBER, ORC, PLAIN, SEVEN
-from outside import (
-    FOLDER, Ran, Talk, bad, changed, failed, file_of, good, lines, prefixed, refused, run, run_in_shell, spelled,
+from tests.support import buffers, schemas
+from tests.support.buffers import MEMBER, ORC, PLAIN, SEVEN
+from tests.support.builder import changed, prefixed, spelled
+from tests.support.cases import Case
+from tests.support.program import (
+    FOLDER, PROGRAM, SECONDS, Ran, Talk, bad, failed, file_of, good, lines, refused, run, run_broken_off, run_in_shell,
+    run_starved,
 )
-from schemas import INT, LONG, SHORT, TEXT, a_struct, a_union, an_object, array, field, schema, table, union
+from tests.support.schemas import (
+    INT, LONG, SHORT, TEXT, a_struct, a_union, an_object, array, field, schema, table, union,
+)
 
 FILES = schemas.files()
 BY_M = ("--schema", FILES["M"], "--bare")
 BY_N = ("--schema", FILES["N"])
 SEVENS = "1 ok tables=1 depth=1 reads=5", "2 ok tables=1 depth=1 reads=5"
-
-
-def status_of_buffers(cases):
-    wrong = spelled("00000000")
-    for name, words, given, want in [
-        ("each has a yes", BY_N, SEVEN + SEVEN, good(*SEVENS)),
-        ("there is none", BY_N, b"", good()),
-        ("all have a no", BY_N, wrong, bad("1 bad V2 OutOfBuffer at=4 object=0 field=- reads=1")),
-        ("the first has a no", BY_N, wrong + SEVEN, bad(
-            "1 bad V2 OutOfBuffer at=4 object=0 field=- reads=1", "2 ok tables=1 depth=1 reads=5")),
-        ("the last has a no", BY_N, SEVEN + wrong, bad(
-            "1 ok tables=1 depth=1 reads=5", "2 bad V2 OutOfBuffer at=4 object=0 field=- reads=1")),
-        ("a fault after a no", BY_N, wrong + SEVEN[:-1], failed(
-            "stream: S2 Truncated held=31", "1 bad V2 OutOfBuffer at=4 object=0 field=- reads=1")),
-        ("a bare buffer with a no", ("--schema", FILES["M"], "--bare"), ORC[:-1],
-         bad("1 bad V2 OutOfBuffer at=28 object=0 field=1 reads=7")),
-    ]:
-        cases.same(name, run(*words, given=given), want)
-
-
-def faults_of_words(cases):
-    for name, words in [
-        ("in place of a name", [b"--root", b"\xff"]),
-        ("in place of an option", [b"\xc3\x28"]),
-        ("cut off", ["--path", b"\xe2\x82"]),
-        ("before help", [b"\x80", "--help"]),
-    ]:
-        cases.same(f"a word that isn't UTF-8, {name}", run(*words, given=SEVEN), refused("a word is not UTF-8"))
-    named = file_of("größe-表.bfbs", schemas.M)
-    cases.same("words that are UTF-8", run("--schema", named, "--bare", given=ORC),
-               good("1 ok tables=1 depth=1 reads=8"))
-    cases.same("words come before the schema file", run("--schema", "/nowhere", "--ident", "ABC"),
-               refused("ident must be four bytes"))
-
-
-def unreadable_schema_files(cases):
-    unreadable = refused("cannot read schema")
-    cases.same("one that isn't there", run("--schema", FOLDER / "nowhere.bfbs", given=SEVEN), unreadable)
-    cases.same("a folder", run("--schema", FOLDER, given=SEVEN), unreadable)
-    cases.same("an empty name", run("--schema=", given=SEVEN), unreadable)
-    cases.same("below a file", run("--schema", FILES["M"] / "below", given=SEVEN), unreadable)
-    cases.same("a name that is too long", run("--schema", "n" * 5000, given=SEVEN), unreadable)
-    cases.same("before a root that isn't there", run("--schema", FOLDER, "--root", "Q"), unreadable)
-    circle = FOLDER / "circle"
-    circle.symlink_to(circle)
-    cases.same("a link to itself", run("--schema", circle), unreadable)
-    if os.geteuid():
-        locked = file_of("locked", schemas.M)
-        locked.chmod(0)
-        cases.same("one that may not be read", run("--schema", locked), unreadable)
 
 
 def run_by_pipe(data):
@@ -84,249 +36,264 @@ def run_by_pipe(data):
     return ran
 
 
-def schema_files_that_are_no_plain_files(cases):
-    cases.same("a pipe with a schema", run_by_pipe(schemas.M), good("1 ok tables=1 depth=1 reads=8"))
-    cases.same("a pipe with nothing", run_by_pipe(b""),
-               refused("schema: L1 V2 OutOfBuffer at=4 object=9 field=- reads=0"))
-    fields = [field(f"field{number}", TEXT, 4 + 2 * number) for number in range(20)]
-    others = [table(f"Other{number}", *fields) for number in range(200)]
-    large = schema([table("M", field("hp", SHORT, 4, 100), field("name", TEXT, 6)), *others], root="M")
-    cases.same(f"a pipe with {len(large)} bytes", run_by_pipe(large), good("1 ok tables=1 depth=1 reads=8"))
-    cases.same("/dev/null", run("--schema", "/dev/null"),
-               refused("schema: L1 V2 OutOfBuffer at=4 object=9 field=- reads=0"))
-    cases.same("standard input itself", run("--schema", "/dev/stdin", "--bare", given=schemas.M),
-               bad("1 bad V2 OutOfBuffer at=0 object=0 field=- reads=0"))
+class Faults(Case):
+    def test_status_of_buffers(self):
+        wrong = spelled("00000000")
+        for name, words, given, want in [
+            ("each has a yes", BY_N, SEVEN + SEVEN, good(*SEVENS)),
+            ("there is none", BY_N, b"", good()),
+            ("all have a no", BY_N, wrong, bad("1 bad V2 OutOfBuffer at=4 object=0 field=- reads=1")),
+            ("the first has a no", BY_N, wrong + SEVEN, bad(
+                "1 bad V2 OutOfBuffer at=4 object=0 field=- reads=1", "2 ok tables=1 depth=1 reads=5")),
+            ("the last has a no", BY_N, SEVEN + wrong, bad(
+                "1 ok tables=1 depth=1 reads=5", "2 bad V2 OutOfBuffer at=4 object=0 field=- reads=1")),
+            ("a fault after a no", BY_N, wrong + SEVEN[:-1], failed(
+                "stream: S2 Truncated held=31", "1 bad V2 OutOfBuffer at=4 object=0 field=- reads=1")),
+            ("a bare buffer with a no", ("--schema", FILES["M"], "--bare"), ORC[:-1],
+             bad("1 bad V2 OutOfBuffer at=28 object=0 field=1 reads=7")),
+        ]:
+            self.same(name, run(*words, given=given), want)
 
+    def test_faults_of_words(self):
+        for name, words in [
+            ("in place of a name", [b"--root", b"\xff"]),
+            ("in place of an option", [b"\xc3\x28"]),
+            ("cut off", ["--path", b"\xe2\x82"]),
+            ("before help", [b"\x80", "--help"]),
+        ]:
+            self.same(f"a word that isn't UTF-8, {name}", run(*words, given=SEVEN), refused("a word is not UTF-8"))
+        named = file_of("größe-表.bfbs", schemas.M)
+        self.same("words that are UTF-8", run("--schema", named, "--bare", given=ORC),
+                  good("1 ok tables=1 depth=1 reads=8"))
+        self.same("words come before the schema file", run("--schema", "/nowhere", "--ident", "ABC"),
+                  refused("ident must be four bytes"))
 
-def schema_files_that_are_not_well_formed(cases):
-    for name, data, want in [
-        ("empty", b"", "V2 OutOfBuffer at=4 object=9 field=- reads=0"),
-        ("the root offset alone", schemas.M[:4], "V2 OutOfBuffer at=4 object=9 field=- reads=0"),
-        ("the head alone", schemas.M[:8], "V2 OutOfBuffer at=24 object=9 field=- reads=2"),
-        ("another identifier", changed(schemas.M, (4, "58")), "V5 WrongIdentifier at=4 object=9 field=- reads=1"),
-        ("behind a prefix", prefixed(schemas.M), "V5 WrongIdentifier at=4 object=9 field=- reads=1"),
-        ("no objects", changed(schemas.M, (12, "0000")), "V9 MissingRequired at=24 object=9 field=0 reads=5"),
-        ("a text", b"table M { hp: short; }", "V5 WrongIdentifier at=4 object=9 field=- reads=1"),
-    ]:
-        got = run("--schema", file_of("ill.bfbs", data), "--bare", given=ORC)
-        cases.same(name, got, refused(f"schema: L1 {want}"))
-    for length in range(205):
-        got = run("--schema", file_of("cut.bfbs", schemas.M[:length]), "--bare", given=ORC)
-        told = got.err.startswith(b"fbcheck: schema: L1 V2 OutOfBuffer at=") and got.err.count(b"\n") == 1
-        cases.holds(f"cut off after {length} bytes", (got.status, got.out, told) == (2, b"", True), got)
-    for length in range(205, len(schemas.M)):
-        got = run("--schema", file_of("cut.bfbs", schemas.M[:length]), "--bare", given=ORC)
-        cases.same(f"cut off after {length} bytes, where only filling is lost", got,
-                   good("1 ok tables=1 depth=1 reads=8"))
+    def test_unreadable_schema_files(self):
+        unreadable = refused("cannot read schema")
+        self.same("one that isn't there", run("--schema", FOLDER / "nowhere.bfbs", given=SEVEN), unreadable)
+        self.same("a folder", run("--schema", FOLDER, given=SEVEN), unreadable)
+        self.same("an empty name", run("--schema=", given=SEVEN), unreadable)
+        self.same("below a file", run("--schema", FILES["M"] / "below", given=SEVEN), unreadable)
+        self.same("a name that is too long", run("--schema", "n" * 5000, given=SEVEN), unreadable)
+        self.same("before a root that isn't there", run("--schema", FOLDER, "--root", "Q"), unreadable)
+        circle = FOLDER / "circle"
+        circle.symlink_to(circle)
+        self.same("a link to itself", run("--schema", circle), unreadable)
+        if os.geteuid():
+            locked = file_of("locked", schemas.M)
+            locked.chmod(0)
+            self.same("one that may not be read", run("--schema", locked), unreadable)
 
+    def test_schema_files_that_are_no_plain_files(self):
+        self.same("a pipe with a schema", run_by_pipe(schemas.M), good("1 ok tables=1 depth=1 reads=8"))
+        self.same("a pipe with nothing", run_by_pipe(b""),
+                  refused("schema: L1 V2 OutOfBuffer at=4 object=9 field=- reads=0"))
+        fields = [field(f"field{number}", TEXT, 4 + 2 * number) for number in range(20)]
+        others = [table(f"Other{number}", *fields) for number in range(200)]
+        large = schema([table("M", field("hp", SHORT, 4, 100), field("name", TEXT, 6)), *others], root="M")
+        self.same(f"a pipe with {len(large)} bytes", run_by_pipe(large), good("1 ok tables=1 depth=1 reads=8"))
+        self.same("/dev/null", run("--schema", "/dev/null"),
+                  refused("schema: L1 V2 OutOfBuffer at=4 object=9 field=- reads=0"))
+        self.same("standard input itself", run("--schema", "/dev/stdin", "--bare", given=schemas.M),
+                  bad("1 bad V2 OutOfBuffer at=0 object=0 field=- reads=0"))
 
-def schemas_that_are_not_legal(cases):
-    plain = table("T", field("v", INT, 4))
-    one = lambda *fields: [table("T", *fields)]
-    for name, objects, enums, want in [
-        ("an object that isn't there", one(field("v", an_object(1), 4)), [], "C1 NoSuchObject owner=0 part=0"),
-        ("in a union", [], [union("U", ("A", 1, an_object(5)))], "C1 NoSuchObject owner=0 part=0"),
-        ("an enum that isn't there", one(field("v", a_union(0), 4)), [], "C2 NoSuchEnum owner=0 part=0"),
-        ("a vector of vectors", one(field("v", (14, 14), 4)), [], "C3 Unsupported owner=0 part=0"),
-        ("64-bit offsets", one(field("v", TEXT, 4, offset64=True)), [], "C3 Unsupported owner=0 part=0"),
-        ("an odd slot", one(field("v", INT, 5)), [], "C4 BadSlot owner=0 part=0"),
-        ("a slot below 4", one(field("v", INT, 2)), [], "C4 BadSlot owner=0 part=0"),
-        ("a slot twice", one(field("v", INT, 4), field("w", INT, 4)), [], "C4 BadSlot owner=0 part=1"),
-        ("a union without types", one(field("u", a_union(0), 4)), [union("U")], "C5 NoTypeField owner=0 part=0"),
-        ("a struct without bytes", [a_struct("S", 0, 4)], [], "C6 BadStruct owner=0 part=-"),
-        ("a field past its struct", [a_struct("S", 4, 4, field("x", INT, 1))], [], "C6 BadStruct owner=0 part=0"),
-        ("a member of 256", [], [union("U", ("A", 256, TEXT))], "C7 BadMember owner=0 part=0"),
-        ("two members of 0", [], [union("U", ("A", 0, TEXT), ("B", 0, TEXT))], "C7 BadMember owner=0 part=1"),
-        ("a member without a type", [], [{**union("U"), 1: [{0: "A", 1: ("q", 1)}]}], "C7 BadMember owner=0 part=0"),
-        ("two fields of a name", one(field("v", INT, 4), field("v", INT, 6)), [], "C8 NameTwice owner=0 part=1"),
-        ("two objects of a name", [plain, plain], [], "C8 NameTwice owner=1 part=-"),
-    ]:
-        path = file_of("illegal.bfbs", schema(objects, enums, root="T"))
-        cases.same(name, run("--schema", path, given=SEVEN), refused(f"schema: L2 {want}"))
-    path = file_of("type18.bfbs", changed(schemas.M, (156, "12")))
-    cases.same("a base type that isn't known", run("--schema", path),
-               refused("schema: L2 C3 Unsupported owner=0 part=0"))
-    legal = schema([table("T", field("v", (14, 14), 4, deprecated=True)),
-                    a_struct("S", 8, 4, field("x", array(INT, 2), 0))], root="T")
-    cases.same("a deprecated vector of vectors", run("--schema", file_of("legal.bfbs", legal), "--bare", given=PLAIN),
-               good("1 ok tables=1 depth=1 reads=3"))
+    def test_schema_files_that_are_not_well_formed(self):
+        for name, data, want in [
+            ("empty", b"", "V2 OutOfBuffer at=4 object=9 field=- reads=0"),
+            ("the root offset alone", schemas.M[:4], "V2 OutOfBuffer at=4 object=9 field=- reads=0"),
+            ("the head alone", schemas.M[:8], "V2 OutOfBuffer at=24 object=9 field=- reads=2"),
+            ("another identifier", changed(schemas.M, (4, "58")), "V5 WrongIdentifier at=4 object=9 field=- reads=1"),
+            ("behind a prefix", prefixed(schemas.M), "V5 WrongIdentifier at=4 object=9 field=- reads=1"),
+            ("no objects", changed(schemas.M, (12, "0000")), "V9 MissingRequired at=24 object=9 field=0 reads=5"),
+            ("a text", b"table M { hp: short; }", "V5 WrongIdentifier at=4 object=9 field=- reads=1"),
+        ]:
+            got = run("--schema", file_of("ill.bfbs", data), "--bare", given=ORC)
+            self.same(name, got, refused(f"schema: L1 {want}"))
+        for length in range(205):
+            got = run("--schema", file_of("cut.bfbs", schemas.M[:length]), "--bare", given=ORC)
+            told = got.err.startswith(b"fbcheck: schema: L1 V2 OutOfBuffer at=") and got.err.count(b"\n") == 1
+            self.holds(f"cut off after {length} bytes", (got.status, got.out, told) == (2, b"", True), got)
+        for length in range(205, len(schemas.M)):
+            got = run("--schema", file_of("cut.bfbs", schemas.M[:length]), "--bare", given=ORC)
+            self.same(f"cut off after {length} bytes, where only filling is lost", got,
+                      good("1 ok tables=1 depth=1 reads=8"))
 
+    def test_schemas_that_are_not_legal(self):
+        plain = table("T", field("v", INT, 4))
+        one = lambda *fields: [table("T", *fields)]
+        for name, objects, enums, want in [
+            ("an object that isn't there", one(field("v", an_object(1), 4)), [], "C1 NoSuchObject owner=0 part=0"),
+            ("in a union", [], [union("U", ("A", 1, an_object(5)))], "C1 NoSuchObject owner=0 part=0"),
+            ("an enum that isn't there", one(field("v", a_union(0), 4)), [], "C2 NoSuchEnum owner=0 part=0"),
+            ("a vector of vectors", one(field("v", (14, 14), 4)), [], "C3 Unsupported owner=0 part=0"),
+            ("64-bit offsets", one(field("v", TEXT, 4, offset64=True)), [], "C3 Unsupported owner=0 part=0"),
+            ("an odd slot", one(field("v", INT, 5)), [], "C4 BadSlot owner=0 part=0"),
+            ("a slot below 4", one(field("v", INT, 2)), [], "C4 BadSlot owner=0 part=0"),
+            ("a slot twice", one(field("v", INT, 4), field("w", INT, 4)), [], "C4 BadSlot owner=0 part=1"),
+            ("a union without types", one(field("u", a_union(0), 4)), [union("U")], "C5 NoTypeField owner=0 part=0"),
+            ("a struct without bytes", [a_struct("S", 0, 4)], [], "C6 BadStruct owner=0 part=-"),
+            ("a field past its struct", [a_struct("S", 4, 4, field("x", INT, 1))], [], "C6 BadStruct owner=0 part=0"),
+            ("a member of 256", [], [union("U", ("A", 256, TEXT))], "C7 BadMember owner=0 part=0"),
+            ("two members of 0", [], [union("U", ("A", 0, TEXT), ("B", 0, TEXT))], "C7 BadMember owner=0 part=1"),
+            ("a member without a type", [], [{**union("U"), 1: [{0: "A", 1: ("q", 1)}]}],
+             "C7 BadMember owner=0 part=0"),
+            ("two fields of a name", one(field("v", INT, 4), field("v", INT, 6)), [], "C8 NameTwice owner=0 part=1"),
+            ("two objects of a name", [plain, plain], [], "C8 NameTwice owner=1 part=-"),
+        ]:
+            path = file_of("illegal.bfbs", schema(objects, enums, root="T"))
+            self.same(name, run("--schema", path, given=SEVEN), refused(f"schema: L2 {want}"))
+        path = file_of("type18.bfbs", changed(schemas.M, (156, "12")))
+        self.same("a base type that isn't known", run("--schema", path),
+                  refused("schema: L2 C3 Unsupported owner=0 part=0"))
+        legal = schema([table("T", field("v", (14, 14), 4, deprecated=True)),
+                        a_struct("S", 8, 4, field("x", array(INT, 2), 0))], root="T")
+        self.same("a deprecated vector of vectors",
+                  run("--schema", file_of("legal.bfbs", legal), "--bare", given=PLAIN),
+                  good("1 ok tables=1 depth=1 reads=3"))
 
-def roots_of_schema_files(cases):
-    rootless = file_of("rootless.bfbs", changed(schemas.M, (20, "0000")))
-    cases.same("none, and none is asked for", run("--schema", rootless, given=SEVEN), refused("no root table"))
-    cases.same("none, and a path", run("--schema", rootless, "--path", "name", given=ORC), refused("no root table"))
-    cases.same("none, but one is asked for", run("--schema", rootless, "--root", "M", "--bare", given=ORC),
-               good("1 ok tables=1 depth=1 reads=8"))
-    listed = refused("schema: L3 RootNotListed")
-    cases.same("one of no object", run("--schema", file_of("none.bfbs", changed(schemas.M, (44, "00000000")))), listed)
-    other = schema([table("T", field("v", INT, 4))], root="S")
-    cases.same("one that isn't listed", run("--schema", file_of("other.bfbs", other), "--root", "T"), listed)
-    struct_root = schema([a_struct("S", 8, 8, field("x", LONG, 0))], root="S")
-    cases.same("a struct", run("--schema", file_of("struct.bfbs", struct_root)), listed)
+    def test_roots_of_schema_files(self):
+        rootless = file_of("rootless.bfbs", changed(schemas.M, (20, "0000")))
+        self.same("none, and none is asked for", run("--schema", rootless, given=SEVEN), refused("no root table"))
+        self.same("none, and a path", run("--schema", rootless, "--path", "name", given=ORC), refused("no root table"))
+        self.same("none, but one is asked for", run("--schema", rootless, "--root", "M", "--bare", given=ORC),
+                  good("1 ok tables=1 depth=1 reads=8"))
+        listed = refused("schema: L3 RootNotListed")
+        self.same("one of no object", run("--schema", file_of("none.bfbs", changed(schemas.M, (44, "00000000")))),
+                  listed)
+        other = schema([table("T", field("v", INT, 4))], root="S")
+        self.same("one that isn't listed", run("--schema", file_of("other.bfbs", other), "--root", "T"), listed)
+        struct_root = schema([a_struct("S", 8, 8, field("x", LONG, 0))], root="S")
+        self.same("a struct", run("--schema", file_of("struct.bfbs", struct_root)), listed)
 
+    def test_a_schema_file_of_two_gibibytes(self):
+        huge = FOLDER / "huge.bfbs"
+        with huge.open("wb") as file:
+            file.truncate(2**31)
+        self.same("2^31 bytes", run("--schema", huge, given=SEVEN), refused("schema: L5 TooLong"))
+        os.truncate(huge, 2**31 - 1)
+        self.same("one fewer", run("--schema", huge, given=SEVEN),
+                  refused("schema: L1 V5 WrongIdentifier at=4 object=9 field=- reads=1"))
+        huge.unlink()
 
-def a_schema_file_of_two_gibibytes(cases):
-    huge = FOLDER / "huge.bfbs"
-    with huge.open("wb") as file:
-        file.truncate(2**31)
-    cases.same("2^31 bytes", run("--schema", huge, given=SEVEN), refused("schema: L5 TooLong"))
-    os.truncate(huge, 2**31 - 1)
-    cases.same("one fewer", run("--schema", huge, given=SEVEN),
-               refused("schema: L1 V5 WrongIdentifier at=4 object=9 field=- reads=1"))
-    huge.unlink()
+    def test_faults_of_paths(self):
+        for root, fault, paths in [
+            ("R", "P1 BadText at", {"": 0, "u..v": 2, "u[01]": 3, "u.": 2, "u ": 1}),
+            ("Q", "P1 BadText at", {"us[4294967296]": 12}),
+            ("R", "P2 NoSuchField step", {"x": 0}),
+            ("R", "P3 NotIndexable step", {"u[0]": 1}),
+            ("Q", "P4 NotAUnion step", {"us@A": 1}),
+            ("R", "P5 NoSuchMember step", {"u@Z": 1, "u@NONE": 1}),
+            ("R", "P6 NotATable step", {"u.v": 1, "u@T.v": 2}),
+        ]:
+            for path, place in paths.items():
+                got = run("--schema", FILES["X"], "--root", root, f"--path={path}", given=MEMBER)
+                self.same(f"{path!r} from {root}", got, refused(f"path: {fault}={place}"))
+        self.same("the root comes before the path", run(*BY_M, "--root", "Q", "--path", "x"), refused("no root table"))
+        self.same("the schema comes before the root", run("--schema", "/dev/null", "--root", "Q", "--path", "x"),
+                  refused("schema: L1 V2 OutOfBuffer at=4 object=9 field=- reads=0"))
 
+    def test_nothing_is_read_before_a_refusal(self):
+        given = file_of("unread", SEVEN)
+        for words in [["--nothing"], ["--help"], ["--ident", "ABC"], ["--schema", "/dev/null"], ["--root", "Q"],
+                      [*BY_N, "--path", "x"]]:
+            with given.open("rb") as stream:
+                subprocess.run([PROGRAM, *words], stdin=stream, capture_output=True, timeout=SECONDS)
+                self.same(f"{words} reads nothing", os.lseek(stream.fileno(), 0, os.SEEK_CUR), 0)
 
-def faults_of_paths(cases):
-    for root, fault, paths in [
-        ("R", "P1 BadText at", {"": 0, "u..v": 2, "u[01]": 3, "u.": 2, "u ": 1}),
-        ("Q", "P1 BadText at", {"us[4294967296]": 12}),
-        ("R", "P2 NoSuchField step", {"x": 0}),
-        ("R", "P3 NotIndexable step", {"u[0]": 1}),
-        ("Q", "P4 NotAUnion step", {"us@A": 1}),
-        ("R", "P5 NoSuchMember step", {"u@Z": 1, "u@NONE": 1}),
-        ("R", "P6 NotATable step", {"u.v": 1, "u@T.v": 2}),
-    ]:
-        for path, place in paths.items():
-            got = run("--schema", FILES["X"], "--root", root, f"--path={path}", given=MEMBER)
-            cases.same(f"{path!r} from {root}", got, refused(f"path: {fault}={place}"))
-    cases.same("the root comes before the path", run(*BY_M, "--root", "Q", "--path", "x"), refused("no root table"))
-    cases.same("the schema comes before the root", run("--schema", "/dev/null", "--root", "Q", "--path", "x"),
-               refused("schema: L1 V2 OutOfBuffer at=4 object=9 field=- reads=0"))
+    def test_faults_of_the_input(self):
+        seven = SEVENS[0]
+        for name, words, given, want in [
+            ("a prefix past the limit", BY_N, SEVEN + spelled("ffffffff"),
+             failed("stream: S1 Oversize declared=4294967295", seven)),
+            ("a stream that ends in mid-message", BY_N, SEVEN + SEVEN[:-1],
+             failed("stream: S2 Truncated held=31", seven)),
+            ("one that ends in mid-prefix", BY_N, SEVEN + b"\0", failed("stream: S2 Truncated held=1", seven)),
+            ("one whose prefix alone is there", BY_N, SEVEN[:4], failed("stream: S2 Truncated held=4")),
+            ("a bare input that is too long", (*BY_M, "--max-bytes", "31"), ORC, failed("input longer than 31 bytes")),
+        ]:
+            self.same(name, run(*words, given=given), want)
+        self.same("a folder as standard input", run_in_shell("<.", *BY_N), failed("read failed"))
+        self.same("a folder, bare", run_in_shell("<.", *BY_M), failed("read failed"))
 
+    def test_an_input_that_breaks_off(self):
+        for name, words, given, heard in [
+            ("in a stream, after a message", BY_N, SEVEN, lines(SEVENS[0])),
+            ("in a stream, in mid-message", BY_N, SEVEN + SEVEN[:9], lines(SEVENS[0])),
+            ("in a bare input", BY_M, ORC, b""),
+        ]:
+            self.same(name, run_broken_off(*words, given=given), Ran(3, heard, b"fbcheck: read failed\n"))
 
-def nothing_is_read_before_a_refusal(cases):
-    given = file_of("unread", SEVEN)
-    for words in [["--nothing"], ["--help"], ["--ident", "ABC"], ["--schema", "/dev/null"], ["--root", "Q"],
-                  [*BY_N, "--path", "x"]]:
-        with given.open("rb") as stream:
-            outside.subprocess.run([outside.PROGRAM, *words], stdin=stream, capture_output=True,
-                                   timeout=outside.SECONDS)
-            cases.same(f"{words} reads nothing", os.lseek(stream.fileno(), 0, os.SEEK_CUR), 0)
+    def test_memory_that_is_not_there(self):
+        long = buffers.named(1 << 25)
+        by_m = ("--schema", FILES["M"])
+        told = "1 ok tables=1 depth=1 reads=9"
+        self.same("enough of it", run(*by_m, given=prefixed(ORC) + long), good(told, told.replace("1", "2", 1)))
+        self.same("too little for the second message", run_starved(*by_m, given=prefixed(ORC) + long),
+                  failed("out of memory", told))
+        self.same("too little for a bare input",
+                  run_starved(*BY_M, given=buffers.named(1 << 25, prefix=False)), failed("out of memory"))
+        large = file_of("large.bfbs", bytes(1 << 25))
+        self.same("too little for a schema file", run_starved("--schema", large), failed("out of memory"))
 
+    def test_an_output_that_takes_no_more(self):
+        unwritten = b"fbcheck: write failed after 0 bytes\n"
+        for name, redirections, words, given in [
+            ("a full device", ">/dev/full", BY_N, SEVEN),
+            ("a full device, bare", ">/dev/full", BY_M, ORC),
+            ("a full device, after a no", ">/dev/full", BY_N, spelled("00000000")),
+            ("a full device, help", ">/dev/full", ["--help"], b""),
+            ("closed standard output", ">&-", BY_N, SEVEN),
+            ("closed standard output, without a schema", ">&-", ["--bare"], schemas.M),
+            ("closed standard output, help", ">&-", ["--help"], b""),
+            ("standard output that can't be written", "1</dev/null", BY_N, SEVEN),
+        ]:
+            self.same(name, run_in_shell(redirections, *words, given=given), Ran(3, b"", unwritten))
+        self.same("a full device, and nothing to write", run_in_shell(">/dev/full", *BY_N), good())
+        self.same("a full device, and a refusal", run_in_shell(">/dev/full", "--ident", "ABC"),
+                  refused("ident must be four bytes"))
+        wrong = run_in_shell(">&-", "--nothing")
+        self.holds("closed standard output, and wrong words", wrong.status == 2 and wrong.err.startswith(b"error: "),
+                   wrong)
 
-def faults_of_the_input(cases):
-    seven = SEVENS[0]
-    for name, words, given, want in [
-        ("a prefix past the limit", BY_N, SEVEN + spelled("ffffffff"),
-         failed("stream: S1 Oversize declared=4294967295", seven)),
-        ("a stream that ends in mid-message", BY_N, SEVEN + SEVEN[:-1], failed("stream: S2 Truncated held=31", seven)),
-        ("one that ends in mid-prefix", BY_N, SEVEN + b"\0", failed("stream: S2 Truncated held=1", seven)),
-        ("one whose prefix alone is there", BY_N, SEVEN[:4], failed("stream: S2 Truncated held=4")),
-        ("a bare input that is too long", (*BY_M, "--max-bytes", "31"), ORC, failed("input longer than 31 bytes")),
-    ]:
-        cases.same(name, run(*words, given=given), want)
-    cases.same("a folder as standard input", run_in_shell("<.", *BY_N), failed("read failed"))
-    cases.same("a folder, bare", run_in_shell("<.", *BY_M), failed("read failed"))
+    def test_a_reader_that_closes_early(self):
+        with Talk(*BY_N) as talk:
+            talk.say(SEVEN)
+            self.same("the first line comes", talk.hear(), lines(SEVENS[0]))
+            talk.run.stdout.close()
+            talk.run.stdin.write(SEVEN)
+            talk.run.stdin.close()
+            self.same("the second can't be written", (talk.run.stderr.read(), talk.run.wait(SECONDS)),
+                      (b"fbcheck: write failed after 30 bytes\n", 3))
+        with Talk("--help") as talk:
+            talk.run.stdout.close()
+            talk.run.stdin.close()
+            talk.run.wait(SECONDS)
+            self.holds("help that is read or not ends with 0 or 3, and by no signal", talk.run.returncode in (0, 3),
+                       talk.run.returncode)
+        ran = subprocess.run(
+            ["sh", "-c", '{ "$0" "$@"; echo "status $?" >&2; } | head -c 100', PROGRAM, *BY_N],
+            input=SEVEN * 20000, capture_output=True, timeout=SECONDS,
+        )
+        told = re.fullmatch(rb"fbcheck: write failed after [0-9]+ bytes\nstatus 3\n", ran.stderr)
+        self.holds("a pipe whose reader leaves after 100 bytes", told, ran.stderr)
+        self.same("what it read is the front of the lines", ran.stdout,
+                  lines(*[f"{n} ok tables=1 depth=1 reads=5" for n in range(1, 6)])[:100])
 
-
-def an_input_that_breaks_off(cases):
-    """A terminal's far end, of which a read fails once the near end is closed and all before it was read."""
-    for name, words, given, heard in [
-        ("in a stream, after a message", BY_N, SEVEN, lines(SEVENS[0])),
-        ("in a stream, in mid-message", BY_N, SEVEN + SEVEN[:9], lines(SEVENS[0])),
-        ("in a bare input", BY_M, ORC, b""),
-    ]:
-        far, near = os.openpty()
-        tty.setraw(near)
-        program = outside.subprocess.Popen([outside.PROGRAM, *words], stdin=far, stdout=-1, stderr=-1)
-        os.write(near, given)
-        while outside.waiting(far) and program.poll() is None:
-            pass
-        os.close(near)
-        out, err = program.communicate(timeout=outside.SECONDS)
-        cases.same(name, Ran(program.returncode, out, err), Ran(3, heard, b"fbcheck: read failed\n"))
-        os.close(far)
-
-
-def memory_that_is_not_there(cases):
-    def little():
-        resource.setrlimit(resource.RLIMIT_AS, (1 << 24, 1 << 24))
-
-    long = buffers.named(1 << 25)
-    by_m = ("--schema", FILES["M"])
-    told = "1 ok tables=1 depth=1 reads=9"
-    cases.same("enough of it", run(*by_m, given=prefixed(ORC) + long), good(told, told.replace("1", "2", 1)))
-    cases.same("too little for the second message", run(*by_m, given=prefixed(ORC) + long, preexec_fn=little),
-               failed("out of memory", told))
-    cases.same("too little for a bare input",
-               run(*BY_M, given=buffers.named(1 << 25, prefix=False), preexec_fn=little),
-               failed("out of memory"))
-    large = file_of("large.bfbs", bytes(1 << 25))
-    cases.same("too little for a schema file", run("--schema", large, preexec_fn=little), failed("out of memory"))
-
-
-def an_output_that_takes_no_more(cases):
-    unwritten = b"fbcheck: write failed after 0 bytes\n"
-    for name, redirections, words, given in [
-        ("a full device", ">/dev/full", BY_N, SEVEN),
-        ("a full device, bare", ">/dev/full", BY_M, ORC),
-        ("a full device, after a no", ">/dev/full", BY_N, spelled("00000000")),
-        ("a full device, help", ">/dev/full", ["--help"], b""),
-        ("closed standard output", ">&-", BY_N, SEVEN),
-        ("closed standard output, without a schema", ">&-", ["--bare"], schemas.M),
-        ("closed standard output, help", ">&-", ["--help"], b""),
-        ("standard output that can't be written", "1</dev/null", BY_N, SEVEN),
-    ]:
-        cases.same(name, run_in_shell(redirections, *words, given=given), Ran(3, b"", unwritten))
-    cases.same("a full device, and nothing to write", run_in_shell(">/dev/full", *BY_N), good())
-    cases.same("a full device, and a refusal", run_in_shell(">/dev/full", "--ident", "ABC"),
-               refused("ident must be four bytes"))
-    wrong = run_in_shell(">&-", "--nothing")
-    cases.holds("closed standard output, and wrong words", wrong.status == 2 and wrong.err.startswith(b"error: "),
-                wrong)
-
-
-def a_reader_that_closes_early(cases):
-    with Talk(*BY_N) as talk:
-        talk.say(SEVEN)
-        cases.same("the first line comes", talk.hear(), lines(SEVENS[0]))
-        talk.run.stdout.close()
-        talk.run.stdin.write(SEVEN)
-        talk.run.stdin.close()
-        cases.same("the second can't be written", (talk.run.stderr.read(), talk.run.wait(outside.SECONDS)),
-                   (b"fbcheck: write failed after 30 bytes\n", 3))
-    with Talk("--help") as talk:
-        talk.run.stdout.close()
-        talk.run.stdin.close()
-        talk.run.wait(outside.SECONDS)
-        cases.holds("help that is read or not ends with 0 or 3, and by no signal", talk.run.returncode in (0, 3),
-                    talk.run.returncode)
-    ran = outside.subprocess.run(
-        ["sh", "-c", '{ "$0" "$@"; echo "status $?" >&2; } | head -c 100', outside.PROGRAM, *BY_N],
-        input=SEVEN * 20000, capture_output=True, timeout=outside.SECONDS,
-    )
-    told = re.fullmatch(rb"fbcheck: write failed after [0-9]+ bytes\nstatus 3\n", ran.stderr)
-    cases.holds("a pipe whose reader leaves after 100 bytes", told, ran.stderr)
-    cases.same("what it read is the front of the lines", ran.stdout,
-               lines(*[f"{n} ok tables=1 depth=1 reads=5" for n in range(1, 6)])[:100])
-
-
-def closed_descriptors(cases):
-    for words in [BY_N, BY_M, ["--bare"], []]:
-        cases.same(f"closed standard input, {len(words)} words", run_in_shell("<&-", *words), failed("read failed"))
-    for name, words, given, want in [
-        ("a yes", BY_N, SEVEN, good(SEVENS[0])),
-        ("a no", BY_N, spelled("00000000"), bad("1 bad V2 OutOfBuffer at=4 object=0 field=- reads=1")),
-        ("help", ["--help"], b"", run("--help")),
-        ("wrong words", ["--nothing"], b"", Ran(2, b"", b"")),
-        ("a wrong identifier", ["--ident", "ABC"], b"", Ran(2, b"", b"")),
-        ("a schema file that isn't there", ["--schema", "/nowhere"], b"", Ran(2, b"", b"")),
-        ("a bad schema file", ["--schema", "/dev/null"], b"", Ran(2, b"", b"")),
-        ("no such root", ["--root", "Q"], b"", Ran(2, b"", b"")),
-        ("a cut stream", BY_N, SEVEN + b"\0", Ran(3, lines(SEVENS[0]), b"")),
-    ]:
-        cases.same(f"closed standard error, {name}", run_in_shell("2>&-", *words, given=given), want)
-        cases.same(f"full standard error, {name}", run_in_shell("2>/dev/full", *words, given=given), want)
-    cases.same("all closed", run_in_shell("<&- >&- 2>&-", *BY_N), Ran(3, b"", b""))
-    cases.same("all closed, help", run_in_shell("<&- >&- 2>&-", "--help"), Ran(3, b"", b""))
-
-
-if __name__ == "__main__":
-    outside.main(
-        status_of_buffers, faults_of_words, unreadable_schema_files, schema_files_that_are_no_plain_files,
-        schema_files_that_are_not_well_formed, schemas_that_are_not_legal, roots_of_schema_files,
-        a_schema_file_of_two_gibibytes, faults_of_paths, nothing_is_read_before_a_refusal, faults_of_the_input,
-        an_input_that_breaks_off, memory_that_is_not_there, an_output_that_takes_no_more, a_reader_that_closes_early,
-        closed_descriptors,
-    )
+    def test_closed_descriptors(self):
+        for words in [BY_N, BY_M, ["--bare"], []]:
+            self.same(f"closed standard input, {len(words)} words", run_in_shell("<&-", *words), failed("read failed"))
+        for name, words, given, want in [
+            ("a yes", BY_N, SEVEN, good(SEVENS[0])),
+            ("a no", BY_N, spelled("00000000"), bad("1 bad V2 OutOfBuffer at=4 object=0 field=- reads=1")),
+            ("help", ["--help"], b"", run("--help")),
+            ("wrong words", ["--nothing"], b"", Ran(2, b"", b"")),
+            ("a wrong identifier", ["--ident", "ABC"], b"", Ran(2, b"", b"")),
+            ("a schema file that isn't there", ["--schema", "/nowhere"], b"", Ran(2, b"", b"")),
+            ("a bad schema file", ["--schema", "/dev/null"], b"", Ran(2, b"", b"")),
+            ("no such root", ["--root", "Q"], b"", Ran(2, b"", b"")),
+            ("a cut stream", BY_N, SEVEN + b"\0", Ran(3, lines(SEVENS[0]), b"")),
+        ]:
+            self.same(f"closed standard error, {name}", run_in_shell("2>&-", *words, given=given), want)
+            self.same(f"full standard error, {name}", run_in_shell("2>/dev/full", *words, given=given), want)
+        self.same("all closed", run_in_shell("<&- >&- 2>&-", *BY_N), Ran(3, b"", b""))
+        self.same("all closed, help", run_in_shell("<&- >&- 2>&-", "--help"), Ran(3, b"", b""))

@@ -1,9 +1,10 @@
 """A filter: good messages go to standard output as they came, and the lines of bad ones to standard error."""
 
-import outside
-import schemas
-from buffers import BY_POST, NOTHING, ODD, ORC, POST, SEVEN
-from outside import Ran, Talk, lines, prefixed, refused, run, run_in_shell, spelled
+from tests.support import schemas
+from tests.support.buffers import BY_POST, NOTHING, ODD, ORC, POST, SEVEN
+from tests.support.builder import messages_of, prefixed, spelled
+from tests.support.cases import Case
+from tests.support.program import SECONDS, Ran, Talk, lines, refused, run, run_in_shell
 
 FILES = schemas.files()
 BY_M = ("--schema", FILES["M"], "--filter")
@@ -23,146 +24,131 @@ def passed(out, *notes, status=None):
     return Ran((1 if notes else 0) if status is None else status, out, lines(*notes))
 
 
-def messages(stream):
-    """The size-prefixed messages of a stream."""
-    while stream:
-        end = 4 + int.from_bytes(stream[:4], "little")
-        yield stream[:end]
-        stream = stream[end:]
+class Filter(Case):
+    def test_good_messages_are_passed_on(self):
+        for name, given, want in [
+            ("nothing", b"", passed(b"")),
+            ("a good one", SEVEN, passed(SEVEN)),
+            ("a bad one", ODD, passed(b"", odd(1))),
+            ("good ones", SEVEN * 3, passed(SEVEN * 3)),
+            ("bad ones", ODD + NOTHING + ODD, passed(b"", odd(1), nothing(2), odd(3))),
+            ("both in turn", SEVEN + ODD + SEVEN + NOTHING + SEVEN, passed(SEVEN * 3, odd(2), nothing(4))),
+            ("a bad one first", NOTHING + SEVEN, passed(SEVEN, nothing(1))),
+        ]:
+            self.same(name, run(*BY_N, given=given), want)
+            self.same(f"{name}, with --quiet", run(*BY_N, "--quiet", given=given), want)
+            lined = run(*BY_N[:-1], given=given)
+            self.same(f"{name}: the notes are the lines of the bad ones of a run without the option",
+                      run(*BY_N, given=given).err, b"".join(
+                          line for line in lined.out.splitlines(keepends=True) if b" bad " in line))
+            self.same(f"{name}: and its status", run(*BY_N, given=given).status, lined.status)
+        several = [SEVEN[:4] + SEVEN[4:-8] + bytes([number]) + SEVEN[-7:] for number in range(200)]
+        self.same("in their order", run(*BY_N, given=b"".join(several)), passed(b"".join(several)))
+        long = prefixed(ORC + bytes(200_000))
+        self.same("a message of several pieces", run(*BY_M, given=prefixed(ORC) + long + prefixed(ORC)),
+                  passed(prefixed(ORC) + long + prefixed(ORC)))
 
+    def test_the_example_is_filtered(self):
+        parts = messages_of(POST)
+        want = passed(b"".join(parts[:4] + parts[5:]), "5 bad V10 NoTerminator at=314 object=1 field=6 reads=63")
+        ran = run(*BY_POST, "--filter", given=POST)
+        self.same("all but the fifth", ran, want)
+        self.same("a second filter passes all of it", run(*BY_POST, "--filter", given=ran.out), passed(ran.out))
+        limited = run(*BY_POST, "--filter", "--max-reads", "40", given=POST)
+        again = run(*BY_POST, "--filter", "--max-reads", "40", given=limited.out)
+        self.same("also within a budget", again, passed(limited.out))
 
-def good_messages_are_passed_on(cases):
-    for name, given, want in [
-        ("nothing", b"", passed(b"")),
-        ("a good one", SEVEN, passed(SEVEN)),
-        ("a bad one", ODD, passed(b"", odd(1))),
-        ("good ones", SEVEN * 3, passed(SEVEN * 3)),
-        ("bad ones", ODD + NOTHING + ODD, passed(b"", odd(1), nothing(2), odd(3))),
-        ("both in turn", SEVEN + ODD + SEVEN + NOTHING + SEVEN, passed(SEVEN * 3, odd(2), nothing(4))),
-        ("a bad one first", NOTHING + SEVEN, passed(SEVEN, nothing(1))),
-    ]:
-        cases.same(name, run(*BY_N, given=given), want)
-        cases.same(f"{name}, with --quiet", run(*BY_N, "--quiet", given=given), want)
-        lined = run(*BY_N[:-1], given=given)
-        cases.same(f"{name}: the notes are the lines of the bad ones of a run without the option",
-                   run(*BY_N, given=given).err, b"".join(
-                       line for line in lined.out.splitlines(keepends=True) if b" bad " in line))
-        cases.same(f"{name}: and its status", run(*BY_N, given=given).status, lined.status)
-    several = [SEVEN[:4] + SEVEN[4:-8] + bytes([number]) + SEVEN[-7:] for number in range(200)]
-    cases.same("in their order", run(*BY_N, given=b"".join(several)), passed(b"".join(several)))
-    long = prefixed(ORC + bytes(200_000))
-    cases.same("a message of several pieces", run(*BY_M, given=prefixed(ORC) + long + prefixed(ORC)),
-               passed(prefixed(ORC) + long + prefixed(ORC)))
+    def test_what_is_passed_before_a_fault(self):
+        for name, words, given, want in [
+            ("a prefix past the limit", BY_N, SEVEN + ODD + spelled("ffffffff"),
+             passed(SEVEN, odd(2), "fbcheck: stream: S1 Oversize declared=4294967295", status=3)),
+            ("an end in mid-message", BY_N, ODD + SEVEN + SEVEN[:-1],
+             passed(SEVEN, odd(1), "fbcheck: stream: S2 Truncated held=31", status=3)),
+            ("an end in mid-prefix", BY_N, SEVEN + b"\0",
+             passed(SEVEN, "fbcheck: stream: S2 Truncated held=1", status=3)),
+        ]:
+            self.same(name, run(*words, given=given), want)
+        self.same("a folder as standard input", run_in_shell("<.", *BY_N),
+                  passed(b"", "fbcheck: read failed", status=3))
+        stream = SEVEN + ODD + SEVEN + NOTHING
+        ends = [32, 64, 96, 100]
+        for length in range(len(stream) + 1):
+            whole = [end for end in ends if end <= length]
+            notes = [odd(2)] * (64 in whole) + [nothing(4)] * (100 in whole)
+            held = length - max([0, *whole])
+            fault = [f"fbcheck: stream: S2 Truncated held={held}"] * (held > 0)
+            self.same(f"a stream cut off after {length} bytes", run(*BY_N, given=stream[:length]),
+                      passed(SEVEN * ((32 in whole) + (96 in whole)), *notes, *fault,
+                             status=3 if held else 1 if notes else 0))
 
+    def test_a_bare_input_is_passed_whole_or_not_at_all(self):
+        for name, words, given, want in [
+            ("a good one", BY_M, ORC, passed(ORC)),
+            ("a good one with bytes behind it", BY_M, ORC + b"more", passed(ORC + b"more")),
+            ("a bad one", BY_M, ORC[:31], passed(b"", "1 bad V2 OutOfBuffer at=28 object=0 field=1 reads=7")),
+            ("one that is too long", (*BY_M, "--max-bytes", "31"), ORC,
+             passed(b"", "fbcheck: input longer than 31 bytes", status=3)),
+            ("a long one", BY_M, ORC + bytes(300_000), passed(ORC + bytes(300_000))),
+        ]:
+            self.same(name, run(*words, "--bare", given=given), want)
 
-def the_example_is_filtered(cases):
-    parts = list(messages(POST))
-    want = passed(b"".join(parts[:4] + parts[5:]), "5 bad V10 NoTerminator at=314 object=1 field=6 reads=63")
-    ran = run(*BY_POST, "--filter", given=POST)
-    cases.same("all but the fifth", ran, want)
-    cases.same("a second filter passes all of it", run(*BY_POST, "--filter", given=ran.out), passed(ran.out))
-    limited = run(*BY_POST, "--filter", "--max-reads", "40", given=POST)
-    again = run(*BY_POST, "--filter", "--max-reads", "40", given=limited.out)
-    cases.same("also within a budget", again, passed(limited.out))
+    def test_messages_come_at_once(self):
+        with Talk(*BY_N) as talk:
+            for number in range(1, 4):
+                talk.say(SEVEN)
+                self.same(f"message {number}, while the pipe stays open", talk.run.stdout.read(len(SEVEN)), SEVEN)
+            talk.say(ODD)
+            self.same("a line, while the pipe stays open", talk.run.stderr.readline(), lines(odd(4)))
+            talk.say(SEVEN[:31])
+            self.same("nothing of a message without its last byte", talk.hear(0.2), b"")
+            talk.say(SEVEN[31:] + SEVEN + SEVEN[:3])
+            self.same("two at once", talk.run.stdout.read(2 * len(SEVEN)), SEVEN * 2)
+            talk.say(SEVEN[3:])
+            self.same("one whose prefix came in two pieces", talk.run.stdout.read(len(SEVEN)), SEVEN)
+            self.same("the end", talk.end(), Ran(1, b"", b""))
+        with Talk(*BY_N) as talk:
+            for byte in ODD + SEVEN:
+                talk.say(bytes([byte]))
+            self.same("byte by byte", talk.end(), passed(SEVEN, odd(1)))
 
-
-def what_is_passed_before_a_fault(cases):
-    for name, words, given, want in [
-        ("a prefix past the limit", BY_N, SEVEN + ODD + spelled("ffffffff"),
-         passed(SEVEN, odd(2), "fbcheck: stream: S1 Oversize declared=4294967295", status=3)),
-        ("an end in mid-message", BY_N, ODD + SEVEN + SEVEN[:-1],
-         passed(SEVEN, odd(1), "fbcheck: stream: S2 Truncated held=31", status=3)),
-        ("an end in mid-prefix", BY_N, SEVEN + b"\0", passed(SEVEN, "fbcheck: stream: S2 Truncated held=1", status=3)),
-    ]:
-        cases.same(name, run(*words, given=given), want)
-    cases.same("a folder as standard input", run_in_shell("<.", *BY_N), passed(b"", "fbcheck: read failed", status=3))
-    stream = SEVEN + ODD + SEVEN + NOTHING
-    ends = [32, 64, 96, 100]
-    for length in range(len(stream) + 1):
-        whole = [end for end in ends if end <= length]
-        notes = [odd(2)] * (64 in whole) + [nothing(4)] * (100 in whole)
-        held = length - max([0, *whole])
-        fault = [f"fbcheck: stream: S2 Truncated held={held}"] * (held > 0)
-        cases.same(f"a stream cut off after {length} bytes", run(*BY_N, given=stream[:length]),
-                   passed(SEVEN * ((32 in whole) + (96 in whole)), *notes, *fault,
-                          status=3 if held else 1 if notes else 0))
-
-
-def a_bare_input_is_passed_whole_or_not_at_all(cases):
-    for name, words, given, want in [
-        ("a good one", BY_M, ORC, passed(ORC)),
-        ("a good one with bytes behind it", BY_M, ORC + b"more", passed(ORC + b"more")),
-        ("a bad one", BY_M, ORC[:31], passed(b"", "1 bad V2 OutOfBuffer at=28 object=0 field=1 reads=7")),
-        ("one that is too long", (*BY_M, "--max-bytes", "31"), ORC,
-         passed(b"", "fbcheck: input longer than 31 bytes", status=3)),
-        ("a long one", BY_M, ORC + bytes(300_000), passed(ORC + bytes(300_000))),
-    ]:
-        cases.same(name, run(*words, "--bare", given=given), want)
-
-
-def messages_come_at_once(cases):
-    with Talk(*BY_N) as talk:
-        for number in range(1, 4):
+    def test_outputs_that_take_no_more(self):
+        unwritten = "fbcheck: write failed after 0 bytes"
+        for name, redirections in [("a full device", ">/dev/full"), ("closed standard output", ">&-")]:
+            self.same(name, run_in_shell(redirections, *BY_N, given=SEVEN), passed(b"", unwritten, status=3))
+            self.same(f"{name}, with a bad message behind", run_in_shell(redirections, *BY_N, given=SEVEN + ODD),
+                      passed(b"", unwritten, status=3))
+            self.same(f"{name}, and only bad messages", run_in_shell(redirections, *BY_N, given=ODD),
+                      passed(b"", odd(1)))
+            self.same(f"{name}, bare", run_in_shell(redirections, *BY_M, "--bare", given=ORC),
+                      passed(b"", unwritten, status=3))
+        for name, redirections in [("full standard error", "2>/dev/full"), ("closed standard error", "2>&-")]:
+            self.same(name, run_in_shell(redirections, *BY_N, given=SEVEN + ODD), Ran(3, SEVEN, b""))
+            self.same(f"{name}, bare", run_in_shell(redirections, *BY_M, "--bare", given=ORC[:31]), Ran(3, b"", b""))
+            self.same(f"{name}, and only good messages", run_in_shell(redirections, *BY_N, given=SEVEN),
+                      Ran(0, SEVEN, b""))
+            self.same(f"{name}, and a fault", run_in_shell(redirections, *BY_N, given=SEVEN + b"\0"),
+                      Ran(3, SEVEN, b""))
+        with Talk(*BY_N) as talk:
             talk.say(SEVEN)
-            cases.same(f"message {number}, while the pipe stays open", talk.run.stdout.read(len(SEVEN)), SEVEN)
-        talk.say(ODD)
-        cases.same("a line, while the pipe stays open", talk.run.stderr.readline(), lines(odd(4)))
-        talk.say(SEVEN[:31])
-        cases.same("nothing of a message without its last byte", talk.hear(0.2), b"")
-        talk.say(SEVEN[31:] + SEVEN + SEVEN[:3])
-        cases.same("two at once", talk.run.stdout.read(2 * len(SEVEN)), SEVEN * 2)
-        talk.say(SEVEN[3:])
-        cases.same("one whose prefix came in two pieces", talk.run.stdout.read(len(SEVEN)), SEVEN)
-        cases.same("the end", talk.end(), Ran(1, b"", b""))
-    with Talk(*BY_N) as talk:
-        for byte in ODD + SEVEN:
-            talk.say(bytes([byte]))
-        cases.same("byte by byte", talk.end(), passed(SEVEN, odd(1)))
+            self.same("the first message comes", talk.run.stdout.read(len(SEVEN)), SEVEN)
+            talk.run.stdout.close()
+            talk.run.stdin.write(SEVEN)
+            talk.run.stdin.close()
+            self.same("the second can't be written", (talk.run.stderr.read(), talk.run.wait(SECONDS)),
+                      (b"fbcheck: write failed after 32 bytes\n", 3))
+        with Talk(*BY_N) as talk:
+            talk.run.stderr.close()
+            talk.run.stdin.write(SEVEN + ODD + SEVEN)
+            talk.run.stdin.close()
+            self.same("notes that nobody reads", (talk.run.stdout.read(), talk.run.wait(SECONDS)),
+                      (SEVEN + SEVEN, 3))
 
-
-def outputs_that_take_no_more(cases):
-    unwritten = "fbcheck: write failed after 0 bytes"
-    for name, redirections in [("a full device", ">/dev/full"), ("closed standard output", ">&-")]:
-        cases.same(name, run_in_shell(redirections, *BY_N, given=SEVEN), passed(b"", unwritten, status=3))
-        cases.same(f"{name}, with a bad message behind", run_in_shell(redirections, *BY_N, given=SEVEN + ODD),
-                   passed(b"", unwritten, status=3))
-        cases.same(f"{name}, and only bad messages", run_in_shell(redirections, *BY_N, given=ODD), passed(b"", odd(1)))
-        cases.same(f"{name}, bare", run_in_shell(redirections, *BY_M, "--bare", given=ORC),
-                   passed(b"", unwritten, status=3))
-    for name, redirections in [("full standard error", "2>/dev/full"), ("closed standard error", "2>&-")]:
-        cases.same(name, run_in_shell(redirections, *BY_N, given=SEVEN + ODD), Ran(3, SEVEN, b""))
-        cases.same(f"{name}, bare", run_in_shell(redirections, *BY_M, "--bare", given=ORC[:31]), Ran(3, b"", b""))
-        cases.same(f"{name}, and only good messages", run_in_shell(redirections, *BY_N, given=SEVEN), Ran(0, SEVEN, b""))
-        cases.same(f"{name}, and a fault", run_in_shell(redirections, *BY_N, given=SEVEN + b"\0"), Ran(3, SEVEN, b""))
-    with Talk(*BY_N) as talk:
-        talk.say(SEVEN)
-        cases.same("the first message comes", talk.run.stdout.read(len(SEVEN)), SEVEN)
-        talk.run.stdout.close()
-        talk.run.stdin.write(SEVEN)
-        talk.run.stdin.close()
-        cases.same("the second can't be written", (talk.run.stderr.read(), talk.run.wait(outside.SECONDS)),
-                   (b"fbcheck: write failed after 32 bytes\n", 3))
-    with Talk(*BY_N) as talk:
-        talk.run.stderr.close()
-        talk.run.stdin.write(SEVEN + ODD + SEVEN)
-        talk.run.stdin.close()
-        cases.same("notes that nobody reads", (talk.run.stdout.read(), talk.run.wait(outside.SECONDS)),
-                   (SEVEN + SEVEN, 3))
-
-
-def words_of_a_filter(cases):
-    cases.same("no path", run(*BY_N, "--path", "v", given=SEVEN), refused("a filter takes no path"))
-    cases.same("not even a wrong one", run(*BY_N, "--path", "", given=SEVEN), refused("a filter takes no path"))
-    cases.same("before the schema file is read", run("--schema", "/none/such", "--filter", "--path", "v"),
-               refused("a filter takes no path"))
-    cases.same("no schema, which passes schema files", run("--bare", "--filter", given=schemas.M), passed(schemas.M))
-    cases.same("another root", run(*BY_N, "--root", "Q", given=SEVEN), refused("no root table"))
-    cases.same("twice", run(*BY_N, "--filter").status, 2)
-    cases.same("with a value", run("--filter=yes").status, 2)
-
-
-if __name__ == "__main__":
-    outside.main(
-        good_messages_are_passed_on, the_example_is_filtered, what_is_passed_before_a_fault,
-        a_bare_input_is_passed_whole_or_not_at_all, messages_come_at_once, outputs_that_take_no_more, words_of_a_filter,
-    )
+    def test_words_of_a_filter(self):
+        self.same("no path", run(*BY_N, "--path", "v", given=SEVEN), refused("a filter takes no path"))
+        self.same("not even a wrong one", run(*BY_N, "--path", "", given=SEVEN), refused("a filter takes no path"))
+        self.same("before the schema file is read", run("--schema", "/none/such", "--filter", "--path", "v"),
+                  refused("a filter takes no path"))
+        self.same("no schema, which passes schema files", run("--bare", "--filter", given=schemas.M), passed(schemas.M))
+        self.same("another root", run(*BY_N, "--root", "Q", given=SEVEN), refused("no root table"))
+        self.same("twice", run(*BY_N, "--filter").status, 2)
+        self.same("with a value", run("--filter=yes").status, 2)

@@ -5,10 +5,11 @@ import os
 import re
 import shutil
 import subprocess
+import unittest
 
-import outside
+from tests.support.library import LibraryCase
+from tests.support.program import FOLDER, PROGRAM, TOP, run
 
-TOP = outside.TOP
 PLACES = {
     "bin/fbcheck": 0o755,
     "share/man/man1/fbcheck.1": 0o644,
@@ -22,22 +23,26 @@ PLACES = {
 }
 PAGE = (TOP / "docs/fbcheck.1").read_text()
 
+# A program that was built elsewhere isn't what ./install takes.
+by_the_own_program = unittest.skipIf(PROGRAM != TOP / "crates/fbcheck/out/fbcheck", "another program is tested")
+
 
 def installed(*words, **environment):
     """How ./install ends, with what it wrote. It finds the program and the library built."""
-    ran = subprocess.run([TOP / "install", *words], capture_output=True, text=True, timeout=600, cwd=outside.FOLDER,
+    ran = subprocess.run([TOP / "install", *words], capture_output=True, text=True, timeout=600, cwd=FOLDER,
                          env={"PATH": os.environ["PATH"], **environment})
     return ran.returncode, ran.stdout.splitlines(), ran.stderr
 
 
 def options():
     """The long options of the program, as its help has them."""
-    return re.findall(r"^ +(?:-[hV], )?(--[a-z-]+)", outside.run("--help").out.decode(), re.M)
+    return re.findall(r"^ +(?:-[hV], )?(--[a-z-]+)", run("--help").out.decode(), re.M)
 
 
 def reasons():
     """The reasons with their codes, as the reference has them."""
-    return re.findall(r"V\d+ [A-Z]\w+", (TOP / "docs/REFERENCE.md").read_text().split("## Reasons")[1].split("\n## ")[0])
+    page = (TOP / "docs/REFERENCE.md").read_text()
+    return re.findall(r"V\d+ [A-Z]\w+", page.split("## Reasons")[1].split("\n## ")[0])
 
 
 def faults():
@@ -59,71 +64,6 @@ def plain(page):
     return re.sub(r"\\f[BIPR]", "", page.replace(r"\-", "-"))
 
 
-def what_is_put(cases):
-    if outside.PROGRAM != TOP / "crates/fbcheck/out/fbcheck":
-        return  # a program that was built elsewhere isn't what ./install takes
-    for name, environment, top in [
-        ("PREFIX", {"PREFIX": f"{outside.FOLDER}/local"}, outside.FOLDER / "local"),
-        ("DESTDIR", {"DESTDIR": f"{outside.FOLDER}/pkg", "PREFIX": "/usr"}, outside.FOLDER / "pkg/usr"),
-        ("a PREFIX below this folder", {"PREFIX": "here"}, outside.FOLDER / "here"),
-        ("neither PREFIX", {"DESTDIR": f"{outside.FOLDER}/own"}, outside.FOLDER / "own/usr/local"),
-    ]:
-        told = installed(**environment)
-        cases.same(f"{name}: each file is told", told, (0, [f"{top}/{place}" for place in PLACES], ""))
-        found = {place: (top / place).stat().st_mode & 0o777 for place in PLACES}
-        cases.same(f"{name}: each file is there with its mode", found, PLACES)
-    program = outside.FOLDER / "local/bin/fbcheck"
-    ran = subprocess.run([program, "--help"], capture_output=True, timeout=60)
-    cases.same("the program runs where it was put", (ran.returncode, ran.stdout), (0, outside.run("--help").out))
-    a_program_in_c(cases, outside.FOLDER / "local")
-    page = (outside.FOLDER / "here/lib/pkgconfig/fbcheck.pc").read_text()
-    cases.holds("a file for pkg-config has a whole path", f"libdir={outside.FOLDER}/here/lib\n" in page, page)
-    page = (outside.FOLDER / "pkg/usr/lib/pkgconfig/fbcheck.pc").read_text()
-    cases.holds("a package's file for pkg-config knows nothing of DESTDIR", "libdir=/usr/lib\n" in page, page)
-
-
-def a_program_in_c(cases, top):
-    """The example in C is built by what was put there."""
-    if not shutil.which("pkg-config"):
-        return
-    paths = {"PATH": os.environ["PATH"], "PKG_CONFIG_PATH": f"{top}/lib/pkgconfig"}
-    told = subprocess.run(["pkg-config", "--cflags", "--libs", "fbcheck"], capture_output=True, text=True, env=paths)
-    cases.same("pkg-config knows it", (told.returncode, told.stdout.split()),
-               (0, [f"-I{top}/include", f"-L{top}/lib", "-lfbcheck"]))
-    made = outside.FOLDER / "check"
-    ran = subprocess.run(["cc", TOP / "examples/c/check.c", *told.stdout.split(), "-o", made], capture_output=True)
-    cases.same("a program is built by it", (ran.returncode, ran.stderr), (0, b""))
-    ran = subprocess.run([made, TOP / "examples/deliveries.bfbs", TOP / "README.md"], capture_output=True,
-                         env={"LD_LIBRARY_PATH": f"{top}/lib"})
-    cases.holds("and runs", ran.returncode == 1 and ran.stdout.startswith(b"bad V2 "), ran)
-
-
-def what_is_refused(cases):
-    status, out, err = installed("here")
-    cases.same("a word is refused, and nothing is put", (status, out), (2, []))
-    cases.holds("by the usage", err.startswith("usage: "), err)
-    if outside.PROGRAM == TOP / "crates/fbcheck/out/fbcheck":
-        status, out, err = installed(PREFIX="/dev/null/x")
-        cases.holds("a folder that can't be made is a fault", status != 0 and not out and err, (status, out, err))
-
-
-def the_page(cases):
-    told = PAGE.replace(r"\-", "-").split(".SH OPTIONS")[1].split(".SH LINES")[0]
-    known = re.findall(r"^\.TP\n\.B[IR]? (?:-[hV] \", \" )?(--[a-z-]+)", told, re.M)
-    cases.same("the page has each option in the order of help", known, options())
-    page = plain(PAGE)
-    for reason in reasons():
-        cases.holds(f"the page has {reason}", f".B {reason}\n" in page)
-    told = re.findall(r"^\.TP\n(?:\.B )?(.+)$", page.split(".SH DIAGNOSTICS")[1].split("\n.SH ")[0], re.M)
-    cases.same("the page has each fault and no other", sorted(told), sorted(faults()))
-    for code in codes():
-        cases.holds(f"the page has {code}", f".B {code}\n" in page)
-    cases.same("the page has each exit status", re.findall(r"^\.B (\d)$", page, re.M), ["0", "1", "2", "3"])
-    if shutil.which("groff"):
-        ran = subprocess.run(["groff", "-man", "-Tutf8", "-ww", "-z", TOP / "docs/fbcheck.1"], capture_output=True)
-        cases.same("groff has nothing to say of the page", (ran.returncode, ran.stderr), (0, b""))
-
-
 def completed(folder, *words):
     """What bash offers for the last of these words."""
     script = '. "$1"; shift; COMP_WORDS=("$@"); COMP_CWORD=$(($# - 1)); _fbcheck; printf "%s\\n" "${COMPREPLY[@]}"'
@@ -132,22 +72,82 @@ def completed(folder, *words):
     return sorted(ran.stdout.split())
 
 
-def completions(cases):
-    folder = outside.FOLDER / "files"
-    (folder / "more").mkdir(parents=True)
-    for name in ("a.bfbs", "b.bfbs", "a.fbs"):
-        (folder / name).write_bytes(b"")
-    cases.same("bash offers each option", completed(folder, ""), sorted(options()))
-    cases.same("or those that begin so", completed(folder, "--max-r"), ["--max-reads"])
-    cases.same("for a schema, files of schemas and folders", completed(folder, "--schema", ""),
-               ["a.bfbs", "b.bfbs", "more"])
-    files = completed(folder, "--schema", "")
-    cases.same("also behind an equals sign", completed(folder, "--schema", "="), files)
-    cases.same("with a name begun", completed(folder, "--schema", "=", ""), files)
-    cases.same("and nothing for a number", completed(folder, "--max-depth", ""), [])
-    zsh = (TOP / "completions/_fbcheck").read_text()
-    cases.same("zsh knows each option", re.findall(r"(--[a-z-]+)(?:\[|\})", zsh), options())
+class Install(LibraryCase):
+    @by_the_own_program
+    def test_what_is_put(self):
+        for name, environment, top in [
+            ("PREFIX", {"PREFIX": f"{FOLDER}/local"}, FOLDER / "local"),
+            ("DESTDIR", {"DESTDIR": f"{FOLDER}/pkg", "PREFIX": "/usr"}, FOLDER / "pkg/usr"),
+            ("a PREFIX below this folder", {"PREFIX": "here"}, FOLDER / "here"),
+            ("neither PREFIX", {"DESTDIR": f"{FOLDER}/own"}, FOLDER / "own/usr/local"),
+        ]:
+            told = installed(**environment)
+            self.same(f"{name}: each file is told", told, (0, [f"{top}/{place}" for place in PLACES], ""))
+            found = {place: (top / place).stat().st_mode & 0o777 for place in PLACES}
+            self.same(f"{name}: each file is there with its mode", found, PLACES)
+        program = FOLDER / "local/bin/fbcheck"
+        ran = subprocess.run([program, "--help"], capture_output=True, timeout=60)
+        self.same("the program runs where it was put", (ran.returncode, ran.stdout), (0, run("--help").out))
+        page = (FOLDER / "here/lib/pkgconfig/fbcheck.pc").read_text()
+        self.holds("a file for pkg-config has a whole path", f"libdir={FOLDER}/here/lib\n" in page, page)
+        page = (FOLDER / "pkg/usr/lib/pkgconfig/fbcheck.pc").read_text()
+        self.holds("a package's file for pkg-config knows nothing of DESTDIR", "libdir=/usr/lib\n" in page, page)
+        self.a_program_in_c(FOLDER / "local")
 
+    def a_program_in_c(self, top):
+        """The example in C is built by what was put there."""
+        if not shutil.which("pkg-config"):
+            self.skipTest("pkg-config isn't there")
+        paths = {"PATH": os.environ["PATH"], "PKG_CONFIG_PATH": f"{top}/lib/pkgconfig"}
+        told = subprocess.run(["pkg-config", "--cflags", "--libs", "fbcheck"], capture_output=True, text=True,
+                              env=paths)
+        self.same("pkg-config knows it", (told.returncode, told.stdout.split()),
+                  (0, [f"-I{top}/include", f"-L{top}/lib", "-lfbcheck"]))
+        made = FOLDER / "check"
+        ran = subprocess.run(["cc", TOP / "examples/c/check.c", *told.stdout.split(), "-o", made], capture_output=True)
+        self.same("a program is built by it", (ran.returncode, ran.stderr), (0, b""))
+        ran = subprocess.run([made, TOP / "examples/deliveries.bfbs", TOP / "README.md"], capture_output=True,
+                             env={"LD_LIBRARY_PATH": f"{top}/lib"})
+        self.holds("and runs", ran.returncode == 1 and ran.stdout.startswith(b"bad V2 "), ran)
 
-if __name__ == "__main__":
-    outside.main(what_is_put, what_is_refused, the_page, completions)
+    def test_what_is_refused(self):
+        status, out, err = installed("here")
+        self.same("a word is refused, and nothing is put", (status, out), (2, []))
+        self.holds("by the usage", err.startswith("usage: "), err)
+
+    @by_the_own_program
+    def test_a_folder_that_can_not_be_made(self):
+        status, out, err = installed(PREFIX="/dev/null/x")
+        self.holds("is a fault", status != 0 and not out and err, (status, out, err))
+
+    def test_the_page(self):
+        told = PAGE.replace(r"\-", "-").split(".SH OPTIONS")[1].split(".SH LINES")[0]
+        known = re.findall(r"^\.TP\n\.B[IR]? (?:-[hV] \", \" )?(--[a-z-]+)", told, re.M)
+        self.same("the page has each option in the order of help", known, options())
+        page = plain(PAGE)
+        for reason in reasons():
+            self.holds(f"the page has {reason}", f".B {reason}\n" in page)
+        told = re.findall(r"^\.TP\n(?:\.B )?(.+)$", page.split(".SH DIAGNOSTICS")[1].split("\n.SH ")[0], re.M)
+        self.same("the page has each fault and no other", sorted(told), sorted(faults()))
+        for code in codes():
+            self.holds(f"the page has {code}", f".B {code}\n" in page)
+        self.same("the page has each exit status", re.findall(r"^\.B (\d)$", page, re.M), ["0", "1", "2", "3"])
+        if shutil.which("groff"):
+            ran = subprocess.run(["groff", "-man", "-Tutf8", "-ww", "-z", TOP / "docs/fbcheck.1"], capture_output=True)
+            self.same("groff has nothing to say of the page", (ran.returncode, ran.stderr), (0, b""))
+
+    def test_completions(self):
+        folder = FOLDER / "files"
+        (folder / "more").mkdir(parents=True)
+        for name in ("a.bfbs", "b.bfbs", "a.fbs"):
+            (folder / name).write_bytes(b"")
+        self.same("bash offers each option", completed(folder, ""), sorted(options()))
+        self.same("or those that begin so", completed(folder, "--max-r"), ["--max-reads"])
+        self.same("for a schema, files of schemas and folders", completed(folder, "--schema", ""),
+                  ["a.bfbs", "b.bfbs", "more"])
+        files = completed(folder, "--schema", "")
+        self.same("also behind an equals sign", completed(folder, "--schema", "="), files)
+        self.same("with a name begun", completed(folder, "--schema", "=", ""), files)
+        self.same("and nothing for a number", completed(folder, "--max-depth", ""), [])
+        zsh = (TOP / "completions/_fbcheck").read_text()
+        self.same("zsh knows each option", re.findall(r"(--[a-z-]+)(?:\[|\})", zsh), options())

@@ -8,12 +8,12 @@ import itertools
 import os
 import struct
 import subprocess
-import tempfile
 
-import outside
-from outside import FOLDER, PROGRAM, TOP, buffer, file_of, lines, prefixed, run
-from schemas import INT, TEXT, a_struct, an_object, field, schema, table, vector
-from test_refused_memory import ALONE, WITH_LATER, Refuser
+from tests.support.builder import Plain, buffer, prefixed
+from tests.support.cases import Case
+from tests.support.preloaded import ALONE, WITH_LATER, narrowed, refusing, sweep
+from tests.support.program import FOLDER, PROGRAM, file_of, lines, run
+from tests.support.schemas import INT, TEXT, a_struct, an_object, field, schema, table, vector
 
 # How much more memory than the message a run may take.
 MORE = 16 << 20
@@ -21,6 +21,7 @@ MORE = 16 << 20
 # Each byte once, among letters, and not as many as fit into any buffer evenly.
 PATTERN = bytes(range(256)) + b"all the letters of a plain text " * 60 + b"\\\""
 SIZE = 60_000_000
+BY_TEXT = ("--schema", file_of("text.bfbs", schema([table("T", field("s", TEXT, 4))], root="T")))
 
 # The bytes of one struct: a number, and what lies behind it.
 STRUCT = 1_000_000
@@ -75,92 +76,74 @@ def measured(*words, given):
     return child.returncode, usage.ru_maxrss * 1024, made
 
 
-def a_large_text(cases):
-    path = file_of("text.bfbs", schema([table("T", field("s", TEXT, 4))], root="T"))
-    for name, words, reads in ("of a stream", (), 8), ("of a bare input", ("--bare",), 7):
-        prefix = not words
-        head = f"1 ok tables=1 depth=1 reads={reads}"
-        big = big_file("big", prefix)
-        length = os.path.getsize(big)
-        plain, memory, made = measured("--schema", path, *words, given=big)
-        cases.same(f"the line without it, {name}", (plain, made.read_bytes()), (0, f"{head}\n".encode()))
-        cases.holds(f"memory without it, {name}", memory <= length + MORE, (memory, length))
-        status, memory, made = measured("--schema", path, "--path", "s", *words, given=big)
-        cases.same(f"status of a large text {name}", status, 0)
-        cases.holds(f"a large text {name}", holds(made, [f"{head} ".encode()], parts_of_big(), [b"\n"]))
-        cases.holds(f"memory of a large text {name}", memory <= length + MORE, (memory, length))
-
-
 def lines_of(texts):
     """The lines of a stream of these texts."""
     return lines(*(f"{number} ok tables=1 depth=1 reads=8 {quoted(text)}" for number, text in enumerate(texts, 1)))
 
 
-def among_others(cases):
-    """Lines before and behind it keep their order, whatever the pieces are; none is told twice."""
-    path = file_of("text.bfbs", schema([table("T", field("s", TEXT, 4))], root="T"))
-    texts = [(PATTERN * 200)[:size] for size in (3, 65_535, 65_536, 65_537, 70_000, 9, 131_072, 400_000, 0)]
-    stream = b"".join(prefixed(buffer({0: text})) for text in texts)
-    want = lines_of(texts)
-    ran = run("--schema", path, "--path", "s", given=stream)
-    cases.same("large texts among others", (ran.status, ran.out == want, ran.err), (0, True, b""))
-    for text in texts:
-        ran = run("--schema", path, "--path", "s", "--bare", given=buffer({0: text}))
-        line = lines(f"1 ok tables=1 depth=1 reads=7 {quoted(text)}")
-        cases.same(f"a text of {len(text)} bytes, bare", (ran.status, ran.out == line, ran.err), (0, True, b""))
+class LargeValues(Case):
+    def test_a_large_text(self):
+        for name, words, reads in ("of a stream", (), 8), ("of a bare input", ("--bare",), 7):
+            prefix = not words
+            head = f"1 ok tables=1 depth=1 reads={reads}"
+            big = big_file("big", prefix)
+            length = os.path.getsize(big)
+            plain, memory, made = measured(*BY_TEXT, *words, given=big)
+            self.same(f"the line without it, {name}", (plain, made.read_bytes()), (0, f"{head}\n".encode()))
+            self.holds(f"memory without it, {name}", memory <= length + MORE, (memory, length))
+            status, memory, made = measured(*BY_TEXT, "--path", "s", *words, given=big)
+            self.same(f"status of a large text {name}", status, 0)
+            self.holds(f"a large text {name}", holds(made, [f"{head} ".encode()], parts_of_big(), [b"\n"]))
+            self.holds(f"memory of a large text {name}", memory <= length + MORE, (memory, length))
 
+    def test_among_others(self):
+        """Lines before and behind it keep their order, whatever the pieces are; none is told twice."""
+        texts = [(PATTERN * 200)[:size] for size in (3, 65_535, 65_536, 65_537, 70_000, 9, 131_072, 400_000, 0)]
+        stream = b"".join(prefixed(buffer({0: text})) for text in texts)
+        want = lines_of(texts)
+        ran = run(*BY_TEXT, "--path", "s", given=stream)
+        self.same("large texts among others", (ran.status, ran.out == want, ran.err), (0, True, b""))
+        for text in texts:
+            ran = run(*BY_TEXT, "--path", "s", "--bare", given=buffer({0: text}))
+            line = lines(f"1 ok tables=1 depth=1 reads=7 {quoted(text)}")
+            self.same(f"a text of {len(text)} bytes, bare", (ran.status, ran.out == line, ran.err), (0, True, b""))
 
-def a_large_struct(cases):
-    rows = [table("T", field("all", vector(an_object(1)), 4)), a_struct("S", STRUCT, 4, field("n", INT, 0))]
-    path = file_of("struct.bfbs", schema(rows, root="T"))
-    data = (PATTERN * 2000)[: 3 * STRUCT]
-    stream = prefixed(buffer({0: outside.Plain(data, 4, 3)}))
-    ran = run("--schema", path, "--path", "all[1]", given=stream)
-    want = data[STRUCT : 2 * STRUCT].hex()
-    head, _, value = ran.out.decode().rstrip("\n").rpartition(" ")
-    cases.same("a large struct", (ran.status, head.startswith("1 ok "), value == f"struct:{want}"), (0, True, True))
+    def test_a_large_struct(self):
+        rows = [table("T", field("all", vector(an_object(1)), 4)), a_struct("S", STRUCT, 4, field("n", INT, 0))]
+        path = file_of("struct.bfbs", schema(rows, root="T"))
+        data = (PATTERN * 2000)[: 3 * STRUCT]
+        stream = prefixed(buffer({0: Plain(data, 4, 3)}))
+        ran = run("--schema", path, "--path", "all[1]", given=stream)
+        want = data[STRUCT : 2 * STRUCT].hex()
+        head, _, value = ran.out.decode().rstrip("\n").rpartition(" ")
+        self.same("a large struct", (ran.status, head.startswith("1 ok "), value == f"struct:{want}"), (0, True, True))
 
+    def test_writes_that_fail(self):
+        """The output takes so many bytes and no more, within the line of a large text and around it."""
+        texts = [b"first", (PATTERN * 200)[:200_000], b"last"]
+        stream = b"".join(prefixed(buffer({0: text})) for text in texts)
+        want = lines_of(texts)
+        for room in (0, 1, 36, 37, 38, 66, 67, 65_536, 65_600, 100_000, 131_072, len(want) - 40, len(want) - 1):
+            for most in 65_536, 1000:
+                ran = narrowed(*BY_TEXT, "--path", "s", given=stream, room=room, write=most)
+                self.same(f"room for {room} bytes, {most} at a write", (ran.status, ran.out == want[:room], ran.err),
+                          (3, True, f"fbcheck: write failed after {room} bytes\n".encode()))
 
-def writes_that_fail(cases):
-    """The output takes so many bytes and no more, within the line of a large text and around it."""
-    library = FOLDER / "narrow.so"
-    made = subprocess.run(["cc", "-O2", "-shared", "-fPIC", "-o", library, TOP / "tests/ends/narrow.c"],
-                          capture_output=True, timeout=outside.SECONDS)
-    cases.same("narrow.c compiles", (made.returncode, made.stdout + made.stderr), (0, b""))
-    path = file_of("text.bfbs", schema([table("T", field("s", TEXT, 4))], root="T"))
-    texts = [b"first", (PATTERN * 200)[:200_000], b"last"]
-    stream = b"".join(prefixed(buffer({0: text})) for text in texts)
-    want = lines_of(texts)
-    for room in (0, 1, 36, 37, 38, 66, 67, 65_536, 65_600, 100_000, 131_072, len(want) - 40, len(want) - 1):
-        for narrow in ("65536", "1000"):
-            env = {**os.environ, "LD_PRELOAD": str(library), "NARROW_ROOM": str(room), "NARROW_WRITE": narrow}
-            ran = run("--schema", path, "--path", "s", given=stream, env=env)
-            cases.same(f"room for {room} bytes, {narrow} at a write", (ran.status, ran.out == want[:room], ran.err),
-                       (3, True, f"fbcheck: write failed after {room} bytes\n".encode()))
-
-
-def memory_that_is_refused(cases):
-    """Where a request is refused, whole lines are written, all or the first ones; a line that was begun is ended."""
-    path = file_of("text.bfbs", schema([table("T", field("s", TEXT, 4))], root="T"))
-    texts = [b"first", (PATTERN * 200)[:200_000], b"behind it", (PATTERN * 200)[:300_000], b"last"]
-    stream = b"".join(prefixed(buffer({0: text})) for text in texts)
-    words = [PROGRAM, "--schema", str(path), "--path", "s"]
-    with tempfile.TemporaryDirectory() as folder:
-        refuser = Refuser(folder)
-        whole = refuser.run(words, stream)
+    def test_memory_that_is_refused(self):
+        """Whole lines are written, all or the first ones; a line that was begun is ended."""
+        texts = [b"first", (PATTERN * 200)[:200_000], b"behind it", (PATTERN * 200)[:300_000], b"last"]
+        stream = b"".join(prefixed(buffer({0: text})) for text in texts)
+        words = [PROGRAM, *BY_TEXT, "--path", "s"]
+        whole = refusing(words, stream)
         told = lines_of(texts)
-        cases.same("without a refusal", (whole.status, whole.out == told, whole.err), (0, True, b""))
+        self.same("without a refusal", (whole.status, whole.out == told, whole.err), (0, True, b""))
         for extent in ALONE, WITH_LATER:
             fronts = set()
-            for first, ran in enumerate(refuser.sweep(words, stream, extent), 1):
+            for first, ran in enumerate(sweep(words, stream, extent), 1):
                 front = told.startswith(ran.out) and (ran.out == b"" or ran.out.endswith(b"\n"))
                 fault = (3, b"fbcheck: out of memory\n")
                 ends = (ran.status, ran.err) == ((0, b"") if ran.out == told else fault)
-                cases.holds(f"request {first} is refused {extent}", ran.refused > 0 and front and ends,
-                            (ran.status, len(ran.out), ran.err))
+                self.holds(f"request {first} is refused {extent}", ran.refused > 0 and front and ends,
+                           (ran.status, len(ran.out), ran.err))
                 fronts.add(len(ran.out))
-            cases.holds(f"some lines alone are written, refused {extent}", len(fronts) > 2, fronts)
-
-
-if __name__ == "__main__":
-    outside.main(a_large_text, among_others, a_large_struct, writes_that_fail, memory_that_is_refused)
+            self.holds(f"some lines alone are written, refused {extent}", len(fronts) > 2, fronts)

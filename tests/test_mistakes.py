@@ -9,14 +9,15 @@ import struct
 import subprocess
 import zipfile
 
-import outside
-from outside import TOP, file_of, prefixed, run
+from tests.support.buffers import POST
+from tests.support.builder import prefixed
+from tests.support.cases import Case
+from tests.support.program import TOP, file_of, run
 
 EXAMPLES = TOP / "examples"
 SCHEMA = EXAMPLES / "deliveries.bfbs"
 BARE = SCHEMA.read_bytes()
-STREAM = (EXAMPLES / "deliveries.bin").read_bytes()
-FIRST, SECOND = STREAM[:512], STREAM[512:576]
+FIRST, SECOND = POST[:512], POST[512:576]
 JSON = (EXAMPLES / "deliveries.jsonl").read_bytes()
 BY_POST = ("--schema", SCHEMA)
 
@@ -53,32 +54,31 @@ def framed(message):
     """Behind the five bytes of gRPC."""
     return struct.pack(">BI", 0, len(message)) + message
 
-
 # By the text of the table's second column: the words, and standard input.
 CALLS = {
     "as the schema its text (`.fbs`), JSON, or messages": [
-        (("--schema", EXAMPLES / name), STREAM) for name in ("deliveries.fbs", "deliveries.jsonl", "deliveries.bin")
+        (("--schema", EXAMPLES / name), POST) for name in ("deliveries.fbs", "deliveries.jsonl", "deliveries.bin")
     ],
-    "as the schema an empty file": [(("--schema", file_of("empty.bfbs", b"")), STREAM)],
+    "as the schema an empty file": [(("--schema", file_of("empty.bfbs", b"")), POST)],
     "a root without its namespace (`--root Delivery`), or a struct": [
-        ((*BY_POST, "--root", name), STREAM) for name in ("Delivery", "post.Spot")
+        ((*BY_POST, "--root", name), POST) for name in ("Delivery", "post.Spot")
     ],
     "JSON; any text declares more than 100,000,000": [(BY_POST, JSON)],
-    "a file compressed with `gzip`": [(BY_POST, gzipped(STREAM))],
-    "a file compressed with `zstd`": [(BY_POST, by_zstd(STREAM))],
-    "a file compressed with `zip`": [(BY_POST, zipped(STREAM))],
-    "big-endian prefixes": [(BY_POST, turned(STREAM))],
+    "a file compressed with `gzip`": [(BY_POST, gzipped(POST))],
+    "a file compressed with `zstd`": [(BY_POST, by_zstd(POST))],
+    "a file compressed with `zip`": [(BY_POST, zipped(POST))],
+    "big-endian prefixes": [(BY_POST, turned(POST))],
     "a message behind the five bytes of gRPC (a zero, and its size in big-endian)": [(BY_POST, framed(FIRST))],
     "the same with a message below 256 bytes; from 1,024 on it is `S1 Oversize`": [(BY_POST, framed(SECOND))],
     "a bare buffer as a stream: what follows its first four bytes is taken for an offset": [((), BARE)],
     "with `--bare` a message that has its prefix, which is taken for an offset": [
-        ((*BY_POST, "--bare"), FIRST), ((*BY_POST, "--bare"), STREAM)
+        ((*BY_POST, "--bare"), FIRST), ((*BY_POST, "--bare"), POST)
     ],
     "a prefix before a message that has one already": [(BY_POST, prefixed(FIRST))],
     "a prefix put before a finished bare buffer, so that all positions moved by four": [((), prefixed(BARE))],
     "with `--bare` a message whose prefix was taken off": [((*BY_POST, "--bare"), FIRST[4:])],
     "no `--schema`, so that the messages are checked as schema files, whose tables are `object=0` to `9`": [
-        ((), STREAM)
+        ((), POST)
     ],
 }
 
@@ -90,30 +90,26 @@ def rows():
     return re.findall(r"^\| `(.+?)` \| (.+?) \| .+ \|$", section, re.M)
 
 
-def each_line_is_what_is_printed(cases):
-    cases.same("the table's rows", sorted(given for _, given in rows()), sorted(CALLS))
-    for line, given in rows():
-        for words, stream in CALLS.get(given, []):
+class Mistakes(Case):
+    def test_each_line_is_what_is_printed(self):
+        self.same("the table's rows", sorted(given for _, given in rows()), sorted(CALLS))
+        for line, given in rows():
+            for words, stream in CALLS.get(given, []):
+                ran = run(*words, given=stream)
+                self.same(f"{given}: {words}", (ran.out + ran.err).decode().splitlines()[0], line)
+
+    def test_what_is_said_beside_them(self):
+        for name, words, stream, want in [
+            ("a bare buffer with --bare", ["--bare"], BARE, 0),
+            ("a prefix put before it, without alignment", ["--no-alignment"], prefixed(BARE), 0),
+            ("a prefix taken off, without alignment", [*BY_POST, "--bare", "--no-alignment"], FIRST[4:], 0),
+            ("the message without --bare", BY_POST, FIRST, 0),
+            ("the root with its namespace", [*BY_POST, "--root", "post.Delivery"], FIRST, 0),
+            ("a text that begins with the least of characters", BY_POST, b"\t\t\t\t", 3),
+            ("gRPC before 1,024 bytes", BY_POST, framed(bytes(1024)), 3),
+        ]:
             ran = run(*words, given=stream)
-            cases.same(f"{given}: {words}", (ran.out + ran.err).decode().splitlines()[0], line)
-
-
-def what_is_said_beside_them(cases):
-    for name, words, stream, want in [
-        ("a bare buffer with --bare", ["--bare"], BARE, 0),
-        ("a prefix put before it, without alignment", ["--no-alignment"], prefixed(BARE), 0),
-        ("a prefix taken off, without alignment", [*BY_POST, "--bare", "--no-alignment"], FIRST[4:], 0),
-        ("the message without --bare", BY_POST, FIRST, 0),
-        ("the root with its namespace", [*BY_POST, "--root", "post.Delivery"], FIRST, 0),
-        ("a text that begins with the least of characters", BY_POST, b"\t\t\t\t", 3),
-        ("gRPC before 1,024 bytes", BY_POST, framed(bytes(1024)), 3),
-    ]:
-        ran = run(*words, given=stream)
-        cases.same(name, ran.status, want)
-        cases.same(f"{name}: S1", b"S1 Oversize" in ran.err, want == 3)
-    declared = struct.unpack("<I", b"\t\t\t\t")[0]
-    cases.holds("the least that a text declares", declared > 100_000_000, declared)
-
-
-if __name__ == "__main__":
-    outside.main(each_line_is_what_is_printed, what_is_said_beside_them)
+            self.same(name, ran.status, want)
+            self.same(f"{name}: S1", b"S1 Oversize" in ran.err, want == 3)
+        declared = struct.unpack("<I", b"\t\t\t\t")[0]
+        self.holds("the least that a text declares", declared > 100_000_000, declared)

@@ -2,18 +2,20 @@
 
 import re
 import struct
-import tempfile
 
-import buffers
-import outside
-import schemas
-from buffers import ASKEW, BY_POST, MEMBER, NOTHING, ODD, ORC, PLAIN, POST, SEVEN, TWINS, levels
-from outside import Plain, Ran, Talk, bad, buffer, changed, failed, file_of, good, lines, prefixed, run, run_in_shell
-from outside import spelled
-from schemas import INT, LONG, TEXT, U_TYPE, a_struct, a_union, an_object, field, schema, table, union, vector
-from test_ends import narrowed, the_library_is_built
-from test_options import ALL
-from test_refused_memory import ALONE, WITH_LATER, Case, Refuser, case_faults, is_front
+from tests.support import buffers, schemas
+from tests.support.buffers import (
+    ASKEW, BY_POST, MEMBER, NOTHING, ODD, ODD_MEMBER, ORC, PLAIN, POST, SEVEN, TWINS, levels,
+)
+from tests.support.builder import Plain, buffer, changed, prefixed, spelled
+from tests.support.cases import Case
+from tests.support.preloaded import ALONE, WITH_LATER, Plan, is_front, narrowed, refusing
+from tests.support.program import (
+    PROGRAM, SECONDS, Ran, Talk, bad, failed, file_of, good, lines, refused, run, run_in_shell,
+)
+from tests.support.schemas import (
+    INT, LONG, TEXT, U_TYPE, a_struct, a_union, an_object, field, schema, table, union, vector,
+)
 
 FILES = schemas.files()
 BY_N = ("--schema", FILES["N"], "--names")
@@ -73,62 +75,6 @@ def of_types(*members):
     return {"anys_type": Plain(types, 1, len(types)), "anys": [value for _, value in members]}
 
 
-def the_line_is_told(cases):
-    """Whole lines. What they say before the place is that of other tests."""
-    def by(name, *words):
-        return "--schema", FILES[name], "--bare", *words
-
-    chain = ".".join(["next"] * 64)
-    for name, words, given, want in [
-        ("a table at an odd place", BY_N[:2], ODD, f"1 {NO[ODD]}"),
-        ("no byte behind a prefix", BY_N[:2], NOTHING, f"1 {NO[NOTHING]}"),
-        ("nothing", by("M"), b"", "1 bad V2 OutOfBuffer at=0 object=0 field=- reads=0 in . [M]"),
-        ("a wrong identifier", (*BY_N[:2], "--ident", "ABCD"), SEVEN,
-         "1 bad V5 WrongIdentifier at=8 object=0 field=- reads=2 in . [N]"),
-        ("no level", by("M", "--max-depth", "0"), ORC, "1 bad V6 TooDeep at=12 object=0 field=- reads=1 in . [M]"),
-        ("no table", by("M", "--max-tables", "0"), ORC,
-         "1 bad V7 TooManyTables at=12 object=0 field=- reads=1 in . [M]"),
-        ("no read", by("M", "--max-reads", "0"), ORC,
-         "1 bad V13 TooManyReads at=0 object=0 field=- reads=1 in . [M]"),
-        ("too few reads for the root's head", by("M", "--max-reads", "2"), ORC,
-         "1 bad V13 TooManyReads at=12 object=0 field=- reads=3 in . [M]"),
-        ("too few reads for a field", by("M", "--max-reads", "4"), ORC,
-         "1 bad V13 TooManyReads at=12 object=0 field=1 reads=5 in name [M.name]"),
-        ("too few reads for a text", by("M", "--max-reads", "7"), ORC,
-         "1 bad V13 TooManyReads at=16 object=0 field=1 reads=8 in name [M.name]"),
-        ("a text that is cut off", by("M"), ORC[:31],
-         "1 bad V2 OutOfBuffer at=28 object=0 field=1 reads=7 in name [M.name]"),
-        ("another root", by("X", "--root", "Q"), MEMBER,
-         "1 bad V3 Misaligned at=21 object=3 field=0 reads=5 in us_type [Q.us_type]"),
-        ("numbers at a place of 4", by("Z"), ASKEW, "1 bad V3 Misaligned at=28 object=0 field=0 reads=6 in l [Z.l]"),
-        ("a required field", by("K"), PLAIN, "1 bad V9 MissingRequired at=8 object=0 field=0 reads=3 in s [K.s]"),
-        ("a member too deep", by("X", "--root", "R", "--max-depth", "1"), MEMBER,
-         "1 bad V6 TooDeep at=32 object=2 field=1 reads=8 in u@A [R.u]"),
-        ("a level too deep", by("CHAIN"), levels(65),
-         f"1 bad V6 TooDeep at=528 object=0 field=0 reads=257 in {chain} [L.next]"),
-        ("a table too many", by("NODE", "--max-tables", "6"), TWINS,
-         "1 bad V7 TooManyTables at=40 object=0 field=1 reads=25 in b.b [Node.b]"),
-        ("depth before tables", by("NODE", "--max-tables", "2", "--max-depth", "2"), TWINS,
-         "1 bad V6 TooDeep at=40 object=0 field=0 reads=9 in a.a [Node.a]"),
-        ("too few reads for the head of a table", by("NODE", "--max-reads", "26"), TWINS,
-         "1 bad V13 TooManyReads at=40 object=0 field=- reads=27 in b.b [Node]"),
-        ("a field of a member, past its table", ("--schema", FILES["X"], "--root", "R", "--no-alignment",
-                                                 "--inline-size"), changed(ALL, (34, "0800")),
-         "1 bad V12 PastTable at=45 object=0 field=0 reads=14 in u@A.v [A.v]"),
-        ("a table of schema files", ["--bare"], PLAIN,
-         "1 bad V9 MissingRequired at=8 object=9 field=0 reads=3 in objects [reflection.Schema.objects]"),
-        ("a schema file behind a prefix", [], prefixed(schemas.M),
-         "1 bad V3 Misaligned at=132 object=4 field=4 reads=32 in objects[0].fields[0].default_integer"
-         " [reflection.Field.default_integer]"),
-    ]:
-        cases.same(name, run(*words, "--names", given=given), bad(want))
-        cases.same(f"{name}, without the option", run(*words, given=given), bad(want.partition(" in ")[0]))
-    cases.same("the example", run(*BY_POST, "--names", given=POST).out.splitlines()[4],
-               b"5 bad V10 NoTerminator at=314 object=1 field=6 reads=63 in items[1]@Note [post.Delivery.items]")
-    cases.same("good buffers have no place", run(*BY_N, given=SEVEN * 2), good(f"1 {YES}", f"2 {YES}"))
-    cases.same("nor has nothing", run(*BY_N), good())
-
-
 def way_to_visit(depth, number):
     """The names that lead to the visit with this number, from 0 on, of a tree of so many levels."""
     names = []
@@ -140,255 +86,14 @@ def way_to_visit(depth, number):
     return ".".join(names)
 
 
-def each_kind_of_place(cases):
-    """The place at the end of a line whose beginning is that of a run without the option."""
-    leaf = {1: ENDLESS}
-    for name, root, code, want, words in [
-        ("a text", tree(must=ENDLESS), "V10", "must [zoo.Tree.must]", ()),
-        ("a required field", {}, "V9", "must [zoo.Tree.must]", ()),
-        ("an offset of 0 to a text", tree(must=("I", 0)), "V4", "must [zoo.Tree.must]", ()),
-        ("an offset of 0 to a table", tree(leaf=("I", 0)), "V4", "leaf [zoo.Tree.leaf]", ()),
-        ("an offset of 0 to a vector", tree(texts=("I", 0)), "V4", "texts [zoo.Tree.texts]", ()),
-        ("a table", tree(leaf=HEADLESS), "V8", "leaf [zoo.Leaf]", ()),
-        ("a field of a table", tree(leaf=leaf), "V10", "leaf.t [zoo.Leaf.t]", ()),
-        ("a struct at a place of 4", tree(spot=("B", 0)), "V3", "spot [zoo.Tree.spot]", ()),
-        ("the first element", tree(texts=[ENDLESS]), "V10", "texts[0] [zoo.Tree.texts]", ()),
-        ("the last element", tree(texts=["a", "b", ENDLESS]), "V10", "texts[2] [zoo.Tree.texts]", ()),
-        ("an element of two digits", tree(texts=["a"] * 10 + [ENDLESS]), "V10", "texts[10] [zoo.Tree.texts]", ()),
-        ("an element without offset", tree(texts=["a", None]), "V4", "texts[1] [zoo.Tree.texts]", ()),
-        ("a vector of numbers", tree(longs=Plain(b"", 8, 1000)), "V2", "longs [zoo.Tree.longs]", ()),
-        ("a vector of texts", tree(texts=Plain(b"", 4, 1000)), "V2", "texts [zoo.Tree.texts]", ()),
-        ("an element that is a table", tree(leaves=[{}, HEADLESS]), "V8", "leaves[1] [zoo.Leaf]", ()),
-        ("an element without offset to a table", tree(leaves=[{}, {}, None]), "V4", "leaves[2] [zoo.Tree.leaves]", ()),
-        ("a field of such a table", tree(leaves=[{}, {}, leaf]), "V10", "leaves[2].t [zoo.Leaf.t]", ()),
-        ("a member that is a table", tree(**of_type(1, HEADLESS)), "V8", "any@Leaf [zoo.Leaf]", ()),
-        ("a member without offset", tree(**of_type(1, ("I", 0))), "V4", "any@Leaf [zoo.Tree.any]", ()),
-        ("a member that is a struct", tree(**of_type(2, ("I", 1 << 20))), "V2", "any@Spot [zoo.Tree.any]", ()),
-        ("a member that is a text", tree(**of_type(3, ENDLESS)), "V10", "any@Text [zoo.Tree.any]", ()),
-        ("a field of a member", tree(**of_type(1, leaf)), "V10", "any@Leaf.t [zoo.Leaf.t]", ()),
-        ("one of unions", tree(**of_types((3, "a"), (3, ENDLESS))), "V10", "anys[1]@Text [zoo.Tree.anys]", ()),
-        ("one of unions, of type 0", tree(**of_types((0, None), (1, HEADLESS))), "V8", "anys[1]@Leaf [zoo.Leaf]", ()),
-        ("a field of one of unions", tree(**of_types((9, None), (1, leaf))), "V10", "anys[1]@Leaf.t [zoo.Leaf.t]", ()),
-        ("one of unions without offset", tree(**of_types((1, None))), "V4", "anys[0]@Leaf [zoo.Tree.anys]", ()),
-        ("types that aren't as many", tree(anys=["a"]), "V11", "anys [zoo.Tree.anys]", ()),
-        ("types past the end", tree(anys_type=Plain(b"", 4, 5000)), "V2", "anys_type [zoo.Tree.anys_type]", ()),
-        ("three deep", tree(tree=tree(tree=tree(tree=tree(texts=["a", ENDLESS])))), "V10",
-         "tree.tree.tree.texts[1] [zoo.Tree.texts]", ()),
-        ("a required field three deep", tree(tree=tree(tree=tree(tree={}))), "V9",
-         "tree.tree.tree.must [zoo.Tree.must]", ()),
-        ("all three deep", tree(tree=tree(**of_types((3, "a"), (4, tree(**of_type(4, tree(leaves=[{}, leaf]))))))),
-         "V10", "tree.anys[1]@Tree.any@Tree.leaves[1].t [zoo.Leaf.t]", ()),
-        ("behind what is good", tree(leaf={1: "a"}, leaves=[{}, {1: "b"}], texts=["c"], tree=tree(),
-                                     longs=Plain(b"", 8, 0), must=ENDLESS), "V10", "must [zoo.Tree.must]", ()),
-        ("too deep by a field", tree(tree=tree(leaf={})), "V6", "tree.leaf [zoo.Tree.leaf]", ("--max-depth", "2")),
-        ("too deep by an element", tree(leaves=[{}]), "V6", "leaves[0] [zoo.Tree.leaves]", ("--max-depth", "1")),
-        ("too deep by a member", tree(**of_types((4, tree(**of_type(1, {}))))), "V6",
-         "anys[0]@Tree.any@Leaf [zoo.Tree.any]", ("--max-depth", "2")),
-        ("too many by an element", tree(leaves=[{}, {}, {}]), "V7", "leaves[2] [zoo.Tree.leaves]",
-         ("--max-tables", "3")),
-    ]:
-        given = buffer(root)
-        plain = run(*BY_TREE, *words, given=given)
-        cases.same(f"{name}: the reason", (plain.status, plain.out.split()[2:3]), (1, [code.encode()]))
-        cases.same(name, run(*BY_TREE, *words, "--names", given=given),
-                   plain._replace(out=plain.out[:-1] + f" in {want}\n".encode()))
-    by_node = ("--schema", FILES["NODE"], "--bare", "--names")
-    for count in 1, 2, 3, 21, 22, 1_000, 999_999, 1_000_000:
-        ran = run(*by_node, "--max-tables", str(count), given=buffers.doubling(21))
-        way = way_to_visit(21, count)
-        cases.same(f"the visit past {count}", ran.out.decode().partition(" in ")[2], f"{way} [Node.{way[-1]}]\n")
-
-
-def budgets_that_end_anywhere(cases):
-    """The places where budgets of reads end, from the least on: what is absent is read too, by its slot."""
-    members = buffer(tree(**of_types((3, "a"), (9, None), (0, None))))
-    places = []
-    reads = int(run(*BY_TREE, given=members).out.rpartition(b"reads=")[2])
-    for budget in range(reads):
-        ran = run(*BY_TREE, "--names", "--max-reads", str(budget), given=members)
-        place = ran.out.decode().partition(" in ")[2]
-        if place not in places:
-            places.append(place)
-    ways = ["leaf", "leaves", "texts", "any_type", "any", "anys_type", "anys", "anys[0]@Text", "anys[1]", "anys[2]",
-            "tree", "longs", "spot", "must"]
-    cases.same("the places where budgets end", places,
-               [". [zoo.Tree]\n"] + [f"{way} [zoo.Tree.{way.partition('[')[0]}]\n" for way in ways])
-    unknown = buffer(tree(**of_type(9, ("I", 0))))
-    reads = int(run(*BY_TREE, given=unknown).out.rpartition(b"reads=")[2])
-    ends = [run(*BY_TREE, "--names", "--max-reads", str(budget), given=unknown).out.partition(b" in ")[2]
-            for budget in range(reads)]
-    cases.holds("a union of unknown type is named without one", b"any [zoo.Tree.any]\n" in ends, ends)
-    cases.holds("and nothing behind it", not any(b"@" in end for end in ends), ends)
-
-
-def names_of_any_bytes(cases):
-    """No name of a schema begins a line, or looks like the end of a place."""
-    strange = "x [y]\n2 ok"
-    plain = bytes(range(1, 256))
-    known = bytes(c if chr(c).isascii() and (chr(c).isalnum() or chr(c) in "_.") else 63 for c in plain)
-    for name, table_name, field_name, want in [
-        ("a name of lines", "a.b\n3 ok", strange, b"x??y??2?ok [a.b?3?ok.x??y??2?ok]"),
-        ("each byte", plain, "v", b"v [" + known + b".v]"),
-        ("each byte of a field", "T", plain, known + b" [T." + known + b"]"),
-        ("empty names", "", "", b" [.]"),
-        ("letters of two bytes", "é", "üb", b"??b [??.??b]"),
-    ]:
-        data = schema([table(table_name, field(field_name, TEXT, 4))], root=table_name)
-        words = "--schema", file_of("strange.bfbs", data), "--bare"
-        given = buffer({0: ENDLESS})
-        out = run(*words, given=given).out
-        cases.holds(f"{name}: a bad buffer", b" bad V10 " in out, out)
-        cases.same(name, run(*words, "--names", given=given), Ran(1, out[:-1] + b" in " + want + b"\n", b""))
-
-
 def told(*parts):
     """The lines of these messages by N."""
     return lines(*[f"{number} {NO.get(part, YES)}" for number, part in enumerate(parts, 1)])
 
 
-def in_every_mode(cases):
-    parts = [SEVEN, ODD, SEVEN, NOTHING, PAST, ODD, SEVEN]
-    stream = b"".join(parts)
-    bad_lines = b"".join(line for line in told(*parts).splitlines(keepends=True) if b" bad " in line)
-    cases.same("a stream", run(*BY_N, given=stream), Ran(1, told(*parts), b""))
-    cases.same("with --quiet", run(*BY_N, "--quiet", given=stream), Ran(1, bad_lines, b""))
-    cases.same("with --filter", run(*BY_N, "--filter", given=stream), Ran(1, SEVEN * 3, bad_lines))
-    cases.same("with both", run(*BY_N, "--filter", "--quiet", given=stream), Ran(1, SEVEN * 3, bad_lines))
-    for words in [["--quiet"], ["--filter"], []]:
-        plain = run(*BY_N[:2], *words, "--summary", given=stream)
-        ran = run(*BY_N, *words, "--summary", given=stream)
-        cases.same(f"the summary, with {words}", ran.err.splitlines()[-1], plain.err.splitlines()[-1])
-        cases.same(f"the lines before it, with {words}", (ran.out, ran.err[:-len(plain.err.splitlines()[-1]) - 1]),
-                   run(*BY_N, *words, given=stream)[1:])
-    with_value = told(*parts).replace(YES.encode(), f"{YES} 7".encode())
-    cases.same("with a path", run(*BY_N, "--path", "v", given=stream), Ran(1, with_value, b""))
-    cases.same("with a path, quietly", run(*BY_N, "--path", "v", "--quiet", given=stream), Ran(1, bad_lines, b""))
-    by_m = "--schema", FILES["M"], "--bare", "--names"
-    cut = lines("1 bad V2 OutOfBuffer at=28 object=0 field=1 reads=7 in name [M.name]")
-    cases.same("bare", run(*by_m, given=ORC[:31]), Ran(1, cut, b""))
-    cases.same("bare, quietly", run(*by_m, "--quiet", given=ORC[:31]), Ran(1, cut, b""))
-    cases.same("bare, with --filter", run(*by_m, "--filter", given=ORC[:31]), Ran(1, b"", cut))
-    cases.same("bare, with a path", run(*by_m, "--path", "name", given=ORC[:31]), Ran(1, cut, b""))
-    cases.same("a good one, with a path", run(*by_m, "--path", "name", given=ORC),
-               good('1 ok tables=1 depth=1 reads=8 "Orc"'))
-    cases.same("a good one passes the filter", run(*by_m, "--filter", given=ORC), Ran(0, ORC, b""))
-    limited = run(*BY_POST, "--names", "--max-reads", "40", given=POST).out
-    cases.holds("a place in each bad line of the example, and in no other",
-                all((b" bad " in line) == (b" in " in line) for line in limited.splitlines()), limited)
-
-
-def streams_that_are_cut(cases):
-    parts = [SEVEN, ODD, PAST, SEVEN]
-    stream = b"".join(parts)
-    for length in range(len(stream) + 1):
-        whole, held = divmod(length, 32)
-        text = f"stream: S2 Truncated held={held}"
-        want = Ran(1 if whole > 1 else 0, told(*parts[:whole]), b"")
-        if held:
-            want = Ran(3, told(*parts[:whole]), lines(f"fbcheck: {text}"))
-        cases.same(f"cut off after {length} bytes", run(*BY_N, given=stream[:length]), want)
-    cases.same("a prefix past the limit", run(*BY_N, given=ODD + spelled("ffffffff")),
-               failed("stream: S1 Oversize declared=4294967295", f"1 {NO[ODD]}"))
-    for most in 1, 3, 31, 32, 33, 100:
-        cases.same(f"in pieces of {most}", narrowed(*BY_N, given=stream, read=most, write=1),
-                   Ran(1, told(*parts), b""))
-    with Talk(*BY_N) as talk:
-        for number, part in enumerate(parts, 1):
-            talk.say(part)
-            cases.same(f"line {number}, while the pipe stays open", talk.hear(), lines(f"{number} {NO.get(part, YES)}"))
-        cases.same("the end", talk.end(), Ran(1, b"", b""))
-
-
-def outputs_that_take_no_more(cases):
-    first = lines(f"1 {NO[ODD]}")
-    for name, redirections in [("a full device", ">/dev/full"), ("closed standard output", ">&-")]:
-        cases.same(name, run_in_shell(redirections, *BY_N, given=ODD),
-                   Ran(3, b"", b"fbcheck: write failed after 0 bytes\n"))
-    for name, redirections in [("full standard error", "2>/dev/full"), ("closed standard error", "2>&-")]:
-        cases.same(name, run_in_shell(redirections, *BY_N, "--filter", given=SEVEN + ODD), Ran(3, SEVEN, b""))
-    with Talk(*BY_N) as talk:
-        talk.say(ODD)
-        cases.same("the first line comes", talk.hear(), first)
-        talk.run.stdout.close()
-        talk.run.stdin.write(ODD)
-        talk.run.stdin.close()
-        cases.same("the second can't be written", (talk.run.stderr.read(), talk.run.wait(outside.SECONDS)),
-                   (f"fbcheck: write failed after {len(first)} bytes\n".encode(), 3))
-    whole = told(ODD, PAST)
-    for room in range(len(whole)):
-        cases.same(f"room for {room} bytes", narrowed(*BY_N, given=ODD + PAST, room=room),
-                   Ran(3, whole[:room], lines(f"fbcheck: write failed after {room} bytes")))
-
-
 def broken(count):
     """By CHAIN: so many tables, one inside another, of which the last has its vtable at an odd place."""
     return levels(count)[:-4] + struct.pack("<I", 3 + 8 * (count - 1))
-
-
-def places_of_many_steps(cases):
-    """A place is as long as its names and the depth make it."""
-    def way(step, count):
-        return ".".join([step] * count).encode() or b"."
-
-    deep = "--max-depth", "4096"
-    for step in "next", "n" * 100:
-        path = file_of("long.bfbs", schema([table("L", field(step, an_object(0), 4))], root="L"))
-        words = "--schema", path, *deep
-        for count in 1, 2, 3, 64, 654, 656, 1000, 4096:
-            given = broken(count)
-            plain = run(*words, "--bare", given=given).out
-            want = plain[:-1] + b" in " + way(step, count - 1) + b" [L]\n"
-            cases.same(f"{count} tables by {len(step)} letters", run(*words, "--bare", "--names", given=given),
-                       Ran(1, want, b""))
-            cases.same(f"{count} tables by {len(step)} letters, in the notes",
-                       run(*words, "--bare", "--names", "--filter", given=given), Ran(1, b"", want))
-        stream = b"".join(prefixed(part) for part in [broken(4096), levels(2), broken(2), broken(4000), levels(1)])
-        ran = run(*words, "--names", given=stream)
-        plain = run(*words, given=stream).out.splitlines()
-        ways = {0: 4095, 2: 1, 3: 3999}
-        want = [line + b" in " + way(step, ways[number]) + b" [L]" if number in ways else line
-                for number, line in enumerate(plain)]
-        cases.same(f"a stream by {len(step)} letters", (ran.status, ran.out.splitlines()), (1, want))
-        for room in 0, 10, 60, 65_000, 65_600, len(ran.out) - 60, len(ran.out) - 1:
-            if room < len(ran.out):
-                cases.same(f"a stream by {len(step)} letters, with room for {room}",
-                           narrowed(*words, "--names", given=stream, room=room),
-                           Ran(3, ran.out[:room], lines(f"fbcheck: write failed after {room} bytes")))
-    told = b"1 bad V6 TooDeep at=32776 object=0 field=0 reads=16381 in " + way("next", 4095) + b" [L.next]\n"
-    cases.same("one level too many", run("--schema", FILES["CHAIN"], "--bare", "--names", "--max-depth", "4095",
-                                         given=levels(4096)), Ran(1, told, b""))
-
-
-def memory_that_is_refused(cases):
-    """A front of whole lines is written, whichever request is refused."""
-    chain = ["--schema", str(FILES["CHAIN"]), "--names"]
-    long = schema([table("L", field("n" * 500, an_object(0), 4))], root="L")
-    by_long = ["--schema", str(file_of("memory.bfbs", long)), "--names"]
-    stream = b"".join(prefixed(part) for part in [broken(2), levels(2), broken(20), broken(5), broken(60)])
-    with tempfile.TemporaryDirectory() as folder:
-        refuser = Refuser(folder)
-        for case in [
-            Case("places", chain, stream, 1),
-            Case("places, in pieces", chain, stream, 1, most=100),
-            Case("long places", by_long, stream, 1),
-            Case("a place of a bare input", [*by_long, "--bare"], broken(9), 1),
-            Case("places of the example", [*map(str, BY_POST), "--names"], POST, 1),
-            Case("quiet places", [*chain, "--quiet"], stream, 1),
-        ]:
-            for extent in ALONE, WITH_LATER:
-                cases.same(f"{case.name}, refused {extent}",
-                           case_faults(refuser, outside.PROGRAM, case, extent, is_front), [])
-        what_is_asked_for_once(cases, refuser, [outside.PROGRAM, *chain])
-
-
-def what_is_asked_for_once(cases, refuser, words):
-    """The room for links is made before the first read, and that for words with the first place of its length."""
-    quiet = refuser.run([*words, "--quiet"], prefixed(levels(9)))
-    cases.same("a good message asks for nothing", (quiet.status, quiet.reads[0]), (0, quiet.asked))
-    part = prefixed(broken(9))
-    twice, often = [refuser.run(words, part * count, most=len(part)) for count in (2, 40)]
-    cases.same("places of one length ask once", (often.status, often.asked), (1, twice.asked))
-
 
 # The names of deliveries.fbs, by their numbers.
 POST_OBJECTS = ["Box", "Delivery", "Letter", "Parcel", "Person", "Spot"]
@@ -414,74 +119,357 @@ def damaged(message, behind=4):
             yield message[:at] + bytes([value]) + message[at + 1:]
 
 
-def each_place_is_a_path(cases):
-    """Each byte of good messages changed to some others: what the lines of bad ones end with."""
-    parts = [POST[:512], POST[-200:]]
-    many = b"".join(piece for part in parts for piece in damaged(part))
-    tree_message = buffer(tree(
-        leaf={0: ("i", 1), 1: "a"}, leaves=[{}, {1: "b"}], texts=["c", ""], longs=Plain(bytes(16), 8, 2),
-        tree=tree(texts=["d"], **of_type(4, tree())),
-        **of_types((3, "e"), (1, {1: "f"}), (4, tree(leaves=[{1: "g"}]))),
-    ), prefix=True)
-    fields = {"zoo.Leaf": ["n", "t"], "zoo.Tree": TREE_FIELDS}
-    numbers = ["zoo.Leaf", "zoo.Spot", "zoo.Tree"]
+class Names(Case):
+    def test_the_line_is_told(self):
+        """Whole lines. What they say before the place is that of other tests."""
+        def by(name, *words):
+            return "--schema", FILES[name], "--bare", *words
 
-    def tree_owner(line):
-        name = numbers[int(re.search(r" object=(\d+) ", line)[1])]
-        number = re.search(r" field=(\d+) ", line)
-        return name + (f".{fields[name][int(number[1])]}" if number else "")
+        chain = ".".join(["next"] * 64)
+        for name, words, given, want in [
+            ("a table at an odd place", BY_N[:2], ODD, f"1 {NO[ODD]}"),
+            ("no byte behind a prefix", BY_N[:2], NOTHING, f"1 {NO[NOTHING]}"),
+            ("nothing", by("M"), b"", "1 bad V2 OutOfBuffer at=0 object=0 field=- reads=0 in . [M]"),
+            ("a wrong identifier", (*BY_N[:2], "--ident", "ABCD"), SEVEN,
+             "1 bad V5 WrongIdentifier at=8 object=0 field=- reads=2 in . [N]"),
+            ("no level", by("M", "--max-depth", "0"), ORC, "1 bad V6 TooDeep at=12 object=0 field=- reads=1 in . [M]"),
+            ("no table", by("M", "--max-tables", "0"), ORC,
+             "1 bad V7 TooManyTables at=12 object=0 field=- reads=1 in . [M]"),
+            ("no read", by("M", "--max-reads", "0"), ORC,
+             "1 bad V13 TooManyReads at=0 object=0 field=- reads=1 in . [M]"),
+            ("too few reads for the root's head", by("M", "--max-reads", "2"), ORC,
+             "1 bad V13 TooManyReads at=12 object=0 field=- reads=3 in . [M]"),
+            ("too few reads for a field", by("M", "--max-reads", "4"), ORC,
+             "1 bad V13 TooManyReads at=12 object=0 field=1 reads=5 in name [M.name]"),
+            ("too few reads for a text", by("M", "--max-reads", "7"), ORC,
+             "1 bad V13 TooManyReads at=16 object=0 field=1 reads=8 in name [M.name]"),
+            ("a text that is cut off", by("M"), ORC[:31],
+             "1 bad V2 OutOfBuffer at=28 object=0 field=1 reads=7 in name [M.name]"),
+            ("another root", by("X", "--root", "Q"), MEMBER,
+             "1 bad V3 Misaligned at=21 object=3 field=0 reads=5 in us_type [Q.us_type]"),
+            ("numbers at a place of 4", by("Z"), ASKEW,
+             "1 bad V3 Misaligned at=28 object=0 field=0 reads=6 in l [Z.l]"),
+            ("a required field", by("K"), PLAIN, "1 bad V9 MissingRequired at=8 object=0 field=0 reads=3 in s [K.s]"),
+            ("a member too deep", by("X", "--root", "R", "--max-depth", "1"), MEMBER,
+             "1 bad V6 TooDeep at=32 object=2 field=1 reads=8 in u@A [R.u]"),
+            ("a level too deep", by("CHAIN"), levels(65),
+             f"1 bad V6 TooDeep at=528 object=0 field=0 reads=257 in {chain} [L.next]"),
+            ("a table too many", by("NODE", "--max-tables", "6"), TWINS,
+             "1 bad V7 TooManyTables at=40 object=0 field=1 reads=25 in b.b [Node.b]"),
+            ("depth before tables", by("NODE", "--max-tables", "2", "--max-depth", "2"), TWINS,
+             "1 bad V6 TooDeep at=40 object=0 field=0 reads=9 in a.a [Node.a]"),
+            ("too few reads for the head of a table", by("NODE", "--max-reads", "26"), TWINS,
+             "1 bad V13 TooManyReads at=40 object=0 field=- reads=27 in b.b [Node]"),
+            ("a field of a member, past its table",
+             ("--schema", FILES["X"], "--root", "R", "--no-alignment", "--inline-size"),
+             changed(ODD_MEMBER, (34, "0800")),
+             "1 bad V12 PastTable at=45 object=0 field=0 reads=14 in u@A.v [A.v]"),
+            ("a table of schema files", ["--bare"], PLAIN,
+             "1 bad V9 MissingRequired at=8 object=9 field=0 reads=3 in objects [reflection.Schema.objects]"),
+            ("a schema file behind a prefix", [], prefixed(schemas.M),
+             "1 bad V3 Misaligned at=132 object=4 field=4 reads=32 in objects[0].fields[0].default_integer"
+             " [reflection.Field.default_integer]"),
+        ]:
+            self.same(name, run(*words, "--names", given=given), bad(want))
+            self.same(f"{name}, without the option", run(*words, given=given), bad(want.partition(" in ")[0]))
+        self.same("the example", run(*BY_POST, "--names", given=POST).out.splitlines()[4],
+                  b"5 bad V10 NoTerminator at=314 object=1 field=6 reads=63 in items[1]@Note [post.Delivery.items]")
+        self.same("good buffers have no place", run(*BY_N, given=SEVEN * 2), good(f"1 {YES}", f"2 {YES}"))
+        self.same("nor has nothing", run(*BY_N), good())
 
-    trees = b"".join(damaged(tree_message))
-    for name, words, stream, owner in [
-        ("deliveries", BY_POST, many, post_owner),
-        ("deliveries, as they come", (*BY_POST, "--no-alignment", "--inline-size"), many, post_owner),
-        ("few reads", (*BY_POST, "--max-reads", "70"), many, post_owner),
-        ("few tables", (*BY_POST, "--max-tables", "4"), many, post_owner),
-        ("trees", BY_TREE[:2], trees, tree_owner),
-        ("low trees", (*BY_TREE[:2], "--max-depth", "2"), trees, tree_owner),
-        ("unaligned trees", (*BY_TREE[:2], "--no-alignment"), trees, tree_owner),
-    ]:
-        plain, ran = run(*words, given=stream), run(*words, "--names", given=stream)
-        cases.same(f"{name}: the status", ran.status, plain.status)
-        without = re.sub(rb" in [^ ]+ \[[^ \]]+\]$", b"", ran.out, flags=re.M)
-        cases.same(f"{name}: the lines without their places are those without the option", without, plain.out)
-        found = {}
-        for line in ran.out.decode().splitlines():
-            if " bad " in line:
-                place, _, brackets = line.partition(" in ")[2].partition(" ")
-                found.setdefault((place, brackets, f"[{owner(line)}]"), line)
-            elif " in " in line:
-                cases.holds(f"{name}: a good line has no place", False, line)
-        cases.holds(f"{name}: places of many kinds", len(found) > 9, found.keys())
-        for (place, brackets, want), line in found.items():
-            cases.same(f"{name}: the brackets of {line}", brackets, want)
-            named = re.search(r" field=\d+ ", line)
-            if place == ".":
-                cases.holds(f"{name}: the root has no field: {line}", not named, line)
-                continue
-            if named:
-                last = re.sub(r"@.*|\[.*", "", place.rpartition(".")[2])
-                cases.same(f"{name}: the last step of {line}", last, want[1:-1].rpartition(".")[2])
-            cases.same(f"{name}: {place} is a path", run(*words[:2], "--path", place), good())
+    def test_each_kind_of_place(self):
+        """The place at the end of a line whose beginning is that of a run without the option."""
+        leaf = {1: ENDLESS}
+        for name, root, code, want, words in [
+            ("a text", tree(must=ENDLESS), "V10", "must [zoo.Tree.must]", ()),
+            ("a required field", {}, "V9", "must [zoo.Tree.must]", ()),
+            ("an offset of 0 to a text", tree(must=("I", 0)), "V4", "must [zoo.Tree.must]", ()),
+            ("an offset of 0 to a table", tree(leaf=("I", 0)), "V4", "leaf [zoo.Tree.leaf]", ()),
+            ("an offset of 0 to a vector", tree(texts=("I", 0)), "V4", "texts [zoo.Tree.texts]", ()),
+            ("a table", tree(leaf=HEADLESS), "V8", "leaf [zoo.Leaf]", ()),
+            ("a field of a table", tree(leaf=leaf), "V10", "leaf.t [zoo.Leaf.t]", ()),
+            ("a struct at a place of 4", tree(spot=("B", 0)), "V3", "spot [zoo.Tree.spot]", ()),
+            ("the first element", tree(texts=[ENDLESS]), "V10", "texts[0] [zoo.Tree.texts]", ()),
+            ("the last element", tree(texts=["a", "b", ENDLESS]), "V10", "texts[2] [zoo.Tree.texts]", ()),
+            ("an element of two digits", tree(texts=["a"] * 10 + [ENDLESS]), "V10", "texts[10] [zoo.Tree.texts]", ()),
+            ("an element without offset", tree(texts=["a", None]), "V4", "texts[1] [zoo.Tree.texts]", ()),
+            ("a vector of numbers", tree(longs=Plain(b"", 8, 1000)), "V2", "longs [zoo.Tree.longs]", ()),
+            ("a vector of texts", tree(texts=Plain(b"", 4, 1000)), "V2", "texts [zoo.Tree.texts]", ()),
+            ("an element that is a table", tree(leaves=[{}, HEADLESS]), "V8", "leaves[1] [zoo.Leaf]", ()),
+            ("an element without offset to a table", tree(leaves=[{}, {}, None]), "V4", "leaves[2] [zoo.Tree.leaves]",
+             ()),
+            ("a field of such a table", tree(leaves=[{}, {}, leaf]), "V10", "leaves[2].t [zoo.Leaf.t]", ()),
+            ("a member that is a table", tree(**of_type(1, HEADLESS)), "V8", "any@Leaf [zoo.Leaf]", ()),
+            ("a member without offset", tree(**of_type(1, ("I", 0))), "V4", "any@Leaf [zoo.Tree.any]", ()),
+            ("a member that is a struct", tree(**of_type(2, ("I", 1 << 20))), "V2", "any@Spot [zoo.Tree.any]", ()),
+            ("a member that is a text", tree(**of_type(3, ENDLESS)), "V10", "any@Text [zoo.Tree.any]", ()),
+            ("a field of a member", tree(**of_type(1, leaf)), "V10", "any@Leaf.t [zoo.Leaf.t]", ()),
+            ("one of unions", tree(**of_types((3, "a"), (3, ENDLESS))), "V10", "anys[1]@Text [zoo.Tree.anys]", ()),
+            ("one of unions, of type 0", tree(**of_types((0, None), (1, HEADLESS))), "V8", "anys[1]@Leaf [zoo.Leaf]",
+             ()),
+            ("a field of one of unions", tree(**of_types((9, None), (1, leaf))), "V10", "anys[1]@Leaf.t [zoo.Leaf.t]",
+             ()),
+            ("one of unions without offset", tree(**of_types((1, None))), "V4", "anys[0]@Leaf [zoo.Tree.anys]", ()),
+            ("types that aren't as many", tree(anys=["a"]), "V11", "anys [zoo.Tree.anys]", ()),
+            ("types past the end", tree(anys_type=Plain(b"", 4, 5000)), "V2", "anys_type [zoo.Tree.anys_type]", ()),
+            ("three deep", tree(tree=tree(tree=tree(tree=tree(texts=["a", ENDLESS])))), "V10",
+             "tree.tree.tree.texts[1] [zoo.Tree.texts]", ()),
+            ("a required field three deep", tree(tree=tree(tree=tree(tree={}))), "V9",
+             "tree.tree.tree.must [zoo.Tree.must]", ()),
+            ("all three deep", tree(tree=tree(**of_types((3, "a"), (4, tree(**of_type(4, tree(leaves=[{}, leaf]))))))),
+             "V10", "tree.anys[1]@Tree.any@Tree.leaves[1].t [zoo.Leaf.t]", ()),
+            ("behind what is good", tree(leaf={1: "a"}, leaves=[{}, {1: "b"}], texts=["c"], tree=tree(),
+                                         longs=Plain(b"", 8, 0), must=ENDLESS), "V10", "must [zoo.Tree.must]", ()),
+            ("too deep by a field", tree(tree=tree(leaf={})), "V6", "tree.leaf [zoo.Tree.leaf]", ("--max-depth", "2")),
+            ("too deep by an element", tree(leaves=[{}]), "V6", "leaves[0] [zoo.Tree.leaves]", ("--max-depth", "1")),
+            ("too deep by a member", tree(**of_types((4, tree(**of_type(1, {}))))), "V6",
+             "anys[0]@Tree.any@Leaf [zoo.Tree.any]", ("--max-depth", "2")),
+            ("too many by an element", tree(leaves=[{}, {}, {}]), "V7", "leaves[2] [zoo.Tree.leaves]",
+             ("--max-tables", "3")),
+        ]:
+            given = buffer(root)
+            plain = run(*BY_TREE, *words, given=given)
+            self.same(f"{name}: the reason", (plain.status, plain.out.split()[2:3]), (1, [code.encode()]))
+            self.same(name, run(*BY_TREE, *words, "--names", given=given),
+                      plain._replace(out=plain.out[:-1] + f" in {want}\n".encode()))
+        by_node = ("--schema", FILES["NODE"], "--bare", "--names", "--reads-per-byte", "4294967295")
+        for count in 1, 2, 3, 21, 22, 1_000, 999_999, 1_000_000:
+            ran = run(*by_node, "--max-tables", str(count), given=buffers.doubling(21))
+            way = way_to_visit(21, count)
+            self.same(f"the visit past {count}", ran.out.decode().partition(" in ")[2], f"{way} [Node.{way[-1]}]\n")
 
+    def test_budgets_that_end_anywhere(self):
+        """The places where budgets of reads end, from the least on: what is absent is read too, by its slot."""
+        members = buffer(tree(**of_types((3, "a"), (9, None), (0, None))))
+        places = []
+        reads = int(run(*BY_TREE, given=members).out.rpartition(b"reads=")[2])
+        for budget in range(reads):
+            ran = run(*BY_TREE, "--names", "--max-reads", str(budget), given=members)
+            place = ran.out.decode().partition(" in ")[2]
+            if place not in places:
+                places.append(place)
+        ways = ["leaf", "leaves", "texts", "any_type", "any", "anys_type", "anys", "anys[0]@Text", "anys[1]", "anys[2]",
+                "tree", "longs", "spot", "must"]
+        self.same("the places where budgets end", places,
+                  [". [zoo.Tree]\n"] + [f"{way} [zoo.Tree.{way.partition('[')[0]}]\n" for way in ways])
+        unknown = buffer(tree(**of_type(9, ("I", 0))))
+        reads = int(run(*BY_TREE, given=unknown).out.rpartition(b"reads=")[2])
+        ends = [run(*BY_TREE, "--names", "--max-reads", str(budget), given=unknown).out.partition(b" in ")[2]
+                for budget in range(reads)]
+        self.holds("a union of unknown type is named without one", b"any [zoo.Tree.any]\n" in ends, ends)
+        self.holds("and nothing behind it", not any(b"@" in end for end in ends), ends)
 
-def words_of_names(cases):
-    for words in [["--names", "--names"], ["--names=yes"], ["--names="], ["--names", "yes"], ["--Names"], ["--name"]]:
-        ran = run(*words, given=SEVEN)
-        cases.same(f"{words} is status 2 and writes nothing", (ran.status, ran.out), (2, b""))
-        cases.holds(f"{words} is told on standard error", ran.err.startswith(b"error: ") and ran.err.endswith(b"\n"),
-                    ran.err)
-    cases.holds("help tells of it", b"--names" in run("--help").out, run("--help").out)
-    cases.holds("and what it does", b"End lines of bad buffers with the place in words" in run("--help").out)
-    cases.same("a filter with it takes no path all the same", run(*BY_N, "--filter", "--path", "v", given=SEVEN),
-               outside.refused("a filter takes no path"))
-    cases.same("a schema file's fault has no place", run("--schema", "/dev/null", "--names", given=SEVEN),
-               outside.refused("schema: L1 V2 OutOfBuffer at=4 object=9 field=- reads=0"))
+    def test_names_of_any_bytes(self):
+        """No name of a schema begins a line, or looks like the end of a place."""
+        strange = "x [y]\n2 ok"
+        plain = bytes(range(1, 256))
+        known = bytes(c if chr(c).isascii() and (chr(c).isalnum() or chr(c) in "_.") else 63 for c in plain)
+        for name, table_name, field_name, want in [
+            ("a name of lines", "a.b\n3 ok", strange, b"x??y??2?ok [a.b?3?ok.x??y??2?ok]"),
+            ("each byte", plain, "v", b"v [" + known + b".v]"),
+            ("each byte of a field", "T", plain, known + b" [T." + known + b"]"),
+            ("empty names", "", "", b" [.]"),
+            ("letters of two bytes", "é", "üb", b"??b [??.??b]"),
+        ]:
+            data = schema([table(table_name, field(field_name, TEXT, 4))], root=table_name)
+            words = "--schema", file_of("strange.bfbs", data), "--bare"
+            given = buffer({0: ENDLESS})
+            out = run(*words, given=given).out
+            self.holds(f"{name}: a bad buffer", b" bad V10 " in out, out)
+            self.same(name, run(*words, "--names", given=given), Ran(1, out[:-1] + b" in " + want + b"\n", b""))
 
+    def test_in_every_mode(self):
+        parts = [SEVEN, ODD, SEVEN, NOTHING, PAST, ODD, SEVEN]
+        stream = b"".join(parts)
+        bad_lines = b"".join(line for line in told(*parts).splitlines(keepends=True) if b" bad " in line)
+        self.same("a stream", run(*BY_N, given=stream), Ran(1, told(*parts), b""))
+        self.same("with --quiet", run(*BY_N, "--quiet", given=stream), Ran(1, bad_lines, b""))
+        self.same("with --filter", run(*BY_N, "--filter", given=stream), Ran(1, SEVEN * 3, bad_lines))
+        self.same("with both", run(*BY_N, "--filter", "--quiet", given=stream), Ran(1, SEVEN * 3, bad_lines))
+        for words in [["--quiet"], ["--filter"], []]:
+            plain = run(*BY_N[:2], *words, "--summary", given=stream)
+            ran = run(*BY_N, *words, "--summary", given=stream)
+            self.same(f"the summary, with {words}", ran.err.splitlines()[-1], plain.err.splitlines()[-1])
+            self.same(f"the lines before it, with {words}", (ran.out, ran.err[:-len(plain.err.splitlines()[-1]) - 1]),
+                      run(*BY_N, *words, given=stream)[1:])
+        with_value = told(*parts).replace(YES.encode(), f"{YES} 7".encode())
+        self.same("with a path", run(*BY_N, "--path", "v", given=stream), Ran(1, with_value, b""))
+        self.same("with a path, quietly", run(*BY_N, "--path", "v", "--quiet", given=stream), Ran(1, bad_lines, b""))
+        by_m = "--schema", FILES["M"], "--bare", "--names"
+        cut = lines("1 bad V2 OutOfBuffer at=28 object=0 field=1 reads=7 in name [M.name]")
+        self.same("bare", run(*by_m, given=ORC[:31]), Ran(1, cut, b""))
+        self.same("bare, quietly", run(*by_m, "--quiet", given=ORC[:31]), Ran(1, cut, b""))
+        self.same("bare, with --filter", run(*by_m, "--filter", given=ORC[:31]), Ran(1, b"", cut))
+        self.same("bare, with a path", run(*by_m, "--path", "name", given=ORC[:31]), Ran(1, cut, b""))
+        self.same("a good one, with a path", run(*by_m, "--path", "name", given=ORC),
+                  good('1 ok tables=1 depth=1 reads=8 "Orc"'))
+        self.same("a good one passes the filter", run(*by_m, "--filter", given=ORC), Ran(0, ORC, b""))
+        limited = run(*BY_POST, "--names", "--max-reads", "40", given=POST).out
+        self.holds("a place in each bad line of the example, and in no other",
+                   all((b" bad " in line) == (b" in " in line) for line in limited.splitlines()), limited)
 
-if __name__ == "__main__":
-    outside.main(
-        the_line_is_told, each_kind_of_place, budgets_that_end_anywhere, names_of_any_bytes, in_every_mode,
-        the_library_is_built, streams_that_are_cut, outputs_that_take_no_more, places_of_many_steps,
-        memory_that_is_refused, each_place_is_a_path, words_of_names,
-    )
+    def test_streams_that_are_cut(self):
+        parts = [SEVEN, ODD, PAST, SEVEN]
+        stream = b"".join(parts)
+        for length in range(len(stream) + 1):
+            whole, held = divmod(length, 32)
+            text = f"stream: S2 Truncated held={held}"
+            want = Ran(1 if whole > 1 else 0, told(*parts[:whole]), b"")
+            if held:
+                want = Ran(3, told(*parts[:whole]), lines(f"fbcheck: {text}"))
+            self.same(f"cut off after {length} bytes", run(*BY_N, given=stream[:length]), want)
+        self.same("a prefix past the limit", run(*BY_N, given=ODD + spelled("ffffffff")),
+                  failed("stream: S1 Oversize declared=4294967295", f"1 {NO[ODD]}"))
+        for most in 1, 3, 31, 32, 33, 100:
+            self.same(f"in pieces of {most}", narrowed(*BY_N, given=stream, read=most, write=1),
+                      Ran(1, told(*parts), b""))
+        with Talk(*BY_N) as talk:
+            for number, part in enumerate(parts, 1):
+                talk.say(part)
+                self.same(f"line {number}, while the pipe stays open", talk.hear(),
+                          lines(f"{number} {NO.get(part, YES)}"))
+            self.same("the end", talk.end(), Ran(1, b"", b""))
+
+    def test_outputs_that_take_no_more(self):
+        first = lines(f"1 {NO[ODD]}")
+        for name, redirections in [("a full device", ">/dev/full"), ("closed standard output", ">&-")]:
+            self.same(name, run_in_shell(redirections, *BY_N, given=ODD),
+                      Ran(3, b"", b"fbcheck: write failed after 0 bytes\n"))
+        for name, redirections in [("full standard error", "2>/dev/full"), ("closed standard error", "2>&-")]:
+            self.same(name, run_in_shell(redirections, *BY_N, "--filter", given=SEVEN + ODD), Ran(3, SEVEN, b""))
+        with Talk(*BY_N) as talk:
+            talk.say(ODD)
+            self.same("the first line comes", talk.hear(), first)
+            talk.run.stdout.close()
+            talk.run.stdin.write(ODD)
+            talk.run.stdin.close()
+            self.same("the second can't be written", (talk.run.stderr.read(), talk.run.wait(SECONDS)),
+                      (f"fbcheck: write failed after {len(first)} bytes\n".encode(), 3))
+        whole = told(ODD, PAST)
+        for room in range(len(whole)):
+            self.same(f"room for {room} bytes", narrowed(*BY_N, given=ODD + PAST, room=room),
+                      Ran(3, whole[:room], lines(f"fbcheck: write failed after {room} bytes")))
+
+    def test_places_of_many_steps(self):
+        """A place is as long as its names and the depth make it."""
+        def way(step, count):
+            return ".".join([step] * count).encode() or b"."
+
+        deep = "--max-depth", "4096"
+        for step in "next", "n" * 100:
+            path = file_of("long.bfbs", schema([table("L", field(step, an_object(0), 4))], root="L"))
+            words = "--schema", path, *deep
+            for count in 1, 2, 3, 64, 654, 656, 1000, 4096:
+                given = broken(count)
+                plain = run(*words, "--bare", given=given).out
+                want = plain[:-1] + b" in " + way(step, count - 1) + b" [L]\n"
+                self.same(f"{count} tables by {len(step)} letters", run(*words, "--bare", "--names", given=given),
+                          Ran(1, want, b""))
+                self.same(f"{count} tables by {len(step)} letters, in the notes",
+                          run(*words, "--bare", "--names", "--filter", given=given), Ran(1, b"", want))
+            stream = b"".join(prefixed(part) for part in [broken(4096), levels(2), broken(2), broken(4000), levels(1)])
+            ran = run(*words, "--names", given=stream)
+            plain = run(*words, given=stream).out.splitlines()
+            ways = {0: 4095, 2: 1, 3: 3999}
+            want = [line + b" in " + way(step, ways[number]) + b" [L]" if number in ways else line
+                    for number, line in enumerate(plain)]
+            self.same(f"a stream by {len(step)} letters", (ran.status, ran.out.splitlines()), (1, want))
+            for room in 0, 10, 60, 65_000, 65_600, len(ran.out) - 60, len(ran.out) - 1:
+                if room < len(ran.out):
+                    self.same(f"a stream by {len(step)} letters, with room for {room}",
+                              narrowed(*words, "--names", given=stream, room=room),
+                              Ran(3, ran.out[:room], lines(f"fbcheck: write failed after {room} bytes")))
+        told = b"1 bad V6 TooDeep at=32776 object=0 field=0 reads=16381 in " + way("next", 4095) + b" [L.next]\n"
+        self.same("one level too many",
+                  run("--schema", FILES["CHAIN"], "--bare", "--names", "--max-depth", "4095", given=levels(4096)),
+                  Ran(1, told, b""))
+
+    def test_memory_that_is_refused(self):
+        """A front of whole lines is written, whichever request is refused."""
+        chain = ["--schema", str(FILES["CHAIN"]), "--names"]
+        long = schema([table("L", field("n" * 500, an_object(0), 4))], root="L")
+        by_long = ["--schema", str(file_of("memory.bfbs", long)), "--names"]
+        stream = b"".join(prefixed(part) for part in [broken(2), levels(2), broken(20), broken(5), broken(60)])
+        for plan in [
+            Plan("places", chain, stream, 1),
+            Plan("places, in pieces", chain, stream, 1, most=100),
+            Plan("long places", by_long, stream, 1),
+            Plan("a place of a bare input", [*by_long, "--bare"], broken(9), 1),
+            Plan("places of the example", [*map(str, BY_POST), "--names"], POST, 1),
+            Plan("quiet places", [*chain, "--quiet"], stream, 1),
+        ]:
+            for extent in ALONE, WITH_LATER:
+                self.same(f"{plan.name}, refused {extent}", plan.faults(extent, is_front), [])
+
+    def test_what_is_asked_for_once(self):
+        """The room for links is made before the first read, and that for words with the first place of its length."""
+        words = [PROGRAM, "--schema", FILES["CHAIN"], "--names"]
+        quiet = refusing([*words, "--quiet"], prefixed(levels(9)))
+        self.same("a good message asks for nothing", (quiet.status, quiet.reads[0]), (0, quiet.asked))
+        part = prefixed(broken(9))
+        twice, often = [refusing(words, part * count, most=len(part)) for count in (2, 40)]
+        self.same("places of one length ask once", (often.status, often.asked), (1, twice.asked))
+
+    def test_each_place_is_a_path(self):
+        """Each byte of good messages changed to some others: what the lines of bad ones end with."""
+        parts = [POST[:512], POST[-200:]]
+        many = b"".join(piece for part in parts for piece in damaged(part))
+        tree_message = buffer(tree(
+            leaf={0: ("i", 1), 1: "a"}, leaves=[{}, {1: "b"}], texts=["c", ""], longs=Plain(bytes(16), 8, 2),
+            tree=tree(texts=["d"], **of_type(4, tree())),
+            **of_types((3, "e"), (1, {1: "f"}), (4, tree(leaves=[{1: "g"}]))),
+        ), prefix=True)
+        fields = {"zoo.Leaf": ["n", "t"], "zoo.Tree": TREE_FIELDS}
+        numbers = ["zoo.Leaf", "zoo.Spot", "zoo.Tree"]
+
+        def tree_owner(line):
+            name = numbers[int(re.search(r" object=(\d+) ", line)[1])]
+            number = re.search(r" field=(\d+) ", line)
+            return name + (f".{fields[name][int(number[1])]}" if number else "")
+
+        trees = b"".join(damaged(tree_message))
+        for name, words, stream, owner in [
+            ("deliveries", BY_POST, many, post_owner),
+            ("deliveries, as they come", (*BY_POST, "--no-alignment", "--inline-size"), many, post_owner),
+            ("few reads", (*BY_POST, "--max-reads", "70"), many, post_owner),
+            ("few tables", (*BY_POST, "--max-tables", "4"), many, post_owner),
+            ("trees", BY_TREE[:2], trees, tree_owner),
+            ("low trees", (*BY_TREE[:2], "--max-depth", "2"), trees, tree_owner),
+            ("unaligned trees", (*BY_TREE[:2], "--no-alignment"), trees, tree_owner),
+        ]:
+            plain, ran = run(*words, given=stream), run(*words, "--names", given=stream)
+            self.same(f"{name}: the status", ran.status, plain.status)
+            without = re.sub(rb" in [^ ]+ \[[^ \]]+\]$", b"", ran.out, flags=re.M)
+            self.same(f"{name}: the lines without their places are those without the option", without, plain.out)
+            found = {}
+            for line in ran.out.decode().splitlines():
+                if " bad " in line:
+                    place, _, brackets = line.partition(" in ")[2].partition(" ")
+                    found.setdefault((place, brackets, f"[{owner(line)}]"), line)
+                elif " in " in line:
+                    self.holds(f"{name}: a good line has no place", False, line)
+            self.holds(f"{name}: places of many kinds", len(found) > 9, found.keys())
+            for (place, brackets, want), line in found.items():
+                self.same(f"{name}: the brackets of {line}", brackets, want)
+                named = re.search(r" field=\d+ ", line)
+                if place == ".":
+                    self.holds(f"{name}: the root has no field: {line}", not named, line)
+                    continue
+                if named:
+                    last = re.sub(r"@.*|\[.*", "", place.rpartition(".")[2])
+                    self.same(f"{name}: the last step of {line}", last, want[1:-1].rpartition(".")[2])
+                self.same(f"{name}: {place} is a path", run(*words[:2], "--path", place), good())
+
+    def test_words_of_names(self):
+        for words in [["--names", "--names"], ["--names=yes"], ["--names="], ["--names", "yes"], ["--Names"],
+                      ["--name"]]:
+            ran = run(*words, given=SEVEN)
+            self.same(f"{words} is status 2 and writes nothing", (ran.status, ran.out), (2, b""))
+            self.holds(f"{words} is told on standard error", ran.err.startswith(b"error: ") and ran.err.endswith(b"\n"),
+                       ran.err)
+        self.holds("help tells of it", b"--names" in run("--help").out, run("--help").out)
+        self.holds("and what it does", b"End lines of bad buffers with the place in words" in run("--help").out)
+        self.same("a filter with it takes no path all the same", run(*BY_N, "--filter", "--path", "v", given=SEVEN),
+                  refused("a filter takes no path"))
+        self.same("a schema file's fault has no place", run("--schema", "/dev/null", "--names", given=SEVEN),
+                  refused("schema: L1 V2 OutOfBuffer at=4 object=9 field=- reads=0"))

@@ -1,109 +1,21 @@
-#!/usr/bin/env python3
 """Refuses each request for memory that a program makes, one after another, and asks that the call that met the refusal
-tells its own want of memory and nothing else.
+tells its own want of memory and nothing else."""
 
-tests/memory/refuse.c, which `cc` builds here, is loaded before the programs: it counts their requests of the C
-library, and refuses the one with a given number, alone or with all later ones. tests/ends/narrow.c gives the input of
-some of them in pieces.
-"""
+import dataclasses
 
-import concurrent.futures
-import os
-import pathlib
-import subprocess
-import sys
-import tempfile
-from dataclasses import dataclass
-
-# (no cache of the module is left in the tree)
-sys.dont_write_bytecode = True
-
-from probes import TOP, Tally, program
+from tests.support.builder import messages_of
+from tests.support.buffers import POST
+from tests.support.cases import Case
+from tests.support.preloaded import (
+    ALONE, WHOLE, WITH_LATER, Plan, is_front, is_front_of_messages, is_nothing, refusing, sweep,
+)
+from tests.support.program import PROGRAM, TOP, built
 
 EXAMPLES = TOP / "examples"
 SCHEMA = EXAMPLES / "deliveries.bfbs"
-STREAM = (EXAMPLES / "deliveries.bin").read_bytes()
-
-# How many runs are under way at once.
-AT_ONCE = 4
-
-# Which later requests are refused beside the one that is asked for.
-ALONE, WITH_LATER = "alone", "with all later ones"
-
-# As many bytes as a read asks for, up to the length of the read buffer.
-WHOLE = 65_536
 
 
-@dataclass
-class Run:
-    """What a run answered, and what it asked for."""
-
-    status: int
-    out: bytes
-    err: bytes
-    # the requests made before each read of standard input
-    reads: list
-    # the requests made before each write to standard output, and the bytes of the write
-    writes: list
-    asked: int
-    refused: int
-
-    def lines(self):
-        return self.out.decode().splitlines()
-
-    def asked_before(self):
-        """For each line, the number of requests made before its first byte was written."""
-        starts, at = {}, 0
-        for asked, length in self.writes:
-            starts[at] = asked
-            at += length
-        told, at, begin = [], 0, 0
-        for line in self.out.splitlines(keepends=True):
-            begin = max(start for start in starts if start <= at)
-            told.append(starts[begin])
-            at += len(line)
-        return told
-
-
-class Refuser:
-    """Runs programs under the library that refuses."""
-
-    def __init__(self, folder):
-        self.folder = pathlib.Path(folder)
-        self.libraries = []
-        for source in ("ends/narrow.c", "memory/refuse.c"):
-            self.libraries.append(self.folder / f"{pathlib.Path(source).stem}.so")
-            subprocess.run(["cc", "-O2", "-shared", "-fPIC", "-o", self.libraries[-1], TOP / "tests" / source],
-                           check=True)
-
-    def run(self, words, given, first=0, extent=ALONE, most=WHOLE):
-        """One run, in which the request numbered `first` is refused; none where it is 0. `most` is how many bytes a read
-        of standard input gives."""
-        handle, report = tempfile.mkstemp(dir=self.folder)
-        os.close(handle)
-        settings = {
-            "LD_PRELOAD": " ".join(map(str, self.libraries)),
-            "NARROW_READ": str(most),
-            "REFUSE_FIRST": str(first),
-            "REFUSE_LATER": "1" if extent == WITH_LATER else "0",
-            "REFUSE_REPORT": report,
-        }
-        ran = subprocess.run(words, input=given, capture_output=True, env=settings, timeout=60)
-        *calls, (end, asked, refused) = [line.split() for line in pathlib.Path(report).read_text().splitlines()]
-        os.remove(report)
-        assert end == "end", calls
-        reads = [int(before) for call, before, _ in calls if call == "read"]
-        writes = [(int(before), int(length)) for call, before, length in calls if call == "write"]
-        return Run(ran.returncode, ran.stdout, ran.stderr, reads, writes, int(asked), int(refused))
-
-    def sweep(self, words, given, extent, most=WHOLE):
-        """A run for each request of a run that meets no refusal, in which it is refused."""
-        asked = self.run(words, given, most=most).asked
-        with concurrent.futures.ThreadPoolExecutor(AT_ONCE) as runs:
-            yield from runs.map(lambda first: self.run(words, given, first, extent, most), range(1, asked + 1))
-
-
-@dataclass
+@dataclasses.dataclass
 class Call:
     """A call of `probe calls`: how it tells that it came to its end, and that memory was refused.
 
@@ -140,64 +52,7 @@ def told_of_calls(given, refused_at, extent):
     return lines
 
 
-def reading_fault(run):
-    """What is wrong with a run whose request for its words or its input was refused."""
-    if (run.status, run.out, run.err) != (3, b"", b"probe: out of memory\n"):
-        return f"{run.status}, {run.out!r}, {run.err!r}"
-    return None
-
-
-def calls_faults(refuser, probe, extent):
-    """Refuses each request of `probe calls` over a schema file."""
-    given = SCHEMA.read_bytes()
-    words = [probe, "calls"]
-    whole = refuser.run(words, given)
-    if whole.lines() != told_of_calls(given, len(CALLS), ALONE) or whole.status != 0:
-        return [f"without a refusal: {whole}"]
-    until = whole.asked_before()
-    if any(before == after for before, after in zip(until, until[1:])) or until[-1] != whole.asked:
-        return [f"a call makes no request, or one is made after them: {until}, {whole.asked}"]
-    faults = []
-    for first, run in enumerate(refuser.sweep(words, given, extent), 1):
-        if run.refused == 0:
-            faults.append(f"request {first} was not met")
-        elif first <= until[0]:
-            fault = reading_fault(run)
-            faults += [f"request {first}: {fault}"] if fault else []
-        else:
-            call = next(number for number, last in enumerate(until[1:]) if first <= last)
-            if run.lines() != told_of_calls(given, call, extent) or run.err or run.status != 0:
-                faults.append(f"request {first}, in {CALLS[call].name}: {run.status}, {run.lines()}, {run.err!r}")
-    print(f"{whole.asked} requests of the calls, each refused {extent}: the last of each call is {until[1:]}")
-    return faults
-
-
-@dataclass
-class Case:
-    """A run of the program: its words and its input, and the status by which it ends where nothing is refused.
-
-    `guesses` is how many of its requests may be refused alone without a change. Where a list is collected, the
-    toolchain's library first asks for room for as many items as there may be; where that is refused, it asks for what
-    it needs. Every run collects its words so. `most` is how many bytes of the input one read gives.
-    """
-
-    name: str
-    words: list
-    given: bytes
-    status: int
-    guesses: int = 1
-    most: int = WHOLE
-
-
-def messages(stream):
-    """The size-prefixed messages of a stream."""
-    while stream:
-        end = 4 + int.from_bytes(stream[:4], "little")
-        yield stream[:end]
-        stream = stream[end:]
-
-
-MESSAGES = list(messages(STREAM))
+MESSAGES = messages_of(POST)
 # Messages that grow, so that more room is asked for between two lines.
 GROWING = b"".join(sorted(MESSAGES, key=len))
 BARE = MESSAGES[0][4:]
@@ -210,130 +65,83 @@ MANY_WORDS = [
 
 # Runs over an input. Where memory is refused, a front of whole lines is written.
 RUNS = [
-    Case("a schema and a path, over a stream", [*LOADED, *PATH], STREAM, 1),
-    Case("a schema and a path, over a stream of growing messages", [*LOADED, *PATH], GROWING, 1),
-    Case("the same stream of growing messages, by 100 bytes", [*LOADED, *PATH], GROWING, 1, most=100),
-    Case("the same stream of growing messages, byte by byte", [*LOADED, *PATH], GROWING, 1, most=1),
-    Case("a schema and a path, over a bare input", [*LOADED, *PATH, "--bare", "--no-alignment"], BARE, 0),
-    Case("the same bare input, by 100 bytes", [*LOADED, *PATH, "--bare", "--no-alignment"], BARE, 0, most=100),
-    Case("many words, over a stream", [*LOADED, *MANY_WORDS], STREAM, 1),
-    Case("no schema, over a schema file", ["--bare"], SCHEMA.read_bytes(), 0),
+    Plan("a schema and a path, over a stream", [*LOADED, *PATH], POST, 1),
+    Plan("a schema and a path, over a stream of growing messages", [*LOADED, *PATH], GROWING, 1),
+    Plan("the same stream of growing messages, by 100 bytes", [*LOADED, *PATH], GROWING, 1, most=100),
+    Plan("the same stream of growing messages, byte by byte", [*LOADED, *PATH], GROWING, 1, most=1),
+    Plan("a schema and a path, over a bare input", [*LOADED, *PATH, "--bare", "--no-alignment"], BARE, 0),
+    Plan("the same bare input, by 100 bytes", [*LOADED, *PATH, "--bare", "--no-alignment"], BARE, 0, most=100),
+    Plan("many words, over a stream", [*LOADED, *MANY_WORDS], POST, 1),
+    Plan("no schema, over a schema file", ["--bare"], SCHEMA.read_bytes(), 0),
 ]
 
 # Words that are answered before any input is read. Where memory is refused nothing is written to standard output: help
 # that can't be made whole isn't begun.
 ANSWERS = [
-    Case("help", ["--help"], b"", 0),
-    Case("a number out of its range", ["--max-depth", "4097"], b"", 2),
-    Case("an option without its value", ["--schema"], b"", 2),
+    Plan("help", ["--help"], b"", 0),
+    Plan("a number out of its range", ["--max-depth", "4097"], b"", 2),
+    Plan("an option without its value", ["--schema"], b"", 2),
     # The letters of this word, and of each option that it may be meant for, are collected too.
-    Case("a word that is no option", ["--pith"], b"", 2, guesses=80),
-    Case("an identifier of three bytes", ["--ident", "abc"], b"", 2),
-    Case("a filter with a path", ["--filter", "--path", "name"], b"", 2),
-    Case("a schema file that isn't there", ["--schema", "/none/such"], b"", 2),
-    Case("a schema file that isn't one", ["--schema", str(EXAMPLES / "deliveries.fbs")], b"", 2),
-    Case("a root that isn't there", [*LOADED, "--root", "post.None"], STREAM, 2),
-    Case("a path that doesn't fit", [*LOADED, "--path", "none"], STREAM, 2),
+    Plan("a word that is no option", ["--pith"], b"", 2, guesses=80),
+    Plan("an identifier of three bytes", ["--ident", "abc"], b"", 2),
+    Plan("a filter with a path", ["--filter", "--path", "name"], b"", 2),
+    Plan("a schema file that isn't there", ["--schema", "/none/such"], b"", 2),
+    Plan("a schema file that isn't one", ["--schema", str(EXAMPLES / "deliveries.fbs")], b"", 2),
+    Plan("a root that isn't there", [*LOADED, "--root", "post.None"], POST, 2),
+    Plan("a path that doesn't fit", [*LOADED, "--path", "none"], POST, 2),
 ]
-
-
-def is_front(out, whole):
-    """Whether what was written is a front of whole lines of what is written without a refusal."""
-    return whole.startswith(out) and (out == b"" or out.endswith(b"\n"))
-
 
 # Runs of a filter over good messages. Where memory is refused, a front of whole messages is passed on.
 GOOD = [message for number, message in enumerate(MESSAGES, 1) if number != 5]
 FILTERS = [
-    Case("a filter, over a stream", [*LOADED, "--filter"], b"".join(GOOD), 0),
-    Case("a filter, over a stream of growing messages", [*LOADED, "--filter"], b"".join(sorted(GOOD, key=len)), 0),
+    Plan("a filter, over a stream", [*LOADED, "--filter"], b"".join(GOOD), 0),
+    Plan("a filter, over a stream of growing messages", [*LOADED, "--filter"], b"".join(sorted(GOOD, key=len)), 0),
 ]
 
 
-def is_front_of_messages(out, whole):
-    parts = list(messages(whole))
-    return out in [b"".join(parts[:count]) for count in range(len(parts) + 1)]
-
-
-def is_nothing(out, _whole):
-    return out == b""
-
-
-def case_faults(refuser, fbcheck, case, extent, may_be_written):
-    """Refuses each request of a run of the program. Nothing is read where one is refused that comes before the first
-    read."""
-    words = [fbcheck, *case.words]
-    whole = refuser.run(words, case.given, most=case.most)
-    if whole.status != case.status or not whole.out + whole.err:
-        return [f"without a refusal: {whole}"]
-    if case.most < WHOLE and len(whole.reads) != -(-len(case.given) // case.most) + 1:
-        return [f"pieces of another length: {whole.reads}"]
-    before_reads = whole.reads[0] if whole.reads else whole.asked
-    unchanged, faults, fronts = [], [], set()
-    for first, run in enumerate(refuser.sweep(words, case.given, extent, case.most), 1):
-        fronts.add(run.out)
-        if run.refused == 0:
-            faults.append(f"request {first} was not met")
-        elif (run.status, run.out, run.err) == (whole.status, whole.out, whole.err) and run.asked > whole.asked:
-            unchanged.append(first)
-        elif (run.status, run.err) != (3, b"fbcheck: out of memory\n") or not may_be_written(run.out, whole.out):
-            faults.append(f"request {first}: {run.status}, {run.out!r}, {run.err!r}")
-        elif first <= before_reads and run.reads:
-            faults.append(f"request {first} is refused, and the input is read")
-    if len(unchanged) > (case.guesses if extent == ALONE else 0):
-        faults.append(f"refused without a change: {unchanged}")
-    parts = fronts - {b"", whole.out}
-    if may_be_written is is_front and whole.out.count(b"\n") > 1 and not parts:
-        faults.append("no run wrote some of the lines alone")
-    print(f"{whole.asked} requests, each refused {extent}, {len(fronts)} fronts: {case.name}")
-    return faults
-
-
-def own_memory_faults(refuser, fbcheck):
-    """What a run needs whatever comes is asked for before the first read: a message that stands whole in a piece takes
-    no memory but for its line, and a bare input takes none before it's known to be short enough."""
-    faults = []
-    for words, given, status in [
-        ([*LOADED, "--quiet"], MESSAGES[0], 0),
-        ([*LOADED, "--bare", "--max-bytes", "8"], bytes(9), 3),
-    ]:
-        run = refuser.run([fbcheck, *words], given)
-        if (run.status, run.reads[:1]) != (status, [run.asked]):
-            faults.append(f"{words}: {run}")
-    return faults
-
-
-def oversize_faults(refuser, fbcheck, most):
-    """A prefix that declares too much makes no request: the same requests are made without it."""
-    message = MESSAGES[0]
-    words = [fbcheck, *LOADED]
-    alone = refuser.run(words, message, most=most)
-    oversize = refuser.run(words, message + b"\xff" * 4, most=most)
-    faults = []
-    if (alone.status, alone.err) != (0, b""):
-        faults.append(f"the message alone: {alone}")
-    if (oversize.status, oversize.err) != (3, b"fbcheck: stream: S1 Oversize declared=4294967295\n"):
-        faults.append(f"with the prefix: {oversize}")
-    if oversize.asked != alone.asked or oversize.out != alone.out:
-        faults.append(f"{alone.asked} requests alone and {oversize.asked} with the prefix")
-    return faults
-
-
-def main():
-    tally = Tally()
-    probe, fbcheck = program("probe"), program("fbcheck")
-    with tempfile.TemporaryDirectory() as folder:
-        refuser = Refuser(folder)
+class RefusedMemory(Case):
+    def test_each_call(self):
+        """Each request of `probe calls` over a schema file."""
+        given = SCHEMA.read_bytes()
+        words = [built("probe"), "calls"]
+        whole = refusing(words, given)
+        self.same("without a refusal", (whole.lines(), whole.status), (told_of_calls(given, len(CALLS), ALONE), 0))
+        until = whole.asked_before()
+        self.holds("each call makes a request, and none is made after them",
+                   all(before != after for before, after in zip(until, until[1:])) and until[-1] == whole.asked, until)
         for extent in ALONE, WITH_LATER:
-            tally.case(f"each call, {extent}", calls_faults(refuser, probe, extent))
-            for cases, may_be_written in (RUNS, is_front), (FILTERS, is_front_of_messages), (ANSWERS, is_nothing):
-                for case in cases:
-                    tally.case(f"{case.name}, {extent}", case_faults(refuser, fbcheck, case, extent, may_be_written))
-        tally.case("what is asked for before the first read", own_memory_faults(refuser, fbcheck))
+            for first, run in enumerate(sweep(words, given, extent), 1):
+                told = run.status, run.lines(), run.err, run.refused > 0
+                if first <= until[0]:
+                    want = 3, [], b"probe: out of memory\n", True
+                else:
+                    call = next(number for number, last in enumerate(until[1:]) if first <= last)
+                    want = 0, told_of_calls(given, call, extent), b"", True
+                self.same(f"request {first}, {extent}", told, want)
+
+    def test_each_run(self):
+        for extent in ALONE, WITH_LATER:
+            for plans, may_be_written in (RUNS, is_front), (FILTERS, is_front_of_messages), (ANSWERS, is_nothing):
+                for plan in plans:
+                    self.same(f"{plan.name}, {extent}", plan.faults(extent, may_be_written), [])
+
+    def test_what_is_asked_for_before_the_first_read(self):
+        """What a run needs whatever comes: a message that stands whole in a piece takes no memory but for its line, and
+        a bare input takes none before it's known to be short enough."""
+        for words, given, status in [
+            ([*LOADED, "--quiet"], MESSAGES[0], 0),
+            ([*LOADED, "--bare", "--max-bytes", "8"], bytes(9), 3),
+        ]:
+            run = refusing([PROGRAM, *words], given)
+            self.same(words, (run.status, run.reads[:1]), (status, [run.asked]))
+
+    def test_an_oversize_prefix(self):
+        """A prefix that declares too much makes no request: the same requests are made without it."""
+        words = [PROGRAM, *LOADED]
         for most in 1, 511, 512, 513, WHOLE:
-            tally.case(f"an oversize prefix, by {most} bytes", oversize_faults(refuser, fbcheck, most))
-    return tally.end()
-
-
-if __name__ == "__main__":
-    sys.exit(main())
+            alone = refusing(words, MESSAGES[0], most=most)
+            oversize = refusing(words, MESSAGES[0] + b"\xff" * 4, most=most)
+            self.same(f"the message alone, by {most} bytes", (alone.status, alone.err), (0, b""))
+            told = oversize.status, oversize.err, oversize.out, oversize.asked
+            self.same(f"with the prefix, by {most} bytes", told,
+                      (3, b"fbcheck: stream: S1 Oversize declared=4294967295\n", alone.out, alone.asked))

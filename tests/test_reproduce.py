@@ -9,7 +9,9 @@ import os
 import shutil
 import subprocess
 
-import outside
+from tests.support.cases import Case
+from tests.support.program import FOLDER, PROGRAM, TOP, file_of
+from tests.support.scripts import Scripts
 
 # Stands for rt: the program is a file of the sources, with what the variable ADDS names in the place where it's built.
 RT = """#!/bin/bash
@@ -20,26 +22,19 @@ mkdir -p out
 { cat src/main.rt; [ -z "${ADDS:-}" ] || eval "echo \\"# $ADDS\\""; } > out/fbcheck
 chmod +x out/fbcheck
 """
-PROGRAM = "#!/bin/bash\necho the program\n"
+SOURCE = "#!/bin/bash\necho the program\n"
 
 
-class Repository:
+class Repository(Scripts):
     """A repository with the scripts and one file of sources, and its own rt."""
 
     def __init__(self, name, committed=True):
-        self.top = outside.FOLDER / name
-        self.bin = outside.FOLDER / f"{name} bin"
-        self.calls = outside.FOLDER / f"{name} calls"
-        (self.top / "crates/fbcheck/src").mkdir(parents=True)
-        self.bin.mkdir()
-        for script in ("fbcheck", "reproduce", ".gitignore"):
-            shutil.copy(outside.TOP / script, self.top / script)
-        (self.top / "crates.txt").write_text("fbcheck:\n")
-        (self.top / "crates/fbcheck/stdin").write_text("")
-        self.source = self.top / "crates/fbcheck/src/main.rt"
-        self.source.write_text(PROGRAM)
-        (self.bin / "rt").write_text(RT)
-        (self.bin / "rt").chmod(0o755)
+        super().__init__(name, ["build", "reproduce", ".gitignore"])
+        self.write("crates.txt", "fbcheck:\n")
+        self.write("crates/fbcheck/stdin", "")
+        self.source = self.write("crates/fbcheck/src/main.rt", SOURCE)
+        self.rt = self.write("bin/rt", RT)
+        self.calls = FOLDER / f"{name} calls"
         if committed:
             self.git("init", "--quiet")
             self.git("add", ".")
@@ -48,10 +43,10 @@ class Repository:
     def git(self, *words):
         return subprocess.run(["git", *words], cwd=self.top, check=True, capture_output=True, text=True).stdout
 
-    def call(self, *words, **more):
+    def call(self, *words, path=None, **more):
         """The status of a call, the lines that it prints, and what it tells."""
-        path = f"{self.bin}:{os.environ['PATH']}"
-        environment = {**os.environ, "PATH": path, "CALLS": str(self.calls), **more}
+        environment = {**os.environ, "CALLS": str(self.calls), **more}
+        environment["PATH"] = path or f"{self.bin}:{os.environ['PATH']}"
         ran = subprocess.run([self.top / "reproduce", *words], capture_output=True, text=True, timeout=60,
                              cwd=self.top, env=environment)
         return ran.returncode, ran.stdout.splitlines(), ran.stderr
@@ -65,79 +60,71 @@ def sums_of(lines):
     return [line.split()[0] for line in lines[1:-1]]
 
 
-def two_builds(cases):
-    here = Repository("two")
-    status, lines, err = here.call()
-    cases.same("the same", (status, lines[-1]), (0, "the same"))
-    cases.same("commit and kit", lines[0], f"commit {here.git('rev-parse', 'HEAD').strip()}, a kit")
-    cases.same("both sums", sums_of(lines), [sum_of(PROGRAM)] * 2)
-    calls = here.calls.read_text().splitlines()
-    cases.same("rt is called twice", [call.split(" in ")[0] for call in calls], ["rt run"] * 2)
-    differing = [len({call.split(" in ")[1].split(", ")[place] for call in calls}) for place in range(4)]
-    cases.same("in other folders, with other masks, times and languages", differing, [2] * 4)
-    folders = [call.split(" in ")[1].split(",")[0] for call in calls]
-    cases.same("which are gone, with all that was in them", [os.path.exists(folder) for folder in folders], [False] * 2)
-    left = [(here.top / f"out/reproduced-{number}").read_text() for number in (1, 2)]
-    cases.same("the programs are left in out", left, [PROGRAM] * 2)
-    cases.same("and nothing else has changed", here.git("status", "--porcelain"), "")
+class Reproduce(Case):
+    def test_two_builds(self):
+        here = Repository("two")
+        status, lines, err = here.call()
+        self.same("the same", (status, lines[-1]), (0, "the same"))
+        self.same("commit and kit", lines[0], f"commit {here.git('rev-parse', 'HEAD').strip()}, a kit")
+        self.same("both sums", sums_of(lines), [sum_of(SOURCE)] * 2)
+        calls = here.calls.read_text().splitlines()
+        self.same("rt is called twice", [call.split(" in ")[0] for call in calls], ["rt run"] * 2)
+        differing = [len({call.split(" in ")[1].split(", ")[place] for call in calls}) for place in range(4)]
+        self.same("in other folders, with other masks, times and languages", differing, [2] * 4)
+        folders = [call.split(" in ")[1].split(",")[0] for call in calls]
+        self.same("which are gone, with all that was in them", [os.path.exists(folder) for folder in folders],
+                  [False] * 2)
+        left = [(here.top / f"out/reproduced-{number}").read_text() for number in (1, 2)]
+        self.same("the programs are left in out", left, [SOURCE] * 2)
+        self.same("and nothing else has changed", here.git("status", "--porcelain"), "")
 
+    def test_builds_that_differ(self):
+        for name, adds in [("the folder", "$PWD"), ("the time", "$(date +%N)"), ("the mask", "$(umask)"),
+                           ("the language", "$LC_ALL"), ("the zone", "$TZ")]:
+            status, lines, _ = Repository(f"differs by {name}").call(ADDS=adds)
+            self.same(f"{name} in the program", (status, lines[-1], len(set(sums_of(lines)))), (1, "they differ", 2))
 
-def builds_that_differ(cases):
-    for name, adds in [("the folder", "$PWD"), ("the time", "$(date +%N)"), ("the mask", "$(umask)"),
-                       ("the language", "$LC_ALL"), ("the zone", "$TZ")]:
-        status, lines, _ = Repository(f"differs by {name}").call(ADDS=adds)
-        cases.same(f"{name} in the program", (status, lines[-1], len(set(sums_of(lines)))), (1, "they differ", 2))
+    def test_a_program_from_elsewhere(self):
+        here = Repository("elsewhere")
+        file = file_of("downloaded", SOURCE.encode())
+        status, lines, _ = here.call(file)
+        self.same("the same", (status, lines[-1], sums_of(lines)), (0, "the same", [sum_of(SOURCE)] * 2))
+        self.same("is told by its name", lines[1], f"{sum_of(SOURCE)}  {file}")
+        self.same("of one build", here.calls.read_text().count("rt run"), 1)
+        other = file_of("bent", SOURCE.replace("the", "a").encode())
+        status, lines, _ = here.call(other)
+        self.same("another", (status, lines[-1], len(set(sums_of(lines)))), (1, "they differ", 2))
 
+    def test_what_is_committed(self):
+        here = Repository("committed")
+        here.source.write_text(SOURCE + "# changed\n")
+        status, lines, err = here.call()
+        self.same("what isn't committed is left out", (status, sums_of(lines)), (0, [sum_of(SOURCE)] * 2))
+        self.same("and that is told", err.splitlines()[0], "reproduce: what isn't committed here is left out")
 
-def a_program_from_elsewhere(cases):
-    here = Repository("elsewhere")
-    file = outside.file_of("downloaded", PROGRAM.encode())
-    status, lines, _ = here.call(file)
-    cases.same("the same", (status, lines[-1], sums_of(lines)), (0, "the same", [sum_of(PROGRAM)] * 2))
-    cases.same("is told by its name", lines[1], f"{sum_of(PROGRAM)}  {file}")
-    cases.same("of one build", here.calls.read_text().count("rt run"), 1)
-    other = outside.file_of("bent", PROGRAM.replace("the", "a").encode())
-    status, lines, _ = here.call(other)
-    cases.same("another", (status, lines[-1], len(set(sums_of(lines)))), (1, "they differ", 2))
+    def test_what_can_not_be_told(self):
+        here = Repository("faults")
+        for name, words, more, text in [
+            ("two words", ["a", "b"], {}, "usage: ./reproduce [FILE]"),
+            ("no such file", ["nothing"], {}, "there is no file nothing"),
+            ("a folder", ["crates"], {}, "there is no file crates"),
+            ("a build that fails", [], {"FAILS": "1"}, "has failed; what it says stands above"),
+            ("no room for a clone", [], {"TMPDIR": "/dev/null"}, "no folder for the builds can be made"),
+        ]:
+            status, lines, err = here.call(*words, **more)
+            self.same(f"{name}: the status", (status, len(lines) <= 1), (2, True))
+            self.holds(f"{name}: is told", text in err, err)
+        outer = Repository("no clone", committed=False)
+        status, lines, err = outer.call(GIT_CEILING_DIRECTORIES=str(FOLDER))
+        self.same("a folder without a repository", (status, lines), (2, []))
+        self.holds("is told", "isn't a clone of the repository" in err, err)
+        here.rt.unlink()
+        status, _, err = here.call(path="/usr/bin:/bin")
+        if not shutil.which("rt", path="/usr/bin:/bin"):
+            self.same("no rt", (status, "rt is needed" in err), (2, True))
 
-
-def what_is_committed(cases):
-    here = Repository("committed")
-    here.source.write_text(PROGRAM + "# changed\n")
-    status, lines, err = here.call()
-    cases.same("what isn't committed is left out", (status, sums_of(lines)), (0, [sum_of(PROGRAM)] * 2))
-    cases.same("and that is told", err.splitlines()[0], "reproduce: what isn't committed here is left out")
-
-
-def what_can_not_be_told(cases):
-    here = Repository("faults")
-    for name, words, more, text in [
-        ("two words", ["a", "b"], {}, "usage: ./reproduce [FILE]"),
-        ("no such file", ["nothing"], {}, "there is no file nothing"),
-        ("a folder", ["crates"], {}, "there is no file crates"),
-        ("a build that fails", [], {"FAILS": "1"}, "has failed; what it says stands above"),
-        ("no room for a clone", [], {"TMPDIR": "/dev/null"}, "no folder for the builds can be made"),
-    ]:
-        status, lines, err = here.call(*words, **more)
-        cases.same(f"{name}: the status", (status, len(lines) <= 1), (2, True))
-        cases.holds(f"{name}: is told", text in err, err)
-    outer = Repository("no clone", committed=False)
-    status, lines, err = outer.call(GIT_CEILING_DIRECTORIES=str(outside.FOLDER))
-    cases.same("a folder without a repository", (status, lines), (2, []))
-    cases.holds("is told", "isn't a clone of the repository" in err, err)
-    (here.bin / "rt").unlink()
-    status, _, err = here.call(PATH=os.pathsep.join(["/usr/bin", "/bin"]))
-    if not shutil.which("rt", path="/usr/bin:/bin"):
-        cases.same("no rt", (status, "rt is needed" in err), (2, True))
-
-
-def the_program_names_no_folder(cases):
-    """The program itself holds nothing of the places where it was built."""
-    data = outside.PROGRAM.read_bytes()
-    for name in (str(outside.TOP), "crates/", "/out/"):
-        cases.holds(f"{name} isn't in it", name.encode() not in data)
-
-
-if __name__ == "__main__":
-    outside.main(two_builds, builds_that_differ, a_program_from_elsewhere, what_is_committed, what_can_not_be_told,
-                 the_program_names_no_folder)
+    def test_the_program_names_no_folder(self):
+        """The program itself holds nothing of the places where it was built."""
+        data = PROGRAM.read_bytes()
+        for name in (str(TOP), "crates/", "/out/"):
+            self.holds(f"{name} isn't in it", name.encode() not in data)

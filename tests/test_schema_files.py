@@ -1,4 +1,3 @@
-#!/usr/bin/env python3
 """Loads the schema files of tests/schema_files, and compares what the look-ups then answer with flatc's own listing of
 each file.
 
@@ -7,12 +6,9 @@ The listing is JSON that flatc wrote from the file; what the look-ups should ans
 
 import json
 import subprocess
-import sys
 
-# (no cache of the module is left in the tree)
-sys.dont_write_bytecode = True
-
-from probes import TOP, Tally, program
+from tests.support.cases import Case
+from tests.support.program import TOP, Ran, built
 
 FOLDER = TOP / "tests" / "schema_files"
 
@@ -102,25 +98,6 @@ def written(table, name):
     return "true" if table.get(name) else "false"
 
 
-def faults(probe, file):
-    """How what the probe tells of a schema file differs from what flatc tells."""
-    schema = json.loads(file.with_suffix(".json").read_text())
-    wanted = list(Listing(schema).lines())
-    with open(file, "rb") as given:
-        run = subprocess.run([probe, "list"], stdin=given, capture_output=True, timeout=60)
-    told = run.stdout.decode().splitlines()
-    if run.returncode != 0 or run.stderr:
-        return [f"status {run.returncode}, {run.stderr.decode()!r}"]
-    differing = [
-        f"line {number}: {got!r}, and flatc has {want!r}"
-        for number, (got, want) in enumerate(zip(told, wanted), 1)
-        if got != want
-    ]
-    if len(told) != len(wanted):
-        differing.append(f"{len(told)} lines, and flatc has {len(wanted)}")
-    return differing[:5]
-
-
 # A schema file of one table with a number and a text, of which every byte is known by hand: the probe's own example.
 PLAIN = TOP / "crates" / "probe" / "stdin"
 
@@ -135,17 +112,6 @@ FAULTS = [
     ("two fields in one slot", {124: 6}, 208, "fault L2 C4 BadSlot owner=0 part=1"),
 ]
 
-
-def changed_file_faults(probe, changes, end, wanted):
-    """How what the probe tells of a changed file differs from its fault."""
-    given = bytearray(PLAIN.read_bytes()[:end])
-    for at, byte in changes.items():
-        given[at] = byte
-    run = subprocess.run([probe, "list"], input=given, capture_output=True, timeout=60)
-    told = run.stdout.decode()
-    return [] if (run.returncode, told) == (0, wanted + "\n") else [f"status {run.returncode}, {told!r}"]
-
-
 # What the files must hold between them, so that no case is lost unseen: a text that some line of some file has.
 WANTED = [
     *(f"kind=Scalar({name})" for name, _ in SCALARS.values()),
@@ -159,23 +125,31 @@ WANTED = [
 ]
 
 
-def main():
-    tally = Tally()
-    probe = program("probe")
-    lines = []
-    largest = [0, 0]
-    for file in sorted(FOLDER.glob("*.bfbs")):
-        tally.case(file.name, faults(probe, file))
-        schema = json.loads(file.with_suffix(".json").read_text())
-        lines += Listing(schema).lines()
-        largest = [max(largest[0], len(schema["objects"])), max(largest[1], len(schema["enums"]))]
-    for name, changes, end, wanted in FAULTS:
-        tally.case(name, changed_file_faults(probe, changes, end, wanted))
-    missing = [text for text in WANTED if not any(text in line for line in lines)]
-    tally.case("the files hold every kind", [f"no line has {text!r}" for text in missing])
-    tally.case("a file has 50 objects and 50 enums", [] if min(largest) >= 50 else [str(largest)])
-    return tally.end()
+class SchemaFiles(Case):
+    @classmethod
+    def setUpClass(cls):
+        cls.probe = built("probe")
 
+    def told(self, given):
+        """What the probe tells of a schema file with these bytes."""
+        ran = subprocess.run([self.probe, "list"], input=given, capture_output=True, timeout=60)
+        return Ran(ran.returncode, ran.stdout.decode().splitlines(), ran.stderr)
 
-if __name__ == "__main__":
-    sys.exit(main())
+    def test_the_listings_of_flatc(self):
+        found, largest = [], [0, 0]
+        for file in sorted(FOLDER.glob("*.bfbs")):
+            schema = json.loads(file.with_suffix(".json").read_text())
+            lines = list(Listing(schema).lines())
+            self.same(file.name, self.told(file.read_bytes()), Ran(0, lines, b""))
+            found += lines
+            largest = [max(largest[0], len(schema["objects"])), max(largest[1], len(schema["enums"]))]
+        missing = [text for text in WANTED if not any(text in line for line in found)]
+        self.same("the files hold every kind: no line has", missing, [])
+        self.holds("a file has 50 objects and 50 enums", min(largest) >= 50, largest)
+
+    def test_changed_files(self):
+        for name, changes, end, wanted in FAULTS:
+            given = bytearray(PLAIN.read_bytes()[:end])
+            for at, byte in changes.items():
+                given[at] = byte
+            self.same(name, self.told(given), Ran(0, [wanted], b""))

@@ -1,42 +1,40 @@
-"""The script ./test: its counts, its status, and what it says where something it needs is missing.
+"""The script ./test and `python3 -m tests`: their counts, their status, and what they say where something is missing.
 
-It runs in a folder of its own, beside a command rt and tests that only print what a case says.
+They run in a folder of their own, beside a command rt that only prints what a case says, and small tests.
 """
 
 import re
 import shutil
-import subprocess
 
-import outside
+from tests.support.cases import Case
+from tests.support.program import TOP
+from tests.support.scripts import Scripts
 
-TOOLS = ["bash", "env", "dirname", "mktemp", "rm", "tee", "tail", "cat", "sleep", "readlink", "sed", "grep", "mkdir",
-         "touch"]
-
-
-def folder_of(name, commands):
-    """A folder with the script, its tools, and scripts in the place of the other commands."""
-    top = outside.FOLDER / name
-    (top / "bin").mkdir(parents=True)
-    (top / "tests").mkdir()
-    for tool in TOOLS:
-        (top / "bin" / tool).symlink_to(shutil.which(tool))
-    for command, text in {"python3": 'exec bash "$1"', "cc": "exit 0", **commands}.items():
-        if text is not None:
-            write(top / "bin" / command, text)
-    shutil.copy(outside.TOP / "test", top / "test")
-    write(top / "build_c", "touch library")
-    return top
+TOOLS = ["bash", "cat", "dirname", "env", "mkdir", "mktemp", "python3", "readlink", "rm", "sed", "sleep", "tail", "tee"]
 
 
-def write(path, text):
-    path.write_text(f"#!/usr/bin/env bash\n{text}\n")
-    path.chmod(0o755)
+class Folder(Scripts):
+    """The script, its tools, stand-ins for the other commands, and tests by their texts."""
 
+    def __init__(self, name, tests=(), **commands):
+        tools = [tool for tool in TOOLS if tool not in commands]
+        super().__init__(name, ["test"], tools)
+        shutil.copytree(TOP / "tests/support", self.top / "tests/support")
+        for file in ("__init__.py", "__main__.py"):
+            shutil.copy(TOP / "tests" / file, self.top / "tests")
+        for command, text in {"rt": tells(7, 0), "cc": "exit 0", **commands}.items():
+            if text is not None:
+                self.stand_in(f"bin/{command}", text)
+        self.stand_in("build_c", "echo build_c; > library")
+        for number, text in enumerate(tests):
+            self.write(f"tests/test_{number}.py", text)
 
-def called(top, *words, **environment):
-    ran = subprocess.run([top / "test", *words], capture_output=True, env={"PATH": str(top / "bin"), **environment},
-                         timeout=60, text=True)
-    return ran.returncode, ran.stdout.splitlines(), ran.stderr
+    def stand_in(self, name, text):
+        self.write(name, f"#!/usr/bin/env bash\n{text}\n")
+
+    def call(self, *words, **environment):
+        ran = super().call("test", *words, **environment)
+        return ran.status, ran.out.decode().splitlines(), ran.err.decode()
 
 
 def tells(passed, failed, status=None):
@@ -45,136 +43,149 @@ def tells(passed, failed, status=None):
     return f"echo some text\necho {passed} passed, {failed} failed\nexit {status}"
 
 
-def counts_are_added(cases):
-    for name, ci, tests, want, status in [
-        ("all pass", tells(7, 0), [tells(3, 0), tells(4, 0)], "14 passed, 0 failed", 0),
-        ("a test fails", tells(7, 0), [tells(3, 1), tells(4, 0)], "14 passed, 1 failed", 1),
-        ("the last test fails", tells(7, 0), [tells(3, 0), tells(4, 2)], "14 passed, 2 failed", 1),
-        ("rt ci fails", tells(6, 1), [tells(3, 0)], "9 passed, 1 failed", 1),
-        ("both fail", tells(6, 1), [tells(3, 2)], "9 passed, 3 failed", 1),
-        ("no test from outside", tells(7, 0), [], "7 passed, 1 failed", 1),
-        ("rt ci stops without a count", "echo broken; exit 2", [tells(3, 0)], "3 passed, 1 failed", 1),
-        ("rt ci says nothing", "exit 0", [tells(3, 0)], "3 passed, 1 failed", 1),
-        ("a test stops without a count", tells(7, 0), ["echo halfway; exit 1"], "7 passed, 1 failed", 1),
-        ("a test's status and count differ", tells(7, 0), [tells(3, 0, status=1)], "7 passed, 1 failed", 1),
-        ("a count of failures with status 0", tells(7, 0), [tells(3, 1, status=0)], "7 passed, 1 failed", 1),
-        ("a count that isn't the last line", tells(7, 0), ["echo 3 passed, 0 failed; echo more"], "7 passed, 1 failed",
-         1),
-    ]:
-        top = folder_of(f"counts {name}", {"rt": f'[ "$*" = ci ] || exit 9\n{ci}'})
-        for number, text in enumerate(tests):
-            write(top / "tests" / f"test_{number}.py", text)
-        got, out, _ = called(top)
-        cases.same(name, (got, out[-1]), (status, want))
-        cases.holds(f"{name}: the output of rt ci is shown", "== rt ci" in out, out)
+def case(*lines):
+    """A file with one test of these lines."""
+    body = "".join(f"        {line}\n" for line in lines)
+    return f"import os, pathlib, sys, time, unittest\n\nclass A(unittest.TestCase):\n    def test_one(self):\n{body}"
 
 
-def the_time_is_told(cases):
-    busy = """
-until times >spent; read -r user _ <spent; [ "${user:2:1}" -ge 1 ]; do
-    for ((turn = 0; turn < 10000; turn++)); do :; done
-done"""
-    top = folder_of("time", {"rt": busy + "\n" + tells(1, 0), "nproc": "echo 2"})
-    write(top / "tests" / "test_0.py", busy + "\n" + tells(1, 0))
-    line = re.compile(r"== (.*) ended after 0 min (\d+) s \(2 cores, (\d+) s of processor time\)")
-    told = [line.fullmatch(text) for text in called(top)[1]]
-    told = [(match[1], int(match[2]) >= 1, int(match[3])) for match in told if match]
-    cases.same("that of the proofs, and of all", [what for what, _, _ in told], ["rt ci", "the last test"])
-    cases.holds("by the clock", all(is_later for _, is_later, _ in told), told)
-    cases.holds("by the processors", told[0][2] >= 1 and told[1][2] >= 2, told)
-
-
-def checks_stand_side_by_side(cases):
-    for name, environment, cores, want in [
-        ("one a core", {}, "echo 2", "2"),
-        ("as many as memory holds", {}, "echo 4000", None),
-        ("one where the cores aren't known", {}, "exit 1", "1"),
-        ("as many as the caller says", {"RT_JOBS": "7"}, "echo 2", "7"),
-    ]:
-        top = folder_of(f"jobs {name}", {"rt": f'echo "jobs $RT_JOBS"\n{tells(1, 0)}', "nproc": cores})
-        write(top / "tests" / "test_0.py", tells(1, 0))
-        _, out, _ = called(top, **environment)
-        told = [line.removeprefix("jobs ") for line in out if line.startswith("jobs ")]
-        cases.holds(f"{name}: {told}", len(told) == 1 and (told[0] == want if want else 1 <= int(told[0]) < 4000), out)
+def cases(passed, failed):
+    """A file with one test of so many subtests."""
+    return case(f"for number in range({passed + failed}):",
+                f"    with self.subTest(number): self.assertLess(number, {passed})")
 
 
 def meets(mine, other):
-    """A script that succeeds where another runs while it does."""
-    met = f"for tenth in {{1..100}}; do [ ! -e met_{other} ] || break; sleep 0.1; done; [ -e met_{other} ] || exit 1"
-    return f"echo > met_{mine}\n{met}"
+    """The lines of a test that passes where another runs while it does."""
+    return (f"pathlib.Path('met_{mine}').touch()", f"met = pathlib.Path('met_{other}')",
+            "ends = time.monotonic() + 20", "while not met.exists() and time.monotonic() < ends: time.sleep(0.1)",
+            "self.assertTrue(met.exists())")
 
 
-def tests_stand_side_by_side(cases):
-    top = folder_of("side by side", {"rt": tells(1, 0), "nproc": "echo 2"})
-    for mine, other in [(0, 1), (1, 0), (2, 2)]:
-        write(top / "tests" / f"test_{mine}.py", f"{meets(mine, other)}\necho I am {mine}\n{tells(1, 0)}")
-    status, out, _ = called(top)
-    cases.same("each meets the other", (status, out[-1]), (0, "4 passed, 0 failed"))
-    shown = [line for line in out if line.startswith("I am")]
-    cases.same("they are shown in their order", shown, ["I am 0", "I am 1", "I am 2"])
+class TestCommand(Case):
+    def test_counts_are_added(self):
+        for name, ci, tests, want, status in [
+            ("all pass", tells(7, 0), [cases(3, 0), cases(4, 0)], "14 passed, 0 failed", 0),
+            ("a test fails", tells(7, 0), [cases(3, 1), cases(4, 0)], "14 passed, 1 failed", 1),
+            ("the last test fails", tells(7, 0), [cases(3, 0), cases(4, 2)], "14 passed, 2 failed", 1),
+            ("rt ci fails", tells(6, 1), [cases(3, 0)], "9 passed, 1 failed", 1),
+            ("both fail", tells(6, 1), [cases(3, 2)], "9 passed, 3 failed", 1),
+            ("no test from outside", tells(7, 0), [""], "7 passed, 1 failed", 1),
+            ("rt ci stops without a count", "echo broken; exit 2", [cases(3, 0)], "3 passed, 1 failed", 1),
+            ("rt ci says nothing", "exit 0", [cases(3, 0)], "3 passed, 1 failed", 1),
+            ("a count of failures with status 0", tells(7, 1, 0), [cases(3, 0)], "3 passed, 1 failed", 1),
+            ("a count without a failure with status 1", tells(7, 0, 1), [cases(3, 0)], "3 passed, 1 failed", 1),
+            ("a count that isn't the last line", "echo 7 passed, 0 failed; echo more", [cases(3, 0)],
+             "3 passed, 1 failed", 1),
+        ]:
+            got, out, _ = Folder(f"counts {name}", tests, rt=f'[ "$*" = ci ] || exit 9\n{ci}').call()
+            self.same(name, (got, out[-1]), (status, want))
+            self.holds(f"{name}: the output of rt ci is shown", "== rt ci" in out, out)
 
+    def test_what_is_a_case(self):
+        for name, text, want in [
+            ("a test without subtests", case("pass"), "8 passed, 0 failed"),
+            ("one that fails", case("self.fail()"), "7 passed, 1 failed"),
+            ("one that breaks off", case("raise OSError"), "7 passed, 1 failed"),
+            ("one that breaks off behind a subtest", case("with self.subTest(1): pass", "raise OSError"),
+             "8 passed, 1 failed"),
+            ("one that is skipped", case("self.skipTest('no')"), "7 passed, 0 failed"),
+            ("a file that can't be read", "import nothing_of_that_name", "7 passed, 1 failed"),
+            ("a process that stops without a count", case("os._exit(0)"), "7 passed, 1 failed"),
+            ("one that stops behind a count", case("print('3 passed, 0 failed', flush=True)", "os._exit(1)"),
+             "7 passed, 1 failed"),
+        ]:
+            _, out, _ = Folder(f"case {name}", [text]).call()
+            self.same(name, out[-1], want)
 
-def the_library_comes_before_its_tests(cases):
-    finds = f"[ -e library ] || exit 1 # libfbcheck.a\n{tells(1, 0)}"
-    top = folder_of("library", {"rt": tells(1, 0), "nproc": "echo 2"})
-    write(top / "tests" / "test_0.py", finds)
-    cases.same("it is built before a test that names it", called(top)[1][-1], "2 passed, 0 failed")
-    write(top / "build_c", f"{meets('library', 'test')}\ntouch library")
-    write(top / "tests" / "test_1.py", f"{meets('test', 'library')}\n{tells(1, 0)}")
-    cases.same("and beside one that doesn't", called(top)[1][-1], "3 passed, 0 failed")
-    write(top / "build_c", "exit 1")
-    write(top / "tests" / "test_1.py", tells(1, 0))
-    status, out, _ = called(top)
-    cases.same("where it can't be, that is a failure", (status, out[-1]), (1, "3 passed, 1 failed"))
+    def test_the_time_is_told(self):
+        busy = """
+until times >spent; read -r user _ <spent; [ "${user:2:1}" -ge 1 ]; do
+    for ((turn = 0; turn < 10000; turn++)); do :; done
+done"""
+        spin = case("while time.process_time() < 2: pass")
+        told = Folder("time", [spin], rt=f"{busy}\n{tells(1, 0)}", nproc="echo 2").call()[1]
+        line = re.compile(r"== (.*) ended after 0 min (\d+) s \(2 cores, (\d+) s of processor time\)")
+        told = [match.groups() for match in map(line.fullmatch, told) if match]
+        self.same("that of the proofs, and of all", [what for what, _, _ in told],
+                  ["rt ci", "python3 -m tests --after-ci"])
+        self.holds("by the clock", all(int(time) >= 1 for _, time, _ in told), told)
+        self.holds("by the processors", int(told[0][2]) >= 1 and int(told[1][2]) >= 2, told)
 
+    def test_checks_stand_side_by_side(self):
+        for name, environment, cores, want in [
+            ("one a core", {}, "echo 2", "2"),
+            ("as many as memory holds", {}, "echo 4000", None),
+            ("one where the cores aren't known", {}, "exit 1", "1"),
+            ("as many as the caller says", {"RT_JOBS": "7"}, "echo 2", "7"),
+        ]:
+            folder = Folder(f"jobs {name}", [cases(1, 0)], rt=f'echo "jobs $RT_JOBS"\n{tells(1, 0)}', nproc=cores)
+            _, out, _ = folder.call(**environment)
+            told = [line.removeprefix("jobs ") for line in out if line.startswith("jobs ")]
+            is_right = len(told) == 1 and (told[0] == want if want else 1 <= int(told[0]) < 4000)
+            self.holds(f"{name}: {told}", is_right, out)
 
-def the_library_is_made_of_what_was_proved(cases):
-    kit = outside.FOLDER / "kit"
-    (kit / "bin").mkdir(parents=True)
-    write(kit / "bin" / "rt", f"mkdir -p crates/fbcheck_c crates/low\n{tells(1, 0)}")
-    write(kit / "bin" / "rattle", 'echo "$@" >words')
-    top = folder_of("archive", {"rt": None, "nproc": "echo 1"})
-    (top / "bin" / "rt").symlink_to(kit / "bin" / "rt")
-    (top / "crates.txt").write_text("low: core\nfbcheck_c staticlib: core low\nother: low\n")
-    write(top / "tests" / "test_0.py", tells(1, 0))
-    cases.same("all is well", called(top)[0], 0)
-    words = (top / "crates/fbcheck_c/words").read_text().split()
-    libraries = [word for at, word in enumerate(words) if words[at - 1] == "--extern"]
-    cases.same("by what rt ci left of each crate", libraries,
-               [f"std={kit}/rlibs/std.rlib", f"core={kit}/rlibs/core.rlib", f"low={top}/crates/low/out/rlib/low.rlib"])
-    cases.same("into the place where ./build_c looks", words[-2:], ["-o", "out/libfbcheck_c.a"])
+    def test_tests_stand_side_by_side(self):
+        tests = [case(f"print('I am {mine}')", *meets(mine, other)) for mine, other in [(0, 1), (1, 0), (2, 2)]]
+        status, out, _ = Folder("side by side", tests).call()
+        self.same("each meets the other", (status, out[-1]), (0, "10 passed, 0 failed"))
+        self.same("they are shown in their order", [line for line in out if line.startswith("I am")],
+                  ["I am 0", "I am 1", "I am 2"])
 
+    def test_the_library_comes_before_its_tests(self):
+        finds = case("import tests.support.library", "self.assertTrue(os.path.exists('library'))")
+        folder = Folder("library", [finds])
+        self.same("it is built before a test that names it", folder.call()[1][-1], "8 passed, 0 failed")
+        folder.stand_in("build_c", """echo "words: $*"
+>met_library
+for tenth in {1..200}; do [ ! -e met_test ] || break; sleep 0.1; done
+[ -e met_test ] && >library""")
+        folder.write("tests/test_1.py", case(*meets("test", "library")))
+        (folder.top / "library").unlink()
+        _, out, _ = folder.call()
+        self.same("and beside one that doesn't", out[-1], "9 passed, 0 failed")
+        self.holds("of what rt ci left", "words: --after-ci" in out, out)
+        folder.stand_in("build_c", "echo broken; exit 1")
+        status, out, _ = folder.call()
+        self.same("where it can't be, that is a failure", (status, out[-1]), (1, "9 passed, 1 failed"))
+        self.holds("and it is shown", "broken" in out, out)
 
-def what_is_missing_is_named(cases):
-    for missing, text in [("rt", "rt, the command of the Rattle toolchain"), ("python3", "python3, which runs"),
-                          ("cc", "cc, a C compiler")]:
-        top = folder_of(f"without {missing}", {"rt": tells(1, 0), missing: None})
-        status, out, err = called(top)
-        cases.same(f"without {missing}", (status, out), (2, []))
-        cases.holds(f"{missing} is named, and where it was looked for", text in err and str(top / "bin") in err, err)
+    def test_the_library_is_made_of_what_was_proved(self):
+        kit = Scripts("kit", [])
+        rt = kit.write("bin/rt", "#!/bin/bash\n")
+        kit.write("bin/rattle", '#!/bin/bash\necho "$@" >words\n')
+        folder = Scripts("archive", ["build_c"], TOOLS)
+        (folder.bin / "rt").symlink_to(rt)
+        folder.write("build", "#!/bin/bash\nexit 2\n")
+        folder.write("crates.txt", "low: core\nfbcheck_c staticlib: core low\nother: low\n")
+        for crate in ("low", "fbcheck_c"):
+            folder.write(f"crates/{crate}/src/lib.rt", "text\n")
+        folder.call("build_c", "--after-ci")
+        words = (folder.top / "crates/fbcheck_c/words").read_text().split()
+        libraries = [word for at, word in enumerate(words) if words[at - 1] == "--extern"]
+        crate = folder.top / "crates/low/out/rlib/low.rlib"
+        self.same("by what rt ci left of each crate", libraries,
+                  [f"std={kit.top}/rlibs/std.rlib", f"core={kit.top}/rlibs/core.rlib", f"low={crate}"])
+        self.same("into the place where ./build looks", words[-2:], ["-o", "out/libfbcheck_c.a"])
 
+    def test_what_is_missing_is_named(self):
+        for missing, text in [("rt", "rt, the command of the Rattle toolchain"), ("python3", "python3, which runs"),
+                              ("cc", "cc, a C compiler")]:
+            folder = Folder(f"without {missing}", **{missing: None})
+            status, out, err = folder.call()
+            self.same(f"without {missing}", (status, out), (2, []))
+            self.holds(f"{missing} is named, and where it was looked for", text in err and str(folder.bin) in err, err)
 
-def from_outside_alone(cases):
-    top = folder_of("outside", {"rt": "echo rt was called; exit 1"})
-    write(top / "tests" / "test_0.py", tells(5, 0))
-    write(top / "fbcheck", '[ "$*" = --help ]')
-    status, out, _ = called(top, "--outside")
-    cases.same("no rt ci", (status, out),
-               (0, ["== python3 tests/test_0.py", "some text", "5 passed, 0 failed", "5 passed, 0 failed"]))
-    for command in ("build_c", "fbcheck"):
-        write(top / command, "exit 2")
-        cases.same(f"what {command} can't build", called(top, "--outside")[:2], (2, []))
+    def test_from_outside_alone(self):
+        folder = Folder("outside", [cases(5, 0)], rt="echo rt was called; exit 1")
+        folder.stand_in("build", '[ "$*" = fbcheck ]')
+        status, out, _ = folder.call("--outside")
+        self.same("no rt ci", (status, out[-1], "rt was called" in out), (0, "5 passed, 0 failed", False))
+        for command in ("build_c", "build"):
+            folder.stand_in(command, "exit 2")
+            self.same(f"what {command} can't build", folder.call("--outside")[:2], (2, []))
 
-
-def other_words_are_refused(cases):
-    top = folder_of("words", {"rt": tells(1, 0)})
-    for words in [["--nothing"], ["--outside", "more"], ["ci"]]:
-        cases.same(f"{words}", called(top, *words), (2, [], "usage: ./test [--outside]\n"))
-
-
-if __name__ == "__main__":
-    outside.main(
-        counts_are_added, the_time_is_told, checks_stand_side_by_side, tests_stand_side_by_side,
-        the_library_comes_before_its_tests, the_library_is_made_of_what_was_proved, what_is_missing_is_named,
-        from_outside_alone, other_words_are_refused,
-    )
+    def test_other_words_are_refused(self):
+        folder = Folder("words")
+        for words in [["--nothing"], ["--outside", "more"], ["ci"]]:
+            self.same(f"{words}", folder.call(*words), (2, [], "usage: ./test [--outside]\n"))

@@ -89,9 +89,10 @@ def fbcheck():
     named = os.environ.get("FBCHECK_PROGRAM")
     if named:
         return pathlib.Path(named).resolve()
-    if subprocess.run([TOP / "fbcheck", "--help"], stdout=subprocess.DEVNULL).returncode != 0:
-        raise Failed("./fbcheck can't be built")
-    return TOP / "crates/fbcheck/out/fbcheck"
+    ran = subprocess.run([TOP / "build", "fbcheck"], stdout=subprocess.PIPE, text=True)
+    if ran.returncode != 0:
+        raise Failed("./build fbcheck fails")
+    return pathlib.Path(ran.stdout.strip())
 
 
 def generate(corpus):

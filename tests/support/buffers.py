@@ -2,7 +2,8 @@
 
 import struct
 
-from outside import TOP, changed, prefixed, spelled
+from tests.support.builder import changed, prefixed, spelled
+from tests.support.program import TOP
 
 # By M: hp is 300 and name is "Orc".
 ORC = spelled("0c000000 0800 0c00 0800 0400 08000000 08000000 2c01 0000 03000000 4f726300")
@@ -27,6 +28,12 @@ TWINS = spelled(
 
 # By X from R: u is the table A, whose v is 5.
 MEMBER = spelled("0c000000 0800 0c00 0800 0400 08000000 10000000 01000000 0600 0800 0400 0000 08000000 05000000")
+
+# By X from R, with its prefix and the identifier MEMB: the same, and v stands at 45, one past a multiple of 4.
+ODD_MEMBER = spelled(
+    "2d000000 10000000 4d454d42 0800 0c00 0800 0400 08000000 10000000 01000000",
+    "0600 0900 0500 0000 08000000 00 05000000",
+)
 
 # By X from R: u is the struct W, whose x is 7.
 PLACED = spelled("0c000000 0800 0c00 0800 0400 08000000 08000000 02000000 0700000000000000")

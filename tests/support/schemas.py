@@ -1,6 +1,7 @@
 """The schema files of the tests: made from rows, as a text would give them, and one that stands byte by byte."""
 
-from outside import buffer, file_of, spelled
+from tests.support.builder import buffer, spelled
+from tests.support.program import file_of
 
 SCALARS = [(base,) for base in range(13)]
 NONE, U_TYPE, BOOL, BYTE, U_BYTE, SHORT, U_SHORT, INT, U_INT, LONG, U_LONG, FLOAT, DOUBLE = SCALARS

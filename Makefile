@@ -1,0 +1,28 @@
+# The commands of the README by the names that make knows. What each does, and when nothing is to be done, is said in
+# the scripts.
+#
+#   make            the program and the library for C, proved and built where they aren't, or are stale
+#   make check      every proof and every test
+#   make install    into PREFIX (/usr/local), below DESTDIR
+#   make bench      times the walk, how schemas are built, and the program beside the two verifiers for C++
+#   make clean      removes all that was built, and what was proved with it
+
+.PHONY: all check install bench clean
+
+all:
+	./build fbcheck
+	./build_c
+
+check:
+	./test
+
+install:
+	./install
+
+bench:
+	bench/walk
+	bench/schema
+	bench/compare
+
+clean:
+	rm -rf out bench/out crates/*/out

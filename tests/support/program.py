@@ -1,0 +1,173 @@
+"""Runs of the built program, on files and pipes.
+
+The program is crates/fbcheck/out/fbcheck, or the file that the variable FBCHECK_PROGRAM names, so that a program built
+otherwise is held against the same cases. Expected values are worked out by hand from the format's rules, never taken
+from what the program says.
+"""
+
+import atexit
+import fcntl
+import importlib.machinery
+import importlib.util
+import os
+import pathlib
+import resource
+import select
+import shutil
+import signal
+import struct
+import subprocess
+import sys
+import tempfile
+import termios
+import time
+import tty
+import typing
+
+TOP = pathlib.Path(__file__).resolve().parents[2]
+PROGRAM = pathlib.Path(os.environ.get("FBCHECK_PROGRAM") or TOP / "crates/fbcheck/out/fbcheck")
+SECONDS = 60
+if not os.access(PROGRAM, os.X_OK):
+    print(f"no program at {PROGRAM}: ./build fbcheck builds it", file=sys.stderr)
+
+
+class Ran(typing.NamedTuple):
+    """How a run ended, and what it wrote."""
+
+    status: int
+    out: bytes
+    err: bytes
+
+
+def run(*words, given=b"", **how):
+    """Runs the program with these words on these bytes."""
+    ran = subprocess.run([PROGRAM, *words], input=given, capture_output=True, timeout=SECONDS, **how)
+    return Ran(ran.returncode, ran.stdout, ran.stderr)
+
+
+def run_in_shell(redirections, *words, given=b""):
+    """Runs the program by a shell that opens or closes its descriptors as the text says, for example `>&-`."""
+    command = ["sh", "-c", f'exec "$0" "$@" {redirections}', PROGRAM, *words]
+    ran = subprocess.run(command, input=given, capture_output=True, timeout=SECONDS)
+    return Ran(ran.returncode, ran.stdout, ran.stderr)
+
+
+def run_broken_off(*words, given):
+    """Runs the program on a terminal's far end, of which a read fails once all of these bytes were read."""
+    far, near = os.openpty()
+    tty.setraw(near)
+    program = subprocess.Popen([PROGRAM, *words], stdin=far, stdout=subprocess.PIPE, stderr=subprocess.PIPE)
+    os.write(near, given)
+    while waiting(far) and program.poll() is None:
+        pass
+    os.close(near)
+    out, err = program.communicate(timeout=SECONDS)
+    os.close(far)
+    return Ran(program.returncode, out, err)
+
+
+def run_starved(*words, given=b""):
+    """Runs the program in 16 MiB."""
+    return run(*words, given=given, preexec_fn=lambda: resource.setrlimit(resource.RLIMIT_AS, (1 << 24, 1 << 24)))
+
+
+def lines(*texts):
+    """The bytes of these lines."""
+    return "".join(f"{text}\n" for text in texts).encode()
+
+
+def good(*texts):
+    """A run whose buffers all had a yes, with these lines."""
+    return Ran(0, lines(*texts), b"")
+
+
+def bad(*texts):
+    """A run in which a buffer had a no, with these lines."""
+    return Ran(1, lines(*texts), b"")
+
+
+def refused(text):
+    """A run that ended before it read anything, told by this text."""
+    return Ran(2, b"", lines(f"fbcheck: {text}"))
+
+
+def failed(text, *before):
+    """A run that a fault ended, told by this text, with the lines that were written by then."""
+    return Ran(3, lines(*before), lines(f"fbcheck: {text}"))
+
+
+FOLDER = pathlib.Path(tempfile.mkdtemp(prefix="fbcheck-tests-"))
+atexit.register(shutil.rmtree, FOLDER, ignore_errors=True)
+
+
+def built(crate):
+    """The program of a crate, which ./build builds where it's stale."""
+    told = subprocess.run([TOP / "build", crate], stdout=subprocess.PIPE, text=True, check=True)
+    return pathlib.Path(told.stdout.strip())
+
+
+def loaded(path):
+    """A script as a module."""
+    loader = importlib.machinery.SourceFileLoader(path.stem, str(path))
+    module = importlib.util.module_from_spec(importlib.util.spec_from_loader(path.stem, loader))
+    loader.exec_module(module)
+    return module
+
+
+def file_of(name, data):
+    """The path of a new file with these bytes, in a folder that is gone after the tests."""
+    path = FOLDER / name
+    path.write_bytes(data)
+    return path
+
+
+class Talk:
+    """A run that is spoken to piece by piece."""
+
+    def __init__(self, *words):
+        self.run = subprocess.Popen(
+            [PROGRAM, *words], stdin=subprocess.PIPE, stdout=subprocess.PIPE, stderr=subprocess.PIPE, bufsize=0
+        )
+
+    def __enter__(self):
+        return self
+
+    def __exit__(self, *_):
+        if self.run.poll() is None:
+            self.run.send_signal(signal.SIGKILL)
+        self.run.wait()
+        for pipe in (self.run.stdin, self.run.stdout, self.run.stderr):
+            pipe.close()
+
+    def say(self, data):
+        """Writes these bytes, and waits until the program has read them."""
+        self.run.stdin.write(data)
+        ends = time.monotonic() + SECONDS
+        while waiting(self.run.stdin.fileno()) and self.run.poll() is None:
+            if time.monotonic() > ends:
+                raise TimeoutError("the program doesn't read")
+
+    def hear(self, seconds=SECONDS):
+        """What the program writes next, up to a line's end, or up to where nothing more comes within these seconds."""
+        heard = b""
+        while not heard.endswith(b"\n") and select.select([self.run.stdout], [], [], seconds)[0]:
+            more = self.run.stdout.read(1)
+            if not more:
+                break
+            heard += more
+        return heard
+
+    def ended(self):
+        """How the run ended by itself, while its input stays open, with what wasn't heard yet."""
+        self.run.wait(SECONDS)
+        return Ran(self.run.returncode, self.run.stdout.read(), self.run.stderr.read())
+
+    def end(self):
+        """Ends the input, and answers how the run ended with what wasn't heard yet."""
+        out, err = self.run.communicate(timeout=SECONDS)
+        return Ran(self.run.returncode, out, err)
+
+
+def waiting(pipe):
+    """How many bytes wait in a pipe."""
+    return struct.unpack("i", fcntl.ioctl(pipe, termios.FIONREAD, b"\0" * 4))[0]
