@@ -12,7 +12,7 @@ import socket
 import struct
 import subprocess
 
-from tests.support import schemas
+from tests.support import buffers, schemas
 from tests.support.buffers import ORC, POST
 from tests.support.builder import buffer, messages_of, prefixed
 from tests.support.every_kind import FILE, LITTLE, OPTIONS, WHOLE, variants, words_of
@@ -521,11 +521,24 @@ class LibraryForC(LibraryCase):
                     8: f"L1 V{why.reason} at={why.at} object={why.object} field={part} reads={why.reads}",
                     9: f"L2 C{why.reason} owner={why.object} part={part}",
                     10: "L3",
+                    20: "L6",
                 }.get(why.status, why)
             self.same(name, got, re.sub(r"(L3|[VC]\d+) \w+", r"\1", want))
         for option, reason in [("max_reads", 13), ("max_tables", 7), ("max_depth", 6)]:
             why = reason_of_load(python, file, python.Options(**{option: 2}))
             self.same(f"a file past its {option}", why, (8, reason))
+
+    def test_reads_of_each_byte(self):
+        """A buffer of 160 bytes for which 16,379 reads are made; 4,096 are allowed beside those of its bytes."""
+        python, chain = module(), buffers.doubling(12)
+        with python.Verifier(schemas.NODE) as verifier:
+            for name, asked, given, want in [
+                ("64 by default", {}, chain, (1, 13)), ("enough for a longer one", {}, chain + bytes(40), (0, 0)),
+                ("one too few", {"reads_per_byte": 76}, chain, (1, 13)), ("77", {"reads_per_byte": 77}, chain, (0, 0)),
+                ("fewer in all", {"reads_per_byte": 77, "max_reads": 16_378}, chain, (1, 13)),
+            ]:
+                told = verifier.verify(given, python.Options(**asked))
+                self.same(name, (told.status, told.reason), want)
 
     def test_examples(self):
         """The programs of examples/c, and the module for Python, on the messages of the example."""
@@ -556,8 +569,9 @@ class LibraryForC(LibraryCase):
             most = verifier.most_reads(len(messages[0]), python.Options(max_tables=2, max_reads=1000))
             self.same("the most reads are the budget and 7", most, 1007)
             self.same("or fewer", verifier.most_reads(10, python.Options(max_tables=0)), 4)
-            most = verifier.most_reads(2**64 - 1, python.Options(max_reads=2**64 - 1))
-            self.same("or as many as there is room for", most, 2**64 - 1)
+            asked = python.Options(max_reads=2**64 - 1, reads_per_byte=2**32 - 1)
+            self.same("or those that the longest buffer may take", verifier.most_reads(2**64 - 1, asked),
+                      (2**32 - 1) * (2**31 - 1) + 4096 + 7)
             verifier.choose_root("post.Person")
             self.same("another root", verifier.verify(b"").object != 1, True)
             try:

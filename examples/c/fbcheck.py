@@ -42,6 +42,7 @@ class Status(enum.IntEnum):
     BAD_PATH = 17
     NO_ROOM = 18
     MISFIT = 19
+    TOO_MUCH_SHARED = 20
 
 
 class Reason(enum.IntEnum):
