@@ -4,12 +4,13 @@ Buffers with every kind of field, cut off everywhere and with each byte changed 
 as one stream, and each line is held against what the walk says of that buffer, under several options.
 """
 
-from tests.support import schemas
+from tests.support import buffers, schemas
 from tests.support.builder import buffer, prefixed
 from tests.support.cases import Case
 from tests.support.every_kind import FILE, LITTLE, OBJECTS, OPTIONS, UNION, WHOLE, variants, words_of
 from tests.support.naive import Reader, Schema, Walk
 from tests.support.program import Ran, file_of, run
+from tests.support.schemas import an_object, field, table
 
 ALL = Schema(OBJECTS, [UNION])
 BY_ALL = ("--schema", file_of("all.bfbs", FILE))
@@ -103,6 +104,20 @@ class BesideNaive(Case):
         for reads in range(cost + 1):
             want = f"1 {Walk(ALL, 0, given, reads=reads).verdict()}\n".encode()
             self.same(f"within {reads} reads", run(*BY_ALL, "--max-reads", str(reads), given=given).out, want)
+
+    def test_reads_of_each_byte(self):
+        """Chains whose levels each visit the next one twice, with more or fewer bytes behind them: a message may take
+        4,096 reads and so many for each of its own bytes, whatever stands before it."""
+        node = Schema([table("Node", field("a", an_object(0), 4), field("b", an_object(0), 6))], [])
+        by = "--schema", file_of("node.bfbs", schemas.NODE)
+        given = [prefixed(buffers.doubling(levels) + bytes(more)) for levels in (9, 10, 11, 12)
+                 for more in (4000, 0, 400, 40)]
+        for most in 0, 1, 2:
+            wants = [f"{number} {Walk(node, 0, message, reads=4096 + most * len(message)).verdict()}"
+                     for number, message in enumerate(given, 1)]
+            ran = run(*by, "--reads-per-byte", str(most), given=b"".join(given))
+            self.same(f"{most} for each byte", ran.out.decode().splitlines(), wants)
+            self.holds("some are refused, and some aren't", 0 < sum("V13" in want for want in wants) < len(wants))
 
     def test_values_by_paths(self):
         """Of the bent buffers that are still good, the value at each path."""
