@@ -1,5 +1,5 @@
 -- To whom a yes is due, and to whom a no.
-use Rattle.std.proofs.Common.{◌≡◌, ℕ, List, refl, subst, arith, Option, Some, IsSomeAnd}
+use Rattle.std.proofs.Common.{length, ◌≡◌, ℕ, List, refl, subst, arith, Option, Some, IsSomeAnd}
 use Rattle.fb_verify.specs.Tree.{Tree}
 use Rattle.fb_verify.specs.Verdict.{HasNone}
 use Rattle.fb_verify.specs.WellFormed.{IsWellFormed, IsWithin}
