@@ -4,10 +4,11 @@
 #   make            the program and the library for C, proved and built where they aren't, or are stale
 #   make check      every proof and every test
 #   make install    into PREFIX (/usr/local), below DESTDIR
+#   make package    a tarball and Debian packages of these, in dist/
 #   make bench      times the walk, how schemas are built, and the program beside the two verifiers for C++
 #   make clean      removes all that was built, and what was proved with it
 
-.PHONY: all check install bench clean
+.PHONY: all check install package bench clean
 
 all:
 	./build fbcheck
@@ -19,10 +20,13 @@ check:
 install:
 	./install
 
+package:
+	./package
+
 bench:
 	bench/walk
 	bench/schema
 	bench/compare
 
 clean:
-	rm -rf out bench/out crates/*/out
+	rm -rf out dist bench/out crates/*/out

@@ -1,0 +1,137 @@
+"""What ./package makes: a tarball and Debian packages, which are unpacked and used below roots of their own, and the
+version, which stands in one place and is told everywhere.
+"""
+
+import hashlib
+import os
+import re
+import shutil
+import subprocess
+import unittest
+
+from tests.support.library import LibraryCase, ran
+from tests.support.program import FOLDER, PROGRAM, TOP, run
+
+VERSION = (TOP / "VERSION").read_text().strip()
+DEBS = [f"{name}_{VERSION}_amd64.deb" for name in ("fbcheck", "libfbcheck-dev", "libfbcheck1")]
+TARBALL = f"fbcheck-{VERSION}-x86_64-linux.tar.gz"
+LIBRARIES = "usr/lib/x86_64-linux-gnu"
+GOOD = ["--schema", TOP / "examples/deliveries.bfbs", "--path", "to.name"]
+STREAM = (TOP / "examples/deliveries.bin").read_bytes()
+
+
+def packed(folder):
+    """How ./package ends, and the files that it makes."""
+    told = subprocess.run([TOP / "package", folder], capture_output=True, text=True, timeout=600,
+                          env={**os.environ, "DEBEMAIL": "fbcheck@fbcheck.dev"})
+    return told.returncode, told.stderr, sorted(os.listdir(folder))
+
+
+def newest_glibc(*files):
+    """The greatest version of glibc whose names these files ask for."""
+    told = subprocess.run(["objdump", "-T", *files], capture_output=True, text=True, check=True).stdout
+    return max(re.findall(r"GLIBC_([\d.]+)", told), key=lambda text: [int(part) for part in text.split(".")])
+
+
+class Version(LibraryCase):
+    def test_it_is_the_same_everywhere(self):
+        header = (TOP / "include/fbcheck.h").read_text()
+        major = VERSION.split(".")[0]
+        for name, told, want in [
+            ("the program tells it", run("--version").out.decode().splitlines()[0], f"fbcheck {VERSION}"),
+            ("the header", re.search(r"#define FBCHECK_VERSION (\d+)u", header)[1], major),
+            ("pkg-config", re.search(r"Version: (.*)", (TOP / "c/fbcheck.pc.in").read_text())[1], VERSION),
+            ("the first heading of the changes",
+             re.search(r"^## (\S+)", (TOP / "CHANGELOG.md").read_text(), re.M)[1], VERSION),
+            ("the shared library's name", os.readlink(TOP / "out/libfbcheck.so"), f"libfbcheck.so.{major}"),
+        ]:
+            self.same(name, told, want)
+
+
+@unittest.skipIf(PROGRAM != TOP / "crates/fbcheck/out/fbcheck", "another program is tested")
+@unittest.skipIf(shutil.which("dpkg-deb") is None, "dpkg-deb isn't there")
+class Package(LibraryCase):
+    @classmethod
+    def setUpClass(cls):
+        super().setUpClass()
+        cls.dist = FOLDER / "dist"
+        cls.told = packed(cls.dist)
+
+    def test_what_is_made(self):
+        self.same("all is made, and nothing else", self.told, (0, "", sorted([*DEBS, TARBALL, "SHA256SUMS"])))
+        sums = dict(reversed(line.split()) for line in (self.dist / "SHA256SUMS").read_text().splitlines())
+        real = {name: hashlib.sha256((self.dist / name).read_bytes()).hexdigest() for name in [*DEBS, TARBALL]}
+        self.same("the sums are theirs", sums, real)
+        again = FOLDER / "again"
+        self.same("made once more", packed(again), self.told)
+        self.same("it is the same bytes", (again / "SHA256SUMS").read_text(), (self.dist / "SHA256SUMS").read_text())
+        status, out, err = ran(TOP / "package", "--help")
+        self.same("a word with dashes is refused", (status, out, err), (2, "", "usage: ./package [FOLDER]\n"))
+
+    def test_the_tarball(self):
+        subprocess.run(["tar", "-xzf", self.dist / TARBALL, "-C", FOLDER], check=True)
+        top = FOLDER / TARBALL.removesuffix(".tar.gz")
+        self.used(top / "bin/fbcheck", top / "include", top / "lib", top / "lib/pkgconfig")
+        self.holds("it tells what it is", (top / "README.md").read_text().startswith("# fbcheck\n"))
+
+    def test_the_debian_packages(self):
+        root = FOLDER / "root"
+        for deb in DEBS:
+            subprocess.run(["dpkg-deb", "--extract", self.dist / deb, root], check=True)
+        self.used(root / "usr/bin/fbcheck", root / "usr/include", root / LIBRARIES, None)
+        page = (root / LIBRARIES / "pkgconfig/fbcheck.pc").read_text()
+        self.same("pkg-config is told where they are", page.splitlines()[:2],
+                  [f"libdir=/{LIBRARIES}", "includedir=/usr/include"])
+        self.holds("man finds the page", (root / "usr/share/man/man1/fbcheck.1.gz").exists())
+        for deb, files in [(DEBS[0], [root / "usr/bin/fbcheck"]), (DEBS[2], [root / LIBRARIES / "libfbcheck.so.1"])]:
+            needs = ran("dpkg-deb", "--field", self.dist / deb, "Depends")[1].strip()
+            self.same(f"{deb} asks for the glibc that it needs", needs, f"libc6 (>= {newest_glibc(*files)})")
+        needs = ran("dpkg-deb", "--field", self.dist / DEBS[1], "Depends")[1].strip()
+        self.same("the headers are for their own library", needs, f"libfbcheck1 (= {VERSION})")
+
+    def test_what_they_need(self):
+        program, library = PROGRAM, TOP / "out/libfbcheck.so.1"
+        page = (TOP / "README.md").read_text()
+        self.holds("the README tells the program's glibc", f"glibc {newest_glibc(program)}" in page)
+        self.holds("the library needs no newer one", newest_glibc(program, library) == newest_glibc(program))
+        code = subprocess.run(["objdump", "-d", "--no-show-raw-insn", program, library], capture_output=True, text=True,
+                              check=True).stdout
+        newer = r"v[a-z0-9]+|andn|bextr|bls[a-z]+|lzcnt|mulx|pdep|pext|[rs][ah][lr]x|rorx"
+        later = re.findall(rf"^ +[0-9a-f]+:\t({newer})\b", code, re.M)
+        self.same("no instruction is newer than those that the README tells", sorted(set(later)), [])
+        self.holds("and it tells these", "x86-64-v2" in page)
+
+    def test_what_lintian_says(self):
+        if shutil.which("lintian") is None:
+            self.skipTest("lintian isn't there")
+        status, out, err = ran("lintian", "--fail-on", "error", *(self.dist / deb for deb in DEBS))
+        self.same("no errors", (status, [line for line in out.splitlines() if line.startswith("E: ")]), (0, []))
+
+    def test_dpkg_installs_them(self):
+        if shutil.which("dpkg") is None or os.geteuid() != 0:
+            self.skipTest("dpkg isn't there, or this isn't root")
+        root = FOLDER / "fresh"
+        for place in ("var/lib/dpkg/info", "var/lib/dpkg/updates", "var/lib/dpkg/triggers"):
+            (root / place).mkdir(parents=True)
+        (root / "var/lib/dpkg/status").touch()
+        status, out, err = ran("dpkg", f"--root={root}", "--force-depends", "--force-script-chrootless", "--install",
+                               *(self.dist / deb for deb in DEBS))
+        self.same("dpkg takes them", status, 0)
+        listed = ran("dpkg-query", f"--admindir={root}/var/lib/dpkg", "-W", "-f", "${Package} ${Version}\n")[1]
+        self.same("and knows them", sorted(listed.splitlines()),
+                  sorted(f"{deb.split('_')[0]} {VERSION}" for deb in DEBS))
+        self.used(root / "usr/bin/fbcheck", root / "usr/include", root / LIBRARIES, None)
+
+    def used(self, program, headers, libraries, pages):
+        """The program checks a stream, and a program in C is built and checks a buffer."""
+        told = subprocess.run([program, *GOOD], input=STREAM, capture_output=True, timeout=60)
+        want = run(*GOOD, given=STREAM)
+        self.same(f"{program} runs", (told.returncode, told.stdout), (want.status, want.out))
+        words = [f"-I{headers}", f"-L{libraries}", "-lfbcheck"]
+        if pages and shutil.which("pkg-config"):
+            words = ran("pkg-config", "--cflags", "--libs", "fbcheck", PKG_CONFIG_PATH=pages)[1].split()
+        made = FOLDER / "packaged"
+        told = ran("cc", TOP / "examples/c/check.c", *words, f"-Wl,-rpath,{libraries}", "-o", made)
+        self.same("a program is built by the package", told, (0, "", ""))
+        status, out, _ = ran(made, TOP / "examples/deliveries.bfbs", TOP / "README.md")
+        self.holds("and runs", status == 1 and out.startswith("bad V2 "), (status, out))
