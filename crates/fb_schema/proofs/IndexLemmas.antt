@@ -1,5 +1,5 @@
 -- The steps by which the index of a schema is made.
-use Rattle.std.proofs.Common.{◌≡◌, ℕ, zero, suc, ◌+◌, ◌<◌, ◌≤◌, ◌⊎◌, inl, inr, Bool, true, false, not, ◌||◌, ◌==◌, ◌%◌, nat_lt, List, [], ◌∷◌, ◌++◌, length, get_or, slice_get, take, map, max, Some, None, refl, sym, ◌∙◌, ap, subst, arith, if◌then◌else◌}
+use Rattle.std.proofs.Common.{◌≡◌, ℕ, zero, suc, ◌+◌, ◌<◌, ◌≤◌, ◌⊎◌, inl, inr, Bool, true, false, not, ◌||◌, ◌&&◌, ◌==◌, ◌%◌, nat_lt, List, [], ◌∷◌, ◌++◌, length, get_or, slice_get, take, map, max, Some, None, refl, sym, ◌∙◌, ap, subst, arith, if◌then◌else◌}
 use Rattle.std.proofs.lemmas.List.{length-map, map-append, get_or-take, get_or-map, length-take-le}
 use Rattle.std.proofs.lemmas.List.Folds.{list_any-from_Any}
 use Rattle.std.proofs.lemmas.Option.{slice_get-get_or}
@@ -10,6 +10,7 @@ use Rattle.fb_schema.specs.declared.rows.FieldRow.{FieldRow}
 use Rattle.fb_schema.specs.Demands.{Demand, IsLegal, demands_of_object, demands_of_table_field, demands_of_struct_field, stands_before, same_slot}
 use Rattle.fb_schema.specs.Live.{Live, AreApart, AreSpaced, live_rows, required_end_of, widest_of}
 use Rattle.fb_schema.specs.Matched.{AreMatched}
+use Rattle.fb_schema.specs.Steps.{act_of, is_plain_act, are_plain}
 use Rattle.fb_schema.specs.Rows.{Rows, Field, Object, field_of}
 use Rattle.fb_schema.proofs.Numbers.{lt_or_eq, le_or_lt, get_or_default}
 use Rattle.fb_schema.proofs.WalkLemmas.{mapped_at}
@@ -49,7 +50,7 @@ legal_slots rows n o legal at table = record {
 }
 
 -- Matched lists grow together.
-slice_get_end : {X : Type 0} (xs : List X) (x y : X) (n : ℕ) → slice_get (xs ++ x ∷ []) n ≡ Some y → (slice_get xs n ≡ Some y) ⊎ ((n ≡ length xs) × (x ≡ y))
+pub slice_get_end : {X : Type 0} (xs : List X) (x y : X) (n : ℕ) → slice_get (xs ++ x ∷ []) n ≡ Some y → (slice_get xs n ≡ Some y) ⊎ ((n ≡ length xs) × (x ≡ y))
 slice_get_end [] x y zero e = inr (refl, (let w : x ≡ y = cc in w))
 slice_get_end [] x y (suc n) e = absurd (let w : None ≡ Some y = e in cc)
 slice_get_end (z ∷ zs) x y zero e = inl e
@@ -60,7 +61,7 @@ slice_get_below [] x n e = absurd (let w : None ≡ Some x = e in cc)
 slice_get_below (y ∷ ys) x zero e = omega arith
 slice_get_below (y ∷ ys) x (suc n) e = let w = slice_get_below ys x n e in omega arith
 
-length_one : {X : Type 0} (xs : List X) (x : X) → length (xs ++ x ∷ []) ≡ suc (length xs)
+pub length_one : {X : Type 0} (xs : List X) (x : X) → length (xs ++ x ∷ []) ≡ suc (length xs)
 length_one [] x = refl
 length_one (y ∷ ys) x = ap suc (length_one ys x)
 
@@ -152,3 +153,20 @@ views_step f g v xs i d old new w lt h e r =
 -- a slot of 16 bits leaves room below it for so many others
 pub few_step : (live : List FieldRow) (i : ℕ) (d : FieldRow) → AreSpaced (map field_of live) → i < length live → (get_or live i d).slot < 65536 → i + 1 ≤ 32766
 few_step live i d spaced lt range = let least = spaced.at i (field_of (get_or live i d)) (mapped_at field_of live i (get_or live i d) (slice_get-get_or live i d lt)) in omega (arith, least, range)
+
+-- one field more, behind the others
+plain_more : (fs : List Live) (f : Live) (b : Bool) → is_plain_act (act_of f f.kind) ≡ b → are_plain (fs ++ f ∷ []) ≡ if b then are_plain fs else false
+plain_more [] f true e = ap (λ b. b && true) e
+plain_more [] f false e = ap (λ b. b && true) e
+plain_more (g ∷ gs) f true e = ap (λ x. is_plain_act (act_of g g.kind) && x) (plain_more gs f true e)
+plain_more (g ∷ gs) f false e = ap (λ x. is_plain_act (act_of g g.kind) && x) (plain_more gs f false e) ∙ go (is_plain_act (act_of g g.kind)) where
+  go : (b : Bool) → (b && false) ≡ false
+  go true = refl
+  go false = refl
+
+pub plain_step : {X : Type 0} (v : X → Live) (xs : List X) (i : ℕ) (d : X) (b : Bool) → i < length xs → is_plain_act (act_of (v (get_or xs i d)) (v (get_or xs i d)).kind) ≡ b
+    → are_plain (map v (take (i + 1) xs)) ≡ if b then are_plain (map v (take i xs)) else false
+plain_step v xs i d b lt e =
+    let x = get_or xs i d in
+    ap (λ zs. are_plain (map v zs)) (take_at_read xs i d lt).1 ∙ ap are_plain (map-append v (take i xs) (x ∷ []))
+    ∙ plain_more (map v (take i xs)) (v x) b e

@@ -19,6 +19,7 @@ pub mod LookLemmas
 pub mod LegalLemmas
 pub mod FindLemmas
 pub mod UnionLemmas
+pub mod TargetLemmas
 pub mod NameLemmas
 pub mod MemberNames
 pub mod NamedValues

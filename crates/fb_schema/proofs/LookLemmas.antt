@@ -1,10 +1,10 @@
 -- What the look-ups read.
-use Rattle.std.proofs.Common.{◌≡◌, ℕ, ℤ, pos, negsuc, Bor, Option, option_map, refl, zero, suc, ◌<◌, ◌≤◌, ◌^◌, List, [], ◌∷◌, length, get_or, slice_get, map, Some, None, IsTrue, sym, ◌∙◌, ap, arith}
+use Rattle.std.proofs.Common.{◌≡◌, Bool, ℕ, ℤ, pos, negsuc, Bor, Option, option_map, refl, zero, suc, ◌<◌, ◌≤◌, ◌^◌, List, [], ◌∷◌, length, get_or, slice_get, map, Some, None, IsTrue, sym, ◌∙◌, ap, arith}
 use Rattle.std.proofs.lemmas.Option.{slice_get-map}
 use Rattle.fb_schema.specs.declared.views.Step.{Step}
 use Rattle.fb_schema.specs.Live.{Live, live_of, live_in, live_rows, live_fields, required_end, required_end_of, widest, widest_of}
 use Rattle.fb_schema.specs.Rows.{Rows, Object, entry_at, is_table, is_some_table}
-use Rattle.fb_schema.specs.Steps.{step_of}
+use Rattle.fb_schema.specs.Steps.{step_of, are_plain, is_plain}
 use Rattle.fb_schema.proofs.Kept.{kept_fewer}
 
 read_list : (rows : Rows) (objects : List Object) (n : ℕ) (y : List Live) → slice_get (map (λ o. live_in rows (Some o)) objects) n ≡ Some y → y ≡ live_in rows (slice_get objects n)
@@ -34,6 +34,16 @@ read_end rows (o ∷ os) (suc n) e t h = read_end rows os n e t h
 pub end_read : (rows : Rows) (ends : List ℕ) (n e : ℕ) → ends ≡ map (λ o. required_end_of (live_in rows (Some o))) rows.objects → IsTrue (is_table rows n) → e ≡ get_or ends n e → e ≡ required_end rows n
 unfolding live_fields
 end_read rows ends n e h t at = read_end rows rows.objects n e t (at ∙ ap (λ xs. get_or xs n e) h)
+
+read_plain : (rows : Rows) (objects : List Object) (n : ℕ) (x : Bool) → IsTrue (is_some_table (slice_get objects n)) → x ≡ get_or (map (λ o. are_plain (live_in rows (Some o))) objects) n x → x ≡ are_plain (live_in rows (slice_get objects n))
+read_plain rows [] n x t h = absurd cc
+read_plain rows (o ∷ os) zero x t h = h
+read_plain rows (o ∷ os) (suc n) x t h = read_plain rows os n x t h
+
+-- whether the index tells that they are plain
+pub plain_read : (rows : Rows) (plain : List Bool) (n : ℕ) (x : Bool) → plain ≡ map (λ o. are_plain (live_in rows (Some o))) rows.objects → IsTrue (is_table rows n) → x ≡ get_or plain n x → x ≡ is_plain rows n
+unfolding live_fields
+plain_read rows plain n x h t at = read_plain rows rows.objects n x t (at ∙ ap (λ xs. get_or xs n x) h)
 
 count_within : (rows : Rows) (objects : List Object) (n : ℕ) → length (live_in rows (slice_get objects n)) ≤ widest_of objects
 count_within rows [] n = omega arith

@@ -126,7 +126,7 @@ zero_test z h = go z ((signed_Decides z (pos 0)).0 (both_true (is_member_value z
   go : (z : ℤ) → z ≡ pos 0 → (is_member_value z && int_eq z (pos 0)) ≡ true → ⊥
   go z e h = let w : false ≡ true = ap (λ z. is_member_value z && int_eq z (pos 0)) (sym e) ∙ h in cc
 
-none_for_zero : (ms : List Member) → find (λ m. int_eq m.value (pos 0)) (filter (λ m. is_member_value m.value) ms) ≡ None
+pub none_for_zero : (ms : List Member) → find (λ m. int_eq m.value (pos 0)) (filter (λ m. is_member_value m.value) ms) ≡ None
 none_for_zero ms = find_filter (λ m. int_eq m.value (pos 0)) (λ m. is_member_value m.value) ms ∙ no_item (λ m. is_member_value m.value && int_eq m.value (pos 0)) ms (λ j d lt e. zero_test (get_or ms j d).value e)
 
 none_in : (b : Bool) (ms : List Member) → find (λ m. int_eq m.value (pos 0)) (if b then filter (λ m. is_member_value m.value) ms else []) ≡ None

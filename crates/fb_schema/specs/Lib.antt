@@ -6,6 +6,7 @@ pub mod Live
 pub mod Members
 pub mod Served
 pub mod Steps
+pub mod Targets
 pub mod Builders
 pub mod Examples
 pub mod LookUps

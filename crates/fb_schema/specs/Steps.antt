@@ -1,11 +1,12 @@
 -- What a reader of buffers does at each live field of a table.
-use Rattle.std.specs.Prelude.{ℕ, ◌==◌, ◌&&◌, if◌then◌else◌}
+use Rattle.std.specs.Prelude.{ℕ, ◌==◌, ◌&&◌, if◌then◌else◌, Bool, true, false, List, [], ◌∷◌}
 use Rattle.fb_schema.specs.declared.kinds.Kind.{Kind}
 use Rattle.fb_schema.specs.declared.kinds.Kind.TheVariants.{Scalar, Text, Struct, Table, Union, Scalars, Texts, Structs, Tables, Unions}
 use Rattle.fb_schema.specs.declared.views.Act.{Act}
 use Rattle.fb_schema.specs.declared.views.Act.TheVariants.{One, Two, Four, Eight, Inline, Text as AText, Vector, Other}
 use Rattle.fb_schema.specs.declared.views.Step.{Step}
-use Rattle.fb_schema.specs.Live.{Live}
+use Rattle.fb_schema.specs.Live.{Live, live_fields}
+use Rattle.fb_schema.specs.Rows.{Rows}
 
 -- at a scalar or struct of this size and alignment
 abbrev pub inline_act : ℕ → ℕ → Act
@@ -31,3 +32,17 @@ act_of f (Unions e) = Other
 -- the step of a field
 abbrev pub step_of : Live → Step
 step_of f = record { act = act_of f f.kind; required = f.required; slot = f.slot; size = f.size; align = f.align }
+
+-- what leads to no table
+abbrev pub is_plain_act : Act → Bool
+is_plain_act Other = false
+is_plain_act _ = true
+
+-- none of these fields leads to a table
+abbrev pub are_plain : List Live → Bool
+are_plain [] = true
+are_plain (f ∷ fs) = is_plain_act (act_of f f.kind) && are_plain fs
+
+-- no live field of table n leads to a table
+abbrev pub is_plain : Rows → ℕ → Bool
+is_plain rows n = are_plain (live_fields rows n)

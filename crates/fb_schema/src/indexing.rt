@@ -14,7 +14,8 @@ use crate::kinds::Kind;
 use crate::lists::Lists;
 use crate::live::table_views;
 use crate::rows::MemberRow;
-use crate::steps::field_steps;
+use crate::steps::{are_plain, field_steps};
+use crate::targets::enum_targets;
 use crate::types::RowLists;
 use crate::views::FieldView;
 use std::alloc::{AllocError, Allocator};
@@ -82,6 +83,7 @@ impl<'n, A: Allocator + Copy> LiveIndex<'n, A> {
         self.names.push(&names)?;
         self.steps.push(&steps)?;
         self.required.push(required_end(&fields))?;
+        self.plain.push(are_plain(&fields))?;
         let next = next_required(alloc, &fields)?;
         self.next_required.push(&next)?;
         Ok(())
@@ -91,18 +93,23 @@ impl<'n, A: Allocator + Copy> LiveIndex<'n, A> {
 impl<'n, A: Allocator + Copy> MemberIndex<'n, A> {
     /// Adds what is kept of the enum with this number, behind those before it.
     fn add(&mut self, alloc: A, rows: &RowLists<'_, 'n>, n: usize) -> Result<(), AllocError>
+        requires legal { IsLegal (borrowed_rows rows.now) }
         requires few { All (λ e. vec_len e.members < 2 ^ 31) rows.now.enums.now }
         requires here { n < length rows.now.enums.now }
         requires before { IsMemberIndex (borrowed_rows rows.now) (take n rows.now.enums.now) self.old }
         ensures { OnOk result (IsMemberIndex (borrowed_rows rows.now) (take (n + 1) rows.now.enums.now) self.new) }
     {
-        let members = rows.enums[n].members.as_slice();
+        let row = &rows.enums[n];
+        let members = row.members.as_slice();
         let kinds = member_kinds(alloc, rows, members)?;
         let values = in_order(alloc, members, |member| member.value)?;
         let names = in_order(alloc, members, |member| (is_none(member), member.name))?;
         self.kinds.push(&kinds)?;
         self.values.push(&values)?;
         self.names.push(&names)?;
+        let found = enum_targets(alloc, rows, row.is_union, &values, &kinds)?;
+        self.places.push(&found.places)?;
+        self.targets.push(&found.targets)?;
         Ok(())
     }
 }
@@ -121,6 +128,7 @@ pub fn live_index<'n, A: Allocator + Copy>(
         names: Lists::new(alloc),
         steps: Lists::new(alloc),
         required: Vec::new(alloc),
+        plain: Vec::new(alloc),
         next_required: Lists::new(alloc),
         widest: 0,
     };
@@ -135,11 +143,14 @@ pub fn member_index<'n, A: Allocator + Copy>(
     alloc: A,
     rows: &RowLists<'_, 'n>,
 ) -> Result<MemberIndex<'n, A>, AllocError>
-    requires { All (λ e. vec_len e.members < 2 ^ 31) rows.now.enums.now }
+    requires legal { IsLegal (borrowed_rows rows.now) }
+    requires few { All (λ e. vec_len e.members < 2 ^ 31) rows.now.enums.now }
     ensures { IfOk result (IsMemberIndex (borrowed_rows rows.now) rows.now.enums.now) }
 {
     let mut index = MemberIndex {
         kinds: Lists::new(alloc),
+        places: Lists::new(alloc),
+        targets: Lists::new(alloc),
         values: Lists::new(alloc),
         names: Lists::new(alloc),
     };

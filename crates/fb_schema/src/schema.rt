@@ -1,7 +1,7 @@
 // A legal schema.
 
 ghost use Rattle.std.specs.Prelude.{◌≡◌, ◌<◌, map, length, IfOk, OnOk, IfErr, IfSome, IsTrue, option_map, slice_get, Some};
-ghost use Rattle.std.specs.Prelude.{position, ◌≤◌, ◌^◌, find, pos};
+ghost use Rattle.std.specs.Prelude.{position, ℕ, ◌≤◌, ◌^◌, find, pos};
 ghost use Rattle.std.specs.Ordering.{int_eq};
 ghost use Rattle.std.specs.Str.{bytes_eq};
 ghost use Rattle.fb_schema.specs.Rows.{AreFew, rows_of, is_table, is_union, table_named, member_of_row};
@@ -10,7 +10,8 @@ ghost use Rattle.fb_schema.specs.Live.{live_fields, live_of_view, field_named, r
 ghost use Rattle.fb_schema.specs.Members.{member_of, member_named, member_name};
 ghost use Rattle.fb_schema.specs.Demands.{IsLegal, Refuses};
 ghost use Rattle.fb_schema.specs.Served.{IsServed, HaveKinds};
-ghost use Rattle.fb_schema.specs.Steps.{step_of};
+ghost use Rattle.fb_schema.specs.Steps.{is_plain, step_of};
+ghost use Rattle.fb_schema.specs.Targets.{target_at, target_of};
 
 use crate::fault::SchemaFault;
 use crate::index::{LiveIndex, MemberIndex};
@@ -20,6 +21,7 @@ use crate::kinds::Kind;
 use crate::legal::legal;
 use crate::rows::{EnumRow, MemberRow, ObjectRow};
 use crate::sorting::place_of;
+use crate::targets::{Targets, kind_at};
 use crate::types::RowLists;
 use crate::views::{FieldView, ObjectView, Step};
 use std::alloc::{Allocator, Global};
@@ -202,6 +204,15 @@ impl<'n, A: Allocator + Copy> Schema<'n, A> {
         self.live.required[n as usize]
     }
 
+    /// Whether no live field of a table leads to a table, or to more than one string.
+    #[inline(always)]
+    pub fn is_plain(&self, n: u32) -> bool
+        requires { IsTrue (is_table self.now n) }
+        ensures { result ≡ is_plain self.now n }
+    {
+        self.live.plain[n as usize]
+    }
+
     /// The place of the next live field of a table that is required, from place `i` on, none where none is: so fields
     /// that may be absent are passed at once.
     #[inline(always)]
@@ -222,13 +233,20 @@ impl<'n, A: Allocator + Copy> Schema<'n, A> {
         requires { IsTrue (is_union self.now e) }
         ensures { result ≡ member_of self.now e value }
     {
-        if value == 0 {
-            return None;
-        }
         let values = self.members.values.get(e as usize);
-        match place_of(values, &i64::from(value)) {
-            Some(place) => self.members.kinds.get(e as usize)[place as usize],
-            None => None,
+        let kinds = self.members.kinds.get(e as usize);
+        kind_at(values, kinds, value)
+    }
+
+    /// What the offset words of a union lead to, by their types: for whoever looks up many of them.
+    #[inline(always)]
+    pub fn targets_of(&self, e: u32) -> Targets<'_>
+        requires { IsTrue (is_union self.now e) }
+        ensures { (value : ℕ) → value < 256 → target_at result.places.now result.targets.now value ≡ target_of self.now (member_of self.now e value) }
+    {
+        Targets {
+            places: self.members.places.get(e as usize),
+            targets: self.members.targets.get(e as usize),
         }
     }
 

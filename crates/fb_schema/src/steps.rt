@@ -2,7 +2,7 @@
 
 ghost use Rattle.std.specs.Prelude.{◌≡◌, map, IfOk};
 ghost use Rattle.fb_schema.specs.Live.{live_of_view};
-ghost use Rattle.fb_schema.specs.Steps.{inline_act, act_of, step_of};
+ghost use Rattle.fb_schema.specs.Steps.{inline_act, act_of, is_plain_act, are_plain, step_of};
 
 use crate::kinds::Kind;
 use crate::views::{Act, FieldView, Step};
@@ -35,6 +35,26 @@ fn act_of(field: &FieldView<'_>) -> Act
         Kind::Scalars(_) | Kind::Structs(_) => Act::Vector,
         _ => Act::Other,
     }
+}
+
+/// Whether what is done at a field leads to no table.
+fn is_plain_act(act: Act) -> bool
+    ensures { result ≡ is_plain_act act }
+{
+    !matches!(act, Act::Other)
+}
+
+/// Whether none of these fields leads to a table.
+pub fn are_plain(fields: &[FieldView<'_>]) -> bool
+    ensures { result ≡ are_plain (map live_of_view fields.now) }
+{
+    let mut plain = true;
+    for field in fields {
+        if !is_plain_act(act_of(field)) {
+            plain = false;
+        }
+    }
+    plain
 }
 
 /// The step of a field.

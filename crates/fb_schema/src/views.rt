@@ -50,6 +50,28 @@ pub enum Act {
     Other,
 }
 
+/// What an offset word of a union leads to.
+#[derive(Clone, Copy, Debug, PartialEq, Eq)]
+pub enum Goal {
+    /// Its type has no member.
+    Nothing,
+    Text,
+    Table,
+    Struct,
+}
+
+/// What an offset word of a union leads to, by the member that its type has.
+///
+/// `object` is the number of a table or struct; `size` and `align` are those of a struct, in bytes. What says nothing
+/// is 0.
+#[derive(Clone, Copy, Debug, PartialEq, Eq)]
+pub struct Target {
+    pub goal: Goal,
+    pub object: u32,
+    pub size: u32,
+    pub align: u32,
+}
+
 /// A live field of a table in a few bytes: what a reader passes it by. `slot`, `size`, `align` and `required` are those
 /// of its [`FieldView`].
 #[derive(Clone, Copy, Debug, PartialEq, Eq)]

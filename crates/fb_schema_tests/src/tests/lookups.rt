@@ -3,7 +3,7 @@
 
 use super::cases::same;
 use case_text::rows::schema_of;
-use fb_schema::{FieldView, Schema, Step};
+use fb_schema::{FieldView, Goal, Schema, Step, Target};
 use std::alloc::{AllocError, Global};
 use std::process::Abort;
 use std::test::Fail;
@@ -82,6 +82,116 @@ fn each_live_field_has_its_step(rt: HostRuntime) -> Result<(), Fail> {
     assert!(rt; schema.is_table(2));
     let told = line(rt.alloc(), schema.steps_of(2))?;
     same(&rt, told.as_str(), STEPS, "steps");
+    Ok(())
+}
+
+/// Tables whose fields are all in place, strings or vectors of these, with one that is gone, and tables of one field more.
+const PLAIN: &str = "S struct 4/4: x@0 int; \
+    Empty table: ; Plain table: a@4 int, b@6 obj#0, c@8 string, d@10 [byte], e@12 [obj]#0, f@14 obj#1 gone; \
+    Table table: a@4 int, b@6 obj#1; Tables table: a@4 [obj]#1, b@6 int; Texts table: a@4 [string]; \
+    Union table: a@4 utype, b@6 union#0; Unions table: a@4 [utype], b@6 [union]#0; U union: T=1 obj#1";
+
+#[test]
+fn a_table_is_plain_where_no_live_field_leads_on(rt: HostRuntime) -> Result<(), Fail> {
+    let schema = schema_of(rt.alloc(), PLAIN)?;
+    for n in 1..8u32 {
+        assert!(rt; schema.is_table(n));
+        assert_eq!(rt; schema.is_plain(n), n < 3, "table {n}");
+    }
+    Ok(())
+}
+
+/// Asserts what the offset words of a union lead to, by their types.
+fn targets_are(rt: &impl Abort, schema: &Schema, e: u32, want: &[(u8, Target)]) {
+    assert!(rt; schema.is_union(e));
+    for (value, target) in want {
+        assert_eq!(rt;
+            schema.targets_of(e).get(*value),
+            *target,
+            "enum {e}, value {value}"
+        );
+    }
+}
+
+/// A target of this goal and object, without a size.
+fn to(goal: Goal, object: u32) -> Target {
+    Target {
+        goal,
+        object,
+        size: 0,
+        align: 0,
+    }
+}
+
+#[test]
+fn the_target_of_a_type_is_that_of_its_member(rt: HostRuntime) -> Result<(), Fail> {
+    let schema = schema_of(rt.alloc(), EVERY_KIND)?;
+    let nothing = to(Goal::Nothing, 0);
+    let structure = Target {
+        goal: Goal::Struct,
+        object: 1,
+        size: 12,
+        align: 4,
+    };
+    targets_are(
+        &rt,
+        &schema,
+        1,
+        &[
+            (0, nothing),
+            (1, to(Goal::Table, 2)),
+            (2, to(Goal::Text, 0)),
+            (3, nothing),
+            (199, nothing),
+            (200, structure),
+            (201, nothing),
+            (255, nothing),
+        ],
+    );
+    Ok(())
+}
+
+/// A union of as many members as there are types, the one of 0 too, of which each is a string but the first and last.
+fn full_union(alloc: Global) -> Result<String, AllocError> {
+    let mut text = format!(in alloc; "T table: ; U union: a0=0 obj#0")?;
+    for value in 1..255u32 {
+        let member = format!(in alloc; ", a{value}={value} string")?;
+        text.push_str(member.as_str())?;
+    }
+    text.push_str(", a255=255 obj#0")?;
+    Ok(text)
+}
+
+#[test]
+fn a_union_of_all_types_has_a_target_of_each_but_0(rt: HostRuntime) -> Result<(), Fail> {
+    let text = full_union(rt.alloc())?;
+    let schema = schema_of(rt.alloc(), text.as_str())?;
+    targets_are(
+        &rt,
+        &schema,
+        0,
+        &[
+            (0, to(Goal::Nothing, 0)),
+            (1, to(Goal::Text, 0)),
+            (254, to(Goal::Text, 0)),
+            (255, to(Goal::Table, 0)),
+        ],
+    );
+    Ok(())
+}
+
+#[test]
+fn a_union_of_no_member_leads_to_nothing(rt: HostRuntime) -> Result<(), Fail> {
+    let schema = schema_of(rt.alloc(), "U union: ; V union: NONE=0 none")?;
+    let nothing = to(Goal::Nothing, 0);
+    for e in 0..2u32 {
+        targets_are(
+            &rt,
+            &schema,
+            e,
+            &[(0, nothing), (1, nothing), (255, nothing)],
+        );
+    }
     Ok(())
 }
 

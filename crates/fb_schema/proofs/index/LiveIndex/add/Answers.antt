@@ -5,7 +5,7 @@ use Rattle.fb_schema.specs.FlatLists.{lists_of}
 use Rattle.fb_schema.specs.Live.{required_end_of, live_in, live_of_view, by_slot, is_live, AreKinded, AreSpaced}
 use Rattle.fb_schema.specs.Sorting.{IsOrderOf, name_cmp}
 use Rattle.fb_schema.specs.Rows.{Object, borrowed_rows, object_of}
-use Rattle.fb_schema.specs.Steps.{step_of}
+use Rattle.fb_schema.specs.Steps.{step_of, are_plain}
 use Rattle.fb_schema.proofs.IndexLemmas.{legal_slots, matched_pushed, matched_step, lists_step, value_step, widest_step, kept_read, mapped_read, mapped_twice}
 use Rattle.fb_schema.proofs.Kinded.{rows_kinded, live_long}
 use Rattle.fb_schema.proofs.TypedLemmas.{rows_spaced}
@@ -67,9 +67,11 @@ returns g c =
           ∙ ap (λ fields. map step_of (map live_of_view fields)) c.deref-2.ensures.value ∙ ap (map step_of) c.in_ok-fields.ensures.value);
       required = value_step (λ o. required_end_of (live_in rows (Some o))) (map object_of objects) i o c.args.self.now.required.items _ c.required_end.result low is c.requires.before.required c.in_ok-push-4.ensures.items
           (c.required_end.ensures ∙ ap (λ fields. required_end_of (map live_of_view fields)) c.deref-6.ensures.value ∙ ap required_end_of c.in_ok-fields.ensures.value);
-      next_required = matched_step (λ o places. AreNextRequired (live_in rows (Some o)) places) (map object_of objects) i o (lists_of c.args.self.now.next_required) _ c.deref-8.result.now low is c.requires.before.next_required c.in_ok-push-5.ensures
-          (subst (λ fields. AreNextRequired fields c.deref-8.result.now) (ap (map live_of_view) c.deref-7.ensures.value ∙ c.in_ok-fields.ensures.value)
-          (subst (AreNextRequired (map live_of_view c.deref-7.result.now)) (sym c.deref-8.ensures.value) c.in_ok-next.ensures));
+      plain = value_step (λ o. are_plain (live_in rows (Some o))) (map object_of objects) i o c.args.self.now.plain.items _ c.are_plain.result low is c.requires.before.plain c.in_ok-push-5.ensures.items
+          (c.are_plain.ensures ∙ ap (λ fields. are_plain (map live_of_view fields)) c.deref-7.ensures.value ∙ ap are_plain c.in_ok-fields.ensures.value);
+      next_required = matched_step (λ o places. AreNextRequired (live_in rows (Some o)) places) (map object_of objects) i o (lists_of c.args.self.now.next_required) _ c.deref-9.result.now low is c.requires.before.next_required c.in_ok-push-6.ensures
+          (subst (λ fields. AreNextRequired fields c.deref-9.result.now) (ap (map live_of_view) c.deref-8.ensures.value ∙ c.in_ok-fields.ensures.value)
+          (subst (AreNextRequired (map live_of_view c.deref-8.result.now)) (sym c.deref-9.ensures.value) c.in_ok-next.ensures));
       widest = widest_step (map object_of objects) i o c.args.self.now.widest c.max-self.result c.len.result low is c.requires.before.widest c.max-self.ensures
           (c.len.ensures ∙ c.in_ok-fields.fields.ok.0 ∙ sym (length-map views live_of_view) ∙ ap length c.in_ok-fields.ensures.value
           ∙ live_long rows c.requires.legal i o (object_there g (goal.at.returns g c).After-index-rows-n));

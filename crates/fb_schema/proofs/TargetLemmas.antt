@@ -1,0 +1,96 @@
+-- The targets of a union are found by the values that its members have.
+use Rattle.std.proofs.Common.{◌≡◌, ℕ, zero, suc, ◌+◌, ◌<◌, ◌≤◌, ◌⊎◌, inl, inr, List, [], ◌∷◌, ◌++◌, length, get_or, slice_get, take, map, true, refl, sym, subst, ◌∙◌, ap, arith}
+use Rattle.std.proofs.lemmas.List.{get_or_append_left}
+use Rattle.std.proofs.Math.Seq.{get_or-append_seam}
+use Rattle.std.proofs.lemmas.Grind.{take_at_read}
+use Rattle.std.specs.Option.{option_and_then}
+use Rattle.fb_schema.specs.declared.rows.EnumRow.{EnumRow}
+use Rattle.fb_schema.specs.declared.views.Target.{Target}
+use Rattle.fb_schema.specs.Kinds.{kind_of}
+use Rattle.fb_schema.specs.Rows.{Rows, Member, member_of_row}
+use Rattle.fb_schema.specs.Targets.{nothing, target_at, target_of, kind_among, AreTargets, HaveTargets}
+use Rattle.fb_schema.proofs.IndexLemmas.{length_one, slice_get_end, slice_get_below}
+use Rattle.fb_schema.proofs.Numbers.{lt_or_eq}
+use Rattle.fb_schema.proofs.UnionLemmas.{none_for_zero}
+
+-- the first item of a list that was empty
+pub only_item : {X : Type 0} (old new : List X) (x : X) → old ≡ [] → new ≡ old ++ x ∷ [] → new ≡ x ∷ []
+only_item old new x e f = f ∙ ap (λ xs. xs ++ x ∷ []) e
+
+abbrev no_places : List ℕ
+no_places = 0 ∷ []
+
+pub first_place : (places : List ℕ) → places ≡ 0 ∷ [] → (k : ℕ) → get_or places k 0 ≡ 0
+first_place places e k = ap (λ ps. get_or ps k 0) e ∙ go k where
+  go : (k : ℕ) → get_or no_places k 0 ≡ 0
+  go zero = refl
+  go (suc k) = refl
+
+-- the value 0 leads to nothing
+pub zero_target : (rows : Rows) (members : List Member) → nothing ≡ target_of rows (kind_among rows members 0)
+zero_target rows members = sym (ap (target_of rows) (ap (option_and_then (λ (m : Member). kind_of rows m.ty)) (none_for_zero members)))
+
+-- one place more
+pub grown : (places : List ℕ) (place k : ℕ) → (get_or (places ++ place ∷ []) k 0 ≡ get_or places k 0) ⊎ ((k ≡ length places) × (get_or (places ++ place ∷ []) k 0 ≡ place))
+grown [] place zero = inr (refl, refl)
+grown [] place (suc k) = inl refl
+grown (p ∷ ps) place zero = inl refl
+grown (p ∷ ps) place (suc k) = elim (grown ps place k) [ inl e ↦ inl e | inr h ↦ inr (ap suc h.0, h.1) ]
+
+module _ (places : List ℕ) (place n : ℕ) (long : length places ≡ n) where
+  pub long_step : length (places ++ place ∷ []) ≡ n + 1
+  long_step = let one = length_one places place in omega (arith, one, long)
+
+  pub within_step : (old new : ℕ) → old ≤ new → place < new → ((k : ℕ) → get_or places k 0 < old) → (k : ℕ) → get_or (places ++ place ∷ []) k 0 < new
+  within_step old new le lt h k = elim (grown places place k) [ inl e ↦ (let w = h k in omega arith) | inr here ↦ (let w = here.1 in omega arith) ]
+
+  pub behind_taken : (end : ℕ) → end ≤ n → ((k : ℕ) → end ≤ k → get_or places k 0 ≡ 0) → (k : ℕ) → n + 1 ≤ k → get_or (places ++ place ∷ []) k 0 ≡ 0
+  behind_taken end le h k low = elim (grown places place k) [ inl e ↦ e ∙ h k (omega arith) | inr here ↦ absurd (let w = here.0 in omega arith) ]
+
+  pub behind_none : (end : ℕ) → place ≡ 0 → ((k : ℕ) → end ≤ k → get_or places k 0 ≡ 0) → (k : ℕ) → end ≤ k → get_or (places ++ place ∷ []) k 0 ≡ 0
+  behind_none end z h k low = elim (grown places place k) [ inl e ↦ e ∙ h k low | inr here ↦ here.1 ∙ z ]
+
+  pub found_step : (old new : List Target) (wanted : ℕ → Target) → ((k : ℕ) → get_or places k 0 < length old)
+      → ((k : ℕ) → k < length old → get_or new k nothing ≡ get_or old k nothing)
+      → ((k : ℕ) → k < n → target_at places old k ≡ wanted k) → get_or new place nothing ≡ wanted n
+      → (k : ℕ) → k < n + 1 → target_at (places ++ place ∷ []) new k ≡ wanted k
+  found_step old new wanted within kept found here k lt = elim (lt_or_eq k n (omega arith)) [
+    | inl low ↦ ap (λ p. get_or new p nothing) (get_or_append_left places (place ∷ []) 0 k (omega (arith, low, long))) ∙ kept (get_or places k 0) (within k) ∙ found k low
+    | inr same ↦ subst (λ j. target_at (places ++ place ∷ []) new j ≡ wanted j) (long ∙ sym same)
+        (ap (λ p. get_or new p nothing) (get_or-append_seam places place [] 0) ∙ here ∙ ap wanted (sym long))
+  ]
+
+-- one enum more, with its places and targets
+have_more : (rows : Rows) (enums : List EnumRow) (places : List (List ℕ)) (targets : List (List Target)) (row : EnumRow) (ps : List ℕ) (ts : List Target) → HaveTargets rows enums places targets
+    → (row.is_union ≡ true → AreTargets rows (map member_of_row row.members.items) ps ts) → HaveTargets rows (enums ++ row ∷ []) (places ++ ps ∷ []) (targets ++ ts ∷ [])
+have_more rows enums places targets row ps ts h r = record {
+  long_places = length_one places ps ∙ ap suc h.long_places ∙ sym (length_one enums row);
+  long_targets = length_one targets ts ∙ ap suc h.long_targets ∙ sym (length_one enums row);
+  at = λ n a b d e f k. elim (slice_get_end enums row a n e) [
+    | inl old ↦ (
+      let low = slice_get_below enums a n old in
+      elim (slice_get_end places ps b n f) [
+        | inr here ↦ absurd (let m = here.0 in let l = h.long_places in omega arith)
+        | inl there ↦ elim (slice_get_end targets ts d n k) [ inr here ↦ absurd (let m = here.0 in let l = h.long_targets in omega arith) | inl too ↦ h.at n a b d old there too ]
+      ])
+    | inr new ↦ elim (slice_get_end places ps b n f) [
+      | inl there ↦ absurd (let lt = slice_get_below places b n there in let m = new.0 in let l = h.long_places in omega arith)
+      | inr here ↦ elim (slice_get_end targets ts d n k) [
+        | inl there ↦ absurd (let lt = slice_get_below targets d n there in let m = new.0 in let l = h.long_targets in omega arith)
+        | inr last ↦ subst (λ x. x.is_union ≡ true → AreTargets rows (map member_of_row x.members.items) b d) new.1
+            (subst (λ y. row.is_union ≡ true → AreTargets rows (map member_of_row row.members.items) y d) here.1
+            (subst (λ z. row.is_union ≡ true → AreTargets rows (map member_of_row row.members.items) ps z) last.1 r))
+      ]
+    ]
+  ];
+}
+
+-- a step of the loop over enums
+pub have_step : (rows : Rows) (enums : List EnumRow) (i : ℕ) (row : EnumRow) (places places' : List (List ℕ)) (targets targets' : List (List Target)) (ps : List ℕ) (ts : List Target) → i < length enums → row ≡ get_or enums i row
+    → HaveTargets rows (take i enums) places targets → places' ≡ places ++ ps ∷ [] → targets' ≡ targets ++ ts ∷ []
+    → (row.is_union ≡ true → AreTargets rows (map member_of_row row.members.items) ps ts) → HaveTargets rows (take (i + 1) enums) places' targets'
+have_step rows enums i row places places' targets targets' ps ts lt is h e f r =
+    let more : take i enums ++ row ∷ [] ≡ take (i + 1) enums = ap (λ z. take i enums ++ z ∷ []) is ∙ sym (take_at_read enums i row lt).1 in
+    subst (λ es. HaveTargets rows es places' targets') more
+    (subst (λ x. HaveTargets rows (take i enums ++ row ∷ []) x targets') (sym e)
+    (subst (HaveTargets rows (take i enums ++ row ∷ []) (places ++ ps ∷ [])) (sym f) (have_more rows (take i enums) places targets row ps ts h r)))

@@ -1,0 +1,58 @@
+-- What the offset words of a union lead to, found by their types.
+use Rattle.std.specs.Prelude.{◌≡◌, ℕ, ℤ, pos, ◌<◌, Bool, true, List, map, filter, find, length, slice_get, slice_index_or, Option, Some, None}
+use Rattle.std.specs.Option.{option_and_then}
+use Rattle.std.specs.Ordering.{int_eq, int_cmp}
+use Rattle.fb_schema.specs.declared.kinds.Kind.{Kind}
+use Rattle.fb_schema.specs.declared.kinds.Kind.TheVariants.{Scalar, Text, Struct, Table, Union, Scalars, Texts, Structs, Tables, Unions}
+use Rattle.fb_schema.specs.declared.rows.EnumRow.{EnumRow}
+use Rattle.fb_schema.specs.declared.rows.MemberRow.{MemberRow}
+use Rattle.fb_schema.specs.declared.views.Goal.TheVariants.{Nothing, Text as AText, Table as ATable, Struct as AStruct}
+use Rattle.fb_schema.specs.declared.views.Target.{Target}
+use Rattle.fb_schema.specs.Demands.{first_code, members_asked}
+use Rattle.fb_schema.specs.Kinds.{kind_of, struct_size, struct_align}
+use Rattle.fb_schema.specs.Members.{is_member_value}
+use Rattle.fb_schema.specs.Rows.{Rows, Member, member_of_row}
+use Rattle.fb_schema.specs.Sorting.{IsOrderOf, member_value}
+
+-- nothing
+abbrev pub nothing : Target
+nothing = record { goal = Nothing; object = 0; size = 0; align = 0 }
+
+-- what an offset word leads to whose type has a member of this kind
+abbrev pub target_of : Rows → Option Kind → Target
+target_of rows None = nothing
+target_of rows (Some (Scalar s)) = nothing
+target_of rows (Some Text) = record { goal = AText; object = 0; size = 0; align = 0 }
+target_of rows (Some (Struct k)) = record { goal = AStruct; object = k; size = struct_size rows k; align = struct_align rows k }
+target_of rows (Some (Table k)) = record { goal = ATable; object = k; size = 0; align = 0 }
+target_of rows (Some (Union e)) = nothing
+target_of rows (Some (Scalars s)) = nothing
+target_of rows (Some Texts) = nothing
+target_of rows (Some (Structs k)) = nothing
+target_of rows (Some (Tables k)) = nothing
+target_of rows (Some (Unions e)) = nothing
+
+-- the target whose place stands at this value; where none stands there, the first
+abbrev pub target_at : List ℕ → List Target → ℕ → Target
+target_at places targets value = slice_index_or targets (slice_index_or places value 0) nothing
+
+-- the kind of the one of these members that has this value from 1 to 255
+abbrev pub kind_among : Rows → List Member → ℕ → Option Kind
+kind_among rows members value = option_and_then (λ m. kind_of rows m.ty) (find (λ m. int_eq m.value (pos value)) (filter (λ m. is_member_value m.value) members))
+
+-- at each value the target of the member that has it, and nothing where none has
+pub record AreTargets (rows : Rows) (members : List Member) (places : List ℕ) (targets : List Target) : Type 0 where
+  pub at : (value : ℕ) → value < 256 → target_at places targets value ≡ target_of rows (kind_among rows members value)
+
+-- the same of each union among these enums
+pub record HaveTargets (rows : Rows) (enums : List EnumRow) (places : List (List ℕ)) (targets : List (List Target)) : Type 0 where
+  pub long_places : length places ≡ length enums
+  pub long_targets : length targets ≡ length enums
+  pub at : (n : ℕ) (row : EnumRow) (ps : List ℕ) (ts : List Target) → slice_get enums n ≡ Some row → slice_get places n ≡ Some ps → slice_get targets n ≡ Some ts
+      → row.is_union ≡ true → AreTargets rows (map member_of_row row.members.items) ps ts
+
+-- the values of members that break no demand in order, and their kinds
+pub record AreSorted (rows : Rows) (members : List MemberRow) (values : List (ℤ × ℕ)) (kinds : List (Option Kind)) : Type 0 where
+  pub clear : (q : ℕ) → first_code (members_asked rows (map member_of_row members) q) ≡ None
+  pub rise : IsOrderOf int_cmp (map member_value members) values
+  pub are : kinds ≡ map (λ m. kind_of rows (member_of_row m).ty) members

@@ -1,0 +1,166 @@
+// What the offset words of a union lead to, found by their types without a search.
+
+ghost use Rattle.std.specs.Prelude.{◌≡◌, ◌<◌, ◌≤◌, ◌+◌, ℕ, List, map, length, slice_index_or, IfOk, OnOk, true};
+ghost use Rattle.fb_schema.specs.Rows.{Rows, borrowed_rows, member_of_row};
+ghost use Rattle.fb_schema.specs.Targets.{nothing, target_of, target_at, kind_among, AreTargets, AreSorted};
+ghost use Rattle.fb_schema.specs.declared.rows.MemberRow.{MemberRow};
+
+use crate::kinds::Kind;
+use crate::sorting::place_of;
+use crate::types::RowLists;
+use crate::views::{Goal, Target};
+use std::alloc::{AllocError, Allocator};
+
+/// Where the type of an offset word has no member.
+const NOTHING: Target = Target {
+    goal: Goal::Nothing,
+    object: 0,
+    size: 0,
+    align: 0,
+};
+
+/// What the offset words of a union lead to, by their types.
+///
+/// `places` has, at each type up to the greatest that a member has, the place of its target among `targets`, of which
+/// the first is that nothing is there. So a union takes a byte a value, and 16 bytes a member and once more.
+#[derive(Clone, Copy, Debug)]
+pub struct Targets<'s> {
+    pub places: &'s [u8],
+    pub targets: &'s [Target],
+}
+
+impl Targets<'_> {
+    /// What an offset word of this type leads to.
+    #[inline(always)]
+    pub fn get(&self, value: u8) -> Target
+        ensures { result ≡ target_at (self.now).places.now (self.now).targets.now value }
+    {
+        let place = match self.places.get(value as usize) {
+            Some(place) => *place,
+            None => 0,
+        };
+        match self.targets.get(place as usize) {
+            Some(target) => *target,
+            None => NOTHING,
+        }
+    }
+}
+
+/// The same while it is made.
+#[derive(Drop)]
+pub struct ByValue<A: Allocator> {
+    pub places: Vec<u8, A>,
+    pub targets: Vec<Target, A>,
+}
+
+/// The kind of the member with this value, by the values in order and the kinds of members.
+pub fn kind_at(values: &[(i64, u32)], kinds: &[Option<Kind>], value: u8) -> Option<Kind>
+    ensures { (rows : Rows) (members : List MemberRow) → AreSorted rows members values.now kinds.now → result ≡ kind_among rows (map member_of_row members) value }
+{
+    if value == 0 {
+        return None;
+    }
+    match place_of(values, &i64::from(value)) {
+        Some(place) => match kinds.get(place as usize) {
+            Some(kind) => *kind,
+            None => None,
+        },
+        None => None,
+    }
+}
+
+/// What an offset word leads to whose type has a member of this kind.
+fn target_of(rows: &RowLists, kind: Kind) -> Target
+    ensures { result ≡ target_of (borrowed_rows rows.now) (Some kind) }
+{
+    match kind {
+        Kind::Table(object) => Target {
+            goal: Goal::Table,
+            object,
+            ..NOTHING
+        },
+        Kind::Struct(object) => {
+            let layout = rows.layout_of(kind);
+            Target {
+                goal: Goal::Struct,
+                object,
+                size: layout.size,
+                align: layout.align,
+            }
+        }
+        Kind::Text => Target {
+            goal: Goal::Text,
+            ..NOTHING
+        },
+        _ => NOTHING,
+    }
+}
+
+/// The place of the target of a member of this kind, which is added; without a kind the first.
+fn add_target<A: Allocator>(
+    targets: &mut Vec<Target, A>,
+    rows: &RowLists,
+    kind: Option<Kind>,
+) -> Result<u8, AllocError>
+    requires first { slice_index_or targets.old.items 0 nothing ≡ nothing }
+    requires least { 0 < length targets.old.items }
+    requires few { length targets.old.items ≤ 255 }
+    ensures within { IfOk result (λ place. place < length targets.new.items) }
+    ensures target { IfOk result (λ place. slice_index_or targets.new.items place nothing ≡ target_of (borrowed_rows rows.now) kind) }
+    ensures kept { OnOk result ((k : ℕ) → k < length targets.old.items → slice_index_or targets.new.items k nothing ≡ slice_index_or targets.old.items k nothing) }
+    ensures longer { OnOk result (length targets.old.items ≤ length targets.new.items) }
+    ensures one { OnOk result (length targets.new.items ≤ length targets.old.items + 1) }
+{
+    match kind {
+        Some(kind) => {
+            let place = targets.len() as u8;
+            targets.push(target_of(rows, kind))?;
+            Ok(place)
+        }
+        None => Ok(0),
+    }
+}
+
+/// The targets of a union's members, by the values in order and the kinds of these.
+fn union_targets<A: Allocator + Copy>(
+    alloc: A,
+    rows: &RowLists,
+    values: &[(i64, u32)],
+    kinds: &[Option<Kind>],
+) -> Result<ByValue<A>, AllocError>
+    ensures { IfOk result (λ found. (members : List MemberRow) → AreSorted (borrowed_rows rows.now) members values.now kinds.now → AreTargets (borrowed_rows rows.now) (map member_of_row members) found.places.items found.targets.items) }
+{
+    let mut targets = Vec::new(alloc);
+    targets.push(NOTHING)?;
+    let mut places = Vec::new(alloc);
+    places.push(0)?;
+    let mut end = 0;
+    for value in 1..256usize {
+        let place = add_target(&mut targets, rows, kind_at(values, kinds, value as u8))?;
+        places.push(place)?;
+        if place != 0 {
+            end = value + 1;
+        }
+    }
+    places.truncate(end);
+    Ok(ByValue { places, targets })
+}
+
+/// The targets of an enum's members, none where it is no union.
+pub fn enum_targets<A: Allocator + Copy>(
+    alloc: A,
+    rows: &RowLists,
+    is_union: bool,
+    values: &[(i64, u32)],
+    kinds: &[Option<Kind>],
+) -> Result<ByValue<A>, AllocError>
+    ensures { IfOk result (λ found. is_union ≡ true → (members : List MemberRow) → AreSorted (borrowed_rows rows.now) members values.now kinds.now → AreTargets (borrowed_rows rows.now) (map member_of_row members) found.places.items found.targets.items) }
+{
+    if is_union {
+        return union_targets(alloc, rows, values, kinds);
+    }
+    Ok(ByValue {
+        places: Vec::new(alloc),
+        targets: Vec::new(alloc),
+    })
+}
