@@ -1,5 +1,5 @@
 -- The next required field of a table, from a place on.
-use Rattle.std.proofs.Common.{◌≡◌, ℕ, ◌+◌, ◌-◌, ◌<◌, ◌≤◌, ◌==◌, Bool, true, false, not, cond, nat_lt, List, [], ◌∷◌, length, drop, map, get_or, slice_get, set, position, option_map, IsTrue, Option, Some, None, refl, sym, ◌∙◌, ap, subst, arith, length-drop, inl, inr}
+use Rattle.std.proofs.Common.{◌≡◌, ℕ, ◌+◌, ◌-◌, ◌<◌, ◌≤◌, Bool, true, false, not, cond, nat_lt, List, [], ◌∷◌, length, drop, map, get_or, slice_get, set, position, option_map, IsTrue, Option, Some, None, refl, sym, ◌∙◌, ap, subst, arith, length-drop, inl, inr}
 use Rattle.std.specs.Borrow.{Bor}
 use Rattle.std.specs.List.{position_or_len}
 use Rattle.std.specs.Slice.{IsItemAt}

@@ -1,5 +1,5 @@
 -- The targets of a union are found by the values that its members have.
-use Rattle.std.proofs.Common.{◌≡◌, ℕ, zero, suc, ◌+◌, ◌<◌, ◌≤◌, ◌⊎◌, inl, inr, List, [], ◌∷◌, ◌++◌, length, get_or, slice_get, take, map, true, refl, sym, subst, ◌∙◌, ap, arith}
+use Rattle.std.proofs.Common.{◌≡◌, ℕ, zero, suc, ◌+◌, ◌<◌, ◌≤◌, ◌⊎◌, inl, inr, List, [], ◌∷◌, ◌++◌, length, get_or, take, map, true, refl, sym, subst, ◌∙◌, ap, arith}
 use Rattle.std.proofs.lemmas.List.{get_or_append_left}
 use Rattle.std.proofs.Math.Seq.{get_or-append_seam}
 use Rattle.std.proofs.lemmas.Grind.{take_at_read}
@@ -68,11 +68,11 @@ have_more rows enums places targets row ps ts h r = record {
   long_targets = length_one targets ts ∙ ap suc h.long_targets ∙ sym (length_one enums row);
   at = λ n a b d e f k. elim (slice_get_end enums row a n e) [
     | inl old ↦ (
-      let low = slice_get_below enums a n old in
-      elim (slice_get_end places ps b n f) [
-        | inr here ↦ absurd (let m = here.0 in let l = h.long_places in omega arith)
-        | inl there ↦ elim (slice_get_end targets ts d n k) [ inr here ↦ absurd (let m = here.0 in let l = h.long_targets in omega arith) | inl too ↦ h.at n a b d old there too ]
-      ])
+        let low = slice_get_below enums a n old in
+        elim (slice_get_end places ps b n f) [
+          | inr here ↦ absurd (let m = here.0 in let l = h.long_places in omega arith)
+          | inl there ↦ elim (slice_get_end targets ts d n k) [ inr here ↦ absurd (let m = here.0 in let l = h.long_targets in omega arith) | inl too ↦ h.at n a b d old there too ]
+        ])
     | inr new ↦ elim (slice_get_end places ps b n f) [
       | inl there ↦ absurd (let lt = slice_get_below places b n there in let m = new.0 in let l = h.long_places in omega arith)
       | inr here ↦ elim (slice_get_end targets ts d n k) [

@@ -2,7 +2,6 @@ use Rattle.std.proofs.Common.{◌≡◌, slice_index_or, slice_get, Some, true, 
 use Rattle.std.specs.Ordering.{int_cmp}
 use Rattle.fb_schema.specs.Kinds.{kind_of}
 use Rattle.std.proofs.lemmas.Option.{slice_get-get_or}
-use Rattle.fb_schema.specs.declared.rows.EnumRow.{EnumRow}
 use Rattle.fb_schema.specs.FlatLists.{lists_of}
 use Rattle.fb_schema.specs.Sorting.{IsOrderOf, member_cmp, member_value, member_key}
 use Rattle.fb_schema.specs.Rows.{borrowed_rows, member_of_row}
