@@ -350,19 +350,32 @@ class Names(Case):
             self.same(f"room for {room} bytes", narrowed(*BY_N, given=ODD + PAST, room=room),
                       Ran(3, whole[:room], lines(f"fbcheck: write failed after {room} bytes")))
 
+    def test_long_places(self):
+        """A place of up to 4,096 bytes is told whole, of a longer one the first 4,096 and `..`."""
+        for length in 4_095, 4_096, 4_097, 4_098, 1_000_000:
+            name = "L" * (length - len("in . []"))
+            path = file_of("long.bfbs", schema([table(name, field("v", INT, 4))], root=name))
+            told = f"in . [{name}]" if length <= 4_096 else f"in . [{name}"[:4_096] + ".."
+            ran = run("--schema", path, "--names", given=NOTHING)
+            self.same(f"a place of {length} bytes", ran, bad(f"1 {NO[NOTHING].partition(' in ')[0]} {told}"))
+
     def test_places_of_many_steps(self):
-        """A place is as long as its names and the depth make it."""
+        """A place is as long as its names and the depth make it, up to 4,096 bytes."""
         def way(step, count):
             return ".".join([step] * count).encode() or b"."
+
+        def place(step, count):
+            whole = b"in " + way(step, count) + b" [L]"
+            return whole if len(whole) <= 4_096 else whole[:4_096] + b".."
 
         deep = "--max-depth", "4096"
         for step in "next", "n" * 100:
             path = file_of("long.bfbs", schema([table("L", field(step, an_object(0), 4))], root="L"))
             words = "--schema", path, *deep
-            for count in 1, 2, 3, 64, 654, 656, 1000, 4096:
+            for count in 1, 2, 3, 41, 42, 64, 819, 820, 4096:
                 given = broken(count)
                 plain = run(*words, "--bare", given=given).out
-                want = plain[:-1] + b" in " + way(step, count - 1) + b" [L]\n"
+                want = plain[:-1] + b" " + place(step, count - 1) + b"\n"
                 self.same(f"{count} tables by {len(step)} letters", run(*words, "--bare", "--names", given=given),
                           Ran(1, want, b""))
                 self.same(f"{count} tables by {len(step)} letters, in the notes",
@@ -371,7 +384,7 @@ class Names(Case):
             ran = run(*words, "--names", given=stream)
             plain = run(*words, given=stream).out.splitlines()
             ways = {0: 4095, 2: 1, 3: 3999}
-            want = [line + b" in " + way(step, ways[number]) + b" [L]" if number in ways else line
+            want = [line + b" " + place(step, ways[number]) if number in ways else line
                     for number, line in enumerate(plain)]
             self.same(f"a stream by {len(step)} letters", (ran.status, ran.out.splitlines()), (1, want))
             for room in 0, 10, 60, 65_000, 65_600, len(ran.out) - 60, len(ran.out) - 1:
@@ -379,7 +392,7 @@ class Names(Case):
                     self.same(f"a stream by {len(step)} letters, with room for {room}",
                               narrowed(*words, "--names", given=stream, room=room),
                               Ran(3, ran.out[:room], lines(f"fbcheck: write failed after {room} bytes")))
-        told = b"1 bad V6 TooDeep at=32776 object=0 field=0 reads=16381 in " + way("next", 4095) + b" [L.next]\n"
+        told = b"1 bad V6 TooDeep at=32776 object=0 field=0 reads=16381 " + place("next", 4095) + b"\n"
         self.same("one level too many",
                   run("--schema", FILES["CHAIN"], "--bare", "--names", "--max-depth", "4095", given=levels(4096)),
                   Ran(1, told, b""))

@@ -29,6 +29,7 @@ pub mod Staying
 pub mod Shown
 pub mod ShownTree
 pub mod ShownPaths
+pub mod Filling
 pub mod ShownLocations
 pub mod Ways
 pub mod UniqueNames

@@ -4,12 +4,12 @@ use Rattle.std.specs.Fmt.{digits}
 use Rattle.fb_schema.specs.Kinds.{base_types, shape_of, kind_of}
 use Rattle.fb_schema.specs.Live.{live_fields}
 use Rattle.fb_schema.specs.Members.{member_name}
-use Rattle.fb_access.specs.Location.{location_text}
-use Rattle.fb_access.specs.LocationTests.{Told, Nameless, Masked, Ways}
+use Rattle.fb_access.specs.Location.{whole_text, location_text}
+use Rattle.fb_access.specs.LocationTests.{Told, Nameless, Masked, Ways, Long}
 
 -- all that is computed
 computing : ℕ
-unfolding live_fields shape_of kind_of base_types member_name location_text digits
+unfolding live_fields shape_of kind_of base_types member_name whole_text location_text digits
 computing = 0
 
 pub told_shown : Told
@@ -50,4 +50,13 @@ ways_shown = record {
   to_a_third_table = refl;
   to_its_field = refl;
   to_one_too_many = refl;
+}
+
+pub long_shown : Long
+unfolding computing
+long_shown = record {
+  whole = refl;
+  a_byte_more = refl;
+  a_whole_place = refl;
+  a_place_of_a_byte_more = refl;
 }

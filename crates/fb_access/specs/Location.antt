@@ -1,5 +1,5 @@
 -- Where a fault is, in words.
-use Rattle.std.specs.Prelude.{ℕ, ◌==◌, ◌||◌, if◌then◌else◌, List, [], ◌∷◌, ◌++◌, map, slice_get, Option, Some, None, option_map, option_and_then, codes, decimal}
+use Rattle.std.specs.Prelude.{ℕ, ◌-◌, ◌==◌, ◌||◌, nat_lt, if◌then◌else◌, List, [], ◌∷◌, ◌++◌, length, take, map, slice_get, Option, Some, None, option_map, option_and_then, codes, decimal}
 use Rattle.std.specs.List.{flat_map}
 use Rattle.fb_schema.specs.declared.kinds.Kind.{Kind}
 use Rattle.fb_schema.specs.declared.kinds.Kind.TheVariants.{Union, Unions}
@@ -55,6 +55,18 @@ path_text S (link ∷ links) = link_text S link ++ flat_map (λ l. codes "." ++ 
 abbrev pub owner_text : Rows → Fault → List ℕ
 owner_text S f = named [] (option_map (λ o. o.name) (slice_get S.objects f.object)) ++ named (codes ".") (option_and_then (field_name S f.object) f.field)
 
--- what is told of where the fault is to which these links lead
+-- where the fault is to which these links lead
+unfoldable pub whole_text : Rows → Fault → List Link → List ℕ
+whole_text S f links = codes "in " ++ path_text S links ++ codes " [" ++ owner_text S f ++ codes "]"
+
+-- a text of at most so many bytes whole, and of a longer one as many and `..`
+abbrev pub cut_to : ℕ → List ℕ → List ℕ
+cut_to most text = if nat_lt most (length text) then take most text ++ codes ".." else text
+
+-- what is told of where the fault is
 unfoldable pub location_text : Rows → Fault → List Link → List ℕ
-location_text S f links = codes "in " ++ path_text S links ++ codes " [" ++ owner_text S f ++ codes "]"
+location_text S f links = cut_to 4096 (whole_text S f links)
+
+-- behind what was there, as much of a text as brings both to so many bytes
+unfoldable pub filled : ℕ → List ℕ → List ℕ → List ℕ
+filled most before text = before ++ take (most - length before) text

@@ -1,12 +1,13 @@
 -- Where faults are, in words, by example.
-use Rattle.std.specs.Prelude.{◌≡◌, ℕ, List, [], ◌∷◌, codes, Option, Some, None}
+use Rattle.std.specs.Prelude.{◌≡◌, ℕ, List, [], ◌∷◌, ◌++◌, codes, Option, Some, None}
+use Rattle.std.specs.Prelude.{replicate}
 use Rattle.fb_schema.specs.Rows.{Rows}
 use Rattle.fb_verify.specs.Samples.{short, field, table}
 use Rattle.fb_verify.specs.declared.fault.Fault.{Fault}
 use Rattle.fb_verify.specs.declared.fault.Reason.TheVariants.{OutOfBuffer, ZeroOffset, TooManyTables}
 use Rattle.fb_verify.specs.declared.links.Link.{Link}
 use Rattle.fb_verify.specs.LinkExamples.{herds, link, fault, to_third}
-use Rattle.fb_access.specs.Location.{name_text, location_text}
+use Rattle.fb_access.specs.Location.{cut_to, name_text, location_text}
 use Rattle.fb_access.specs.Samples.{rows}
 
 -- a fault in a table of this object, at the field with this number if there is one
@@ -55,3 +56,14 @@ pub record Ways : Type 0 where
   pub to_a_third_table : location_text herds (fault OutOfBuffer 64 2 None 21) (to_third []) ≡ codes "in u@H.list[2] [C]"
   pub to_its_field : location_text herds (fault ZeroOffset 68 2 (Some 0) 24) (to_third (link 2 0 None None ∷ [])) ≡ codes "in u@H.list[2].name [C.name]"
   pub to_one_too_many : location_text herds (fault TooManyTables 64 1 (Some 0) 20) (to_third []) ≡ codes "in u@H.list[2] [H.list]"
+
+-- a table whose name is so many times an `a`
+abbrev pub rows_named : ℕ → Rows
+rows_named n = record { objects = table (replicate n 97) [] ∷ []; enums = [] }
+
+-- a text that is as long as may be, and one of a byte more; and so of a place of 4,096 bytes
+pub record Long : Type 0 where
+  pub whole : cut_to 5 (codes "whole") ≡ codes "whole"
+  pub a_byte_more : cut_to 5 (codes "longer") ≡ codes "longe.."
+  pub a_whole_place : location_text (rows_named 4089) (fault_in 0 None) [] ≡ codes "in . [" ++ replicate 4089 97 ++ codes "]"
+  pub a_place_of_a_byte_more : location_text (rows_named 4090) (fault_in 0 None) [] ≡ codes "in . [" ++ replicate 4090 97 ++ codes ".."

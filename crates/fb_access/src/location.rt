@@ -1,10 +1,10 @@
 // Where a fault is, in words.
 
-ghost use Rattle.std.specs.Prelude.{◌≡◌, ◌++◌, [], slice_get, codes, option_map, option_and_then, OnOk};
+ghost use Rattle.std.specs.Prelude.{◌≡◌, ◌++◌, [], take, slice_get, codes, option_map, option_and_then, OnOk};
 ghost use Rattle.std.specs.List.{flat_map};
 ghost use Rattle.fb_schema.specs.Live.{live_of_view};
 ghost use Rattle.fb_access.specs.Fitting.{numbered};
-ghost use Rattle.fb_access.specs.Location.{name_byte, name_text, named, field_name, link_member, element_text, link_text, path_text, location_text};
+ghost use Rattle.fb_access.specs.Location.{name_byte, name_text, named, field_name, link_member, element_text, link_text, path_text, whole_text, location_text, filled};
 
 use crate::field::field_numbered;
 use fb_schema::{FieldView, Kind, Schema};
@@ -12,14 +12,17 @@ use fb_verify::{Fault, Link};
 use itoa::Buffer;
 use std::alloc::{AllocError, Allocator};
 
+/// The most bytes of a place that are told.
+const MOST: usize = 4_096;
+
 /// Adds where a fault is to a text, by the names of the schema: `in `, the path of what is under check, to which these
 /// links lead, and in brackets its table's full name with the field's. A byte of a name that no identifier has stands
-/// as `?`.
+/// as `?`. Of more than 4,096 bytes the first 4,096 and `..` are added, and no more is copied than one byte beyond.
 ///
 /// # Errors
 ///
 /// `AllocError` where memory was refused.
-#[tactic(auto, unfolding(crate::specs::Location::location_text))]
+#[tactic(auto, using(crate::proofs::Filling::told_whole, crate::proofs::Filling::told_cut), unfolding(crate::specs::Location::location_text))]
 pub fn put_location<A: Allocator>(
     text: &mut Vec<u8, A>,
     schema: &Schema<'_>,
@@ -28,87 +31,133 @@ pub fn put_location<A: Allocator>(
 ) -> Result<(), AllocError>
     ensures ok { OnOk result (text.new.items ≡ text.old.items ++ location_text schema.now fault.now links.now) }
 {
-    text.extend_from_slice(b"in ")?;
-    put_path(text, schema, links)?;
-    text.extend_from_slice(b" [")?;
-    put_named(text, b"", object_name(schema, fault.object))?;
-    put_named(text, b".", field_of(schema, fault))?;
-    text.extend_from_slice(b"]")
+    let end = text.len() + MOST;
+    put_front(text, end + 1, schema, fault, links)?;
+    if text.len() <= end {
+        return Ok(());
+    }
+    text.truncate(end);
+    text.extend_from_slice(b"..")
 }
 
-/// Adds the path to which links lead.
+/// Adds where a fault is, up to so many bytes in all.
+#[tactic(auto, using(crate::proofs::Filling::filled_twice), unfolding(crate::specs::Location::whole_text))]
+fn put_front<A: Allocator>(
+    text: &mut Vec<u8, A>,
+    most: usize,
+    schema: &Schema<'_>,
+    fault: &Fault,
+    links: &[Link],
+) -> Result<(), AllocError>
+    ensures { OnOk result (text.new.items ≡ filled most text.old.items (whole_text schema.now fault.now links.now)) }
+{
+    put_text(text, most, b"in ")?;
+    put_path(text, most, schema, links)?;
+    put_text(text, most, b" [")?;
+    put_named(text, most, b"", object_name(schema, fault.object))?;
+    put_named(text, most, b".", field_of(schema, fault))?;
+    put_text(text, most, b"]")
+}
+
+/// Adds the path to which links lead, up to so many bytes in all.
+#[tactic(auto, using(crate::proofs::Filling::filled_twice))]
 fn put_path<A: Allocator>(
     text: &mut Vec<u8, A>,
+    most: usize,
     schema: &Schema<'_>,
     links: &[Link],
 ) -> Result<(), AllocError>
-    ensures { OnOk result (text.new.items ≡ text.old.items ++ path_text schema.now links.now) }
+    ensures { OnOk result (text.new.items ≡ filled most text.old.items (path_text schema.now links.now)) }
 {
     match links.split_first() {
-        None => text.extend_from_slice(b"."),
+        None => put_text(text, most, b"."),
         Some((first, rest)) => {
-            put_link(text, schema, first)?;
-            put_links(text, schema, rest)
+            put_link(text, most, schema, first)?;
+            put_links(text, most, schema, rest)
         }
     }
 }
 
-/// Adds links, each behind a dot.
+/// Adds links, each behind a dot, up to so many bytes in all.
 fn put_links<A: Allocator>(
     text: &mut Vec<u8, A>,
+    most: usize,
     schema: &Schema<'_>,
     links: &[Link],
 ) -> Result<(), AllocError>
-    ensures { OnOk result (text.new.items ≡ text.old.items ++ flat_map (λ l. codes "." ++ link_text schema.now l) links.now) }
+    ensures { OnOk result (text.new.items ≡ filled most text.old.items (flat_map (λ l. codes "." ++ link_text schema.now l) links.now)) }
 {
     for link in links {
-        text.extend_from_slice(b".")?;
-        put_link(text, schema, link)?;
+        put_text(text, most, b".")?;
+        put_link(text, most, schema, link)?;
     }
     Ok(())
 }
 
-/// Adds one link: a field, and the element and the member that it has of it.
+/// Adds one link, a field with the element and the member that it has of it, up to so many bytes in all.
+#[tactic(auto, using(crate::proofs::Filling::filled_twice))]
 fn put_link<A: Allocator>(
     text: &mut Vec<u8, A>,
+    most: usize,
     schema: &Schema<'_>,
     link: &Link,
 ) -> Result<(), AllocError>
-    ensures { OnOk result (text.new.items ≡ text.old.items ++ link_text schema.now link.now) }
+    ensures { OnOk result (text.new.items ≡ filled most text.old.items (link_text schema.now link.now)) }
 {
-    put_named(text, b"", name_of(schema, link.object, link.field))?;
-    put_element(text, link.element)?;
-    put_named(text, b"@", member_of(schema, link))
+    put_named(text, most, b"", name_of(schema, link.object, link.field))?;
+    put_element(text, most, link.element)?;
+    put_named(text, most, b"@", member_of(schema, link))
 }
 
-/// Adds an element's number between brackets.
-fn put_element<A: Allocator>(text: &mut Vec<u8, A>, element: Option<u32>) -> Result<(), AllocError>
-    ensures { OnOk result (text.new.items ≡ text.old.items ++ element_text element) }
+/// Adds an element's number between brackets, up to so many bytes in all.
+#[tactic(auto, using(crate::proofs::Filling::filled_twice, crate::proofs::Filling::filled_nothing))]
+fn put_element<A: Allocator>(
+    text: &mut Vec<u8, A>,
+    most: usize,
+    element: Option<u32>,
+) -> Result<(), AllocError>
+    ensures { OnOk result (text.new.items ≡ filled most text.old.items (element_text element)) }
 {
     let Some(number) = element else {
         return Ok(());
     };
     let mut buffer = Buffer::new();
-    text.extend_from_slice(b"[")?;
-    text.extend_from_slice(buffer.format(number).as_bytes())?;
-    text.extend_from_slice(b"]")
+    put_text(text, most, b"[")?;
+    put_text(text, most, buffer.format(number).as_bytes())?;
+    put_text(text, most, b"]")
 }
 
-/// Adds a name behind a mark, where there is one.
+/// Adds a name behind a mark, where there is one, up to so many bytes in all.
+#[tactic(auto, using(crate::proofs::Filling::filled_name, crate::proofs::Filling::filled_nothing))]
 fn put_named<A: Allocator>(
     text: &mut Vec<u8, A>,
+    most: usize,
     mark: &[u8],
     name: Option<&[u8]>,
 ) -> Result<(), AllocError>
-    ensures { OnOk result (text.new.items ≡ text.old.items ++ named mark.now (option_map (λ n. n.now) name.entry)) }
+    ensures { OnOk result (text.new.items ≡ filled most text.old.items (named mark.now (option_map (λ n. n.now) name.entry))) }
 {
-    match name {
-        Some(name) => {
-            text.extend_from_slice(mark)?;
-            put_name(text, name)
-        }
-        None => Ok(()),
-    }
+    let Some(name) = name else {
+        return Ok(());
+    };
+    put_text(text, most, mark)?;
+    let name = front(name, most.saturating_sub(text.len()));
+    put_name(text, name)
+}
+
+/// Adds a text, up to so many bytes in all.
+#[tactic(auto, unfolding(crate::specs::Location::filled))]
+fn put_text<A: Allocator>(text: &mut Vec<u8, A>, most: usize, more: &[u8]) -> Result<(), AllocError>
+    ensures { OnOk result (text.new.items ≡ filled most text.old.items more.now) }
+{
+    text.extend_from_slice(front(more, most.saturating_sub(text.len())))
+}
+
+/// The first bytes of a text, so many where it has them.
+fn front(text: &[u8], most: usize) -> &[u8]
+    ensures { result.now ≡ take most text.now }
+{
+    &text[..text.len().min(most)]
 }
 
 /// Adds a name.

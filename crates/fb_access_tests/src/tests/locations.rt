@@ -93,3 +93,23 @@ fn a_byte_that_no_name_has_is_a_question_mark(rt: HostRuntime) -> Result<(), Fai
     let want = b"bad in . [????.?09??AZ??_?az?????]";
     told_by(&rt, rt.alloc(), &schema, (0, None), &[], want)
 }
+
+/// Asserts that as many bytes are told of a table whose name has so many letters, and no more than twice as many are
+/// taken for them.
+fn told_of_length(rt: &impl Abort, alloc: Global, letters: usize, want: usize) -> Result<(), Fail> {
+    let mut name = Vec::new(alloc);
+    name.resize(letters, b'a')?;
+    let schema = named(rt, alloc, name.as_slice())?;
+    let mut text = Vec::new(alloc);
+    put_location(&mut text, &schema, &fault_in((0, None)), &[])?;
+    assert_eq!(rt; text.len(), want);
+    assert!(rt; text.capacity() / 2 <= 4_097);
+    Ok(())
+}
+
+#[test]
+fn a_place_is_cut_behind_4096_bytes(rt: HostRuntime) -> Result<(), Fail> {
+    told_of_length(&rt, rt.alloc(), 4_089, 4_096)?;
+    told_of_length(&rt, rt.alloc(), 4_090, 4_098)?;
+    told_of_length(&rt, rt.alloc(), 1_000_000, 4_098)
+}

@@ -1,9 +1,13 @@
-use Rattle.std.proofs.Common.{arith}
+use Rattle.std.proofs.Common.{arith, sym}
 use Rattle.std.proofs.lemmas.Grind.{common_steps}
+use Rattle.fb_access.proofs.Filling.{filled_nothing, filled_twice}
 use Rattle.fb_access.proofs.location.put_links.Goals as goal
 
+pub loop-link-init : goal.loop-link-init
+loop-link-init g c = sym (filled_nothing c.args.most c.args.text.now.items)
+
 pub loop-link-preserved : goal.loop-link-preserved
-loop-link-preserved g c = grind (arith, common_steps)
+loop-link-preserved g c = grind (arith, common_steps, filled_twice, filled_nothing)
 
 pub returns : goal.returns
-returns g c = grind (arith, common_steps)
+returns g c = grind (arith, common_steps, filled_twice, filled_nothing)
