@@ -11,7 +11,7 @@ from tests.support.builder import Plain, buffer, changed, prefixed, spelled
 from tests.support.cases import Case
 from tests.support.preloaded import ALONE, WITH_LATER, Plan, is_front, narrowed, refusing
 from tests.support.program import (
-    PROGRAM, SECONDS, Ran, Talk, bad, failed, file_of, good, lines, refused, run, run_in_shell,
+    PROGRAM, SECONDS, Ran, Talk, bad, failed, file_of, good, lines, refused, run, run_in_shell, run_starved,
 )
 from tests.support.schemas import (
     INT, LONG, TEXT, U_TYPE, a_struct, a_union, an_object, field, schema, table, union, vector,
@@ -396,6 +396,40 @@ class Names(Case):
         self.same("one level too many",
                   run("--schema", FILES["CHAIN"], "--bare", "--names", "--max-depth", "4095", given=levels(4096)),
                   Ran(1, told, b""))
+
+    def test_what_waits_to_be_written(self):
+        """Where the lines of one read are long, they are written in parts: once 65,536 bytes wait, before the next
+        message is checked. 68 MB of lines need no more than 16 MiB, and a write that fails ends the run there."""
+        name = "L" * 4_089
+        words = "--schema", file_of("long.bfbs", schema([table(name, field("v", INT, 4))], root=name)), "--names"
+        bad_line = f"{NO[NOTHING].partition(' in ')[0]} in . [{name}]"
+
+        def parts(messages):
+            """For each write, how many messages were checked by then."""
+            waits, ends = 0, []
+            for number, message in enumerate(messages, 1):
+                waits += len(message) if message is SEVEN else len(f"{number} {bad_line}\n")
+                if waits >= 65_536:
+                    waits, ends = 0, [*ends, number]
+            return ends
+
+        bad_ones = [NOTHING] * 16_384
+        texts = [f"{number} {bad_line}" for number, _ in enumerate(bad_ones, 1)]
+        told = lines(*texts)
+        for option, out, err in [((), told, b""), (("--filter",), b"", told)]:
+            ran = run_starved(*words, *option, given=b"".join(bad_ones))
+            self.same(f"long lines in little memory, {option}", (ran.status, ran.out == out, ran.err == err),
+                      (1, True, True))
+        for room in 0, 65_535, 70_000, 140_000:
+            count = next(end for end in parts(bad_ones) if len(lines(*texts[:end])) > room)
+            ran = narrowed(*words, "--summary", given=b"".join(bad_ones), room=room)
+            self.same(f"room for {room} bytes", (ran.status, ran.out == told[:room], ran.err), (3, True, lines(
+                f"summary: messages={count} yes=0 no={count} V2={count} bytes={4 * count} tables=0 reads={count}",
+                f"fbcheck: write failed after {room} bytes")))
+        mixed = [SEVEN, NOTHING] * 1_000
+        passed = SEVEN * mixed[:parts(mixed)[0]].count(SEVEN)
+        self.same("what passes a filter before standard error is found to be full",
+                  run_in_shell("2>/dev/full", *words, "--filter", given=b"".join(mixed)), Ran(3, passed, b""))
 
     def test_memory_that_is_refused(self):
         """A front of whole lines is written, whichever request is refused."""

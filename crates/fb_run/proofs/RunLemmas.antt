@@ -11,7 +11,7 @@ use Rattle.fb_run.specs.Prompt.{IsPrompt, IsPromptFrom, IsStreamPrompt}
 use Rattle.fb_run.specs.Run.{IsBareRun, answer_by, IsRunBeside, IsRunFrom, IsStreamRun}
 use Rattle.fb_run.specs.Lines.{WritesFronts}
 use Rattle.fb_run.specs.Texts.{Texts, followed, silent, to_notes}
-use Rattle.fb_run.specs.Stream.{FailsStream, Gathers, Halts, Onward, Standing, Tells, TellsSome, WhyStream}
+use Rattle.fb_run.specs.Stream.{FailsStream, Halts, Onward, Standing, Tells, TellsSome, WhyStream}
 use Rattle.fb_run.specs.declared.fault.RunFault.{RunFault}
 use Rattle.fb_run.specs.declared.fault.RunFault.TheVariants as run
 use Rattle.fb_run.specs.declared.run.Ran.{Ran}
@@ -45,7 +45,7 @@ fails_empty job limit r s n = record {
 }
 
 -- with nothing that waits, what was told is all that was written
-told_empty : (job : Job) (stand : Standing) (bytes : List ℕ) (text : Texts) → stand.text ≡ silent → Tells job job.limit bytes text stand.tally stand.held
+pub told_empty : (job : Job) (stand : Standing) (bytes : List ℕ) (text : Texts) → stand.text ≡ silent → Tells job job.limit bytes text stand.tally stand.held
     → Tells job job.limit bytes (followed text stand.text) stand.tally stand.held
 told_empty job stand bytes text none tells =
     subst (λ (t : Texts). Tells job job.limit bytes t stand.tally stand.held) (sym (ap (λ t. followed text t) none ∙ followed_silent text)) tells
@@ -101,34 +101,30 @@ fails_at job bytes told gone tally r r' s s' n n' fault read wrote noted some wh
   rests = (some.0, some.1, some.4, why);
 }
 
--- the writer or the notes failed at what waited
-pub fails_write : (job : Job) (before : Standing) (count count' noted noted' k : ℕ) (piece slice : List ℕ) (waits : Texts) (tally : Tally) (r r' r'' s s' s'' n n' n'' : Option (List ℕ)) (fault : RunFault)
-    → slice ≡ piece → before.text ≡ silent → count' ≡ count → noted' ≡ noted → Sofar job r r' s s' n n' before count noted → Consumes r' r'' (take k piece)
-    → Gathers job before (take k slice) waits tally → WritesFronts waits s' s'' n' n'' count' noted' fault → FailsStream job job.limit r r'' s s'' n n'' tally fault
-fails_write job before count count' noted noted' k piece slice waits tally r r' r'' s s' s'' n n' n'' (run.WriteFault written) all none counts notes (bytes, text, read, wrote, told, long, broad, tells) second gathers (front, keeps) =
-    let gathers' = subst (λ (l : List ℕ). Gathers job before (take k l) waits tally) all gathers in
-    let some = gathers' bytes text (told_empty job before bytes text none tells) in
+-- of what is told of these bytes a front was written and noted whole, and the writer or the notes failed behind it
+pub fails_write : (job : Job) (bytes : List ℕ) (gone waits : Texts) (tally : Tally) (count noted : ℕ) (r r' s s' s'' n n' n'' : Option (List ℕ)) (fault : RunFault)
+    → count ≡ length gone.out → noted ≡ length gone.notes → Consumes r r' bytes → Appends s s' gone.out → Appends n n' gone.notes
+    → TellsSome job job.limit bytes (followed gone waits) tally → WritesFronts waits s' s'' n' n'' count noted fault → FailsStream job job.limit r r' s s'' n n'' tally fault
+fails_write job bytes gone waits tally count noted r r' s s' s'' n n' n'' (run.WriteFault written) long broad read wrote told some (front, keeps) =
     let rest : Texts = record { out = drop front.taken waits.out; notes = waits.notes } in
-    let gone : Texts = record { out = text.out ++ take front.taken waits.out; notes = text.notes } in
-    let whole : followed text waits ≡ followed gone rest = same_texts _ _ _ _ (front_of text.out waits.out front.taken) refl in
-    fails_at job (bytes ++ take k piece) (followed text waits) gone tally r r'' s s'' n n'' (run.WriteFault written) (Consumes-trans r r' r'' bytes (take k piece) read second)
-    (Appends-trans s s' s'' text.out (take front.taken waits.out) wrote front.wrote) (Appends-kept n n' n'' text.notes told keeps) some (
-      omega (arith, front.written_is, length-append text.out (take front.taken waits.out), length-take-le front.taken waits.out front.within),
-      (rest, subst (λ (t : Texts). TellsSome job job.limit (bytes ++ take k piece) t tally) whole some),
+    let all : Texts = record { out = gone.out ++ take front.taken waits.out; notes = gone.notes } in
+    let whole : followed gone waits ≡ followed all rest = same_texts _ _ _ _ (front_of gone.out waits.out front.taken) refl in
+    fails_at job bytes (followed gone waits) all tally r r' s s'' n n'' (run.WriteFault written) read
+    (Appends-trans s s' s'' gone.out (take front.taken waits.out) wrote front.wrote) (Appends-kept n n' n'' gone.notes told keeps) some (
+      omega (arith, front.written_is, length-append gone.out (take front.taken waits.out), length-take-le front.taken waits.out front.within),
+      (rest, subst (λ (t : Texts). TellsSome job job.limit bytes t tally) whole some),
     )
-fails_write job before count count' noted noted' k piece slice waits tally r r' r'' s s' s'' n n' n'' (run.NoteFault written) all none counts notes (bytes, text, read, wrote, told, long, broad, tells) second gathers (more, front) =
-    let gathers' = subst (λ (l : List ℕ). Gathers job before (take k l) waits tally) all gathers in
-    let some = gathers' bytes text (told_empty job before bytes text none tells) in
+fails_write job bytes gone waits tally count noted r r' s s' s'' n n' n'' (run.NoteFault written) long broad read wrote told some (more, front) =
     let rest = drop front.taken waits.notes in
-    let gone : Texts = record { out = text.out ++ waits.out; notes = text.notes ++ take front.taken waits.notes } in
-    let whole : followed text waits ≡ followed gone (to_notes rest) =
-    same_texts _ _ _ _ (sym (append-nil (text.out ++ waits.out))) (front_of text.notes waits.notes front.taken) in
-    fails_at job (bytes ++ take k piece) (followed text waits) gone tally r r'' s s'' n n'' (run.NoteFault written) (Consumes-trans r r' r'' bytes (take k piece) read second)
-    (Appends-trans s s' s'' text.out waits.out wrote more) (Appends-trans n n' n'' text.notes (take front.taken waits.notes) told front.wrote) some (
-      omega (arith, front.written_is, length-append text.notes (take front.taken waits.notes), length-take-le front.taken waits.notes front.within),
-      (rest, subst (λ (t : Texts). TellsSome job job.limit (bytes ++ take k piece) t tally) whole some),
+    let all : Texts = record { out = gone.out ++ waits.out; notes = gone.notes ++ take front.taken waits.notes } in
+    let whole : followed gone waits ≡ followed all (to_notes rest) =
+    same_texts _ _ _ _ (sym (append-nil (gone.out ++ waits.out))) (front_of gone.notes waits.notes front.taken) in
+    fails_at job bytes (followed gone waits) all tally r r' s s'' n n'' (run.NoteFault written) read
+    (Appends-trans s s' s'' gone.out waits.out wrote more) (Appends-trans n n' n'' gone.notes (take front.taken waits.notes) told front.wrote) some (
+      omega (arith, front.written_is, length-append gone.notes (take front.taken waits.notes), length-take-le front.taken waits.notes front.within),
+      (rest, subst (λ (t : Texts). TellsSome job job.limit bytes t tally) whole some),
     )
-fails_write job before count count' noted noted' k piece slice waits tally r r' r'' s s' s'' n n' n'' _ all none counts notes sofar second gathers never = absurd never
+fails_write job bytes gone waits tally count noted r r' s s' s'' n n' n'' _ long broad read wrote told some never = absurd never
 
 -- a flush that failed is the cause of its fault, whatever else was counted
 pub caused_flush : (f f' w w' w0 k k' k0 left : ℕ) (ended : Bool) (fault : RunFault) → f' ≡ f → w ≡ w0 → k ≡ k0

@@ -1,9 +1,10 @@
 -- What was read and told, and then more of the stream.
-use Rattle.std.proofs.Common.{◌≡◌, ℕ, ◌+◌, ◌⊎◌, Bool, List, [], ◌∷◌, ◌++◌, length, take, drop, refl, sym, ap, subst, ◌∙◌, arith, append-nil, append_assoc}
+use Rattle.std.proofs.Common.{◌≡◌, ℕ, ◌+◌, ◌-◌, ◌⊎◌, Bool, List, [], ◌∷◌, ◌++◌, length, take, drop, refl, sym, ap, subst, ◌∙◌, arith, append-nil, append_assoc, length-append, take-append-drop}
 use mathlib.Core.Logic.{inl, inr}
 use Rattle.std.specs.List.{concat}
 use Rattle.std.proofs.lemmas.List.Elements.{All-nil, All-cons, All-append}
 use Rattle.std.proofs.lemmas.List.Folds.{concat-append}
+use Rattle.std.proofs.Math.Seq.{take-append_seam}
 use Rattle.fb_bytes.specs.Messages.{declared, IsMessage, IsPartial, IsOversize, Splits}
 use Rattle.fb_bytes.specs.Framing.{Framing, Feeds, FeedFails}
 use Rattle.fb_bytes.specs.declared.stream_fault.StreamFault.{StreamFault}
@@ -159,10 +160,11 @@ passed_more job before between after n piece rest rest' is (front, whole, first)
       (second (bytes ++ front) written (first bytes written tells)),
 )
 
--- all of the piece
-pub onward_all : (job : Job) (before after : Standing) (piece rest : List ℕ) → length rest ≡ 0 → HasPassed job before piece rest after → Onward job before piece after
-onward_all job before after piece [] none (front, whole, onward) = subst (λ (l : List ℕ). Onward job before l after) (sym (whole ∙ append-nil front)) onward
-onward_all job before after piece (x ∷ xs) none passed = absurd (omega arith)
+-- that front is as long as the rest leaves of the piece
+pub onward_front : (job : Job) (before after : Standing) (n : ℕ) (piece rest : List ℕ) → n ≡ length piece - length rest → HasPassed job before piece rest after → Onward job before (take n piece) after
+onward_front job before after n piece rest is (front, whole, onward) =
+    let same : n ≡ length front = omega (arith, ap length whole, length-append front rest) in
+    subst (λ (l : List ℕ). Onward job before l after) (sym (ap (λ k. take k piece) same ∙ ap (take (length front)) whole ∙ take-append_seam front rest)) onward
 
 -- and then the run came to rest
 pub halts_after : (job : Job) (before after : Standing) (piece rest : List ℕ) (text : Texts) (tally : Tally) (fault : RunFault) → HasPassed job before piece rest after → Halts job after rest text tally fault
@@ -171,11 +173,11 @@ halts_after job before after piece rest text tally fault (front, whole, first) s
     subst (λ (l : List ℕ). Rests job job.limit l (followed written text) tally fault) (append_assoc bytes front rest ∙ ap (λ l. bytes ++ l) (sym whole))
     (second (bytes ++ front) written (first bytes written tells))
 
--- a piece that was fed whole gathers lines
-pub gathers_onward : (job : Job) (before after : Standing) (piece : List ℕ) → Onward job before piece after → Gathers job before piece after.text after.tally
-gathers_onward job before after piece onward bytes written tells =
-    subst (λ (l : List ℕ). TellsSome job job.limit l (followed written after.text) after.tally) (append-nil (bytes ++ piece))
-    (tells_some job job.limit after.tally (bytes ++ piece) [] after.held (followed written after.text) (onward bytes written tells))
+-- what was told in the front of a piece is that of the first messages, whatever the rest is
+pub gathers_front : (job : Job) (before after : Standing) (n : ℕ) (piece : List ℕ) → Onward job before (take n piece) after → Gathers job before piece after.text after.tally
+gathers_front job before after n piece onward bytes written tells =
+    subst (λ (l : List ℕ). TellsSome job job.limit l (followed written after.text) after.tally) (append_assoc bytes (take n piece) (drop n piece) ∙ ap (λ l. bytes ++ l) (take-append-drop n piece))
+    (tells_some job job.limit after.tally (bytes ++ take n piece) (drop n piece) after.held (followed written after.text) (onward bytes written tells))
 
 some_of : (job : Job) (limit : ℕ) (bytes : List ℕ) (text : Texts) (tally : Tally) (fault : RunFault) → IsFeedFault fault → Rests job limit bytes text tally fault
     → TellsSome job limit bytes text tally

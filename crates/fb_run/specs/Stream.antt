@@ -87,14 +87,14 @@ Onward job before piece after =
     (bytes : List ℕ) (written : Texts) → Tells job job.limit bytes (followed written before.text) before.tally before.held
     → Tells job job.limit (bytes ++ piece) (followed written after.text) after.tally after.held
 
--- where one stands, with what was written by then
-abbrev pub with_written : List ℕ → Standing → Standing
-with_written front stand = record stand { text = followed (to_out front) stand.text }
+-- where one stands, with what was written and noted by then
+abbrev pub with_written : Texts → Standing → Standing
+with_written front stand = record stand { text = followed front stand.text }
 
 -- the same, where a front of what is told in the piece is written, with which so many bytes were in all
 pub record OnwardThrough (job : Job) (before : Standing) (piece : List ℕ) (after : Standing) (sink sink' : Option (List ℕ)) (count written : ℕ) : Type 0 where
   pub front : List ℕ
-  pub onward : Onward job before piece (with_written front after)
+  pub onward : Onward job before piece (with_written (to_out front) after)
   pub wrote : Appends sink sink' front
   pub written_is : written ≡ count + length front
 
@@ -123,18 +123,35 @@ IsFeedFault (Stream (stream.Oversize number)) = Unit {0}
 IsFeedFault OutOfMemory = Unit {0}
 IsFeedFault _ = ⊥
 
--- a whole piece was passed, and what is told in it was written and noted, with which so many bytes were on each output
-pub record PassesPiece (job : Job) (before : Standing) (piece : List ℕ) (after : Standing) (sink sink' notes notes' : Option (List ℕ))
-    (written written' noted noted' : ℕ) : Type 0 where
-  pub text : Texts
-  pub onward : Onward job before piece (record after { text = text })
+-- this text was written and noted, with which so many bytes were on each output
+pub record Writes (text : Texts) (sink sink' notes notes' : Option (List ℕ)) (written written' noted noted' : ℕ) : Type 0 where
   pub wrote : Appends sink sink' text.out
   pub told : Appends notes notes' text.notes
   pub written_is : written' ≡ written + length text.out
   pub noted_is : noted' ≡ noted + length text.notes
 
+-- a whole piece was passed, and what is told in it was written and noted
+pub record PassesPiece (job : Job) (before : Standing) (piece : List ℕ) (after : Standing) (sink sink' notes notes' : Option (List ℕ))
+    (written written' noted noted' : ℕ) : Type 0 where
+  pub text : Texts
+  pub onward : Onward job before piece (record after { text = text })
+  pub writes : Writes text sink sink' notes notes' written written' noted noted'
+
+-- a write came to rest in the piece, where this is counted: a front of what is told was written and noted whole, and
+-- the fault came within what is told behind it
+pub record StopsWriting (job : Job) (before : Standing) (piece : List ℕ) (tally : Tally) (sink sink' notes notes' : Option (List ℕ)) (written noted : ℕ) (fault : RunFault) : Type 0 where
+  pub front : Texts
+  pub text : Texts
+  pub gathers : Gathers job before piece (followed front text) tally
+  pub sink_then : Option (List ℕ)
+  pub notes_then : Option (List ℕ)
+  pub written_then : ℕ
+  pub noted_then : ℕ
+  pub writes : Writes front sink sink_then notes notes_then written written_then noted noted_then
+  pub within : WritesFronts text sink_then sink' notes_then notes' written_then noted_then fault
+
 -- it comes to rest in the piece, where this is counted: within a write of what is told, or with all of it written
 abbrev pub StopsAmid : Job → Standing → List ℕ → Tally → Option (List ℕ) → Option (List ℕ) → Option (List ℕ) → Option (List ℕ) → ℕ → ℕ → RunFault → Type 0
 StopsAmid job before piece tally sink sink' notes notes' written noted fault =
-    (text : Texts) × ((Gathers job before piece text tally × WritesFronts text sink sink' notes notes' written noted fault)
-    ⊎ (Halts job before piece text tally fault × Appends sink sink' text.out × Appends notes notes' text.notes))
+    StopsWriting job before piece tally sink sink' notes notes' written noted fault
+    ⊎ ((text : Texts) × Halts job before piece text tally fault × Appends sink sink' text.out × Appends notes notes' text.notes)

@@ -1,6 +1,6 @@
 //! What a run tells: gathered, counted, and written together.
 
-ghost use Rattle.std.specs.Prelude.{Err, IfErr, Ok, OnOk, OnErr, ◌≡◌, ◌+◌, ◌<◌, ◌≤◌, ◌^◌, ◌++◌, length, codes, take, ℕ, Bool, List, option_map};
+ghost use Rattle.std.specs.Prelude.{Err, IfErr, IsTrue, Ok, OnOk, OnErr, ◌≡◌, ◌+◌, ◌<◌, ◌≤◌, ◌^◌, ◌++◌, length, codes, take, ℕ, Bool, List, option_map};
 ghost use Rattle.std.specs.Borrow.{Bor};
 ghost use Rattle.std.specs.Io.KnownBytes.{Appends};
 ghost use Rattle.fb_access.specs.Denotes.{shown};
@@ -21,7 +21,7 @@ use crate::options::Mode;
 use crate::room::Room;
 use crate::tally::Tally;
 use crate::value_text::put_answer;
-use crate::writing::{Pending, Unwritten};
+use crate::writing::{MOST_WAITING, Pending, Unwritten};
 use fb_access::Answer;
 use fb_bytes::Sink;
 use fb_verify::{Fault, Report};
@@ -308,6 +308,15 @@ impl<A: Allocator> Output<A> {
         whole
     }
 
+    /// Whether so much waits that it is written before the next message is checked. (Where it were 2^40 bytes, they would
+    /// wait on; no line and no message has as many.)
+    pub fn is_much(&self) -> bool
+        ensures { IsTrue result → length (waiting self.now).out + length (waiting self.now).notes < 2 ^ 40 }
+    {
+        let waits = self.out.bytes.len() + self.notes.bytes.len();
+        (MOST_WAITING..1 << 40).contains(&waits)
+    }
+
     /// Writes what waits, first for the writer and then for the notes.
     pub fn flush<K: Sink, N: Sink>(&mut self, writer: &mut K, notes: &mut N) -> Result<(), RunFault>
         requires writes { K.calls writer.old < 2 ^ 99 + 2 ^ 98 }
@@ -326,10 +335,12 @@ impl<A: Allocator> Output<A> {
         ensures unfailed { OnOk result (K.failures writer.new ≡ K.failures writer.old) }
         ensures unrefused { OnOk result (N.failures notes.new ≡ N.failures notes.old) }
         ensures counted { self.new.counter ≡ self.old.counter }
-        ensures little { self.new.out.written ≤ self.old.out.written + 2 ^ 64 }
-        ensures less { self.new.notes.written ≤ self.old.notes.written + 2 ^ 64 }
-        ensures writes { K.calls writer.new ≤ K.calls writer.old + 2 ^ 64 }
-        ensures tells { N.calls notes.new ≤ N.calls notes.old + 2 ^ 64 }
+        ensures little { self.new.out.written ≤ self.old.out.written + 2 ^ 63 }
+        ensures less { self.new.notes.written ≤ self.old.notes.written + 2 ^ 63 }
+        ensures writes { K.calls writer.new ≤ K.calls writer.old + 2 ^ 63 }
+        ensures tells { N.calls notes.new ≤ N.calls notes.old + 2 ^ 63 }
+        ensures pushes { K.calls writer.new ≤ K.calls writer.old + length (waiting self.old).out }
+        ensures mentions { N.calls notes.new ≤ N.calls notes.old + length (waiting self.old).notes }
     {
         if let Err(Unwritten { written }) = self.out.flush(writer) {
             return Err(RunFault::WriteFault { written });

@@ -129,9 +129,9 @@ impl<A: Allocator> Carried<A> {
         requires few { self.old.output.counter.yes + self.old.output.counter.no < 2 ^ 61 }
         requires empty { waiting self.old.output ≡ silent }
         requires writes { K.calls writer.old < 2 ^ 99 + 2 ^ 97 }
-        requires tells { N.calls notes.old < 2 ^ 99 }
+        requires tells { N.calls notes.old < 2 ^ 98 }
         requires little { self.old.output.out.written < 2 ^ 99 + 2 ^ 97 }
-        requires less { self.old.output.notes.written < 2 ^ 100 }
+        requires less { self.old.output.notes.written < 2 ^ 99 }
 
         ensures passes { OnOk result (PassesPiece checker.now (standing self.old) piece.now (standing self.new)
             (K.contents writer.old) (K.contents writer.new) (N.contents notes.old) (N.contents notes.new)
@@ -154,7 +154,100 @@ impl<A: Allocator> Carried<A> {
         ensures tells { N.calls notes.new ≤ N.calls notes.old + 2 ^ 64 }
     {
         let held = self.pass_held(checker, piece, writer)?;
-        let used = self.use_up(checker, &piece[held..]);
+        self.pass_rest(checker, &piece[held..], writer, notes)
+    }
+
+    /// Passes the rest of a piece, and writes what is told of the messages that end in it: where much waits, before the
+    /// next one is checked.
+    fn pass_rest<K: Sink, N: Sink>(
+        &mut self,
+        checker: &Checker<'_, '_, '_>,
+        piece: &[u8],
+        writer: &mut K,
+        notes: &mut N,
+    ) -> Result<(), RunFault>
+        requires ready { IsReady checker.now self.old.framer self.old.room }
+        requires piece { length piece.now ≤ PIECE }
+        requires few { self.old.output.counter.yes + self.old.output.counter.no < 2 ^ 61 + 1 }
+        requires writes { K.calls writer.old < 2 ^ 99 + 2 ^ 97 + 2 ^ 67 }
+        requires tells { N.calls notes.old < 2 ^ 98 }
+        requires little { self.old.output.out.written < 2 ^ 99 + 2 ^ 97 + 2 ^ 67 }
+        requires less { self.old.output.notes.written < 2 ^ 99 }
+
+        ensures passes { OnOk result (PassesPiece checker.now (standing self.old) piece.now (standing self.new)
+            (K.contents writer.old) (K.contents writer.new) (N.contents notes.old) (N.contents notes.new)
+            self.old.output.out.written self.new.output.out.written self.old.output.notes.written self.new.output.notes.written) }
+        ensures ready { OnOk result (IsReady checker.now self.new.framer self.new.room) }
+        ensures empty { OnOk result (waiting self.new.output ≡ silent) }
+        ensures few { OnOk result (self.new.output.counter.yes + self.new.output.counter.no
+            ≤ self.old.output.counter.yes + self.old.output.counter.no + length piece.now) }
+
+        ensures stops { IfErr result (λ fault. StopsAmid checker.now (standing self.old) piece.now self.new.output.counter
+            (K.contents writer.old) (K.contents writer.new) (N.contents notes.old) (N.contents notes.new)
+            self.old.output.out.written self.old.output.notes.written fault) }
+        ensures failed { IfErr result (λ fault. (failures left : ℕ) (ended : Bool) → IsCaused failures failures
+            (K.failures writer.old) (K.failures writer.new) (N.failures notes.old) (N.failures notes.new) left ended fault) }
+        ensures unfailed { OnOk result (K.failures writer.new ≡ K.failures writer.old) }
+        ensures unrefused { OnOk result (N.failures notes.new ≡ N.failures notes.old) }
+        ensures little { OnOk result (self.new.output.out.written ≤ self.old.output.out.written + 2 ^ 64) }
+        ensures less { OnOk result (self.new.output.notes.written ≤ self.old.output.notes.written + 2 ^ 64) }
+        ensures calls { OnOk result (K.calls writer.new ≤ K.calls writer.old + 2 ^ 64) }
+        ensures tells { N.calls notes.new ≤ N.calls notes.old + 2 ^ 64 }
+    {
+        let mut rest = piece;
+        'fronts: loop {
+            let used = self.pass_front(checker, rest, writer, notes)?;
+            rest = &rest[used..];
+            if rest.is_empty() {
+                return Ok(());
+            }
+        }
+    }
+
+    /// Passes messages from the front of a piece until all is passed or much waits, and writes what is told of them.
+    /// Answers how many bytes those were.
+    fn pass_front<K: Sink, N: Sink>(
+        &mut self,
+        checker: &Checker<'_, '_, '_>,
+        piece: &[u8],
+        writer: &mut K,
+        notes: &mut N,
+    ) -> Result<usize, RunFault>
+        requires ready { IsReady checker.now self.old.framer self.old.room }
+        requires piece { length piece.now ≤ PIECE }
+        requires few { self.old.output.counter.yes + self.old.output.counter.no < 2 ^ 62 }
+        requires writes { K.calls writer.old < 2 ^ 99 + 2 ^ 98 }
+        requires tells { N.calls notes.old < 2 ^ 99 }
+        requires little { self.old.output.out.written < 2 ^ 100 }
+        requires less { self.old.output.notes.written < 2 ^ 100 }
+
+        ensures within { IfOk result (λ used. used ≤ length piece.now) }
+        ensures some { IfOk result (λ used. 0 < length piece.now → 0 < used) }
+        ensures passes { IfOk result (λ used. PassesPiece checker.now (standing self.old) (take used piece.now) (standing self.new)
+            (K.contents writer.old) (K.contents writer.new) (N.contents notes.old) (N.contents notes.new)
+            self.old.output.out.written self.new.output.out.written self.old.output.notes.written self.new.output.notes.written) }
+        ensures ready { OnOk result (IsReady checker.now self.new.framer self.new.room) }
+        ensures empty { OnOk result (waiting self.new.output ≡ silent) }
+        ensures few { IfOk result (λ used. self.new.output.counter.yes + self.new.output.counter.no
+            ≤ self.old.output.counter.yes + self.old.output.counter.no + used) }
+
+        ensures stops { IfErr result (λ fault. StopsAmid checker.now (standing self.old) piece.now self.new.output.counter
+            (K.contents writer.old) (K.contents writer.new) (N.contents notes.old) (N.contents notes.new)
+            self.old.output.out.written self.old.output.notes.written fault) }
+        ensures failed { IfErr result (λ fault. (failures left : ℕ) (ended : Bool) → IsCaused failures failures
+            (K.failures writer.old) (K.failures writer.new) (N.failures notes.old) (N.failures notes.new) left ended fault) }
+        ensures unfailed { OnOk result (K.failures writer.new ≡ K.failures writer.old) }
+        ensures unrefused { OnOk result (N.failures notes.new ≡ N.failures notes.old) }
+        ensures little { OnOk result (self.new.output.out.written ≤ self.old.output.out.written + 2 ^ 63) }
+        ensures less { OnOk result (self.new.output.notes.written ≤ self.old.output.notes.written + 2 ^ 63) }
+        ensures calls { OnOk result (K.calls writer.new ≤ K.calls writer.old + 2 ^ 63) }
+        ensures tells { N.calls notes.new ≤ N.calls notes.old + 2 ^ 63 }
+        ensures little_between { IfOk result (λ used. used < length piece.now → self.new.output.out.written ≤ self.old.output.out.written + 2 ^ 40) }
+        ensures less_between { IfOk result (λ used. used < length piece.now → self.new.output.notes.written ≤ self.old.output.notes.written + 2 ^ 40) }
+        ensures calls_between { IfOk result (λ used. used < length piece.now → K.calls writer.new ≤ K.calls writer.old + 2 ^ 40) }
+        ensures tells_between { IfOk result (λ used. used < length piece.now → N.calls notes.new ≤ N.calls notes.old + 2 ^ 40) }
+    {
+        let used = self.use_up(checker, piece);
         self.output.flush(writer, notes)?;
         Ok(used?)
     }
@@ -204,16 +297,21 @@ impl<A: Allocator> Carried<A> {
         Ok(taken.used)
     }
 
-    /// Passes a whole piece, and adds what is told of the messages that end in it.
-    fn use_up(&mut self, checker: &Checker<'_, '_, '_>, piece: &[u8]) -> Result<(), RunFault>
+    /// Passes messages from the front of a piece until all is passed or much waits, and adds what is told of them.
+    /// Answers how many bytes those were.
+    fn use_up(&mut self, checker: &Checker<'_, '_, '_>, piece: &[u8]) -> Result<usize, RunFault>
         requires ready { IsReady checker.now self.old.framer self.old.room }
         requires piece { length piece.now ≤ PIECE }
         requires few { self.old.output.counter.yes + self.old.output.counter.no < 2 ^ 62 }
 
-        ensures onward { OnOk result (Onward checker.now (standing self.old) piece.now (standing self.new)) }
+        ensures within { IfOk result (λ used. used ≤ length piece.now) }
+        ensures some { IfOk result (λ used. 0 < length piece.now → 0 < used) }
+        ensures much { IfOk result (λ used. used < length piece.now
+            → length (waiting self.new.output).out + length (waiting self.new.output).notes < 2 ^ 40) }
+        ensures onward { IfOk result (λ used. Onward checker.now (standing self.old) (take used piece.now) (standing self.new)) }
         ensures ready { OnOk result (IsReady checker.now self.new.framer self.new.room) }
-        ensures few { OnOk result (self.new.output.counter.yes + self.new.output.counter.no
-            ≤ self.old.output.counter.yes + self.old.output.counter.no + PIECE) }
+        ensures few { IfOk result (λ used. self.new.output.counter.yes + self.new.output.counter.no
+            ≤ self.old.output.counter.yes + self.old.output.counter.no + used) }
 
         ensures halts { IfErr result (Halts checker.now (standing self.old) piece.now (waiting self.new.output) self.new.output.counter) }
         ensures kind { IfErr result (λ fault. IsFeedFault fault) }
@@ -226,8 +324,11 @@ impl<A: Allocator> Carried<A> {
         while !rest.is_empty() {
             let used = self.pass_some(checker, rest)?;
             rest = &rest[used..];
+            if self.output.is_much() {
+                return Ok(piece.len() - rest.len());
+            }
         }
-        Ok(())
+        Ok(piece.len())
     }
 
     /// Passes bytes from the front of the rest of a piece, up to the end of a message, and adds what is told of it.

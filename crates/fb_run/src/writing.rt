@@ -88,8 +88,8 @@ impl<A: Allocator> Pending<A> {
             self.old.written cause.written) }
         ensures failed { OnErr result (K.failures sink.new ≡ K.failures sink.old + 1) }
         ensures unfailed { OnOk result (K.failures sink.new ≡ K.failures sink.old) }
-        ensures little { self.new.written ≤ self.old.written + 2 ^ 64 }
-        ensures calls { K.calls sink.new ≤ K.calls sink.old + 2 ^ 64 }
+        ensures little { self.new.written ≤ self.old.written + 2 ^ 63 }
+        ensures calls { K.calls sink.new ≤ K.calls sink.old + 2 ^ 63 }
         ensures pushes { K.calls sink.new ≤ K.calls sink.old + length self.old.bytes.items }
     {
         self.written = write_all(sink, self.bytes.as_slice(), self.written)?;

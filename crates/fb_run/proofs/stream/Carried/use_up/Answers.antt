@@ -1,12 +1,12 @@
-use Rattle.std.proofs.Common.{rules}
+use Rattle.std.proofs.Common.{refl, rules}
 use Rattle.std.proofs.lemmas.List.{take_rest}
 use Rattle.fb_verify.proofs.Frames.{if_err_exit}
 use Rattle.fb_run.specs.Stream.{Halts, standing}
-use Rattle.fb_run.proofs.StreamLemmas.{gathers_halts, gathers_onward, halts_after, onward_all, passed_more, passed_none}
+use Rattle.fb_run.proofs.StreamLemmas.{gathers_front, gathers_halts, halts_after, onward_front, passed_more, passed_none}
 use Rattle.fb_run.proofs.stream.Carried.use_up.Goals as goal
 
 pub loop-rest-init : goal.loop-rest-init
-loop-rest-init g c = record { ready = c.requires.ready; passed = passed_none _ _ _; few = search rules; written = search rules; noted = search rules }
+loop-rest-init g c = record { ready = c.requires.ready; passed = passed_none _ _ _; within = search rules; few = search rules; written = search rules; noted = search rules }
 
 pub loop-rest-preserved : goal.loop-rest-preserved
 loop-rest-preserved g c =
@@ -15,6 +15,7 @@ loop-rest-preserved g c =
     record {
       ready = some.ready;
       passed = passed_more _ _ _ _ c.in_ok-used.used _ c.loop-rest.rest.now _ (take_rest c.loop-rest.rest.now c.in_ok-used.used) before.passed some.onward;
+      within = search rules;
       few = search rules;
       written = search rules;
       noted = search rules;
@@ -29,8 +30,19 @@ pub returns-in_err-used-clause-gathers : goal.returns-in_err-used-clause-gathers
 returns-in_err-used-clause-gathers g c =
     gathers_halts _ _ _ _ _ c.in_err-used.field-0.0 c.in_err-used.ensures.kind (halts_after _ _ _ _ c.loop-rest.rest.now _ _ _ c.loop-rest.invariant.passed c.in_err-used.ensures.halts)
 
+pub returns-then-is_much-clause-onward : goal.returns-then-is_much-clause-onward
+returns-then-is_much-clause-onward g c =
+    onward_front _ _ _ _ _ _ (search rules)
+    (passed_more _ _ _ _ c.in_ok-used.used _ c.loop-rest.rest.now _ (take_rest c.loop-rest.rest.now c.in_ok-used.used) c.loop-rest.invariant.passed c.in_ok-used.ensures.onward)
+
+pub returns-then-is_much-clause-gathers : goal.returns-then-is_much-clause-gathers
+returns-then-is_much-clause-gathers g c =
+    gathers_front _ _ _ _ _
+    (onward_front _ _ _ _ _ _ refl
+    (passed_more _ _ _ _ c.in_ok-used.used _ c.loop-rest.rest.now _ (take_rest c.loop-rest.rest.now c.in_ok-used.used) c.loop-rest.invariant.passed c.in_ok-used.ensures.onward))
+
 pub returns-clause-onward : goal.returns-clause-onward
-returns-clause-onward g c = onward_all _ _ _ _ c.loop-rest.rest.now (search rules) c.loop-rest.invariant.passed
+returns-clause-onward g c = onward_front _ _ _ _ _ c.loop-rest.rest.now (search rules) c.loop-rest.invariant.passed
 
 pub returns-clause-gathers : goal.returns-clause-gathers
-returns-clause-gathers g c = gathers_onward _ _ _ _ (onward_all _ _ _ _ c.loop-rest.rest.now (search rules) c.loop-rest.invariant.passed)
+returns-clause-gathers g c = gathers_front _ _ _ _ _ (onward_front _ _ _ _ _ c.loop-rest.rest.now refl c.loop-rest.invariant.passed)
