@@ -1,10 +1,12 @@
-"""The shapes of bench/hostile are what they are said to be: good buffers and schema files, of so many tables.
+"""The shapes of bench/hostile are what they are said to be: buffers, streams and schema files, of so many tables.
 
 One of them also shows where the budget of reads a byte ends that holds where no words say another.
 """
 
 import re
+import subprocess
 
+from tests.support.builder import messages_of
 from tests.support.cases import Case
 from tests.support.program import TOP, bad, file_of, good, loaded, refused, run
 
@@ -18,6 +20,19 @@ SHAPES = [
     ("texts of objects", 800, 1 + 800 // 8),
     ("wide tables", 100, 2**5 - 1),
     ("wide vtables", 1024, 2**19 - 1),
+    ("changing types", 420, 1 + 20 + 20 * 20),
+    ("changing types far apart", 8192, 1 + 64),
+    ("tags far from their ends", 16_384, 2 + 512),
+    ("shared monsters", 400, 2**6 - 1),
+]
+
+# A shape of streams, its size, and what is told of each message by a budget without end, or by the default one.
+STREAMS = [
+    ("messages of changing types", 256, "ok tables=73 depth=3 reads=2997"),
+    ("messages of nodes", 1024, None),
+    ("messages of monsters", 512, "ok tables=255 depth=8 reads=3821"),
+    ("the last of many fields", 160, "bad V9 MissingRequired at=12 object=0 field=32763 reads=4"),
+    ("places of long names", 100, "bad V8 BadVtable at=92 object=0 field=- reads=40"),
 ]
 
 # Reads of the shape "texts of objects": before its objects 1 for the root offset, 2 for the head of the root table and
@@ -38,36 +53,76 @@ def shared_file(count, name, size):
     return HOSTILE.padded(layout.bytes(), size)
 
 
+BY_NAME = {shape.name: shape for shape in HOSTILE.SHAPES}
+BOUNDLESS = "--reads-per-byte", "4294967295"
+
+
+def words_for(shape):
+    """The words that name the schema file of a shape."""
+    return [] if shape.schema is None else ["--schema", file_of("shape.bfbs", shape.schema)]
+
+
 class Hostile(Case):
     def test_good_buffers(self):
-        made = {name: (schema, make) for name, schema, make, _ in HOSTILE.SHAPES}
         for name, size, tables in SHAPES:
-            schema, make = made[name]
-            words = [] if schema is None else ["--schema", file_of("shape.bfbs", schema)]
-            ran = run("--bare", "--reads-per-byte", "4294967295", *words, given=make(size))
+            shape = BY_NAME[name]
+            data = shape.made(size)
+            self.holds(f"{name} has about {size} bytes", 0.7 * size <= len(data) <= 1.1 * size + 32, len(data))
+            ran = run("--bare", *BOUNDLESS, *words_for(shape), given=data)
             found = re.fullmatch(rb"1 ok tables=(\d+) depth=\d+ reads=\d+\n", ran.out)
             self.same(name, (ran.status, int(found[1]) if found else ran.out), (0, tables))
+
+    def test_streams(self):
+        for name, size, told in STREAMS:
+            shape = BY_NAME[name]
+            data = shape.made(size)
+            messages = messages_of(data)
+            ran = run(*words_for(shape), *([] if told is None else BOUNDLESS), given=data)
+            lines = [line.partition(" ")[2] for line in ran.out.decode().splitlines()]
+            self.same(f"{name}: the lines are alike", (len(lines), len(set(lines))), (len(messages), 1))
+            wanted = told or "bad V13 TooManyReads "
+            self.holds(f"{name}: what they are", lines[0].startswith(wanted), lines[0])
+            ran = run(*words_for(shape), *shape.words, given=messages[0])
+            self.holds(f"{name}: words are taken", ran.out.decode().startswith(f"1 {lines[0]}"), ran)
+
+    def test_sizes_and_names(self):
+        self.same("each shape has a name of its own", len(BY_NAME), len(HOSTILE.SHAPES))
+        for shape in HOSTILE.SHAPES:
+            self.same(f"{shape.name}: three sizes, which rise", sorted(set(shape.sizes)), shape.sizes)
+            self.same(f"{shape.name}: three sizes", len(shape.sizes), 3)
+
+    def test_the_bench_runs(self):
+        """Of the shapes with one word in their names: a line for each size, and the worst of each column."""
+        ran = subprocess.run([TOP / "bench/hostile", "monsters"], capture_output=True, text=True, timeout=120)
+        rows = [line for line in ran.stdout.splitlines() if line.startswith(("shared", "messages", "the worst"))]
+        names = [name for shape in ("shared monsters", "messages of monsters")
+                 for name in [shape] * 3 + ["the worst of each"]]
+        self.same("it ends well", (ran.returncode, ran.stderr), (0, ""))
+        self.same("lines", [row[:27].strip() for row in rows], names)
+        for place in (0, 4):
+            columns = [[float(word) for word in row[39:].split()[:5]] for row in rows[place : place + 4]]
+            self.same("the worst", columns[3], [max(column) for column in zip(*columns[:3])])
 
     def test_good_schema_files(self):
         """Those of "equal names" have two fields of one name, which is found when all names are in order."""
         twice = refused("schema: L2 C8 NameTwice owner=0 part=1")
-        for name, schema, make, _ in HOSTILE.SHAPES:
-            if schema is HOSTILE.ITSELF:
-                ran = run("--schema", file_of("shape.bfbs", make(512 if name == "shared values" else 1024)))
-                self.same(name, ran, twice if name == "equal names" else refused("no root table"))
+        for shape in HOSTILE.FILES:
+            made = shape.made(512 if shape.name == "shared values" else 1024)
+            ran = run("--schema", file_of("shape.bfbs", made))
+            self.same(shape.name, ran, twice if shape.name == "equal names" else refused("no root table"))
 
     def test_schema_files_that_share_too_much(self):
         """Their rows have longer names than their length pays for, or their lists are read again more often; those of
         "most rows" and "most bytes of names" have as many as it does."""
         kib = 1024
-        shapes = {name: make for name, _, make, _ in HOSTILE.SHAPES}
         past = b"L1 V13 TooManyReads"
         for name, size, why in [("overlapping names", 128, b"L6 TooMuchShared"), ("shared values", 4, past),
                                 ("shared long names", 32, past)]:
-            ran = run("--schema", file_of("shape.bfbs", shapes[name](size * kib)))
+            ran = run("--schema", file_of("shape.bfbs", BY_NAME[name].made(size * kib)))
             self.same(name, (ran.status, ran.err.startswith(b"fbcheck: schema: " + why)), (2, True))
         for name in ["most rows", "most bytes of names"]:
-            self.same(name, run("--schema", file_of("shape.bfbs", shapes[name](64 * kib))), refused("no root table"))
+            path = file_of("shape.bfbs", BY_NAME[name].made(64 * kib))
+            self.same(name, run("--schema", path), refused("no root table"))
 
     def test_the_length_of_a_file_pays_for_its_rows_and_names(self):
         """300 objects of 300 fields are 90,300 rows: 65,536, and one for each four of 99,056 bytes. 32 times as many
