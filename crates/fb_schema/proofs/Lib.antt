@@ -24,6 +24,7 @@ pub mod NameLemmas
 pub mod MemberNames
 pub mod NamedValues
 pub mod KindLemmas
+pub mod ToldKinds
 pub mod Kept
 pub mod RowLemmas
 pub mod Kinded

@@ -52,7 +52,7 @@ and_first : (a b : Bool) → (a && b) ≡ true → a ≡ true
 and_first true b h = refl
 and_first false b h = absurd (let w : false ≡ true = h in cc)
 
-not_none : (z : ℤ) → is_member_value z ≡ true → int_eq z (pos 0) ≡ false
+pub not_none : (z : ℤ) → is_member_value z ≡ true → int_eq z (pos 0) ≡ false
 not_none z h = not_true (int_eq z (pos 0)) (λ e. let w : true ≡ false = sym h ∙ ap is_member_value ((signed_Decides z (pos 0)).0 e) in cc)
 
 eq_false : (a : Bool) → a ≡ false → is_eq (bool_cmp a false) ≡ true

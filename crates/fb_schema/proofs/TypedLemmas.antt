@@ -240,6 +240,11 @@ fields_rise rows legal k i j f g a b lt =
     let less = rises_at (live_rows p.object) (rows_rise rows legal k p.object (p.row).at) i j p.field q.field (p.row).here there lt in
     omega (arith, less, ap (λ (x : Live). x.slot) p.same, ap (λ (x : Live). x.slot) q.same)
 
+slots_even : (rows : Rows) → IsLegal rows → (k i : ℕ) (f : Live) → slice_get (live_fields rows k) i ≡ Some f → f.slot % 2 ≡ 0
+slots_even rows legal k i f e =
+    let p = row_of rows legal k i f e in
+    subst (λ s. s % 2 ≡ 0) (sym (ap (λ (x : Live). x.slot) p.same)) (row_slot rows legal k i p.object p.field p.row).0
+
 same_number : (a b : ℕ) → a % 2 ≡ 0 → 4 ≤ a → b % 2 ≡ 0 → 4 ≤ b → (a - 4) / 2 ≡ (b - 4) / 2 → a ≡ b
 same_number a b e l f m h = omega arith
 
@@ -266,6 +271,7 @@ served_by rows legal few = record {
   typed = field_typed rows legal;
   sized = field_sized rows;
   rising = fields_rise rows legal;
+  even = slots_even rows legal;
   numbers = numbers_apart rows legal;
   members = member_holds rows legal;
 }

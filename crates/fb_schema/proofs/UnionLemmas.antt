@@ -10,6 +10,7 @@ use Rattle.std.proofs.lemmas.Cmp.{int_cmp_total}
 use Rattle.fb_schema.specs.declared.rows.EnumRow.{EnumRow}
 use Rattle.fb_schema.specs.declared.rows.MemberRow.{MemberRow}
 use Rattle.fb_schema.specs.Demands.{Demand, IsLegal, first_code, members_asked, demands_of_enum}
+use Rattle.fb_schema.specs.Index.{kept_members}
 use Rattle.fb_schema.specs.Kinds.{kind_of}
 use Rattle.fb_schema.specs.Matched.{AreMatched}
 use Rattle.fb_schema.specs.Members.{is_member_value, member_of, members_in}
@@ -39,7 +40,7 @@ matched_at R xs ys n x h at =
     let y = slice_get_some ys n (let w = read_within xs n x at in let l = h.long in omega arith) in
     (y.0, y.1, h.at n x y.0 at y.1)
 
-union_list : (b : Bool) (ds : List Demand) → b ≡ true → (if b then ds else []) ≡ ds
+pub union_list : (b : Bool) (ds : List Demand) → b ≡ true → (if b then ds else []) ≡ ds
 union_list true ds e = refl
 union_list false ds e = absurd (let w : false ≡ true = e in cc)
 
@@ -59,6 +60,10 @@ pub members_read : (rows : Rows) (enums : List EnumRow) → rows.enums ≡ map e
 members_read rows enums same n row at union =
     ap members_in (ap (λ es. slice_get es n) same ∙ mapped_at enum_of enums n row at)
     ∙ union_members row.is_union (filter (λ m. is_member_value m.value) (map member_of_row row.members.items)) union
+
+-- all members of a union are kept
+pub union_kept : (row : EnumRow) → row.is_union ≡ true → kept_members row ≡ row.members.items
+union_kept row union = ap (λ b. if b then row.members.items else []) union
 
 pub both_true : (a b : Bool) → (a && b) ≡ true → b ≡ true
 both_true true b h = h

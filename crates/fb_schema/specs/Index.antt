@@ -1,19 +1,18 @@
 -- What the index of a schema has to do with its rows.
-use Rattle.std.specs.Prelude.{◌≡◌, ◌+◌, ◌<◌, ◌≤◌, ℕ, List, map, length, drop, slice_index_or, Some}
+use Rattle.std.specs.Prelude.{[], if◌then◌else◌, ◌≡◌, ◌+◌, ◌<◌, ◌≤◌, ℕ, List, map, length, drop, slice_index_or, Some}
 use Rattle.std.specs.List.{position_or_len}
 use Rattle.std.specs.Borrow.{Bor}
-use Rattle.std.specs.Ordering.{int_cmp}
 use Rattle.fb_schema.specs.declared.rows.EnumRow.{EnumRow}
+use Rattle.fb_schema.specs.declared.rows.MemberRow.{MemberRow}
 use Rattle.fb_schema.specs.declared.views.FieldView.{FieldView}
 use Rattle.fb_schema.specs.declared.index.LiveIndex.{LiveIndex}
 use Rattle.fb_schema.specs.declared.index.MemberIndex.{MemberIndex}
 use Rattle.fb_schema.specs.FlatLists.{lists_of}
-use Rattle.fb_schema.specs.Kinds.{kind_of}
 use Rattle.fb_schema.specs.Live.{Live, live_of_view, live_in, required_end_of, widest_of}
 use Rattle.fb_schema.specs.Matched.{AreMatched}
 use Rattle.fb_schema.specs.Steps.{step_of, are_plain}
-use Rattle.fb_schema.specs.Sorting.{IsOrderOf, name_cmp, member_cmp, member_value, member_key}
-use Rattle.fb_schema.specs.Rows.{Rows, Object, member_of_row}
+use Rattle.fb_schema.specs.Sorting.{IsOrderOf, name_cmp, member_cmp, member_key}
+use Rattle.fb_schema.specs.Rows.{Rows, Object}
 use Rattle.fb_schema.specs.Targets.{HaveTargets}
 
 abbrev pub view_name : FieldView → Bor (List ℕ)
@@ -37,9 +36,11 @@ pub record IsLiveIndex {A : Type 0} (rows : Rows) (objects : List Object) (index
   pub widest : index.widest ≡ widest_of objects
   pub few : index.widest ≤ 32766
 
--- the kinds of these enums' members, what unions' types lead to, and the orders of their values and names
+-- the members of a union
+abbrev pub kept_members : EnumRow → List MemberRow
+kept_members row = if row.is_union then row.members.items else []
+
+-- what the types of the unions among these enums lead to, and the orders of their members' names
 pub record IsMemberIndex {A : Type 0} (rows : Rows) (enums : List EnumRow) (index : MemberIndex A) : Type 0 where
-  pub kinds : AreMatched (λ row kinds. kinds ≡ map (λ m. kind_of rows (member_of_row m).ty) row.members.items) enums (lists_of index.kinds)
   pub targets : HaveTargets rows enums (lists_of index.places) (lists_of index.targets)
-  pub values : AreMatched (λ row order. IsOrderOf int_cmp (map member_value row.members.items) order) enums (lists_of index.values)
-  pub names : AreMatched (λ row order. IsOrderOf member_cmp (map member_key row.members.items) order) enums (lists_of index.names)
+  pub names : AreMatched (λ row order. IsOrderOf member_cmp (map member_key (kept_members row)) order) enums (lists_of index.names)

@@ -6,6 +6,7 @@ use Rattle.fb_schema.specs.declared.kinds.Kind.{Kind}
 use Rattle.fb_schema.specs.declared.kinds.Kind.TheVariants.{Scalar, Text, Struct, Table, Union, Scalars, Texts, Structs, Tables, Unions}
 use Rattle.fb_schema.specs.declared.rows.EnumRow.{EnumRow}
 use Rattle.fb_schema.specs.declared.rows.MemberRow.{MemberRow}
+use Rattle.fb_schema.specs.declared.views.Goal.{Goal}
 use Rattle.fb_schema.specs.declared.views.Goal.TheVariants.{Nothing, Text as AText, Table as ATable, Struct as AStruct}
 use Rattle.fb_schema.specs.declared.views.Target.{Target}
 use Rattle.fb_schema.specs.Demands.{first_code, members_asked}
@@ -13,6 +14,13 @@ use Rattle.fb_schema.specs.Kinds.{kind_of, struct_size, struct_align}
 use Rattle.fb_schema.specs.Members.{is_member_value}
 use Rattle.fb_schema.specs.Rows.{Rows, Member, member_of_row}
 use Rattle.fb_schema.specs.Sorting.{IsOrderOf, member_value}
+
+-- the kind of a member with this goal and object
+abbrev pub kind_by : Goal → ℕ → Option Kind
+kind_by Nothing object = None
+kind_by AText object = Some Text
+kind_by ATable object = Some (Table object)
+kind_by AStruct object = Some (Struct object)
 
 -- nothing
 abbrev pub nothing : Target
@@ -31,6 +39,10 @@ target_of rows (Some Texts) = nothing
 target_of rows (Some (Structs k)) = nothing
 target_of rows (Some (Tables k)) = nothing
 target_of rows (Some (Unions e)) = nothing
+
+-- the kind of the member that leads there
+abbrev pub kind_to : Target → Option Kind
+kind_to t = kind_by t.goal t.object
 
 -- the target whose place stands at this value; where none stands there, the first
 abbrev pub target_at : List ℕ → List Target → ℕ → Target

@@ -1,6 +1,5 @@
 // The index of a schema: live fields, the kinds of members, and orders by which names and values are found.
 
-use crate::kinds::Kind;
 use crate::lists::Lists;
 use crate::views::{FieldView, Step, Target};
 use std::alloc::Allocator;
@@ -19,13 +18,11 @@ pub struct LiveIndex<'n, A: Allocator> {
     pub widest: u32,
 }
 
-/// The kinds of each enum's members, none for a type that no union holds, and the orders of their values and names; of
-/// a union at each value the place of its target, and the targets.
+/// What the types of each union lead to: at each value the place of its target, and the targets; and the order of its
+/// members' names. Of an enum that is no union nothing is kept.
 #[derive(Drop)]
 pub struct MemberIndex<'n, A: Allocator> {
-    pub kinds: Lists<Option<Kind>, A>,
     pub places: Lists<u8, A>,
     pub targets: Lists<Target, A>,
-    pub values: Lists<(i64, u32), A>,
     pub names: Lists<((bool, &'n [u8]), u32), A>,
 }

@@ -1,9 +1,9 @@
 // How the index of legal rows is made.
 
-ghost use Rattle.std.specs.Prelude.{◌≡◌, ◌<◌, ◌^◌, ◌+◌, map, length, take, IfOk, OnOk, All, vec_len};
+ghost use Rattle.std.specs.Prelude.{◌≡◌, ◌<◌, ◌≤◌, ◌^◌, ◌+◌, map, length, take, IfOk, OnOk, All, vec_len};
 ghost use Rattle.fb_schema.specs.Sorting.{IsOrderOf, name_cmp};
 ghost use Rattle.fb_schema.specs.Rows.{borrowed_rows, member_of_row};
-ghost use Rattle.fb_schema.specs.Index.{view_name, AreNextRequired, IsLiveIndex, IsMemberIndex};
+ghost use Rattle.fb_schema.specs.Index.{kept_members, view_name, AreNextRequired, IsLiveIndex, IsMemberIndex};
 ghost use Rattle.fb_schema.specs.Kinds.{kind_of};
 ghost use Rattle.fb_schema.specs.Demands.{IsLegal};
 ghost use Rattle.fb_schema.specs.Live.{live_of_view, required_end_of};
@@ -13,7 +13,7 @@ use crate::keys::{in_order, is_none};
 use crate::kinds::Kind;
 use crate::lists::Lists;
 use crate::live::table_views;
-use crate::rows::MemberRow;
+use crate::rows::{EnumRow, MemberRow};
 use crate::steps::{are_plain, field_steps};
 use crate::targets::enum_targets;
 use crate::types::RowLists;
@@ -66,6 +66,18 @@ fn member_kinds<A: Allocator>(
     Ok(kinds)
 }
 
+/// The members of a union; none of an enum that isn't one.
+fn kept_members<'r, 'n>(row: &'r EnumRow<'n>) -> &'r [MemberRow<'n>]
+    ensures value { result.now ≡ kept_members row.now }
+    ensures fewer { length result.now ≤ vec_len row.now.members }
+{
+    if row.is_union {
+        row.members.as_slice()
+    } else {
+        &[]
+    }
+}
+
 impl<'n, A: Allocator + Copy> LiveIndex<'n, A> {
     /// Adds what is kept of the object with this number, behind those before it.
     fn add(&mut self, alloc: A, rows: &RowLists<'_, 'n>, n: usize) -> Result<(), AllocError>
@@ -100,12 +112,10 @@ impl<'n, A: Allocator + Copy> MemberIndex<'n, A> {
         ensures { OnOk result (IsMemberIndex (borrowed_rows rows.now) (take (n + 1) rows.now.enums.now) self.new) }
     {
         let row = &rows.enums[n];
-        let members = row.members.as_slice();
+        let members = kept_members(row);
         let kinds = member_kinds(alloc, rows, members)?;
         let values = in_order(alloc, members, |member| member.value)?;
         let names = in_order(alloc, members, |member| (is_none(member), member.name))?;
-        self.kinds.push(&kinds)?;
-        self.values.push(&values)?;
         self.names.push(&names)?;
         let found = enum_targets(alloc, rows, row.is_union, &values, &kinds)?;
         self.places.push(&found.places)?;
@@ -148,10 +158,8 @@ pub fn member_index<'n, A: Allocator + Copy>(
     ensures { IfOk result (IsMemberIndex (borrowed_rows rows.now) rows.now.enums.now) }
 {
     let mut index = MemberIndex {
-        kinds: Lists::new(alloc),
         places: Lists::new(alloc),
         targets: Lists::new(alloc),
-        values: Lists::new(alloc),
         names: Lists::new(alloc),
     };
     for n in 0..rows.enums.len() {

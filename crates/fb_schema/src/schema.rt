@@ -21,7 +21,7 @@ use crate::kinds::Kind;
 use crate::legal::legal;
 use crate::rows::{EnumRow, MemberRow, ObjectRow};
 use crate::sorting::place_of;
-use crate::targets::{Targets, kind_at};
+use crate::targets::Targets;
 use crate::types::RowLists;
 use crate::views::{FieldView, ObjectView, Step};
 use std::alloc::{Allocator, Global};
@@ -233,9 +233,8 @@ impl<'n, A: Allocator + Copy> Schema<'n, A> {
         requires { IsTrue (is_union self.now e) }
         ensures { result ≡ member_of self.now e value }
     {
-        let values = self.members.values.get(e as usize);
-        let kinds = self.members.kinds.get(e as usize);
-        kind_at(values, kinds, value)
+        self.lawful();
+        self.targets_of(e).get(value).kind()
     }
 
     /// What the offset words of a union lead to, by their types: for whoever looks up many of them.

@@ -2,7 +2,7 @@
 
 ghost use Rattle.std.specs.Prelude.{◌≡◌, ◌<◌, ◌≤◌, ◌+◌, ℕ, List, map, length, slice_index_or, IfOk, OnOk, true};
 ghost use Rattle.fb_schema.specs.Rows.{Rows, borrowed_rows, member_of_row};
-ghost use Rattle.fb_schema.specs.Targets.{nothing, target_of, target_at, kind_among, AreTargets, AreSorted};
+ghost use Rattle.fb_schema.specs.Targets.{nothing, kind_to, target_of, target_at, kind_among, AreTargets, AreSorted};
 ghost use Rattle.fb_schema.specs.declared.rows.MemberRow.{MemberRow};
 
 use crate::kinds::Kind;
@@ -42,6 +42,20 @@ impl Targets<'_> {
         match self.targets.get(place as usize) {
             Some(target) => *target,
             None => NOTHING,
+        }
+    }
+}
+
+impl Target {
+    /// The kind of the member that leads there, none where there is none.
+    pub fn kind(self) -> Option<Kind>
+        ensures { result ≡ kind_to self }
+    {
+        match self.goal {
+            Goal::Nothing => None,
+            Goal::Text => Some(Kind::Text),
+            Goal::Table => Some(Kind::Table(self.object)),
+            Goal::Struct => Some(Kind::Struct(self.object)),
         }
     }
 }

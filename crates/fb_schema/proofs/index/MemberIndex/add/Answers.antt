@@ -3,12 +3,13 @@ use Rattle.std.specs.Ordering.{int_cmp}
 use Rattle.fb_schema.specs.Kinds.{kind_of}
 use Rattle.std.proofs.lemmas.Option.{slice_get-get_or}
 use Rattle.fb_schema.specs.FlatLists.{lists_of}
+use Rattle.fb_schema.specs.Index.{kept_members}
 use Rattle.fb_schema.specs.Sorting.{IsOrderOf, member_cmp, member_value, member_key}
 use Rattle.fb_schema.specs.Rows.{borrowed_rows, member_of_row}
 use Rattle.fb_schema.specs.Targets.{AreTargets, AreSorted}
 use Rattle.fb_schema.proofs.IndexLemmas.{matched_step}
 use Rattle.fb_schema.proofs.TargetLemmas.{have_step}
-use Rattle.fb_schema.proofs.UnionLemmas.{members_clear}
+use Rattle.fb_schema.proofs.UnionLemmas.{members_clear, union_kept}
 use Rattle.fb_schema.proofs.index.MemberIndex.add.Goals as goal
 
 pub returns : goal.returns
@@ -21,20 +22,17 @@ returns g c =
     let index = c.args.self.now in
     let lt = c.requires.here in
     let there : slice_get enums i ≡ Some row = slice_get-get_or enums i row lt ∙ ap Some (sym is) in
-    let here = c.as_slice-members.ensures.value in
-    let sorted : row.is_union ≡ true → AreSorted rows row.members.items c.deref-4.result.now c.deref-5.result.now = λ union. record {
+    let sorted : row.is_union ≡ true → AreSorted rows row.members.items c.deref-2.result.now c.deref-3.result.now = λ union.
+    let here = c.kept_members-members.ensures.value ∙ union_kept row union in
+    record {
       clear = members_clear rows enums refl c.requires.legal i row there union;
-      rise = subst (IsOrderOf int_cmp (map member_value row.members.items)) (sym c.deref-4.ensures.value) (subst (λ ms. IsOrderOf int_cmp (map member_value ms) c.in_ok-values.values.items) here (c.in_ok-values.ensures member_value (λ x k r. search rules)));
-      are = c.deref-5.ensures.value ∙ c.in_ok-kinds.ensures ∙ ap (map (λ m. kind_of rows (member_of_row m).ty)) here;
+      rise = subst (IsOrderOf int_cmp (map member_value row.members.items)) (sym c.deref-2.ensures.value) (subst (λ ms. IsOrderOf int_cmp (map member_value ms) c.in_ok-values.values.items) here (c.in_ok-values.ensures member_value (λ x k r. search rules)));
+      are = c.deref-3.ensures.value ∙ c.in_ok-kinds.ensures ∙ ap (map (λ m. kind_of rows (member_of_row m).ty)) here;
     } in
     record {
-      kinds = matched_step (λ row kinds. kinds ≡ map (λ m. kind_of rows (member_of_row m).ty) row.members.items) enums i row (lists_of index.kinds) _ c.deref.result.now lt is c.requires.before.kinds c.in_ok-push.ensures
-          (c.deref.ensures.value ∙ c.in_ok-kinds.ensures ∙ ap (map (λ m. kind_of rows (member_of_row m).ty)) here);
-      targets = have_step rows enums i row (lists_of index.places) _ (lists_of index.targets) _ c.deref-6.result.now c.deref-7.result.now lt is c.requires.before.targets c.in_ok-push-4.ensures c.in_ok-push-5.ensures
-          (λ union. subst (λ ps. AreTargets rows (map member_of_row row.members.items) ps c.deref-7.result.now) (sym c.deref-6.ensures.value)
-          (subst (AreTargets rows (map member_of_row row.members.items) c.in_ok-found.found.places.items) (sym c.deref-7.ensures.value) (c.in_ok-found.ensures union row.members.items (sorted union))));
-      values = matched_step (λ row order. IsOrderOf int_cmp (map member_value row.members.items) order) enums i row (lists_of index.values) _ c.deref-2.result.now lt is c.requires.before.values c.in_ok-push-2.ensures
-          (subst (λ ms. IsOrderOf int_cmp (map member_value ms) c.deref-2.result.now) here (subst (λ order. IsOrderOf int_cmp (map member_value c.as_slice-members.result.now) order) (sym c.deref-2.ensures.value) (c.in_ok-values.ensures member_value (λ x k r. search rules))));
-      names = matched_step (λ row order. IsOrderOf member_cmp (map member_key row.members.items) order) enums i row (lists_of index.names) _ c.deref-3.result.now lt is c.requires.before.names c.in_ok-push-3.ensures
-          (subst (λ ms. IsOrderOf member_cmp (map member_key ms) c.deref-3.result.now) here (subst (λ order. IsOrderOf member_cmp (map member_key c.as_slice-members.result.now) order) (sym c.deref-3.ensures.value) (c.in_ok-names.ensures member_key (λ x k r. search rules))));
+      targets = have_step rows enums i row (lists_of index.places) _ (lists_of index.targets) _ c.deref-4.result.now c.deref-5.result.now lt is c.requires.before.targets c.in_ok-push-2.ensures c.in_ok-push-3.ensures
+          (λ union. subst (λ ps. AreTargets rows (map member_of_row row.members.items) ps c.deref-5.result.now) (sym c.deref-4.ensures.value)
+          (subst (AreTargets rows (map member_of_row row.members.items) c.in_ok-found.found.places.items) (sym c.deref-5.ensures.value) (c.in_ok-found.ensures union row.members.items (sorted union))));
+      names = matched_step (λ row order. IsOrderOf member_cmp (map member_key (kept_members row)) order) enums i row (lists_of index.names) _ c.deref.result.now lt is c.requires.before.names c.in_ok-push.ensures
+          (subst (λ ms. IsOrderOf member_cmp (map member_key ms) c.deref.result.now) c.kept_members-members.ensures.value (subst (λ order. IsOrderOf member_cmp (map member_key c.kept_members-members.result.now) order) (sym c.deref.ensures.value) (c.in_ok-names.ensures member_key (λ x k r. search rules))));
     }

@@ -6,10 +6,10 @@ use Rattle.std.specs.declared.cmp.Ordering.TheVariants.{Equal}
 use Rattle.fb_schema.specs.declared.rows.EnumRow.{EnumRow}
 use Rattle.fb_schema.specs.Demands.{first_code, members_asked}
 use Rattle.fb_schema.specs.Members.{member_named, is_member_value}
-use Rattle.fb_schema.specs.Sorting.{IsPlaceOf, member_cmp, member_key}
+use Rattle.fb_schema.specs.Sorting.{IsOrderOf, IsPlaceOf, member_cmp, member_key}
 use Rattle.fb_schema.specs.Rows.{Rows, Member, rows_of, is_union, member_of_row}
 use Rattle.fb_schema.proofs.Blank.{blank_member}
-use Rattle.fb_schema.proofs.UnionLemmas.{union_at, members_clear}
+use Rattle.fb_schema.proofs.UnionLemmas.{union_at, union_kept, members_clear}
 use Rattle.fb_schema.proofs.MemberNames.{name_found, name_missing, member_named_is, real_at, small_value, fits_small}
 use Rattle.std.proofs.lemmas.Option.{get_or_from_slice_get}
 use Rattle.std.proofs.lemmas.Int.{to_z-of_z}
@@ -25,7 +25,9 @@ rows : (g : _) (c : After-place_of g) → Rows
 rows g c = rows_of c.self.inside.objects.items c.self.inside.enums.items
 
 placed : (g : _) (c : After-place_of g) → IsPlaceOf member_cmp (map member_key (union_row g c).0.members.items) (false, c.args.name) c.place_of.result
-placed g c = c.place_of.ensures (map member_key (union_row g c).0.members.items) (c.self.invariant.kinds.names.at c.args.e (union_row g c).0 c.get-names.result.now (union_row g c).1 c.get-names.ensures)
+placed g c =
+    let row = (union_row g c).0 in
+    c.place_of.ensures (map member_key row.members.items) (subst (λ ms. IsOrderOf member_cmp (map member_key ms) c.get-names.result.now) (union_kept row (union_row g c).2) (c.self.invariant.kinds.names.at c.args.e row c.get-names.result.now (union_row g c).1 c.get-names.ensures))
 
 clear : (g : _) (c : After-place_of g) (q : ℕ) → first_code (members_asked (rows g c) (map member_of_row (union_row g c).0.members.items) q) ≡ None
 unfolding rows
