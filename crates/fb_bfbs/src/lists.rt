@@ -39,7 +39,7 @@ fn rows_at<'b, R: FromTable<'b>>(
     ensures few_listed { IfOk result (λ v. All (λ r. 4 * R.listed r ≤ length ((place.now).sealed).bytes) v.items) }
 {
     let count = count_at(place);
-    let mut rows = Vec::new(alloc);
+    let mut rows = Vec::with_capacity(alloc, count as usize)?;
     for j in 0..count {
         let element = place.go(Step::Element(j));
         let row = R::from_table(alloc, &element)?;

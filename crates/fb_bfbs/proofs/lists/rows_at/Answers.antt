@@ -19,8 +19,8 @@ loop-j-init g c = record {
   place = refl;
   count = search rules;
   within = omega arith;
-  rows = λ p way more. rw c.new-rows.ensures.items (no_rows g.R.FromTable.is_row (behind (seen p) way));
-  few = rw c.new-rows.ensures.items (λ k d lt. absurd (omega arith));
+  rows = λ p way more. rw c.in_ok-rows.ensures.items (no_rows g.R.FromTable.is_row (behind (seen p) way));
+  few = rw c.in_ok-rows.ensures.items (λ k d lt. absurd (omega arith));
 }
 
 pub loop-j-preserved : goal.loop-j-preserved
