@@ -44,6 +44,14 @@ impl<'a> Reads<'a> {
         (self.window, self.count)
     }
 
+    /// How many reads were made since it was lent.
+    #[inline(always)]
+    pub fn count(&self) -> u64
+        ensures { result ≡ self.now.count }
+    {
+        self.count
+    }
+
     /// How many bytes there are.
     #[inline(always)]
     pub fn len(&self) -> u64

@@ -35,4 +35,5 @@ pub mod Absent
 pub mod Plains
 pub mod Passing
 pub mod LeafRows
+pub mod Flats
 pub mod Children

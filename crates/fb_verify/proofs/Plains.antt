@@ -10,7 +10,7 @@ use Rattle.fb_schema.specs.declared.views.Step.{Step}
 use Rattle.fb_schema.specs.Rows.{Rows}
 use Rattle.fb_schema.specs.Live.{Live}
 use Rattle.fb_schema.specs.Served.{KindHolds}
-use Rattle.fb_schema.specs.Steps.{inline_act, act_of, step_of}
+use Rattle.fb_schema.specs.Steps.{inline_act, act_of, is_plain_act, are_plain, step_of}
 use Rattle.fb_verify.specs.declared.checks.Checks.{Checks}
 use Rattle.fb_verify.specs.Places.{is_aligned, field_place}
 use Rattle.fb_verify.specs.Fields.{to_string, entry, entries_of, entries_at, entries}
@@ -46,6 +46,16 @@ inline_acts P size align one two four eight other =
       go false false true z a b c d = c refl
       go false false false true a b c d = d refl
       go false false false false a b c d = other
+
+-- Where no field leads to a table, no step does.
+pub never_leads : (fs : List Live) (i : ℕ) (s : Step) → are_plain fs ≡ true → slice_get (map step_of fs) i ≡ Some s → s.act ≡ Other → ⊥
+never_leads [] i s p e a = absurd (let w : None ≡ Some s = e in cc)
+never_leads (f ∷ fs) zero s p e a =
+    let same : step_of f ≡ s = cc in
+    let no : is_plain_act (act_of f f.kind) ≡ true = (both_true (is_plain_act (act_of f f.kind)) (are_plain fs) p).0 in
+    let other : act_of f f.kind ≡ Other = ap (λ (z : Step). z.act) same ∙ a in
+    let clash : true ≡ false = sym no ∙ ap is_plain_act other in cc
+never_leads (f ∷ fs) (suc i) s p e a = never_leads fs i s (both_true (is_plain_act (act_of f f.kind)) (are_plain fs) p).1 e a
 
 module _ (c : Checks) (b : List ℕ) (t p : ℕ) (s : Step) where
   abbrev inline_of : ℕ → ℕ → Option Failure

@@ -30,5 +30,6 @@ pub mod Known
 pub mod Stack
 pub mod StopsAt
 pub mod PassesOn
+pub mod Flat
 pub mod Told
 pub mod Walked

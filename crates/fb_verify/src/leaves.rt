@@ -64,7 +64,7 @@ fn first_referent(
 /// as it is where the word leads to a table.
 #[cold]
 #[inline(never)]
-fn stop_at_word(top: &mut Frame, left: Row, at: u64, reason: Reason) -> Stop
+pub fn stop_at_word(top: &mut Frame, left: Row, at: u64, reason: Reason) -> Stop
     requires more { 0 < left.left }
     requires near { left.place < 2 ^ 36 }
     requires types { AreTypesNear left.leads }
@@ -97,13 +97,19 @@ impl Walk<'_, '_> {
 
     /// Passes offset words that are left of the top table's field, with the strings and structs that they lead to,
     /// until one leads to a table, and answers that table; none where no word is left. Where one fails, the row is left
-    /// past it. The budget allows whatever they cost.
+    /// past it. The budget allows whatever they cost. These are the words, of which a caller may know constants.
     #[inline(always)]
-    fn pass_words(&self, reads: &mut Reads<'_>, top: &mut Frame) -> Result<Option<Child>, Stop>
+    fn pass_words_of(
+        &self,
+        reads: &mut Reads<'_>,
+        top: &mut Frame,
+        words: Row,
+    ) -> Result<Option<Child>, Stop>
         ghost under: { Waiting }
         requires walking { IsWalking self.now reads.old under.start under.frames top.old }
         requires room { AreAllowed (self.now.limits).reads (reads.old.count + 4 * (top.old.row).left) }
         requires few { reads.old.count + 4 * (top.old.row).left < 2 ^ 56 }
+        requires same { words ≡ top.old.row }
         ensures walking { IfOk result (λ o. o ≡ None → IsWalking self.now reads.new under.start under.frames top.new) }
         ensures table { IfOk result (λ o. IfSome o (λ child. IsAtTable self.now reads.new.bytes reads.new.count under.start under.frames top.new (reads.old.count + 4 * (top.old.row).left) child)) }
         ensures top { IfOk result (λ _. top.new ≡ record top.old { row = top.new.row }) }
@@ -115,7 +121,7 @@ impl Walk<'_, '_> {
         ensures err { IfErr result (λ s. IsStoppedBehind self.now reads.old under.start (under.frames ++ top.new ∷ []) (stopped s reads.new.count)) }
     {
         let checks = self.checks;
-        let mut row = top.row;
+        let mut row = words;
         let mut known = None;
         while row.left > 0 {
             let referent = first_referent(reads, self.schema, row, &mut known);
@@ -132,6 +138,33 @@ impl Walk<'_, '_> {
         }
         top.row = row;
         Ok(None)
+    }
+
+    /// The same, in a loop of its own where all words lead to strings.
+    #[inline(always)]
+    fn pass_words(&self, reads: &mut Reads<'_>, top: &mut Frame) -> Result<Option<Child>, Stop>
+        ghost under: { Waiting }
+        requires walking { IsWalking self.now reads.old under.start under.frames top.old }
+        requires room { AreAllowed (self.now.limits).reads (reads.old.count + 4 * (top.old.row).left) }
+        requires few { reads.old.count + 4 * (top.old.row).left < 2 ^ 56 }
+        ensures walking { IfOk result (λ o. o ≡ None → IsWalking self.now reads.new under.start under.frames top.new) }
+        ensures table { IfOk result (λ o. IfSome o (λ child. IsAtTable self.now reads.new.bytes reads.new.count under.start under.frames top.new (reads.old.count + 4 * (top.old.row).left) child)) }
+        ensures top { IfOk result (λ _. top.new ≡ record top.old { row = top.new.row }) }
+        ensures fewer { IfOk result (λ _. (top.new.row).left ≤ (top.old.row).left) }
+        ensures none { IfOk result (λ o. o ≡ None → (top.new.row).left ≡ 0) }
+        ensures paid { IfOk result (λ o. o ≡ None → reads.new.count ≤ reads.old.count + 4 * (top.old.row).left) }
+        ensures grows { IfOk result (λ _. reads.old.count ≤ reads.new.count) }
+        ensures bytes { reads.new.bytes ≡ reads.old.bytes }
+        ensures err { IfErr result (λ s. IsStoppedBehind self.now reads.old under.start (under.frames ++ top.new ∷ []) (stopped s reads.new.count)) }
+    {
+        if let Leads::All(Referent::Text) = top.row.leads {
+            let texts = Row {
+                leads: Leads::All(Referent::Text),
+                ..top.row
+            };
+            return self.pass_words_of(reads, top, texts);
+        }
+        self.pass_words_of(reads, top, top.row)
     }
 
     /// Passes one or more offset words that are left of the top table's field, with the strings and structs that they

@@ -9,6 +9,7 @@ mod element;
 pub mod examples;
 pub mod fault;
 mod field;
+mod flat;
 mod head;
 pub mod laws;
 mod leaves;

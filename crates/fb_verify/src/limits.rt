@@ -139,6 +139,17 @@ impl Limits {
         reads < SHORT && self.allows(reads)
     }
 
+    /// So many reads may be made, and a count of 64 bits holds them with room to spare: the budget where it is short.
+    pub(crate) fn short(&self) -> u64
+        ensures allowed { AreAllowed self.now.reads result }
+        ensures short { result ≤ 2 ^ 56 }
+    {
+        match self.reads {
+            Some(most) if most < 1 << 56 => most,
+            _ => 1 << 56,
+        }
+    }
+
     /// Whether so many reads may be made.
     pub(crate) fn allows(&self, reads: u128) -> bool
         ensures { result ≡ allowed self.now.reads reads }

@@ -23,7 +23,7 @@ use fb_schema::{Act, Step};
 /// A test that fails for this reason. It stands apart, so that what holds is passed without a thought of it.
 #[cold]
 #[inline(never)]
-fn fails(reason: Reason) -> Option<Reason>
+pub fn fails(reason: Reason) -> Option<Reason>
     ensures { result ≡ Some reason }
 {
     Some(reason)
@@ -43,7 +43,13 @@ fn is_inside(reads: &Reads<'_>, at: u64, n: u64) -> bool
 /// Tests that a scalar or struct of this size and alignment stands at a position.
 #[inline(always)]
 #[tactic(auto, unfolding(crate::specs::Order::inline_failure))]
-fn test_inline(reads: &Reads<'_>, checks: Checks, at: u64, size: u32, align: u32) -> Option<Reason>
+pub fn test_inline(
+    reads: &Reads<'_>,
+    checks: Checks,
+    at: u64,
+    size: u32,
+    align: u32,
+) -> Option<Reason>
     requires near { at < 2 ^ 35 }
     requires align { 0 < align }
     ensures told { tested_by at reads.now.count result ≡ after reads.now.count (inline_failure checks reads.now.bytes at size align) }

@@ -231,7 +231,7 @@ impl<'s, 'n> Walk<'s, 'n> {
     /// Where the walk stops at the next field of a table of this object.
     #[cold]
     #[inline(never)]
-    fn stop_at(&self, object: u32, next: u32, at: u64, reason: Reason) -> Stop
+    pub fn stop_at(&self, object: u32, next: u32, at: u64, reason: Reason) -> Stop
         requires table { IsTrue (is_table self.now.schema.now object) }
         requires next { next < length (live_fields self.now.schema.now object) }
         ensures refusal { result.refusal ≡ record { at = at; reason = reason } }
@@ -397,7 +397,7 @@ impl<'s, 'n> Walk<'s, 'n> {
     /// table with a field that leads on in its turn, and answers whether one does: the frame of that table is the first
     /// of the room then. So many frames wait below the top.
     #[inline(always)]
-    fn pass_elements(
+    fn pass_children(
         &mut self,
         meter: &mut Tally<'_>,
         waiting: u32,
@@ -443,6 +443,48 @@ impl<'s, 'n> Walk<'s, 'n> {
             }
         }
         Ok(false)
+    }
+
+    /// Passes offset words that are left of the top table's field, each with all that it leads to, until one leads to a
+    /// table with a field that leads on in its turn, and answers whether one does: the frame of that table is the first
+    /// of the room then. So many frames wait below the top.
+    #[inline(always)]
+    fn pass_elements(
+        &mut self,
+        meter: &mut Tally<'_>,
+        waiting: u32,
+        top: &mut Frame,
+        room: &mut [Frame],
+    ) -> Result<bool, Halt>
+        ghost under: { Waiting }
+        requires waiting { waiting ≡ length under.frames }
+        requires walking { IsWalking self.old meter.old under.start under.frames top.old }
+        requires leads { 0 < (top.old.row).left }
+        requires room { (self.old.limits).depth ≤ waiting + 1 + length room.old }
+        requires few { meter.old.count + work self.old.schema.now self.old.limits under.frames top.old self.old.tables ≤ 2 ^ 95 }
+        ensures same { IfOk result (λ _. self.new ≡ record self.old { tables = self.new.tables; deepest = self.new.deepest }) }
+        ensures over { IfOk result (λ more. more ≡ false → IsWalking self.new meter.new under.start under.frames top.new) }
+        ensures leads { IfOk result (λ more. more ≡ true → IsWalking self.new meter.new under.start (under.frames ++ top.new ∷ []) (slice_index_or room.new 0 blank)) }
+        ensures least { IfOk result (λ more. more ≡ false → meter.new.count + work self.old.schema.now self.old.limits under.frames top.new self.new.tables < meter.old.count + work self.old.schema.now self.old.limits under.frames top.old self.old.tables) }
+        ensures falls { IfOk result (λ more. more ≡ true → meter.new.count + work self.old.schema.now self.old.limits (under.frames ++ top.new ∷ []) (slice_index_or room.new 0 blank) self.new.tables < meter.old.count + work self.old.schema.now self.old.limits under.frames top.old self.old.tables) }
+        ensures grows { IfOk result (λ _. meter.old.count ≤ meter.new.count) }
+        ensures bytes { meter.new.bytes ≡ meter.old.bytes }
+        ensures links { IfErr result (λ h. h.links ≡ waiting + 1) }
+        ensures deep { IfErr result (λ h. h.links + links_left h.last ≤ (self.old.limits).depth) }
+        ensures err { IfErr result (λ h. HaltsIn self.old meter.old under.start (under.frames ++ top.new ∷ []) h meter.new.count) }
+        ensures length { length room.new ≡ length room.old }
+    {
+        let _schema = self.schema;
+        if top.row.left > 1 {
+            match self.pass_flat_row(meter, waiting, top) {
+                Ok(()) => {}
+                Err(halt) => return Err(halt),
+            }
+            if top.row.left == 0 {
+                return Ok(false);
+            }
+        }
+        self.pass_children(meter, waiting, top, room)
     }
 
     /// One step of the walk: goes on in the top table to a table below it, which becomes the top, or to its end, where

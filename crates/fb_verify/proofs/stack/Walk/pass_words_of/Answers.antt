@@ -10,8 +10,8 @@ use Rattle.fb_verify.proofs.Chains.{after_none}
 use Rattle.fb_verify.proofs.Frames.{first_few, row_types_near}
 use Rattle.fb_verify.proofs.LeafRows.{word_told, word_fails, is_leaf, is_sized, known_on}
 use Rattle.fb_verify.proofs.Walking.{leaf_passed}
-use Rattle.fb_verify.proofs.stack.Walk.pass_words.Goals as goal
-use Rattle.fb_verify.proofs.stack.Walk.pass_words.Goals.{After-test_lead-failed}
+use Rattle.fb_verify.proofs.stack.Walk.pass_words_of.Goals as goal
+use Rattle.fb_verify.proofs.stack.Walk.pass_words_of.Goals.{After-test_lead-failed}
 
 pub test_lead-failed-requires-clause-align : goal.test_lead-failed-requires-clause-align
 test_lead-failed-requires-clause-align g c = is_sized c.args.self.now.schema.now c.first_referent-referent.result c.first_referent-referent.ensures.referent

@@ -5,7 +5,7 @@ use Rattle.fb_verify.specs.declared.stack.Walk.{Walk}
 use Rattle.fb_verify.specs.Stack.{blank}
 use Rattle.fb_verify.proofs.Children.{words_fall, word_few, child_stops, child_opened, opening_falls, leading_falls, closing_falls}
 use Rattle.fb_verify.proofs.Frames.{row_types_near}
-use Rattle.fb_verify.proofs.stack.Walk.pass_elements.Goals as goal
+use Rattle.fb_verify.proofs.stack.Walk.pass_children.Goals as goal
 
 pub advance-requires-clause-more : goal.advance-requires-clause-more
 advance-requires-clause-more g c = let o = rw c.in-Some.is at c.in-Ok.ensures.table in o.more

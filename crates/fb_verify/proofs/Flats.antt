@@ -1,0 +1,118 @@
+-- A table whose fields lead to no table is passed whole.
+use Rattle.std.proofs.Common.{◌≡◌, ℕ, ◌+◌, ◌*◌, ◌^◌, ◌<◌, ◌≤◌, IsTrue, nat_lt, true, List, length, refl, sym, ◌∙◌, ap, arith, Option, Some, None}
+use Rattle.std.proofs.lemmas.Bool.Decides.{nat_tests}
+use Rattle.fb_bytes.specs.Word.{Metered}
+use Rattle.fb_schema.specs.Rows.{Rows, is_table}
+use Rattle.fb_schema.specs.Live.{live_fields}
+use Rattle.fb_verify.specs.declared.checks.Checks.{Checks}
+use Rattle.fb_verify.specs.declared.fault.Reason.{Reason}
+use Rattle.fb_verify.specs.declared.field.Table.{Table}
+use Rattle.fb_verify.specs.declared.offset_row.Row.{Row}
+use Rattle.fb_verify.specs.declared.offset_row.Leads.TheVariants.{All}
+use Rattle.fb_verify.specs.declared.offset_row.Referent.TheVariants.{Table as ATable}
+use Rattle.fb_verify.specs.declared.scratch.Frame.{Frame}
+use Rattle.fb_verify.specs.declared.site.Refusal.{Refusal}
+use Rattle.fb_verify.specs.declared.site.Site.{Site}
+use Rattle.fb_verify.specs.declared.stack.Walk.{Walk}
+use Rattle.fb_verify.specs.Bounds.{Bounds}
+use Rattle.fb_verify.specs.Places.{target}
+use Rattle.fb_verify.specs.Fields.{Entry, to_table}
+use Rattle.fb_verify.specs.Flat.{came, PassesFlat}
+use Rattle.fb_verify.specs.Cost.{head_reads, lead_reads}
+use Rattle.fb_verify.specs.Order.{after, ◌▷◌, head_failure, lead_failure, element_failure}
+use Rattle.fb_verify.specs.OffsetRows.{first_word, word_at, past_first}
+use Rattle.fb_verify.specs.PassesOn.{PassesOn}
+use Rattle.fb_verify.specs.Plain.{tested_by}
+use Rattle.fb_verify.specs.Stack.{opened, Waiting, Origin, IsUnderWay, IsAtTable, work}
+use Rattle.fb_verify.specs.Stops.{budget_failure, reads_failure}
+use Rattle.fb_verify.specs.Told.{told, stopped}
+use Rattle.fb_verify.specs.Way.{Way}
+use Rattle.fb_verify.proofs.Chains.{after_none}
+use Rattle.fb_verify.proofs.LeafRows.{word_told}
+use Rattle.fb_verify.proofs.Refusals.{told_after, told_first}
+use Rattle.fb_verify.proofs.Walking.{table_closed}
+
+-- its head holds, and its fields were passed
+module _ (w : Walk) (m mid new : Metered) (under : Waiting) (table : Table) (next at : ℕ) (bytes : mid.bytes ≡ m.bytes) (least : m.count ≤ mid.count) (most : mid.count ≤ m.count + 3)
+    (few : length (live_fields w.schema.now table.object) < 2 ^ 32) where
+  pub flat_passed : (result : Option Reason) → PassesOn w mid new under (opened table) (record (opened table) { next = next }) at (came result) → PassesFlat w m new under table.object table.at next at result
+  flat_passed None e = record {
+    walking = λ _ rest above is.
+        (table_closed w.checks new.bytes w.schema.now w.limits under.start under.frames (record (opened table) { next = next }) w.tables w.deepest new.count (e.walking refl) rest above is refl (e.all refl));
+    paid = λ _. omega (arith, e.ends refl, most);
+    grows = omega (arith, e.grows, least);
+    bytes = e.bytes ∙ bytes;
+    head = λ _. tt;
+    within = λ _. tt;
+    field = λ _. tt;
+  }
+  flat_passed (Some reason) e = record {
+    walking = λ x. absurd cc;
+    paid = λ x. absurd cc;
+    grows = omega (arith, e.grows, least);
+    bytes = e.bytes ∙ bytes;
+    head = λ x. absurd (omega (arith, x, e.next, few));
+    within = λ _. e.next;
+    field = λ _ s is. rw (sym bytes) (e.err s (record { refusal = is.refusal; object = is.object; field = is.field }));
+  }
+
+-- The first word that is left of a row of words to tables of one object.
+module _ (w : Walk) (b : List ℕ) (start : Origin) (below : List Frame) (top : Frame) (r : ℕ) (h : IsUnderWay w.checks b w.schema.now w.limits start below top w.tables w.deepest r)
+    (k : ℕ) (leads : (top.row).leads ≡ All (ATable k)) (more : 0 < (top.row).left) where
+  abbrev S : Rows
+  S = w.schema.now
+
+  abbrev word : Entry
+  word = first_word b S top.row
+
+  -- it leads to a table
+  word_leads : to_table k ≡ word.lead
+  word_leads = ap (λ l. (word_at b S l (top.row).place).lead) (sym leads)
+
+  -- and reads no type
+  word_free : word.reads ≡ 0
+  word_free = ap (λ l. (word_at b S l (top.row).place).reads) leads
+
+  module _ (new : ℕ) (at : ℕ) (result : Option Reason) (told : tested_by at new result ≡ after r (lead_failure w.checks b (top.row).place (to_table k))) where
+    pub word_tells : tested_by at new result ≡ after r (element_failure w.checks b word)
+    word_tells = word_told w.checks b S w.limits start below top w.tables w.deepest r h (to_table k) word_leads r r (omega (arith, word_free)) (tested_by at new result) told
+
+    -- where it holds, the walk stands at that table
+    pub at_flat : result ≡ None → IsTrue (is_table S k) → new ≡ r + 1 → at ≡ target b (top.row).place → at < 2 ^ 33
+        → IsAtTable w b new start below top (r + 4 * (top.row).left) (record { object = k; at = at })
+    at_flat none table paid is near = record {
+      before = r;
+      count = omega (arith, paid, word_free, ap lead_reads (sym word_leads));
+      walking = h;
+      more = more;
+      holds = (after_none r (element_failure w.checks b word)).0 (sym word_tells ∙ ap (tested_by at new) none);
+      leads = sym word_leads;
+      table = table;
+      at = is;
+      near = near;
+      paid = omega arith;
+    }
+
+-- A table is passed, and the words behind it leave less work.
+pub flat_work : (S : Rows) (L : Bounds) (below : List Frame) (top : Frame) (row : Row) (n r u : ℕ) → row ≡ past_first top.row → 0 < (top.row).left → n < L.tables
+    → u ≤ r + 200000 → u + work S L below (record top { row = row }) (n + 1) < r + work S L below top n
+unfolding work
+flat_work S L below top row n r u re more fewer cost = omega (arith, more, fewer, cost, ap (λ (x : Row). x.left) re)
+
+lt_true : (a b : ℕ) → a < b → nat_lt a b ≡ true
+lt_true a b h = grind (arith, nat_tests)
+
+-- the limits allow it
+may_open : (L : Bounds) (v : Way) (t : ℕ) → v.links < L.depth → v.passed < L.tables → budget_failure L v t ≡ None
+may_open L v t deep fewer = rw (lt_true v.links L.depth deep, lt_true v.passed L.tables fewer) refl
+
+-- its head fails
+pub head_fails : (c : Checks) (b : List ℕ) (L : Bounds) (v : Way) (site : Site) (k t at q new : ℕ) (reason : Reason) → v.links < L.depth → v.passed < L.tables → tested_by at new (Some reason) ≡ after q (head_failure c b t)
+    → (told site q (budget_failure L v t) ▷ told (record { object = k; field = None }) q (head_failure c b t ▷ reads_failure L q (head_reads c) t))
+    ≡ Some (stopped (record { refusal = record { at = at; reason = reason }; site = record { object = k; field = None } }) new)
+head_fails c b L v site k t at q new reason deep fewer x =
+    let e : Refusal = record { at = at; reason = reason } in
+    let here : Site = record { object = k; field = None } in
+    let f = stopped (record { refusal = e; site = here }) new in
+    ap (λ o. told site q o ▷ told here q (head_failure c b t ▷ reads_failure L q (head_reads c) t)) (may_open L v t deep fewer)
+    ∙ told_first here q (head_failure c b t) (reads_failure L q (head_reads c) t) f (told_after here q new (head_failure c b t) e (sym x))

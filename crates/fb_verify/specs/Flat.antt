@@ -1,0 +1,64 @@
+-- What it takes to pass a table whose fields lead to no table, and what that leaves.
+use Rattle.std.specs.Prelude.{◌≡◌, ℕ, ◌+◌, ◌*◌, ◌<◌, ◌≤◌, List, [], ◌∷◌, ◌++◌, false, Option, Some, None, Result, Ok, Err, IfOk, IfErr, IfSome, Bool, length}
+use Rattle.fb_bytes.specs.Word.{Metered}
+use Rattle.fb_schema.specs.Live.{live_fields}
+use Rattle.fb_verify.specs.declared.fault.Reason.{Reason}
+use Rattle.fb_verify.specs.declared.field.Table.{Table}
+use Rattle.fb_verify.specs.declared.scratch.Frame.{Frame}
+use Rattle.fb_verify.specs.declared.site.Halt.{Halt}
+use Rattle.fb_verify.specs.declared.site.Stop.{Stop}
+use Rattle.fb_verify.specs.declared.stack.Walk.{Walk}
+use Rattle.fb_verify.specs.Cost.{head_reads}
+use Rattle.fb_verify.specs.Order.{after, head_failure}
+use Rattle.fb_verify.specs.Plain.{tested_by}
+use Rattle.fb_verify.specs.Stack.{blank, opened, own_link, Waiting, IsUnderWay, IsWalking, StopsIn, HaltsIn, links_left, work}
+use Rattle.fb_verify.specs.StopsAt.{IsStopAt}
+use Rattle.fb_verify.specs.Told.{stopped, IsHead}
+
+-- a walk under way, and what is below its top
+pub record Going : Type 0 where
+  pub walk : Walk
+  pub under : Waiting
+
+-- the answer of a walk past fields of which none leads on
+abbrev pub came : Option Reason → Result Bool Reason
+came None = Ok false
+came (Some reason) = Err reason
+
+-- the number of no field: the head of a table
+abbrev pub in_head : ℕ
+in_head = 4294967295
+
+-- a frame at this field of a table of this object
+abbrev pub frame_at : ℕ → ℕ → Frame
+frame_at k next = record { table = record { object = k; at = (blank.table).at; head = (blank.table).head }; next = next; number = blank.number; row = blank.row }
+
+-- a walk after r reads goes on in the table at t of the object k, once its head is read and holds
+abbrev pub MayOpen : Walk → List ℕ → ℕ → Waiting → ℕ → ℕ → Type 0
+MayOpen w b r under k t =
+    (table : Table) → table.object ≡ k → table.at ≡ t → IsHead w.checks b t table.head → head_failure w.checks b t ≡ None
+    → IsUnderWay w.checks b w.schema.now w.limits under.start under.frames (opened table) w.tables w.deepest (r + head_reads w.checks)
+
+-- the table at t of the object k was passed whole, and the walk goes on in the frame above it; or its head fails, or a
+-- field of it, at this place, for this reason
+pub record PassesFlat (w : Walk) (m new : Metered) (under : Waiting) (k t next at : ℕ) (result : Option Reason) : Type 0 where
+  pub walking : result ≡ None → (rest : List Frame) → (above : Frame) → under.frames ≡ rest ++ above ∷ [] → IsWalking w new under.start rest above
+  pub paid : result ≡ None → new.count ≤ m.count + 3 + 6 * length (live_fields w.schema.now k)
+  pub grows : m.count ≤ new.count
+  pub bytes : new.bytes ≡ m.bytes
+  pub head : next ≡ in_head → IfSome result (λ _. tested_by at new.count result ≡ after m.count (head_failure w.checks m.bytes t))
+  pub within : (next ≡ in_head → ⊥) → IfSome result (λ _. next < length (live_fields w.schema.now k))
+  pub field : (next ≡ in_head → ⊥) → IfSome result (λ reason. (s : Stop) → IsStopAt w.schema.now (frame_at k next) at reason s → StopsIn w.checks m.bytes w.schema.now w.limits under.start under.frames (own_link (stopped s new.count)) (stopped s new.count))
+
+-- tables were passed whole to which the first words of the top's row lead, and that row is left of it; or the walk
+-- stops at one
+pub record PassesFlats {A : Type 0} (w then : Walk) (m new : Metered) (under : Waiting) (top past : Frame) (result : Result A Halt) : Type 0 where
+  pub same : IfOk result (λ _. then ≡ record w { tables = then.tables; deepest = then.deepest })
+  pub walking : IfOk result (λ _. IsWalking then new under.start under.frames past)
+  pub falls : IfOk result (λ _. new.count + work w.schema.now w.limits under.frames past then.tables ≤ m.count + work w.schema.now w.limits under.frames top w.tables)
+  pub began : IfOk result (λ _. (past.row).left < (top.row).left → new.count + work w.schema.now w.limits under.frames past then.tables < m.count + work w.schema.now w.limits under.frames top w.tables)
+  pub grows : IfOk result (λ _. m.count ≤ new.count)
+  pub bytes : new.bytes ≡ m.bytes
+  pub links : IfErr result (λ h. h.links ≡ length under.frames + 1)
+  pub deep : IfErr result (λ h. h.links + links_left h.last ≤ (w.limits).depth)
+  pub err : IfErr result (λ h. HaltsIn w m under.start (under.frames ++ past ∷ []) h new.count)

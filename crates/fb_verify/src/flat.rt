@@ -1,0 +1,366 @@
+// Tables whose fields lead to no table, passed whole by reads that are counted in a register.
+
+ghost use Rattle.std.specs.Prelude.{◌≡◌, ◌+◌, ◌*◌, ◌^◌, ◌<◌, ◌≤◌, length, map, MatchOption, IfOk, IfErr, IfSome, IsTrue, None, true, false};
+ghost use Rattle.fb_schema.specs.Rows.{is_table};
+ghost use Rattle.fb_schema.specs.Live.{live_fields, required_end};
+ghost use Rattle.fb_schema.specs.Steps.{is_plain, step_of};
+ghost use Rattle.fb_verify.specs.Bounds.{AreAllowed};
+ghost use Rattle.fb_verify.specs.Cost.{head_reads};
+ghost use Rattle.fb_verify.specs.Flat.{came, Going, MayOpen, PassesFlat, PassesFlats};
+ghost use Rattle.fb_verify.specs.Order.{head_failure};
+ghost use Rattle.fb_verify.specs.PassesOn.{IsBetween, HasRoom, PassesOn};
+ghost use Rattle.fb_verify.specs.Places.{has_vtable, vtable};
+ghost use Rattle.fb_verify.specs.Plain.{IsTested};
+ghost use Rattle.fb_verify.specs.Stack.{opened, Waiting, IsWalking};
+ghost use Rattle.fb_verify.specs.declared.offset_row.Leads.TheVariants.{All};
+ghost use Rattle.fb_verify.specs.declared.offset_row.Referent.TheVariants.{Table as ATable};
+ghost use Rattle.fb_verify.specs.Told.{IsHead};
+
+use crate::checks::Checks;
+use crate::fault::Reason;
+use crate::field::Table;
+use crate::head::Head;
+use crate::leaves::stop_at_word;
+use crate::offset_row::{Leads, Referent, Row};
+use crate::plain::{fails, slot_at, test_at, test_inline, test_lead};
+use crate::scratch::Frame;
+use crate::site::{Halt, LastLink, Refusal, Site, Stop, is_aligned};
+use crate::stack::Walk;
+use fb_bytes::{Reads, Tally};
+use fb_schema::Step;
+
+/// The number of no field: the head of a table is under check.
+pub const IN_HEAD: u32 = 4_294_967_295;
+
+/// Reads where the vtable of the table at a position stands, none where that is negative.
+#[inline(always)]
+#[tactic(auto, unfolding(crate::specs::Places::has_vtable, crate::specs::Places::vtable))]
+fn vtable_at(reads: &mut Reads<'_>, at: u64) -> Option<u64>
+    requires fits { at + 4 ≤ length reads.old.bytes }
+    requires near { at < 2 ^ 31 }
+    requires few { reads.old.count < 2 ^ 62 }
+    ensures place { MatchOption result (has_vtable reads.old.bytes at ≡ false) (λ v. (has_vtable reads.old.bytes at ≡ true) × (v ≡ vtable reads.old.bytes at)) }
+    ensures near { IfSome result (λ v. v < 2 ^ 32) }
+    ensures counted { reads.new ≡ record reads.old { count = reads.old.count + 1 } }
+{
+    let place = at as i64 - i64::from(reads.i32_at(at));
+    if place < 0 { None } else { Some(place as u64) }
+}
+
+/// Tests the head of the table at a position, and writes it. Where it fails, the position is moved to where it does.
+#[inline(always)]
+#[tactic(auto, unfolding(crate::specs::Order::head_failure, crate::specs::Order::inline_failure))]
+fn test_head(reads: &mut Reads<'_>, checks: Checks, at: &mut u64, head: &mut Head) -> Option<Reason>
+    requires few { reads.old.count < 2 ^ 60 }
+    requires near { at.old < 2 ^ 33 }
+    ensures tested { IsTested reads.old reads.new at.new (head_failure checks reads.old.bytes at.old) (head_reads checks) result }
+    ensures head { result ≡ None → IsHead checks reads.old.bytes at.old head.new }
+    ensures same { result ≡ None → at.new ≡ at.old }
+{
+    let word = test_inline(reads, checks, *at, 4, 4);
+    if word.is_some() {
+        return word;
+    }
+    let Some(vtable) = vtable_at(reads, *at) else {
+        return fails(Reason::OutOfBuffer);
+    };
+    if !reads.fits(vtable, 2) {
+        return fails(Reason::OutOfBuffer);
+    }
+    if !is_aligned(checks, vtable, 2) {
+        *at = vtable;
+        return fails(Reason::Misaligned);
+    }
+    let size = reads.u16_at(vtable);
+    if size % 2 != 0 || size < 4 {
+        *at = vtable;
+        return fails(Reason::BadVtable);
+    }
+    if !reads.fits(vtable, u64::from(size)) {
+        *at = vtable;
+        return fails(Reason::OutOfBuffer);
+    }
+    let inline = if checks.inline_size {
+        reads.u16_at(vtable + 2)
+    } else {
+        0
+    };
+    *head = Head {
+        vtable,
+        size,
+        inline,
+    };
+    None
+}
+
+/// Passes the fields of an open table of which none leads to a table, by their steps; so many are up to the last
+/// required one. Where one fails, the position is moved to where it does, and its number is written. The walk that is
+/// under way, and the frames that wait in it, are those that the contract speaks of.
+#[inline(always)]
+fn pass_steps(
+    reads: &mut Reads<'_>,
+    checks: Checks,
+    steps: &[Step],
+    needed: u32,
+    table: Table,
+    next: &mut u32,
+    at: &mut u64,
+) -> Option<Reason>
+    ghost going: { Going }
+    requires between { IsBetween going.walk reads.old going.under (opened table) }
+    requires room { HasRoom going.walk reads.old (opened table) }
+    requires few { reads.old.count < 2 ^ 58 }
+    requires same { checks ≡ going.walk.checks }
+    requires steps { steps.now ≡ map step_of (live_fields going.walk.schema.now table.object) }
+    requires needed { needed ≡ required_end going.walk.schema.now table.object }
+    requires plain { is_plain going.walk.schema.now table.object ≡ true }
+    requires few_steps { length steps.now < 2 ^ 32 }
+    ensures { PassesOn going.walk reads.old reads.new going.under (opened table) (record (opened table) { next = next.new }) at.new (came result) }
+{
+    let mut past = 0;
+    while let Some(step) = steps.get(past) {
+        if table.head.ends_before(step.slot) && needed <= past as u32 {
+            *next = steps.len() as u32;
+            return None;
+        }
+        let mut tested = slot_at(reads, table.at, table.head, step.slot);
+        let failed = test_at(reads, checks, table, &mut tested, step);
+        if let Some(reason) = failed {
+            *next = past as u32;
+            *at = tested;
+            return Some(reason);
+        }
+        past += 1;
+    }
+    *next = past as u32;
+    None
+}
+
+/// Passes the table at a position, of an object whose fields lead to no table: its head, and its fields by their steps.
+/// Where one fails, the position is moved to where it does, and its number is written, or that of the head. The budget
+/// allows whatever the table may cost.
+#[inline(always)]
+fn pass_flat(
+    walk: &Walk<'_, '_>,
+    above: &Frame,
+    row: Row,
+    reads: &mut Reads<'_>,
+    checks: Checks,
+    object: u32,
+    steps: &[Step],
+    needed: u32,
+    next: &mut u32,
+    at: &mut u64,
+) -> Option<Reason>
+    ghost going: { Going }
+    requires opens { MayOpen going.walk reads.old.bytes reads.old.count going.under object at.old }
+    requires room { AreAllowed (going.walk.limits).reads (reads.old.count + 3 + 6 * length steps.now) }
+    requires few { reads.old.count + 3 + 6 * length steps.now < 2 ^ 56 }
+    requires near { at.old < 2 ^ 33 }
+    requires same { checks ≡ going.walk.checks }
+    requires steps { steps.now ≡ map step_of (live_fields going.walk.schema.now object) }
+    requires needed { needed ≡ required_end going.walk.schema.now object }
+    requires plain { is_plain going.walk.schema.now object ≡ true }
+    requires few_steps { length steps.now < 2 ^ 32 }
+    ensures { PassesFlat going.walk reads.old reads.new going.under object at.old next.new at.new result }
+{
+    // Only the contract speaks of the walk, and of the frame above with the row that is left of it.
+    let _walk = walk;
+    let _above = above;
+    let _row = row;
+    let mut head = Head {
+        vtable: 0,
+        size: 0,
+        inline: 0,
+    };
+    let mut tested = *at;
+    let failed = test_head(reads, checks, &mut tested, &mut head);
+    if let Some(reason) = failed {
+        *next = IN_HEAD;
+        *at = tested;
+        return Some(reason);
+    }
+    let table = Table {
+        head,
+        object,
+        at: *at,
+    };
+    pass_steps(reads, checks, steps, needed, table, next, at)
+}
+
+/// Where the walk stops at the head of a table of this object.
+#[cold]
+#[inline(never)]
+fn stop_in_head(object: u32, at: u64, reason: Reason) -> Stop
+    ensures { result ≡ record { refusal = record { at = at; reason = reason }; site = record { object = object; field = None } } }
+{
+    Stop {
+        refusal: Refusal { at, reason },
+        site: Site {
+            object,
+            field: None,
+        },
+    }
+}
+
+impl<'s, 'n> Walk<'s, 'n> {
+    /// Whether an offset word is left of a row, and the limits allow to open one more table, for so many reads at most.
+    #[inline(always)]
+    fn has_flat(&self, reads: &Reads<'_>, row: Row, cost: u64, room: u64) -> bool
+        requires cost { cost < 2 ^ 40 }
+        requires few { reads.now.count < 2 ^ 58 }
+        ensures more { result ≡ true → 0 < row.left }
+        ensures fewer { result ≡ true → self.now.tables < (self.now.limits).tables }
+        ensures small { result ≡ true → (self.now.limits).tables < 2 ^ 32 }
+        ensures room { result ≡ true → reads.now.count + cost ≤ room }
+    {
+        row.left > 0 && self.tables < self.limits.tables() && reads.count() + cost <= room
+    }
+
+    /// Passes offset words that are left of the top table's field, each with the table to which it leads, whose fields
+    /// lead to no table: as many as the limits allow to open, so that the budget allows whatever each may cost. So many
+    /// frames wait below the top.
+    #[inline(always)]
+    fn pass_flats(
+        &mut self,
+        checks: Checks,
+        reads: &mut Reads<'_>,
+        waiting: u32,
+        object: u32,
+        top: &mut Frame,
+    ) -> Result<(), Halt>
+        ghost under: { Waiting }
+        requires waiting { waiting ≡ length under.frames }
+        requires walking { IsWalking self.old reads.old under.start under.frames top.old }
+        requires leads { (top.old.row).leads ≡ All (ATable object) }
+        requires table { IsTrue (is_table self.old.schema.now object) }
+        requires plain { is_plain self.old.schema.now object ≡ true }
+        requires deep { waiting + 1 < (self.old.limits).depth }
+        requires low { waiting + 1 < 4096 }
+        requires few { reads.old.count ≤ 2 ^ 56 }
+        requires same { checks ≡ self.old.checks }
+        ensures { PassesFlats self.old self.new reads.old reads.new under top.old top.new result }
+    {
+        let steps = self.schema.steps_of(object);
+        let needed = self.schema.required_end(object);
+        let cost = 8 + 6 * steps.len() as u64;
+        let room = self.limits.short();
+        let mut row = top.row;
+        while self.has_flat(reads, row, cost, room) {
+            let mut at = row.place;
+            let failed = test_lead(reads, checks, &mut at, Referent::Table(object));
+            if let Some(reason) = failed {
+                let stop = stop_at_word(top, row, at, reason);
+                return Err(stop.halt(waiting + 1, LastLink::Behind));
+            }
+            row.advance();
+            self.tables += 1;
+            self.deepest = self.deepest.max(waiting + 2);
+            let mut next = 0;
+            let came = pass_flat(
+                self, top, row, reads, checks, object, steps, needed, &mut next, &mut at,
+            );
+            if let Some(reason) = came {
+                top.row = row;
+                if next == IN_HEAD {
+                    let stop = stop_in_head(object, at, reason);
+                    return Err(stop.halt(waiting + 1, LastLink::Behind));
+                }
+                let stop = self.stop_at(object, next, at, reason);
+                return Err(stop.halt(waiting + 1, LastLink::InField));
+            }
+        }
+        top.row = row;
+        Ok(())
+    }
+
+    /// The same by the tally, whatever the checks are: it lends its bytes meanwhile, and takes them back with the reads
+    /// that were made.
+    #[cold]
+    #[inline(never)]
+    fn pass_flats_by_checks(
+        &mut self,
+        meter: &mut Tally<'_>,
+        waiting: u32,
+        object: u32,
+        top: &mut Frame,
+    ) -> Result<(), Halt>
+        ghost under: { Waiting }
+        requires waiting { waiting ≡ length under.frames }
+        requires walking { IsWalking self.old meter.old under.start under.frames top.old }
+        requires leads { (top.old.row).leads ≡ All (ATable object) }
+        requires table { IsTrue (is_table self.old.schema.now object) }
+        requires plain { is_plain self.old.schema.now object ≡ true }
+        requires deep { waiting + 1 < (self.old.limits).depth }
+        requires low { waiting + 1 < 4096 }
+        requires few { meter.old.count ≤ 2 ^ 56 }
+        ensures { PassesFlats self.old self.new meter.old meter.new under top.old top.new result }
+    {
+        let checks = self.checks;
+        let mut reads = meter.lend();
+        let answer = self.pass_flats(checks, &mut reads, waiting, object, top);
+        meter.settle(reads);
+        answer
+    }
+
+    /// The same, quickly where the checks are the published ones, which are constants in the loop then.
+    #[inline(always)]
+    fn pass_flats_on(
+        &mut self,
+        meter: &mut Tally<'_>,
+        waiting: u32,
+        object: u32,
+        top: &mut Frame,
+    ) -> Result<(), Halt>
+        ghost under: { Waiting }
+        requires waiting { waiting ≡ length under.frames }
+        requires walking { IsWalking self.old meter.old under.start under.frames top.old }
+        requires leads { (top.old.row).leads ≡ All (ATable object) }
+        requires table { IsTrue (is_table self.old.schema.now object) }
+        requires plain { is_plain self.old.schema.now object ≡ true }
+        requires deep { waiting + 1 < (self.old.limits).depth }
+        requires low { waiting + 1 < 4096 }
+        requires few { meter.old.count ≤ 2 ^ 56 }
+        ensures { PassesFlats self.old self.new meter.old meter.new under top.old top.new result }
+    {
+        let checks = self.checks;
+        if !checks.alignment || checks.inline_size {
+            return self.pass_flats_by_checks(meter, waiting, object, top);
+        }
+        let published = Checks {
+            alignment: true,
+            inline_size: false,
+        };
+        let mut reads = meter.lend();
+        let answer = self.pass_flats(published, &mut reads, waiting, object, top);
+        meter.settle(reads);
+        answer
+    }
+
+    /// The same where all words of the row lead to tables of one object, whose fields lead to no table, and where one
+    /// table more may be open and the budget is not used up; else it passes none.
+    #[inline(never)]
+    pub fn pass_flat_row(
+        &mut self,
+        meter: &mut Tally<'_>,
+        waiting: u32,
+        top: &mut Frame,
+    ) -> Result<(), Halt>
+        ghost under: { Waiting }
+        requires waiting { waiting ≡ length under.frames }
+        requires walking { IsWalking self.old meter.old under.start under.frames top.old }
+        requires leads { 0 < (top.old.row).left }
+        ensures { PassesFlats self.old self.new meter.old meter.new under top.old top.new result }
+    {
+        let Leads::All(Referent::Table(object)) = top.row.leads else {
+            return Ok(());
+        };
+        if !self.schema.is_plain(object)
+            || waiting + 1 >= self.limits.depth()
+            || !self.limits.allows_short(meter.reads())
+        {
+            return Ok(());
+        }
+        self.pass_flats_on(meter, waiting, object, top)
+    }
+}
