@@ -1,10 +1,7 @@
 -- The offset words that are left of a field are passed one by one.
-use Rattle.std.proofs.Common.{◌≡◌, ℕ, ◌+◌, ◌<◌, List, [], ◌∷◌, ◌++◌, refl, sym, ◌∙◌, ap, subst, Option, Some, None}
+use Rattle.std.proofs.Common.{◌≡◌, ℕ, ◌+◌, ◌<◌, List, [], ◌∷◌, ◌++◌, refl, sym, ◌∙◌, ap, subst, Option, Some}
 use Rattle.fb_schema.specs.Rows.{Rows}
 use Rattle.fb_verify.specs.declared.checks.Checks.{Checks}
-use Rattle.fb_verify.specs.declared.leaves.KnownType.{KnownType}
-use Rattle.fb_verify.specs.declared.offset_row.Leads.{Leads}
-use Rattle.fb_verify.specs.declared.offset_row.Leads.TheVariants.{All, ByType}
 use Rattle.fb_verify.specs.declared.offset_row.Referent.{Referent}
 use Rattle.fb_verify.specs.declared.offset_row.Row.{Row}
 use Rattle.fb_verify.specs.declared.offset_row.Referent.TheVariants.{Text as AText, Table as ATable, Struct as AStruct, Nothing}
@@ -15,8 +12,7 @@ use Rattle.fb_verify.specs.declared.site.Stop.{Stop}
 use Rattle.fb_verify.specs.Bounds.{Bounds}
 use Rattle.fb_verify.specs.Fields.{Lead, Entry}
 use Rattle.fb_verify.specs.Order.{Failure, after, lead_failure, element_failure}
-use Rattle.fb_verify.specs.Known.{IsLookedUp, IsKnown}
-use Rattle.fb_verify.specs.OffsetRows.{lead_to, first_word, past_first, leads_after, IsReferent, IsSized, IsLeafLead}
+use Rattle.fb_verify.specs.OffsetRows.{lead_to, first_word, past_first, IsReferent, IsSized, IsLeafLead}
 use Rattle.fb_verify.specs.Stack.{Origin, IsUnderWay, StopsIn}
 use Rattle.fb_verify.specs.Stops.{lead_reads_failure}
 use Rattle.fb_verify.specs.Told.{refused, stopped}
@@ -60,12 +56,3 @@ is_sized S AText h = tt
 is_sized S (ATable k) h = tt
 is_sized S (AStruct size align) h = h
 is_sized S Nothing h = tt
-
--- what is known stays so behind the first word
-looked_up_on : (S : Rows) (k : KnownType) (leads : Leads) → IsLookedUp S k leads → IsLookedUp S k (leads_after leads)
-looked_up_on S k (All referent) h = h
-looked_up_on S k (ByType e q) h = h
-
-pub known_on : (S : Rows) (leads : Leads) (known : Option KnownType) → IsKnown S leads known → IsKnown S (leads_after leads) known
-known_on S leads None h = tt
-known_on S leads (Some k) h = looked_up_on S k leads h

@@ -35,5 +35,6 @@ pub mod Absent
 pub mod Plains
 pub mod Passing
 pub mod LeafRows
+pub mod Members
 pub mod Flats
 pub mod Children

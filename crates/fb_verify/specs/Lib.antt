@@ -26,7 +26,6 @@ pub mod LinkExamples
 -- What proofs alone need.
 pub mod OffsetRows
 pub mod Plain
-pub mod Known
 pub mod Stack
 pub mod StopsAt
 pub mod PassesOn

@@ -3,6 +3,9 @@ use Rattle.std.specs.Prelude.{◌≡◌, ℕ, ◌+◌, ◌-◌, ◌*◌, ◌<◌
 use Rattle.fb_bytes.specs.Word.{word}
 use Rattle.fb_schema.specs.declared.kinds.Kind.{Kind}
 use Rattle.fb_schema.specs.declared.kinds.Kind.TheVariants.{Scalar, Text, Struct, Table, Union, Unions}
+use Rattle.fb_schema.specs.declared.views.Goal.{Goal}
+use Rattle.fb_schema.specs.declared.views.Goal.TheVariants.{Nothing as NoGoal, Text as TextGoal, Table as TableGoal, Struct as StructGoal}
+use Rattle.fb_schema.specs.declared.views.Target.{Target}
 use Rattle.fb_schema.specs.Rows.{Rows, is_table, is_union}
 use Rattle.fb_schema.specs.Members.{member_of}
 use Rattle.fb_schema.specs.Live.{Live}
@@ -21,6 +24,19 @@ lead_to AText = to_string
 lead_to (ATable k) = to_table k
 lead_to (AStruct size align) = to_struct size align
 lead_to Nothing = to_nothing
+
+-- where one leads whose type has this target
+abbrev pub lead_to_goal : Goal → Target → Lead
+lead_to_goal NoGoal t = to_nothing
+lead_to_goal TextGoal t = to_string
+lead_to_goal TableGoal t = to_table t.object
+lead_to_goal StructGoal t = to_struct t.size t.align
+
+-- it can be asked of the schema
+abbrev pub GoalHolds : Rows → Goal → Target → Type 0
+GoalHolds S TableGoal t = IsTrue (is_table S t.object)
+GoalHolds S StructGoal t = 0 < t.align
+GoalHolds S _ t = Unit {0}
 
 -- n offset words from p on
 abbrev pub words : List ℕ → Rows → Leads → ℕ → ℕ → List Entry

@@ -15,7 +15,7 @@ ghost use Rattle.fb_schema.specs.Served.{IsServed};
 
 use crate::budget::ask_reads;
 use crate::checks::Checks;
-use crate::field::referent_of;
+use crate::field::referent_at;
 use crate::offset_row::{Leads, Referent, Row};
 use crate::site::{Refusal, Site, Stop};
 use crate::stack::Walk;
@@ -89,7 +89,7 @@ impl<'s, 'n> Walk<'s, 'n> {
             Leads::All(referent) => referent,
             Leads::ByType(union, types) => {
                 let value = meter.u8_at(types);
-                referent_of(self.schema, self.schema.member_of(union, value))
+                referent_at(self.schema, union, value)
             }
         };
         match pass_referent(meter, self.checks, row.place, referent) {

@@ -2,7 +2,7 @@
 
 ghost use Rattle.std.specs.Prelude.{◌≡◌, ◌+◌, ◌-◌, ◌*◌, ◌^◌, ◌<◌, ◌≤◌, length, IfOk, IsTrue};
 ghost use Rattle.fb_bytes.specs.Word.{word};
-ghost use Rattle.fb_schema.specs.Rows.{is_union};
+ghost use Rattle.fb_schema.specs.Rows.{Rows, is_union};
 ghost use Rattle.fb_schema.specs.Members.{member_of};
 ghost use Rattle.fb_schema.specs.Live.{live_of_view};
 ghost use Rattle.fb_verify.specs.Places.{target, has_slot};
@@ -12,7 +12,7 @@ ghost use Rattle.fb_verify.specs.Order.{after, vector_field_failure, unions_fiel
 ghost use Rattle.fb_verify.specs.declared.offset_row.Leads.TheVariants.{All, ByType};
 ghost use Rattle.fb_verify.specs.Told.{IsVtable, IsPlaced, IsAsked};
 ghost use Rattle.fb_schema.specs.Served.{IsServed, MemberHolds};
-ghost use Rattle.fb_verify.specs.OffsetRows.{words_of, IsAskable, lead_to, IsReferent, IsRow, LeavesRow, TypeFits, TypesFit, IsVectorOrUnion};
+ghost use Rattle.fb_verify.specs.OffsetRows.{words_of, IsAskable, lead_to, lead_to_goal, GoalHolds, IsReferent, IsRow, LeavesRow, TypeFits, TypesFit, IsVectorOrUnion};
 
 use crate::checks::Checks;
 use crate::fault::Reason;
@@ -21,7 +21,7 @@ use crate::offset_row::{Leads, NO_ROW, Referent, Row};
 use crate::site::{Refusal, refuse};
 use crate::values::{check_inline, read_offset, read_vector};
 use fb_bytes::Tally;
-use fb_schema::{FieldView, Kind, Schema};
+use fb_schema::{FieldView, Goal, Kind, Schema, Target};
 
 /// An open table: its head, its object's number and its position, in the order that [`Stop`] asks for.
 #[derive(Clone, Copy)]
@@ -150,6 +150,32 @@ pub fn referent_of(schema: &Schema<'_>, member: Option<Kind>) -> Referent
         Some(Kind::Text) => Referent::Text,
         _ => Referent::Nothing,
     }
+}
+
+/// What an offset word of a union refers to whose type has this target.
+#[inline(always)]
+fn referent_to(target: Target) -> Referent
+    ensures lead { lead_to result ≡ lead_to_goal target.goal target }
+    ensures referent { (S : Rows) → GoalHolds S target.goal target → IsReferent S result }
+{
+    match target.goal {
+        Goal::Nothing => Referent::Nothing,
+        Goal::Text => Referent::Text,
+        Goal::Table => Referent::Table(target.object),
+        Goal::Struct => Referent::Struct(target.size, target.align),
+    }
+}
+
+/// What an offset word of a union refers to whose type has this value.
+#[inline(always)]
+pub fn referent_at(schema: &Schema<'_>, union: u32, value: u8) -> Referent
+    requires served { IsServed schema.now }
+    requires union { IsTrue (is_union schema.now union) }
+    ensures lead { lead_to result ≡ lead_of schema.now (member_of schema.now union value) }
+    ensures referent { IsReferent schema.now result }
+{
+    let targets = schema.targets_of(union);
+    referent_to(targets.get(value))
 }
 
 /// Checks a present union field with this slot, and answers its offset word where its type has a member.

@@ -3,14 +3,13 @@
 ghost use Rattle.std.specs.Prelude.{◌≡◌, ◌+◌, ◌*◌, ◌^◌, ◌<◌, ◌≤◌, [], ◌∷◌, ◌++◌, IfOk, IfErr, IfSome, Some, None, true};
 ghost use Rattle.fb_schema.specs.Served.{IsServed};
 ghost use Rattle.fb_verify.specs.Bounds.{AreAllowed};
-ghost use Rattle.fb_verify.specs.Known.{IsKnown};
 ghost use Rattle.fb_verify.specs.OffsetRows.{lead_to, first_word, past_first, IsReferent, IsRow, AreTypesNear};
 ghost use Rattle.fb_verify.specs.Stack.{Waiting, IsWalking, IsAtTable, IsStoppedBehind};
 ghost use Rattle.fb_verify.specs.Told.{stopped};
 
 use crate::element::Child;
 use crate::fault::Reason;
-use crate::field::referent_of;
+use crate::field::referent_at;
 use crate::offset_row::{Leads, Referent, Row};
 use crate::plain::test_lead;
 use crate::scratch::Frame;
@@ -19,45 +18,24 @@ use crate::stack::Walk;
 use fb_bytes::{Reads, Tally};
 use fb_schema::Schema;
 
-/// A type of a union that was looked up, and what an offset word of that type refers to.
-#[derive(Clone, Copy)]
-struct KnownType {
-    value: u8,
-    referent: Referent,
-}
-
-/// What the first offset word of a row refers to. Where the types of a union tell that, its type is read, and looked up
-/// where it isn't the one that is known.
+/// What the first offset word of a row refers to. Where the types of a union tell that, its type is read.
 #[inline(always)]
-fn first_referent(
-    reads: &mut Reads<'_>,
-    schema: &Schema<'_>,
-    row: Row,
-    known: &mut Option<KnownType>,
-) -> Referent
+fn first_referent(reads: &mut Reads<'_>, schema: &Schema<'_>, row: Row) -> Referent
     requires served { IsServed schema.now }
     requires more { 0 < row.left }
     requires row { IsRow reads.old.bytes schema.now row }
-    requires known { IsKnown schema.now row.leads known.old }
     requires few { reads.old.count < 2 ^ 60 }
     ensures lead { lead_to result ≡ (first_word reads.old.bytes schema.now row).lead }
     ensures referent { IsReferent schema.now result }
-    ensures known { IsKnown schema.now row.leads known.new }
     ensures counted { reads.new ≡ record reads.old { count = reads.old.count + (first_word reads.old.bytes schema.now row).reads } }
 {
-    let (union, types) = match row.leads {
-        Leads::All(referent) => return referent,
-        Leads::ByType(union, types) => (union, types),
-    };
-    let value = reads.u8_at(types);
-    if let Some(last) = *known {
-        if last.value == value {
-            return last.referent;
+    match row.leads {
+        Leads::All(referent) => referent,
+        Leads::ByType(union, types) => {
+            let value = reads.u8_at(types);
+            referent_at(schema, union, value)
         }
     }
-    let referent = referent_of(schema, schema.member_of(union, value));
-    *known = Some(KnownType { value, referent });
-    referent
 }
 
 /// Where the walk stops at the first offset word that is left of the top table's field. The top is left past that word,
@@ -122,9 +100,8 @@ impl Walk<'_, '_> {
     {
         let checks = self.checks;
         let mut row = words;
-        let mut known = None;
         while row.left > 0 {
-            let referent = first_referent(reads, self.schema, row, &mut known);
+            let referent = first_referent(reads, self.schema, row);
             let mut at = row.place;
             let failed = test_lead(reads, checks, &mut at, referent);
             if let Some(reason) = failed {

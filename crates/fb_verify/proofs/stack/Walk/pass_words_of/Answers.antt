@@ -8,7 +8,7 @@ use Rattle.fb_verify.specs.Plain.{tested_by}
 use Rattle.fb_verify.proofs.Budgets.{fewer_reads}
 use Rattle.fb_verify.proofs.Chains.{after_none}
 use Rattle.fb_verify.proofs.Frames.{first_few, row_types_near}
-use Rattle.fb_verify.proofs.LeafRows.{word_told, word_fails, is_leaf, is_sized, known_on}
+use Rattle.fb_verify.proofs.LeafRows.{word_told, word_fails, is_leaf, is_sized}
 use Rattle.fb_verify.proofs.Walking.{leaf_passed}
 use Rattle.fb_verify.proofs.stack.Walk.pass_words_of.Goals as goal
 use Rattle.fb_verify.proofs.stack.Walk.pass_words_of.Goals.{After-test_lead-failed}
@@ -102,6 +102,5 @@ loop-row-preserved g c =
       walking =
           rw (kept g d)
           (leaf_passed w.checks b w.schema.now w.limits (g.under).start (g.under).frames (top_at g d) w.tables w.deepest c.loop-row.reads.count i.walking c.advance.new.self q c.advance.ensures more (holds g d none) (omega (arith, cost)) leaf cheap);
-      known = rw (ap (λ (x : Row). x.leads) c.advance.ensures) (known_on w.schema.now (c.loop-row.row).leads c.first_referent-referent.new.known first.known);
       paid = omega (arith, cost, few, i.paid, more, left);
     }

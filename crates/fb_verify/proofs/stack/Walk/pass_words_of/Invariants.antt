@@ -1,5 +1,4 @@
 use Rattle.std.proofs.Common.{◌≡◌, ◌+◌, ◌*◌, ◌≤◌}
-use Rattle.fb_verify.specs.Known.{IsKnown}
 use Rattle.fb_verify.specs.Stack.{IsWalking}
 use Rattle.fb_verify.proofs.stack.Walk.pass_words_of.Given as goal
 
@@ -11,7 +10,6 @@ invariant-loop-row g l = record {
   grows : l.fn.reads.count ≤ l.reads.count;
   fewer : (l.row).left ≤ (l.fn.top.row).left;
   walking : IsWalking l.self l.reads (g.under).start (g.under).frames (record { table = l.fn.top.table; next = l.fn.top.next; number = l.fn.top.number; row = l.row });
-  known : IsKnown l.self.schema.now (l.row).leads l.known;
   paid : l.reads.count + 4 * (l.row).left ≤ l.fn.reads.count + 4 * (l.fn.top.row).left;
 }
 
