@@ -4,8 +4,23 @@ use Rattle.fb_access.specs.declared.path_fault.PathFault.{PathFault}
 use Rattle.fb_access.specs.declared.path_fault.PathFault.TheVariants as path
 use Rattle.fb_bfbs.specs.declared.load_fault.LoadFault.{LoadFault}
 use Rattle.fb_bfbs.specs.declared.load_fault.LoadFault.TheVariants as load
+use Rattle.std.specs.declared.io.ErrorKind.{ErrorKind}
+use Rattle.std.specs.declared.io.ErrorKind.TheVariants as kind
+use Rattle.fbcheck.specs.declared.files.FileFault.{FileFault}
+use Rattle.fbcheck.specs.declared.files.FileFault.TheVariants as file
+use Rattle.fbcheck.specs.declared.stop.WordsFault.{WordsFault}
+use Rattle.fbcheck.specs.declared.stop.WordsFault.TheVariants as words
 use Rattle.fbcheck.specs.declared.fault.AskFault.{AskFault}
 use Rattle.fbcheck.specs.declared.fault.AskFault.TheVariants.{Load, Path, OutOfMemory}
+
+-- an error of this kind, where the words were read, and where a schema file was
+abbrev pub words_fault : ErrorKind → WordsFault
+words_fault kind.OutOfMemory = words.OutOfMemory
+words_fault _ = words.NotText
+
+abbrev pub file_fault : ErrorKind → FileFault
+file_fault kind.OutOfMemory = file.OutOfMemory
+file_fault _ = file.Unreadable
 
 -- a fault of a load
 abbrev pub load_fault : LoadFault → AskFault

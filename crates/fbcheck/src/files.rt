@@ -1,6 +1,8 @@
 //! Where the bytes of a schema file come from.
 
-ghost use Rattle.std.specs.Prelude.{IfOk, IfErr, Ok, Err, ℕ, List, Option, Result, option_map, string_bytes, vec_items};
+ghost use Rattle.std.specs.Prelude.{◌≡◌, IfOk, IfErr, Ok, Err, ℕ, List, Option, Result, option_map, string_bytes, vec_items};
+ghost use Rattle.std.specs.IoError.{error_kind};
+ghost use Rattle.fbcheck.specs.Faults.{file_fault};
 ghost use Rattle.fbcheck.specs.Serving.{IsFile, IsFileFault};
 ghost use Rattle.fbcheck.specs.declared.files.FileFault.{FileFault};
 
@@ -21,7 +23,9 @@ pub enum FileFault {
 
 impl FileFault {
     /// What an error means that came while a file was read.
-    pub fn of(error: io::Error) -> FileFault {
+    pub fn of(error: io::Error) -> FileFault
+        ensures { result ≡ file_fault (error_kind error) }
+    {
         match error.kind() {
             ErrorKind::OutOfMemory => FileFault::OutOfMemory,
             _ => FileFault::Unreadable,

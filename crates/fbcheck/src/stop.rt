@@ -1,6 +1,8 @@
 //! How the program comes to its end: well, or for a cause.
 
 ghost use Rattle.std.specs.Prelude.{IfSome, ◌≡◌, ◌+◌, ◌<◌, ◌^◌, length};
+ghost use Rattle.std.specs.IoError.{error_kind};
+ghost use Rattle.fbcheck.specs.Faults.{words_fault};
 ghost use Rattle.fbcheck.specs.Serving.{Complains, IsNoted, SumsUp, exit_status, stop_status};
 ghost use Rattle.fbcheck_words.specs.declared.choices.SettingsFault.TheVariants as refusal;
 ghost use Rattle.fbcheck.specs.declared.stop.Stop.TheVariants as stop;
@@ -40,7 +42,9 @@ pub enum WordsFault {
 
 impl WordsFault {
     /// What an error means that came while the words were read.
-    pub fn of(error: io::Error) -> WordsFault {
+    pub fn of(error: io::Error) -> WordsFault
+        ensures { result ≡ words_fault (error_kind error) }
+    {
         match error.kind() {
             ErrorKind::OutOfMemory => WordsFault::OutOfMemory,
             _ => WordsFault::NotText,
