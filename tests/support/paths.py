@@ -1,0 +1,88 @@
+"""Paths by the rows alone: the pieces of which they are written, and the steps that they are or the fault in them."""
+
+from tests.support.naive import OBJECT, UNION, VECTOR, kind_of
+
+FIELD, ELEMENT, MEMBER = 1, 2, 3
+NO_FIELD, NO_VECTOR, NO_UNION, NO_MEMBER, NO_TABLE = range(2, 7)
+NUMBERS = [0, 1, 2**32 - 1]
+
+
+def pieces_of(names):
+    """A piece for each of these names as a field's, and as a member's, and for some numbers of elements."""
+    return [*[(FIELD, name) for name in names], *[(MEMBER, name) for name in names],
+            *[(ELEMENT, number) for number in NUMBERS]]
+
+
+def names_in(objects, enums):
+    """The names of all fields and members, each once, but for the empty one, which no path can have."""
+    return sorted({row[0] for owner in [*objects, *enums] for row in owner[1]} - {""})
+
+
+def text_of(pieces):
+    """The path that these pieces make, of which the first is a field's name."""
+    written = {FIELD: ".{}", MEMBER: "@{}", ELEMENT: "[{}]"}
+    return "".join(written[kind].format(word) for kind, word in pieces)[1:]
+
+
+def is_table(schema, kind):
+    return kind.base == OBJECT and schema.structs[kind.index] is None
+
+
+def next_step(schema, kind, piece):
+    """The step that a piece is at a value of this type, with the type to which it leads; or the number of the fault."""
+    what, word = piece
+    if what == FIELD:
+        if not is_table(schema, kind):
+            return NO_TABLE
+        found = [field for field in schema.tables[kind.index] if field.name == word]
+        return ((FIELD, (found[0].slot - 4) // 2), found[0]) if found else NO_FIELD
+    if what == ELEMENT:
+        return ((ELEMENT, word), kind_of(kind.element, kind.index)) if kind.base == VECTOR else NO_VECTOR
+    if kind.base != UNION:
+        return NO_UNION
+    found = [value for value, member in schema.unions[kind.index].items() if member.name == word]
+    return ((MEMBER, found[0]), schema.unions[kind.index][found[0]]) if found else NO_MEMBER
+
+
+def resolved(schema, root, pieces):
+    """The steps of a path from this table; or the number of the first fault, and that of its step."""
+    kind, steps = kind_of(OBJECT, root), []
+    for place, piece in enumerate(pieces):
+        found = next_step(schema, kind, piece)
+        if isinstance(found, int):
+            return found, place
+        steps.append(found[0])
+        kind = found[1]
+    return steps
+
+
+def told(python, verifier, text):
+    """What the library tells of a path, in the same words."""
+    try:
+        return [(step.kind, step.number) for step in verifier.resolve(text)]
+    except python.Error as error:
+        verdict = error.verdict
+        return (verdict.reason, verdict.at) if verdict.status == python.Status.BAD_PATH else error
+
+
+def ways(python, verifier, schema, root, names, longest):
+    """The paths of up to so many steps that resolve, with their steps, and what is told otherwise than it should be.
+
+    Each path that resolves is asked with each piece behind it.
+    """
+    found, differing, front = [], [], [([], None)]
+    pieces = pieces_of(names)
+    for length in range(longest):
+        following = []
+        for before, _ in front:
+            for piece in pieces if length else pieces[: len(names)]:
+                path = [*before, piece]
+                text, want = text_of(path), resolved(schema, root, path)
+                got = told(python, verifier, text)
+                if got != want:
+                    differing.append((text, got, want))
+                elif isinstance(want, list):
+                    following.append((path, want))
+        found += following
+        front = following
+    return found, differing
