@@ -14,11 +14,13 @@ from tests.support.builder import prefixed
 from tests.support.every_kind import words_of
 from tests.support.library import LibraryCase, module
 from tests.support.many import each
-from tests.support.naive import NAMES, Reader, Schema, Walk, quoted
+from tests.support.naive import Reader, Schema, Walk
 from tests.support.paths import names_in, text_of, told, ways
 from tests.support.program import FOLDER, run
 from tests.support.random_buffers import Builder, damaged
 from tests.support.random_rows import Maker, Random
+from tests.support.told import line
+from tests.support.told import text_of as value_text
 
 SEEDS, SCHEMAS, BUFFERS = range(100, 140), 53, 100
 CODES = [f"V{number}" for number in range(1, 14)]
@@ -41,27 +43,6 @@ class Made:
         self.prefixed = dice.once_in(3)
         names = names_in(objects, enums)
         self.ways, self.wrong = ways(PYTHON, self.verifier, self.schema, self.root, names, 3)
-
-
-def line(verdict):
-    """What the library tells, as the naive checker does."""
-    if verdict.status == PYTHON.Status.OK:
-        return f"ok tables={verdict.tables} depth={verdict.depth} reads={verdict.reads}"
-    field, code = "-" if verdict.field is None else verdict.field, f"V{verdict.reason}"
-    return f"bad {code} {NAMES[code]} at={verdict.at} object={verdict.object} field={field} reads={verdict.reads}"
-
-
-def text_at(verifier, data, path, options):
-    """The value at the end of a path by the library, as the naive reader writes it."""
-    kind, value = verifier.read(data, verifier.resolve(path), options)
-    name = kind.name.lower()
-    if name in ("float", "struct"):
-        return f"{name}:{value.hex()}"
-    if name == "text":
-        return quoted(value)
-    if name in ("vector", "union"):
-        return f"{name}:{value}"
-    return {"bool": str(value == 1).lower(), "int": str(value), "uint": str(value)}.get(name, name.replace("_", "-"))
 
 
 def choice(dice, length):
@@ -94,7 +75,8 @@ def asked(dice, made, data, ident, counts):
         reader, first = Reader(made.schema, made.root, data, prefix), dice.randrange(len(made.ways) + 1)
         for path, _ in made.ways[first : first + dice.randrange(16)]:
             counts["values"] += 1
-            value, text = text_at(made.verifier, data, text_of(path), options), text_of(path)
+            text = text_of(path)
+            value = value_text(*made.verifier.read(data, made.verifier.resolve(text), options))
             if value != reader.value(text):
                 yield text, value, reader.value(text), data
 
