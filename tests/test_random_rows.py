@@ -7,14 +7,13 @@ steps from each table, and by the most reads of a check.
 
 import collections
 import subprocess
-import unittest
 
 from tests.support import schemas
 from tests.support.judge import first_broken
 from tests.support.library import LibraryCase, module
 from tests.support.listing import Listing, described
 from tests.support.many import each
-from tests.support.naive import Schema, number_at
+from tests.support.naive import Schema
 from tests.support.paths import names_in, ways
 from tests.support.program import built
 from tests.support.random_rows import Maker, Random
@@ -106,6 +105,11 @@ def of_seed(seed):
 
 
 class RandomRows(LibraryCase):
+    @classmethod
+    def setUpClass(cls):
+        super().setUpClass()
+        built("probe")
+
     def test_random_rows(self):
         global PYTHON
         PYTHON = module()
@@ -119,7 +123,3 @@ class RandomRows(LibraryCase):
         self.holds("of which many are legal", counts["legal"] >= 4_000 and counts["paths"] >= 100_000, counts)
         for code in codes:
             self.holds(f"many break {code}", counts[code] >= 200, counts)
-
-
-if __name__ == "__main__":
-    unittest.main()
