@@ -6,6 +6,5 @@ pub mod checker;
 mod faults;
 mod kinds;
 pub mod rows;
-mod tests;
 mod tree;
 pub mod values;

@@ -148,6 +148,7 @@ fn sweep_all_checks(
     let fixture = swept.fixture(alloc)?;
     assert!(rt; fixture.bytes.len() <= LONGEST, "{swept:?}");
     let ways = ways(rt, alloc, &fixture)?;
+    assert!(rt; ways.len() == swept.paths(), "{swept:?}");
     for checks in ALL_CHECKS {
         let count = run_sweep(rt, alloc, &fixture, &ways, checks, first..end)?;
         assert!(rt; count.is_mixed(), "{swept:?} {count:?}");

@@ -56,6 +56,19 @@ impl Swept {
         self != Swept::SchemaFile
     }
 
+    /// How many paths of one, two or three steps there are by its schema, from its root.
+    pub fn paths(self) -> usize {
+        match self {
+            Swept::Orc => 2,
+            Swept::SharedNodes => 14,
+            Swept::SizedLong => 1,
+            Swept::UnionOfTable | Swept::UnionOfStruct => 6,
+            Swept::UnionsOfOtherLength | Swept::Unions => 17,
+            Swept::SkewedLong => 4,
+            Swept::SchemaFile => 103,
+        }
+    }
+
     /// The sample that it is, the rows of its schema, and the number of its root.
     fn parts(self) -> (&'static str, &'static str, u32) {
         match self {

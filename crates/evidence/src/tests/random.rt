@@ -11,7 +11,7 @@ impl Random {
         Random { state: seed }
     }
 
-    pub fn next(&mut self) -> u64 {
+    fn next(&mut self) -> u64 {
         self.state = self.state.wrapping_add(0x9e37_79b9_7f4a_7c15);
         let mixed = (self.state ^ (self.state >> 30)).wrapping_mul(0xbf58_476d_1ce4_e5b9);
         let mixed = (mixed ^ (mixed >> 27)).wrapping_mul(0x94d0_49bb_1331_11eb);
@@ -27,11 +27,5 @@ impl Random {
     /// True once in so many times.
     pub fn once_in(&mut self, times: u32) -> bool {
         self.below(times) == 0
-    }
-
-    /// One of these, none where there are none.
-    pub fn pick<T: Copy>(&mut self, choices: &[T]) -> Option<T> {
-        let number = self.below(u32::try_from(choices.len()).unwrap_or(u32::MAX));
-        choices.get(number as usize).copied()
     }
 }
