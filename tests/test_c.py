@@ -42,12 +42,12 @@ int main(void)
         return 1;
     printf("options %zu %zu\n", sizes.options, sizeof(fbcheck_options));
     printf("verdict %zu %zu\n", sizes.verdict, sizeof(fbcheck_verdict));
-    printf("handle %zu %zu\n", sizes.handle, sizeof(fbcheck_handle));
     printf("span %zu %zu\n", sizes.span, sizeof(fbcheck_span));
     printf("framer %zu %zu\n", sizes.framer, sizeof(fbcheck_framer));
-    printf("step %zu %zu\n", sizes.step, sizeof(fbcheck_step));
+    printf("path %zu %zu\n", sizes.path, sizeof(fbcheck_path));
     printf("value %zu %zu\n", sizes.value, sizeof(fbcheck_value));
     printf("init %d\n", memcmp(&first, &second, sizeof first));
+    printf("version %d\n", fbcheck_version() == FBCHECK_VERSION);
 @LINES@
     return 0;
 }
@@ -100,13 +100,18 @@ class LibraryForC(LibraryCase):
     def test_what_is_built(self):
         status, out, err = ran(TOP / "build_c", seconds=3600)
         self.same("./build_c builds", (status, out), (0, ""))
-        calls = sorted(re.findall(r"^(?:uint32_t|size_t|void) (fbcheck_\w+)\(", HEADER, re.M))
+        calls = sorted(re.findall(r"^(?:\w+ )+\*?(fbcheck_\w+)\(", HEADER, re.M))
+        self.holds("of which the header has some", len(calls) > 20, calls)
         for library, words in [("libfbcheck.a", ["-g"]), ("libfbcheck.so.1", ["-D"])]:
             _, symbols, _ = ran("nm", *words, "--defined-only", OUT / library)
-            found = sorted(line.split()[2] for line in symbols.splitlines() if len(line.split()) == 3)
+            found = sorted(line.split()[2].partition("@")[0] for line in symbols.splitlines()
+                           if len(line.split()) == 3 and line.split()[1] != "A")
             self.same(f"{library} defines the header's calls and nothing else", found, calls)
             _, symbols, _ = ran("nm", *words, "--undefined-only", OUT / library)
             wanted = {line.split()[1].partition("@")[0] for line in symbols.splitlines() if line.split()[:1] == ["U"]}
+            if "-D" in words:
+                versions = {line.partition("@@")[2] for line in symbols.splitlines() if "@@" in line}
+                self.same("each with the version of the interface", versions, {"FBCHECK_1"})
             self.holds(f"{library} needs the C library's heap and memory alone",
                        wanted <= {"malloc", "free", "realloc", "memcpy", "memmove", "memset", "memcmp", "bcmp"}, wanted)
         self.same("a word is refused", ran(TOP / "build_c", "here")[0], 2)
@@ -120,16 +125,15 @@ class LibraryForC(LibraryCase):
         constants = re.findall(r"^    (FBCHECK_\w+) = (\d+)", HEADER, re.M)
         python = module()
         fields = {"fbcheck_options": python.Options, "fbcheck_verdict": python._Verdict,
-                  "fbcheck_handle": python._Handle, "fbcheck_span": python._Span, "fbcheck_framer": python._Framer,
-                  "fbcheck_step": python._Step, "fbcheck_value": python._Value}
+                  "fbcheck_span": python._Span, "fbcheck_framer": python._Framer, "fbcheck_step": python._Step,
+                  "fbcheck_path": python._Path, "fbcheck_value": python._Value}
         lines = [f'    printf("{name} %d\\n", (int){name});' for name, _ in constants]
         lines += [f"    FIELD({name}, {field});" for name, of in fields.items() for field, _ in of._fields_]
         source = file_of("numbers.c", NUMBERS.replace("@LINES@", "\n".join(lines)).encode())
         offsets = [f"{name} {field} {getattr(of, field).offset}" for name, of in fields.items() for field,
                    _ in of._fields_]
-        sizes = ["options 64 64", "verdict 40 40", "handle 8 8", "span 16 16", "framer 16 16", "step 8 8",
-                 "value 32 32"]
-        want = [*sizes, "init 0", *map(" ".join, constants), *offsets]
+        sizes = ["options 64 64", "verdict 64 64", "span 16 16", "framer 16 16", "path 256 256", "value 40 40"]
+        want = [*sizes, "init 0", "version 1", *map(" ".join, constants), *offsets]
         programs = {"C99": self.compiled("numbers_c", source, *STATIC, standard="-std=c99")}
         if CPP:
             as_cpp = file_of("numbers.cpp", source.read_bytes())
@@ -138,7 +142,7 @@ class LibraryForC(LibraryCase):
             status, out, _ = ran(made)
             self.same(f"{name}: numbers, sizes and places", (status, out.splitlines()), (0, want))
         told = [ctypes.sizeof(of) for of in fields.values()]
-        self.same("sizes of the structs of Python", told, [64, 40, 8, 16, 16, 8, 32])
+        self.same("sizes of the structs of Python", told, [64, 64, 16, 16, 8, 256, 40])
         told = {name.removeprefix("FBCHECK_"): int(number) for name, number in constants}
         for names in (python.Status, python.Reason, python.Kind):
             self.same(f"{names.__name__} of Python", {one.name: told.get(one.name) for one in names},
@@ -179,25 +183,24 @@ class LibraryForC(LibraryCase):
             single = [verifier.verify(buffer) for buffer in (ORC[:-1], ORC, b"")]
             self.same("those in the block, as each alone", [*told[:3], told[-1]], [*single, single[1]])
             self.same("those that aren't", told[3:-1], [python.Verdict(12, 0, 0, None, 0, 0, 0, 0)] * len(beyond))
-            calls, handle, verdict = verifier._calls, verifier._handle, python._Verdict(status=77)
+            calls, schema, verdict = verifier._calls, verifier._schema, python._Verdict(status=77)
             one = lambda *spans: (python._Span * len(spans))(*spans)
             for spans, answer in [([good], 0), ([torn], 1), (beyond[:1], 1), ([], 0)]:
-                got = calls.fbcheck_verify_each(handle, None, block, len(block), one(*spans), verdict, len(spans))
+                words = (schema, None, None, block, len(block), one(*spans), verdict, len(spans))
+                got = calls.fbcheck_verify_each(*words)
                 self.same(f"the answer to {spans}", got, answer)
-            self.same("no spans at all", calls.fbcheck_verify_each(handle, None, None, 0, None, None, 0), status.OK)
-            got = calls.fbcheck_verify_each(handle, None, None, 0, one((0, 0)), verdict, 1)
+            got = calls.fbcheck_verify_each(schema, None, None, None, 0, None, None, 0)
+            self.same("no spans at all", got, status.OK)
+            got = calls.fbcheck_verify_each(schema, None, None, None, 0, one((0, 0)), verdict, 1)
             self.same("an empty block has an empty buffer", (got, verdict.status, verdict.reason), (1, 1, 2))
             verdict.status = 77
-            words = [handle, None, block, 9, one(good), verdict, 1]
-            for place in (0, 2, 4, 5):
+            words = [schema, None, None, block, 9, one(good), verdict, 1]
+            for place in (0, 3, 5, 6):
                 got = calls.fbcheck_verify_each(*[None if place == i else word for i, word in enumerate(words)])
                 self.same(f"without word {place} nothing is told", (got, verdict.status), (status.NULL, 77))
             for options, answer in [(python.Options(version=2), 3), (python.Options(max_depth=65), 4)]:
                 told = verifier.verify_each(block, [good, beyond[0], torn], options)
                 self.same(f"options that can't be served: {answer}", [one.status for one in told], [answer, 12, answer])
-            verifier.close()
-            told = verifier.verify_each(block, [good, beyond[0]])
-            self.same("a handle that holds nothing", [one.status for one in told], [5, 12])
 
     def test_framers(self):
         """The messages of a stream, however it is cut, and what may be wrong with one."""
@@ -348,44 +351,113 @@ class LibraryForC(LibraryCase):
                     kind, value = verifier.read(message, steps, python.Options(prefixed=1))
                     text = line.partition(b"reads=")[2].partition(b" ")[2].decode()
                     self.same(f"{path} of {number}", value_line(kind, value), text)
-            steps, handle = verifier.resolve("to.name"), verifier._handle
-            self.same("steps", [(step.kind, step.number) for step in steps][0][0], 1)
-            count, value, verdict = ctypes.c_size_t(77), python._Value(kind=77), python._Verdict()
+            path, schema = verifier.resolve("to.name"), verifier._schema
+            told = (path.count, path.reserved, [(step.kind, step.number) for step in path.steps][2:])
+            self.same("the steps, and zeros behind them", told, (2, 0, [(0, 0)] * 29))
+            value, verdict, options = python._Value(kind=77), python._Verdict(), python.Options(prefixed=1)
+            bytes_of = lambda: (bytes(path), verdict.status)
+            before = bytes(path)
             for text, want in [(b"", (17, 1, 0)), (b"to..x", (17, 1, 3)), (b"to.nobody", (17, 2, 1)),
                                (b"to[0]", (17, 3, 1))]:
-                got = calls.fbcheck_resolve(handle, text, len(text), steps, len(steps), count, verdict)
-                self.same(f"the text {text}", (got, verdict.reason, verdict.at, count.value), (*want, 77))
-            got = calls.fbcheck_resolve(handle, b"to.name", 7, steps, 1, count, verdict)
-            self.same("too little room for steps", (got, count.value), (status.NO_ROOM, 2))
-            room = ctypes.create_string_buffer(b"?" * 8, 8)
-            data, options = messages[0], python.Options(prefixed=1)
-            read = lambda steps, size: calls.fbcheck_read(handle, options, data, len(data), steps, len(steps), value,
-                                                          room, size, verdict)
-            told = (read(steps, 2), value.kind, value.size, room.raw)
-            self.same("too little room for a text", told, (0, 7, 3, b"?" * 8))
-            self.same("just enough", (read(steps, 3), value.size, room.raw), (0, 3, b"Ada?????"))
+                got = calls.fbcheck_resolve(schema, None, text, len(text), path, verdict)
+                told = (got, verdict.reason, verdict.at, verdict.object, verdict.field)
+                self.same(f"the text {text}", told, (*want, 0, python.NONE))
+                self.same("leaves the path as it was", bytes_of(), (before, 17))
+            data = messages[0]
+            read = lambda path, given=data, asked=options: calls.fbcheck_read(schema, None, asked, given, len(given),
+                                                                             path, value, 1, verdict)
+            told = (read(path), value.kind, data[value.at:value.at + value.size])
+            self.same("a text where it stands", told, (0, 7, b"Ada"))
             value.kind = 77
             for name, wrong in [("no kind", (9, 0)), ("no such field", (1, 999)), ("too great a field", (1, 65536)),
                                 ("an element of a table", (2, 0)), ("a member of a table", (3, 1))]:
-                got = read((python._Step * 1)(wrong), 8)
-                self.same(f"a step that is {name}", (got, verdict.status, value.kind), (status.MISFIT, 19, 77))
-            self.same("the root itself", (read((python._Step * 0)(), 8), value.kind), (0, 10))
-            bad = calls.fbcheck_read(handle, None, b"", 0, steps, len(steps), value, room, 8, verdict)
-            self.same("a bad buffer", (bad, verdict.reason), (1, 2))
-            verifier.choose_root("post.Person")
-            self.same("steps from another root", read(steps, 8) in (status.BAD, status.MISFIT), True)
-            for place in (0, 1, 3, 5):
-                words = [handle, b"to", 2, steps, 2, count, verdict]
+                unfit = python._Path(count=1)
+                unfit.steps[0] = wrong
+                for given in (data, b"", b"?" * 99):
+                    got = read(unfit, given)
+                    told = (got, verdict.status, verdict.reason, value.kind)
+                    self.same(f"a step that is {name}, of {len(given)} bytes", told, (status.MISFIT, 19, 0, 77))
+            self.same("more steps than there are", read(python._Path(count=32)), status.MISFIT)
+            self.same("the root itself", (read(python._Path()), value.kind, value.at, value.size), (0, 10, 0, 0))
+            self.same("a bad buffer", (read(path, b"", None), verdict.reason), (1, 2))
+            words = (schema, None, options, data, len(data), None, None, 0, None)
+            self.same("no paths at all", calls.fbcheck_read(*words), status.OK)
+            person = calls.fbcheck_table(schema, b"post.Person", 11)
+            self.same("a path from another root", read(path, data, python.Options(prefixed=1, root=person)),
+                      status.MISFIT)
+            for place in (0, 2, 4):
+                words = [schema, None, b"to", 2, path, verdict]
                 words[place] = None
                 self.same(f"no word {place} to resolve", calls.fbcheck_resolve(*words), status.NULL)
-            for place in (0, 2, 4, 6, 7):
-                words = [handle, None, b"", 9, steps, 2, value, room, 8, verdict]
+            for place in (0, 3, 5, 6):
+                words = [schema, None, None, b"", 9, path, value, 1, verdict]
                 words[place] = None
                 self.same(f"no word {place} to read", calls.fbcheck_read(*words), status.NULL)
-            verifier.close()
-            self.same("of a handle that holds nothing",
-                      (calls.fbcheck_resolve(handle, b"to", 2, steps, 2, count, None), read(steps, 8)),
-                      (status.EMPTY, status.EMPTY))
+
+    def test_many_values(self):
+        """Values of every kind at once: each tells what it does alone, and where its bytes stand in the buffer."""
+        python = module()
+        calls = python._library()
+        data = messages_of(POST)[0]
+        names = ["to.name", "items", "first", "price", "floor", "route", "route[0]", "helpers", "notes", "stamps",
+                 "from.home", "items_type", "items[9]", "first@Parcel.fragile"]
+        with python.Verifier(ORDERS.read_bytes()) as verifier:
+            paths = (python._Path * len(names))(*map(verifier.resolve, names))
+            values, verdict = (python._Value * len(names))(), python._Verdict()
+            options = python.Options(prefixed=1)
+            given = (options, data, len(data), paths, values, len(names), verdict)
+            for scratch in (None, calls.fbcheck_scratch_new(8)):
+                options.max_depth = 8 if scratch else 64
+                got = calls.fbcheck_read(verifier._schema, scratch, *given)
+                self.same("the message is good", (got, verdict.tables > 1), (0, True))
+                for name, path, value in zip(names, paths, values):
+                    alone = python._Value(kind=77)
+                    calls.fbcheck_read(verifier._schema, None, options, data, len(data), path, alone, 1, None)
+                    self.same(f"{name} is told as alone", bytes(value), bytes(alone))
+                    kind = python.Kind(value.kind)
+                    unset = {"INT": "number at size", "UINT": "integer at size", "BOOL": "integer at size",
+                             "TEXT": "number integer", "STRUCT": "number integer", "FLOAT": "number integer",
+                             "VECTOR": "integer", "UNION": "integer at size"}
+                    for member in ["reserved", *unset.get(kind.name, "number integer at size").split()]:
+                        self.same(f"{name}, {kind.name}: {member} isn't told", getattr(value, member), 0)
+                calls.fbcheck_scratch_free(scratch)
+        self.bytes_of_vectors(python, buffer(WHOLE))
+
+    def bytes_of_vectors(self, python, data):
+        """Of each vector of scalars or structs, the bytes in a row are those of its elements one after another."""
+        seen = 0
+        with python.Verifier(ALL.read_bytes()) as verifier:
+            root = verifier.verify(b"").object
+            names = [name for number in range(200) if (name := verifier.field_name(root, number))]
+            for name in names:
+                value = python._Value()
+                one = lambda path: verifier._calls.fbcheck_read(verifier._schema, None, None, data, len(data),
+                                                                verifier.resolve(path), value, 1, None)
+                self.same(f"{name} is read", one(name), 0)
+                if value.kind != python.Kind.VECTOR or value.number == 0:
+                    continue
+                at, size, count = value.at, value.size, value.number
+                elements = []
+                for index in range(count):
+                    one(f"{name}[{index}]")
+                    elements.append((value.kind, value.at, value.size))
+                if elements[0][0] in (python.Kind.STRUCT, python.Kind.FLOAT):
+                    want = [(at + index * size // count, size // count) for index in range(count)]
+                    self.same(f"{name}: where its elements are", [one[1:] for one in elements], want)
+                    seen += 1
+                elif elements[0][0] in (python.Kind.INT, python.Kind.UINT, python.Kind.BOOL):
+                    width = size // count
+                    for index in range(count):
+                        one(f"{name}[{index}]")
+                        number = value.integer if value.kind == python.Kind.INT else value.number
+                        stands = data[at + index * width:at + (index + 1) * width]
+                        read = int.from_bytes(stands, "little", signed=value.kind == python.Kind.INT)
+                        told = bool(read) if value.kind == python.Kind.BOOL else read
+                        self.same(f"{name}[{index}] stands in its bytes", told, number)
+                    seen += 1
+                else:
+                    self.same(f"{name} has no bytes of its own", (at, size), (0, 0))
+        self.holds("there are some vectors", seen > 3, seen)
 
     def test_under_valgrind(self):
         """Where there is one: the messages of the example and some damaged ones, with nothing read that isn't there."""
@@ -417,56 +489,148 @@ class LibraryForC(LibraryCase):
             statuses.append(ran(starved, ALL, bare, **more)[0])
         self.same("each request of a load that is refused", statuses, [11] * (len(statuses) - 1) + [0])
         self.holds("of which there are some", len(statuses) > 10, len(statuses))
+        heapless = self.compiled("heapless", TOP / "tests/c/heapless.c", *SHARED)
+        small, orc = file_of("M.bfbs", schemas.M), file_of("orc", ORC)
+        self.same("no other call asks for memory", ran(heapless, small, orc, "name"), (0, "", ""))
 
     def test_nulls(self):
-        """Null pointers, handles that hold nothing, and options that can't be served are answered."""
+        """Null pointers and options that can't be served are answered, in the header's order."""
         python = module()
         calls, status = python._library(), python.Status
-        handle, verdict, options = python._Handle(), python._Verdict(), python.Options()
+        verdict = python._Verdict()
         file = ORDERS.read_bytes()
-        told = lambda: (verdict.status, verdict.reason, verdict.object, verdict.field, verdict.at, verdict.reads)
-        blank = lambda number: (number, 0, 0, python.NONE, 0, 0)
-        self.same("no handle to load into", calls.fbcheck_load(None, file, len(file), options, verdict), status.NULL)
-        self.same("and it is told", told(), blank(2))
-        self.same("no file", calls.fbcheck_load(handle, None, 9, None, None), status.NULL)
-        self.same("an empty file", calls.fbcheck_load(handle, None, 0, None, verdict), status.NOT_WELL_FORMED)
-        self.same("no handle to check by", calls.fbcheck_verify(None, options, b"", 0, verdict), status.NULL)
-        self.same("a handle that holds nothing", calls.fbcheck_verify(handle, options, b"", 0, verdict), status.EMPTY)
-        self.same("and it is told", told(), blank(5))
-        self.same("nor a root", calls.fbcheck_choose_root(handle, b"A", 1), status.EMPTY)
+        told = lambda: (verdict.status, verdict.reason, verdict.object, verdict.field, verdict.tables, verdict.depth,
+                        verdict.at, verdict.reads, *verdict.reserved)
+        blank = lambda number: (number, 0, 0, python.NONE, 0, 0, 0, 0, 0, 0, 0)
+        new = lambda file, length, options=None: calls.fbcheck_schema_new(file, length, options, verdict)
+        self.same("no file", (new(None, 9), told()), (None, blank(2)))
+        self.same("an empty file", (new(None, 0), verdict.status), (None, status.NOT_WELL_FORMED))
+        self.same("a depth that no load has", (new(file, len(file), python.Options(max_depth=4097)), told()),
+                  (None, blank(4)))
+        self.same("unknown options", (new(file, len(file), python.Options(version=2)), told()), (None, blank(3)))
+        schema = new(file, len(file), python.Options(max_depth=4096))
+        self.same("a schema", (schema is not None, told()), (True, blank(0)))
+        verify = lambda schema, scratch, asked, data, length: calls.fbcheck_verify(schema, scratch, asked, data, length,
+                                                                                  verdict)
+        self.same("no schema to check by", (verify(None, None, None, b"", 0), told()), (status.NULL, blank(2)))
+        self.same("no buffer", (verify(schema, None, None, None, 9), told()), (status.NULL, blank(2)))
+        self.same("an empty buffer", verify(schema, None, None, None, 0), status.BAD)
+        self.same("is out of buffer at 0, in the root's object", told(), (1, 2, 1, python.NONE, 0, 0, 0, 0, 0, 0, 0))
         reads = ctypes.c_uint64(77)
-        self.same("nor most reads", calls.fbcheck_most_reads(handle, None, 9, reads), status.EMPTY)
+        self.same("no place for reads", calls.fbcheck_most_reads(schema, None, 9, None), status.NULL)
+        self.same("no schema for reads", calls.fbcheck_most_reads(None, None, 9, reads), status.NULL)
+        for asked, answer in [(python.Options(version=0), 3), (python.Options(ident_from=3), 3),
+                              (python.Options(max_depth=4097), 4)]:
+            self.same("reads by wrong options", calls.fbcheck_most_reads(schema, asked, 9, reads), answer)
         self.same("which stay as they were", reads.value, 77)
-        calls.fbcheck_free(None)
-        calls.fbcheck_free(handle)
-        self.same("a schema", calls.fbcheck_load(handle, file, len(file), None, verdict), status.OK)
-        self.same("is told so", told(), blank(0))
-        self.same("no buffer", calls.fbcheck_verify(handle, options, None, 9, verdict), status.NULL)
-        self.same("an empty buffer", calls.fbcheck_verify(handle, None, None, 0, verdict), status.BAD)
-        self.same("is out of buffer at 0, in the root's object", told()[:5], (1, 2, 1, python.NONE, 0))
-        self.same("no root's name", calls.fbcheck_choose_root(handle, None, 3), status.NULL)
-        self.same("an empty root's name", calls.fbcheck_choose_root(handle, None, 0), status.NO_ROOT)
-        self.same("no place for reads", calls.fbcheck_most_reads(handle, None, 9, None), status.NULL)
-        for asked, answer in [
-            (python.Options(version=0), status.UNKNOWN_OPTIONS), (python.Options(version=2), status.UNKNOWN_OPTIONS),
-            (python.Options(max_depth=65), status.OUT_OF_RANGE), (python.Options(max_depth=64), status.BAD),
+        for name in (None, b""):
+            self.same(f"a table {name}", calls.fbcheck_table(schema, name, 0), python.NO_TABLE)
+        self.same("no name", calls.fbcheck_table(schema, None, 3), python.NO_TABLE)
+        self.same("no schema for it", calls.fbcheck_table(None, b"A", 1), python.NO_TABLE)
+        scratch = calls.fbcheck_scratch_new(4096)
+        self.same("a scratch that is too deep", calls.fbcheck_scratch_new(4097), None)
+        for name, room, asked, length, answer in [
+            ("another version", None, {"version": 0}, 0, 3), ("a newer one", None, {"version": 2}, 0, 3),
+            ("an unknown identifier", None, {"ident_from": 3}, 0, 3), ("too deep", None, {"max_depth": 65}, 0, 4),
+            ("just deep enough", None, {"max_depth": 64}, 0, 1),
+            ("deep with a scratch", scratch, {"max_depth": 4096}, 0, 1),
+            ("too deep for it", scratch, {"max_depth": 4097}, 0, 4), ("too long", None, {}, 1 << 31, 7),
+            ("no such root", None, {"root": 77}, 0, 6), ("no table's", None, {"root": python.NO_TABLE}, 0, 6),
         ]:
-            self.same(f"options {asked.version}, {asked.max_depth}",
-                      calls.fbcheck_verify(handle, asked, b"", 0, verdict), answer)
-        deepest, deeper = python.Options(max_depth=4096), python.Options(max_depth=4097)
-        answer = calls.fbcheck_load(handle, file, len(file), deeper, None)
-        self.same("a depth that no load has", answer, status.OUT_OF_RANGE)
-        self.same("leaves the handle as it was", calls.fbcheck_verify(handle, None, b"", 0, None), status.BAD)
-        self.same("the greatest depth", calls.fbcheck_load(handle, file, len(file), deepest, None), status.OK)
-        self.same("serves up to it", calls.fbcheck_verify(handle, deepest, b"", 0, verdict), status.BAD)
-        self.same("a buffer that is too long", calls.fbcheck_verify(handle, None, b"", 1 << 31, verdict),
-                  status.TOO_LONG)
+            got = verify(schema, room, python.Options(**asked), b"", length)
+            self.same(f"options: {name}", got, answer)
+            self.same(f"options: {name}, told", told() if got > 1 else None, blank(answer) if got > 1 else None)
+        calls.fbcheck_scratch_free(scratch)
+        calls.fbcheck_scratch_free(None)
+        self.order_of_answers(python, calls)
         self.same("options to make", calls.fbcheck_options_init(None), status.NULL)
         self.same("sizes to tell", calls.fbcheck_struct_sizes(None), status.NULL)
-        calls.fbcheck_free(handle)
-        calls.fbcheck_free(handle)
-        self.same("what was freed holds nothing", calls.fbcheck_verify(handle, None, b"", 0, None), status.EMPTY)
-        self.same("and is null", handle.session, None)
+        self.same("the version", calls.fbcheck_version(), python.VERSION)
+        calls.fbcheck_schema_free(schema)
+        calls.fbcheck_schema_free(None)
+
+    def order_of_answers(self, python, calls):
+        """Two things that are wrong at once: the earlier one is told."""
+        file = schema([table("T")], root="T", ident="FIVES")
+        made = calls.fbcheck_schema_new(file, len(file), None, None)
+        self.holds("a schema whose identifier has five bytes", made is not None)
+        path, value, verdict = python._Path(count=32), python._Value(), python._Verdict()
+        wrong = {"version": ({"version": 9}, 3), "depth": ({"max_depth": 65}, 4),
+                 "root": ({"root": python.NO_TABLE}, 6), "ident": ({"ident_from": 2}, 5), "path": ({}, 19),
+                 "length": ({}, 7)}
+        order = list(wrong)
+        for first in order:
+            for second in order[order.index(first) + 1:] or [first]:
+                options = python.Options(**{**wrong[first][0], **wrong[second][0]})
+                paths = 1 if "path" in (first, second) else 0
+                length = 1 << 31 if "length" in (first, second) else 0
+                got = calls.fbcheck_read(made, None, options, b"", length, path, value, paths, verdict)
+                self.same(f"{first} before {second}", (got, verdict.status), (wrong[first][1],) * 2)
+                self.same(f"null before {first}",
+                          calls.fbcheck_read(made, None, options, None, 9, path, value, paths, None), 2)
+        calls.fbcheck_schema_free(made)
+
+    def test_places(self):
+        """Where a fault is, in the words of the program's --names, and cut to the room."""
+        python = module()
+        calls, status = python._library(), python.Status
+        data = buffer(LITTLE, b"KIND", prefix=True)[4:]
+        given = b"".join(map(prefixed, variants(data, [1, 252])))
+        lines = run("--schema", ALL, "--names", given=given).out.decode().splitlines()
+        written, verdict, text = ctypes.c_size_t(77), python._Verdict(), ctypes.create_string_buffer(512)
+        scratch, bad = calls.fbcheck_scratch_new(64), 0
+        with python.Verifier(ALL.read_bytes()) as verifier:
+            schema, asked = verifier._schema, python.Options(prefixed=1)
+            locate = lambda message, room, size, scratch=None: calls.fbcheck_locate(
+                schema, scratch, asked, message, len(message), room, size, written, verdict)
+            for line, message in zip(lines, messages_of(given)):
+                answer = locate(message, text, 512, scratch if bad % 2 else None)
+                place = " in " + text.raw[:written.value].decode()[3:] if written.value else ""
+                told = line[line.find(" in "):] if " in " in line else ""
+                self.same("a place as the program tells it", place, told)
+                self.same("and the verdict beside it", (answer, verdict.status), (int(" bad " in line),) * 2)
+                if answer != status.BAD:
+                    continue
+                bad, whole = bad + 1, text.raw[:written.value]
+                for size in (0, 1, 5, len(whole) - 1, len(whole), len(whole) + 1) if bad < 20 else ():
+                    room = ctypes.create_string_buffer(b"?" * 512, 512)
+                    locate(message, room, size)
+                    want = whole[:size].ljust(len(whole) + 2, b"?")
+                    self.same(f"cut to {size}", (written.value, room.raw[:len(want)]), (len(whole), want))
+            self.holds("there are some bad ones", bad > 50, bad)
+            words = (schema, None, python.Options(version=3), b"", 0, None, 0, written, verdict)
+            self.same("unknown options", (calls.fbcheck_locate(*words), written.value), (3, 0))
+            written.value = 77
+            words = [schema, None, None, b"", 9, text, 5, written, verdict]
+            for place in (0, 3, 5, 7):
+                got = calls.fbcheck_locate(*[None if place == i else word for i, word in enumerate(words)])
+                self.same(f"no word {place}", (got, written.value), (status.NULL, 77))
+        calls.fbcheck_scratch_free(scratch)
+
+    def test_identifiers(self):
+        """The schema's own identifier is asked where the options say so, as generated verifiers ask it."""
+        python = module()
+        messages = messages_of(POST)
+        with python.Verifier(ORDERS.read_bytes()) as verifier:
+            for asked, ident, reason in [(0, b"POST", 0), (0, b"PAST", 0), (1, b"POST", 0), (1, b"PAST", 5),
+                                         (2, b"PAST", 0)]:
+                options = python.Options(ident, prefixed=1)
+                options.ident_from = asked
+                self.same(f"{asked}, {ident}", verifier.verify(messages[0], options).reason, reason)
+            other = messages[0][:8] + b"PAST" + messages[0][12:]
+            own = python.Options(prefixed=1, ident_from=2)
+            self.same("another identifier", verifier.verify(other, own).reason, 5)
+            self.same("isn't asked by default", verifier.verify(other, python.Options(prefixed=1)).reason, 0)
+        with python.Verifier(schemas.M) as verifier:
+            self.same("a schema without one", verifier.verify(ORC, python.Options(ident_from=2)).reason, 0)
+
+    def test_threads(self):
+        """Eight threads on one schema are told what one is; and the thread sanitizer has nothing to say."""
+        stream = file_of("shared", b"".join(m + m[:30] + bytes([m[30] ^ 255]) + m[31:] for m in messages_of(POST)))
+        for name, words, rounds in [("threads", ["-O2"], 50_000), ("threads_tsan", ["-g", "-fsanitize=thread"], 500)]:
+            made = self.compiled(name, TOP / "tests/c/threads.c", *words, *STATIC, "-lpthread")
+            told = ran(made, ORDERS, stream, "to.name", 8, rounds, seconds=900)
+            self.same(f"{name}: {rounds} rounds", told, (0, f"{8 * 2 * rounds * 12}\n", ""))
 
     def test_names(self):
         """Names by their numbers, as the schema and the reference have them."""
@@ -484,18 +648,17 @@ class LibraryForC(LibraryCase):
             self.same("no such object", [verifier.object_name(n) for n in numbers], [None] * 3)
             self.same("no such table", [verifier.field_name(n, 0) for n in numbers], [None] * 3)
             self.same("no such field", [verifier.field_name(2, n) for n in numbers], [None] * 3)
-            calls, handle, text = verifier._calls, verifier._handle, ctypes.create_string_buffer(b"?" * 8, 8)
-            self.same("too little room", (calls.fbcheck_field_name(handle, 3, 0, text, 6), text.raw), (7, b"?" * 8))
-            self.same("just enough", (calls.fbcheck_field_name(handle, 3, 0, text, 7), text.raw), (7, b"us_type?"))
+            calls, schema, text = verifier._calls, verifier._schema, ctypes.create_string_buffer(b"?" * 8, 8)
+            self.same("too little room", (calls.fbcheck_field_name(schema, 3, 0, text, 6), text.raw), (7, b"?" * 8))
+            self.same("just enough", (calls.fbcheck_field_name(schema, 3, 0, text, 7), text.raw), (7, b"us_type?"))
             self.same("no room",
-                      (calls.fbcheck_field_name(handle, 3, 0, None, 9), calls.fbcheck_reason_name(1, None, 9),
-                       calls.fbcheck_object_name(handle, 0, None, 9)), (0, 0, 0))
-            self.same("no handle",
+                      (calls.fbcheck_field_name(schema, 3, 0, None, 9), calls.fbcheck_reason_name(1, None, 9),
+                       calls.fbcheck_object_name(schema, 0, None, 9)), (0, 0, 0))
+            self.same("no schema",
                       (calls.fbcheck_object_name(None, 0, text, 8), calls.fbcheck_field_name(None, 0, 0, text, 8)),
                       (0, 0))
             verifier.close()
-            self.same("of a handle that holds nothing", (verifier.object_name(0), verifier.field_name(0, 0)),
-                      (None, None))
+            self.same("of no schema", (verifier.object_name(0), verifier.field_name(0, 0)), (None, None))
             self.same("a reason has its name still", verifier.reason_name(13), "V13 TooManyReads")
 
     def test_loads(self):
@@ -610,7 +773,7 @@ class LibraryForC(LibraryCase):
                 self.same(f"{name}, told by {program.name}", ran(program, *words), (2, "", text))
         if CPP:
             moved = self.compiled("moved", TOP / "tests/c/moved.cpp", *SANITIZED, *STATIC, **CPP)
-            self.same("a Verifier that is moved", ran(moved, small, orc), (0, "5 0 0 5 0 M\n", ""))
+            self.same("a Verifier that is moved", ran(moved, small, orc), (0, "2 0 0 2 0 M\n", ""))
 
     def test_texts_of_the_pages(self):
         """The C that README.md shows works when it is pasted."""
@@ -623,7 +786,7 @@ class LibraryForC(LibraryCase):
         for name, rows, given, want in [
             ("a good buffer", "good", ORC, (0, "good: 1 tables\n")),
             ("one whose last text is torn", "good", ORC[:-1], (1, "not good: 1, V2 at 28\n")),
-            ("a longer one than there is room for", "good", ORC + bytes(1 << 16), (2, "too long\n")),
+            ("one of more than a piece", "good", ORC + bytes(1 << 17), (0, "good: 1 tables\n")),
             ("no schema", "bad", ORC, (2, "no schema: 8\n")),
         ]:
             told = ran("env", "-C", FOLDER / rows, program, "my.bfbs", given=given)

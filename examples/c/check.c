@@ -23,25 +23,27 @@ static uint8_t *contents(const char *path, size_t *length)
 }
 
 /* Tells by name where a fault is: in which table, and in which of its fields, if in one. */
-static void tell_names(fbcheck_handle *handle, const fbcheck_verdict *verdict)
+static void tell_names(const fbcheck_schema *schema, const fbcheck_verdict *verdict)
 {
     char table[256], field[256];
     size_t lengths[2];
-    lengths[0] = fbcheck_object_name(handle, verdict->object, table, sizeof table);
-    lengths[1] = fbcheck_field_name(handle, verdict->object, verdict->field, field, sizeof field);
+    lengths[0] = fbcheck_object_name(schema, verdict->object, table, sizeof table);
+    lengths[1] = fbcheck_field_name(schema, verdict->object, verdict->field, field, sizeof field);
     if (lengths[0] <= sizeof table && lengths[1] <= sizeof field)
         printf("in %.*s%s%.*s\n", (int)lengths[0], table, lengths[1] > 0 ? "." : "", (int)lengths[1], field);
 }
 
-/* Checks the buffer of a file by the schema that the handle holds. */
-static int check(fbcheck_handle *handle, const char *path)
+/* Checks the buffer of a file by a schema, from this root table on. */
+static int check(const fbcheck_schema *schema, uint32_t root, const char *path)
 {
+    fbcheck_options options = FBCHECK_OPTIONS_INIT;
     fbcheck_verdict verdict;
     size_t length;
     uint8_t *buffer = contents(path, &length);
     if (buffer == NULL)
         return 2;
-    fbcheck_verify(handle, NULL, buffer, length, &verdict);
+    options.root = root;
+    fbcheck_verify(schema, NULL, &options, buffer, length, &verdict);
     free(buffer);
     if (verdict.status > FBCHECK_BAD) {
         fprintf(stderr, "check: nothing was checked: %" PRIu32 "\n", verdict.status);
@@ -49,16 +51,17 @@ static int check(fbcheck_handle *handle, const char *path)
     }
     tell(&verdict);
     if (verdict.status == FBCHECK_BAD)
-        tell_names(handle, &verdict);
+        tell_names(schema, &verdict);
     return (int)verdict.status;
 }
 
 int main(int count, char **words)
 {
-    fbcheck_handle handle = FBCHECK_HANDLE_INIT;
+    fbcheck_schema *schema;
     fbcheck_verdict why;
     size_t length;
     uint8_t *file;
+    uint32_t root = FBCHECK_NONE;
     int status = 2;
     if (count < 3 || count > 4) {
         fprintf(stderr, "usage: check SCHEMA.bfbs BUFFER [ROOT]\n");
@@ -67,14 +70,19 @@ int main(int count, char **words)
     file = contents(words[1], &length);
     if (file == NULL)
         return 2;
-    if (fbcheck_load(&handle, file, length, NULL, &why) != FBCHECK_OK)
+    schema = fbcheck_schema_new(file, length, NULL, &why);
+    free(file);
+    if (schema == NULL) {
         fprintf(stderr, "check: no schema: %" PRIu32 ", reason %" PRIu32 " at %" PRIu64 "\n", why.status, why.reason,
                 why.at);
-    else if (count == 4 && fbcheck_choose_root(&handle, words[3], strlen(words[3])) != FBCHECK_OK)
+        return 2;
+    }
+    if (count == 4)
+        root = fbcheck_table(schema, words[3], strlen(words[3]));
+    if (root == FBCHECK_NO_TABLE)
         fprintf(stderr, "check: no table %s\n", words[3]);
     else
-        status = check(&handle, words[2]);
-    fbcheck_free(&handle);
-    free(file); /* only now: the handle borrowed it */
+        status = check(schema, root, words[2]);
+    fbcheck_schema_free(schema);
     return status;
 }

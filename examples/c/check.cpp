@@ -22,13 +22,15 @@ int main(int count, char **words) try {
         std::cerr << "usage: check SCHEMA.bfbs BUFFER [ROOT]\n";
         return 2;
     }
-    fbcheck::Verifier verifier(bytes_of(words[1]));
-    if (count == 4 && !verifier.choose_root(words[3])) {
+    const fbcheck::Verifier verifier(bytes_of(words[1]));
+    fbcheck_options options = fbcheck::options();
+    if (count == 4) options.root = verifier.table(words[3]);
+    if (options.root == FBCHECK_NO_TABLE) {
         std::cerr << "check: no table " << words[3] << "\n";
         return 2;
     }
     const std::vector<std::uint8_t> buffer = bytes_of(words[2]);
-    const fbcheck_verdict verdict = verifier.verify(buffer.data(), buffer.size());
+    const fbcheck_verdict verdict = verifier.verify(buffer.data(), buffer.size(), options);
     if (verdict.status > FBCHECK_BAD) {
         std::cerr << "check: nothing was checked: " << verdict.status << "\n";
         return 2;

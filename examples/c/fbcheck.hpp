@@ -1,7 +1,7 @@
-// The library for C as a class: what a Verifier holds is freed with it, and the bytes of the schema file live as long.
+// The library for C as a class: what a Verifier holds is freed with it.
 //
-// It loads and checks. Paths, values and names have no methods here: the calls of fbcheck.h take handle(). Nor has a
-// framer, which needs no handle: examples/c/stream.c shows how one is fed.
+// It loads and checks. Paths, values, places and names have no methods here: the calls of fbcheck.h take schema(). Nor
+// has a framer: examples/c/stream.c shows how one is fed.
 #pragma once
 
 #include <fbcheck.h>
@@ -31,62 +31,57 @@ class LoadError : public std::runtime_error {
     fbcheck_verdict why;
 };
 
-// A loaded schema, for one thread. It can be moved and not copied; one that was moved from answers FBCHECK_EMPTY.
+// A schema, for any number of threads. It can be moved and not copied; one that was moved from answers FBCHECK_NULL.
 class Verifier {
   public:
-    explicit Verifier(std::vector<std::uint8_t> file, const fbcheck_options &asked = options())
-        : file_(std::move(file)) {
+    explicit Verifier(const std::vector<std::uint8_t> &file, const fbcheck_options &asked = options()) {
         fbcheck_verdict why;
-        if (fbcheck_load(&handle_, file_.data(), file_.size(), &asked, &why) != FBCHECK_OK) throw LoadError(why);
+        schema_ = fbcheck_schema_new(file.data(), file.size(), &asked, &why);
+        if (schema_ == nullptr) throw LoadError(why);
     }
-    ~Verifier() { fbcheck_free(&handle_); }
+    ~Verifier() { fbcheck_schema_free(schema_); }
 
-    // The bytes of a vector stay where they are when it is moved.
-    Verifier(Verifier &&other) noexcept : file_(std::move(other.file_)), handle_(other.handle_) {
-        other.handle_ = FBCHECK_HANDLE_INIT;
-    }
+    Verifier(Verifier &&other) noexcept : schema_(other.schema_) { other.schema_ = nullptr; }
     Verifier &operator=(Verifier &&other) noexcept {
-        std::swap(file_, other.file_);
-        std::swap(handle_, other.handle_);
+        std::swap(schema_, other.schema_);
         return *this;
     }
     Verifier(const Verifier &) = delete;
     Verifier &operator=(const Verifier &) = delete;
 
-    // Whether there is a table of this name, which is the root then.
-    bool choose_root(const std::string &name) noexcept {
-        return fbcheck_choose_root(&handle_, name.data(), name.size()) == FBCHECK_OK;
+    // The number of the table of this name, for options().root; FBCHECK_NO_TABLE where there is none.
+    std::uint32_t table(const std::string &name) const noexcept {
+        return fbcheck_table(schema_, name.data(), name.size());
     }
 
     // The verdict on a buffer. It takes no memory.
     fbcheck_verdict verify(const void *buffer, std::size_t length,
-                           const fbcheck_options &asked = options()) noexcept {
+                           const fbcheck_options &asked = options()) const noexcept {
         fbcheck_verdict verdict;
-        fbcheck_verify(&handle_, &asked, static_cast<const std::uint8_t *>(buffer), length, &verdict);
+        fbcheck_verify(schema_, nullptr, &asked, static_cast<const std::uint8_t *>(buffer), length, &verdict);
         return verdict;
     }
 
     // The verdict on each buffer of a block, in the order of the spans.
     std::vector<fbcheck_verdict> verify_each(const void *block, std::size_t length,
                                              const std::vector<fbcheck_span> &spans,
-                                             const fbcheck_options &asked = options()) {
+                                             const fbcheck_options &asked = options()) const {
         std::vector<fbcheck_verdict> verdicts(spans.size());
-        fbcheck_verify_each(&handle_, &asked, static_cast<const std::uint8_t *>(block), length, spans.data(),
+        fbcheck_verify_each(schema_, nullptr, &asked, static_cast<const std::uint8_t *>(block), length, spans.data(),
                             verdicts.data(), spans.size());
         return verdicts;
     }
 
     // Whether a buffer is good.
-    bool operator()(const void *buffer, std::size_t length) noexcept {
+    bool operator()(const void *buffer, std::size_t length) const noexcept {
         return verify(buffer, length).status == FBCHECK_OK;
     }
 
-    // The handle, for the other calls of fbcheck.h; it stays this Verifier's, which loads and frees it.
-    fbcheck_handle *handle() noexcept { return &handle_; }
+    // The schema, for the other calls of fbcheck.h; it stays this Verifier's, which frees it.
+    const fbcheck_schema *schema() const noexcept { return schema_; }
 
   private:
-    std::vector<std::uint8_t> file_;
-    fbcheck_handle handle_ = FBCHECK_HANDLE_INIT;
+    fbcheck_schema *schema_ = nullptr;
 };
 
 }  // namespace fbcheck

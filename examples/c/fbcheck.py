@@ -5,8 +5,8 @@
         verdict = verifier.verify(message)
         if verdict.ok: ...
 
-libfbcheck.so.1 is looked for where the variable FBCHECK_LIBRARY says, and else where the system looks. A Verifier
-belongs to the thread that made it.
+libfbcheck.so.1 is looked for where the variable FBCHECK_LIBRARY says, and else where the system looks. Any number of
+threads may use a Verifier whose root isn't chosen anew, nor closed, meanwhile.
 """
 
 import ctypes
@@ -15,7 +15,9 @@ import os
 import typing
 
 VERSION = 1
-NONE = 0xFFFFFFFF
+NONE, NO_TABLE = 0xFFFFFFFF, 0xFFFFFFFE
+DEEP = 64
+STEPS = 31
 _U8, _U32, _U64, _SIZE = ctypes.c_uint8, ctypes.c_uint32, ctypes.c_uint64, ctypes.c_size_t
 
 
@@ -27,7 +29,7 @@ class Status(enum.IntEnum):
     NULL = 2
     UNKNOWN_OPTIONS = 3
     OUT_OF_RANGE = 4
-    EMPTY = 5
+    NO_IDENT = 5
     NO_ROOT = 6
     TOO_LONG = 7
     NOT_WELL_FORMED = 8
@@ -94,18 +96,19 @@ class Options(ctypes.Structure):
     """fbcheck_options. Made with no words it is what the library begins with."""
 
     _fields_ = [
-        *_fields(_U32, "version max_depth"),
+        *_fields(_U32, "version root"),
         ("max_reads", _U64),
-        *_fields(_U32, "max_tables reads_per_byte"),
+        *_fields(_U32, "max_depth max_tables reads_per_byte"),
         ("ident", _U8 * 4),
-        *_fields(_U8, "has_ident prefixed no_alignment inline_size"),
-        ("reserved", _U32 * 8),
+        *_fields(_U8, "ident_from prefixed no_alignment inline_size"),
+        ("reserved", _U32 * 7),
     ]
 
     def __init__(self, ident: bytes | None = None, **words):
-        super().__init__(version=VERSION, max_depth=64, max_reads=100_000_000, max_tables=1_000_000, reads_per_byte=64)
+        first = {"version": VERSION, "root": NONE, "max_reads": 100_000_000, "max_depth": DEEP, "max_tables": 1_000_000}
+        super().__init__(**first, reads_per_byte=64)
         for name, value in words.items():
-            if name not in dict(self._fields_) or name in ("ident", "has_ident", "reserved"):
+            if name not in dict(self._fields_) or name in ("ident", "reserved"):
                 raise TypeError(f"no option {name}")
             setattr(self, name, value)
         if ident is not None:
@@ -113,15 +116,15 @@ class Options(ctypes.Structure):
             if len(given) != 4:
                 raise ValueError(f"a file identifier has 4 bytes, and {given} has {len(given)}")
             self.ident[:] = given
-            self.has_ident = 1
+            self.ident_from = 1
 
 
 class _Verdict(ctypes.Structure):
-    _fields_ = _fields(_U32, "status reason object field tables depth") + _fields(_U64, "at reads")
-
-
-class _Handle(ctypes.Structure):
-    _fields_ = [("session", ctypes.c_void_p)]
+    _fields_ = [
+        *_fields(_U32, "status reason object field tables depth"),
+        *_fields(_U64, "at reads"),
+        ("reserved", _U64 * 3),
+    ]
 
 
 class _Span(ctypes.Structure):
@@ -132,8 +135,17 @@ class _Step(ctypes.Structure):
     _fields_ = _fields(_U32, "kind number")
 
 
+class _Path(ctypes.Structure):
+    _fields_ = [*_fields(_U32, "count reserved"), ("steps", _Step * STEPS)]
+
+
 class _Value(ctypes.Structure):
-    _fields_ = [*_fields(_U32, "kind reserved"), ("number", _U64), ("integer", ctypes.c_int64), ("size", _U64)]
+    _fields_ = [
+        *_fields(_U32, "kind reserved"),
+        ("number", _U64),
+        ("integer", ctypes.c_int64),
+        *_fields(_U64, "at size"),
+    ]
 
 
 class _Framer(ctypes.Structure):
@@ -166,32 +178,36 @@ class Error(Exception):
 
 
 def _told(verdict: _Verdict) -> Verdict:
-    values = {name: getattr(verdict, name) for name, _ in _Verdict._fields_}
+    values = {name: getattr(verdict, name) for name in Verdict._fields}
     return Verdict(**{**values, "field": None if verdict.field == NONE else verdict.field})
 
 
 def _library():
     found = ctypes.CDLL(os.environ.get("FBCHECK_LIBRARY") or "libfbcheck.so.1")
-    handle, options, verdict, span, framer, step, value, byte, size, reads = (
-        ctypes.POINTER(of)
-        for of in (_Handle, Options, _Verdict, _Span, _Framer, _Step, _Value, _U8, _SIZE, _U64)
+    options, verdict, span, framer, path, value, byte, size, reads = (
+        ctypes.POINTER(of) for of in (Options, _Verdict, _Span, _Framer, _Path, _Value, _U8, _SIZE, _U64)
     )
+    schema = scratch = ctypes.c_void_p
     text, room = [ctypes.c_char_p, _SIZE], [byte, _SIZE]
     for result, name, words in [
-        (_U32, "fbcheck_load", [handle, *text, options, verdict]),
-        (_U32, "fbcheck_choose_root", [handle, *text]),
-        (_U32, "fbcheck_verify", [handle, options, *text, verdict]),
-        (_U32, "fbcheck_verify_each", [handle, options, *text, span, verdict, _SIZE]),
-        (_U32, "fbcheck_most_reads", [handle, options, _U64, reads]),
+        (schema, "fbcheck_schema_new", [*text, options, verdict]),
+        (None, "fbcheck_schema_free", [schema]),
+        (scratch, "fbcheck_scratch_new", [_U32]),
+        (None, "fbcheck_scratch_free", [scratch]),
+        (_U32, "fbcheck_table", [schema, *text]),
+        (_U32, "fbcheck_verify", [schema, scratch, options, *text, verdict]),
+        (_U32, "fbcheck_verify_each", [schema, scratch, options, *text, span, verdict, _SIZE]),
+        (_U32, "fbcheck_locate", [schema, scratch, options, *text, *text, size, verdict]),
+        (_U32, "fbcheck_most_reads", [schema, options, _U64, reads]),
         (_U32, "fbcheck_framer_feed", [framer, *room, *text, size]),
         (_U32, "fbcheck_framer_next", [framer, *room]),
         (_U32, "fbcheck_framer_finish", [framer, *room]),
-        (_U32, "fbcheck_resolve", [handle, *text, step, _SIZE, size, verdict]),
-        (_U32, "fbcheck_read", [handle, options, *text, step, _SIZE, value, *text, verdict]),
+        (_U32, "fbcheck_resolve", [schema, options, *text, path, verdict]),
+        (_U32, "fbcheck_read", [schema, scratch, options, *text, path, value, _SIZE, verdict]),
         (_SIZE, "fbcheck_reason_name", [_U32, *text]),
-        (_SIZE, "fbcheck_object_name", [handle, _U32, *text]),
-        (_SIZE, "fbcheck_field_name", [handle, _U32, _U32, *text]),
-        (None, "fbcheck_free", [handle]),
+        (_SIZE, "fbcheck_object_name", [schema, _U32, *text]),
+        (_SIZE, "fbcheck_field_name", [schema, _U32, _U32, *text]),
+        (_U32, "fbcheck_version", []),
     ]:
         call = getattr(found, name)
         call.argtypes, call.restype = words, result
@@ -214,27 +230,39 @@ def _name(call, *words) -> str | None:
 
 
 class Verifier:
-    """A loaded schema, by which buffers are checked."""
+    """A schema, by which buffers are checked. Where a call's options ask for no root, checks begin at this one."""
 
     def __init__(self, schema: bytes, root: str | None = None, options: Options | None = None):
         self._calls = _library()
-        self._handle = _Handle()
-        self._schema = _bytes(schema)  # the handle borrows these bytes
-        why = _Verdict()
-        if self._calls.fbcheck_load(self._handle, self._schema, len(self._schema), options, why) != Status.OK:
+        file, why = _bytes(schema), _Verdict()
+        self._schema = self._calls.fbcheck_schema_new(file, len(file), options, why)
+        if self._schema is None:
             raise Error(_told(why))
+        self._root = NONE
         if root is not None:
             self.choose_root(root)
 
     def choose_root(self, name: str):
         """Has later checks begin at the table of this name."""
         text = name.encode()
-        _done(self._calls.fbcheck_choose_root(self._handle, text, len(text)))
+        number = self._calls.fbcheck_table(self._schema, text, len(text))
+        _done(Status.NO_ROOT if number == NO_TABLE else Status.OK)
+        self._root = number
+
+    def _asked(self, options: Options | None) -> Options:
+        """The options, from this root."""
+        asked = Options()
+        if options is not None:
+            ctypes.pointer(asked)[0] = options
+        if asked.root == NONE:
+            asked.root = self._root
+        return asked
 
     def verify(self, buffer, options: Options | None = None) -> Verdict:
         """The verdict on a buffer: status OK or BAD."""
         data, verdict = _bytes(buffer), _Verdict()
-        if self._calls.fbcheck_verify(self._handle, options, data, len(data), verdict) > Status.BAD:
+        asked = self._asked(options)
+        if self._calls.fbcheck_verify(self._schema, None, asked, data, len(data), verdict) > Status.BAD:
             raise Error(_told(verdict))
         return _told(verdict)
 
@@ -242,35 +270,33 @@ class Verifier:
         """The verdict on each buffer of a block, by its first byte's place and its length; of any status."""
         data, spans = _bytes(block), list(spans)
         given, verdicts = (_Span * len(spans))(*spans), (_Verdict * len(spans))()
-        self._calls.fbcheck_verify_each(self._handle, options, data, len(data), given, verdicts, len(spans))
+        words = (self._schema, None, self._asked(options), data, len(data), given, verdicts, len(spans))
+        self._calls.fbcheck_verify_each(*words)
         return [_told(verdict) for verdict in verdicts]
 
-    def resolve(self, path: str):
-        """The steps of a path, which serve every buffer that is checked from this root."""
-        text, count, verdict = path.encode(), ctypes.c_size_t(), _Verdict()
-        given = (self._handle, text, len(text))
-        if self._calls.fbcheck_resolve(*given, None, 0, count, verdict) != Status.NO_ROOM:
+    def resolve(self, path: str) -> _Path:
+        """A path, which serves every buffer that is checked from this root."""
+        text, resolved, verdict = path.encode(), _Path(), _Verdict()
+        asked = self._asked(None)
+        if self._calls.fbcheck_resolve(self._schema, asked, text, len(text), resolved, verdict) != Status.OK:
             raise Error(_told(verdict))
-        steps = (_Step * count.value)()
-        self._calls.fbcheck_resolve(*given, steps, count.value, count, verdict)
-        return steps
+        return resolved
 
-    def read(self, buffer, steps, options: Options | None = None):
-        """The kind of the value at the end of these steps in a good buffer, and the value: a number or bytes."""
+    def read(self, buffer, path: _Path, options: Options | None = None):
+        """The kind of the value at the end of a path in a good buffer, and the value: a number or bytes."""
         data, value, verdict = _bytes(buffer), _Value(), _Verdict()
-        room = ctypes.create_string_buffer(len(data) + 1)
-        given = (self._handle, options, data, len(data), steps, len(steps), value, room, len(data), verdict)
-        if self._calls.fbcheck_read(*given) != Status.OK:
+        words = (self._schema, None, self._asked(options), data, len(data), path, value, 1, verdict)
+        if self._calls.fbcheck_read(*words) != Status.OK:
             raise Error(_told(verdict))
         kind = Kind(value.kind)
         if kind in (Kind.FLOAT, Kind.TEXT, Kind.STRUCT):
-            return kind, room.raw[: value.size]
+            return kind, data[value.at : value.at + value.size]
         return kind, value.integer if kind == Kind.INT else value.number
 
     def most_reads(self, length: int, options: Options | None = None) -> int:
         """How many reads a check of so many bytes makes at most."""
         reads = ctypes.c_uint64()
-        _done(self._calls.fbcheck_most_reads(self._handle, options, length, reads))
+        _done(self._calls.fbcheck_most_reads(self._schema, options, length, reads))
         return reads.value
 
     def reason_name(self, reason: int) -> str | None:
@@ -279,15 +305,16 @@ class Verifier:
 
     def object_name(self, number: int) -> str | None:
         """The name of an object by its number."""
-        return _name(self._calls.fbcheck_object_name, self._handle, number)
+        return _name(self._calls.fbcheck_object_name, self._schema, number)
 
     def field_name(self, table: int, number: int) -> str | None:
         """The name of a field by its number and that of its table."""
-        return _name(self._calls.fbcheck_field_name, self._handle, table, number)
+        return _name(self._calls.fbcheck_field_name, self._schema, table, number)
 
     def close(self):
         """Frees the schema."""
-        self._calls.fbcheck_free(self._handle)
+        schema, self._schema = self._schema, None
+        self._calls.fbcheck_schema_free(schema)
 
     def __enter__(self):
         return self
@@ -296,7 +323,7 @@ class Verifier:
         self.close()
 
     def __del__(self):
-        if hasattr(self, "_handle"):
+        if hasattr(self, "_schema"):
             self.close()
 
 

@@ -18,7 +18,8 @@ static uint8_t room[1 << 24];
 
 /* What a stream is checked by, and what was found so far. */
 struct checker {
-    fbcheck_handle handle;
+    fbcheck_schema *schema;
+    fbcheck_scratch *scratch;
     fbcheck_options options;
     fbcheck_framer framer;
     size_t messages;
@@ -29,7 +30,7 @@ struct checker {
 static void check_message(struct checker *checker)
 {
     fbcheck_verdict verdict;
-    fbcheck_verify(&checker->handle, &checker->options, room, checker->framer.held, &verdict);
+    fbcheck_verify(checker->schema, checker->scratch, &checker->options, room, checker->framer.held, &verdict);
     printf("%zu ", ++checker->messages);
     tell(&verdict);
     if (verdict.status != FBCHECK_OK)
@@ -82,23 +83,31 @@ static int check_stream(struct checker *checker)
 
 int main(int count, char **words)
 {
-    struct checker checker = { FBCHECK_HANDLE_INIT, FBCHECK_OPTIONS_INIT, FBCHECK_FRAMER_INIT, 0, 0 };
+    struct checker checker = { NULL, NULL, FBCHECK_OPTIONS_INIT, FBCHECK_FRAMER_INIT, 0, 0 };
     FILE *file = count > 1 ? fopen(words[1], "rb") : NULL;
     size_t length;
-    uint8_t *schema = bytes_of(file, &length);
+    uint8_t *bytes = bytes_of(file, &length);
     int status = 2;
     if (file != NULL)
         fclose(file);
-    checker.options.prefixed = 1;
-    if (schema == NULL || count > 3)
+    if (bytes == NULL || count > 3) {
         fprintf(stderr, "usage: stream SCHEMA.bfbs [ROOT] < PIPE\n");
-    else if (fbcheck_load(&checker.handle, schema, length, NULL, NULL) != FBCHECK_OK)
+        free(bytes);
+        return 2;
+    }
+    checker.schema = fbcheck_schema_new(bytes, length, NULL, NULL);
+    checker.scratch = fbcheck_scratch_new(FBCHECK_DEEP);
+    checker.options.prefixed = 1;
+    free(bytes);
+    if (count == 3)
+        checker.options.root = fbcheck_table(checker.schema, words[2], strlen(words[2]));
+    if (checker.schema == NULL || checker.scratch == NULL)
         fprintf(stderr, "stream: %s is no schema\n", words[1]);
-    else if (count == 3 && fbcheck_choose_root(&checker.handle, words[2], strlen(words[2])) != FBCHECK_OK)
+    else if (checker.options.root == FBCHECK_NO_TABLE)
         fprintf(stderr, "stream: no table %s\n", words[2]);
     else
         status = check_stream(&checker);
-    fbcheck_free(&checker.handle);
-    free(schema);
+    fbcheck_scratch_free(checker.scratch);
+    fbcheck_schema_free(checker.schema);
     return status;
 }

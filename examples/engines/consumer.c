@@ -18,7 +18,6 @@
  * one (`reads=` in the line that the program fbcheck has for it). */
 #define MOST_READS 1000000
 
-static uint8_t schema[1 << 20]; /* it stays while the handle is used, which borrows it */
 static volatile sig_atomic_t stopped;
 
 static void stop(int signal)
@@ -35,17 +34,17 @@ static void take(const rd_kafka_message_t *message, const fbcheck_verdict *verdi
 
 /* A message that nothing may read. It is passed over: the verdict would be the same another time. Who wants to look at
  * such messages later writes them to a topic of their own here. */
-static void refuse(fbcheck_handle *handle, const rd_kafka_message_t *message, const fbcheck_verdict *verdict)
+static void refuse(const fbcheck_schema *schema, const rd_kafka_message_t *message, const fbcheck_verdict *verdict)
 {
     char reason[21] = "", table[256] = "";
     fbcheck_reason_name(verdict->reason, reason, sizeof reason - 1);
-    fbcheck_object_name(handle, verdict->object, table, sizeof table - 1);
+    fbcheck_object_name(schema, verdict->object, table, sizeof table - 1);
     printf("%" PRId32 "@%" PRId64 " bad %s at=%" PRIu64 " in %s\n", message->partition, message->offset, reason,
            verdict->at, table);
 }
 
 /* Checks messages until the process is asked to stop, or the client has failed for good. */
-static int consume(rd_kafka_t *client, fbcheck_handle *handle)
+static int consume(rd_kafka_t *client, const fbcheck_schema *schema)
 {
     fbcheck_options options = FBCHECK_OPTIONS_INIT;
     fbcheck_verdict verdict;
@@ -56,10 +55,10 @@ static int consume(rd_kafka_t *client, fbcheck_handle *handle)
             continue;
         if (message->err)
             fprintf(stderr, "consumer: %s\n", rd_kafka_message_errstr(message));
-        else if (fbcheck_verify(handle, &options, message->payload, message->len, &verdict) == FBCHECK_OK)
+        else if (fbcheck_verify(schema, NULL, &options, message->payload, message->len, &verdict) == FBCHECK_OK)
             take(message, &verdict);
         else
-            refuse(handle, message, &verdict);
+            refuse(schema, message, &verdict);
         rd_kafka_message_destroy(message);
         fflush(stdout);
     }
@@ -92,33 +91,38 @@ static rd_kafka_t *client_of(const char *brokers, const char *group, const char 
     return client;
 }
 
-/* Loads the schema, and tells whether checks can be made by it: an empty buffer gets a verdict, which is a no. */
-static int is_loaded(fbcheck_handle *handle, const char *path)
+/* The schema of a file by which checks can be made, or null: an empty buffer gets a verdict, which is a no. */
+static fbcheck_schema *schema_of(const char *path)
 {
+    static uint8_t bytes[1 << 20];
     FILE *file = fopen(path, "rb");
-    size_t length = file == NULL ? 0 : fread(schema, 1, sizeof schema, file);
+    size_t length = file == NULL ? 0 : fread(bytes, 1, sizeof bytes, file);
+    fbcheck_schema *schema = length < sizeof bytes ? fbcheck_schema_new(bytes, length, NULL, NULL) : NULL;
     if (file != NULL)
         fclose(file);
-    return length < sizeof schema && fbcheck_load(handle, schema, length, NULL, NULL) == FBCHECK_OK
-           && fbcheck_verify(handle, NULL, NULL, 0, NULL) == FBCHECK_BAD;
+    if (schema == NULL || fbcheck_verify(schema, NULL, NULL, NULL, 0, NULL) == FBCHECK_BAD)
+        return schema;
+    fbcheck_schema_free(schema);
+    return NULL;
 }
 
 int main(int count, char **words)
 {
-    fbcheck_handle handle = FBCHECK_HANDLE_INIT;
+    fbcheck_schema *schema;
     rd_kafka_t *client;
     int status = 2;
     if (count != 5)
         return fprintf(stderr, "usage: consumer BROKERS GROUP TOPIC SCHEMA.bfbs\n"), 2;
     signal(SIGINT, stop);
     signal(SIGTERM, stop);
-    if (!is_loaded(&handle, words[4])) {
+    schema = schema_of(words[4]);
+    if (schema == NULL) {
         fprintf(stderr, "consumer: %s is no schema with a root table\n", words[4]);
     } else if ((client = client_of(words[1], words[2], words[3])) != NULL) {
-        status = consume(client, &handle);
+        status = consume(client, schema);
         rd_kafka_consumer_close(client);
         rd_kafka_destroy(client);
     }
-    fbcheck_free(&handle);
+    fbcheck_schema_free(schema);
     return status;
 }

@@ -1,11 +1,12 @@
 /*
- * Loads a schema file, checks a buffer, reads a value and frees, over and over: as a whole, into a handle that holds a
- * schema, and cut off. Tells how many bytes of the heap are in use after a few rounds, and after many.
+ * Makes a schema, checks a buffer, reads a value and frees, over and over: with a scratch and without, and from a file
+ * that is cut off. Tells how many bytes of the heap are in use after a few rounds, and after many.
  */
 #include <fbcheck.h>
 #include <malloc.h>
 #include <stdio.h>
 #include <stdlib.h>
+#include <string.h>
 
 static uint8_t bytes[2][65536];
 static size_t lengths[2];
@@ -20,41 +21,37 @@ static void read_file(int which, const char *path)
 }
 
 /* Resolves the root's first field, and reads it. */
-static void read_first_field(fbcheck_handle *handle)
+static void read_first_field(const fbcheck_schema *schema, fbcheck_scratch *scratch)
 {
     char name[64];
-    uint8_t room[64];
-    fbcheck_step step;
+    fbcheck_path path;
     fbcheck_value value;
     fbcheck_verdict verdict;
-    size_t length, count;
-    fbcheck_verify(handle, NULL, NULL, 0, &verdict); /* it names the root */
-    length = fbcheck_field_name(handle, verdict.object, 0, name, sizeof name);
-    if (fbcheck_resolve(handle, name, length, &step, 1, &count, NULL) != FBCHECK_OK || count != 1)
+    size_t length;
+    fbcheck_verify(schema, NULL, NULL, NULL, 0, &verdict); /* it names the root */
+    length = fbcheck_field_name(schema, verdict.object, 0, name, sizeof name);
+    if (fbcheck_resolve(schema, NULL, name, length, &path, NULL) != FBCHECK_OK || path.count != 1)
         exit(8);
-    if (fbcheck_read(handle, NULL, bytes[1], lengths[1], &step, 1, &value, room, sizeof room, NULL) != FBCHECK_OK)
+    if (fbcheck_read(schema, scratch, NULL, bytes[1], lengths[1], &path, &value, 1, NULL) != FBCHECK_OK)
         exit(9);
 }
 
 static void round_of(size_t number)
 {
-    fbcheck_handle handle = FBCHECK_HANDLE_INIT;
     fbcheck_verdict verdict;
-    for (int twice = 0; twice < 2; twice++) {
-        if (fbcheck_load(&handle, bytes[0], lengths[0], NULL, NULL) != FBCHECK_OK)
-            exit(3);
-        if (fbcheck_verify(&handle, NULL, bytes[1], lengths[1], &verdict) != FBCHECK_OK || verdict.tables == 0)
-            exit(4);
-    }
-    read_first_field(&handle);
-    if (fbcheck_load(&handle, bytes[0], number % lengths[0], NULL, NULL) == FBCHECK_OK)
+    fbcheck_schema *schema = fbcheck_schema_new(bytes[0], lengths[0], NULL, &verdict);
+    fbcheck_scratch *scratch = number % 2 == 0 ? fbcheck_scratch_new(FBCHECK_DEEPEST) : NULL;
+    if (schema == NULL || verdict.status != FBCHECK_OK)
+        exit(3);
+    if (fbcheck_verify(schema, scratch, NULL, bytes[1], lengths[1], &verdict) != FBCHECK_OK || verdict.tables == 0)
+        exit(4);
+    read_first_field(schema, scratch);
+    if (fbcheck_schema_new(bytes[0], number % lengths[0], NULL, &verdict) != NULL || verdict.status == FBCHECK_OK)
         exit(5);
-    if (fbcheck_verify(&handle, NULL, bytes[1], lengths[1], NULL) != FBCHECK_OK)
+    if (fbcheck_verify(schema, scratch, NULL, bytes[1], lengths[1], NULL) != FBCHECK_OK)
         exit(6);
-    fbcheck_free(&handle);
-    fbcheck_free(&handle);
-    if (fbcheck_verify(&handle, NULL, bytes[1], lengths[1], NULL) != FBCHECK_EMPTY)
-        exit(7);
+    fbcheck_scratch_free(scratch);
+    fbcheck_schema_free(schema);
 }
 
 int main(int count, char **words)

@@ -1,6 +1,6 @@
 // What a Verifier of examples/c/fbcheck.hpp holds goes with it when it is moved: moved SCHEMA.bfbs GOOD_BUFFER
 //
-// Prints the answers of each of two Verifiers, and the name of the schema's first object by the handle.
+// Prints the answers of each of two Verifiers, and the name of the schema's first object.
 #include "../../examples/c/fbcheck.hpp"
 
 #include <fstream>
@@ -25,5 +25,5 @@ int main(int, char **words) {
     first = fbcheck::Verifier(bytes_of(words[1]));
     answer(first);
     char name[16];
-    std::cout << std::string(name, fbcheck_object_name(first.handle(), 0, name, sizeof name)) << "\n";
+    std::cout << std::string(name, fbcheck_object_name(first.schema(), 0, name, sizeof name)) << "\n";
 }

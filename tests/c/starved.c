@@ -1,7 +1,7 @@
 /*
- * Loads a schema file where a request for memory may be refused (tests/memory/refuse.c), and asks the heap for nothing
- * itself. Ends with 0 where the load was done, and with 11 where it told want of memory and left nothing behind: the
- * handle holds nothing, and the next load, of which nothing is refused, is done.
+ * Makes a schema and a scratch where a request for memory may be refused (tests/memory/refuse.c), and asks the heap for
+ * nothing itself. Ends with 0 where both were made, and with 11 where the want of memory was told and nothing was left
+ * behind: the next time, when nothing is refused, both are made.
  */
 #include <fbcheck.h>
 #include <fcntl.h>
@@ -21,7 +21,8 @@ static size_t read_file(int which, const char *path)
 
 int main(int count, char **words)
 {
-    fbcheck_handle handle = FBCHECK_HANDLE_INIT;
+    fbcheck_schema *schema;
+    fbcheck_scratch *scratch;
     fbcheck_verdict why;
     uint32_t status;
     size_t file, length;
@@ -29,15 +30,18 @@ int main(int count, char **words)
         return 2;
     file = read_file(0, words[1]);
     length = read_file(1, words[2]);
-    status = fbcheck_load(&handle, bytes[0], file, NULL, &why);
-    if (status != why.status)
+    schema = fbcheck_schema_new(bytes[0], file, NULL, &why);
+    status = why.status;
+    if ((schema == NULL) != (status != FBCHECK_OK))
         return 3;
-    if (status != FBCHECK_OK && fbcheck_verify(&handle, NULL, bytes[1], length, NULL) != FBCHECK_EMPTY)
-        return 4;
-    if (status != FBCHECK_OK && fbcheck_load(&handle, bytes[0], file, NULL, NULL) != FBCHECK_OK)
+    scratch = fbcheck_scratch_new(FBCHECK_DEEP);
+    if (scratch == NULL)
+        status = FBCHECK_NO_MEMORY;
+    if (schema == NULL && (schema = fbcheck_schema_new(bytes[0], file, NULL, NULL)) == NULL)
         return 5;
-    if (fbcheck_verify(&handle, NULL, bytes[1], length, NULL) != FBCHECK_OK)
+    if (fbcheck_verify(schema, scratch, NULL, bytes[1], length, NULL) != FBCHECK_OK)
         return 6;
-    fbcheck_free(&handle);
+    fbcheck_scratch_free(scratch);
+    fbcheck_schema_free(schema);
     return (int)status;
 }

@@ -3,8 +3,8 @@
  * program does.
  *
  * A message stands right before a page that can't be read, and the next time right behind one, so that a read outside
- * of it ends the process. Then all are checked at once where they stand in the stream, which must give the same
- * verdicts.
+ * of it ends the process. The first time it is checked on the call's own stack, where that has room, and then with a
+ * scratch. Then all are checked at once where they stand in the stream, which must give the same verdicts.
  */
 #include "../../examples/c/telling.h"
 
@@ -63,7 +63,7 @@ static struct asked asked_by(int count, char **words)
         else if (strcmp(word, "--max-reads") == 0)
             options->max_reads = strtoull(value, NULL, 10);
         else if (strcmp(word, "--ident") == 0 && strlen(value) == 4)
-            memcpy(options->ident, value, 4), options->has_ident = 1;
+            memcpy(options->ident, value, 4), options->ident_from = FBCHECK_IDENT_THIS;
         else
             fail("a word is wrong");
     }
@@ -71,15 +71,16 @@ static struct asked asked_by(int count, char **words)
 }
 
 /* The verdict on a message, which two pages that can't be read have given alike. */
-static fbcheck_verdict verdict_on(fbcheck_handle *handle, const fbcheck_options *options, struct field field,
-                                  const uint8_t *message, size_t length)
+static fbcheck_verdict verdict_on(const fbcheck_schema *schema, fbcheck_scratch *scratch,
+                                  const fbcheck_options *options, struct field field, const uint8_t *message,
+                                  size_t length)
 {
     fbcheck_verdict verdict, again;
     uint8_t *place = field.first + field.length - length;
     memcpy(place, message, length);
-    fbcheck_verify(handle, options, place, length, &verdict);
+    fbcheck_verify(schema, options->max_depth > FBCHECK_DEEP ? scratch : NULL, options, place, length, &verdict);
     memcpy(field.first, message, length);
-    fbcheck_verify(handle, options, field.first, length, &again);
+    fbcheck_verify(schema, scratch, options, field.first, length, &again);
     if (memcmp(&verdict, &again, sizeof verdict) != 0)
         fail("two verdicts on one message differ");
     return verdict;
@@ -101,8 +102,9 @@ static fbcheck_span *spans_of(const uint8_t *stream, size_t length, size_t *coun
 }
 
 /* Checks all messages of a stream at once, and holds them against the verdicts on each. */
-static void check_at_once(fbcheck_handle *handle, const fbcheck_options *options, const uint8_t *stream, size_t length,
-                          const fbcheck_span *spans, const fbcheck_verdict *verdicts, size_t count)
+static void check_at_once(const fbcheck_schema *schema, fbcheck_scratch *scratch, const fbcheck_options *options,
+                          const uint8_t *stream, size_t length, const fbcheck_span *spans,
+                          const fbcheck_verdict *verdicts, size_t count)
 {
     fbcheck_verdict *batch = calloc(count + 1, sizeof *batch);
     uint32_t status, want = FBCHECK_OK;
@@ -110,7 +112,7 @@ static void check_at_once(fbcheck_handle *handle, const fbcheck_options *options
         fail("out of memory");
     for (size_t i = 0; i < count; i++)
         want |= verdicts[i].status != FBCHECK_OK ? FBCHECK_BAD : FBCHECK_OK;
-    status = fbcheck_verify_each(handle, options, stream, length, spans, batch, count);
+    status = fbcheck_verify_each(schema, scratch, options, stream, length, spans, batch, count);
     if (memcmp(batch, verdicts, count * sizeof *batch) != 0)
         fail("a verdict of all at once differs");
     if (status != want)
@@ -121,30 +123,36 @@ static void check_at_once(fbcheck_handle *handle, const fbcheck_options *options
 int main(int count, char **words)
 {
     struct asked asked = asked_by(count, words);
-    fbcheck_handle handle = FBCHECK_HANDLE_INIT;
+    fbcheck_schema *schema;
+    fbcheck_scratch *scratch;
     size_t length, stream_length, messages;
     uint8_t *file = bytes_of(fopen(asked.path, "rb"), &length);
     uint8_t *stream = bytes_of(stdin, &stream_length);
     struct field field;
     fbcheck_span *spans;
     fbcheck_verdict *verdicts;
-    if (file == NULL || stream == NULL || fbcheck_load(&handle, file, length, NULL, NULL) != FBCHECK_OK)
-        fail("no schema, or no stream");
-    if (asked.root != NULL && fbcheck_choose_root(&handle, asked.root, strlen(asked.root)) != FBCHECK_OK)
-        fail("no root");
+    if (file == NULL || stream == NULL)
+        fail("no schema file, or no stream");
+    schema = fbcheck_schema_new(file, length, NULL, NULL);
+    scratch = fbcheck_scratch_new(asked.options.max_depth);
+    free(file);
+    if (schema == NULL || scratch == NULL)
+        fail("no schema, or no scratch");
+    if (asked.root != NULL)
+        asked.options.root = fbcheck_table(schema, asked.root, strlen(asked.root));
     field = field_of(stream_length);
     spans = spans_of(stream, stream_length, &messages);
     verdicts = calloc(messages + 1, sizeof *verdicts);
     if (verdicts == NULL)
         fail("out of memory");
     for (size_t i = 0; i < messages; i++) {
-        verdicts[i] = verdict_on(&handle, &asked.options, field, stream + spans[i].at, spans[i].length);
+        verdicts[i] = verdict_on(schema, scratch, &asked.options, field, stream + spans[i].at, spans[i].length);
         printf("%zu ", i + 1);
         tell(&verdicts[i]);
     }
-    check_at_once(&handle, &asked.options, stream, stream_length, spans, verdicts, messages);
-    fbcheck_free(&handle);
-    free(file);
+    check_at_once(schema, scratch, &asked.options, stream, stream_length, spans, verdicts, messages);
+    fbcheck_scratch_free(scratch);
+    fbcheck_schema_free(schema);
     free(stream);
     free(spans);
     free(verdicts);

@@ -2,6 +2,7 @@
 pub mod Fitting
 pub mod Spots
 pub mod Denotes
+pub mod Extents
 pub mod Here
 pub mod PlaceLaws
 pub mod StepLaws

@@ -3,6 +3,7 @@
 
 mod answer;
 pub mod examples;
+mod extent;
 mod field;
 mod location;
 pub mod location_laws;
@@ -21,6 +22,7 @@ pub mod step_laws;
 mod value;
 
 pub use answer::Answer;
+pub use extent::Extent;
 pub use location::put_location;
 pub use path::Path;
 pub use path_fault::PathFault;

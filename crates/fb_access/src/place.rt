@@ -1,13 +1,15 @@
 // A place in a verified buffer.
 
-ghost use Rattle.std.specs.Prelude.{◌≡◌, ℕ, ◌*◌, ◌≤◌, length, IsTrue};
+ghost use Rattle.std.specs.Prelude.{◌≡◌, ℕ, ◌+◌, ◌*◌, ◌≤◌, length, IfSome, IsTrue};
 ghost use Rattle.fb_schema.specs.declared.kinds.Kind.TheVariants.{Table as TableKind, Tables};
 ghost use Rattle.fb_verify.specs.WellFormed.{base};
 ghost use Rattle.fb_access.specs.Fitting.{StepsFit};
 ghost use Rattle.fb_access.specs.Denotes.{Leads, allows, root_spot, Denotes, value, shown, vector};
+ghost use Rattle.fb_access.specs.Extents.{extent};
 ghost use Rattle.fb_access.specs.Here.{KindsGoOn, HereGoesOn, IsNarrow, IsHere};
 
 use crate::answer::Answer;
+use crate::extent::{Extent, extent_at};
 use crate::field::target_of;
 use crate::next::next_spot;
 use crate::path::Path;
@@ -97,6 +99,16 @@ impl<'v, 'b, 's, 'n> Place<'v, 'b, 's, 'n> {
     {
         let verified = self.verified;
         value_at(verified.window(), verified.schema(), self.spot)
+    }
+
+    /// Where the bytes of what is here stand in the buffer: of a float, a string, a struct, and of the elements of a
+    /// vector of scalars or structs. Nothing else has bytes of its own.
+    pub fn extent(&self) -> Option<Extent>
+        ensures value { result ≡ extent ((self.now).sealed).bytes ((self.now).sealed).schema (self.now).spot }
+        ensures within { IfSome result (λ e. e.at + e.size ≤ length ((self.now).sealed).bytes) }
+    {
+        let verified = self.verified;
+        extent_at(verified.window(), verified.schema(), self.spot)
     }
 }
 

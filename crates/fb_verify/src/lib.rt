@@ -20,6 +20,7 @@ mod most;
 mod offset_row;
 mod plain;
 mod scratch;
+mod shallow;
 mod site;
 mod stack;
 pub mod start;
@@ -34,6 +35,9 @@ pub use limits::{LimitOutOfRange, Limits};
 pub use links::{Link, Located};
 pub use most::most_reads;
 pub use scratch::{Scratch, ScratchFault};
+pub use shallow::walk_shallow;
 pub use start::{Ident, Start};
 pub use verdict::walk;
-pub use verified::{Verified, verify, verify_and_locate};
+pub use verified::{
+    Verified, verify, verify_and_locate, verify_and_locate_shallow, verify_shallow,
+};

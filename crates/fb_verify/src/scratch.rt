@@ -25,7 +25,7 @@ pub struct Frame {
 }
 
 /// What no walk has written.
-const BLANK: Frame = Frame {
+pub const BLANK: Frame = Frame {
     table: Table {
         object: 0,
         at: 0,

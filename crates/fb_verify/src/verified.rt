@@ -12,7 +12,8 @@ use crate::checks::Checks;
 use crate::fault::{Fault, Report};
 use crate::limits::Limits;
 use crate::links::{Link, Located, put_links};
-use crate::scratch::Scratch;
+use crate::scratch::{BLANK, Frame, Scratch};
+use crate::shallow::walk_shallow;
 use crate::start::{Ident, Start};
 use crate::verdict::{trace, walk};
 use fb_bytes::{Meter, Window};
@@ -134,6 +135,44 @@ pub fn verify<'b, 's, 'n, A: Allocator>(
     })
 }
 
+/// Checks a buffer as [`verify`] does, in room for 64 tables on the call's own stack.
+///
+/// # Errors
+///
+/// The fault that `walk` answers.
+pub fn verify_shallow<'b, 's, 'n>(
+    meter: Meter<'b>,
+    schema: &'s Schema<'n>,
+    root: u32,
+    start: Start,
+    ident: Ident,
+    limits: Limits,
+    checks: Checks,
+) -> Result<Verified<'b, 's, 'n>, Fault>
+    requires fresh { meter.count ≡ 0 }
+    requires table { IsTrue (is_table schema.now root) }
+    requires room { limits.depth ≤ 64 }
+    ensures yes { IfOk result (λ v. Reports checks meter.entry.bytes schema.now root start ident limits v.report) }
+    ensures kept { IfOk result (λ v. v ≡ record { bytes = meter.entry.bytes; schema = schema.now; root = root; start = start; checks = checks; report = v.report }) }
+    ensures none { IfErr result (λ _. HasNone checks meter.entry.bytes schema.now root start ident limits) }
+    ensures no { IfErr result (λ f. Stops checks meter.entry.bytes schema.now root start ident limits f) }
+    ensures price_of_yes { IfOk result (λ v. (v.report).reads ≤ most_reads schema.now limits (length meter.entry.bytes)) }
+    ensures price_of_no { IfErr result (λ f. f.reads ≤ most_reads schema.now limits (length meter.entry.bytes)) }
+{
+    let mut meter = meter;
+    match walk_shallow(&mut meter, schema, root, start, ident, limits, checks) {
+        Ok(report) => Ok(Verified {
+            window: meter.seal(),
+            schema,
+            root,
+            start,
+            checks,
+            report,
+        }),
+        Err(fault) => Err(fault),
+    }
+}
+
 /// The same, and where there is a fault, the links that lead to it are put at the front of `links`, the root's first.
 /// There must be room for as many as the depth limit says. No link leads to a fault at the start of a buffer or at the
 /// head of its root table.
@@ -167,17 +206,78 @@ pub fn verify_and_locate<'b, 's, 'n, A: Allocator>(
     ensures scratch { scratch.new ≡ scratch.old }
     ensures room { length links.new ≡ length links.old }
 {
+    let frames = &mut scratch.frames;
+    locate_in(
+        meter, schema, root, start, ident, limits, checks, frames, links,
+    )
+}
+
+/// Checks a buffer as [`verify_and_locate`] does, in room for 64 tables on the call's own stack.
+///
+/// # Errors
+///
+/// The fault that [`verify`] answers, with the number of these links.
+pub fn verify_and_locate_shallow<'b, 's, 'n>(
+    meter: Meter<'b>,
+    schema: &'s Schema<'n>,
+    root: u32,
+    start: Start,
+    ident: Ident,
+    limits: Limits,
+    checks: Checks,
+    links: &mut [Link],
+) -> Result<Verified<'b, 's, 'n>, Located>
+    requires fresh { meter.count ≡ 0 }
+    requires table { IsTrue (is_table schema.now root) }
+    requires room { limits.depth ≤ 64 }
+    requires links { limits.depth ≤ length links.old }
+    ensures yes { IfOk result (λ v. Reports checks meter.entry.bytes schema.now root start ident limits v.report) }
+    ensures kept { IfOk result (λ v. v ≡ record { bytes = meter.entry.bytes; schema = schema.now; root = root; start = start; checks = checks; report = v.report }) }
+    ensures none { IfErr result (λ _. HasNone checks meter.entry.bytes schema.now root start ident limits) }
+    ensures no { IfErr result (λ l. Stops checks meter.entry.bytes schema.now root start ident limits l.fault) }
+    ensures along { IfErr result (λ l. StopsAlong checks meter.entry.bytes schema.now root start ident limits l.fault (take l.links links.new)) }
+    ensures few { IfErr result (λ l. l.links ≤ length links.new) }
+    ensures price_of_yes { IfOk result (λ v. (v.report).reads ≤ most_reads schema.now limits (length meter.entry.bytes)) }
+    ensures price_of_no { IfErr result (λ l. (l.fault).reads ≤ most_reads schema.now limits (length meter.entry.bytes)) }
+    ensures room { length links.new ≡ length links.old }
+{
+    let mut frames = [BLANK; 64];
+    let frames = &mut frames;
+    locate_in(
+        meter, schema, root, start, ident, limits, checks, frames, links,
+    )
+}
+
+/// The same in room of frames.
+fn locate_in<'b, 's, 'n>(
+    meter: Meter<'b>,
+    schema: &'s Schema<'n>,
+    root: u32,
+    start: Start,
+    ident: Ident,
+    limits: Limits,
+    checks: Checks,
+    frames: &mut [Frame],
+    links: &mut [Link],
+) -> Result<Verified<'b, 's, 'n>, Located>
+    requires fresh { meter.count ≡ 0 }
+    requires table { IsTrue (is_table schema.now root) }
+    requires room { limits.depth ≤ length frames.old }
+    requires links { limits.depth ≤ length links.old }
+    ensures yes { IfOk result (λ v. Reports checks meter.entry.bytes schema.now root start ident limits v.report) }
+    ensures kept { IfOk result (λ v. v ≡ record { bytes = meter.entry.bytes; schema = schema.now; root = root; start = start; checks = checks; report = v.report }) }
+    ensures none { IfErr result (λ _. HasNone checks meter.entry.bytes schema.now root start ident limits) }
+    ensures no { IfErr result (λ l. Stops checks meter.entry.bytes schema.now root start ident limits l.fault) }
+    ensures along { IfErr result (λ l. StopsAlong checks meter.entry.bytes schema.now root start ident limits l.fault (take l.links links.new)) }
+    ensures few { IfErr result (λ l. l.links ≤ length links.new) }
+    ensures price_of_yes { IfOk result (λ v. (v.report).reads ≤ most_reads schema.now limits (length meter.entry.bytes)) }
+    ensures price_of_no { IfErr result (λ l. (l.fault).reads ≤ most_reads schema.now limits (length meter.entry.bytes)) }
+    ensures room { length links.new ≡ length links.old }
+{
     let mut meter = meter;
     let mut tally = meter.lend();
     let answer = trace(
-        &mut tally,
-        schema,
-        root,
-        start,
-        ident,
-        limits,
-        checks,
-        &mut scratch.frames,
+        &mut tally, schema, root, start, ident, limits, checks, frames,
     );
     meter.settle(tally);
     match answer {
@@ -192,7 +292,7 @@ pub fn verify_and_locate<'b, 's, 'n, A: Allocator>(
         Err(halt) => {
             let fault = halt.stop.fault(&meter);
             let window = meter.seal();
-            let frames = &scratch.frames[..halt.links as usize];
+            let frames = &frames[..halt.links as usize];
             let links = put_links(&window, schema, checks, frames, halt.last, &fault, links);
             Err(Located { fault, links })
         }

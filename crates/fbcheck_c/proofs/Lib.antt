@@ -1,6 +1,10 @@
 pub mod AnswerLemmas
+pub mod FitLemmas
 pub mod FramerLemmas
+pub mod MemberLemmas
 pub mod NameLemmas
 pub mod Owned
+pub mod PlaceLemmas
 pub mod SpanLemmas
+pub mod StandLemmas
 pub mod StepLemmas

@@ -30,10 +30,10 @@ use Rattle.std.proofs.alloc.Global.TheLaws as heap_laws
 use Rattle.std.specs.contracts.alloc.Global as heap
 use Rattle.std.specs.contracts.impls.GlobalAllocator.TheImpl.{ghosts}
 use Rattle.std.specs.declared.alloc.Global.{Global}
-use Rattle.fbcheck_c.specs.Held.{held}
+use Rattle.fbcheck_c.specs.Owns.{held}
 use Rattle.fbcheck_c.specs.contracts.detached.Detached as detached
 use Rattle.fbcheck_c.specs.contracts.handle.Handle as handle
-use Rattle.fbcheck_c.specs.contracts.session.Session as session
+use Rattle.fbcheck_c.specs.contracts.held.Held as inside
 
 -- a struct of a pointer and an allocator
 abbrev pub pair : Val → Val → Val
@@ -83,9 +83,9 @@ abbrev pub LZ : Laws Z
 LZ = heap_laws.the_row_laws
 
 abbrev pub Inside : RattleType
-Inside = session.the_row
+Inside = inside.the_row
 
--- what the box of a session owns at p
+-- what the box of what is held owns at p
 abbrev pub owned : Global → Inside.Denot → Ptr → base.Fml.Fml
 owned a x p = box_owns (ghosts.dealloc_token a) Inside p x
 
@@ -100,7 +100,7 @@ handle_good null_ptr h good = (and_tt (has_ty (layout Z) h) good.0, (record { fi
 module _ {M : Type 1} {𝓤 : Ura M} {𝓛 : Logic 𝓤} {K : Type 0} {Γ : List (Item 𝓤)} {G : Goal 𝓤 𝓛.H} where
   pub handle_out : K → (d : handle.the_row.Denot) (vs : List Val)
       → ((h : Val) → vs ≡ pair (ptr_val d.at) h ∷ [] → Good (layout Z) h
-      → Seq K 𝓛 (‵ (kept d.alloc d.session d.at) ∷ ‵ (Z.own_val d.alloc (h ∷ [])) ∷ Γ) G)
+      → Seq K 𝓛 (‵ (kept d.alloc d.inside d.at) ∷ ‵ (Z.own_val d.alloc (h ∷ [])) ∷ Γ) G)
       → Seq K 𝓛 (‵ (handle.the_row.own_val d vs) ∷ Γ) G
   handle_out t d vs next =
       fsplit t $ fpick t (λ vss. fsplit t $ feq_l t (λ whole. fsplit t $ feq_l t (λ front. fsplit t $
@@ -109,9 +109,9 @@ module _ {M : Type 1} {𝓤 : Ura M} {𝓛 : Logic 𝓤} {K : Type 0} {Γ : List
       next h (subst (λ (us : List Val). vs ≡ vstruct (of_list (ptr_val d.at ∷ (us ++ []))) ∷ []) back with_front) good))))
 
   pub handle_in : K → (p : Ptr) (h : Val) (a : Global) (s : Option Inside.Denot)
-      → Step K 𝓛 (‵ (handle.the_row.own_val (record { at = p; alloc = a; session = s }) (pair (ptr_val p) h ∷ [])) ∷ Γ) G
+      → Step K 𝓛 (‵ (handle.the_row.own_val (record { at = p; alloc = a; inside = s }) (pair (ptr_val p) h ∷ [])) ∷ Γ) G
       (‵ (kept a s p) ∷ ‵ (Z.own_val a (h ∷ [])) ∷ Γ) G
-  handle_in t p h a s = step (λ next. let v : Val = pair (ptr_val p) h in let d : handle.the_row.Denot = record { at = p; alloc = a; session = s } in
+  handle_in t p h a s = step (λ next. let v : Val = pair (ptr_val p) h in let d : handle.the_row.Denot = record { at = p; alloc = a; inside = s } in
       nothing t $ move t (2 ∷ 0 ∷ []) $ fjoin t $ feq_i t (List Val) (ptr_val p ∷ []) (ptr_val p ∷ []) refl $ fjoin t $ feq_i t (List Val) (v ∷ []) (v ∷ []) refl $ fjoin t $
       fpack t (Valss (fields handle.the_type)) (within (shape handle.the_type) (to handle.the_type d) (v ∷ [])) (ptr_val p ∷ [], (h ∷ [], tt)) $ fjoin t $ next)
 
@@ -121,7 +121,7 @@ owned_Testable {𝓤 = 𝓤} 𝓛 a x p =
     fact_use 𝓤 (Testable p) (via 𝓤 _ (snd∗ 𝓤 (sem 𝓛 (lies_at Inside full_share p x)) (sem 𝓛 (ghosts.dealloc_token a (bare (lone Inside.mir)) p))) (dealloc_token-Testable 𝓛 a (bare (lone Inside.mir)) p))
     (guard_i 𝓤 (Testable p) (sem 𝓛 (owned a x p)))
 
--- the two cases of a handle: nothing, or a session
+-- the two cases of a handle: nothing, or something
 module _ {M : Type 1} {𝓤 : Ura M} {𝓛 : Logic 𝓤} {K : Type 0} {Γ : List (Item 𝓤)} {G : Goal 𝓤 𝓛.H} where
   pub either_kept : K → (a : Global) (s : Option Inside.Denot) (p : Ptr)
       → (s ≡ None → p ≡ null_ptr → Seq K 𝓛 Γ G)

@@ -7,24 +7,24 @@ use Rattle.fb_schema.specs.declared.kinds.Kind.{Kind}
 use Rattle.fb_schema.specs.Rows.{Rows}
 use Rattle.fb_access.specs.declared.step.Step.{Step}
 use Rattle.fb_access.specs.declared.spot.Spot.{Spot}
-use Rattle.fb_access.specs.Denotes.{Leads, Shown, allows}
+use Rattle.fb_access.specs.Denotes.{Leads, Reaches, allows}
 use Rattle.fb_access.specs.Fitting.{StepsFit, next_kind}
-use Rattle.fb_access.specs.Here.{IsOfKind, KindsGoOn, Shows}
+use Rattle.fb_access.specs.Here.{IsOfKind, KindsGoOn}
 use Rattle.fb_access.proofs.StepKinds.{kind_allows}
 use Rattle.fbcheck_c.specs.declared.steps.PlainStep.{PlainStep}
 use Rattle.fbcheck_c.specs.Steps.{AreSteps, step_of}
 
--- what is shown by the steps that are left is what was looked for
-abbrev pub IsShownBy : List ℕ → Rows → Spot → List PlainStep → (Shown → Type 0) → Type 0
-IsShownBy b S p plain W = (path : List Step) (x : Shown) → AreSteps plain path → Shows b S p path x → W x
+-- where the steps that are left lead is what was looked for
+abbrev pub IsReachedBy : List ℕ → Rows → Spot → List PlainStep → (Spot → Type 0) → Type 0
+IsReachedBy b S p plain W = (path : List Step) (x : Spot) → AreSteps plain path → Reaches b S p path x → W x
 
 -- the steps that are left are those of a path that fits here
 abbrev pub FitHere : Rows → Spot → List PlainStep → Type 0
 FitHere S p plain = (path : List Step) × (kind : Kind) × AreSteps plain path × IsOfKind p kind × StepsFit S kind path
 
 module _ (S : Rows) (p : Spot) (c : PlainStep) (cs : List PlainStep) where
-  pub shows_more : (b : List ℕ) (W : Shown → Type 0) (s : Step) (q : Spot) → step_of c ≡ Some s → Leads b S p s q → IsShownBy b S p (c ∷ cs) W → IsShownBy b S q cs W
-  shows_more b W s q e l by = λ path x are shows. by (s ∷ path) x (e, are) (shows.0, (q, l, shows.1), shows.2)
+  pub reaches_more : (b : List ℕ) (W : Spot → Type 0) (s : Step) (q : Spot) → step_of c ≡ Some s → Leads b S p s q → IsReachedBy b S p (c ∷ cs) W → IsReachedBy b S q cs W
+  reaches_more b W s q e l by = λ path x are reach. by (s ∷ path) x (e, are) (q, l, reach)
 
   fit_more_at : (path : List Step) (kind : Kind) (s : Step) (q : Spot) → step_of c ≡ Some s → KindsGoOn S p s q → AreSteps (c ∷ cs) path → IsOfKind p kind → StepsFit S kind path → FitHere S q cs
   fit_more_at [] kind s q e on are is fits = absurd are

@@ -1,32 +1,57 @@
--- The laws of what a check answers: to whom a yes is due, and to whom a no.
-use Rattle.std.specs.Prelude.{◌≡◌, ℕ, ◌<◌, ◌^◌, List, length, Some}
+-- The laws of what a check answers: to whom a yes is due, and to whom a no; and where a value's bytes are.
+use Rattle.std.specs.Prelude.{◌≡◌, ℕ, ◌<◌, ◌^◌, List, length, Option, Some, None}
+use Rattle.fb_schema.specs.Rows.{Rows}
 use Rattle.fb_verify.specs.Tree.{Tree}
 use Rattle.fb_verify.specs.Verdict.{HasNone}
 use Rattle.fb_verify.specs.WellFormed.{IsWellFormed, IsWithin}
+use Rattle.fb_verify.specs.declared.start.Ident.{Ident}
+use Rattle.fb_access.specs.declared.extent.Extent.{Extent}
+use Rattle.fb_access.specs.declared.spot.Spot.{Spot}
+use Rattle.fb_access.specs.Denotes as denotes
+use Rattle.fb_access.specs.Denotes.{Shown, bytes_at, value}
+use Rattle.fb_access.specs.Extents.{extent}
+use Rattle.fb_bfbs.specs.declared.loading.Loaded.{Loaded}
 use Rattle.fbcheck_c.specs.declared.answer.Answer.{Answer}
 use Rattle.fbcheck_c.specs.declared.options.Options.{Options}
-use Rattle.fbcheck_c.specs.declared.session.Session.{Session}
-use Rattle.fbcheck_c.specs.Answered.{HasLimits, IsChecked, root_table}
-use Rattle.fbcheck_c.specs.Asked.{checks_asked, ident_asked, limits_of, start_asked}
+use Rattle.fbcheck_c.specs.Answered.{IsChecked}
+use Rattle.fbcheck_c.specs.Asked.{HasLimits, checks_asked, ident_asked, limits_of, root_asked, start_asked}
 use Rattle.fbcheck_c.specs.Told.{told}
 
--- the session has a root and room for what the options ask, and the buffer is short enough to be one
-pub record CanServe (s : Session) (o : Options) (b : List ℕ) (root : ℕ) : Type 0 where
-  pub limits : HasLimits s o
-  pub root_is : root_table s ≡ Some root
+-- the schema has the root and the identifier that the options ask, there is room for their depth, and the buffer is
+-- short enough to be one
+pub record CanServe (l : Loaded) (n : ℕ) (o : Options) (b : List ℕ) (root : ℕ) (ident : Ident) : Type 0 where
+  pub limits : HasLimits o n
+  pub root_is : root_asked l o ≡ Some root
+  pub ident_is : ident_asked l o ≡ Some ident
   pub short : length b < 2 ^ 31
 
 -- where some tree of the buffer is well formed and within the limits, every answer is the number of a yes
 abbrev pub GoodGetsYes : Type 0
-GoodGetsYes = (s : Session) (o : Options) (b : List ℕ) (root : ℕ) (y : Tree) (a : Answer)
-    → CanServe s o b root
-    → IsWellFormed (checks_asked o) b s.loaded.schema root (start_asked o) (ident_asked o) y
-    → IsWithin y (checks_asked o) b s.loaded.schema (start_asked o) (ident_asked o) (limits_of o (length b))
-    → IsChecked s o b a → (told a).status ≡ 0
+GoodGetsYes = (l : Loaded) (n : ℕ) (o : Options) (b : List ℕ) (root : ℕ) (ident : Ident) (y : Tree) (a : Answer)
+    → CanServe l n o b root ident
+    → IsWellFormed (checks_asked o) b l.schema root (start_asked o) ident y
+    → IsWithin y (checks_asked o) b l.schema (start_asked o) ident (limits_of o (length b))
+    → IsChecked l n o b a → (told a).status ≡ 0
 
 -- where none is, every answer is the number of a no
 abbrev pub BadGetsNo : Type 0
-BadGetsNo = (s : Session) (o : Options) (b : List ℕ) (root : ℕ) (a : Answer)
-    → CanServe s o b root
-    → HasNone (checks_asked o) b s.loaded.schema root (start_asked o) (ident_asked o) (limits_of o (length b))
-    → IsChecked s o b a → (told a).status ≡ 1
+BadGetsNo = (l : Loaded) (n : ℕ) (o : Options) (b : List ℕ) (root : ℕ) (ident : Ident) (a : Answer)
+    → CanServe l n o b root ident
+    → HasNone (checks_asked o) b l.schema root (start_asked o) ident (limits_of o (length b))
+    → IsChecked l n o b a → (told a).status ≡ 1
+
+-- the bytes that a value shows stand where the extent says; what shows none, and is no vector, has no extent
+abbrev pub Stands : List ℕ → Shown → Option Extent → Type 0
+Stands b (denotes.float s) (Some e) = s ≡ bytes_at b e.at e.size
+Stands b (denotes.text s) (Some e) = s ≡ bytes_at b e.at e.size
+Stands b (denotes.structure s) (Some e) = s ≡ bytes_at b e.at e.size
+Stands b (denotes.vector n) e = Unit {0}
+Stands b _ (Some e) = ⊥
+Stands b (denotes.float s) None = ⊥
+Stands b (denotes.text s) None = ⊥
+Stands b (denotes.structure s) None = ⊥
+Stands b _ None = Unit {0}
+
+-- at every spot of every buffer
+abbrev pub ValuesStand : Type 0
+ValuesStand = (b : List ℕ) (S : Rows) (q : Spot) → Stands b (value b S q) (extent b S q)

@@ -1,94 +1,115 @@
 -- Which answer a call gives.
-use Rattle.std.specs.Prelude.{◌≡◌, ℕ, ◌≤◌, ◌^◌, min, List, length, Option, Some, None, Result, Ok, Err, IsSomeAnd, IsTrue, MatchOption, if◌then◌else◌}
-use Rattle.fb_schema.specs.Rows.{Rows, is_table, table_named}
+use Rattle.std.specs.Prelude.{◌≡◌, ℕ, ◌<◌, ◌≤◌, ◌^◌, List, length, Option, Some, None, Result, Ok, Err, IsSomeAnd, IsSome, IsTrue}
+use Rattle.fb_schema.specs.Rows.{is_table}
 use Rattle.fb_verify.specs.Bounds.{Bounds}
 use Rattle.fb_verify.specs.MostReads.{most_reads}
 use Rattle.fb_verify.specs.Stops.{Stops}
 use Rattle.fb_verify.specs.Verdict.{Reports, HasNone}
 use Rattle.fb_verify.specs.declared.fault.Fault.{Fault}
 use Rattle.fb_verify.specs.declared.fault.Report.{Report}
+use Rattle.fb_verify.specs.declared.start.Ident.{Ident}
 use Rattle.fb_bfbs.specs.Loads.{IsLoaded, IsLoadFault}
+use Rattle.fb_bfbs.specs.declared.loading.Loaded.{Loaded}
+use Rattle.fb_bfbs.specs.declared.load_fault.LoadFault.TheVariants.{OutOfMemory}
 use Rattle.fbcheck_c.specs.declared.answer.Answer.{Answer}
-use Rattle.fbcheck_c.specs.declared.answer.Answer.TheVariants.{Done, Good, Bad, UnknownOptions, OutOfRange, Empty, NoRoot, TooLong, NoSchema}
+use Rattle.fbcheck_c.specs.declared.answer.Answer.TheVariants.{Done, Good, Bad, UnknownOptions, OutOfRange, NoIdent, NoRoot, TooLong, NoSchema}
+use Rattle.fbcheck_c.specs.declared.checking.Begun.{Begun}
+use Rattle.fbcheck_c.specs.declared.held.Held.{Held}
+use Rattle.fbcheck_c.specs.declared.held.Held.TheVariants.{Schema, Room}
 use Rattle.fbcheck_c.specs.declared.options.Options.{Options}
-use Rattle.fbcheck_c.specs.declared.session.Session.{Session}
-use Rattle.fbcheck_c.specs.Asked.{AreKnown, LimitsFail, checks_asked, ident_asked, limits_of, start_asked}
+use Rattle.fbcheck_c.specs.Asked.{HasLimits, LimitsFail, checks_asked, ident_asked, limits_of, root_asked, start_asked}
 use Rattle.fbcheck_c.specs.Told.{low, told}
 
 -- ---- to load a schema
 
--- a session of the schema that the file describes, with the file's own root, and as many levels as the depth that is
--- asked
-pub record IsOpened (file : List ℕ) (o : Options) (s : Session) : Type 0 where
-  pub known : AreKnown o
-  pub loaded : IsLoaded file (limits_of o (length file)) s.loaded
-  pub root : s.root ≡ s.loaded.root
-  pub levels : s.scratch ≡ o.max_depth
+-- the schema that the file describes
+pub record IsOpened (file : List ℕ) (o : Options) (l : Loaded) : Type 0 where
+  pub limits : HasLimits o 4096
+  pub loaded : IsLoaded file (limits_of o (length file)) l
 
 -- why there is none
 abbrev pub IsNotOpened : List ℕ → Options → Answer → Type 0
-IsNotOpened file o (NoSchema fault) = AreKnown o × IsLoadFault file (limits_of o (length file)) fault
+IsNotOpened file o (NoSchema fault) = HasLimits o 4096 × IsLoadFault file (limits_of o (length file)) fault
 IsNotOpened file o a = LimitsFail o 4096 a
 
--- ---- a session
+-- ---- what a pointer leads to: a schema, or room
 
--- a number that is a table's
-abbrev pub if_table : Rows → Option ℕ → Option ℕ
-if_table rows None = None
-if_table rows (Some n) = if is_table rows n then Some n else None
+-- what a call answers that asks a schema; of what is none it has no root
+abbrev pub IfSchema : Held → Answer → (Loaded → Type 0) → Type 0
+IfSchema (Schema l) a P = P l
+IfSchema (Room r) a P = a ≡ NoRoot
 
--- the root table of a session, if there is one
-abbrev pub root_table : Session → Option ℕ
-root_table s = if_table s.loaded.schema s.root
+-- a handle holds a schema of which this holds, or room for so many levels
+abbrev pub HoldsSchema : (Loaded → Type 0) → Held → Type 0
+HoldsSchema P (Schema l) = P l
+HoldsSchema P (Room r) = ⊥
 
--- to choose a root by its name: it is the root then, or there is no table of this name, and all is as it was
-abbrev pub IsChosen : Session → List ℕ → Session → Answer → Type 0
-IsChosen s name s' Done = IsSomeAnd (table_named s.loaded.schema name) (λ n. s' ≡ record s { root = Some n })
-IsChosen s name s' NoRoot = (table_named s.loaded.schema name ≡ None) × (s' ≡ s)
-IsChosen s name s' _ = ⊥
+abbrev pub HoldsRoom : ℕ → Held → Type 0
+HoldsRoom depth (Schema l) = ⊥
+HoldsRoom depth (Room r) = r.scratch ≡ depth
 
--- some tree of the buffer is well formed by the session's schema from this root, within the limits, and the report
--- counts it
-abbrev pub IsGoodFrom : Session → Options → List ℕ → Report → ℕ → Type 0
-IsGoodFrom s o b r root = Reports (checks_asked o) b s.loaded.schema root (start_asked o) (ident_asked o) (limits_of o (length b)) r
+-- for how many levels there is room: those of a handle that holds room, else 64
+abbrev pub levels : Option Held → ℕ
+levels (Some (Room r)) = r.scratch
+levels _ = 64
+
+-- what a load into a handle answers, with what is held before and after: the file's schema, or what was held
+abbrev pub IsTaken : List ℕ → Options → Option Held → Option Held → Answer → Type 0
+IsTaken file o held held' Done = IsSomeAnd held' (HoldsSchema (IsOpened file o))
+IsTaken file o held held' (NoSchema OutOfMemory) = (held' ≡ held) × HasLimits o 4096
+IsTaken file o held held' a = (held' ≡ held) × IsNotOpened file o a
+
+-- what is answered where room is made in a handle
+abbrev pub IsRoomMade : ℕ → Option Held → Option Held → Answer → Type 0
+IsRoomMade depth held held' Done = IsSomeAnd held' (HoldsRoom depth) × (depth ≤ 4096)
+IsRoomMade depth held held' OutOfRange = (held' ≡ held) × (4096 < depth)
+IsRoomMade depth held held' (NoSchema OutOfMemory) = (held' ≡ held) × (depth ≤ 4096)
+IsRoomMade depth held held' _ = ⊥
+
+-- ---- to check a buffer
+
+-- the limits, the root and the identifier of a check of so many bytes
+pub record Begins (l : Loaded) (n : ℕ) (o : Options) (bytes : ℕ) (begun : Begun) : Type 0 where
+  pub has : HasLimits o n
+  pub limits_are : begun.limits ≡ limits_of o bytes
+  pub root_is : root_asked l o ≡ Some begun.root
+  pub is_table : IsTrue (is_table l.schema begun.root)
+  pub ident_is : ident_asked l o ≡ Some begun.ident
+
+-- why nothing can be checked by these options, in room for so many levels
+abbrev pub IsUnserved : Loaded → ℕ → Options → Answer → Type 0
+IsUnserved l n o NoRoot = HasLimits o n × (root_asked l o ≡ None)
+IsUnserved l n o NoIdent = HasLimits o n × IsSome (root_asked l o) × (ident_asked l o ≡ None)
+IsUnserved l n o a = LimitsFail o n a
+
+-- a check can begin, and this holds of its root and its identifier
+abbrev pub Serves : Loaded → ℕ → Options → (ℕ → Ident → Type 0) → Type 0
+Serves l n o P = HasLimits o n × IsSomeAnd (root_asked l o) (λ root. IsSomeAnd (ident_asked l o) (P root))
+
+-- some tree of the buffer is well formed by the schema from this root, within the limits, and the report counts it
+abbrev pub IsGoodFrom : Loaded → Options → List ℕ → Report → ℕ → Ident → Type 0
+IsGoodFrom l o b r root ident = Reports (checks_asked o) b l.schema root (start_asked o) ident (limits_of o (length b)) r
 
 -- none is, and this is the first condition that fails
-pub record IsBadFrom (s : Session) (o : Options) (b : List ℕ) (f : Fault) (root : ℕ) : Type 0 where
-  pub none : HasNone (checks_asked o) b s.loaded.schema root (start_asked o) (ident_asked o) (limits_of o (length b))
-  pub stops : Stops (checks_asked o) b s.loaded.schema root (start_asked o) (ident_asked o) (limits_of o (length b)) f
-
--- the options ask for what the session has room for
-abbrev pub HasLimits : Session → Options → Type 0
-HasLimits s o = AreKnown o × (o.max_depth ≤ min 4096 s.scratch)
-
--- why a session can't check by these options
-abbrev pub IsUnserved : Session → Options → Answer → Type 0
-IsUnserved s o NoRoot = root_table s ≡ None
-IsUnserved s o a = LimitsFail o s.scratch a
-
--- the limits and the root of a check of so many bytes
-pub record Begins (s : Session) (o : Options) (n : ℕ) (limits : Bounds) (root : ℕ) : Type 0 where
-  pub has : HasLimits s o
-  pub limits_are : limits ≡ limits_of o n
-  pub root_is : root_table s ≡ Some root
-  pub is_table : IsTrue (is_table s.loaded.schema root)
+pub record IsBadFrom (l : Loaded) (o : Options) (b : List ℕ) (f : Fault) (root : ℕ) (ident : Ident) : Type 0 where
+  pub none : HasNone (checks_asked o) b l.schema root (start_asked o) ident (limits_of o (length b))
+  pub stops : Stops (checks_asked o) b l.schema root (start_asked o) ident (limits_of o (length b)) f
 
 -- what a check of a buffer answers
-abbrev pub IsChecked : Session → Options → List ℕ → Answer → Type 0
-IsChecked s o b (Good r) = HasLimits s o × IsSomeAnd (root_table s) (IsGoodFrom s o b r)
-IsChecked s o b (Bad f) = HasLimits s o × IsSomeAnd (root_table s) (IsBadFrom s o b f)
-IsChecked s o b TooLong = 2 ^ 31 ≤ length b
-IsChecked s o b NoRoot = root_table s ≡ None
-IsChecked s o b UnknownOptions = LimitsFail o s.scratch UnknownOptions
-IsChecked s o b OutOfRange = LimitsFail o s.scratch OutOfRange
-IsChecked s o b _ = ⊥
+abbrev pub IsChecked : Loaded → ℕ → Options → List ℕ → Answer → Type 0
+IsChecked l n o b (Good r) = Serves l n o (IsGoodFrom l o b r)
+IsChecked l n o b (Bad f) = Serves l n o (IsBadFrom l o b f)
+IsChecked l n o b TooLong = Serves l n o (λ root ident. 2 ^ 31 ≤ length b)
+IsChecked l n o b a = IsUnserved l n o a
 
 -- what the most reads of a check are said to be
-abbrev pub IsPriced : Session → Options → ℕ → Result ℕ Answer → Type 0
-IsPriced s o n (Ok most) = HasLimits s o × (most ≡ low (most_reads s.loaded.schema (limits_of o n) n))
-IsPriced s o n (Err a) = LimitsFail o s.scratch a
+abbrev pub IsPricedBy : Loaded → Options → ℕ → Result ℕ Answer → Type 0
+IsPricedBy l o n (Ok most) = HasLimits o 4096 × (most ≡ low (most_reads l.schema (limits_of o n) n))
+IsPricedBy l o n (Err a) = LimitsFail o 4096 a
 
--- ---- a handle: a session, or nothing
+abbrev pub IsPriced : Held → Options → ℕ → Result ℕ Answer → Type 0
+IsPriced (Schema l) o n answer = IsPricedBy l o n answer
+IsPriced (Room r) o n answer = answer ≡ Err NoRoot
 
 -- the number of an answer, or of none where a number was found
 abbrev pub status_of : Result ℕ Answer → ℕ
@@ -100,29 +121,9 @@ abbrev pub found_or : Result ℕ Answer → ℕ → ℕ
 found_or (Ok most) n = most
 found_or (Err a) n = n
 
--- what a call answers that asks a session, where one is held; else that none is
-abbrev pub IfHeld : Option Session → Answer → (Session → Type 0) → Type 0
-IfHeld None Empty P = Unit {0}
-IfHeld None _ P = ⊥
-IfHeld (Some s) a P = P s
-
--- what a load into a handle answers, with what is held before and after: the file's session, or what was held
-abbrev pub IsTaken : List ℕ → Options → Option Session → Option Session → Answer → Type 0
-IsTaken file o held held' Done = IsSomeAnd held' (IsOpened file o)
-IsTaken file o held held' a = (held' ≡ held) × IsNotOpened file o a
-
--- what is answered where the root of what is held is chosen, with what is held then
-abbrev pub IsChosenIn : Option Session → List ℕ → Option Session → Answer → Type 0
-IsChosenIn held name held' a = MatchOption held ((a ≡ Empty) × (held' ≡ None)) (λ s. IsSomeAnd held' (λ s'. IsChosen s name s' a))
-
--- what the most reads are said to be, where a session is held
-abbrev pub IsPricedIn : Option Session → Options → ℕ → Result ℕ Answer → Type 0
-IsPricedIn None o n answer = answer ≡ Err Empty
-IsPricedIn (Some s) o n answer = IsPriced s o n answer
-
 -- that in numbers, with what stood before and stands then where they are written
-pub record IsPriceTold (held : Option Session) (o : Options) (n reads reads' status : ℕ) : Type 0 where
+pub record IsPriceTold (held : Held) (o : Options) (n reads reads' status : ℕ) : Type 0 where
   pub answer : Result ℕ Answer
-  pub priced : IsPricedIn held o n answer
+  pub priced : IsPriced held o n answer
   pub reads_are : reads' ≡ found_or answer reads
   pub status_is : status ≡ status_of answer

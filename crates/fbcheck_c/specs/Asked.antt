@@ -1,5 +1,8 @@
 -- What options ask.
-use Rattle.std.specs.Prelude.{◌≡◌, ℕ, ◌<◌, ◌==◌, min, Bool, true, false, not, List, replicate, Some}
+use Rattle.std.specs.Prelude.{◌≡◌, ℕ, ◌<◌, ◌≤◌, ◌==◌, min, Bool, true, false, not, List, length, replicate, Option, Some, None, if◌then◌else◌}
+use Rattle.std.specs.Borrow.{Bor}
+use Rattle.fb_bfbs.specs.declared.loading.Loaded.{Loaded}
+use Rattle.fb_schema.specs.Rows.{Rows, is_table}
 use Rattle.fb_verify.specs.Bounds.{Bounds, limits_of_length}
 use Rattle.fb_verify.specs.declared.checks.Checks.{Checks}
 use Rattle.fb_verify.specs.declared.start.Ident.{Ident}
@@ -15,11 +18,6 @@ abbrev pub start_of : Bool → Start
 start_of true = Bare
 start_of false = Prefixed
 
--- the identifier, by whether the flag for one is off
-abbrev pub ident_of : Bool → List ℕ → Ident
-ident_of true name = Any
-ident_of false name = Want name
-
 -- the checks, by whether the flags are off
 abbrev pub checks_of : Bool → Bool → Checks
 checks_of aligned short = record { alignment = aligned; inline_size = not short }
@@ -27,9 +25,6 @@ checks_of aligned short = record { alignment = aligned; inline_size = not short 
 -- what options ask of a buffer
 abbrev pub start_asked : Options → Start
 start_asked o = start_of (o.prefixed == 0)
-
-abbrev pub ident_asked : Options → Ident
-ident_asked o = ident_of (o.has_ident == 0) o.ident
 
 abbrev pub checks_asked : Options → Checks
 checks_asked o = checks_of (o.no_alignment == 0) (o.inline_size == 0)
@@ -39,8 +34,14 @@ abbrev pub limits_of : Options → ℕ → Bounds
 limits_of o n = limits_of_length (record { depth = o.max_depth; tables = o.max_tables; reads = Some o.max_reads }) o.reads_per_byte (min n 2147483647)
 
 -- this library knows the options
-abbrev pub AreKnown : Options → Type 0
-AreKnown o = o.version ≡ 1
+pub record AreKnown (o : Options) : Type 0 where
+  pub version : o.version ≡ 1
+  pub ident : o.ident_from ≤ 2
+
+-- the options ask for no more than there is room for
+pub record HasLimits (o : Options) (levels : ℕ) : Type 0 where
+  pub known : AreKnown o
+  pub depth : o.max_depth ≤ min 4096 levels
 
 -- why options set no limits for so many levels
 abbrev pub LimitsFail : Options → ℕ → Answer → Type 0
@@ -48,19 +49,42 @@ LimitsFail o levels UnknownOptions = AreKnown o → ⊥
 LimitsFail o levels OutOfRange = AreKnown o × (min 4096 levels < o.max_depth)
 LimitsFail o levels _ = ⊥
 
+-- a number that is a table's
+abbrev pub if_table : Rows → Option ℕ → Option ℕ
+if_table rows None = None
+if_table rows (Some n) = if is_table rows n then Some n else None
+
+-- the root table that is asked of a schema: its own, none, or that of this number
+abbrev pub root_asked : Loaded → Options → Option ℕ
+root_asked l o =
+    if o.root == 4294967295 then if_table l.schema l.root
+    else (if o.root == 4294967294 then None else if_table l.schema (Some o.root))
+
+-- the identifier that a schema's own asks for: any where it has none, and none where it hasn't four bytes
+abbrev pub own_ident : Option (Bor (List ℕ)) → Option Ident
+own_ident None = Some Any
+own_ident (Some name) = if length name.now == 4 then Some (Want name.now) else None
+
+-- the identifier that is asked of a buffer: any, that of the options, or the schema's own
+abbrev pub ident_asked : Loaded → Options → Option Ident
+ident_asked l o =
+    if o.ident_from == 0 then Some Any
+    else (if o.ident_from == 1 then Some (Want o.ident) else own_ident l.ident)
+
 -- the published limits and checks with a budget of 100,000,000 reads, and of 64 a byte, for a bare buffer with any
--- identifier
+-- identifier, from the schema's own root table
 abbrev pub published : Options
 published = record {
   version = 1;
-  max_depth = 64;
+  root = 4294967295;
   max_reads = 100000000;
+  max_depth = 64;
   max_tables = 1000000;
   reads_per_byte = 64;
   ident = replicate 4 0;
-  has_ident = 0;
+  ident_from = 0;
   prefixed = 0;
   no_alignment = 0;
   inline_size = 0;
-  reserved = replicate 8 0;
+  reserved = replicate 7 0;
 }

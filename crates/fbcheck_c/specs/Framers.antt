@@ -35,6 +35,11 @@ FedFails old new piece (Oversize number) = (old.failed ≡ false) × IsRefused o
 FedFails old new piece Failed = (old.failed ≡ true) × (new ≡ old)
 FedFails old new piece _ = ⊥
 
+-- the number that is declared: that of the prefix by which a framer fails, else what it was
+abbrev pub KeepsNumber : Framer → Framer → Result Taken Answer → Type 0
+KeepsNumber f f' (Err (BadStream (Oversize number))) = f'.declared ≡ number
+KeepsNumber f f' _ = f'.declared ≡ f.declared
+
 -- what a piece does to a framer: it goes on, or fails, as the framer that takes memory does
 abbrev pub IsFed : List ℕ → Framer → List ℕ → List ℕ → Framer → Result Taken Answer → Type 0
 IsFed room f piece room' f' (Ok t) = IsRoom (length room) × (IsKept room f → Feeds (framing room f) (framing room' f') piece t.used t.whole)
@@ -96,5 +101,6 @@ used_or (Err a) n = n
 pub record IsFedTold (room : List ℕ) (f : Framer) (piece room' : List ℕ) (f' : Framer) (used used' status : ℕ) : Type 0 where
   pub answer : Result Taken Answer
   pub fed : IsFed room f piece room' f' answer
+  pub number : KeepsNumber f f' answer
   pub used_is : used' ≡ used_or answer used
   pub status_is : status ≡ fed_status answer

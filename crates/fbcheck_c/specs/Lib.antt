@@ -8,6 +8,7 @@ pub mod Framers
 pub mod Steps
 pub mod Values
 pub mod Reached
+pub mod Placed
 pub mod Names
 -- What a handle owns.
-pub mod Held
+pub mod Owns

@@ -1,10 +1,11 @@
 -- Names by their numbers, and how they are copied.
-use Rattle.std.specs.Prelude.{◌≡◌, ℕ, ◌==◌, nat_le, List, ◌++◌, drop, find, length, slice_get, Option, Some, None, option_and_then, option_map, if◌then◌else◌}
+use Rattle.std.specs.Prelude.{◌≡◌, ℕ, ◌==◌, nat_le, List, ◌++◌, drop, find, length, slice_get, Option, Some, None, option_map, if◌then◌else◌}
 use Rattle.fb_schema.specs.Live.{live_fields}
-use Rattle.fb_schema.specs.Rows.{Rows, is_table}
+use Rattle.fb_schema.specs.Rows.{Rows, is_table, table_named}
 use Rattle.fb_verify.specs.Reasons.{reason_number, reason_text}
 use Rattle.fb_verify.specs.declared.fault.Reason.{Reason}
-use Rattle.fbcheck_c.specs.declared.session.Session.{Session}
+use Rattle.fbcheck_c.specs.declared.held.Held.{Held}
+use Rattle.fbcheck_c.specs.declared.held.Held.TheVariants.{Schema, Room}
 
 -- no reason has this number
 abbrev pub NumbersNothing : ℕ → Type 0
@@ -26,9 +27,19 @@ abbrev pub IsNameTold : Option (List ℕ) → List ℕ → List ℕ → ℕ → 
 IsNameTold (Some name) room room' told = (told ≡ length name) × (room' ≡ filled name room)
 IsNameTold None room room' told = (told ≡ 0) × (room' ≡ room)
 
--- a name by what a handle holds, none where it holds nothing
-abbrev pub held_name : Option Session → (Rows → Option (List ℕ)) → Option (List ℕ)
-held_name held name = option_and_then (λ s. name s.loaded.schema) held
+-- a name by what is shared, none where it is no schema
+abbrev pub held_name : Held → (Rows → Option (List ℕ)) → Option (List ℕ)
+held_name (Schema l) name = name l.schema
+held_name (Room r) name = None
+
+-- the number of a table by its name, or the number of none
+abbrev pub number_or_none : Option ℕ → ℕ
+number_or_none (Some n) = n
+number_or_none None = 4294967294
+
+abbrev pub table_number : Held → List ℕ → ℕ
+table_number (Schema l) name = number_or_none (table_named l.schema name)
+table_number (Room r) name = 4294967294
 
 -- the name of the reason with this number, or that there is none
 abbrev pub IsReasonName : ℕ → Option (List ℕ) → Type 0

@@ -1,70 +1,70 @@
--- What is answered of a path, and of the value at its end.
-use Rattle.std.specs.Prelude.{◌≡◌, ℕ, ◌<◌, List, length, Option, Some, None, IsSomeAnd}
+-- What is answered of a path, and of the values at the ends of paths.
+use Rattle.std.specs.Prelude.{◌≡◌, ℕ, ◌<◌, List, length, None, IsSomeAnd}
 use Rattle.fb_schema.specs.declared.kinds.Kind.TheVariants.{Table}
 use Rattle.fb_access.specs.declared.step.Step.{Step}
-use Rattle.fb_access.specs.Denotes.{Shown}
 use Rattle.fb_access.specs.Fitting.{StepsFit}
 use Rattle.fb_access.specs.Resolving.{Resolves, Refuses}
+use Rattle.fb_bfbs.specs.declared.loading.Loaded.{Loaded}
 use Rattle.fbcheck_c.specs.declared.answer.Answer.{Answer}
-use Rattle.fbcheck_c.specs.declared.answer.Answer.TheVariants.{Done, Good, Empty, NoRoot, NoRoom, BadPath, Misfit}
+use Rattle.fbcheck_c.specs.declared.answer.Answer.TheVariants.{Done, Good, Bad, UnknownOptions, NoRoot, NoRoom, BadPath, Misfit, TooLong}
+use Rattle.fbcheck_c.specs.declared.held.Held.{Held}
+use Rattle.fbcheck_c.specs.declared.held.Held.TheVariants.{Schema, Room}
 use Rattle.fbcheck_c.specs.declared.options.Options.{Options}
-use Rattle.fbcheck_c.specs.declared.session.Session.{Session}
-use Rattle.fbcheck_c.specs.declared.steps.PlainStep.{PlainStep}
+use Rattle.fbcheck_c.specs.declared.steps.PlainPath.{PlainPath}
 use Rattle.fbcheck_c.specs.declared.values.Value.{Value}
-use Rattle.fbcheck_c.specs.Answered.{HasLimits, IsChecked, root_table}
-use Rattle.fbcheck_c.specs.Asked.{start_asked}
-use Rattle.fbcheck_c.specs.Names.{filled}
-use Rattle.fbcheck_c.specs.Steps.{AreInFront, DontFit, Finds}
-use Rattle.fbcheck_c.specs.Values.{bytes_of, value_told}
+use Rattle.fbcheck_c.specs.Answered.{IsChecked, Serves}
+use Rattle.fbcheck_c.specs.Asked.{AreKnown, root_asked, start_asked}
+use Rattle.fbcheck_c.specs.Steps.{AllFit, IsPathOf}
+use Rattle.fbcheck_c.specs.Values.{AreValues}
 
--- the text resolves from the root to the steps that stand in front
-pub record IsResolved (s : Session) (text : List ℕ) (room room' : List PlainStep) (count root : ℕ) : Type 0 where
+-- the text resolves from the root to the steps of the path
+pub record ResolvesTo (l : Loaded) (text : List ℕ) (p : PlainPath) (root : ℕ) : Type 0 where
   pub path : List Step
-  pub resolves : Resolves s.loaded.schema root text path
-  pub fits : StepsFit s.loaded.schema (Table root) path
-  pub written : AreInFront path room room'
-  pub count_is : count ≡ length path
+  pub resolves : Resolves l.schema root text path
+  pub fits : StepsFit l.schema (Table root) path
+  pub written : IsPathOf path p
 
 -- it resolves to more steps than there is room for
-pub record LacksRoom (s : Session) (text : List ℕ) (room : List PlainStep) (count root : ℕ) : Type 0 where
+pub record LacksRoom (l : Loaded) (text : List ℕ) (root : ℕ) : Type 0 where
   pub path : List Step
-  pub resolves : Resolves s.loaded.schema root text path
-  pub long : length room < length path
-  pub count_is : count ≡ length path
+  pub resolves : Resolves l.schema root text path
+  pub long : 31 < length path
 
--- what is answered of a text, with the room and the count before and after
-abbrev pub IsPath : Session → List ℕ → List PlainStep → List PlainStep → ℕ → ℕ → Answer → Type 0
-IsPath s text room room' n n' Done = IsSomeAnd (root_table s) (IsResolved s text room room' n')
-IsPath s text room room' n n' NoRoom = IsSomeAnd (root_table s) (LacksRoom s text room n') × (room' ≡ room)
-IsPath s text room room' n n' (BadPath fault) = IsSomeAnd (root_table s) (λ root. Refuses s.loaded.schema root text fault) × (room' ≡ room) × (n' ≡ n)
-IsPath s text room room' n n' NoRoot = (root_table s ≡ None) × (room' ≡ room) × (n' ≡ n)
-IsPath s text room room' n n' _ = ⊥
+-- the path of a text, from the root that the options ask
+pub record IsResolved (l : Loaded) (o : Options) (text : List ℕ) (p : PlainPath) : Type 0 where
+  pub known : AreKnown o
+  pub from : IsSomeAnd (root_asked l o) (ResolvesTo l text p)
 
--- the same of a handle, where a session is held
-abbrev pub IsPathIn : Option Session → List ℕ → List PlainStep → List PlainStep → ℕ → ℕ → Answer → Type 0
-IsPathIn None text room room' n n' a = (a ≡ Empty) × (room' ≡ room) × (n' ≡ n)
-IsPathIn (Some s) text room room' n n' a = IsPath s text room room' n n' a
+-- why there is none
+abbrev pub IsUnresolved : Loaded → Options → List ℕ → Answer → Type 0
+IsUnresolved l o text UnknownOptions = AreKnown o → ⊥
+IsUnresolved l o text NoRoot = AreKnown o × (root_asked l o ≡ None)
+IsUnresolved l o text (BadPath fault) = AreKnown o × IsSomeAnd (root_asked l o) (λ root. Refuses l.schema root text fault)
+IsUnresolved l o text NoRoom = AreKnown o × IsSomeAnd (root_asked l o) (LacksRoom l text)
+IsUnresolved l o text _ = ⊥
 
--- the value at the end of these steps, told and copied
-pub record IsValue (s : Session) (o : Options) (b : List ℕ) (steps : List PlainStep) (value : Value) (room room' : List ℕ) (root : ℕ) : Type 0 where
-  pub shown : Shown
-  pub finds : Finds b s.loaded.schema (start_asked o) root steps shown
-  pub told : value ≡ value_told shown
-  pub copied : room' ≡ filled (bytes_of shown) room
+-- what is answered of a text, with the path before and after
+abbrev pub IsPathBy : Loaded → Options → List ℕ → PlainPath → PlainPath → Answer → Type 0
+IsPathBy l o text p p' Done = IsResolved l o text p'
+IsPathBy l o text p p' a = IsUnresolved l o text a × (p' ≡ p)
 
--- nothing was told of a value
-pub record IsUntold (v v' : Value) (room room' : List ℕ) : Type 0 where
-  pub value_is : v' ≡ v
-  pub room_is : room' ≡ room
+abbrev pub IsPath : Held → Options → List ℕ → PlainPath → PlainPath → Answer → Type 0
+IsPath (Schema l) o text p p' a = IsPathBy l o text p p' a
+IsPath (Room r) o text p p' a = (a ≡ NoRoot) × (p' ≡ p)
 
--- what is answered where the value in a buffer is asked for: what a check answers, with the value where the buffer is
--- good
-abbrev pub IsRead : Session → Options → List ℕ → List PlainStep → Value → Value → List ℕ → List ℕ → Answer → Type 0
-IsRead s o b steps v v' room room' (Good r) = IsChecked s o b (Good r) × IsSomeAnd (root_table s) (IsValue s o b steps v' room room')
-IsRead s o b steps v v' room room' Misfit = HasLimits s o × IsSomeAnd (root_table s) (λ root. DontFit s.loaded.schema root steps) × IsUntold v v' room room'
-IsRead s o b steps v v' room room' a = IsChecked s o b a × IsUntold v v' room room'
+-- the paths fit the schema from the root that the options ask
+abbrev pub AllFitAsked : Loaded → Options → List PlainPath → Type 0
+AllFitAsked l o paths = IsSomeAnd (root_asked l o) (λ root. AllFit l.schema root paths)
 
--- the same of a handle
-abbrev pub IsReadIn : Option Session → Options → List ℕ → List PlainStep → Value → Value → List ℕ → List ℕ → Answer → Type 0
-IsReadIn None o b steps v v' room room' a = (a ≡ Empty) × IsUntold v v' room room'
-IsReadIn (Some s) o b steps v v' room room' a = IsRead s o b steps v v' room room' a
+-- what is answered where the values in a buffer are asked for: where all paths fit, what a check answers, with the
+-- values of a good buffer; else that one doesn't, whatever is in the buffer
+abbrev pub IsRead : Loaded → ℕ → Options → List ℕ → List PlainPath → List Value → List Value → Answer → Type 0
+IsRead l n o b paths v v' (Good r) = IsChecked l n o b (Good r) × AllFitAsked l o paths × IsSomeAnd (root_asked l o) (λ root. AreValues b l.schema (start_asked o) root paths v')
+IsRead l n o b paths v v' (Bad f) = IsChecked l n o b (Bad f) × AllFitAsked l o paths × (v' ≡ v)
+IsRead l n o b paths v v' TooLong = IsChecked l n o b TooLong × AllFitAsked l o paths × (v' ≡ v)
+IsRead l n o b paths v v' Misfit = Serves l n o (λ root ident. AllFit l.schema root paths → ⊥) × (v' ≡ v)
+IsRead l n o b paths v v' a = IsChecked l n o b a × (v' ≡ v)
+
+abbrev pub IsReadBy : Held → ℕ → Options → List ℕ → List PlainPath → List Value → List Value → Answer → Type 0
+IsReadBy (Schema l) n o b paths v v' a = IsRead l n o b paths v v' a
+IsReadBy (Room r) n o b paths v v' a = (a ≡ NoRoot) × (v' ≡ v)

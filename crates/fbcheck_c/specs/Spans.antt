@@ -5,9 +5,9 @@ use Rattle.fbcheck_c.specs.declared.answer.Answer.{Answer}
 use Rattle.fbcheck_c.specs.declared.answer.Answer.TheVariants.{NoSpan}
 use Rattle.fbcheck_c.specs.declared.answer.Verdict.{Verdict}
 use Rattle.fbcheck_c.specs.declared.options.Options.{Options}
-use Rattle.fbcheck_c.specs.declared.session.Session.{Session}
+use Rattle.fbcheck_c.specs.declared.held.Held.{Held}
 use Rattle.fbcheck_c.specs.declared.spans.Span.{Span}
-use Rattle.fbcheck_c.specs.Answered.{IfHeld, IsChecked}
+use Rattle.fbcheck_c.specs.Answered.{IfSchema, IsChecked}
 use Rattle.fbcheck_c.specs.Told.{told}
 
 -- the bytes of a block that a span names, if it lies in the block
@@ -15,17 +15,17 @@ abbrev pub cut : List ℕ → Span → Option (List ℕ)
 cut block span = if nat_le (span.at + span.size) (length block) then Some (take span.size (drop span.at block)) else None
 
 -- what is answered of a span: what a check of its bytes answers, or that it doesn't lie in the block
-abbrev pub IsSpanChecked : Option Session → Options → List ℕ → Span → Answer → Type 0
-IsSpanChecked held o block span a = MatchOption (cut block span) (a ≡ NoSpan) (λ b. IfHeld held a (λ s. IsChecked s o b a))
+abbrev pub IsSpanChecked : Held → ℕ → Options → List ℕ → Span → Answer → Type 0
+IsSpanChecked held n o block span a = MatchOption (cut block span) (a ≡ NoSpan) (λ b. IfSchema held a (λ l. IsChecked l n o b a))
 
 -- a verdict tells such an answer
-abbrev pub IsSpanTold : Option Session → Options → List ℕ → Span → Verdict → Type 0
-IsSpanTold held o block span v = (a : Answer) × (v ≡ told a) × IsSpanChecked held o block span a
+abbrev pub IsSpanTold : Held → ℕ → Options → List ℕ → Span → Verdict → Type 0
+IsSpanTold held n o block span v = (a : Answer) × (v ≡ told a) × IsSpanChecked held n o block span a
 
 -- the verdict at each place tells that of the span at this place
-abbrev pub AreTold : Option Session → Options → List ℕ → List Span → List Verdict → Type 0
-AreTold held o block spans verdicts = (k : ℕ) → k < length spans → k < length verdicts
-    → (span : Span) (verdict : Verdict) → IsSpanTold held o block (slice_index_or spans k span) (slice_index_or verdicts k verdict)
+abbrev pub AreTold : Held → ℕ → Options → List ℕ → List Span → List Verdict → Type 0
+AreTold held n o block spans verdicts = (k : ℕ) → k < length spans → k < length verdicts
+    → (span : Span) (verdict : Verdict) → IsSpanTold held n o block (slice_index_or spans k span) (slice_index_or verdicts k verdict)
 
 -- 0 where each verdict is that of a good buffer, else 1
 abbrev pub all_good : List Verdict → ℕ

@@ -1,5 +1,5 @@
 -- How an answer is told in numbers.
-use Rattle.std.specs.Prelude.{ℕ, min, Option, Some, None}
+use Rattle.std.specs.Prelude.{ℕ, min, replicate, Option, Some, None}
 use Rattle.fb_schema.specs.declared.fault.Code.{Code}
 use Rattle.fb_schema.specs.declared.fault.Code.TheVariants.{NoSuchObject, NoSuchEnum, Unsupported, BadSlot, NoTypeField, BadStruct, BadMember, NameTwice, OutOfMemory as NoMemory}
 use Rattle.fb_verify.specs.declared.fault.Fault.{Fault}
@@ -11,7 +11,7 @@ use Rattle.fb_bytes.specs.declared.stream_fault.StreamFault.TheVariants as strea
 use Rattle.fb_bfbs.specs.declared.load_fault.LoadFault.{LoadFault}
 use Rattle.fb_bfbs.specs.declared.load_fault.LoadFault.TheVariants as load
 use Rattle.fbcheck_c.specs.declared.answer.Answer.{Answer}
-use Rattle.fbcheck_c.specs.declared.answer.Answer.TheVariants.{Done, Good, Bad, UnknownOptions, OutOfRange, Empty, NoRoot, TooLong, NoSchema, NoSpan, BadStream, BadPath, NoRoom, Misfit}
+use Rattle.fbcheck_c.specs.declared.answer.Answer.TheVariants.{Done, Good, Bad, UnknownOptions, OutOfRange, NoIdent, NoRoot, TooLong, NoSchema, NoSpan, BadStream, BadPath, NoRoom, Misfit}
 use Rattle.fbcheck_c.specs.declared.answer.Verdict.{Verdict}
 
 -- what is wrong with rows, by the number of its code
@@ -44,7 +44,7 @@ low reads = min reads 18446744073709551615
 
 -- a number, with nothing more to tell
 abbrev pub blank : ℕ → Verdict
-blank status = record { status = status; reason = 0; object = 0; field = none_number; tables = 0; depth = 0; at = 0; reads = 0 }
+blank status = record { status = status; reason = 0; object = 0; field = none_number; tables = 0; depth = 0; at = 0; reads = 0; reserved = replicate 3 0 }
 
 -- a fault of the verifier
 abbrev pub fault_told : ℕ → Fault → Verdict
@@ -87,7 +87,7 @@ told (Good r) = record (blank 0) { tables = r.tables; depth = r.depth; reads = l
 told (Bad f) = fault_told 1 f
 told UnknownOptions = blank 3
 told OutOfRange = blank 4
-told Empty = blank 5
+told NoIdent = blank 5
 told NoRoot = blank 6
 told TooLong = blank 7
 told (NoSchema fault) = load_told fault

@@ -22,13 +22,13 @@ pub enum Answer {
     Good(Report),
     /// 1: the buffer has this fault.
     Bad(Fault),
-    /// 3: the options have another version than 1.
+    /// 3: the options have another version than 1, or an unknown source of the identifier.
     UnknownOptions,
-    /// 4: a limit of depth, or the levels of a handle, are above 4,096, or the limit is above the levels.
+    /// 4: a limit of depth is above the room for open tables, or the room above 4,096 levels.
     OutOfRange,
-    /// 5: the handle holds no schema.
-    Empty,
-    /// 6: no root table was chosen, or none has this name.
+    /// 5: the schema's own identifier is asked for, and hasn't four bytes.
+    NoIdent,
+    /// 6: the schema has no root table of its own, or the number that is asked is no table's.
     NoRoot,
     /// 7: the buffer has 2^31 bytes or more.
     TooLong,
@@ -40,7 +40,7 @@ pub enum Answer {
     BadPath(PathFault),
     /// 18: there are more steps than there is room for.
     NoRoom,
-    /// 19: the steps don't fit from the root table.
+    /// 19: a path doesn't fit the schema from the root table.
     Misfit,
     /// 11 and 14 to 16: the stream of a framer isn't one of messages within its limit.
     BadStream(StreamFault),
@@ -64,10 +64,13 @@ pub struct Verdict {
     pub tables: u32,
     /// Of a good buffer, the most tables that were open at once, else 0.
     pub depth: u32,
-    /// With a reason, the position in bytes from the buffer's first, else 0.
+    /// With a reason, the position in bytes from the buffer's first; of a text that is no path, the place in it or the
+    /// number of the step; else 0.
     pub at: u64,
     /// The reads that were made, of a buffer or of a schema file that isn't well formed; 2^64 - 1 stands for more too.
     pub reads: u64,
+    /// Room for what later versions tell: 0.
+    pub reserved: [u64; 3],
 }
 
 /// The number of a reason, that of its code.
@@ -210,7 +213,7 @@ impl Answer {
             Answer::Bad(fault) => fault_told(1, fault),
             Answer::UnknownOptions => blank(3),
             Answer::OutOfRange => blank(4),
-            Answer::Empty => blank(5),
+            Answer::NoIdent => blank(5),
             Answer::NoRoot => blank(6),
             Answer::TooLong => blank(7),
             Answer::NoSchema(fault) => load_told(fault),

@@ -2,7 +2,7 @@
 
 ghost use Rattle.std.specs.Prelude.{◌≡◌, ◌↔◌, ◌≤◌, ◌<◌, ◌^◌, IsTrue, length};
 ghost use Rattle.fb_bytes.specs.Messages.{IsMessage, declared};
-ghost use Rattle.fbcheck_c.specs.Framers.{IsFed, IsFilled, IsFinished, IsKept, IsNext, IsRoom, framing};
+ghost use Rattle.fbcheck_c.specs.Framers.{IsFed, IsFilled, IsFinished, IsKept, IsNext, IsRoom, KeepsNumber, framing};
 
 use crate::answer::Answer;
 use fb_bytes::{Meter, StreamFault, Taken};
@@ -70,6 +70,7 @@ impl Framer {
     /// came that declares more than there is room for, and with S4 where this framer has failed before.
     pub fn feed(&mut self, room: &mut [u8], piece: &[u8]) -> Result<Taken, Answer>
         ensures fed { IsFed room.old self.old piece.now room.new self.new result }
+        ensures number { KeepsNumber self.old self.new result }
         ensures kept { IsKept room.old self.old → IsKept room.new self.new }
     {
         if !is_room(room.len()) {
@@ -114,6 +115,7 @@ impl Framer {
     /// `Done`, or `OutOfRange` as [`Framer::feed`] has it.
     pub fn next(&mut self, room: &[u8]) -> Answer
         ensures next { IsNext room.now self.old self.new result }
+        ensures number { self.new.declared ≡ self.old.declared }
         ensures kept { IsKept room.now self.old → IsKept room.now self.new }
     {
         if !is_room(room.len()) {
@@ -131,6 +133,7 @@ impl Framer {
     /// where this framer has failed before.
     pub fn finish(&mut self, room: &[u8]) -> Answer
         ensures finished { IsFinished room.now self.old self.new result }
+        ensures number { self.new.declared ≡ self.old.declared }
         ensures kept { IsKept room.now self.old → IsKept room.now self.new }
     {
         if !is_room(room.len()) {

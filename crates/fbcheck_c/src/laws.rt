@@ -1,8 +1,8 @@
 //! What follows from the definitions of answers alone. These functions have no body: their contracts are the theorems.
 
-ghost use Rattle.fbcheck_c.specs.AnswerLaws.{BadGetsNo, GoodGetsYes};
+ghost use Rattle.fbcheck_c.specs.AnswerLaws.{BadGetsNo, GoodGetsYes, ValuesStand};
 
-/// Where the session and the options can serve a buffer, and some tree of it is well formed and within the limits, the
+/// Where the schema, the room and the options can serve a buffer, and some tree of it is well formed and within the limits, the
 /// answer is 0.
 pub fn a_good_buffer_gets_a_yes()
     ensures { GoodGetsYes }
@@ -11,4 +11,9 @@ pub fn a_good_buffer_gets_a_yes()
 /// Where they can, and none is, the answer is 1.
 pub fn a_bad_buffer_gets_a_no()
     ensures { BadGetsNo }
+{}
+
+/// The bytes that are told of a float, a string and a struct are its value; what has no bytes is told none.
+pub fn a_value_stands_where_told()
+    ensures { ValuesStand }
 {}

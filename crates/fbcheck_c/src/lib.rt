@@ -1,40 +1,48 @@
-//! The verifier for C: a handle on a loaded schema, and the calls that load it and check buffers by it.
+//! The verifier for C: a schema that any number of threads share, and the calls that check buffers by it.
 //!
 //! `include/fbcheck.h` has the prototypes that a caller sees. `c/fbcheck.c` stands between: it tests each pointer
 //! against null, and then calls these, whose names end in `_proved`.
 #![tactic(auto)]
 
 ghost use Rattle.std.specs.Prelude.{◌≡◌, ℕ, List, None, Option, length, take};
-ghost use Rattle.fbcheck_c.specs.Answered.{IfHeld, IsChecked, IsChosenIn, IsPriceTold, IsTaken};
+ghost use Rattle.fbcheck_c.specs.Answered.{IfSchema, IsChecked, IsPriceTold, IsRoomMade, IsTaken, levels};
 ghost use Rattle.fbcheck_c.specs.Asked.{published};
 ghost use Rattle.fbcheck_c.specs.Framers.{IsFedTold, IsFinished, IsKept, IsNext};
-ghost use Rattle.fbcheck_c.specs.Names.{IsNameTold, IsReasonName, field_name, held_name, object_name};
-ghost use Rattle.fbcheck_c.specs.Reached.{IsPathIn, IsReadIn};
+ghost use Rattle.fbcheck_c.specs.Names.{IsNameTold, IsReasonName, field_name, held_name, object_name, table_number};
+ghost use Rattle.fbcheck_c.specs.Placed.{IsLocatedBy};
+ghost use Rattle.fbcheck_c.specs.Reached.{IsPath, IsReadBy};
 ghost use Rattle.fbcheck_c.specs.Spans.{AreTold, all_good};
 ghost use Rattle.fbcheck_c.specs.Told.{told};
 ghost use Rattle.fbcheck_c.specs.declared.answer.Answer.{Answer};
 
 mod answer;
+mod checking;
 mod detached;
+mod fits;
 mod framer;
 mod handle;
+mod held;
 mod laws;
 mod names;
 mod options;
-mod session;
+mod place;
+mod shared;
 mod spans;
 mod steps;
 mod values;
 
 use answer::Verdict;
+use checking::{check, price, read, resolve};
 use fb_bytes::Taken;
 use framer::Framer;
 use handle::Handle;
-use names::reason_told;
+use names::{field_told, object_told, reason_told, table_of};
 use options::Options;
-use spans::{Span, all_good};
+use place::locate;
+use shared::Shared;
+use spans::{Span, all_good, check_each};
 use std::alloc::Global;
-use steps::PlainStep;
+use steps::PlainPath;
 use values::Value;
 
 /// How many bytes the structs take that cross to C.
@@ -43,10 +51,9 @@ use values::Value;
 pub struct Sizes {
     pub options: usize,
     pub verdict: usize,
-    pub handle: usize,
     pub span: usize,
     pub framer: usize,
-    pub step: usize,
+    pub path: usize,
     pub value: usize,
 }
 
@@ -54,28 +61,25 @@ const OPTIONS_SIZE: usize = size_of::<Options>();
 
 const VERDICT_SIZE: usize = size_of::<Verdict>();
 
-const HANDLE_SIZE: usize = size_of::<Handle>();
-
 const SPAN_SIZE: usize = size_of::<Span>();
 
 const FRAMER_SIZE: usize = size_of::<Framer>();
 
-const STEP_SIZE: usize = size_of::<PlainStep>();
+const PATH_SIZE: usize = size_of::<PlainPath>();
 
 const VALUE_SIZE: usize = size_of::<Value>();
 
 /// Tells the sizes of the structs.
 #[unsafe(no_mangle)]
 pub extern "C" fn fbcheck_sizes_proved(sizes: &mut Sizes)
-    ensures { sizes.new ≡ record { options = 64; verdict = 40; handle = 8; span = 16; framer = 16; step = 8; value = 32 } }
+    ensures { sizes.new ≡ record { options = 64; verdict = 64; span = 16; framer = 16; path = 256; value = 40 } }
 {
     *sizes = Sizes {
         options: OPTIONS_SIZE,
         verdict: VERDICT_SIZE,
-        handle: HANDLE_SIZE,
         span: SPAN_SIZE,
         framer: FRAMER_SIZE,
-        step: STEP_SIZE,
+        path: PATH_SIZE,
         value: VALUE_SIZE,
     };
 }
@@ -88,8 +92,8 @@ pub extern "C" fn fbcheck_options_proved(options: &mut Options)
     *options = Options::published();
 }
 
-/// Loads a schema file (`.bfbs`) into a handle, within the limits of the options, with room for as many open tables as
-/// their depth. The handle keeps the file's bytes borrowed.
+/// Loads a schema file (`.bfbs`) into a handle, within the limits of the options. What the handle holds keeps the
+/// file's bytes borrowed.
 ///
 /// Where it was done, what the handle held is freed; else it holds what it held.
 #[unsafe(no_mangle)]
@@ -100,7 +104,7 @@ pub extern "C" fn fbcheck_load_proved(
     options: &Options,
     verdict: &mut Verdict,
 ) -> u32
-    ensures told { (a : Answer) × (verdict.new ≡ told a) × IsTaken file.now options.now handle.old.session handle.new.session a }
+    ensures told { (a : Answer) × (verdict.new ≡ told a) × IsTaken file.now options.now handle.old.inside handle.new.inside a }
     ensures status { result ≡ verdict.new.status }
 {
     let why = handle.load(alloc, file, options).told();
@@ -108,28 +112,47 @@ pub extern "C" fn fbcheck_load_proved(
     why.status
 }
 
-/// Chooses the root table of a handle by its name, with its namespace.
+/// Makes room for so many open tables in a handle.
+///
+/// Where it was done, what the handle held is freed; else it holds what it held.
 #[unsafe(no_mangle)]
-pub extern "C" fn fbcheck_choose_root_proved(alloc: Global, handle: &mut Handle, name: &[u8]) -> u32
-    ensures { (a : Answer) × (result ≡ (told a).status) × IsChosenIn handle.old.session name.now handle.new.session a }
+pub extern "C" fn fbcheck_room_proved(alloc: Global, handle: &mut Handle, depth: u32) -> u32
+    ensures { (a : Answer) × (result ≡ (told a).status) × IsRoomMade depth handle.old.inside handle.new.inside a }
 {
-    handle.choose_root(alloc, name).told().status
+    handle.make_room(alloc, depth).told().status
 }
 
-/// Checks one buffer by the schema of a handle.
+/// Frees what a handle holds. It holds nothing then.
+#[unsafe(no_mangle)]
+pub extern "C" fn fbcheck_free_proved(alloc: Global, handle: &mut Handle)
+    ensures { handle.new.inside ≡ None }
+{
+    handle.free(alloc);
+}
+
+/// The number of a table by its name, with its namespace; 2^32 - 2 where there is none.
+#[unsafe(no_mangle)]
+pub extern "C" fn fbcheck_table_proved(schema: Shared, name: &[u8]) -> u32
+    ensures { result ≡ table_number schema.held name.now }
+{
+    table_of(schema.held(), name)
+}
+
+/// Checks one buffer by a schema, in the room of a handle, or on the call's own stack where it holds none.
 #[unsafe(no_mangle)]
 pub extern "C" fn fbcheck_verify_proved(
     alloc: Global,
-    handle: &mut Handle,
+    schema: Shared,
+    room: &mut Handle,
     options: &Options,
     buffer: &[u8],
     verdict: &mut Verdict,
 ) -> u32
-    ensures told { (a : Answer) × (verdict.new ≡ told a) × IfHeld handle.old.session a (λ s. IsChecked s options.now buffer.now a) }
+    ensures told { (a : Answer) × (verdict.new ≡ told a) × IfSchema schema.held a (λ l. IsChecked l (levels room.old.inside) options.now buffer.now a) }
     ensures status { result ≡ verdict.new.status }
-    ensures kept { handle.new.session ≡ handle.old.session }
+    ensures kept { room.new.inside ≡ room.old.inside }
 {
-    let told = handle.check(alloc, options, buffer).told();
+    let told = check(alloc, schema.held(), room, options, buffer).told();
     *verdict = told;
     told.status
 }
@@ -139,18 +162,131 @@ pub extern "C" fn fbcheck_verify_proved(
 #[unsafe(no_mangle)]
 pub extern "C" fn fbcheck_verify_each_proved(
     alloc: Global,
-    handle: &mut Handle,
+    schema: Shared,
+    room: &mut Handle,
     options: &Options,
     block: &[u8],
     spans: &[Span],
     verdicts: &mut [Verdict],
 ) -> u32
-    ensures told { AreTold handle.old.session options.now block.now spans.now verdicts.new }
+    ensures told { AreTold schema.held (levels room.old.inside) options.now block.now spans.now verdicts.new }
     ensures good { result ≡ all_good (take (length spans.now) verdicts.new) }
-    ensures kept { handle.new.session ≡ handle.old.session }
+    ensures kept { room.new.inside ≡ room.old.inside }
 {
-    handle.check_each(alloc, options, block, spans, verdicts);
+    check_each(alloc, schema.held(), room, options, block, spans, verdicts);
     all_good(verdicts, spans.len())
+}
+
+/// Checks one buffer as [`fbcheck_verify_proved`] does, and writes where the fault of a bad one is, in words: as much as
+/// there is room for. Tells how long the whole is.
+#[unsafe(no_mangle)]
+pub extern "C" fn fbcheck_locate_proved(
+    alloc: Global,
+    schema: Shared,
+    room: &mut Handle,
+    options: &Options,
+    buffer: &[u8],
+    text: &mut [u8],
+    written: &mut usize,
+    verdict: &mut Verdict,
+) -> u32
+    ensures told { (a : Answer) × (verdict.new ≡ told a) × IsLocatedBy schema.held (levels room.old.inside) options.now buffer.now text.old text.new written.new a }
+    ensures status { result ≡ verdict.new.status }
+    ensures kept { levels room.new.inside ≡ levels room.old.inside }
+{
+    let located = locate(alloc, schema.held(), room, options, buffer, text, written);
+    let place = located.told();
+    *verdict = place;
+    place.status
+}
+
+/// Writes the path that a text names from the root table.
+#[unsafe(no_mangle)]
+pub extern "C" fn fbcheck_resolve_proved(
+    alloc: Global,
+    schema: Shared,
+    options: &Options,
+    text: &[u8],
+    path: &mut PlainPath,
+    verdict: &mut Verdict,
+) -> u32
+    ensures told { (a : Answer) × (verdict.new ≡ told a) × IsPath schema.held options.now text.now path.old path.new a }
+    ensures status { result ≡ verdict.new.status }
+{
+    let resolved = resolve(alloc, schema.held(), options, text, path).told();
+    *verdict = resolved;
+    resolved.status
+}
+
+/// Checks one buffer, and tells of a good one the values at the ends of these paths from the root table, each at the
+/// place of its path.
+#[unsafe(no_mangle)]
+pub extern "C" fn fbcheck_read_proved(
+    alloc: Global,
+    schema: Shared,
+    room: &mut Handle,
+    options: &Options,
+    buffer: &[u8],
+    paths: &[PlainPath],
+    values: &mut [Value],
+    verdict: &mut Verdict,
+) -> u32
+    ensures told { (a : Answer) × (verdict.new ≡ told a) × IsReadBy schema.held (levels room.old.inside) options.now buffer.now paths.now values.old values.new a }
+    ensures status { result ≡ verdict.new.status }
+    ensures kept { room.new.inside ≡ room.old.inside }
+{
+    let answer = read(alloc, schema.held(), room, options, buffer, paths, values);
+    let why = answer.told();
+    *verdict = why;
+    why.status
+}
+
+/// Tells how many reads a check of so many bytes makes at most.
+#[unsafe(no_mangle)]
+pub extern "C" fn fbcheck_most_reads_proved(
+    schema: Shared,
+    options: &Options,
+    length: u64,
+    reads: &mut u64,
+) -> u32
+    ensures { IsPriceTold schema.held options.now length reads.old reads.new result }
+{
+    match price(schema.held(), options, length) {
+        Ok(most) => {
+            *reads = most;
+            0
+        }
+        Err(answer) => answer.told().status,
+    }
+}
+
+/// Copies the code and name of a reason by its number.
+#[unsafe(no_mangle)]
+pub extern "C" fn fbcheck_reason_name_proved(number: u32, room: &mut [u8]) -> usize
+    ensures { (name : Option (List ℕ)) × IsReasonName number name × IsNameTold name room.old room.new result }
+{
+    reason_told(number, room)
+}
+
+/// Copies the name of an object by its number.
+#[unsafe(no_mangle)]
+pub extern "C" fn fbcheck_object_name_proved(schema: Shared, object: u32, room: &mut [u8]) -> usize
+    ensures { IsNameTold (held_name schema.held (λ rows. object_name rows object)) room.old room.new result }
+{
+    object_told(schema.held(), object, room)
+}
+
+/// Copies the name of a live field by its number and that of its table.
+#[unsafe(no_mangle)]
+pub extern "C" fn fbcheck_field_name_proved(
+    schema: Shared,
+    object: u32,
+    number: u32,
+    room: &mut [u8],
+) -> usize
+    ensures { IsNameTold (held_name schema.held (λ rows. field_name rows object number)) room.old room.new result }
+{
+    field_told(schema.held(), object, number, room)
 }
 
 /// Feeds a framer a piece of its stream, as [`Framer::feed`] does, and tells how many bytes it took. 0 where a whole
@@ -178,6 +314,7 @@ pub extern "C" fn fbcheck_framer_feed_proved(
 #[unsafe(no_mangle)]
 pub extern "C" fn fbcheck_framer_next_proved(framer: &mut Framer, room: &[u8]) -> u32
     ensures told { (a : Answer) × (result ≡ (told a).status) × IsNext room.now framer.old framer.new a }
+    ensures number { framer.new.declared ≡ framer.old.declared }
     ensures kept { IsKept room.now framer.old → IsKept room.now framer.new }
 {
     framer.next(room).told().status
@@ -187,116 +324,8 @@ pub extern "C" fn fbcheck_framer_next_proved(framer: &mut Framer, room: &[u8]) -
 #[unsafe(no_mangle)]
 pub extern "C" fn fbcheck_framer_finish_proved(framer: &mut Framer, room: &[u8]) -> u32
     ensures told { (a : Answer) × (result ≡ (told a).status) × IsFinished room.now framer.old framer.new a }
+    ensures number { framer.new.declared ≡ framer.old.declared }
     ensures kept { IsKept room.now framer.old → IsKept room.now framer.new }
 {
     framer.finish(room).told().status
-}
-
-/// Writes the steps of the path that a text names from the root table, where there is room for all of them, and tells
-/// how many they are.
-#[unsafe(no_mangle)]
-pub extern "C" fn fbcheck_resolve_proved(
-    alloc: Global,
-    handle: &mut Handle,
-    text: &[u8],
-    steps: &mut [PlainStep],
-    count: &mut usize,
-    verdict: &mut Verdict,
-) -> u32
-    ensures told { (a : Answer) × (verdict.new ≡ told a) × IsPathIn handle.old.session text.now steps.old steps.new count.old count.new a }
-    ensures status { result ≡ verdict.new.status }
-    ensures kept { handle.new.session ≡ handle.old.session }
-{
-    let path = handle.resolve(alloc, text, steps, count).told();
-    *verdict = path;
-    path.status
-}
-
-/// Checks one buffer, and tells of a good one the value at the end of these steps from the root table.
-#[unsafe(no_mangle)]
-pub extern "C" fn fbcheck_read_proved(
-    alloc: Global,
-    handle: &mut Handle,
-    options: &Options,
-    buffer: &[u8],
-    steps: &[PlainStep],
-    value: &mut Value,
-    room: &mut [u8],
-    verdict: &mut Verdict,
-) -> u32
-    ensures told { (a : Answer) × (verdict.new ≡ told a) × IsReadIn handle.old.session options.now buffer.now steps.now value.old value.new room.old room.new a }
-    ensures status { result ≡ verdict.new.status }
-    ensures kept { handle.new.session ≡ handle.old.session }
-{
-    let read = handle
-        .read(alloc, options, buffer, steps, value, room)
-        .told();
-    *verdict = read;
-    read.status
-}
-
-/// Tells how many reads a check of so many bytes makes at most.
-#[unsafe(no_mangle)]
-pub extern "C" fn fbcheck_most_reads_proved(
-    alloc: Global,
-    handle: &mut Handle,
-    options: &Options,
-    length: u64,
-    reads: &mut u64,
-) -> u32
-    ensures told { IsPriceTold handle.old.session options.now length reads.old reads.new result }
-    ensures kept { handle.new.session ≡ handle.old.session }
-{
-    match handle.most_reads(alloc, options, length) {
-        Ok(most) => {
-            *reads = most;
-            0
-        }
-        Err(answer) => answer.told().status,
-    }
-}
-
-/// Frees what a handle holds. It holds nothing then.
-#[unsafe(no_mangle)]
-pub extern "C" fn fbcheck_free_proved(alloc: Global, handle: &mut Handle)
-    ensures { handle.new.session ≡ None }
-{
-    handle.free(alloc);
-}
-
-/// Copies the code and name of a reason by its number.
-#[unsafe(no_mangle)]
-pub extern "C" fn fbcheck_reason_name_proved(number: u32, room: &mut [u8]) -> usize
-    ensures { (name : Option (List ℕ)) × IsReasonName number name × IsNameTold name room.old room.new result }
-{
-    reason_told(number, room)
-}
-
-/// Copies the name of an object by its number.
-#[unsafe(no_mangle)]
-pub extern "C" fn fbcheck_object_name_proved(
-    alloc: Global,
-    handle: &mut Handle,
-    object: u32,
-    room: &mut [u8],
-) -> usize
-    ensures name { IsNameTold (held_name handle.old.session (λ rows. object_name rows object)) room.old room.new result }
-    ensures kept { handle.new.session ≡ handle.old.session }
-{
-    handle.object_name(alloc, object, room)
-}
-
-/// Copies the name of a live field by its number and that of its table.
-#[unsafe(no_mangle)]
-pub extern "C" fn fbcheck_field_name_proved(
-    alloc: Global,
-    handle: &mut Handle,
-    object: u32,
-    number: u32,
-    room: &mut [u8],
-) -> usize
-    ensures name { IsNameTold (held_name handle.old.session (λ rows. field_name rows object number)) room.old room.new result }
-    ensures kept { handle.new.session ≡ handle.old.session }
-{
-    handle.field_name(alloc, object, number, room)
 }

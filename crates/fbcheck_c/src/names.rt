@@ -1,9 +1,11 @@
 //! Names by their numbers, copied into room that a caller gives.
 
 ghost use Rattle.std.specs.Prelude.{◌≡◌, ℕ, List, MatchOption, Option, length, option_map};
-ghost use Rattle.fbcheck_c.specs.Names.{IsNameTold, IsReasonName, NumbersNothing, field_name, filled, object_name};
+ghost use Rattle.fbcheck_c.specs.Names.{IsNameTold, IsReasonName, NumbersNothing, field_name, filled, held_name, object_name, table_number};
 ghost use Rattle.fb_verify.specs.Reasons.{reason_number};
 
+use crate::held::Held;
+use crate::options::NO_TABLE;
 use fb_schema::Schema;
 use fb_verify::Reason;
 
@@ -85,5 +87,35 @@ pub fn reason_told(number: u32, room: &mut [u8]) -> usize
     match reason_of(number) {
         Some(reason) => copied(reason.text().as_bytes(), room),
         None => 0,
+    }
+}
+
+/// Copies the name of the object with this number. Its length, 0 where there is none.
+pub fn object_told(held: &Held, object: u32, room: &mut [u8]) -> usize
+    ensures { IsNameTold (held_name held.now (λ rows. object_name rows object)) room.old room.new result }
+{
+    match held {
+        Held::Schema(loaded) => told(object_name(&loaded.schema, object), room),
+        Held::Room(_) => 0,
+    }
+}
+
+/// Copies the name of the live field with this number, of the table with that one. Its length, 0 where there is none.
+pub fn field_told(held: &Held, object: u32, number: u32, room: &mut [u8]) -> usize
+    ensures { IsNameTold (held_name held.now (λ rows. field_name rows object number)) room.old room.new result }
+{
+    match held {
+        Held::Schema(loaded) => told(field_name(&loaded.schema, object, number), room),
+        Held::Room(_) => 0,
+    }
+}
+
+/// The number of the table with this name, and that of none where there is none.
+pub fn table_of(held: &Held, name: &[u8]) -> u32
+    ensures { result ≡ table_number held.now name.now }
+{
+    match held {
+        Held::Schema(loaded) => loaded.schema.table_named(name).unwrap_or(NO_TABLE),
+        Held::Room(_) => NO_TABLE,
     }
 }

@@ -2,9 +2,15 @@
 
 ghost use Rattle.std.specs.Prelude.{◌≡◌, ◌==◌, option_map, take};
 ghost use Rattle.std.specs.List.{list_all};
-ghost use Rattle.fbcheck_c.specs.Spans.{all_good, cut};
+ghost use Rattle.fbcheck_c.specs.Answered.{levels};
+ghost use Rattle.fbcheck_c.specs.Spans.{AreTold, IsSpanChecked, all_good, cut};
 
-use crate::answer::Verdict;
+use crate::answer::{Answer, Verdict};
+use crate::checking::check;
+use crate::handle::Handle;
+use crate::held::Held;
+use crate::options::Options;
+use std::alloc::Global;
 
 /// Where a buffer lies in a block of bytes (`fbcheck_span`).
 #[repr(C)]
@@ -26,6 +32,45 @@ impl Span {
             return None;
         }
         Some(&block[at..at + size])
+    }
+}
+
+/// Checks the buffer that a span names in a block of bytes, as [`check`] does.
+fn check_span(
+    alloc: Global,
+    held: &Held,
+    handle: &mut Handle,
+    options: &Options,
+    block: &[u8],
+    span: &Span,
+) -> Answer
+    ensures answer { IsSpanChecked held.now (levels handle.old.inside) options.now block.now span.now result }
+    ensures kept { handle.new.inside ≡ handle.old.inside }
+{
+    match span.cut(block) {
+        Some(buffer) => check(alloc, held, handle, options, buffer),
+        None => Answer::NoSpan,
+    }
+}
+
+/// Checks the buffers that spans name in a block of bytes, each as [`check`] does, and tells each verdict at the place
+/// of its span. Where there are more of spans or of verdicts than of the others, these are left alone.
+pub fn check_each(
+    alloc: Global,
+    held: &Held,
+    handle: &mut Handle,
+    options: &Options,
+    block: &[u8],
+    spans: &[Span],
+    verdicts: &mut [Verdict],
+)
+    ensures told { AreTold held.now (levels handle.old.inside) options.now block.now spans.now verdicts.new }
+    ensures kept { handle.new.inside ≡ handle.old.inside }
+{
+    let count = spans.len().min(verdicts.len());
+    for place in 0..count {
+        let answer = check_span(alloc, held, handle, options, block, &spans[place]);
+        verdicts[place] = answer.told();
     }
 }
 

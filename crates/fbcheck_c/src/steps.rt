@@ -1,7 +1,7 @@
-//! The steps of a path as C has them.
+//! A path as C has it.
 
-ghost use Rattle.std.specs.Prelude.{◌≡◌, Some};
-ghost use Rattle.fbcheck_c.specs.Steps.{AreWritten, step_of};
+ghost use Rattle.std.specs.Prelude.{◌≡◌, ◌<◌, MatchOption, Some, length, option_map};
+ghost use Rattle.fbcheck_c.specs.Steps.{AreWritten, IsPathOf, step_of, steps_in};
 
 use fb_access::Step;
 
@@ -13,6 +13,24 @@ pub struct PlainStep {
     pub kind: u32,
     /// The field's number, the element's, or the member's value.
     pub number: u32,
+}
+
+/// The most steps of a path.
+const STEPS: u32 = 31;
+
+/// What stands where a path has no step.
+const NO_STEP: PlainStep = PlainStep { kind: 0, number: 0 };
+
+/// A path that was resolved (`fbcheck_path`).
+#[repr(C)]
+#[derive(Clone, Copy)]
+pub struct PlainPath {
+    /// How many steps it has.
+    pub count: u32,
+    /// 0.
+    pub reserved: u32,
+    /// The steps, from the first on; behind them zeros.
+    pub steps: [PlainStep; 31],
 }
 
 impl PlainStep {
@@ -53,4 +71,31 @@ pub fn write_steps(path: &[Step], room: &mut [PlainStep]) -> bool
         room[place] = PlainStep::of(path[place]);
     }
     true
+}
+
+impl PlainPath {
+    /// The path of these steps, none where they are more than 31.
+    pub fn of(path: &[Step]) -> Option<PlainPath>
+        ensures { MatchOption result (31 < length path.now) (IsPathOf path.now) }
+    {
+        let mut steps = [NO_STEP; 31];
+        if !write_steps(path, &mut steps) {
+            return None;
+        }
+        Some(PlainPath {
+            count: path.len() as u32,
+            reserved: 0,
+            steps,
+        })
+    }
+
+    /// Its steps, none where they are said to be more than 31.
+    pub fn steps(&self) -> Option<&[PlainStep]>
+        ensures { option_map (λ s. s.now) result ≡ steps_in self.now }
+    {
+        if self.count > STEPS {
+            return None;
+        }
+        Some(&self.steps[..self.count as usize])
+    }
 }

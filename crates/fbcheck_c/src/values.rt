@@ -1,14 +1,13 @@
 //! The value at the end of a path, for C.
 
-ghost use Rattle.std.specs.Prelude.{◌≡◌, IfNone, IfSome, length};
+ghost use Rattle.std.specs.Prelude.{◌≡◌, IfNone, IfSome};
 ghost use Rattle.fb_access.specs.Denotes.{shown};
-ghost use Rattle.fbcheck_c.specs.Names.{filled};
-ghost use Rattle.fbcheck_c.specs.Steps.{DontFit, Finds};
-ghost use Rattle.fbcheck_c.specs.Values.{bytes_of, numbered, plain, sized, value_told};
+ghost use Rattle.fb_access.specs.declared.spot.Spot.{Spot};
+ghost use Rattle.fbcheck_c.specs.Steps.{AllFit, DontFit, EndAt};
+ghost use Rattle.fbcheck_c.specs.Values.{AreValues, numbered, placed, plain, value_at, value_told};
 
-use crate::names::copied;
-use crate::steps::PlainStep;
-use fb_access::{Answer as Found, at_root};
+use crate::steps::{PlainPath, PlainStep};
+use fb_access::{Answer as Found, Extent, at_root};
 use fb_verify::Verified;
 
 /// What is told of a value (`fbcheck_value`). What isn't told is 0.
@@ -25,7 +24,9 @@ pub struct Value {
     pub number: u64,
     /// Of a Byte, Short, Int or Long, the number.
     pub integer: i64,
-    /// Of a float, a string or a struct, how many bytes it has.
+    /// Of a float, a string, a struct and a vector of scalars or structs, the place of its first byte in the buffer.
+    pub at: u64,
+    /// Of these, how many bytes it has.
     pub size: u64,
 }
 
@@ -49,21 +50,9 @@ fn numbered(kind: u32, number: u64) -> Value
     }
 }
 
-/// A value of this kind with bytes, which are copied where there is room.
-fn with_bytes(kind: u32, bytes: &[u8], room: &mut [u8]) -> Value
-    ensures value { result ≡ sized kind (length bytes.now) }
-    ensures room { room.new ≡ filled bytes.now room.old }
-{
-    Value {
-        size: copied(bytes, room) as u64,
-        ..plain(kind)
-    }
-}
-
-/// What is told of a value, whose bytes are copied where it has any and there is room for them.
-pub fn told_value(found: Found<'_>, room: &mut [u8]) -> Value
-    ensures value { result ≡ value_told (shown found.entry) }
-    ensures room { room.new ≡ filled (bytes_of (shown found.entry)) room.old }
+/// What is told of a value without where it stands.
+fn told_value(found: Found<'_>) -> Value
+    ensures { result ≡ value_told (shown found.entry) }
 {
     match found {
         Found::Absent => plain(0),
@@ -75,18 +64,28 @@ pub fn told_value(found: Found<'_>, room: &mut [u8]) -> Value
             ..plain(4)
         },
         Found::UInt(number) => numbered(5, number),
-        Found::Float(bytes) => with_bytes(6, bytes, room),
-        Found::Text(bytes) => with_bytes(7, bytes, room),
-        Found::Struct(bytes) => with_bytes(8, bytes, room),
+        Found::Float(_) => plain(6),
+        Found::Text(_) => plain(7),
+        Found::Struct(_) => plain(8),
         Found::Vector(count) => numbered(9, u64::from(count)),
         Found::Table => plain(10),
         Found::Union(value) => numbered(11, u64::from(value)),
     }
 }
 
+/// A value with where its bytes stand, where it has any.
+fn placed(value: Value, extent: Option<Extent>) -> Value
+    ensures { result ≡ placed value extent }
+{
+    match extent {
+        Some(Extent { at, size }) => Value { at, size, ..value },
+        None => value,
+    }
+}
+
 /// What stands at the end of these steps from the root table, none where they don't fit.
-pub fn found_at<'b>(verified: &Verified<'b, '_, '_>, steps: &[PlainStep]) -> Option<Found<'b>>
-    ensures found { IfSome result (λ a. Finds (verified.now).bytes (verified.now).schema (verified.now).start (verified.now).root steps.now (shown a)) }
+fn found_at(verified: &Verified<'_, '_, '_>, steps: &[PlainStep]) -> Option<Value>
+    ensures found { IfSome result (λ v. (q : Spot) × EndAt (verified.now).bytes (verified.now).schema (verified.now).start (verified.now).root steps.now q × (v ≡ value_at (verified.now).bytes (verified.now).schema q)) }
     ensures misfit { IfNone result (DontFit (verified.now).schema (verified.now).root steps.now) }
 {
     let mut place = at_root(verified);
@@ -99,5 +98,23 @@ pub fn found_at<'b>(verified: &Verified<'b, '_, '_>, steps: &[PlainStep]) -> Opt
         }
         place = place.go(step);
     }
-    Some(place.answer())
+    Some(placed(told_value(place.answer()), place.extent()))
+}
+
+/// Tells the values at the ends of paths that fit, each at the place of its path. Where there are more of paths or of
+/// values than of the others, these are left alone.
+pub fn tell_values(verified: &Verified<'_, '_, '_>, paths: &[PlainPath], values: &mut [Value])
+    requires { AllFit (verified.now).schema (verified.now).root paths.now }
+    ensures { AreValues (verified.now).bytes (verified.now).schema (verified.now).start (verified.now).root paths.now values.new }
+{
+    let count = paths.len().min(values.len());
+    for place in 0..count {
+        let Some(steps) = paths[place].steps() else {
+            unreachable!()
+        };
+        let Some(value) = found_at(verified, steps) else {
+            unreachable!()
+        };
+        values[place] = value;
+    }
 }

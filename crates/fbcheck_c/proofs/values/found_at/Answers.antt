@@ -1,9 +1,11 @@
-use Rattle.std.proofs.Common.{◌≡◌, ◌∙◌, ◌+◌, ◌<◌, [], ◌∷◌, refl, sym, subst, add-one, drop, drop-cons, get_or, length, arith, Some}
+use Rattle.std.proofs.Common.{ap, ◌≡◌, ◌∙◌, ◌+◌, ◌<◌, [], ◌∷◌, refl, sym, subst, add-one, drop, drop-cons, get_or, length, arith, Some}
 use Rattle.std.proofs.lemmas.List.{drop_all}
-use Rattle.fb_access.specs.Denotes.{shown}
+use Rattle.fb_access.specs.Denotes.{shown, value}
+use Rattle.fb_access.specs.Extents.{extent}
+use Rattle.fbcheck_c.specs.Values.{placed, value_told}
 use Rattle.fbcheck_c.specs.declared.steps.PlainStep.{PlainStep}
-use Rattle.fbcheck_c.specs.Steps.{AreSteps, Finds, step_of}
-use Rattle.fbcheck_c.proofs.StepLemmas.{FitHere, IsShownBy, fit_more, shows_more}
+use Rattle.fbcheck_c.specs.Steps.{AreSteps, EndAt, step_of}
+use Rattle.fbcheck_c.proofs.StepLemmas.{FitHere, IsReachedBy, fit_more, reaches_more}
 use Rattle.fbcheck_c.proofs.values.found_at.Goals as goal
 
 pub loop-given-preserved : goal.loop-given-preserved
@@ -21,9 +23,9 @@ loop-given-preserved c =
     let cons : drop i steps ≡ given ∷ drop (i + 1) steps = rw add-one (drop-cons steps i none within) in
     record {
       same = c.go-place.ensures.same ∙ c.loop-given.invariant.same;
-      shown = shows_more v.schema p given (drop (i + 1) steps) v.bytes (Finds v.bytes v.schema v.start v.root steps) s q found
+      reached = reaches_more v.schema p given (drop (i + 1) steps) v.bytes (EndAt v.bytes v.schema v.start v.root steps) s q found
           (rw c.loop-given.invariant.same at c.go-place.ensures.leads)
-          (subst (λ rest. IsShownBy v.bytes v.schema p rest (Finds v.bytes v.schema v.start v.root steps)) cons c.loop-given.invariant.shown);
+          (subst (λ rest. IsReachedBy v.bytes v.schema p rest (EndAt v.bytes v.schema v.start v.root steps)) cons c.loop-given.invariant.reached);
       fit = λ path are fits. fit_more v.schema p given (drop (i + 1) steps) s q found
           (rw c.loop-given.invariant.same at c.go-place.ensures.kinds)
           (subst (λ rest. FitHere v.schema p rest) cons (c.loop-given.invariant.fit path are fits));
@@ -32,5 +34,10 @@ loop-given-preserved c =
 pub returns-clause-found : goal.returns-clause-found
 returns-clause-found c =
     let none : drop c.loop-given.given-index c.args.steps.now ≡ [] = drop_all c.loop-given.given-index c.args.steps.now (omega arith) in
-    c.loop-given.invariant.shown [] (shown c.answer.result) (subst (λ rest. AreSteps rest []) (sym none) tt)
-    (c.loop-given.place.spot, refl, rw c.loop-given.invariant.same at c.answer.ensures.shown)
+    let q = c.loop-given.place.spot in
+    let b = c.args.verified.now.bytes in
+    let S = c.args.verified.now.schema in
+    let shows : shown c.answer.result ≡ value b S q = rw c.loop-given.invariant.same at c.answer.ensures.shown in
+    let told : c.told_value.result ≡ value_told (value b S q) = c.told_value.ensures ∙ ap value_told shows in
+    let stands : c.extent.result ≡ extent b S q = rw c.loop-given.invariant.same at c.extent.ensures.value in
+    (q, c.loop-given.invariant.reached [] q (subst (λ rest. AreSteps rest []) (sym none) tt) refl, c.placed.ensures ∙ (λ i. placed (told i) (stands i)))

@@ -40,9 +40,9 @@ blank_spec 𝓤 𝓛 𝓜 𝓡 wired =
     split ! $ move ! (1 ∷ []) $ fsplit ! $ feq_l ! (λ first. fsplit ! $ handle_tells (al Z LZ ghosts) ! a z.0.4.1.0 (λ h second good.
     suffices ! (Run (ptr_val p ∷ h ∷ [])) (subst (λ (us : List Val). ent 𝓤 (Run (ptr_val p ∷ h ∷ [])) (Run us)) (sym (λ i. first i ++ (second i ++ []))) (id⊢ 𝓤 (Run (ptr_val p ∷ h ∷ [])))) $
     enter ! 𝓣.C 𝓣.Λ fn (ptr_val p ∷ h ∷ []) Post $ alloc_all ! (λ l. pass_all ! refl (Ptr-Good p, (good, tt)) $
-    let d : handle.the_row.Denot = record { at = p; alloc = a; session = None } in
+    let d : handle.the_row.Denot = record { at = p; alloc = a; inside = None } in
     sets ! (agg ! (and_then ! (get ! refl) (and_then ! (get ! refl) (no_more !)))) refl (handle_good p h good) $
     feq_i ! Ptr p null_ptr null $ handle_in ! p h a None $
-    use0 𝓛 (raw (fact 𝓤 (d.session ≡ d.session))) (fact_i 𝓤 (d.session ≡ d.session) (emp 𝓤) refl) $ nothing ! $ nothing ! $ fjoin ! $ nothing ! $ fjoin ! $
+    use0 𝓛 (raw (fact 𝓤 (d.inside ≡ d.inside))) (fact_i 𝓤 (d.inside ≡ d.inside) (emp 𝓤) refl) $ nothing ! $ nothing ! $ fjoin ! $ nothing ! $ fjoin ! $
     returns ! (look_at ! 0 refl) $ free_all ! refl $ keep ! (4 ∷ 0 ∷ 2 ∷ 1 ∷ []) $
     by ! (leaves 𝓛 ended stays c z (pair (ptr_val p) h) d (tt, (tt, tt)) (tt, (tt, tt))))))))

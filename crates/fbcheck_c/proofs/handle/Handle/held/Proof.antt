@@ -41,7 +41,7 @@ held_spec 𝓤 𝓛 𝓜 𝓡 wired =
     let Post : Val → SProp 𝓤 = (walk_of 𝓛 ended stays c).post z in let Run : List Val → SProp 𝓤 = λ ws. WpFn 𝓤 𝓛.H 𝓣.C 𝓣.Λ fn ws Post in
     let at_word : (w : Val) → z.0.4.0 ≡ w ∷ [] → ent 𝓤 (Run (w ∷ [])) (Run (z.0.4.0 ++ [])) = λ w e. subst (λ (us : List Val). ent 𝓤 (Run (w ∷ [])) (Run us)) (sym (λ i. e i ++ [])) (id⊢ 𝓤 (Run (w ∷ []))) in
     qed 𝓛 ((‵ ftrue ⊛ ‵ (owns (types_at ended.signature.params κs) z.0.3 z.0.4)) ∷ raw ((c κs z.0.3).requires z.1) ∷ []) ∵
-    split ! $ move ! (1 ∷ []) $ fsplit ! $ handle_out ! v z.0.4.0 (λ h is good. either_kept ! a v.session v.at
+    split ! $ move ! (1 ∷ []) $ fsplit ! $ handle_out ! v z.0.4.0 (λ h is good. either_kept ! a v.inside v.at
     -- nothing is held: the pointer is null
     (λ none null. let w : Val = pair (ptr_val null_ptr) h in let result : Val = live 0 vnil in let fits : Good (layout Out) result = (tt, (record { fits = lit< tt }, tt)) in
     suffices ! (Run (w ∷ [])) (at_word w (is ∙ ap (λ (p : Ptr). pair (ptr_val p) h ∷ []) null)) $
@@ -49,11 +49,11 @@ held_spec 𝓤 𝓛 𝓜 𝓡 wired =
     sets ! (of_opd ! (get_in ! (fld ! refl (stop !)) (sub ! 0 refl (whole !)))) refl (Ptr-Good null_ptr) $ sets ! (of_opd ! (get_in ! (fld ! refl (stop !)) (sub ! 1 refl (whole !)))) refl good $
     sets ! (bin ! (get ! refl) (lit ! tt) tt) refl (tt, tt) $ first ! $ branches ! (get ! refl)
     (λ _. sets_last ! (agg ! (and_then ! (lit ! tt) (no_more !))) refl fits $ exec ! 𝓣.C 𝓣.Λ Ev (after 4 fn.body) (at_ret Ev Post) $ sets ! (of_opd ! (get ! refl)) refl fits $
-    use0 𝓛 (raw (fact 𝓤 (option_map (λ (d : D.Denot). d.value) None ≡ v.session))) (fact_i 𝓤 _ (emp 𝓤) (sym none)) $
+    use0 𝓛 (raw (fact 𝓤 (option_map (λ (d : D.Denot). d.value) None ≡ v.inside))) (fact_i 𝓤 _ (emp 𝓤) (sym none)) $
     use0 𝓛 (‵ (Out.own_val None (result ∷ []))) (none_of 𝓛 D) $ nothing ! $ nothing ! $ fjoin ! $
     returns ! (look_at ! 0 refl) $ free_all ! refl $ keep ! (4 ∷ 0 ∷ 1 ∷ 2 ∷ []) $ by ! (leaves 𝓛 ended stays c z result None (tt, tt) (tt, tt)))
     (λ wrong. absurd wrong)))
-    -- a session is held: the pointer is that of its box
+    -- something is held: the pointer is that of its box
     (λ b o x some at tests. let w : Val = pair (vptr b o) h in let made : Val = pair (vptr b o) h in let result : Val = live 1 (vcons made vnil) in
     let typed = apart_good Inside Z LZ ghosts b o h good in let d : D.Denot = record { at = block_ptr b o; alloc = a; value = x } in
     let fits : Good (layout Out) result = (and_tt _ typed.0, (record { fits = lit< tt }, (typed.1, tt))) in
@@ -65,5 +65,5 @@ held_spec 𝓤 𝓛 𝓜 𝓡 wired =
     (λ _. sets ! (of_opd ! (get ! refl)) refl (tt, tt) $ sets ! (agg ! (and_then ! (get ! refl) (and_then ! (get ! refl) (no_more !)))) refl typed $
     sets_last ! (agg ! (and_then ! (lit ! tt) (and_then ! (get ! refl) (no_more !)))) refl fits $ exec ! 𝓣.C 𝓣.Λ Ev (after 4 fn.body) (at_ret Ev Post) $ sets ! (of_opd ! (get ! refl)) refl fits $
     apart_in Inside Z LZ ghosts ! b o h a x $ use1 𝓛 (‵ (Out.own_val (Some d) (result ∷ []))) (Some-of 𝓛 D d made) $
-    use0 𝓛 (raw (fact 𝓤 (Some x ≡ v.session))) (fact_i 𝓤 (Some x ≡ v.session) (emp 𝓤) (sym some)) $ nothing ! $ nothing ! $ fjoin ! $
+    use0 𝓛 (raw (fact 𝓤 (Some x ≡ v.inside))) (fact_i 𝓤 (Some x ≡ v.inside) (emp 𝓤) (sym some)) $ nothing ! $ nothing ! $ fjoin ! $
     returns ! (look_at ! 0 refl) $ free_all ! refl $ keep ! (3 ∷ 0 ∷ 2 ∷ 1 ∷ []) $ by ! (leaves 𝓛 ended stays c z result (Some d) (tt, tt) (tt, tt)))))))

@@ -41,4 +41,4 @@ holding_spec 𝓤 𝓛 𝓜 𝓡 wired =
     handle_in ! (block_ptr b o) h a (Some v.value) $
     use0 𝓛 (raw (fact 𝓤 (Some v.value ≡ Some v.value))) (fact_i 𝓤 (Some v.value ≡ Some v.value) (emp 𝓤) refl) $ nothing ! $ nothing ! $ fjoin ! $
     returns ! (look_at ! 0 refl) $ free_all ! refl $ keep ! (4 ∷ 0 ∷ 2 ∷ 1 ∷ []) $
-    by ! (leaves 𝓛 ended stays c z w (record { at = block_ptr b o; alloc = a; session = Some v.value }) (tt, tt) (tt, tt)))))
+    by ! (leaves 𝓛 ended stays c z w (record { at = block_ptr b o; alloc = a; inside = Some v.value }) (tt, tt) (tt, tt)))))

@@ -1,8 +1,9 @@
 use Rattle.std.proofs.Common.{◌∙◌, ◌<◌, length, arith}
 use Rattle.std.proofs.lemmas.List.{get_or_default}
+use Rattle.fbcheck_c.specs.Answered.{levels}
 use Rattle.fbcheck_c.specs.Spans.{IsSpanTold}
 use Rattle.fbcheck_c.proofs.SpanLemmas.{one_more}
-use Rattle.fbcheck_c.proofs.handle.Handle.check_each.Goals as goal
+use Rattle.fbcheck_c.proofs.spans.check_each.Goals as goal
 
 pub loop-place-preserved : goal.loop-place-preserved
 loop-place-preserved c =
@@ -10,7 +11,7 @@ loop-place-preserved c =
     let there : c.loop-place.place < length c.args.spans.now = omega arith in
     record {
       kept = c.check_span-answer.ensures.kept ∙ c.loop-place.invariant.kept;
-      told = one_more (IsSpanTold c.args.self.now.session c.args.options.now c.args.block.now) c.args.spans.now c.loop-place.verdicts c.loop-place.place c.told.result within c.loop-place.invariant.told (λ s.
+      told = one_more (IsSpanTold c.args.held.now (levels c.args.handle.now.inside) c.args.options.now c.args.block.now) c.args.spans.now c.loop-place.verdicts c.loop-place.place c.told.result within c.loop-place.invariant.told (λ s.
           let same = get_or_default c.args.spans.now c.loop-place.place s (record { at = 0; size = 0 }) there in
           (c.check_span-answer.result, c.told.ensures, rw (same, ← c.loop-place.invariant.kept) c.check_span-answer.ensures.answer));
     }

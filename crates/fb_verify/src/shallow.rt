@@ -1,0 +1,62 @@
+// Checks within a depth that the call's own stack has room for.
+
+ghost use Rattle.std.specs.Prelude.{◌≡◌, ◌<◌, ◌≤◌, length, IfOk, IfErr, IsTrue};
+ghost use Rattle.fb_bytes.specs.Word.{while_lent};
+ghost use Rattle.fb_schema.specs.Rows.{is_table};
+ghost use Rattle.fb_verify.specs.MostReads.{most_reads};
+ghost use Rattle.fb_verify.specs.Stops.{Stops};
+ghost use Rattle.fb_verify.specs.Verdict.{Reports, HasNone};
+
+use crate::checks::Checks;
+use crate::fault::{Fault, Report};
+use crate::limits::Limits;
+use crate::scratch::BLANK;
+use crate::start::{Ident, Start};
+use crate::verdict::trace;
+use fb_bytes::Meter;
+use fb_schema::Schema;
+
+/// Checks a buffer as [`walk`](crate::walk) does, in room for 64 tables on the call's own stack.
+///
+/// # Errors
+///
+/// The fault that `walk` answers.
+pub fn walk_shallow(
+    meter: &mut Meter<'_>,
+    schema: &Schema<'_>,
+    root: u32,
+    start: Start,
+    ident: Ident,
+    limits: Limits,
+    checks: Checks,
+) -> Result<Report, Fault>
+    requires fresh { meter.old.count ≡ 0 }
+    requires table { IsTrue (is_table schema.now root) }
+    requires room { limits.depth ≤ 64 }
+    ensures yes { IfOk result (λ r. Reports checks meter.old.bytes schema.now root start ident limits r) }
+    ensures none { IfErr result (λ _. HasNone checks meter.old.bytes schema.now root start ident limits) }
+    ensures no { IfErr result (λ f. Stops checks meter.old.bytes schema.now root start ident limits f) }
+    ensures price { meter.new.count ≤ most_reads schema.now limits (length meter.old.bytes) }
+    ensures read { IfOk result (λ r. meter.new.count ≡ r.reads) }
+    ensures stopped { IfErr result (λ f. meter.new.count ≡ f.reads) }
+    ensures bytes { meter.new.bytes ≡ meter.old.bytes }
+    ensures settled { meter.new.count < while_lent }
+{
+    let mut frames = [BLANK; 64];
+    let mut tally = meter.lend();
+    let answer = trace(
+        &mut tally,
+        schema,
+        root,
+        start,
+        ident,
+        limits,
+        checks,
+        &mut frames,
+    );
+    meter.settle(tally);
+    match answer {
+        Ok(report) => Ok(report),
+        Err(halt) => Err(halt.stop.fault(meter)),
+    }
+}

@@ -1,0 +1,58 @@
+//! What a pointer of a caller in C leads to.
+
+ghost use Rattle.std.specs.Prelude.{◌≡◌, ◌<◌, ◌≤◌, length, IfErr, IfOk};
+ghost use Rattle.fb_verify.specs.declared.scratch.ScratchFault.TheVariants.{LimitOutOfRange, OutOfMemory};
+
+use fb_bfbs::Loaded;
+use fb_verify::{Link, Scratch, ScratchFault};
+use std::alloc::{AllocError, Global};
+
+/// What stands in a row of links where none was put.
+pub const NO_LINK: Link = Link {
+    object: 0,
+    field: 0,
+    element: None,
+    member: None,
+};
+
+/// Room for the open tables of a check, and for as many links of the way to a fault.
+#[derive(Drop)]
+pub struct Room {
+    pub scratch: Scratch,
+    pub links: Vec<Link>,
+}
+
+/// What a pointer of a caller in C leads to: a schema, or room for a check.
+#[derive(Drop)]
+pub enum Held {
+    Schema(Loaded<'static>),
+    Room(Room),
+}
+
+/// Room for so many links.
+fn links_of(alloc: Global, depth: u32) -> Result<Vec<Link>, AllocError>
+    ensures { IfOk result (λ v. length v.items ≡ depth) }
+{
+    let mut links = Vec::with_capacity(alloc, depth as usize)?;
+    links.resize(depth as usize, NO_LINK)?;
+    Ok(links)
+}
+
+impl Room {
+    /// Room for so many tables open at once, at most 4,096.
+    ///
+    /// # Errors
+    ///
+    /// As [`Scratch::new`] has it.
+    pub fn new(alloc: Global, depth: u32) -> Result<Room, ScratchFault>
+        ensures depth { IfOk result (λ r. (r.scratch ≡ depth) × (depth ≤ 4096)) }
+        ensures range { IfErr result (λ f. f ≡ LimitOutOfRange → 4096 < depth) }
+        ensures memory { IfErr result (λ f. f ≡ OutOfMemory → depth ≤ 4096) }
+    {
+        let scratch = Scratch::new(alloc, depth)?;
+        match links_of(alloc, depth) {
+            Ok(links) => Ok(Room { scratch, links }),
+            Err(_) => Err(ScratchFault::OutOfMemory),
+        }
+    }
+}
