@@ -1,5 +1,5 @@
 -- What stands written wherever a run asks its input for more: all that is told of what it has read, and no more.
-use Rattle.std.specs.Prelude.{ℕ, ◌≤◌, List, Option, length}
+use Rattle.std.specs.Prelude.{◌≡◌, ℕ, ◌≤◌, ◌⊎◌, Bool, false, List, Option, length}
 use Rattle.std.specs.Io.KnownBytes.{Consumes, Appends}
 use Rattle.fb_bytes.specs.Messages.{IsPartial, Splits}
 use Rattle.fb_verify.specs.declared.start.Start.{Start}
@@ -8,6 +8,11 @@ use Rattle.fb_run.specs.Bare.{Unwritten}
 use Rattle.fb_run.specs.Job.{Job}
 use Rattle.fb_run.specs.Lines.{TextsOf}
 use Rattle.fb_run.specs.Texts.{Texts}
+
+-- it is asked for the first time, or no read has told its end since: by the reads made and the end told, before and
+-- by then
+abbrev pub IsUnended : ℕ → ℕ → Bool → Bool → Type 0
+IsUnended calls calls' ended ended' = (ended' ≡ false) ⊎ ((calls' ≡ calls) × (ended' ≡ ended))
 
 -- over a stream: messages and the part of one were read, and what is told of all these messages was written and noted
 pub record IsStreamPrompt (job : Job) (source source' sink sink' notes notes' : Option (List ℕ)) : Type 0 where

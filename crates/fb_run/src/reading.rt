@@ -1,11 +1,12 @@
 //! Reading from a source, a piece at a time.
 
-ghost use Rattle.std.specs.Prelude.{IfOk, IfErr, OnOk, OnErr, ◌≡◌, ◌+◌, ◌-◌, ◌<◌, ◌≤◌, ◌^◌, length, take, true, ℕ, List, Option};
+ghost use Rattle.std.specs.Prelude.{IfOk, IfErr, OnOk, OnErr, ◌≡◌, ◌+◌, ◌-◌, ◌<◌, ◌≤◌, ◌^◌, length, take, true, false, ℕ, Bool, List, Option};
 ghost use Rattle.std.specs.Io.KnownBytes.{Consumes, Keeps};
 ghost use Rattle.fb_bytes.specs.Ends.{failed};
 ghost use Rattle.fb_run.specs.Bare.{FailsBare};
 ghost use Rattle.fb_run.specs.Faults.{IsCaused};
 ghost use Rattle.fb_run.specs.Job.{Job};
+ghost use Rattle.fb_run.specs.Prompt.{IsUnended};
 ghost use Rattle.fb_run.specs.Sums.{no_tally};
 
 use crate::fault::RunFault;
@@ -38,12 +39,14 @@ pub fn pull_piece<A: Allocator, S: Input<K, N>, K: Sink, N: Sink>(
 ) -> io::Result<usize>
     requires room { 0 < length piece.old.items }
     requires calls { S.calls source.old < 2 ^ 100 }
-    requires leave { S.may_ask (S.remaining source.old) (K.contents writer.now) (N.contents notes.now) }
+    requires leave { S.may_ask (S.remaining source.old) (K.contents writer.now) (N.contents notes.now)
+        (S.calls source.old) (S.failures source.old) (S.ended source.old) }
     ensures room { length piece.new.items ≡ length piece.old.items }
     ensures fits { IfOk result (λ n. n ≤ length piece.new.items) }
     ensures ok { IfOk result (λ n. Consumes (S.remaining source.old) (S.remaining source.new) (take n piece.new.items)) }
     ensures err { OnErr result (Keeps (S.remaining source.old) (S.remaining source.new)) }
     ensures end { IfOk result (λ n. n ≡ 0 → S.ended source.new ≡ true) }
+    ensures unended { IfOk result (λ n. 0 < n → S.ended source.new ≡ false) }
     ensures counted { S.calls source.new ≡ S.calls source.old + 1 }
     ensures failure { S.failures source.new ≡ S.failures source.old + failed result }
 {
@@ -63,8 +66,9 @@ pub fn read_whole<A: Allocator, B: Allocator, S: Input<K, N>, K: Sink, N: Sink>(
 ) -> Result<Vec<u8, A>, RunFault>
     requires room { length piece.old.items ≡ PIECE }
     requires calls { S.calls source.old + turns < 2 ^ 100 }
-    requires leave { (left : Option (List ℕ)) (bytes : List ℕ) → Consumes (S.remaining source.old) left bytes → length bytes ≤ limit
-        → S.may_ask left (K.contents writer.now) (N.contents notes.now) }
+    requires leave { (left : Option (List ℕ)) (bytes : List ℕ) (calls : ℕ) (ended : Bool) → Consumes (S.remaining source.old) left bytes
+        → length bytes ≤ limit → IsUnended (S.calls source.old) calls (S.ended source.old) ended
+        → S.may_ask left (K.contents writer.now) (N.contents notes.now) calls (S.failures source.old) ended }
     ensures ok { IfOk result (λ whole. Consumes (S.remaining source.old) (S.remaining source.new) whole.items) }
     ensures within { IfOk result (λ whole. length whole.items ≤ limit) }
     ensures end { OnOk result (S.ended source.new ≡ true) }

@@ -1,9 +1,9 @@
 //! A run over an input, by a schema.
 
-ghost use Rattle.std.specs.Prelude.{◌≡◌, length, ◌+◌, ◌-◌, ◌<◌, ◌≤◌, ◌^◌, ℕ, List, Option, None};
+ghost use Rattle.std.specs.Prelude.{◌≡◌, length, ◌+◌, ◌-◌, ◌<◌, ◌≤◌, ◌^◌, ℕ, Bool, List, Option, None};
 ghost use Rattle.fb_run.specs.Faults.{EndsBeside, EndsBy};
 ghost use Rattle.fb_run.specs.Job.{Serves, job_of};
-ghost use Rattle.fb_run.specs.Prompt.{IsPrompt};
+ghost use Rattle.fb_run.specs.Prompt.{IsPrompt, IsUnended};
 ghost use Rattle.fb_run.specs.Run.{IsRun, IsRunBeside, answer_by};
 ghost use Rattle.fb_run.specs.Sums.{no_tally};
 
@@ -81,8 +81,9 @@ pub fn run_beside<A: Allocator, S: Input<K, N>, K: Sink, N: Sink>(
     requires reads { S.calls reader.old < 2 ^ 64 }
     requires writes { K.calls writer.old < 2 ^ 64 }
     requires tells { N.calls notes.old < 2 ^ 64 }
-    requires leave { (source sink note : Option (List ℕ)) → IsPrompt (job_of schema.now options.now) (S.remaining reader.old) source
-        (K.contents writer.old) sink (N.contents notes.old) note → S.may_ask source sink note }
+    requires leave { (source sink note : Option (List ℕ)) (calls : ℕ) (ended : Bool) → IsPrompt (job_of schema.now options.now) (S.remaining reader.old) source
+        (K.contents writer.old) sink (N.contents notes.old) note
+        → IsUnended (S.calls reader.old) calls (S.ended reader.old) ended → S.may_ask source sink note calls (S.failures reader.old) ended }
 
     ensures run { IsRunBeside (job_of schema.now options.now) (S.remaining reader.old) (S.remaining reader.new)
         (K.contents writer.old) (K.contents writer.new) (N.contents notes.old) (N.contents notes.new) result.tally result.end }
@@ -119,8 +120,9 @@ pub fn run_within<A: Allocator, S: Input<K, Nowhere>, K: Sink>(
     requires turns { turns ≤ MOST_TURNS }
     requires reads { S.calls reader.old < 2 ^ 64 }
     requires writes { K.calls writer.old < 2 ^ 64 }
-    requires leave { (source sink note : Option (List ℕ)) → IsPrompt (job_of schema.now options.now) (S.remaining reader.old) source
-        (K.contents writer.old) sink None note → S.may_ask source sink note }
+    requires leave { (source sink note : Option (List ℕ)) (calls : ℕ) (ended : Bool) → IsPrompt (job_of schema.now options.now) (S.remaining reader.old) source
+        (K.contents writer.old) sink None note
+        → IsUnended (S.calls reader.old) calls (S.ended reader.old) ended → S.may_ask source sink note calls (S.failures reader.old) ended }
 
     ensures run { IsRun (job_of schema.now options.now)
         (S.remaining reader.old) (S.remaining reader.new) (K.contents writer.old) (K.contents writer.new) result }
@@ -143,8 +145,9 @@ pub fn run<A: Allocator, S: Input<K, Nowhere>, K: Sink>(
     requires serves { Serves schema.now options.now }
     requires reads { S.calls reader.old < 2 ^ 64 }
     requires writes { K.calls writer.old < 2 ^ 64 }
-    requires leave { (source sink note : Option (List ℕ)) → IsPrompt (job_of schema.now options.now) (S.remaining reader.old) source
-        (K.contents writer.old) sink None note → S.may_ask source sink note }
+    requires leave { (source sink note : Option (List ℕ)) (calls : ℕ) (ended : Bool) → IsPrompt (job_of schema.now options.now) (S.remaining reader.old) source
+        (K.contents writer.old) sink None note
+        → IsUnended (S.calls reader.old) calls (S.ended reader.old) ended → S.may_ask source sink note calls (S.failures reader.old) ended }
 
     ensures run { IsRun (job_of schema.now options.now)
         (S.remaining reader.old) (S.remaining reader.new) (K.contents writer.old) (K.contents writer.new) result }

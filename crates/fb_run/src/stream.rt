@@ -2,7 +2,7 @@
 
 ghost use Rattle.std.specs.Prelude.{IfOk, IfErr, OnOk, ◌≡◌, ◌+◌, ◌-◌, ◌*◌, ◌<◌, ◌≤◌, ◌^◌, ℕ, Bool, List, Option, [], length, take};
 ghost use Rattle.fb_run.specs.Faults.{EndsBeside, IsCaused};
-ghost use Rattle.fb_run.specs.Prompt.{IsPrompt};
+ghost use Rattle.fb_run.specs.Prompt.{IsPrompt, IsUnended};
 ghost use Rattle.fb_run.specs.Run.{IsRunBeside};
 ghost use Rattle.fb_run.specs.Stream.{Gathers, Halts, HaltsThrough, IsFeedFault, IsReady, Onward, OnwardThrough, PassesPiece, StopsAmid, standing};
 ghost use Rattle.fb_run.specs.Sums.{no_tally};
@@ -77,8 +77,9 @@ impl<A: Allocator> Carried<A> {
         requires reads { S.calls reader.old < 2 ^ 64 }
         requires writes { K.calls writer.old < 2 ^ 64 }
         requires tells { N.calls notes.old < 2 ^ 64 }
-        requires leave { (source sink note : Option (List ℕ)) → IsPrompt checker.now (S.remaining reader.old) source
-            (K.contents writer.old) sink (N.contents notes.old) note → S.may_ask source sink note }
+        requires leave { (source sink note : Option (List ℕ)) (calls : ℕ) (ended : Bool) → IsPrompt checker.now (S.remaining reader.old) source
+            (K.contents writer.old) sink (N.contents notes.old) note
+            → IsUnended (S.calls reader.old) calls (S.ended reader.old) ended → S.may_ask source sink note calls (S.failures reader.old) ended }
 
         ensures run { IsRunBeside checker.now
             (S.remaining reader.old) (S.remaining reader.new) (K.contents writer.old) (K.contents writer.new)

@@ -1,9 +1,10 @@
 //! A run by a schema file, as the settings of the command line ask.
 
-ghost use Rattle.std.specs.Prelude.{IfErr, IfOk, OnErr, length, ◌≡◌, ◌+◌, ◌-◌, ◌<◌, ◌≤◌, ◌^◌, ℕ, List, Option, None};
+ghost use Rattle.std.specs.Prelude.{IfErr, IfOk, OnErr, length, ◌≡◌, ◌+◌, ◌-◌, ◌<◌, ◌≤◌, ◌^◌, ℕ, Bool, List, Option, None};
 ghost use Rattle.fbcheck_words.specs.Ranges.{AreInRange};
 ghost use Rattle.fbcheck.specs.Checking.{EndsChecked, IsChecked, IsCheckedBeside, IsPromptAsAsked, IsUnasked};
 ghost use Rattle.fb_run.specs.Faults.{EndsBeside};
+ghost use Rattle.fb_run.specs.Prompt.{IsUnended};
 
 use crate::asked::asked_of;
 use crate::fault::{AskFault, CheckFault};
@@ -36,8 +37,9 @@ pub fn check_beside<S: Input<K, N>, K: Sink, N: Sink>(
     requires reads { S.calls reader.old < 2 ^ 64 }
     requires writes { K.calls writer.old < 2 ^ 64 }
     requires tells { N.calls notes.old < 2 ^ 64 }
-    requires leave { (source sink note : Option (List ℕ)) → IsPromptAsAsked schema_bytes settings.now (S.remaining reader.old) source
-        (K.contents writer.old) sink (N.contents notes.old) note → S.may_ask source sink note }
+    requires leave { (source sink note : Option (List ℕ)) (calls : ℕ) (ended : Bool) → IsPromptAsAsked schema_bytes settings.now (S.remaining reader.old) source
+        (K.contents writer.old) sink (N.contents notes.old) note
+        → IsUnended (S.calls reader.old) calls (S.ended reader.old) ended → S.may_ask source sink note calls (S.failures reader.old) ended }
 
     ensures run { IsCheckedBeside schema_bytes.entry settings.now (S.remaining reader.old) (S.remaining reader.new)
         (K.contents writer.old) (K.contents writer.new) (N.contents notes.old) (N.contents notes.new) result }
@@ -74,8 +76,9 @@ pub fn check<S: Input<K, Nowhere>, K: Sink>(
     requires ranges { AreInRange settings.now }
     requires reads { S.calls reader.old < 2 ^ 64 }
     requires writes { K.calls writer.old < 2 ^ 64 }
-    requires leave { (source sink note : Option (List ℕ)) → IsPromptAsAsked schema_bytes settings.now (S.remaining reader.old) source
-        (K.contents writer.old) sink None note → S.may_ask source sink note }
+    requires leave { (source sink note : Option (List ℕ)) (calls : ℕ) (ended : Bool) → IsPromptAsAsked schema_bytes settings.now (S.remaining reader.old) source
+        (K.contents writer.old) sink None note
+        → IsUnended (S.calls reader.old) calls (S.ended reader.old) ended → S.may_ask source sink note calls (S.failures reader.old) ended }
 
     ensures run { IsChecked schema_bytes.entry settings.now
         (S.remaining reader.old) (S.remaining reader.new) (K.contents writer.old) (K.contents writer.new) result }

@@ -1,6 +1,7 @@
 //! What the program does, from its words to its exit status.
 
 ghost use Rattle.std.specs.Prelude.{IfOk, IfSome, ◌≡◌, ◌+◌, ◌-◌, ◌<◌, ◌≤◌, ◌^◌, ℕ, Bool, List, Option, length, string_len};
+ghost use Rattle.fb_run.specs.Prompt.{IsUnended};
 ghost use Rattle.fbcheck.specs.Serving.{ComesTo, EndsSo, IsPromptAsGiven, IsServed, Unserved, summed, words_of};
 
 use crate::check::check_beside;
@@ -27,8 +28,9 @@ pub fn serve<F: Files, S: Input<K, N>, K: Sink, N: Sink>(
     requires reads { S.calls reader.old < 2 ^ 64 }
     requires writes { K.calls writer.old < 2 ^ 64 }
     requires tells { N.calls notes.old < 2 ^ 64 }
-    requires leave { (source sink note : Option (List ℕ)) → IsPromptAsGiven (F.gives files.now) (words_of words) (S.remaining reader.old) source
-        (K.contents writer.old) sink (N.contents notes.old) note → S.may_ask source sink note }
+    requires leave { (source sink note : Option (List ℕ)) (calls : ℕ) (ended : Bool) → IsPromptAsGiven (F.gives files.now) (words_of words) (S.remaining reader.old) source
+        (K.contents writer.old) sink (N.contents notes.old) note
+        → IsUnended (S.calls reader.old) calls (S.ended reader.old) ended → S.may_ask source sink note calls (S.failures reader.old) ended }
 
     ensures served { IsServed (F.gives files.now) (words_of words)
         (S.remaining reader.old) (S.remaining reader.new) (K.contents writer.old) (K.contents writer.new) (N.contents notes.old) (N.contents notes.new)
@@ -56,8 +58,9 @@ fn come_to<F: Files, S: Input<K, N>, K: Sink, N: Sink>(
     requires reads { S.calls reader.old < 2 ^ 64 }
     requires writes { K.calls writer.old < 2 ^ 64 }
     requires tells { N.calls notes.old < 2 ^ 64 }
-    requires leave { (source sink note : Option (List ℕ)) → IsPromptAsGiven (F.gives files.now) (words_of words) (S.remaining reader.old) source
-        (K.contents writer.old) sink (N.contents notes.old) note → S.may_ask source sink note }
+    requires leave { (source sink note : Option (List ℕ)) (calls : ℕ) (ended : Bool) → IsPromptAsGiven (F.gives files.now) (words_of words) (S.remaining reader.old) source
+        (K.contents writer.old) sink (N.contents notes.old) note
+        → IsUnended (S.calls reader.old) calls (S.ended reader.old) ended → S.may_ask source sink note calls (S.failures reader.old) ended }
 
     ensures comes { ComesTo (F.gives files.now) (words_of words) (S.remaining reader.old) (S.remaining reader.new)
         (K.contents writer.old) (K.contents writer.new) (N.contents notes.old) (N.contents notes.new) sums.new result }

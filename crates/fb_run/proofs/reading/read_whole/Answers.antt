@@ -1,4 +1,4 @@
-use Rattle.std.proofs.Common.{rules, refl, take, ◌++◌, ◌≤◌, ◌<◌, ◌+◌, length, arith}
+use Rattle.std.proofs.Common.{ℕ, rules, refl, subst, sym, take, ◌++◌, ◌≤◌, ◌<◌, ◌+◌, length, arith}
 use Rattle.std.proofs.lemmas.Grind.{common_steps}
 use Rattle.std.proofs.KnownBytes.{Consumes-trans, Keeps-refl}
 use Rattle.fb_run.proofs.Pieces.{length-with}
@@ -23,6 +23,14 @@ returns-in_default-clause-fault g c job sink notes =
       Consumes-trans _ _ _ _ _ c.loop-left.invariant.read read.ok,
       (search rules, ((Keeps-refl sink, Keeps-refl notes), refl)),
     )
+
+pub pull_piece-requires-clause-leave : goal.pull_piece-requires-clause-leave
+pull_piece-requires-clause-leave g c =
+    let before = c.loop-left.invariant in
+    let source = c.loop-left.source in
+    subst (λ (failures : ℕ). g.S.Input.may_ask (g.S.Input.remaining source) (g.K.Sink.contents c.args.writer.now) (g.N.Sink.contents c.args.notes.now)
+    (g.S.Input.calls source) failures (g.S.Input.ended source))
+    (sym before.failures) (c.requires.leave _ _ _ _ before.read before.within before.asks)
 
 pub loop-left-preserved : goal.loop-left-preserved
 loop-left-preserved g c = grind (arith, common_steps)

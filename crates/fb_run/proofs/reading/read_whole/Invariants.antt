@@ -1,5 +1,6 @@
 use Rattle.std.proofs.Common.{length, ◌≡◌, ◌+◌, ◌≤◌}
 use Rattle.std.specs.Io.KnownBytes.{Consumes}
+use Rattle.fb_run.specs.Prompt.{IsUnended}
 use Rattle.fb_run.proofs.reading.read_whole.Given as goal
 
 abbrev pub invariant-loop-left : goal.invariant-loop-left
@@ -9,6 +10,7 @@ invariant-loop-left g l = record {
   read : Consumes (g.S.Input.remaining l.initial.source) (g.S.Input.remaining l.source) l.whole.items;
   fewer : l.left ≤ l.initial.left;
   calls : g.S.Input.calls l.source + l.left ≡ g.S.Input.calls l.initial.source + l.initial.left;
+  asks : IsUnended (g.S.Input.calls l.initial.source) (g.S.Input.calls l.source) (g.S.Input.ended l.initial.source) (g.S.Input.ended l.source);
   failures : g.S.Input.failures l.source ≡ g.S.Input.failures l.initial.source;
 }
 

@@ -24,5 +24,5 @@ returns-clause-run g c =
     (sym c.tally-tally.ensures) (runs_by _ _ _ _ _ _ _ _ _ _ c.new-checker.ensures c.pass_all-end.ensures.run)
 
 pub pass_all-end-requires-clause-leave : goal.pass_all-end-requires-clause-leave
-pass_all-end-requires-clause-leave g c source sink note prompt =
-    c.requires.leave source sink note (prompt_by _ _ _ _ _ _ _ _ c.new-checker.ensures prompt)
+pass_all-end-requires-clause-leave g c source sink note calls ended prompt =
+    c.requires.leave source sink note calls ended (prompt_by _ _ _ _ _ _ _ _ c.new-checker.ensures prompt)

@@ -61,9 +61,9 @@ returns-clause-comes g c =
     )
 
 pub check_beside-requires-clause-leave : goal.check_beside-requires-clause-leave
-check_beside-requires-clause-leave g c source sink note prompt =
+check_beside-requires-clause-leave g c source sink note calls ended prompt =
     let set = c.in-Ok-settings.ensures in
-    c.requires.leave source sink note
+    c.requires.leave source sink note calls ended
     (prompt_read _ c.args.words c.in-Ok.words c.as_slice.result.now _ _ _ _ _ _ c.in-Ok.is c.as_slice.ensures.value
     (holds_given _ _ c.in-Ok-settings.settings c.as_deref.result _ _
     set.given c.as_deref.ensures.value c.in_ok-file.ensures.bytes prompt))

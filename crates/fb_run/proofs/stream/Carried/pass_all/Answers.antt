@@ -1,4 +1,5 @@
-use Rattle.std.proofs.Common.{ℕ, Bool, ◌+◌, ◌-◌, rules, ap, subst, sym}
+use Rattle.std.proofs.Common.{ℕ, Bool, ◌+◌, ◌-◌, rules, ap, refl, subst, sym}
+use mathlib.Core.Logic.{inl, inr}
 use Rattle.fb_run.specs.Faults.{EndsBeside}
 use Rattle.fb_run.specs.Run.{IsRunBeside}
 use Rattle.fb_run.proofs.BareLemmas.{fails_untold}
@@ -37,7 +38,12 @@ returns-in-Bare-clause-end g c =
 
 pub pull_piece-requires-clause-leave : goal.pull_piece-requires-clause-leave
 pull_piece-requires-clause-leave g c =
-    c.requires.leave _ _ _ (prompt_stream _ _ _ _ _ _ _ _ c.start.ensures c.in_default.not-Bare (search rules))
+    let before = c.loop-left.invariant in
+    let reader = c.loop-left.reader in
+    subst (λ (failures : ℕ). g.S.Input.may_ask (g.S.Input.remaining reader) (g.K.Sink.contents c.loop-left.writer) (g.N.Sink.contents c.loop-left.notes)
+    (g.S.Input.calls reader) failures (g.S.Input.ended reader))
+    (sym before.failures)
+    (c.requires.leave _ _ _ _ _ (prompt_stream _ _ _ _ _ _ _ _ c.start.ensures c.in_default.not-Bare (search rules)) before.asks)
 
 pub loop-left-init : goal.loop-left-init
 loop-left-init g c = record {
@@ -52,6 +58,7 @@ loop-left-init g c = record {
   less = search rules;
   writes = search rules;
   tells = search rules;
+  asks = inr (refl, refl);
   failures = search rules;
   refusals = search rules;
   complaints = search rules;
@@ -74,6 +81,7 @@ loop-left-preserved g c =
       less = search rules;
       writes = search rules;
       tells = search rules;
+      asks = inl (c.in-Ok.ensures.unended (search rules));
       failures = search rules;
       refusals = search rules;
       complaints = search rules;

@@ -1,4 +1,5 @@
 use Rattle.std.proofs.Common.{length, ◌≡◌, ◌+◌, ◌*◌, ◌^◌, ◌≤◌}
+use Rattle.fb_run.specs.Prompt.{IsUnended}
 use Rattle.fb_run.specs.Stream.{IsReady, standing}
 use Rattle.fb_run.specs.Texts.{silent, waiting}
 use Rattle.fb_run.proofs.RunLemmas.{Sofar}
@@ -18,6 +19,7 @@ invariant-loop-left g l = record {
   less : l.self.output.notes.written + 2 ^ 64 * l.left ≤ 2 ^ 64 * l.initial.left;
   writes : g.K.Sink.calls l.writer + 9 * 2 ^ 64 * l.left ≤ g.K.Sink.calls l.initial.writer + 9 * 2 ^ 64 * l.initial.left;
   tells : g.N.Sink.calls l.notes + 2 ^ 64 * l.left ≤ g.N.Sink.calls l.initial.notes + 2 ^ 64 * l.initial.left;
+  asks : IsUnended (g.S.Input.calls l.initial.reader) (g.S.Input.calls l.reader) (g.S.Input.ended l.initial.reader) (g.S.Input.ended l.reader);
   failures : g.S.Input.failures l.reader ≡ g.S.Input.failures l.initial.reader;
   refusals : g.K.Sink.failures l.writer ≡ g.K.Sink.failures l.initial.writer;
   complaints : g.N.Sink.failures l.notes ≡ g.N.Sink.failures l.initial.notes;
