@@ -1,5 +1,5 @@
-"""What ./install puts in place: the program, its manual page and its completions, which all know the same options, and
-the library for C."""
+"""What ./install puts in place: the program, its manual page and its completions, which all know the same options, the
+library for C, and the package for Python."""
 
 import os
 import re
@@ -21,6 +21,7 @@ PLACES = {
     "lib/libfbcheck.so": 0o755,
     "lib/pkgconfig/fbcheck.pc": 0o644,
 }
+PACKAGE = ["__init__.py", "_fbcheck.pyi", "py.typed", "_fbcheck.abi3.so"]
 PAGE = (TOP / "docs/fbcheck.1").read_text()
 
 # A program that was built elsewhere isn't what ./install takes.
@@ -32,6 +33,12 @@ def installed(*words, **environment):
     ran = subprocess.run([TOP / "install", *words], capture_output=True, text=True, timeout=600, cwd=FOLDER,
                          env={"PATH": os.environ["PATH"], **environment})
     return ran.returncode, ran.stdout.splitlines(), ran.stderr
+
+
+def packages():
+    """Where the package is put below a folder that python3 doesn't look into."""
+    version = subprocess.check_output(["python3", "-c", "import sys; print(*sys.version_info[:2], sep='.')"], text=True)
+    return f"lib/python{version.strip()}/site-packages"
 
 
 def options():
@@ -77,22 +84,43 @@ class Install(LibraryCase):
     def test_what_is_put(self):
         for name, environment, top in [
             ("PREFIX", {"PREFIX": f"{FOLDER}/local"}, FOLDER / "local"),
-            ("DESTDIR", {"DESTDIR": f"{FOLDER}/pkg", "PREFIX": "/usr"}, FOLDER / "pkg/usr"),
+            ("DESTDIR", {"DESTDIR": f"{FOLDER}/pkg", "PREFIX": "/opt/it"}, FOLDER / "pkg/opt/it"),
             ("a PREFIX below this folder", {"PREFIX": "here"}, FOLDER / "here"),
-            ("neither PREFIX", {"DESTDIR": f"{FOLDER}/own"}, FOLDER / "own/usr/local"),
+            ("neither PREFIX", {"DESTDIR": f"{FOLDER}/own", "PATH": self.without_python()}, FOLDER / "own/usr/local"),
+            ("no Python", {"DESTDIR": f"{FOLDER}/without", "PYTHON": ""}, FOLDER / "without/usr/local"),
         ]:
-            told = installed(**environment)
-            self.same(f"{name}: each file is told", told, (0, [f"{top}/{place}" for place in PLACES], ""))
-            found = {place: (top / place).stat().st_mode & 0o777 for place in PLACES}
-            self.same(f"{name}: each file is there with its mode", found, PLACES)
+            python = {f"{packages()}/fbcheck/{file}": 0o644 for file in PACKAGE} if "PREFIX" in environment else {}
+            places = {**PLACES, **python}
+            status, out, err = installed(**environment)
+            self.same(f"{name}: each file is told", (status, out), (0, [f"{top}/{place}" for place in places]))
+            folder = FOLDER / environment.get("PREFIX", "")
+            want = f"install: python3 finds the package with PYTHONPATH={folder}/{packages()}\n" if python else ""
+            if "PATH" in environment:
+                want = "install: the package for Python isn't put: no python\n"
+            self.same(f"{name}: what is said of Python", err, want)
+            found = {place: (top / place).stat().st_mode & 0o777 for place in places}
+            self.same(f"{name}: each file is there with its mode", found, places)
         program = FOLDER / "local/bin/fbcheck"
         ran = subprocess.run([program, "--help"], capture_output=True, timeout=60)
         self.same("the program runs where it was put", (ran.returncode, ran.stdout), (0, run("--help").out))
         page = (FOLDER / "here/lib/pkgconfig/fbcheck.pc").read_text()
         self.holds("a file for pkg-config has a whole path", f"libdir={FOLDER}/here/lib\n" in page, page)
-        page = (FOLDER / "pkg/usr/lib/pkgconfig/fbcheck.pc").read_text()
-        self.holds("a package's file for pkg-config knows nothing of DESTDIR", "libdir=/usr/lib\n" in page, page)
+        page = (FOLDER / "pkg/opt/it/lib/pkgconfig/fbcheck.pc").read_text()
+        self.holds("a package's file for pkg-config knows nothing of DESTDIR", "libdir=/opt/it/lib\n" in page, page)
         self.a_program_in_c(FOLDER / "local")
+        code = "import fbcheck; print(fbcheck.Schema('deliveries.bfbs').check(b''))"
+        ran = subprocess.run(["python3", "-c", code], capture_output=True, text=True, cwd=TOP / "examples",
+                             env={"PATH": os.environ["PATH"], "PYTHONPATH": f"{FOLDER}/local/{packages()}"})
+        want = "bad V2 OutOfBuffer at=0 object=1 field=- reads=0 in . [post.Delivery]\n"
+        self.same("the package is used", (ran.returncode, ran.stdout), (0, want))
+
+    def without_python(self):
+        """A PATH with a python3 that builds nothing."""
+        folder = FOLDER / "no-python"
+        folder.mkdir()
+        (folder / "python3").write_text("#!/bin/sh\necho no python >&2\nexit 1\n")
+        (folder / "python3").chmod(0o755)
+        return f"{folder}:{os.environ['PATH']}"
 
     def a_program_in_c(self, top):
         """The example in C is built by what was put there."""

@@ -1,0 +1,658 @@
+/*
+ * What the package fbcheck does for each message: the calls of fbcheck.h on whatever has the buffer protocol. All else
+ * is Python.
+ *
+ * It is written against the limited API of Python 3.11, and keeps no pointer into a message once a call returns.
+ */
+#define Py_LIMITED_API 0x030b0000
+#define PY_SSIZE_T_CLEAN
+#include <Python.h>
+#include <structmember.h>
+
+#include <stddef.h>
+#include <stdlib.h>
+#include <string.h>
+
+#include <fbcheck.h>
+
+#define HANDLE "fbcheck.schema"
+
+/* Where a message is longer, or may cost more reads a byte than by default, other threads run while it is checked. */
+#define SHORT_MESSAGE 2048
+#define FEW_READS 64
+
+/* How long the place of a fault and a name are without memory of their own. */
+#define SHORT_PLACE 512
+#define SHORT_NAME 128
+
+/* A verdict; of a bad message with texts, each of which may be null for None. */
+typedef struct {
+    PyObject_HEAD
+    fbcheck_verdict told;
+    PyObject *place;
+    PyObject *object;
+    PyObject *field;
+} Verdict;
+
+/* A schema with its options; `handle` owns what `schema` leads to, and other options may share it. */
+typedef struct {
+    PyObject_HEAD
+    PyObject *handle;
+    const fbcheck_schema *schema;
+    fbcheck_options options;
+    fbcheck_scratch *idle; /* room for tables that no call has at the moment, or null */
+    PyObject *verdict;     /* what the package makes of what is told: the class of verdicts, */
+    PyObject *bad_buffer;  /* the exception that has one, */
+    PyObject *fault;       /* the exception for a status, */
+    PyObject *value;       /* and what stands for a value that is more than a number or a text */
+} Schema;
+
+/* The messages of a stream, of which the next one stands in `room`. */
+typedef struct {
+    PyObject_HEAD
+    fbcheck_framer framer;
+    uint8_t *room;
+    Py_ssize_t size;
+} Framer;
+
+/* Gives back an object whose parts were given up. */
+static void freed(PyObject *self)
+{
+    PyTypeObject *type = Py_TYPE(self);
+    ((freefunc)PyType_GetSlot(type, Py_tp_free))(self);
+    Py_DECREF(type);
+}
+
+/* ---- verdicts ---- */
+
+static Verdict *verdict_of(PyObject *type, const fbcheck_verdict *told)
+{
+    Verdict *self = (Verdict *)PyType_GenericAlloc((PyTypeObject *)type, 0);
+    if (self != NULL)
+        self->told = *told;
+    return self;
+}
+
+static PyObject *verdict_new(PyTypeObject *type, PyObject *words, PyObject *named)
+{
+    fbcheck_verdict told = { 0 };
+    unsigned long long at, reads;
+    PyObject *place, *object, *field;
+    Verdict *self;
+    (void)named;
+    if (!PyArg_ParseTuple(words, "IIIIIIKKOOO", &told.status, &told.reason, &told.object, &told.field, &told.tables,
+                          &told.depth, &at, &reads, &place, &object, &field))
+        return NULL;
+    told.at = at;
+    told.reads = reads;
+    self = verdict_of((PyObject *)type, &told);
+    if (self != NULL) {
+        self->place = Py_NewRef(place);
+        self->object = Py_NewRef(object);
+        self->field = Py_NewRef(field);
+    }
+    return (PyObject *)self;
+}
+
+static int verdict_is_good(PyObject *self)
+{
+    return ((Verdict *)self)->told.status == FBCHECK_OK;
+}
+
+static void verdict_free(PyObject *object)
+{
+    Verdict *self = (Verdict *)object;
+    Py_XDECREF(self->place);
+    Py_XDECREF(self->object);
+    Py_XDECREF(self->field);
+    freed(object);
+}
+
+#define TOLD(name) offsetof(Verdict, told.name)
+static PyMemberDef verdict_members[] = {
+    { "tables", T_UINT, TOLD(tables), READONLY, "how many tables were visited; 0 of a bad message" },
+    { "depth", T_UINT, TOLD(depth), READONLY, "the most tables open at once; 0 of a bad message" },
+    { "reads", T_ULONGLONG, TOLD(reads), READONLY, "how many reads were made" },
+    { "object", T_OBJECT, offsetof(Verdict, object), READONLY,
+      "of a bad message the name of the table or struct under check, with its namespace" },
+    { "field", T_OBJECT, offsetof(Verdict, field), READONLY, "the name of its field under check, if it is one" },
+    { "_status", T_UINT, TOLD(status), READONLY, NULL },
+    { "_reason", T_UINT, TOLD(reason), READONLY, NULL },
+    { "_object_number", T_UINT, TOLD(object), READONLY, NULL },
+    { "_field_number", T_UINT, TOLD(field), READONLY, NULL },
+    { "_at", T_ULONGLONG, TOLD(at), READONLY, NULL },
+    { "_place", T_OBJECT, offsetof(Verdict, place), READONLY, NULL },
+    { NULL, 0, 0, 0, NULL },
+};
+
+static PyType_Slot verdict_slots[] = {
+    { Py_tp_new, verdict_new },
+    { Py_tp_dealloc, verdict_free },
+    { Py_tp_members, verdict_members },
+    { Py_nb_bool, verdict_is_good },
+    { 0, NULL },
+};
+
+static PyType_Spec verdict_spec = {
+    "fbcheck._fbcheck.Verdict", sizeof(Verdict), 0, Py_TPFLAGS_DEFAULT | Py_TPFLAGS_BASETYPE, verdict_slots,
+};
+
+/* ---- schemas ---- */
+
+static void free_handle(PyObject *handle)
+{
+    fbcheck_schema_free(PyCapsule_GetPointer(handle, HANDLE));
+}
+
+/* load(file): what holds the schema of a schema file, or the numbers of why there is none. */
+static PyObject *load(PyObject *module, PyObject *file)
+{
+    Py_buffer view;
+    fbcheck_verdict why;
+    fbcheck_schema *schema;
+    PyObject *handle;
+    (void)module;
+    if (PyObject_GetBuffer(file, &view, PyBUF_SIMPLE) != 0)
+        return NULL;
+    Py_BEGIN_ALLOW_THREADS
+    schema = fbcheck_schema_new(view.buf, (size_t)view.len, NULL, &why);
+    Py_END_ALLOW_THREADS
+    PyBuffer_Release(&view);
+    if (schema == NULL)
+        return Py_BuildValue("IIIIK", why.status, why.reason, why.object, why.field, (unsigned long long)why.at);
+    handle = PyCapsule_New(schema, HANDLE, free_handle);
+    if (handle == NULL)
+        fbcheck_schema_free(schema);
+    return handle;
+}
+
+/* table(handle, name): the number of the table of this name, or None. */
+static PyObject *table(PyObject *module, PyObject *words)
+{
+    PyObject *handle;
+    const char *name;
+    Py_ssize_t length;
+    fbcheck_schema *schema;
+    uint32_t number;
+    (void)module;
+    if (!PyArg_ParseTuple(words, "Os#", &handle, &name, &length))
+        return NULL;
+    schema = PyCapsule_GetPointer(handle, HANDLE);
+    if (schema == NULL)
+        return NULL;
+    number = fbcheck_table(schema, name, (size_t)length);
+    if (number == FBCHECK_NO_TABLE)
+        Py_RETURN_NONE;
+    return PyLong_FromUnsignedLong(number);
+}
+
+/* Raises what tells that a call wasn't done. */
+static PyObject *refused(Schema *self, uint32_t status)
+{
+    PyObject *fault = PyObject_CallFunction(self->fault, "I", status);
+    if (fault != NULL) {
+        PyErr_SetObject((PyObject *)Py_TYPE(fault), fault);
+        Py_DECREF(fault);
+    }
+    return NULL;
+}
+
+static void schema_free(PyObject *object)
+{
+    Schema *self = (Schema *)object;
+    fbcheck_scratch_free(self->idle);
+    Py_XDECREF(self->handle);
+    Py_XDECREF(self->verdict);
+    Py_XDECREF(self->bad_buffer);
+    Py_XDECREF(self->fault);
+    Py_XDECREF(self->value);
+    freed(object);
+}
+
+/* Schema(handle, (root, ident_from, ident, prefixed, alignment, inline_size, max_depth, max_tables, max_reads,
+   reads_per_byte), (Verdict, BadBuffer, fault, value)) */
+static PyObject *schema_new(PyTypeObject *type, PyObject *words, PyObject *named)
+{
+    fbcheck_options asked = FBCHECK_OPTIONS_INIT;
+    unsigned long long max_reads;
+    int prefixed, alignment, inline_size;
+    const char *ident;
+    Py_ssize_t length;
+    PyObject *handle, *verdict, *bad_buffer, *fault, *value;
+    Schema *self;
+    uint32_t status;
+    (void)named;
+    if (!PyArg_ParseTuple(words, "O(Iby#pppIIKI)(OOOO)", &handle, &asked.root, &asked.ident_from, &ident, &length,
+                          &prefixed, &alignment, &inline_size, &asked.max_depth, &asked.max_tables, &max_reads,
+                          &asked.reads_per_byte, &verdict, &bad_buffer, &fault, &value))
+        return NULL;
+    memcpy(asked.ident, ident, length < 4 ? (size_t)length : 4);
+    asked.max_reads = max_reads;
+    asked.prefixed = (uint8_t)prefixed;
+    asked.no_alignment = (uint8_t)!alignment;
+    asked.inline_size = (uint8_t)inline_size;
+    self = (Schema *)PyType_GenericAlloc(type, 0);
+    if (self == NULL)
+        return NULL;
+    self->options = asked;
+    self->handle = Py_NewRef(handle);
+    self->verdict = Py_NewRef(verdict);
+    self->bad_buffer = Py_NewRef(bad_buffer);
+    self->fault = Py_NewRef(fault);
+    self->value = Py_NewRef(value);
+    self->schema = PyCapsule_GetPointer(handle, HANDLE);
+    self->idle = fbcheck_scratch_new(asked.max_depth);
+    /* No bytes are bad by any options that can be served. */
+    status = self->schema == NULL ? FBCHECK_NULL
+             : self->idle == NULL ? FBCHECK_NO_MEMORY
+                                  : fbcheck_verify(self->schema, self->idle, &self->options, NULL, 0, NULL);
+    if (status != FBCHECK_BAD) {
+        if (!PyErr_Occurred())
+            refused(self, status);
+        Py_DECREF(self);
+        return NULL;
+    }
+    return (PyObject *)self;
+}
+
+/* One message under check. */
+typedef struct {
+    Py_buffer view;
+    fbcheck_scratch *scratch;
+    PyThreadState *others; /* null while this thread keeps the lock of the interpreter */
+} Check;
+
+/* Takes the bytes of a message, and room for tables. */
+static int begin(Schema *self, PyObject *message, Check *check)
+{
+    if (PyObject_GetBuffer(message, &check->view, PyBUF_SIMPLE) != 0)
+        return -1;
+    check->scratch = self->idle;
+    self->idle = NULL;
+    if (check->scratch == NULL && self->options.max_depth > FBCHECK_DEEP) {
+        check->scratch = fbcheck_scratch_new(self->options.max_depth);
+        if (check->scratch == NULL) {
+            PyBuffer_Release(&check->view);
+            PyErr_NoMemory();
+            return -1;
+        }
+    }
+    check->others = NULL;
+    if (check->view.len > SHORT_MESSAGE || self->options.reads_per_byte > FEW_READS)
+        check->others = PyEval_SaveThread();
+    return 0;
+}
+
+/* Goes on as the one thread of the interpreter. */
+static void resume(Check *check)
+{
+    if (check->others != NULL)
+        PyEval_RestoreThread(check->others);
+    check->others = NULL;
+}
+
+/* Gives back what begin() took. */
+static void end(Schema *self, Check *check)
+{
+    resume(check);
+    if (self->idle == NULL)
+        self->idle = check->scratch;
+    else
+        fbcheck_scratch_free(check->scratch);
+    PyBuffer_Release(&check->view);
+}
+
+/* Writes the place of a fault to `room`, or to more room, which it answers; null where that is refused. */
+static char *place_of(Schema *self, Check *check, fbcheck_verdict *told, char *room, size_t *length)
+{
+    size_t size = SHORT_PLACE;
+    char *text = room;
+    fbcheck_locate(self->schema, check->scratch, &self->options, check->view.buf, (size_t)check->view.len, text, size,
+                   length, told);
+    if (*length <= size)
+        return text;
+    size = *length;
+    text = malloc(size);
+    if (text == NULL)
+        return NULL;
+    fbcheck_locate(self->schema, check->scratch, &self->options, check->view.buf, (size_t)check->view.len, text, size,
+                   length, told);
+    *length = *length <= size ? *length : size;
+    return text;
+}
+
+/* Copies the name of an object, or of its field where `field` is one, and tells its length. */
+static size_t copy_name(const fbcheck_schema *schema, uint32_t object, uint32_t field, char *text, size_t room)
+{
+    return field == FBCHECK_NONE ? fbcheck_object_name(schema, object, text, room)
+                                 : fbcheck_field_name(schema, object, field, text, room);
+}
+
+/* This name as a text. */
+static PyObject *name_of(const fbcheck_schema *schema, uint32_t object, uint32_t field)
+{
+    char room[SHORT_NAME], *text = room;
+    size_t length = copy_name(schema, object, field, room, SHORT_NAME);
+    PyObject *name;
+    if (length > SHORT_NAME) {
+        text = malloc(length);
+        if (text == NULL)
+            return PyErr_NoMemory();
+        copy_name(schema, object, field, text, length);
+    }
+    name = PyUnicode_DecodeUTF8(text, (Py_ssize_t)length, "replace");
+    if (text != room)
+        free(text);
+    return name;
+}
+
+/* The verdict on a message that is bad; a good one, where another thread has changed the message meanwhile. */
+static PyObject *bad(Schema *self, Check *check)
+{
+    char room[SHORT_PLACE], *text;
+    size_t length = 0;
+    fbcheck_verdict told;
+    Verdict *verdict;
+    text = place_of(self, check, &told, room, &length);
+    end(self, check);
+    verdict = text != NULL ? verdict_of(self->verdict, &told) : (Verdict *)PyErr_NoMemory();
+    if (verdict != NULL && told.status == FBCHECK_BAD) {
+        verdict->place = PyUnicode_DecodeUTF8(text, (Py_ssize_t)length, "replace");
+        verdict->object = name_of(self->schema, told.object, FBCHECK_NONE);
+        verdict->field = told.field != FBCHECK_NONE ? name_of(self->schema, told.object, told.field) : NULL;
+        if (PyErr_Occurred())
+            Py_CLEAR(verdict);
+    }
+    if (text != room)
+        free(text);
+    return (PyObject *)verdict;
+}
+
+static PyObject *schema_check(Schema *self, PyObject *message)
+{
+    Check check;
+    fbcheck_verdict told;
+    uint32_t status;
+    if (begin(self, message, &check) != 0)
+        return NULL;
+    status = fbcheck_verify(self->schema, check.scratch, &self->options, check.view.buf, (size_t)check.view.len, &told);
+    if (status == FBCHECK_BAD)
+        return bad(self, &check);
+    end(self, &check);
+    return status == FBCHECK_OK ? (PyObject *)verdict_of(self->verdict, &told) : refused(self, status);
+}
+
+/* Raises that a message is bad, of which this is the verdict. */
+static PyObject *raised(Schema *self, PyObject *verdict)
+{
+    if (verdict != NULL) {
+        PyErr_SetObject(self->bad_buffer, verdict);
+        Py_DECREF(verdict);
+    }
+    return NULL;
+}
+
+static PyObject *schema_verify(Schema *self, PyObject *message)
+{
+    PyObject *verdict = schema_check(self, message);
+    return verdict == NULL || verdict_is_good(verdict) ? verdict : raised(self, verdict);
+}
+
+/* ---- values ---- */
+
+/* _resolve(path): the bytes of a path, or the numbers of why it is none. */
+static PyObject *schema_resolve(Schema *self, PyObject *text)
+{
+    fbcheck_path path;
+    fbcheck_verdict why;
+    Py_ssize_t length;
+    const char *bytes = PyUnicode_AsUTF8AndSize(text, &length);
+    if (bytes == NULL)
+        return NULL;
+    if (fbcheck_resolve(self->schema, &self->options, bytes, (size_t)length, &path, &why) == FBCHECK_OK)
+        return PyBytes_FromStringAndSize((const char *)&path, sizeof path);
+    return Py_BuildValue("IIK", why.status, why.reason, (unsigned long long)why.at);
+}
+
+static PyObject *float_of(const char *bytes, uint64_t size)
+{
+    float single;
+    double whole;
+    if (size == sizeof whole) {
+        memcpy(&whole, bytes, sizeof whole);
+        return PyFloat_FromDouble(whole);
+    }
+    memcpy(&single, bytes, sizeof single);
+    return PyFloat_FromDouble(single);
+}
+
+/* A value as Python has it. Of a vector that is indexed, its first element stands behind it. */
+static PyObject *value_of(Schema *self, PyObject *message, const char *bytes, const fbcheck_value *value, int indexed)
+{
+    switch (value->kind) {
+    case FBCHECK_ABSENT:
+    case FBCHECK_NO_ELEMENT:
+    case FBCHECK_OTHER_MEMBER:
+        Py_RETURN_NONE;
+    case FBCHECK_BOOL:
+        return PyBool_FromLong(value->number != 0);
+    case FBCHECK_INT:
+        return PyLong_FromLongLong(value->integer);
+    case FBCHECK_UINT:
+        return PyLong_FromUnsignedLongLong(value->number);
+    case FBCHECK_FLOAT:
+        return float_of(bytes + value->at, value->size);
+    case FBCHECK_TEXT:
+        return PyUnicode_DecodeUTF8(bytes + value->at, (Py_ssize_t)value->size, "surrogateescape");
+    default:
+        return PyObject_CallFunction(self->value, "OIKKKI", message, value->kind, (unsigned long long)value->number,
+                                     (unsigned long long)value->at, (unsigned long long)value->size,
+                                     indexed ? value[1].kind : FBCHECK_ABSENT);
+    }
+}
+
+/* The values that were read, of each path one. */
+static PyObject *values_of(Schema *self, PyObject *message, const char *bytes, PyObject *paths, fbcheck_value *values)
+{
+    Py_ssize_t at, count = PyTuple_Size(paths);
+    PyObject *told = PyTuple_New(count);
+    for (at = 0; told != NULL && at < count; at++) {
+        int indexed = (size_t)PyBytes_Size(PyTuple_GetItem(paths, at)) > sizeof(fbcheck_path);
+        PyObject *one = value_of(self, message, bytes, values, indexed);
+        if (one == NULL || PyTuple_SetItem(told, at, one) != 0)
+            Py_CLEAR(told);
+        values += 1 + indexed;
+    }
+    return told;
+}
+
+/* Puts the paths in a row, and tells how many there are; 0 where one is none. */
+static size_t in_a_row(PyObject *paths, fbcheck_path *row)
+{
+    Py_ssize_t at, size;
+    size_t count = 0;
+    char *bytes;
+    for (at = 0; at < PyTuple_Size(paths); at++) {
+        if (PyBytes_AsStringAndSize(PyTuple_GetItem(paths, at), &bytes, &size) != 0)
+            return 0;
+        if ((size_t)size != sizeof *row && (size_t)size != 2 * sizeof *row) {
+            PyErr_SetString(PyExc_ValueError, "not the bytes of a path");
+            return 0;
+        }
+        memcpy(row + count, bytes, (size_t)size);
+        count += (size_t)size / sizeof *row;
+    }
+    return count;
+}
+
+/* _read(message, paths): a tuple of the values at paths, each the bytes of _resolve(), for a vector those of its first
+   element behind them. */
+static PyObject *schema_read(Schema *self, PyObject *words)
+{
+    fbcheck_path *row;
+    fbcheck_value *values;
+    PyObject *message, *paths, *read = NULL;
+    size_t count;
+    Check check;
+    uint32_t status;
+    if (!PyArg_ParseTuple(words, "OO!", &message, &PyTuple_Type, &paths))
+        return NULL;
+    row = malloc(((size_t)PyTuple_Size(paths) * 2 + 1) * (sizeof *row + sizeof *values));
+    if (row == NULL)
+        return PyErr_NoMemory();
+    values = (fbcheck_value *)(row + PyTuple_Size(paths) * 2);
+    count = in_a_row(paths, row);
+    if (!PyErr_Occurred() && begin(self, message, &check) == 0) {
+        status = fbcheck_read(self->schema, check.scratch, &self->options, check.view.buf, (size_t)check.view.len, row,
+                              values, count, NULL);
+        if (status == FBCHECK_BAD) {
+            raised(self, bad(self, &check));
+        } else {
+            resume(&check);
+            read = status == FBCHECK_OK ? values_of(self, message, check.view.buf, paths, values)
+                                        : refused(self, status);
+            end(self, &check);
+        }
+    }
+    free(row);
+    return read;
+}
+
+static PyMethodDef schema_methods[] = {
+    { "check", (PyCFunction)schema_check, METH_O,
+      "check($self, message, /)\n--\n\nThe verdict on a message: whatever has bytes, of which none is copied." },
+    { "verify", (PyCFunction)schema_verify, METH_O,
+      "verify($self, message, /)\n--\n\nThe verdict on a good message; raises BadBuffer where it is bad." },
+    { "_resolve", (PyCFunction)schema_resolve, METH_O, NULL },
+    { "_read", (PyCFunction)schema_read, METH_VARARGS, NULL },
+    { NULL, NULL, 0, NULL },
+};
+
+static PyType_Slot schema_slots[] = {
+    { Py_tp_new, schema_new },
+    { Py_tp_dealloc, schema_free },
+    { Py_tp_methods, schema_methods },
+    { 0, NULL },
+};
+
+static PyType_Spec schema_spec = {
+    "fbcheck._fbcheck.Schema", sizeof(Schema), 0, Py_TPFLAGS_DEFAULT | Py_TPFLAGS_BASETYPE, schema_slots,
+};
+
+/* ---- streams ---- */
+
+static PyObject *framer_new(PyTypeObject *type, PyObject *words, PyObject *named)
+{
+    Py_ssize_t size;
+    Framer *self;
+    (void)named;
+    if (!PyArg_ParseTuple(words, "n", &size))
+        return NULL;
+    self = (Framer *)PyType_GenericAlloc(type, 0);
+    if (self == NULL)
+        return NULL;
+    self->size = size;
+    self->room = malloc((size_t)size);
+    if (self->room == NULL) {
+        Py_DECREF(self);
+        return PyErr_NoMemory();
+    }
+    return (PyObject *)self;
+}
+
+static void framer_free(PyObject *self)
+{
+    free(((Framer *)self)->room);
+    freed(self);
+}
+
+/* feed(piece, at): the status, how many bytes were taken from this place of the piece on, and what there is: the next
+   message, or of one that is too long how many bytes its prefix declares. */
+static PyObject *framer_feed(Framer *self, PyObject *words)
+{
+    Py_buffer piece;
+    Py_ssize_t at;
+    size_t used = 0;
+    uint32_t status;
+    PyObject *message;
+    if (!PyArg_ParseTuple(words, "y*n", &piece, &at))
+        return NULL;
+    if (at < 0 || at > piece.len)
+        at = piece.len;
+    status = fbcheck_framer_feed(&self->framer, self->room, (size_t)self->size, (const uint8_t *)piece.buf + at,
+                                 (size_t)(piece.len - at), &used);
+    PyBuffer_Release(&piece);
+    if (status != FBCHECK_OK)
+        return Py_BuildValue("InI", status, (Py_ssize_t)used, self->framer.declared);
+    message = PyBytes_FromStringAndSize((const char *)self->room, (Py_ssize_t)self->framer.held);
+    if (message == NULL)
+        return NULL;
+    fbcheck_framer_next(&self->framer, self->room, (size_t)self->size);
+    return Py_BuildValue("InN", status, (Py_ssize_t)used, message);
+}
+
+/* held(): how many bytes of a message that goes on are held. */
+static PyObject *framer_held(Framer *self, PyObject *nothing)
+{
+    (void)nothing;
+    return PyLong_FromSize_t(self->framer.held);
+}
+
+static PyMethodDef framer_methods[] = {
+    { "feed", (PyCFunction)framer_feed, METH_VARARGS, NULL },
+    { "held", (PyCFunction)framer_held, METH_NOARGS, NULL },
+    { NULL, NULL, 0, NULL },
+};
+
+static PyType_Slot framer_slots[] = {
+    { Py_tp_new, framer_new },
+    { Py_tp_dealloc, framer_free },
+    { Py_tp_methods, framer_methods },
+    { 0, NULL },
+};
+
+static PyType_Spec framer_spec = {
+    "fbcheck._fbcheck.Framer", sizeof(Framer), 0, Py_TPFLAGS_DEFAULT, framer_slots,
+};
+
+/* ---- the module ---- */
+
+static int module_exec(PyObject *module)
+{
+    PyType_Spec *const specs[] = { &verdict_spec, &schema_spec, &framer_spec };
+    static const char *const names[] = { "Verdict", "Schema", "Framer" };
+    int at;
+    if (fbcheck_version() != FBCHECK_VERSION) {
+        PyErr_Format(PyExc_ImportError, "libfbcheck has version %u, and the header %u", (unsigned)fbcheck_version(),
+                     (unsigned)FBCHECK_VERSION);
+        return -1;
+    }
+    for (at = 0; at < 3; at++) {
+        PyObject *type = PyType_FromSpec(specs[at]);
+        int answer = type != NULL ? PyModule_AddObjectRef(module, names[at], type) : -1;
+        Py_XDECREF(type);
+        if (answer != 0)
+            return -1;
+    }
+    return 0;
+}
+
+static PyMethodDef module_methods[] = {
+    { "load", load, METH_O, NULL },
+    { "table", table, METH_VARARGS, NULL },
+    { NULL, NULL, 0, NULL },
+};
+
+static PyModuleDef_Slot module_slots[] = {
+    { Py_mod_exec, module_exec },
+    { 0, NULL },
+};
+
+static struct PyModuleDef module_def = {
+    PyModuleDef_HEAD_INIT, "fbcheck._fbcheck", NULL, 0, module_methods, module_slots, NULL, NULL, NULL,
+};
+
+PyMODINIT_FUNC PyInit__fbcheck(void)
+{
+    return PyModuleDef_Init(&module_def);
+}

@@ -1,0 +1,513 @@
+"""The package for Python beside the program: the same verdicts and values, and what a caller in Python may do."""
+
+import array
+import concurrent.futures
+import copy
+import io
+import mmap
+import os
+import pathlib
+import pickle
+import re
+import socket
+import struct
+import subprocess
+import sys
+import threading
+import time
+
+from tests.support import buffers, schemas
+from tests.support.buffers import (
+    ASKEW, HALVES, MEMBER, MEMBERS, ORC, PLACED, PLAIN, POST, SEVEN, TWINS, lower_type, named,
+)
+from tests.support.builder import Plain, buffer, changed, messages_of, prefixed, spelled
+from tests.support.every_kind import FILE, LITTLE, OPTIONS, WHOLE, variants, words_of
+from tests.support.library import LibraryCase, ran
+from tests.support.program import TOP, file_of, run
+from tests.support.python import package
+from tests.support.schemas import (
+    BOOL, BYTE, DOUBLE, FLOAT, INT, LONG, SHORT, TEXT, U_BYTE, U_INT, U_LONG, U_SHORT, U_TYPE, a_union, an_object,
+    field, schema, table, union, vector,
+)
+
+BINDING = TOP / "bindings/python"
+ORDERS = TOP / "examples/deliveries.bfbs"
+ALL = file_of("all.bfbs", FILE)
+FILES = schemas.files()
+NUMBERS = [("byte", BYTE, "b"), ("u_byte", U_BYTE, "B"), ("short", SHORT, "h"), ("u_short", U_SHORT, "H"),
+           ("int", INT, "i"), ("u_int", U_INT, "I"), ("long", LONG, "q"), ("u_long", U_LONG, "Q"),
+           ("float", FLOAT, "f"), ("double", DOUBLE, "d")]
+
+# What a process of its own does many times over; it tells by how many KB its memory has grown meanwhile.
+LEAKS = """
+import resource, sys
+import fbcheck
+file, message, bad = (bytes.fromhex(word) for word in sys.argv[1:])
+def each(number):
+    schema = fbcheck.Schema(file)
+    schema.check(message), schema.check(bad), schema.read(message, "name", "hp"), schema.path("hp")
+    if number % 8:
+        return
+    for call in (lambda: schema.verify(bad), lambda: schema.read(bad, "hp"), lambda: schema.path("nowhere"),
+                 lambda: fbcheck.Schema(bad), lambda: schema.check("text"), lambda: schema.replace(root="Nobody")):
+        try:
+            call()
+        except (fbcheck.Error, TypeError):
+            pass
+    list(schema.replace(prefixed=True).messages(len(message).to_bytes(4, "little") + message, max_bytes=64))
+def peak(times):
+    for number in range(times):
+        each(number)
+    return resource.getrusage(resource.RUSAGE_SELF).ru_maxrss
+first = peak(2000)
+print(peak(100_000) - first)
+"""
+
+# What others than the tests' own process do with a schema that was shipped to them.
+SHIPPED = """
+import multiprocessing, sys
+import fbcheck
+if __name__ == "__main__":
+    schema = fbcheck.Schema(sys.argv[1], prefixed=True)
+    messages = [message for message, _ in schema.messages(open(sys.argv[2], "rb"))]
+    with multiprocessing.get_context("spawn").Pool(2) as pool:
+        print(*pool.map(schema.check, messages), sep="\\n")
+        try:
+            pool.map(schema.verify, messages)
+        except fbcheck.BadBuffer as error:
+            print(error.verdict)
+"""
+
+
+def keywords_of(options):
+    """The keywords that ask the package for the same as the words of the program."""
+    return {{"depth": "max_depth", "tables": "max_tables", "reads": "max_reads"}.get(name, name): value
+            for name, value in options.items()}
+
+
+def streams():
+    """Streams of good and damaged buffers, each with the words and keywords that ask for them."""
+    for root in (WHOLE, LITTLE):
+        data = buffer(root, b"KIND", prefix=True)[4:]
+        given = b"".join(map(prefixed, variants(data, [1, 4, 252])))
+        for options in OPTIONS:
+            options = {"tables": 500, **options}
+            yield options, ["--schema", ALL, *words_of(options)], (ALL, keywords_of(options)), given
+    yield "deliveries", ["--schema", ORDERS], (ORDERS, {}), POST
+    yield "another root", ["--schema", ORDERS, "--root", "post.Person"], (ORDERS, {"root": "post.Person"}), POST
+
+
+def lines_of(told):
+    """The program's lines with these verdicts."""
+    return [f"{number} {verdict}" for number, verdict in enumerate(told, 1)]
+
+
+class Python(LibraryCase):
+    @classmethod
+    def setUpClass(cls):
+        super().setUpClass()
+        cls.folder = package()
+        sys.path.insert(0, str(cls.folder))
+        import fbcheck
+        cls.module = fbcheck
+
+    def by(self, name, **options):
+        """A schema of the tests by its name, or any file's."""
+        return self.module.Schema(FILES.get(name, name), **options)
+
+    def fails(self, name, kind, text, call):
+        """The call ends by this exception, whose text has these words."""
+        try:
+            got = call()
+        except Exception as error:
+            got = error
+        self.holds(name, type(got) is kind and text in str(got), (type(got), str(got)))
+        return got
+
+    def alone(self, script, *words):
+        """What a process of its own writes that runs this script with the package."""
+        return ran(sys.executable, "-c", script, *words, PYTHONPATH=str(self.folder), seconds=300)
+
+    def test_verdicts(self):
+        """Those of the program, word for word, on more than 10,000 buffers, with each reason."""
+        count, seen = 0, set()
+        for name, words, (path, keywords), given in streams():
+            want = run(*words, "--names", given=given).out.decode().splitlines()
+            checker = self.module.Schema(path, prefixed=True, **keywords)
+            told = [verdict for _, verdict in checker.messages(given)]
+            differing = [pair for pair in zip(lines_of(told), want) if pair[0] != pair[1]]
+            self.same(f"{name}: lines that differ from the program's", differing[:3], [])
+            self.same(f"{name}: their number", len(told), len(want))
+            self.same(f"{name}: true of the good ones", [*map(bool, told)], [" ok " in line for line in want])
+            count += len(want)
+            seen |= {verdict.reason for verdict in told}
+        self.holds("more than 10,000 buffers", count > 10_000, count)
+        wrong = self.by("N", prefixed=True).check(changed(SEVEN, (0, "1d")))
+        self.same("a wrong prefix, which no stream has", (wrong.reason, wrong.position), (1, 0))
+        self.same("each reason", sorted({*filter(None, seen), wrong.reason}), sorted(self.module.Reason))
+
+    def test_a_verdict(self):
+        """Its parts, and that two with the same are equal."""
+        checker = self.module.Schema(ORDERS, prefixed=True)
+        messages, reason = messages_of(POST), self.module.Reason
+        good, bad = checker.check(messages[0]), checker.check(messages[4])
+        counts = lambda of: (bool(of), of.tables, of.depth, of.reads)
+        fault = lambda of: (of.reason, of.position, of.place, of.object, of.field)
+        self.same("counts of a good one", counts(good), (True, 8, 2, 111))
+        self.same("which has no fault", fault(good), (None,) * 5)
+        self.same("counts of a bad one", counts(bad), (False, 0, 0, 63))
+        self.same("which has one", fault(bad),
+                  (reason.NO_TERMINATOR, 314, "items[1]@Note", "post.Delivery", "items"))
+        self.same("texts of the good one", (str(good), repr(good)),
+                  ("ok tables=8 depth=2 reads=111", "<Verdict ok tables=8 depth=2 reads=111>"))
+        text = "V10 NoTerminator at=314 object=1 field=6 reads=63 in items[1]@Note [post.Delivery.items]"
+        self.same("texts of the bad one", (str(bad), str(bad.reason)), (f"bad {text}", "V10 NoTerminator"))
+        torn = checker.check(messages[0][:40])
+        self.same("without a field", (torn.place, torn.object, torn.field), (".", "post.Delivery", None))
+        self.same("equal", (bad == checker.check(messages[4]), good == bad, good == 0, len({good, bad, good})),
+                  (True, False, False, 2))
+        for name, again in [("pickled", pickle.loads(pickle.dumps(bad))), ("copied", copy.deepcopy(bad))]:
+            self.same(f"{name}, the same", (again == bad, str(again), again.place), (True, str(bad), bad.place))
+        page = (TOP / "docs/REFERENCE.md").read_text().split("## Reasons")[1].split("\n## ")[0]
+        self.same("reasons have the reference's names", re.findall(r"V\d+ [A-Z]\w+", page), [*map(str, reason)])
+        deep = self.by("CHAIN", max_depth=4096)
+        self.same("a place that is long", deep.check(buffers.levels(500)[:-1]).place, ".".join(["next"] * 499))
+        file = schema([table("L" * 70_000, field("f" * 5000, INT, 4))], root="L" * 70_000)
+        told = self.module.Schema(file).check(spelled("0c000000 0000 0600 ffff 0400 08000000"))
+        self.same("names that are long", (told.reason, told.object, told.field), (8, "L" * 70_000, None))
+        told = self.module.Schema(file, inline_size=True).check(buffer({0: ("i", 5)})[:-1])
+        self.same("of a field too", (told.reason, told.object, told.field), (2, "L" * 70_000, "f" * 5000))
+
+    def test_options(self):
+        good = self.by("M").check(ORC)
+        for name, options, data, want in [
+            ("an identifier", {"ident": b"NONE"}, ORC, 5),
+            ("one that is there", {"ident": b"MEMB", "root": "R", "prefixed": True}, buffers.ODD_MEMBER, 3),
+            ("no alignment", {"root": "R", "prefixed": True, "alignment": False}, buffers.ODD_MEMBER, None),
+            ("depth", {"max_depth": 0}, ORC, 6), ("tables", {"max_tables": 0}, ORC, 7),
+            ("reads", {"max_reads": 5}, ORC, 13), ("none", {"max_reads": 0}, ORC, 13),
+            ("the schema's own identifier, of which it has none", {"ident": "own"}, ORC, None),
+        ]:
+            told = self.by("X" if "root" in options else "M", **options).check(data)
+            self.same(name, told.reason, want)
+        own = self.module.Schema(schema([table("T")], root="T", ident="OWNS"), ident="own")
+        self.same("the schema's own identifier", [own.check(buffer({}, ident)).reason for ident in (b"OWNS", b"ELSE")],
+                  [None, 5])
+        first = self.by("M")
+        second = first.replace(max_reads=5)
+        third = second.replace(max_reads=10)
+        self.same("replaced ones", (first.check(ORC), second.check(ORC).reason, third.check(ORC)), (good, 13, good))
+        self.same("are told", (second.options.max_reads, first.options, "max_reads=5" in repr(second)),
+                  (5, self.module.Options(), True))
+        self.fails("and aren't changed", AttributeError, "options", lambda: setattr(first, "options", second.options))
+        chain = buffers.levels(4096)
+        deep = [self.by("CHAIN", max_depth=depth).check(chain).reason for depth in (4095, 4096)]
+        self.same("the greatest depth", deep, [6, None])
+        for options in [{"ident": b"abc"}, {"ident": "text"}, {"max_depth": 4097}, {"max_tables": -1},
+                        {"max_reads": 2**64}, {"reads_per_byte": 2**32}]:
+            self.fails(f"{options}", ValueError, *options, lambda: self.by("M", **options))
+            self.fails(f"{options} in place of others", ValueError, *options, lambda: first.replace(**options))
+        for wrong in (self.by, lambda _, **words: first.replace(**words)):
+            self.fails("a word that is none", TypeError, "depth", lambda: wrong("M", depth=3))
+
+    def test_values(self):
+        """Each kind, as it was worked out by hand."""
+        of = self.module
+        for name, data, path, want, *root in [
+            ("M", ORC, "name", "Orc"), ("M", ORC, "hp", 300), ("M", PLAIN, "hp", 100), ("M", PLAIN, "name", None),
+            ("X", MEMBER, "u", of.Union(1), "R"), ("X", MEMBER, "u@A", of.Table(), "R"), ("X", MEMBER, "u@A.v", 5, "R"),
+            ("X", MEMBER, "u@T", None, "R"), ("X", lower_type(9), "u", of.Union(9), "R"), ("X", PLAIN, "u", None, "R"),
+            ("X", PLAIN, "u_type", 0, "R"), ("X", MEMBERS, "us", of.Vector(2)), ("X", MEMBERS, "us[0]", of.Union(3)),
+            ("X", MEMBERS, "us[0]@T", "hi"), ("X", MEMBERS, "us[1]", of.Union(0)), ("X", MEMBERS, "us[2]@T", None),
+            ("X", MEMBERS, "us[4294967295]", None), ("G", HALVES, "f", 1.5), ("G", PLAIN, "f", None),
+            ("NODE", TWINS, "a.b", of.Table()), ("NODE", TWINS, "a.b.a.b", None), ("N", SEVEN, "v", 7),
+        ]:
+            checker = self.by(name, root=root[0] if root else None, prefixed=name == "N")
+            for times in ("first", "again"):
+                got = checker.read(data, path)
+                self.same(f"{path} of {name}, {times}", (type(got), got), (type(want), want))
+            self.same(f"{path} of {name}, resolved", checker.read(data, checker.path(path)), want)
+        for name, data, path, want, form, *root in [
+            ("X", PLACED, "u@W", struct.pack("<q", 7), "B", "R"), ("X", MEMBERS, "us_type", b"\3\0", "B"),
+            ("Z", changed(ASKEW, (16, "0400")), "l", b"", "B"),
+        ]:
+            checker = self.by(name, root=root[0] if root else None, alignment=False)
+            if checker.check(data):
+                got = checker.read(data, path)
+                self.same(f"bytes at {path} of {name}", (bytes(got), got.format, got.readonly), (want, form, True))
+        many = self.by("M").read(ORC, "name", "hp", "name")
+        self.same("several are a tuple", many, ("Orc", 300, "Orc"))
+        eleven = self.by("M").read(ORC, *["hp"] * 50)
+        self.same("fifty too", eleven, (300,) * 50)
+
+    def test_numbers(self):
+        """Each type at its bounds, alone and in vectors, which are slices of the message."""
+        file = schema([table("T", *[row for number, (name, kind, _) in enumerate(NUMBERS) for row in (
+            field(name, kind, 4 + 4 * number), field(f"{name}s", vector(kind), 6 + 4 * number))],
+            field("yes", BOOL, 44), field("yeses", vector(BOOL), 46), field("types", vector(U_TYPE), 48))], root="T")
+        checker = self.module.Schema(file)
+        for number, (name, _, letter) in enumerate(NUMBERS):
+            size = 8 * struct.calcsize(f"<{letter}")
+            bounds = {"f": (1.5, -0.0, float("inf")), "d": (1e300, -0.0, float("-inf"))}.get(
+                letter, (0, 2**size - 1) if letter.isupper() else (-(2 ** (size - 1)), 2 ** (size - 1) - 1))
+            for value in bounds:
+                got = checker.read(buffer({2 * number: (letter, value)}), name)
+                self.same(f"{name} {value}", (type(got), repr(got)), (type(value), repr(value)))
+            values = array.array(letter, bounds)
+            data = bytearray(buffer({2 * number + 1: Plain(values.tobytes(), 8, len(values))}))
+            got = checker.read(data, f"{name}s")
+            self.same(f"{name}s", (got.format, got.tolist(), got.readonly, len(got)),
+                      (letter, values.tolist(), True, len(values)))
+            self.same(f"an element of {name}s", checker.read(data, f"{name}s[1]"), values[1])
+            self.same(f"{name}s are no copy", (got.obj is data, got.nbytes), (True, len(values) * values.itemsize))
+            empty = checker.read(buffer({2 * number + 1: Plain(b"", 8, 0)}), f"{name}s")
+            self.same(f"no {name}s", (type(empty), len(empty)), (memoryview, 0))
+        for byte, want in [(0, False), (1, True), (255, True)]:
+            self.same(f"a Bool of {byte}", checker.read(buffer({20: ("B", byte)}), "yes"), want)
+        data = buffer({21: Plain(b"\0\1\xff", 1, 3), 22: Plain(b"\5", 1, 1)})
+        self.same("Bools and types in rows", [*map(bytes, checker.read(data, "yeses", "types"))], [b"\0\1\xff", b"\5"])
+        data = bytearray(data)
+        part = checker.read(data, "yeses")
+        data[data.index(b"\0\1\xff")] = 9
+        self.same("a slice has what the message has", bytes(part), b"\t\1\xff")
+        self.fails("which keeps its length meanwhile", BufferError, "", lambda: data.extend(b"more"))
+        self.fails("and isn't written by it", TypeError, "read-only", lambda: part.__setitem__(0, 1))
+
+    def test_texts(self):
+        file = schema([table("T", field("s", TEXT, 4), field("all", vector(TEXT), 6))], root="T")
+        checker = self.module.Schema(file)
+        for given in [b"", b"plain", "é 漢 🙂".encode(), b"\0", b"\xff\x80", b"a\xed\xa0\x80z", bytes(range(256))]:
+            got = checker.read(buffer({0: given}), "s")
+            back = got.encode("utf-8", "surrogateescape")
+            self.same(f"{given[:9]}: a text that has all its bytes", (type(got), back), (str, given))
+            self.same(f"{given[:9]}: in a vector", checker.read(buffer({1: [b"first", given]}), "all", "all[1]"),
+                      (self.module.Vector(2), got))
+        self.same("UTF-8 is read", checker.read(buffer({0: "é 漢 🙂"}), "s"), "é 漢 🙂")
+        self.same("a vector has its length", (len(self.module.Vector(2)), bool(self.module.Vector(0)),
+                                              bool(self.module.Table())), (2, False, True))
+
+    def test_what_reading_refuses(self):
+        checker = self.by("M")
+        of = self.module
+        got = self.fails("a bad message", of.BadBuffer, "bad V2 OutOfBuffer", lambda: checker.read(ORC[:-1], "name"))
+        self.same("has its verdict", got.verdict, checker.check(ORC[:-1]))
+        paths = self.module.Schema(ORDERS)
+        for text, words in [
+            ("to..name", "first 3 bytes"), ("", "first 0 bytes"), ("é", "first 0 bytes"), ("to.nam", "P2 at '.nam'"),
+            ("nam", "P2 at 'nam'"), ("to[3]", "P3 at '[3]'"), ("items[0]@Parcel@Parcel", "P4 at '@Parcel'"),
+            ("items[0]@Nobody", "P5 at '@Nobody'"), ("to.name.x", "P6 at '.x'"),
+        ]:
+            self.fails(f"the path {text!r}", of.PathError, words, lambda: paths.path(text))
+            self.fails(f"{text!r} of a message", of.PathError, words, lambda: paths.read(POST, text))
+        long = self.by("CHAIN").path(".".join(["next"] * 31))
+        self.same("31 steps", self.by("CHAIN").read(buffers.levels(2), long), None)
+        self.fails("32 steps", of.PathError, "31 steps", lambda: self.by("CHAIN").path(".".join(["next"] * 32)))
+        for path in (3, None, b"name", ["name"]):
+            self.fails(f"a path that is {path!r}", TypeError, "", lambda: checker.read(ORC, path))
+        self.fails("another's path", of.PathError, "another schema", lambda: checker.read(ORC, paths.path("to.name")))
+        self.fails("no path", TypeError, "path", lambda: checker.read(ORC))
+        paths = paths.replace(prefixed=True)
+        many = {paths.read(messages_of(POST)[1], f"items[{number}]") for number in range(3000)}
+        self.same("more paths than are kept", (many, len(paths._paths) < 2000), ({None}, True))
+
+    def test_what_loading_refuses(self):
+        of = self.module
+        for name, source, words in [
+            ("no bytes", b"", "V2 OutOfBuffer at byte 4"),
+            ("a text", TOP / "examples/deliveries.fbs", "flatc --binary --schema"),
+            ("an object that isn't there", schema([table("A", field("b", an_object(7), 4))]),
+             "C1 NoSuchObject in object 0, field 0"),
+            ("a member twice", schema([table("A", field("u_type", U_TYPE, 4), field("u", a_union(0), 6))], [
+                union("U", ("A", 1, an_object(0)), ("B", 1, TEXT))]), "C7 BadMember in enum 0, member 1"),
+            ("a name twice", schema([table("A"), table("A")]), "C8 NameTwice"),
+            ("a root that isn't listed", schema([table("A")], root="B"), "isn't listed"),
+            ("no root", schema([table("A")]), "say which one by root="),
+        ]:
+            error = self.fails(name, of.SchemaError, words, lambda: of.Schema(source))
+            self.same(f"{name}: pickled", str(pickle.loads(pickle.dumps(error))), str(error))
+        self.same("a root that is said", bool(of.Schema(schema([table("A")]), root="A").check(PLAIN)), True)
+        for root in ("Delivery", "post.Nobody", "", "é"):
+            self.fails(f"the root {root!r}", of.SchemaError, repr(root), lambda: of.Schema(ORDERS, root=root))
+        self.fails("a struct as the root", of.SchemaError, "'W'", lambda: self.by("X", root="W"))
+        self.fails("an identifier that isn't one", of.SchemaError, "hasn't 4 bytes", lambda: of.Schema(
+            schema([table("T")], root="T", ident="OWN"), ident="own"))
+        self.fails("no file", FileNotFoundError, "nowhere", lambda: of.Schema("nowhere"))
+        self.fails("no bytes at all", TypeError, "bytes-like", lambda: of.Schema(3))
+        for kind in (bytes, bytearray, memoryview, lambda data: array.array("B", data)):
+            self.same("a schema of any bytes", bool(of.Schema(kind(schemas.M)).check(ORC)), True)
+        for path in (str(FILES["M"]), FILES["M"], pathlib.Path(FILES["M"])):
+            self.same("a schema by its path", bool(of.Schema(path).check(ORC)), True)
+        self.holds("all are errors of the package, and wrong values", issubclass(of.SchemaError, (of.Error)) and all(
+            issubclass(kind, ValueError) for kind in (of.SchemaError, of.BadBuffer, of.PathError, of.StreamError)))
+
+    def test_messages_of_any_kind(self):
+        """Whatever has bytes is checked where it lies; what has none is refused."""
+        checker, file = self.by("M"), file_of("orc.bin", ORC)
+        with open(file, "r+b") as opened, mmap.mmap(opened.fileno(), 0) as mapped, \
+                mmap.mmap(opened.fileno(), 0, access=mmap.ACCESS_READ) as kept:
+            for given in [ORC, bytearray(ORC), memoryview(ORC), memoryview(bytearray(ORC)).toreadonly(), mapped, kept,
+                          memoryview(b"?" + ORC)[1:], array.array("I", ORC)]:
+                name = type(given).__name__
+                told = str(checker.check(given)), checker.verify(given).tables, checker.read(given, "name")
+                self.same(name, told, ("ok tables=1 depth=1 reads=8", 1, "Orc"))
+        for given in ("text", None, 5, [1, 2]):
+            for call in (checker.check, checker.verify, lambda given: checker.read(given, "hp")):
+                self.fails(f"{given!r}", TypeError, "bytes-like", lambda: call(given))
+        self.fails("one in parts", BufferError, "contiguous", lambda: checker.check(memoryview(ORC)[::2]))
+        for given in (b"", bytearray(), memoryview(b""), array.array("I")):
+            told = checker.check(given)
+            self.same("an empty one", (told.reason, told.position, told.place), (2, 0, "."))
+        with mmap.mmap(-1, 2**31) as long:
+            self.fails("one of 2^31 bytes", self.module.Error, "2^31", lambda: checker.check(long))
+        data = named(2**26, prefix=False)
+        self.same("one of 64 MB", (bool(checker.check(data)), len(checker.read(data, "name"))), (True, 2**26 - 29))
+        self.same("and one that ends too early", checker.check(memoryview(data)[:-1]).reason, 2)
+
+    def test_threads(self):
+        """A million checks of one schema, some of bad messages, some of ones for which others may run."""
+        rows = [(ORC, True), (PLAIN, True), (ORC[:-1], False), (named(300, prefix=False), True)] * 25 + [
+            (named(5000, prefix=False), True), (named(5000, prefix=False)[:-1], False)]
+        checker, deep = self.by("M"), self.by("M", max_depth=500)
+
+        def wrong(turns):
+            """How many verdicts and values are wrong in so many turns."""
+            count = 0
+            for turn in range(turns):
+                for data, want in rows if turn % 100 == 0 else rows[:100]:
+                    count += bool(checker.check(data)) != want
+                if turn % 100 == 0:
+                    count += deep.read(rows[-2][0], "hp") != 300
+            return count
+
+        interval = sys.getswitchinterval()
+        sys.setswitchinterval(0.0002)
+        try:
+            with concurrent.futures.ThreadPoolExecutor(8) as pool:
+                self.same("wrong ones", [*pool.map(wrong, [1250] * 8)], [0] * 8)
+        finally:
+            sys.setswitchinterval(interval)
+
+    def test_others_run_meanwhile(self):
+        """While a message takes long, another thread does its work."""
+        chain = buffers.doubling(22)
+        checker = self.by("NODE", max_tables=2**32 - 1, max_reads=2**64 - 1, reads_per_byte=2**32 - 1)
+        ended, turns = threading.Event(), 0
+        thread = threading.Thread(target=lambda: (checker.check(chain), ended.set()))
+        thread.start()
+        while not ended.is_set():
+            time.sleep(0.001)
+            turns += 1
+        thread.join()
+        self.holds("turns of the other thread", turns > 10, turns)
+
+    def test_streams(self):
+        """The same messages and verdicts however a stream is cut and handed over."""
+        checker, want = self.module.Schema(ORDERS, prefixed=True), messages_of(POST)
+        lines = run("--schema", ORDERS, "--names", given=POST).out.decode().splitlines()
+        pieces = lambda size: [POST[at:at + size] for at in range(0, len(POST), size)]
+        forms = {f"pieces of {size}": pieces(size) for size in [*range(1, 100), 512, 1000, len(POST)]}
+        forms |= {"bytes": POST, "a bytearray": bytearray(POST), "a view": memoryview(POST),
+                  "an array": array.array("B", POST), "a file": io.BytesIO(POST),
+                  "a bare file": io.FileIO(TOP / "examples/deliveries.bin"),
+                  "with empty pieces": [b"", *pieces(7), b""], "a generator": (bytearray(one) for one in pieces(9))}
+        for name, stream in forms.items():
+            told = [*checker.messages(stream)]
+            self.same(name, ([message for message, _ in told], lines_of(verdict for _, verdict in told)), (want, lines))
+        forms["a bare file"].close()
+        mine, theirs = socket.socketpair()
+        with mine, theirs, theirs.makefile("rb") as stream:
+            messages = checker.messages(stream)
+            for one in want:
+                mine.sendall(one)
+                self.same("a message comes as soon as it is whole", next(messages)[0], one)
+            mine.shutdown(socket.SHUT_WR)
+            self.same("and then the end", [*messages], [])
+        self.same("no message", [*checker.messages(b"")], [])
+        bare = checker.replace(prefixed=False)
+        self.fails("a schema of other messages", ValueError, "prefixed=True", lambda: bare.messages(POST))
+
+    def test_faults_of_streams(self):
+        of, checker = self.module, self.by("M", prefixed=True)
+        whole = prefixed(ORC)
+
+        def told(stream, **words):
+            """The messages that come, and the fault."""
+            found = []
+            try:
+                for message, _ in checker.messages(stream, **words):
+                    found.append(message)
+            except of.StreamError as error:
+                again = pickle.loads(pickle.dumps(error))
+                self.same("pickled", (type(again), str(again)), (type(error), str(error)))
+                return found, type(error), vars(error), str(error)
+            return found
+
+        for end in range(len(whole)):
+            given = whole * 2 + whole[:end]
+            want = [whole] * 2 if end == 0 else ([whole] * 2, of.Truncated, {"held": end},
+                                                 f"the stream ends inside a message, of which {end} bytes came")
+            for size in (1, 3, len(given)):
+                got = told([given[at:at + size] for at in range(0, len(given), size)])
+                self.same(f"{end} bytes at the end, in pieces of {size}", got, want)
+        self.same("room for one", told(whole, max_bytes=len(whole)), [whole])
+        want = [], of.Oversize, {"declared": 32, "limit": 35}, "a message of 4 + 32 bytes, where at most 35 are allowed"
+        self.same("and for less", (len(whole), told(whole, max_bytes=35)), (36, want))
+        got = told([whole, whole[:9], whole[9:] + b"\xff" * 4 + whole])
+        self.same("the messages before come", got[:2], ([whole] * 2, of.Oversize))
+        for limit in (7, 2**31):
+            self.fails(f"room for {limit}", ValueError, "max_bytes", lambda: checker.messages(b"", max_bytes=limit))
+        for wrong in ("text", ["text"], 5, None, io.StringIO("text"), [5]):
+            self.fails(f"a stream that is {wrong!r}", TypeError, "", lambda: [*checker.messages(wrong)])
+        self.holds("an end too early is an EOFError too", issubclass(of.Truncated, EOFError))
+
+    def test_long_streams(self):
+        """A stream costs in proportion to its bytes, though it comes in one piece."""
+        checker, one = self.by("M", prefixed=True), prefixed(ORC)
+        seconds = {}
+        for count in (50_000, 200_000):
+            begun = time.process_time()
+            self.same(f"{count} messages in a piece", sum(1 for _ in checker.messages(one * count)), count)
+            seconds[count] = time.process_time() - begun
+        linear = seconds[200_000] < 12 * seconds[50_000] + 0.2
+        self.holds("four times as many take some four times as long", linear, seconds)
+        self.holds("a piece of 7 MB takes less than two seconds", seconds[200_000] < 2, seconds)
+        told = [len(message) for message, verdict in checker.messages(named(9_000_000) * 3) if verdict]
+        self.same("messages of 9 MB", told, [9_000_000] * 3)
+
+    def test_nothing_leaks(self):
+        status, out, err = self.alone(LEAKS, schemas.M.hex(), ORC.hex(), ORC[:-1].hex())
+        few = (status, err) == (0, "") and int(out) < 2000
+        self.holds("100,000 loads take less than 2 MB", few, (status, out, err))
+
+    def test_shipped(self):
+        """A schema is pickled by its bytes and options, to other processes too."""
+        first = self.module.Schema(ORDERS, prefixed=True, max_reads=5000)
+        for again in (pickle.loads(pickle.dumps(first)), copy.copy(first), copy.deepcopy(first)):
+            self.same("the same options", again.options, first.options)
+            messages = messages_of(POST)
+            self.same("the same verdicts", [*map(again.check, messages)], [*map(first.check, messages)])
+            self.same("the same values", again.read(messages[0], "to.name"), "Ada")
+        lines = run("--schema", ORDERS, "--names", given=POST).out.decode().splitlines()
+        lines = [line.partition(" ")[2] for line in lines]
+        script = file_of("shipped.py", SHIPPED.encode())
+        told = ran(sys.executable, script, ORDERS, TOP / "examples/deliveries.bin", PYTHONPATH=str(self.folder))
+        self.same("by other processes", told, (0, "\n".join([*lines, lines[4], ""]), ""))
+
+    def test_the_page(self):
+        """The README's program does what stands behind it."""
+        page = (BINDING / "README.md").read_text()
+        code = page.split("```python\n")[1].split("```")[0]
+        want = re.findall(r"^# (.*)$", code, re.M)
+        told = subprocess.run([sys.executable, "-c", code], capture_output=True, text=True, cwd=TOP, timeout=60,
+                              env={**os.environ, "PYTHONPATH": str(self.folder)})
+        self.same("its lines", (told.returncode, told.stdout.splitlines(), told.stderr), (0, want, ""))
+        version = re.search(r"^Version: (.*)$", (TOP / "c/fbcheck.pc.in").read_text(), re.M)[1]
+        project = (BINDING / "pyproject.toml").read_text()
+        self.holds("it has the library's version", f'version = "{version}"\n' in project, project)
+        checker = self.module.Schema(ORDERS, prefixed=True)
+        bad = page.split("fbcheck.BadBuffer: ")[1].splitlines()[0]
+        self.same("what a no looks like", str(checker.check(messages_of(POST)[4])), bad)
+        for name in self.module.__all__:
+            self.holds(f"{name} is documented", getattr(self.module, name).__doc__)
+        for name in ("check", "verify", "read", "messages", "path", "replace"):
+            self.holds(f"{name} is documented", getattr(checker, name).__doc__)
