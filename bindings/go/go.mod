@@ -1,0 +1,3 @@
+module fbcheck.dev/fbcheck
+
+go 1.19

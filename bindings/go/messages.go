@@ -1,0 +1,117 @@
+package fbcheck
+
+// #include "calls.h"
+import "C"
+
+import (
+	"fmt"
+	"io"
+)
+
+// Messages goes through the messages of a stream, each with its size in front (4 bytes, the lowest first).
+//
+//	messages := schema.Messages(os.Stdin)
+//	for messages.Next() {
+//		if verdict := messages.Verdict(); !verdict.OK {
+//			log.Print(verdict)
+//		}
+//	}
+//	return messages.Err()
+type Messages struct {
+	schema   *Schema
+	reader   io.Reader
+	maxBytes int
+	framer   C.fbcheck_framer
+	room     []byte
+	piece    []byte
+	rest     []byte // what of the piece isn't fed yet
+	ended    error  // what the reader said at last
+	verdict  Verdict
+	err      error
+}
+
+// Messages goes through the messages of a stream, each of at most 64 MiB. The schema must have been made with Prefixed,
+// as each message has its size in front.
+func (s *Schema) Messages(reader io.Reader) *Messages {
+	if s.checker.options.prefixed == 0 {
+		panic("fbcheck: messages of a stream begin with their size, which Prefixed says")
+	}
+	return &Messages{schema: s, reader: reader, maxBytes: 64 << 20, piece: make([]byte, 1<<16)}
+}
+
+// MaxBytes allows at most so many bytes a message, its size included, from 8 to 2^31 - 1. It is called before Next. So
+// much room is kept, of which the system gives what the longest message takes.
+func (m *Messages) MaxBytes(bytes int) *Messages {
+	if bytes < 8 || bytes > 1<<31-1 || m.room != nil {
+		panic("fbcheck: no such number of bytes, or Next was called")
+	}
+	m.maxBytes = bytes
+	return m
+}
+
+// Next goes on to the next message. It is false at the end, and where the stream goes no further, which Err tells.
+func (m *Messages) Next() bool {
+	if m.room == nil {
+		m.room = make([]byte, m.maxBytes)
+	}
+	C.fbcheck_framer_next(&m.framer, first(m.room), C.size_t(len(m.room)))
+	for m.err == nil && !m.feed() {
+		m.fill()
+	}
+	if m.err != nil {
+		return false
+	}
+	m.verdict = m.schema.Check(m.Message())
+	return true
+}
+
+// feed feeds what is left of the piece, and tells whether a whole message is held.
+func (m *Messages) feed() bool {
+	fed := C.feed_piece(&m.framer, first(m.room), C.size_t(len(m.room)), first(m.rest), C.size_t(len(m.rest)))
+	m.rest = m.rest[fed.used:]
+	switch fed.status {
+	case C.FBCHECK_OK:
+		return true
+	case C.FBCHECK_MORE:
+	case C.FBCHECK_OVERSIZE:
+		m.err = &Error{Oversize, fmt.Sprintf("stream: S1 Oversize declared=%d", m.framer.declared)}
+	default:
+		m.err = &Error{Failed, texts[Failed]}
+	}
+	return false
+}
+
+// fill reads the next piece, unless that has failed already, or the stream has ended.
+func (m *Messages) fill() {
+	if m.err != nil {
+		return
+	}
+	if m.ended == nil {
+		var length int
+		length, m.ended = m.reader.Read(m.piece)
+		m.rest = m.piece[:length]
+		return
+	}
+	m.err = m.ended
+	if m.ended == io.EOF && C.fbcheck_framer_finish(&m.framer, first(m.room), C.size_t(len(m.room))) != C.FBCHECK_OK {
+		m.err = &Error{Truncated, fmt.Sprintf("stream: S2 Truncated held=%d", m.framer.held)}
+	}
+}
+
+// Message is the message with its size in front, until the next call of Next.
+func (m *Messages) Message() []byte {
+	return m.room[:m.framer.held:m.framer.held]
+}
+
+// Verdict is the verdict on the message.
+func (m *Messages) Verdict() Verdict {
+	return m.verdict
+}
+
+// Err is what has ended the stream: nil, the error of its reader, or *Error.
+func (m *Messages) Err() error {
+	if m.err == io.EOF {
+		return nil
+	}
+	return m.err
+}

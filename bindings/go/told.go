@@ -1,0 +1,217 @@
+package fbcheck
+
+// #include <fbcheck.h>
+import "C"
+
+import (
+	"encoding/binary"
+	"fmt"
+	"math"
+	"strconv"
+)
+
+// A Reason tells why a message is refused: the number of its code, as 10 for V10.
+type Reason uint32
+
+// Why a message is refused.
+const (
+	TooLong         Reason = iota // it has 2^31 bytes or more; nothing of it was read
+	WrongPrefix                   // the prefix isn't the number of bytes after it
+	OutOfBuffer                   // what should be read doesn't lie in the message
+	Misaligned                    // the position isn't a multiple of the alignment
+	ZeroOffset                    // an offset is 0
+	WrongIdentifier               // the file identifier isn't the one asked for
+	TooDeep                       // one table more than MaxDepth allows
+	TooManyTables                 // one table more than MaxTables allows
+	BadVtable                     // a vtable's size is odd or below 4
+	MissingRequired               // a required field is absent
+	NoTerminator                  // the byte after a string isn't 0
+	LengthsDiffer                 // a vector of unions and its vector of types differ in length
+	PastTable                     // a field ends past its table's inline size
+	TooManyReads                  // more reads than the options allow
+)
+
+var reasons = [...]string{"TooLong", "WrongPrefix", "OutOfBuffer", "Misaligned", "ZeroOffset", "WrongIdentifier",
+	"TooDeep", "TooManyTables", "BadVtable", "MissingRequired", "NoTerminator", "LengthsDiffer", "PastTable",
+	"TooManyReads"}
+
+// String is the code and name, as "V10 NoTerminator".
+func (r Reason) String() string {
+	if r == TooLong || int(r) >= len(reasons) {
+		return reasons[TooLong]
+	}
+	return fmt.Sprintf("V%d %s", uint32(r), reasons[r])
+}
+
+// A Verdict is what a check tells of a message: its counts, or its first fault.
+type Verdict struct {
+	OK       bool
+	Tables   uint32 // of a good message: the tables visited
+	Depth    uint32 // of a good message: the most tables open at once
+	Reads    uint64 // the reads made; of a bad message those up to its fault
+	Reason   Reason // of a bad message: why it's refused
+	Position uint64 // of a bad message: the position in bytes from the first one
+	Object   uint32 // of a bad message: the number of the object under check, which ObjectName names
+	Field    int64  // of a bad message: the number of its field, or -1
+	Place    string // of a bad message: the place in words, as "in items[2].name [game.Item.name]", at most 1,024 bytes
+}
+
+// String is what stands in a line of the program.
+func (v Verdict) String() string {
+	if v.OK {
+		return fmt.Sprintf("ok tables=%d depth=%d reads=%d", v.Tables, v.Depth, v.Reads)
+	}
+	place := v.Place
+	if place != "" {
+		place = " " + place
+	}
+	return fmt.Sprintf("bad %v at=%d object=%d field=%s reads=%d%s", v.Reason, v.Position, v.Object, dash(v.Field),
+		v.Reads, place)
+}
+
+// dash is the text of a number, or "-" for -1.
+func dash(number int64) string {
+	if number < 0 {
+		return "-"
+	}
+	return strconv.FormatInt(number, 10)
+}
+
+// part is the number of a field that is told, or -1.
+func part(field C.uint32_t) int64 {
+	if field == C.FBCHECK_NONE {
+		return -1
+	}
+	return int64(field)
+}
+
+func refused(verdict C.fbcheck_verdict, place string) Verdict {
+	return Verdict{
+		Reads: uint64(verdict.reads), Reason: Reason(verdict.reason), Position: uint64(verdict.at),
+		Object: uint32(verdict.object), Field: part(verdict.field), Place: place,
+	}
+}
+
+// A BadBuffer is the error that a message is bad.
+type BadBuffer struct {
+	Verdict Verdict
+}
+
+// Error is what stands in a line of the program.
+func (b *BadBuffer) Error() string {
+	return "fbcheck: " + b.Verdict.String()
+}
+
+// A Status tells why a call couldn't be served.
+type Status uint32
+
+// Why a call couldn't be served.
+const (
+	OutOfRange    Status = 4  // MaxDepth is above 4096
+	NoIdent       Status = 5  // the schema's own identifier was asked for, and it hasn't 4 bytes
+	NoRoot        Status = 6  // the schema has no root table of its own, or none of the name that was asked for
+	LongFile      Status = 7  // the schema file has 2^31 bytes or more
+	NotWellFormed Status = 8  // the schema file has a fault
+	BadSchema     Status = 9  // its rows are no schema
+	RootNotListed Status = 10 // its root table isn't listed in it
+	NoMemory      Status = 11 // memory was refused
+	Oversize      Status = 14 // a message of the stream is longer than MaxBytes
+	Truncated     Status = 15 // the stream ends inside a message
+	Failed        Status = 16 // the stream has failed before
+	BadPath       Status = 17 // the text is no path of the schema
+	TooManySteps  Status = 18 // the path has more than 31 steps
+	Misfit        Status = 19 // a path is none of this schema from this root
+	TooMuchShared Status = 20 // the schema file has more rows, or longer names, than its length pays for
+)
+
+var texts = map[Status]string{
+	OutOfRange:    "MaxDepth is above 4096",
+	NoIdent:       "the schema's identifier must be four bytes",
+	NoRoot:        "no root table",
+	LongFile:      "schema: L5 TooLong",
+	RootNotListed: "schema: L3 RootNotListed",
+	NoMemory:      "out of memory",
+	Failed:        "stream: S4 Failed",
+	TooManySteps:  "the path has more than 31 steps",
+	Misfit:        "a path is none of this schema from this root",
+	TooMuchShared: "schema: L6 TooMuchShared",
+}
+
+var codes = [...]string{"", "NoSuchObject", "NoSuchEnum", "Unsupported", "BadSlot", "NoTypeField", "BadStruct",
+	"BadMember", "NameTwice"}
+
+var pathFaults = [...]string{"", "BadText", "NoSuchField", "NotIndexable", "NotAUnion", "NoSuchMember", "NotATable"}
+
+// An Error is that of a call that couldn't be served.
+type Error struct {
+	Status Status
+	text   string
+}
+
+// Error is the text that the program tells.
+func (e *Error) Error() string {
+	return "fbcheck: " + e.text
+}
+
+func errorOf(verdict C.fbcheck_verdict) *Error {
+	status, code := Status(verdict.status), uint32(verdict.reason)
+	text := texts[status]
+	switch status {
+	case NotWellFormed:
+		text = "schema: L1 " + refused(verdict, "").String()[len("bad "):]
+	case BadSchema:
+		owner, field := uint32(verdict.object), dash(part(verdict.field))
+		text = fmt.Sprintf("schema: L2 C%d %s owner=%d part=%s", code, codes[code], owner, field)
+	case BadPath:
+		word := "step"
+		if code == 1 {
+			word = "at"
+		}
+		text = fmt.Sprintf("path: P%d %s %s=%d", code, pathFaults[code], word, uint64(verdict.at))
+	}
+	return &Error{Status: status, text: text}
+}
+
+// A Kind tells what stands at the end of a path.
+type Kind uint32
+
+// What stands at the end of a path.
+const (
+	Absent      Kind = iota // nothing: the field, or one on the way, is absent and has no default
+	NoElement               // nothing: the vector has fewer elements
+	OtherMember             // nothing: the union has another type
+	Bool                    // Uint: 0 or 1
+	Int                     // Int: a Byte, Short, Int or Long
+	Uint                    // Uint: a UType, UByte, UShort, UInt or ULong
+	Float                   // Float: a Float or Double
+	Text                    // Bytes: those of a string, which need not be UTF-8
+	Struct                  // Bytes: those of a struct as they stand, padding included
+	Vector                  // Uint: how many elements; of scalars and structs their Bytes in a row
+	Table                   // a table
+	Union                   // Uint: its type, 0 for none
+)
+
+// A Value is what stands at the end of a path. What its kind has not is 0.
+type Value struct {
+	Kind  Kind
+	Uint  uint64
+	Int   int64
+	Bytes []byte // where they stand in the message
+}
+
+func valueOf(told *C.fbcheck_value, message []byte) Value {
+	bytes := message[told.at : told.at+told.size : told.at+told.size]
+	return Value{Kind: Kind(told.kind), Uint: uint64(told.number), Int: int64(told.integer), Bytes: bytes}
+}
+
+// Float is the number of a Float or Double, and else 0.
+func (v Value) Float() float64 {
+	switch {
+	case v.Kind != Float:
+		return 0
+	case len(v.Bytes) == 4:
+		return float64(math.Float32frombits(binary.LittleEndian.Uint32(v.Bytes)))
+	default:
+		return math.Float64frombits(binary.LittleEndian.Uint64(v.Bytes))
+	}
+}

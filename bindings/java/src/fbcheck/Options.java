@@ -1,0 +1,113 @@
+package fbcheck;
+
+import static java.lang.foreign.ValueLayout.JAVA_BYTE;
+import static java.lang.foreign.ValueLayout.JAVA_INT;
+import static java.lang.foreign.ValueLayout.JAVA_LONG;
+
+import java.lang.foreign.MemorySegment;
+import java.nio.charset.StandardCharsets;
+
+/**
+ * What is asked of a message; the limits of loading a schema stay as they are. {@link #DEFAULT} asks what the verifier
+ * of FlatBuffers for C++ does, with a budget of reads, and each method makes options with one thing changed. A limit of
+ * 0 allows nothing. Numbers of the type long and those of tables are unsigned.
+ *
+ * @param root the root table by its name with its namespace, as {@code game.Monster}; null for the schema's own
+ * @param maxDepth at most so many tables one inside another: 64, and up to 4,096; each thread keeps room for as many
+ * @param maxTables at most so many tables visited: 1,000,000
+ * @param maxReads at most so many reads: 100,000,000
+ * @param readsPerByte at most so many reads for each byte, and 4,096 beside: 64
+ * @param ident the file identifier that a message must have, of four bytes; null for any
+ * @param ownIdent whether it must be the schema's own, or any where it declares none: false
+ * @param prefixed whether a message begins with its size (4 bytes), from where positions count: false
+ * @param alignment whether positions must be aligned: true
+ * @param inlineSize whether a field must end within its table's inline size: false
+ */
+public record Options(String root, int maxDepth, int maxTables, long maxReads, int readsPerByte, String ident,
+        boolean ownIdent, boolean prefixed, boolean alignment, boolean inlineSize) {
+    /** What is asked unless it's said otherwise. */
+    public static final Options DEFAULT =
+            new Options(null, 64, 1_000_000, 100_000_000, 64, null, false, false, true, false);
+
+    /** Begins at the table of this name. */
+    public Options root(String name) {
+        return new Options(name, maxDepth, maxTables, maxReads, readsPerByte, ident, ownIdent, prefixed, alignment,
+                inlineSize);
+    }
+
+    /** Allows at most so many tables one inside another. */
+    public Options maxDepth(int tables) {
+        return new Options(root, tables, maxTables, maxReads, readsPerByte, ident, ownIdent, prefixed, alignment,
+                inlineSize);
+    }
+
+    /** Allows at most so many tables visited. */
+    public Options maxTables(int tables) {
+        return new Options(root, maxDepth, tables, maxReads, readsPerByte, ident, ownIdent, prefixed, alignment,
+                inlineSize);
+    }
+
+    /** Allows at most so many reads. */
+    public Options maxReads(long reads) {
+        return new Options(root, maxDepth, maxTables, reads, readsPerByte, ident, ownIdent, prefixed, alignment,
+                inlineSize);
+    }
+
+    /** Allows at most so many reads for each byte, and 4,096 beside. */
+    public Options readsPerByte(int reads) {
+        return new Options(root, maxDepth, maxTables, maxReads, reads, ident, ownIdent, prefixed, alignment,
+                inlineSize);
+    }
+
+    /** Asks for this file identifier, whatever the schema declares. */
+    public Options ident(String four) {
+        return new Options(root, maxDepth, maxTables, maxReads, readsPerByte, four, false, prefixed, alignment,
+                inlineSize);
+    }
+
+    /** Asks for the schema's own file identifier, as generated verifiers do. */
+    public Options ownIdent(boolean asked) {
+        return new Options(root, maxDepth, maxTables, maxReads, readsPerByte, null, asked, prefixed, alignment,
+                inlineSize);
+    }
+
+    /** Whether a message begins with its size. */
+    public Options prefixed(boolean begins) {
+        return new Options(root, maxDepth, maxTables, maxReads, readsPerByte, ident, ownIdent, begins, alignment,
+                inlineSize);
+    }
+
+    /** Whether positions must be aligned. */
+    public Options alignment(boolean asked) {
+        return new Options(root, maxDepth, maxTables, maxReads, readsPerByte, ident, ownIdent, prefixed, asked,
+                inlineSize);
+    }
+
+    /** Whether a field must end within its table's inline size. */
+    public Options inlineSize(boolean asked) {
+        return new Options(root, maxDepth, maxTables, maxReads, readsPerByte, ident, ownIdent, prefixed, alignment,
+                asked);
+    }
+
+    /** Writes these as the library's options, from this root table on. */
+    void write(MemorySegment to, int table) {
+        byte[] four = ident == null ? new byte[4] : ident.getBytes(StandardCharsets.ISO_8859_1);
+        if (four.length != 4) {
+            throw new IllegalArgumentException("ident must be four bytes");
+        }
+        if (Integer.compareUnsigned(maxDepth, Calls.DEEPEST) > 0) {
+            throw FbcheckException.of(Calls.OUT_OF_RANGE);
+        }
+        to.set(JAVA_INT, 0, Calls.VERSION);
+        to.set(JAVA_INT, 4, table);
+        to.set(JAVA_LONG, 8, maxReads);
+        to.set(JAVA_INT, 16, maxDepth);
+        to.set(JAVA_INT, 20, maxTables);
+        to.set(JAVA_INT, 24, readsPerByte);
+        MemorySegment.copy(four, 0, to, JAVA_BYTE, 28, 4);
+        to.set(JAVA_BYTE, 32, (byte) (ownIdent ? 2 : ident == null ? 0 : 1));
+        to.set(JAVA_BYTE, 33, (byte) (prefixed ? 1 : 0));
+        to.set(JAVA_BYTE, 34, (byte) (alignment ? 0 : 1));
+        to.set(JAVA_BYTE, 35, (byte) (inlineSize ? 1 : 0));
+    }
+}

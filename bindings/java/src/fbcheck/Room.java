@@ -1,0 +1,54 @@
+package fbcheck;
+
+import java.lang.foreign.Arena;
+import java.lang.foreign.MemorySegment;
+
+/**
+ * Room for the open tables of one check, which a thread keeps for the next one. A check would do with its own stack,
+ * but then it clears 16 KB each time; a virtual thread has it do so, since there may be millions of them.
+ */
+final class Room implements AutoCloseable {
+    private static final ThreadLocal<Room> KEPT = new ThreadLocal<>();
+    private static final Room STACK = new Room(Calls.DEEP, MemorySegment.NULL, null);
+
+    private final int depth;
+    private final MemorySegment scratch;
+    private final Arena own; // null where it's kept
+
+    private Room(int depth, MemorySegment scratch, Arena own) {
+        this.depth = depth;
+        this.scratch = scratch;
+        this.own = own;
+    }
+
+    /** Room for a check to this depth on this thread. */
+    static Room of(int depth) {
+        if (Thread.currentThread().isVirtual()) {
+            return depth <= Calls.DEEP ? STACK : forOnce(depth);
+        }
+        Room kept = KEPT.get();
+        if (kept == null || kept.depth < depth) {
+            int most = Math.max(depth, Calls.DEEP);
+            kept = new Room(most, Calls.scratchNew(most, Arena.ofAuto()), null);
+            KEPT.set(kept);
+        }
+        return kept;
+    }
+
+    private static Room forOnce(int depth) {
+        Arena own = Arena.ofConfined();
+        return new Room(depth, Calls.scratchNew(depth, own), own);
+    }
+
+    /** The library's scratch, which this check alone has. */
+    MemorySegment scratch() {
+        return scratch;
+    }
+
+    @Override
+    public void close() {
+        if (own != null) {
+            own.close();
+        }
+    }
+}

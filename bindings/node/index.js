@@ -1,0 +1,312 @@
+'use strict';
+
+const fs = require('node:fs');
+const native = require('./fbcheck.node');
+
+// What a call tells beside its answer, by the places that the enum in fbcheck.c gives.
+const told = new Float64Array(16);
+const [STATUS, REASON, OBJECT, FIELD, TABLES, DEPTH, AT, READS, USED] = Array(9).keys();
+if (native.begin(told) !== 1) throw new Error('another libfbcheck is linked');
+
+// Statuses and other numbers of fbcheck.h.
+const STATUSES = ['OK', 'BAD', 'NULL', 'UNKNOWN_OPTIONS', 'OUT_OF_RANGE', 'NO_IDENT', 'NO_ROOT', 'TOO_LONG',
+  'NOT_WELL_FORMED', 'BAD_SCHEMA', 'ROOT_NOT_LISTED', 'NO_MEMORY', 'NO_SPAN', 'MORE', 'OVERSIZE', 'TRUNCATED', 'FAILED',
+  'BAD_PATH', 'NO_ROOM', 'MISFIT', 'TOO_MUCH_SHARED'];
+const [OK, BAD, , , OUT_OF_RANGE, , NO_ROOT, TOO_LONG, NOT_WELL_FORMED, BAD_SCHEMA, , , , MORE, OVERSIZE, , ,
+  BAD_PATH] = STATUSES.keys();
+const NONE = 0xffffffff;
+const NO_TABLE = 0xfffffffe;
+const DEEPEST = 4096;
+const PATH_BYTES = 256;
+const VALUE_WORDS = 10;
+
+const REASONS = ['TooLong', 'WrongPrefix', 'OutOfBuffer', 'Misaligned', 'ZeroOffset', 'WrongIdentifier', 'TooDeep',
+  'TooManyTables', 'BadVtable', 'MissingRequired', 'NoTerminator', 'LengthsDiffer', 'PastTable', 'TooManyReads'];
+const CODES = ['', 'NoSuchObject', 'NoSuchEnum', 'Unsupported', 'BadSlot', 'NoTypeField', 'BadStruct', 'BadMember',
+  'NameTwice'];
+const PATH_FAULTS = ['', 'BadText', 'NoSuchField', 'NotIndexable', 'NotAUnion', 'NoSuchMember', 'NotATable'];
+const KINDS = ['absent', 'no-element', 'other-member', 'bool', 'int', 'uint', 'float', 'text', 'struct', 'vector',
+  'table', 'union'];
+const TEXTS = {
+  OUT_OF_RANGE: 'maxDepth is above 4096',
+  NO_IDENT: "the schema's identifier must be four bytes",
+  NO_ROOT: 'no root table',
+  TOO_LONG: 'schema: L5 TooLong',
+  ROOT_NOT_LISTED: 'schema: L3 RootNotListed',
+  NO_MEMORY: 'out of memory',
+  FAILED: 'stream: S4 Failed',
+  NO_ROOM: 'the path has more than 31 steps',
+  MISFIT: 'a path is none of this schema from this root',
+  TOO_MUCH_SHARED: 'schema: L6 TooMuchShared',
+};
+
+class FbcheckError extends Error {
+  name = 'FbcheckError';
+
+  constructor(code, text) {
+    super(text);
+    this.code = code;
+  }
+}
+
+class BadBuffer extends FbcheckError {
+  name = 'BadBuffer';
+
+  constructor(verdict) {
+    super('BAD', String(verdict));
+    this.verdict = verdict;
+  }
+}
+
+class Verdict {
+  constructor(ok, tables, depth, reads, reason, position, object, field, place) {
+    this.ok = ok;
+    this.tables = tables;
+    this.depth = depth;
+    this.reads = reads;
+    this.reason = reason;
+    this.position = position;
+    this.object = object;
+    this.field = field;
+    this.place = place;
+  }
+
+  toString() {
+    if (this.ok) return `ok tables=${this.tables} depth=${this.depth} reads=${this.reads}`;
+    const code = REASONS.indexOf(this.reason);
+    const reason = code === 0 ? this.reason : `V${code} ${this.reason}`;
+    const field = this.field ?? '-';
+    const text = `bad ${reason} at=${this.position} object=${this.object} field=${field} reads=${this.reads}`;
+    return this.place === '' ? text : `${text} ${this.place}`;
+  }
+}
+
+/** The verdict of a fault that was told. */
+function refused(place) {
+  const field = told[FIELD] === NONE ? undefined : told[FIELD];
+  return new Verdict(false, 0, 0, told[READS], REASONS[told[REASON]], told[AT], told[OBJECT], field, place);
+}
+
+/** The error of a call that wasn't done, by what it told. */
+function errorOf(status) {
+  const code = told[REASON];
+  let text = TEXTS[STATUSES[status]];
+  if (status === NOT_WELL_FORMED) {
+    text = `schema: L1 ${String(refused('')).slice('bad '.length)}`;
+  } else if (status === BAD_SCHEMA) {
+    const part = told[FIELD] === NONE ? '-' : told[FIELD];
+    text = `schema: L2 C${code} ${CODES[code]} owner=${told[OBJECT]} part=${part}`;
+  } else if (status === BAD_PATH) {
+    text = `path: P${code} ${PATH_FAULTS[code]} ${code === 1 ? 'at' : 'step'}=${told[AT]}`;
+  }
+  return new FbcheckError(STATUSES[status], text);
+}
+
+/** A whole number from 0 up to a greatest one, as a bigint. */
+function whole(name, given, most) {
+  const number = typeof given === 'bigint' || Number.isSafeInteger(given) ? BigInt(given) : -1n;
+  if (number >= 0n && number <= most) return number;
+  throw new RangeError(`${name} is ${given}, which isn't a whole number up to ${most}`);
+}
+
+// Where each option of a number stands in the library's options, and how many bits it has.
+const NUMBERS = { maxReads: [8, 64n], maxDepth: [16, 32n], maxTables: [20, 32n], readsPerByte: [24, 32n] };
+const SWITCHES = { prefixed: 33, alignment: 34, inlineSize: 35 };
+
+/** The library's options by these, as bytes. */
+function bytesOf(schema, options) {
+  const bytes = Buffer.alloc(64);
+  const given = { root: undefined, maxReads: 100_000_000, maxDepth: 64, maxTables: 1_000_000, readsPerByte: 64,
+    prefixed: false, alignment: true, inlineSize: false, ident: undefined, ...options };
+  bytes.writeUInt32LE(1, 0);
+  bytes.writeUInt32LE(given.root === undefined ? NONE : native.table(schema, Buffer.from(given.root)), 4);
+  if (bytes.readUInt32LE(4) === NO_TABLE) throw errorOf(NO_ROOT);
+  for (const [name, value] of Object.entries(given)) {
+    if (name in NUMBERS) {
+      const [at, bits] = NUMBERS[name];
+      const number = whole(name, value, (1n << bits) - 1n);
+      if (bits === 64n) bytes.writeBigUInt64LE(number, at);
+      else bytes.writeUInt32LE(Number(number), at);
+    } else if (name in SWITCHES) {
+      bytes[SWITCHES[name]] = Boolean(value) !== (name === 'alignment');
+    } else if (name === 'ident' && value !== undefined) {
+      bytes[32] = value === 'own' ? 2 : 1;
+      const four = value === 'own' ? Buffer.alloc(4) : Buffer.from(value, 'latin1');
+      if (four.length !== 4) throw new RangeError(`ident must be four bytes, or 'own'`);
+      four.copy(bytes, 28);
+    } else if (name !== 'root' && name !== 'ident') {
+      throw new TypeError(`no option ${name}`);
+    }
+  }
+  if (bytes.readUInt32LE(16) > DEEPEST) throw errorOf(OUT_OF_RANGE);
+  return bytes;
+}
+
+class Path {
+  #bytes;
+
+  constructor(text, bytes) {
+    this.text = text;
+    this.#bytes = bytes;
+  }
+
+  /** The bytes of paths in a row, aligned. */
+  static join(paths) {
+    const all = new Uint8Array(new ArrayBuffer(PATH_BYTES * paths.length));
+    paths.forEach((path, n) => all.set(path.#bytes, n * PATH_BYTES));
+    return all;
+  }
+}
+
+/** A number of two halves: a bigint where it's beyond what a number holds exactly. */
+function joined(high, low) {
+  const number = high * 2 ** 32 + low;
+  return Number.isSafeInteger(number) ? number : BigInt(high) * 2n ** 32n + BigInt(low);
+}
+
+class Value {
+  #message;
+  #words;
+
+  constructor(message, words) {
+    this.kind = KINDS[words[0]];
+    this.#message = message;
+    this.#words = words;
+  }
+
+  get bytes() {
+    const at = joined(this.#words[7], this.#words[6]);
+    return this.#message.subarray(at, at + joined(this.#words[9], this.#words[8]));
+  }
+
+  get value() {
+    const words = this.#words;
+    switch (this.kind) {
+      case 'bool': return words[2] === 1;
+      case 'int': return joined(words[5] | 0, words[4]);
+      case 'uint': case 'vector': case 'union': return joined(words[3], words[2]);
+      case 'text': return Buffer.from(this.bytes.buffer, this.bytes.byteOffset, this.bytes.length).toString();
+      case 'struct': return this.bytes;
+      case 'float': {
+        const view = new DataView(this.bytes.buffer, this.bytes.byteOffset);
+        return words[8] === 4 ? view.getFloat32(0, true) : view.getFloat64(0, true);
+      }
+      default: return undefined;
+    }
+  }
+}
+
+class Schema {
+  #schema;
+  #options;
+
+  constructor(file, options = {}) {
+    if (file instanceof Schema) {
+      this.#options = { ...file.#options, ...options };
+      this.#schema = native.choose(file.#schema, bytesOf(file.#schema, this.#options));
+    } else {
+      const loaded = native.load(typeof file === 'string' || file instanceof URL ? fs.readFileSync(file) : file);
+      if (loaded === undefined) throw errorOf(told[STATUS]);
+      this.#options = options;
+      try {
+        this.#schema = native.choose(loaded, bytesOf(loaded, options));
+      } finally {
+        native.close(loaded);
+      }
+    }
+    // A check of nothing tells whether the options can be served.
+    const status = native.check(this.#schema, Buffer.alloc(0));
+    if (status > BAD) {
+      this.close();
+      throw errorOf(status);
+    }
+  }
+
+  with(options) {
+    return new Schema(this, options);
+  }
+
+  check(message) {
+    if (native.check(this.#schema, message) === OK) {
+      return new Verdict(true, told[TABLES], told[DEPTH], told[READS], undefined, undefined, undefined, undefined, '');
+    }
+    return refused(native.locate(this.#schema, message));
+  }
+
+  verify(message) {
+    if (native.check(this.#schema, message) !== OK) throw new BadBuffer(refused(native.locate(this.#schema, message)));
+  }
+
+  path(text) {
+    const bytes = native.resolve(this.#schema, Buffer.from(text));
+    if (bytes === undefined) throw errorOf(told[STATUS]);
+    return new Path(text, bytes);
+  }
+
+  read(message, ...paths) {
+    const resolved = paths.map((path) => (path instanceof Path ? path : this.path(path)));
+    const words = new Uint32Array(VALUE_WORDS * paths.length);
+    const status = native.read(this.#schema, message, Path.join(resolved), new Uint8Array(words.buffer));
+    if (status === BAD || status === TOO_LONG) throw new BadBuffer(refused(native.locate(this.#schema, message)));
+    if (status !== OK) throw errorOf(status);
+    return paths.map((_, n) => new Value(message, words.subarray(n * VALUE_WORDS, (n + 1) * VALUE_WORDS)));
+  }
+
+  messages(pieces, { maxBytes = 64 << 20 } = {}) {
+    if (!this.#options.prefixed) throw new TypeError('messages of a stream begin with their size: ask for prefixed');
+    if (maxBytes < 8) throw new RangeError('maxBytes is below 8');
+    const stream = native.stream(Number(whole('maxBytes', maxBytes, 2n ** 31n - 1n)));
+    if (pieces instanceof Uint8Array) pieces = [pieces];
+    return Symbol.asyncIterator in pieces ? later(this, stream, pieces) : now(this, stream, pieces);
+  }
+
+  mostReads(length) {
+    return native.mostReads(this.#schema, BigInt(length));
+  }
+
+  objectName(object) {
+    return native.name(this.#schema, object) || undefined;
+  }
+
+  fieldName(object, field) {
+    return native.name(this.#schema, object, field) || undefined;
+  }
+
+  close() {
+    native.close(this.#schema);
+  }
+}
+
+if (Symbol.dispose) Schema.prototype[Symbol.dispose] = Schema.prototype.close;
+
+/** The messages that end in a piece of a stream. */
+function* ending(schema, stream, piece) {
+  let at = 0;
+  do {
+    const message = native.feed(stream, piece, at);
+    at += told[USED];
+    if (message !== undefined) {
+      yield { message, verdict: schema.check(message) };
+    } else if (told[STATUS] === OVERSIZE) {
+      throw new FbcheckError('OVERSIZE', `stream: S1 Oversize declared=${told[AT]}`);
+    } else if (told[STATUS] !== MORE) {
+      throw errorOf(told[STATUS]);
+    }
+  } while (at < piece.length);
+}
+
+function finish(stream) {
+  if (native.finish(stream) !== OK) throw new FbcheckError('TRUNCATED', `stream: S2 Truncated held=${told[AT]}`);
+}
+
+function* now(schema, stream, pieces) {
+  for (const piece of pieces) yield* ending(schema, stream, piece);
+  finish(stream);
+}
+
+async function* later(schema, stream, pieces) {
+  for await (const piece of pieces) yield* ending(schema, stream, piece);
+  finish(stream);
+}
+
+module.exports = { Schema, BadBuffer, FbcheckError };

@@ -1,0 +1,323 @@
+//! What is told of messages, values and schema files.
+
+use std::fmt;
+
+use crate::calls;
+
+/// What a check tells of a message.
+pub type Verdict = Result<Report, Fault>;
+
+/// The counts of a good message.
+#[derive(Clone, Copy, Debug, PartialEq, Eq)]
+pub struct Report {
+    /// The tables visited.
+    pub tables: u32,
+    /// The most tables open at once.
+    pub depth: u32,
+    /// The reads made.
+    pub reads: u64,
+}
+
+impl Report {
+    pub(crate) fn of(verdict: &calls::Verdict) -> Report {
+        Report {
+            tables: verdict.tables,
+            depth: verdict.depth,
+            reads: verdict.reads,
+        }
+    }
+}
+
+impl fmt::Display for Report {
+    fn fmt(&self, to: &mut fmt::Formatter) -> fmt::Result {
+        let Report {
+            tables,
+            depth,
+            reads,
+        } = self;
+        write!(to, "tables={tables} depth={depth} reads={reads}")
+    }
+}
+
+/// Why a message is refused.
+#[derive(Clone, Copy, Debug, PartialEq, Eq, Hash)]
+#[non_exhaustive]
+pub enum Reason {
+    /// The message has 2^31 bytes or more. Nothing of it was read.
+    TooLong = 0,
+    /// The prefix isn't the number of bytes after it.
+    WrongPrefix = 1,
+    /// What should be read doesn't lie in the message.
+    OutOfBuffer = 2,
+    /// The position isn't a multiple of the alignment.
+    Misaligned = 3,
+    /// An offset is 0.
+    ZeroOffset = 4,
+    /// The file identifier isn't the one asked for.
+    WrongIdentifier = 5,
+    /// One table more than [`max_depth`](crate::Options::max_depth) allows.
+    TooDeep = 6,
+    /// One table more than [`max_tables`](crate::Options::max_tables) allows.
+    TooManyTables = 7,
+    /// A vtable's size is odd or below 4.
+    BadVtable = 8,
+    /// A required field is absent.
+    MissingRequired = 9,
+    /// The byte after a string isn't 0.
+    NoTerminator = 10,
+    /// A vector of unions and its vector of types differ in length.
+    LengthsDiffer = 11,
+    /// A field ends past its table's inline size.
+    PastTable = 12,
+    /// More reads than the options allow.
+    TooManyReads = 13,
+}
+
+/// The reasons by their numbers.
+const REASONS: [Reason; 14] = [
+    Reason::TooLong,
+    Reason::WrongPrefix,
+    Reason::OutOfBuffer,
+    Reason::Misaligned,
+    Reason::ZeroOffset,
+    Reason::WrongIdentifier,
+    Reason::TooDeep,
+    Reason::TooManyTables,
+    Reason::BadVtable,
+    Reason::MissingRequired,
+    Reason::NoTerminator,
+    Reason::LengthsDiffer,
+    Reason::PastTable,
+    Reason::TooManyReads,
+];
+
+impl Reason {
+    /// The number of its code: 10 for `V10`.
+    pub fn code(self) -> u32 {
+        self as u32
+    }
+}
+
+impl fmt::Display for Reason {
+    fn fmt(&self, to: &mut fmt::Formatter) -> fmt::Result {
+        match self.code() {
+            0 => write!(to, "{self:?}"),
+            code => write!(to, "V{code} {self:?}"),
+        }
+    }
+}
+
+/// The first fault of a message.
+#[derive(Clone, Debug, PartialEq, Eq)]
+#[non_exhaustive]
+pub struct Fault {
+    /// Why it is refused.
+    pub reason: Reason,
+    /// The position in bytes from the first one.
+    pub position: u64,
+    /// The number of the object under check, which [`Schema::object_name`](crate::Schema::object_name) names.
+    pub object: u32,
+    /// The number of its field, unless it's the whole object.
+    pub field: Option<u32>,
+    /// The reads made by then.
+    pub reads: u64,
+    /// The place in words, as `in items[2].name [game.Item.name]`; at most 1,024 bytes of it.
+    pub place: String,
+}
+
+impl Fault {
+    pub(crate) fn of(verdict: &calls::Verdict, place: &[u8]) -> Fault {
+        Fault {
+            reason: REASONS[verdict.reason as usize],
+            position: verdict.at,
+            object: verdict.object,
+            field: (verdict.field != calls::NONE).then_some(verdict.field),
+            reads: verdict.reads,
+            place: String::from_utf8_lossy(place).into_owned(),
+        }
+    }
+}
+
+/// The text of a number, or `-`.
+fn number_or_dash(number: Option<u32>) -> String {
+    number.map_or("-".to_owned(), |number| number.to_string())
+}
+
+/// As the program's line tells it behind `bad`.
+impl fmt::Display for Fault {
+    fn fmt(&self, to: &mut fmt::Formatter) -> fmt::Result {
+        let (reason, field) = (self.reason, number_or_dash(self.field));
+        write!(to, "{reason} at={} object={}", self.position, self.object)?;
+        write!(to, " field={field} reads={}", self.reads)?;
+        if !self.place.is_empty() {
+            write!(to, " {}", self.place)?;
+        }
+        Ok(())
+    }
+}
+
+impl std::error::Error for Fault {}
+
+/// What stands at the end of a path. Bytes are the message's own.
+#[derive(Clone, Copy, Debug, PartialEq)]
+pub enum Value<'m> {
+    /// Nothing: the field, or one on the way, is absent and has no default.
+    Absent,
+    /// Nothing: the vector has fewer elements.
+    NoElement,
+    /// Nothing: the union has another type.
+    OtherMember,
+    /// A Bool.
+    Bool(bool),
+    /// A Byte, Short, Int or Long.
+    Int(i64),
+    /// A UType, UByte, UShort, UInt or ULong.
+    UInt(u64),
+    /// A Float or Double.
+    Float(f64),
+    /// The bytes of a string, which need not be UTF-8.
+    Text(&'m [u8]),
+    /// The bytes of a struct as they stand, padding included.
+    Struct(&'m [u8]),
+    /// How many elements a vector has; of scalars and structs their bytes in a row, else none.
+    Vector(u64, &'m [u8]),
+    /// A table.
+    Table,
+    /// A union by its type, which is 0 for none.
+    Union(u64),
+}
+
+impl<'m> Value<'m> {
+    pub(crate) fn of(value: &calls::Value, message: &'m [u8]) -> Value<'m> {
+        let bytes = &message[value.at as usize..][..value.size as usize];
+        match value.kind {
+            0 => Value::Absent,
+            1 => Value::NoElement,
+            2 => Value::OtherMember,
+            3 => Value::Bool(value.number != 0),
+            4 => Value::Int(value.integer),
+            5 => Value::UInt(value.number),
+            6 => Value::Float(float(bytes)),
+            7 => Value::Text(bytes),
+            8 => Value::Struct(bytes),
+            9 => Value::Vector(value.number, bytes),
+            10 => Value::Table,
+            11 => Value::Union(value.number),
+            kind => unreachable!("fbcheck tells no kind {kind}"),
+        }
+    }
+
+    /// The text of a string that is UTF-8.
+    pub fn as_str(&self) -> Option<&'m str> {
+        match *self {
+            Value::Text(bytes) => std::str::from_utf8(bytes).ok(),
+            _ => None,
+        }
+    }
+}
+
+/// The number of 4 or 8 bytes.
+fn float(bytes: &[u8]) -> f64 {
+    match bytes.try_into() {
+        Ok(eight) => f64::from_le_bytes(eight),
+        Err(_) => f32::from_le_bytes(bytes.try_into().expect("a Float has 4 bytes")).into(),
+    }
+}
+
+/// Why there is no schema, or no path. Each is told as the program tells it.
+#[derive(Clone, Debug, PartialEq, Eq)]
+#[non_exhaustive]
+pub enum Error {
+    /// The schema file has a fault.
+    NotWellFormed(Fault),
+    /// Its rows are no schema: the number of the code `C1` to `C8`, that of the object or enum, and the place of the
+    /// field or member in its list.
+    BadSchema(u32, u32, Option<u32>),
+    /// Its root table isn't listed in it.
+    RootNotListed,
+    /// Memory was refused.
+    NoMemory,
+    /// The schema file has 2^31 bytes or more.
+    TooLong,
+    /// It has more rows, or longer names, than its length pays for.
+    TooMuchShared,
+    /// The schema has no root table of its own, or none of the name that was asked for.
+    NoRoot,
+    /// The schema's own identifier was asked for, and it hasn't 4 bytes.
+    NoIdent,
+    /// A depth above 4,096 was asked for.
+    OutOfRange,
+    /// The text is no path of the schema: the number of the code `P1` to `P6`, and the place in the text with `P1`,
+    /// else the number of the step.
+    BadPath(u32, u64),
+    /// The path has more than 31 steps.
+    TooManySteps,
+}
+
+const CODES: [&str; 8] = [
+    "NoSuchObject",
+    "NoSuchEnum",
+    "Unsupported",
+    "BadSlot",
+    "NoTypeField",
+    "BadStruct",
+    "BadMember",
+    "NameTwice",
+];
+const PATH_FAULTS: [&str; 6] = [
+    "BadText",
+    "NoSuchField",
+    "NotIndexable",
+    "NotAUnion",
+    "NoSuchMember",
+    "NotATable",
+];
+
+impl Error {
+    pub(crate) fn of(verdict: &calls::Verdict) -> Error {
+        let part = (verdict.field != calls::NONE).then_some(verdict.field);
+        match verdict.status {
+            calls::OUT_OF_RANGE => Error::OutOfRange,
+            calls::NO_IDENT => Error::NoIdent,
+            calls::NO_ROOT => Error::NoRoot,
+            calls::TOO_LONG => Error::TooLong,
+            calls::NOT_WELL_FORMED => Error::NotWellFormed(Fault::of(verdict, b"")),
+            calls::BAD_SCHEMA => Error::BadSchema(verdict.reason, verdict.object, part),
+            calls::ROOT_NOT_LISTED => Error::RootNotListed,
+            calls::NO_MEMORY => Error::NoMemory,
+            calls::BAD_PATH => Error::BadPath(verdict.reason, verdict.at),
+            calls::NO_ROOM => Error::TooManySteps,
+            calls::TOO_MUCH_SHARED => Error::TooMuchShared,
+            status => unreachable!("fbcheck answers {status}"),
+        }
+    }
+}
+
+impl fmt::Display for Error {
+    fn fmt(&self, to: &mut fmt::Formatter) -> fmt::Result {
+        match *self {
+            Error::NotWellFormed(ref fault) => write!(to, "schema: L1 {fault}"),
+            Error::BadSchema(code, owner, part) => {
+                let (name, part) = (CODES[code as usize - 1], number_or_dash(part));
+                write!(to, "schema: L2 C{code} {name} owner={owner} part={part}")
+            }
+            Error::RootNotListed => write!(to, "schema: L3 RootNotListed"),
+            Error::NoMemory => write!(to, "out of memory"),
+            Error::TooLong => write!(to, "schema: L5 TooLong"),
+            Error::TooMuchShared => write!(to, "schema: L6 TooMuchShared"),
+            Error::NoRoot => write!(to, "no root table"),
+            Error::NoIdent => write!(to, "the schema's identifier must be four bytes"),
+            Error::OutOfRange => write!(to, "max_depth is above 4096"),
+            Error::BadPath(code, at) => {
+                let (name, at_or_step) = (
+                    PATH_FAULTS[code as usize - 1],
+                    if code == 1 { "at" } else { "step" },
+                );
+                write!(to, "path: P{code} {name} {at_or_step}={at}")
+            }
+            Error::TooManySteps => write!(to, "the path has more than 31 steps"),
+        }
+    }
+}
+
+impl std::error::Error for Error {}

@@ -1,0 +1,199 @@
+// Does what the lines of standard input say, by the module; tests/test_bindings.py tells what each line means.
+'use strict';
+
+const fs = require('node:fs');
+const assert = require('node:assert');
+const { Worker, isMainThread, parentPort, workerData } = require('node:worker_threads');
+const { BadBuffer, Schema } = require('../../bindings/node');
+
+const NUMBERS = { max_depth: 'maxDepth', max_tables: 'maxTables', reads_per_byte: 'readsPerByte' };
+const SWITCHES = { prefixed: 'prefixed', alignment: 'alignment', inline_size: 'inlineSize' };
+
+function options(words) {
+  const asked = {};
+  for (const word of words) {
+    const [name, value] = word.split('=');
+    if (name in NUMBERS) asked[NUMBERS[name]] = Number(value);
+    else if (name in SWITCHES) asked[SWITCHES[name]] = value === '1';
+    else if (name === 'max_reads') asked.maxReads = BigInt(value);
+    else asked[name] = value;
+  }
+  return asked;
+}
+
+function* pieces(bytes, first, size) {
+  yield bytes.subarray(0, first);
+  for (let at = first; at < bytes.length; at += size) yield bytes.subarray(at, at + size);
+}
+
+async function* later(pieces) {
+  yield* pieces;
+}
+
+function value(value) {
+  const hex = Buffer.from(value.bytes).toString('hex');
+  switch (value.kind) {
+    case 'bool': case 'int': case 'uint': return String(value.value);
+    case 'float': {
+      const eight = Buffer.alloc(8);
+      eight.writeDoubleLE(value.value);
+      return `float:${eight.toString('hex')}`;
+    }
+    case 'text':
+      assert.strictEqual(value.value, Buffer.from(value.bytes).toString());
+      return `text:${hex}`;
+    case 'struct':
+      assert.deepStrictEqual(value.value, value.bytes);
+      return `struct:${hex}`;
+    case 'vector': return `vector:${value.value}:${hex}`;
+    case 'union': return `union:${value.value}`;
+    default:
+      assert.strictEqual(value.value, undefined);
+      return value.kind;
+  }
+}
+
+function check(schema, message) {
+  const verdict = schema.check(message);
+  const verified = () => schema.verify(message);
+  if (verdict.ok) verified();
+  else assert.throws(verified, (error) => error instanceof BadBuffer && `${error.verdict}` === `${verdict}`);
+  for (let shift = 0; shift < 16; shift++) {
+    for (const moved of [Buffer.alloc(shift + message.length), new Uint8Array(shift + message.length)]) {
+      moved.set(message, shift);
+      assert.deepStrictEqual(schema.check(moved.subarray(shift)), verdict);
+    }
+  }
+  return String(verdict);
+}
+
+async function stream(schema, [file, first, size, maxBytes], to) {
+  const given = fs.readFileSync(file);
+  const lines = [];
+  const told = async (checked) => {
+    let number = 0;
+    for await (const { message, verdict } of checked) lines.push(`${++number} ${message.length} ${verdict}`);
+  };
+  const most = { maxBytes: Number(maxBytes) };
+  let text = 'end';
+  try {
+    await told(schema.messages(pieces(given, Number(first), Number(size)), most));
+  } catch (error) {
+    text = `error ${error.message}`;
+  }
+  const synchronous = [...lines.splice(0), text];
+  text = 'end';
+  try {
+    await told(schema.messages(later(pieces(given, Number(first), Number(size))), most));
+  } catch (error) {
+    text = `error ${error.message}`;
+  }
+  assert.deepStrictEqual([...lines, text], synchronous);
+  for (const line of lines) to.push(line.replace(/ \d+/, ''));
+  return text;
+}
+
+function read(schema, [file, ...texts]) {
+  const message = fs.readFileSync(file);
+  const told = schema.read(message, ...texts).map(value);
+  const [...each] = texts.map((text) => value(schema.read(message, schema.path(text))[0]));
+  assert.deepStrictEqual(each, told);
+  return told.join(' ');
+}
+
+/** Each thread of Node has a schema of its own. */
+async function threads(schemaFile, asked, [file, count, threads]) {
+  const worker = () => new Promise((done, fail) => {
+    const running = new Worker(__filename, { workerData: { schemaFile, asked, file, count: Number(count) } });
+    running.once('message', done);
+    running.once('error', fail);
+  });
+  const sums = await Promise.all(Array.from({ length: Number(threads) }, worker));
+  return String(sums.reduce((one, other) => one + other));
+}
+
+function work({ schemaFile, asked, file, count }) {
+  const schema = new Schema(schemaFile, asked);
+  const message = fs.readFileSync(file);
+  const want = String(schema.check(message));
+  let alike = 0;
+  for (let i = 0; i < count; i++) {
+    const verdict = schema.check(message);
+    if (verdict.ok && verdict.reads === 8) alike += 1;
+    else if (String(verdict) === want) alike += 1;
+  }
+  parentPort.postMessage(alike);
+}
+
+const kilobytes = () => 4 * Number(fs.readFileSync('/proc/self/statm', 'utf8').split(' ')[1]);
+
+async function loads([file, count]) {
+  const given = fs.readFileSync(file);
+  const nothing = Buffer.alloc(0);
+  let before;
+  for (let i = 0; i < count; i++) {
+    if (i === Math.floor(count / 10)) before = kilobytes();
+    const schema = new Schema(given);
+    assert(!schema.with({ prefixed: true }).check(nothing).ok);
+    if (i % 2 === 0) schema.close();
+    if (i % 8 === 0) assert.throws(() => new Schema(given.subarray(0, i % (given.length / 2))));
+    if (i % 1000 === 0) await new Promise(setImmediate);
+  }
+  return String(kilobytes() - before);
+}
+
+function time(schema, [file, count]) {
+  const message = fs.readFileSync(file);
+  let best = Infinity;
+  for (let round = 0; round < 400; round++) {
+    const begun = process.hrtime.bigint();
+    for (let i = 0; i < count / 400; i++) assert(schema.check(message).ok);
+    best = Math.min(best, (Number(process.hrtime.bigint() - begun) * 400) / count);
+  }
+  return best.toFixed(0);
+}
+
+let schema;
+let loaded;
+
+async function done([name, ...rest], to) {
+  switch (name) {
+    case 'load':
+      loaded = [rest[0], options(rest.slice(1))];
+      schema = new Schema(...loaded);
+      return 'done';
+    case 'with':
+      schema = schema.with(options(rest));
+      return 'done';
+    case 'close':
+      schema.close();
+      schema.close();
+      return 'done';
+    case 'check': return check(schema, fs.readFileSync(rest[0]));
+    case 'stream': return stream(schema, rest, to);
+    case 'read': return read(schema, rest);
+    case 'misfit': return read(schema, [rest[2], schema.with(options([rest[0]])).path(rest[1])]);
+    case 'threads': return threads(...loaded, rest);
+    case 'loads': return loads(rest);
+    case 'time': return time(schema, rest);
+    case 'most': return String(schema.mostReads(BigInt(rest[0])));
+    case 'object': return schema.objectName(Number(rest[0])) ?? '-';
+    case 'field': return schema.fieldName(Number(rest[0]), Number(rest[1])) ?? '-';
+    default: throw new Error(`what is ${name}?`);
+  }
+}
+
+async function main() {
+  for (const line of fs.readFileSync(0, 'utf8').trimEnd().split('\n')) {
+    const to = [];
+    try {
+      to.push(await done(line.split(' '), to));
+    } catch (error) {
+      to.push(`error ${error.code === 'ERR_ASSERTION' ? error.stack : error.message}`);
+    }
+    process.stdout.write(`${[...to, '.'].join('\n')}\n`);
+  }
+}
+
+if (isMainThread) main();
+else work(workerData);

@@ -1,0 +1,298 @@
+// Does what the lines of standard input say, by the package; tests/test_bindings.py tells what each line means.
+package main
+
+import (
+	"bufio"
+	"encoding/hex"
+	"errors"
+	"fmt"
+	"io"
+	"math"
+	"os"
+	"reflect"
+	"strconv"
+	"strings"
+	"sync"
+	"sync/atomic"
+	"time"
+
+	"fbcheck.dev/fbcheck"
+)
+
+// pieces is a reader of bytes in pieces of a size, the first of another one.
+type pieces struct {
+	rest        []byte
+	first, size int
+}
+
+func (p *pieces) Read(to []byte) (int, error) {
+	if len(p.rest) == 0 {
+		return 0, io.EOF
+	}
+	size := p.first
+	if size > len(p.rest) {
+		size = len(p.rest)
+	}
+	length := copy(to, p.rest[:size])
+	p.rest, p.first = p.rest[length:], p.size
+	return length, nil
+}
+
+func number(word string) uint64 {
+	told, err := strconv.ParseUint(word, 10, 64)
+	if err != nil {
+		panic(err)
+	}
+	return told
+}
+
+func options(words []string) fbcheck.Options {
+	asked := fbcheck.DefaultOptions()
+	for _, word := range words {
+		name, value, _ := strings.Cut(word, "=")
+		switch name {
+		case "root":
+			asked.Root = value
+		case "max_depth":
+			asked.MaxDepth = uint32(number(value))
+		case "max_tables":
+			asked.MaxTables = uint32(number(value))
+		case "max_reads":
+			asked.MaxReads = number(value)
+		case "reads_per_byte":
+			asked.ReadsPerByte = uint32(number(value))
+		case "ident":
+			if asked.OwnIdent = value == "own"; !asked.OwnIdent {
+				asked.Ident = value
+			}
+		case "prefixed":
+			asked.Prefixed = value == "1"
+		case "alignment":
+			asked.NoAlignment = value == "0"
+		case "inline_size":
+			asked.InlineSize = value == "1"
+		default:
+			panic("no option " + name)
+		}
+	}
+	return asked
+}
+
+func value(value fbcheck.Value) string {
+	bytes := hex.EncodeToString(value.Bytes)
+	switch value.Kind {
+	case fbcheck.Bool:
+		return strconv.FormatBool(value.Uint == 1)
+	case fbcheck.Int:
+		return fmt.Sprint(value.Int)
+	case fbcheck.Uint:
+		return fmt.Sprint(value.Uint)
+	case fbcheck.Float:
+		var eight []byte
+		for bits := math.Float64bits(value.Float()); len(eight) < 8; bits >>= 8 {
+			eight = append(eight, byte(bits))
+		}
+		return "float:" + hex.EncodeToString(eight)
+	case fbcheck.Text:
+		return "text:" + bytes
+	case fbcheck.Struct:
+		return "struct:" + bytes
+	case fbcheck.Vector:
+		return fmt.Sprintf("vector:%d:%s", value.Uint, bytes)
+	case fbcheck.Union:
+		return fmt.Sprintf("union:%d", value.Uint)
+	}
+	return map[fbcheck.Kind]string{fbcheck.Absent: "absent", fbcheck.NoElement: "no-element",
+		fbcheck.OtherMember: "other-member", fbcheck.Table: "table"}[value.Kind]
+}
+
+func check(schema *fbcheck.Schema, message []byte) string {
+	verdict := schema.Check(message)
+	var bad *fbcheck.BadBuffer
+	if err := schema.Verify(message); verdict.OK != (err == nil) || errors.As(err, &bad) && bad.Verdict != verdict {
+		return "Verify says otherwise"
+	}
+	for shift := 0; shift < 16; shift++ {
+		if moved := append(make([]byte, shift), message...); schema.Check(moved[shift:]) != verdict {
+			return "it says otherwise at another place"
+		}
+	}
+	return verdict.String()
+}
+
+func stream(schema *fbcheck.Schema, words []string, to io.Writer) error {
+	reader := &pieces{file(words[0]), int(number(words[1])), int(number(words[2]))}
+	messages := schema.Messages(reader).MaxBytes(int(number(words[3])))
+	for count := 1; messages.Next(); count++ {
+		fmt.Fprintln(to, count, messages.Verdict())
+	}
+	return messages.Err()
+}
+
+func read(schema *fbcheck.Schema, message []byte, texts []string) (string, error) {
+	var paths []fbcheck.Path
+	for _, text := range texts {
+		path, err := schema.Path(text)
+		if err != nil {
+			return "", err
+		}
+		paths = append(paths, path)
+	}
+	values, err := schema.Read(message, paths...)
+	if err != nil {
+		return "", err
+	}
+	var told []string
+	for i, one := range values {
+		again, _ := schema.Read(message, paths[i])
+		if !reflect.DeepEqual(again[0], one) {
+			return "one path tells otherwise", nil
+		}
+		told = append(told, value(one))
+	}
+	return strings.Join(told, " "), nil
+}
+
+func misfit(schema *fbcheck.Schema, words []string) error {
+	other, err := schema.With(options(words[:1]))
+	if err != nil {
+		return err
+	}
+	path, err := other.Path(words[1])
+	if err != nil {
+		return err
+	}
+	_, err = schema.Read(file(words[2]), path)
+	return err
+}
+
+func threads(schema *fbcheck.Schema, words []string) string {
+	message, count := file(words[0]), int(number(words[1]))
+	want := schema.Check(message)
+	var sum int64
+	var all sync.WaitGroup
+	for thread := number(words[2]); thread > 0; thread-- {
+		all.Add(1)
+		go func() {
+			defer all.Done()
+			for i := 0; i < count; i++ {
+				if schema.Check(message) == want {
+					atomic.AddInt64(&sum, 1)
+				}
+			}
+		}()
+	}
+	all.Wait()
+	return fmt.Sprint(sum)
+}
+
+func kilobytes() int {
+	return 4 * int(number(strings.Fields(string(file("/proc/self/statm")))[1]))
+}
+
+func loads(words []string) string {
+	given, count, before := file(words[0]), int(number(words[1])), 0
+	for i := 0; i < count; i++ {
+		if i == count/10 {
+			before = kilobytes()
+		}
+		schema, err := fbcheck.NewSchema(given, fbcheck.DefaultOptions())
+		if err != nil || schema.Check(nil).OK {
+			return "no schema"
+		}
+		schema.Close()
+		if _, err := fbcheck.NewSchema(given[:i%(len(given)/2)], fbcheck.DefaultOptions()); err == nil {
+			return "a schema"
+		}
+	}
+	return fmt.Sprint(kilobytes() - before)
+}
+
+func timed(schema *fbcheck.Schema, words []string) string {
+	message, count, best := file(words[0]), int(number(words[1]))/400, time.Hour
+	for round := 0; round < 400; round++ {
+		begun := time.Now()
+		for i := 0; i < count; i++ {
+			if !schema.Check(message).OK {
+				return "a no"
+			}
+		}
+		if taken := time.Since(begun) / time.Duration(count); taken < best {
+			best = taken
+		}
+	}
+	return fmt.Sprint(best.Nanoseconds())
+}
+
+func file(name string) []byte {
+	bytes, err := os.ReadFile(name)
+	if err != nil {
+		panic(err)
+	}
+	return bytes
+}
+
+func dash(name string) string {
+	if name == "" {
+		return "-"
+	}
+	return name
+}
+
+func done(schema **fbcheck.Schema, words []string, to io.Writer) (told string, err error) {
+	defer func() {
+		if panicked := recover(); panicked != nil {
+			err = fmt.Errorf("%v", panicked)
+		}
+	}()
+	rest := words[1:]
+	switch words[0] {
+	case "load":
+		*schema, err = fbcheck.NewSchema(file(rest[0]), options(rest[1:]))
+		return "done", err
+	case "with":
+		var other *fbcheck.Schema
+		if other, err = (*schema).With(options(rest)); err == nil {
+			*schema = other
+		}
+		return "done", err
+	case "close":
+		(*schema).Close()
+		(*schema).Close()
+		return "done", nil
+	case "check":
+		return check(*schema, file(rest[0])), nil
+	case "stream":
+		return "end", stream(*schema, rest, to)
+	case "read":
+		return read(*schema, file(rest[0]), rest[1:])
+	case "misfit":
+		return "done", misfit(*schema, rest)
+	case "threads":
+		return threads(*schema, rest), nil
+	case "loads":
+		return loads(rest), nil
+	case "time":
+		return timed(*schema, rest), nil
+	case "most":
+		return fmt.Sprint((*schema).MostReads(number(rest[0]))), nil
+	case "object":
+		return dash((*schema).ObjectName(uint32(number(rest[0])))), nil
+	case "field":
+		return dash((*schema).FieldName(uint32(number(rest[0])), uint32(number(rest[1])))), nil
+	}
+	return "", errors.New("what is " + words[0])
+}
+
+func main() {
+	var schema *fbcheck.Schema
+	to := bufio.NewWriter(os.Stdout)
+	defer to.Flush()
+	for lines := bufio.NewScanner(os.Stdin); lines.Scan(); {
+		told, err := done(&schema, strings.Split(lines.Text(), " "), to)
+		if err != nil {
+			told = "error " + strings.TrimPrefix(err.Error(), "fbcheck: ")
+		}
+		fmt.Fprintf(to, "%s\n.\n", told)
+	}
+}

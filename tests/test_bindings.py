@@ -1,0 +1,435 @@
+"""The bindings for Rust, Node, Go and Java, each by a driver in tests/bindings that does what lines say.
+
+The program is the other voice: verdicts, places in words, values and texts of errors are those of its lines. Where a
+language's tool isn't there its cases are left out, and a line says so.
+
+A driver reads commands, one a line, and writes what each answers, and behind it a line of one dot:
+
+    load FILE OPTION=VALUE..        a schema with these options, by which all others go; with OPTION=VALUE.. has others
+    check FILE                      the verdict on a message, wherever its bytes are
+    stream FILE FIRST SIZE MOST     the verdicts on a stream in pieces, the first of another size
+    read FILE PATH..                values at paths; misfit OPTION PATH FILE by a path of a schema with this option
+    threads FILE COUNT THREADS      how many of so many verdicts are alike
+    loads FILE COUNT                kilobytes that so many loads take; time FILE COUNT the nanoseconds a check takes
+    most LENGTH                     most reads; object NUMBER and field NUMBER NUMBER tell names; close frees the schema
+"""
+
+import os
+import pathlib
+import re
+import shutil
+import struct
+import subprocess
+import unittest
+
+from tests.support import schemas
+from tests.support.buffers import (
+    ASKEW, HALVES, MEMBER, MEMBERS, NOTHING, ORC, PLACED, PLAIN, POST, TWINS, doubling, lower_type, named,
+)
+from tests.support.builder import buffer, changed, messages_of, prefixed
+from tests.support.every_kind import FILE, LITTLE, OPTIONS, PLACE, WHOLE, variants, words_of
+from tests.support.library import OUT, LibraryCase, ran
+from tests.support.program import FOLDER, TOP, file_of, run
+from tests.support.schemas import INT, TEXT, U_BYTE, a_union, an_object, field, schema, table, union
+
+DRIVERS = TOP / "tests/bindings"
+FOUND = {"PKG_CONFIG_PATH": str(OUT), "LD_LIBRARY_PATH": str(OUT)}
+ORDERS = TOP / "examples/deliveries.bfbs"
+STREAM = TOP / "examples/deliveries.bin"
+ALL = file_of("all.bfbs", FILE)
+FILES = schemas.files()
+
+# The paths of each kind of value in every_kind.py.
+PATHS = [
+    "yes", "least", "short", "long", "real", "place", "name", "below", "below.next.v", "below.next.next", "bytes",
+    "bytes[1]", "longs", "longs[1]", "longs[2]", "places", "places[0]", "texts", "texts[0]", "texts[1]", "texts[3]",
+    "tables", "tables[1]", "one_type", "one", "one@Wide", "one@Text", "many_type", "many", "many[0]", "many[0]@Below.v",
+    "many[1]@Place", "many[2]@Text", "many[3]", "many[5]@Wide", "many[6]", "last",
+]
+
+
+def options_of(options):
+    """The words that ask a driver for the same as words_of asks the program."""
+    names = {"depth": "max_depth", "tables": "max_tables", "reads": "max_reads"}
+    told = {names.get(name, name): value.decode() if name == "ident" else int(value) for name, value in options.items()}
+    return " ".join(f"{name}={value}" for name, value in told.items())
+
+
+def value_of(line):
+    """A value of a line of the program as a driver writes it, where a vector has no bytes."""
+    text = line.partition("reads=")[2].partition(" ")[2]
+    if text.startswith("float:"):
+        data = bytes.fromhex(text[6:])
+        return f"float:{struct.pack('<d', *struct.unpack('<f' if len(data) == 4 else '<d', data)).hex()}"
+    return f"text:{text[1:-1].encode().hex()}" if text.startswith('"') else text
+
+
+def jdk_of_22():
+    """The folder of a JDK of 22 or later, or None."""
+    places = [os.environ.get("JAVA_HOME"), *sorted(pathlib.Path("/usr/lib/jvm").glob("*"))]
+    if shutil.which("javac"):
+        places.insert(1, pathlib.Path(shutil.which("javac")).resolve().parents[1])
+    for place in filter(None, places):
+        compiler = pathlib.Path(place) / "bin/javac"
+        version = re.search(r"\d+", ran(compiler, "-version")[1]) if compiler.exists() else None
+        if version and int(version[0]) >= 22:
+            return pathlib.Path(place)
+    return None
+
+
+class Binding:
+    """The cases of each language."""
+
+    max_depth = "maxDepth"
+    closed = "the schema is closed"
+
+    @classmethod
+    def setUpClass(cls):
+        missing = cls.missing()
+        if missing:
+            print(f"The binding for {cls.language} isn't tested: {missing}.")
+            raise unittest.SkipTest(missing)
+        super().setUpClass()
+        cls.build()
+
+    @classmethod
+    def made(cls, *words, folder=TOP, **environment):
+        """Runs what builds something, which may say nothing."""
+        told = subprocess.run([str(word) for word in words], cwd=folder, env={**os.environ, **FOUND, **environment},
+                              stdin=subprocess.DEVNULL, stdout=subprocess.PIPE, stderr=subprocess.STDOUT, text=True)
+        if told.returncode != 0 or told.stdout:
+            raise AssertionError(f"{' '.join(map(str, words))}:\n{told.stdout}")
+
+    def told(self, *commands, seconds=120):
+        """What the driver answers to each command."""
+        status, out, err = ran(*self.driver, given="".join(f"{line}\n" for line in commands).encode(), seconds=seconds,
+                               **FOUND)
+        answers = re.findall(r"(.*?)^\.\n", out, re.S | re.M)
+        self.same("the driver ends well", (status, err, len(answers)), (0, "", len(commands)))
+        return [answer.strip() for answer in answers] + ["no answer"] * (len(commands) - len(answers))
+
+    def test_verdicts(self):
+        """Those of the program on streams of good and damaged messages, with every reason but a wrong prefix."""
+        commands, wanted = [], []
+        for name, root in [("whole", WHOLE), ("little", LITTLE)]:
+            data = buffer(root, b"KIND", prefix=True)[4:]
+            given = b"".join(map(prefixed, variants(data, [1, 4, 252])))
+            path = file_of(f"{name}.stream", given)
+            for options in OPTIONS:
+                asked = {"tables": 500, **options}
+                want = run("--names", "--schema", str(ALL), *words_of(asked), given=given).out.decode()
+                commands += [f"load {ALL} prefixed=1 {options_of(asked)}", f"stream {path} 65536 65536 67108864"]
+                wanted += ["done", f"{want}end"]
+        want = run("--names", "--schema", str(ORDERS), "--root", "post.Person", given=POST).out.decode()
+        commands += [f"load {ORDERS} prefixed=1 root=post.Person", f"stream {STREAM} 65536 65536 67108864"]
+        wanted += ["done", f"{want}end"]
+        for command, got, want in zip(commands, self.told(*commands), wanted):
+            pairs = zip(got.splitlines(), want.splitlines())
+            self.same(f"{command}: lines that differ", [pair for pair in pairs if pair[0] != pair[1]][:3], [])
+            self.same(f"{command}: how many", got.count("\n"), want.count("\n"))
+        seen = set(re.findall(r"bad V(\d+)", "".join(wanted)))
+        self.same("reasons", sorted(map(int, seen)), list(range(2, 14)))
+
+    def test_single_messages(self):
+        """A message wherever its bytes are: good and bad ones, none, a long one, and one with a wrong prefix."""
+        rows = [("M", ORC), ("M", ORC[:-1]), ("M", b""), ("M", named(1 << 20, prefix=False)),
+                ("M", named(1 << 20, prefix=False)[:-1] + b"\1"), ("NODE", doubling(12)), ("NODE", TWINS)]
+        commands = []
+        for number, (name, data) in enumerate(rows):
+            commands += [f"load {FILES[name]}", f"check {file_of(f'single{number}', data)}"]
+        answers = self.told(*commands)
+        for (name, data), got in zip(rows, answers[1::2]):
+            want = run("--names", "--bare", "--schema", FILES[name], given=data).out.decode()
+            self.same(f"{len(data)} bytes by {name}", got, want.removeprefix("1 ").strip())
+        first = messages_of(POST)[0]
+        good, wrong = file_of("first", first), file_of("wrong", b"\0" + first[1:])
+        _, one, other, *named_so, most = self.told(
+            f"load {ORDERS} prefixed=1 ident=own", f"check {good}", f"check {wrong}", "object 1", "field 1 6",
+            "object 99", "field 1 99", "most 100")
+        want = run("--schema", ORDERS, "--ident", "POST", given=first).out.decode()
+        self.same("a right prefix", one, want.removeprefix("1 ").strip())
+        self.holds("a wrong one", other.startswith("bad V1 WrongPrefix at=0 object=1 field=- reads=1"), other)
+        self.same("names", named_so, ["post.Delivery", "items", "-", "-"])
+        self.same("the most reads of 100 bytes", most, str(100 * 64 + 4096 + 7))
+
+    def test_options(self):
+        """Those that can't be served, and those that no stream of the program has."""
+        deep = file_of("deep", buffer(chain(100)))
+        ident = file_of("ident", buffer({0: ("h", 5)}, b"KIND"))
+        rows = [
+            ("max_depth=4097", f"error {self.max_depth} is above 4096"), ("max_depth=4096", "done"),
+            ("root=N", "error no root table"), ("root=M", "done"), ("ident=own", "done"), ("ident=NONE", "done"),
+        ]
+        answers = self.told(f"load {FILES['M']}", *[f"with {asked}" for asked, _ in rows])
+        for (asked, want), got in zip(rows, answers[1:]):
+            self.same(asked, got, want)
+        words = [f"load {FILES['CHAIN']}", f"check {deep}", "with max_depth=99", f"check {deep}", "with max_depth=100",
+                 f"check {deep}", f"load {FILES['M']}", f"check {ident}", "with ident=KIND", f"check {ident}",
+                 "with ident=KIN.", f"check {ident}"]
+        told = [answer.split(" at=")[0] for answer in self.told(*words)[1::2]]
+        self.same("depths", told[:3], ["bad V6 TooDeep", "bad V6 TooDeep", "ok tables=100 depth=100 reads=399"])
+        good = "ok tables=1 depth=1 reads="
+        self.same("identifiers", told[3:], [f"{good}4", f"{good}5", "bad V5 WrongIdentifier"])
+
+    def test_values(self):
+        """What the program writes at the end of each line, of every kind, and the bytes of vectors."""
+        rows = [("M", ORC, "name"), ("M", ORC, "hp"), ("M", PLAIN, "hp"), ("M", PLAIN, "name"), ("X", MEMBERS, "us"),
+                ("X", MEMBERS, "us[0]@T"), ("X", MEMBERS, "us[1]@T"), ("X", MEMBERS, "us[2]@T"), ("G", HALVES, "f"),
+                ("G", PLAIN, "f"), ("NODE", TWINS, "a.b"), ("NODE", TWINS, "a.b.a"),
+                ("Z", changed(ASKEW, (24, "00000000")), "l")]
+        rows += [("X R", data, path) for data, path in [
+            (MEMBER, "u"), (MEMBER, "u@A"), (MEMBER, "u@A.v"), (MEMBER, "u@T"), (PLACED, "u@W"), (PLAIN, "u"),
+            (lower_type(9), "u")]]
+        rows += [("ALL", buffer(root, b"KIND"), path) for root in (WHOLE, LITTLE) for path in PATHS]
+        commands = []
+        for number, (name, data, path) in enumerate(rows):
+            name, _, root = name.partition(" ")
+            commands += [f"load {FILES.get(name, ALL)}{root and f' root={root}'}",
+                         f"read {file_of(f'value{number}', data)} {path}"]
+        for (name, data, path), got in zip(rows, self.told(*commands)[1::2]):
+            name, _, root = name.partition(" ")
+            words = ["--schema", FILES.get(name, ALL), *(["--root", root] if root else []), "--path", path]
+            want = value_of(run("--bare", *words, given=data).out.decode().strip())
+            self.same(f"{path} of {name}", re.sub(r"(vector:\d+):.*", r"\1", got), want)
+        whole = file_of("whole", buffer(WHOLE))
+        commands = [f"load {ALL}", f"read {whole} bytes longs", f"read {whole} places texts", f"read {whole} name name"]
+        want = [f"vector:3:{b'abc'.hex()} vector:2:{struct.pack('<2q', 1, 2).hex()}",
+                f"vector:2:{PLACE.hex() * 2} vector:3:", f"text:{b'name'.hex()} text:{b'name'.hex()}"]
+        self.same("several at once", self.told(*commands)[1:], want)
+
+    def test_errors(self):
+        """The texts of the program for schema files, paths and messages."""
+        file = ORDERS.read_bytes()
+        given = [b"", file[:100], b"hello, world", file[:4] + b"BFBX" + file[8:],
+                 schema([table("T", field("o", an_object(7), 4))], root="T"),
+                 schema([table("T", field("a", INT, 4), field("b", INT, 4))], root="T"),
+                 schema([table("T", field("u", a_union(0), 6))], [union("U", ("NONE", 0, schemas.NONE))], root="T"),
+                 schema([table("T")], [union("U", ("A", 0, TEXT), ("B", 0, TEXT))], root="T"),
+                 schema([table("T")], root="S"), schema([table("T")])]
+        files = [file_of(f"wrong{number}.bfbs", data) for number, data in enumerate(given)]
+        for path, got in zip(files, self.told(*[f"load {path}" for path in files])):
+            want = run("--schema", path).err.decode().removeprefix("fbcheck: ").strip()
+            self.same(f"{path.name}", got, f"error {want}")
+        first = file_of("first", messages_of(POST)[0])
+        texts = ["to..x", "to.nobody", "to[0]", "items@Parcel", "first@Nobody", "to.name.x", "items[4294967296]"]
+        torn = file_of("torn", messages_of(POST)[4])
+        commands = [f"load {ORDERS} prefixed=1", *[f"read {first} {text}" for text in texts], f"read {torn} to.name",
+                    f"misfit root=post.Parcel tags[0] {first}", f"read {first} {'.'.join(['to'] * 40)}"]
+        _, *answers, bad, misfit, long = self.told(*commands)
+        for text, got in zip(texts, answers):
+            want = run("--schema", ORDERS, "--path", text).err.decode().removeprefix("fbcheck: ").strip()
+            self.same(f"the path {text}", got, f"error {want}")
+        want = run("--names", "--schema", ORDERS, given=messages_of(POST)[4]).out.decode()[2:].strip()
+        self.same("a bad message has no values", bad, f"error {want}")
+        self.same("a path of another root", misfit, "error a path is none of this schema from this root")
+        if self.closed:
+            after = [f"check {first}", f"read {first} to", "with prefixed=1", "object 1"]
+            told = self.told(f"load {ORDERS}", "close", *after)
+            self.same("a closed schema", told[1:], ["done"] + [f"error {self.closed}"] * 4)
+
+    def test_streams(self):
+        """The same messages however a stream is cut, and what may be wrong with one."""
+        want = run("--names", "--schema", ORDERS, given=POST).out.decode() + "end"
+        pieces = [(at, 65536) for at in range(1, len(POST) + 1)] + [(size, size) for size in range(1, 65)]
+        commands = [f"load {ORDERS} prefixed=1", *[f"stream {STREAM} {first} {rest} 600" for first, rest in pieces]]
+        for (first, rest), got in zip(pieces, self.told(*commands)[1:]):
+            self.same(f"in pieces of {first} and {rest}", got, want)
+        messages = messages_of(POST)
+        some = file_of("some", b"".join(messages[:2]) + messages[2][:-1])
+        none, empty = file_of("none", b""), file_of("empty", NOTHING * 3)
+        long = file_of("long", named(9 << 20) * 2)
+        lines = want.splitlines(keepends=True)
+        longest = max(map(len, messages))
+        by_m = run("--schema", FILES["M"], given=long.read_bytes()).out.decode() + "end"
+        commands = [f"load {ORDERS} prefixed=1", f"stream {some} 7 7 65536", f"stream {STREAM} 7 7 {longest}",
+                    f"stream {STREAM} 7 7 {longest - 1}", f"stream {none} 1 1 8", f"stream {empty} 5 5 8",
+                    f"load {FILES['M']} prefixed=1", f"stream {long} 65536 65536 67108864"]
+        _, cut, enough, oversize, nothing, blank, _, great = self.told(*commands)
+        self.holds("a schema without prefixes is refused", "begin with their size" in self.told(
+            f"load {ORDERS}", f"stream {none} 1 1 8")[1])
+        held = len(messages[2]) - 1
+        self.same("one that ends in a message", cut, f"{''.join(lines[:2])}error stream: S2 Truncated held={held}")
+        self.same("room enough", enough, want)
+        first = next(number for number, message in enumerate(messages) if len(message) == longest)
+        declared = f"error stream: S1 Oversize declared={longest - 4}"
+        self.same("one byte too few", oversize, f"{''.join(lines[:first])}{declared}")
+        self.same("no message", nothing, "end")
+        self.same("messages without a byte", len(re.findall(r"V2 OutOfBuffer at=4 ", blank)), 3)
+        self.same("long messages", great, by_m)
+
+    def test_threads(self):
+        """A million checks of one schema on four threads."""
+        orc = file_of("orc", ORC)
+        commands = [f"load {FILES['M']}", f"threads {orc} 250000 4", "with max_depth=65", f"threads {orc} 1000 4"]
+        told = self.told(*commands, seconds=300)
+        self.same("verdicts that are alike", told, ["done", "1000000", "done", "4000"])
+
+    def test_memory(self):
+        """A hundred thousand loads take no more memory than ten thousand."""
+        told = self.told(f"loads {FILES['M']} 100000", seconds=300)
+        self.holds("kilobytes more", re.fullmatch(r"-?\d+", told[0]) and int(told[0]) < 20_000, told[0])
+
+    def test_page(self):
+        """The program of its page, as it's pasted, writes what stands behind it."""
+        page = (TOP / "bindings" / self.folder / "README.md").read_text()
+        code, want = re.search(rf"```{self.fence}\n(.*?)```.*?```text\n(.*?)```", page, re.S).groups()
+        folder = FOLDER / f"{self.folder}_page"
+        folder.mkdir()
+        told = ran("env", "-C", TOP, *self.pasted(folder, code), given=STREAM.read_bytes(), **FOUND)
+        self.same("what the page's program writes", told, (0, want, ""))
+
+
+def chain(count):
+    """By CHAIN: so many tables, one inside another."""
+    root = {}
+    for _ in range(count - 1):
+        root = {0: root}
+    return root
+
+
+class Rust(Binding, LibraryCase):
+    language, folder, fence = "Rust", "rust", "rust"
+    max_depth, closed = "max_depth", None
+    target = FOLDER / "rust"
+    driver = [target / "release/driver"]
+
+    @classmethod
+    def missing(cls):
+        return None if shutil.which("cargo") else "cargo isn't there"
+
+    @classmethod
+    def cargo(cls, folder, command, *words):
+        cls.made("cargo", command, "--quiet", "--offline", *words, folder=folder, CARGO_TARGET_DIR=str(cls.target))
+
+    @classmethod
+    def build(cls):
+        cls.cargo(DRIVERS / "rust", "build", "--release")
+
+    def test_style(self):
+        for folder in (TOP / "bindings/rust", DRIVERS / "rust"):
+            if shutil.which("rustfmt"):
+                self.made("cargo", "fmt", "--check", folder=folder)
+            if shutil.which("cargo-clippy"):
+                self.cargo(folder, "clippy", "--release", "--", "-D", "warnings")
+
+    def test_documented(self):
+        """The examples in the crate's documentation run."""
+        told = ran("env", "-C", TOP / "bindings/rust", "cargo", "test", "--release", "--quiet", "--offline", "--doc",
+                   CARGO_TARGET_DIR=str(self.target), seconds=300, **FOUND)
+        self.holds("they pass", told[0] == 0 and "2 passed" in told[1], told)
+
+    def pasted(self, folder, code):
+        (folder / "src").mkdir()
+        (folder / "src/main.rs").write_text(code)
+        (folder / "Cargo.toml").write_text(
+            '[package]\nname = "page"\nversion = "0.0.0"\nedition = "2021"\n\n[workspace]\n\n'
+            f'[dependencies]\nfbcheck = {{ path = "{TOP}/bindings/rust" }}\n')
+        self.cargo(folder, "build", "--release")
+        return [self.target / "release/page"]
+
+
+class Node(Binding, LibraryCase):
+    language, folder, fence = "Node", "node", "js"
+    driver = ["node", DRIVERS / "driver.js"]
+
+    @classmethod
+    def missing(cls):
+        if not shutil.which("node"):
+            return "node isn't there"
+        headers = pathlib.Path(shutil.which("node")).resolve().parents[1] / "include/node/node_api.h"
+        return None if headers.exists() or "NODE_HEADERS" in os.environ else "Node's headers aren't there"
+
+    @classmethod
+    def build(cls):
+        cls.made(TOP / "bindings/node/build")
+
+    def test_style(self):
+        if shutil.which("tsc"):
+            self.made("tsc", "--noEmit", "--strict", "--target", "es2022", TOP / "bindings/node/index.d.ts")
+
+    def test_wrong_words(self):
+        """What isn't bytes, and options that aren't there."""
+        rows = [("schema.check('abc')", "TypeError"), ("schema.check(new Uint16Array(4))", "TypeError"),
+                ("schema.check(undefined)", "TypeError"), ("schema.check(new ArrayBuffer(8))", "TypeError"),
+                ("new Schema(5)", "TypeError"), ("schema.with({ depth: 5 })", "TypeError"),
+                ("schema.with({ maxDepth: -1 })", "RangeError"), ("schema.with({ maxTables: 2 ** 32 })", "RangeError"),
+                ("schema.with({ maxReads: 2n ** 64n })", "RangeError"),
+                ("schema.with({ ident: 'ABCDE' })", "RangeError"),
+                ("prefixed.messages([], { maxBytes: 7 })", "RangeError"), ("schema.messages([])", "TypeError"),
+                ("[...prefixed.messages(['abc'])]", "TypeError"),
+                ("schema.read(Buffer.alloc(0), 'name')", "BadBuffer"), ("new Schema('/nowhere')", "Error")]
+        code = (f"const {{ Schema }} = require('{TOP}/bindings/node'); const schema = new Schema('{FILES['M']}');\n"
+                "const prefixed = schema.with({ prefixed: true });\n"
+                "const told = (call) => { try { call(); } catch (e) { console.log(e.name); } };\n")
+        code += "".join(f"told(() => {call});\n" for call, _ in rows)
+        told = ran("node", "-e", code)
+        self.same("errors", (told[1].split(), told[2]), ([name for _, name in rows], ""))
+
+    def pasted(self, folder, code):
+        (folder / "page.js").write_text(code.replace("./bindings/node", f"{TOP}/bindings/node"))
+        return ["node", folder / "page.js"]
+
+
+class Go(Binding, LibraryCase):
+    language, folder, fence = "Go", "go", "go"
+    max_depth = "MaxDepth"
+    driver = [FOLDER / "driver_go"]
+
+    @classmethod
+    def missing(cls):
+        return None if shutil.which("go") else "go isn't there"
+
+    @classmethod
+    def build(cls):
+        cls.made("go", "build", "-o", cls.driver[0], ".", folder=DRIVERS / "go")
+
+    def test_style(self):
+        for folder in (TOP / "bindings/go", DRIVERS / "go"):
+            self.made("gofmt", "-l", ".", folder=folder)
+            self.made("go", "vet", "./...", folder=folder)
+
+    def pasted(self, folder, code):
+        (folder / "main.go").write_text(code)
+        shutil.copy(DRIVERS / "go/go.mod", folder)
+        self.made("go", "mod", "edit", "-replace", f"fbcheck.dev/fbcheck={TOP}/bindings/go", folder=folder)
+        self.made("go", "build", "-o", folder / "page", ".", folder=folder)
+        return [folder / "page"]
+
+
+class Java(Binding, LibraryCase):
+    language, folder, fence = "Java", "java", "java"
+    closed = "Already closed"
+    jdk = jdk_of_22()
+    words = ["--enable-native-access=ALL-UNNAMED", f"-Dfbcheck.library={OUT}/libfbcheck.so.1", "-Xms64m", "-Xmx64m",
+             "-XX:+AlwaysPreTouch", "-cp"]
+    driver = [jdk / "bin/java", *words, f"{TOP}/bindings/java/fbcheck.jar:{FOLDER}/java", "Driver"] if jdk else []
+
+    @classmethod
+    def missing(cls):
+        return None if cls.jdk else "no JDK of 22 or later is there"
+
+    @classmethod
+    def build(cls):
+        cls.made(TOP / "bindings/java/build", JAVA_HOME=str(cls.jdk))
+        cls.compiled_java(DRIVERS / "Driver.java", FOLDER / "java")
+
+    @classmethod
+    def compiled_java(cls, source, folder):
+        cls.made(cls.jdk / "bin/javac", "-Xlint:all", "-Werror", "-cp", TOP / "bindings/java/fbcheck.jar", "-d", folder,
+                 source)
+
+    def pasted(self, folder, code):
+        (folder / "Deliveries.java").write_text(code)
+        self.compiled_java(folder / "Deliveries.java", folder)
+        return [self.jdk / "bin/java", *self.words, f"{TOP}/bindings/java/fbcheck.jar:{folder}", "Deliveries"]
+
+
+class Times(LibraryCase):
+    def test_quick(self):
+        """The script that tells what a check costs, with few checks."""
+        name = next((binding.language for binding in (Node, Go, Rust, Java) if not binding.missing()), None)
+        if name is None:
+            self.skipTest("no language's tool is there")
+        status, out, _ = ran(TOP / "bench/bindings", name, "--checks", 4000, "--turns", 1, seconds=300)
+        lines = [line.split()[0] for line in out.splitlines()]
+        self.same("its table", (status, lines), (0, ["language", "the", name]))
