@@ -29,4 +29,4 @@ bench:
 	bench/compare
 
 clean:
-	rm -rf out dist bench/out crates/*/out
+	rm -rf out dist bench/out bindings/python/build crates/*/out

@@ -25,9 +25,9 @@ def ran(*words, given=None, seconds=120, **environment):
 
 
 def module():
-    """The example for Python, on the library that was built."""
+    """The calls of the library that was built."""
     os.environ["FBCHECK_LIBRARY"] = str(OUT / "libfbcheck.so.1")
-    return loaded(TOP / "examples/c/fbcheck.py")
+    return loaded(TOP / "tests/support/calls.py")
 
 
 class LibraryCase(Case):

@@ -1,12 +1,6 @@
-"""The library for C as a Python module of one file.
+"""The calls of the library for C by ctypes, one by one, so that tests ask each of them as a program in C does.
 
-    import fbcheck
-    with fbcheck.Verifier(open("my.bfbs", "rb").read()) as verifier:
-        verdict = verifier.verify(message)
-        if verdict.ok: ...
-
-libfbcheck.so.1 is looked for where the variable FBCHECK_LIBRARY says, and else where the system looks. Any number of
-threads may use a Verifier whose root isn't chosen anew, nor closed, meanwhile.
+The library is the file that the variable FBCHECK_LIBRARY names, and else it is looked for where the system looks.
 """
 
 import ctypes
