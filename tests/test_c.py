@@ -101,7 +101,7 @@ class LibraryForC(LibraryCase):
         status, out, err = ran(TOP / "build_c", seconds=3600)
         self.same("./build_c builds", (status, out), (0, ""))
         calls = sorted(re.findall(r"^(?:\w+ )+\*?(fbcheck_\w+)\(", HEADER, re.M))
-        self.holds("of which the header has some", len(calls) > 20, calls)
+        self.same("of which the header has so many", len(calls), 20)
         for library, words in [("libfbcheck.a", ["-g"]), ("libfbcheck.so.1", ["-D"])]:
             _, symbols, _ = ran("nm", *words, "--defined-only", OUT / library)
             found = sorted(line.split()[2].partition("@")[0] for line in symbols.splitlines()
@@ -110,7 +110,8 @@ class LibraryForC(LibraryCase):
             _, symbols, _ = ran("nm", *words, "--undefined-only", OUT / library)
             wanted = {line.split()[1].partition("@")[0] for line in symbols.splitlines() if line.split()[:1] == ["U"]}
             if "-D" in words:
-                versions = {line.partition("@@")[2] for line in symbols.splitlines() if "@@" in line}
+                _, defined, _ = ran("nm", *words, "--defined-only", OUT / library)
+                versions = {line.partition("@@")[2] for line in defined.splitlines() if "@@" in line}
                 self.same("each with the version of the interface", versions, {"FBCHECK_1"})
             self.holds(f"{library} needs the C library's heap and memory alone",
                        wanted <= {"malloc", "free", "realloc", "memcpy", "memmove", "memset", "memcmp", "bcmp"}, wanted)
