@@ -1,11 +1,14 @@
 -- Fields behind the end of a table's vtable, of which none is required: they are passed without a read.
-use Rattle.std.proofs.Common.{◌≡◌, ℕ, zero, suc, ◌+◌, ◌-◌, ◌<◌, ◌≤◌, inl, inr, Bool, true, false, ◌||◌, nat_le, nat_lt, List, [], ◌∷◌, length, get_or, if◌then◌else◌, refl, sym, ◌∙◌, ap, subst, arith, Some, None}
+use Rattle.std.proofs.Common.{◌≡◌, ℕ, zero, suc, ◌+◌, ◌-◌, ◌<◌, ◌≤◌, inl, inr, Bool, true, false, ◌||◌, nat_le, nat_lt, List, [], ◌∷◌, length, get_or, drop, option_map, cond, length-drop, if◌then◌else◌, refl, sym, ◌∙◌, ap, subst, arith, Some, None}
 use Rattle.std.specs.Prelude.{slice_get}
+use Rattle.std.specs.List.{position_or_len}
 use Rattle.std.proofs.Math.Nat.{eq-or-lt_of_le}
 use Rattle.std.proofs.lemmas.Bool.Decides.{nat_tests}
-use Rattle.std.proofs.lemmas.Option.{slice_get-get_or}
+use Rattle.std.proofs.lemmas.Option.{slice_get-get_or, slice_get_within, get_or_from_slice_get}
+use Rattle.std.proofs.lemmas.List.{get_or-drop}
+use Rattle.std.proofs.lemmas.List.Sums.{passes_at_first, fails_before_first}
 use Rattle.fb_schema.specs.Rows.{Rows}
-use Rattle.fb_schema.specs.Live.{Live, live_fields, required_end, required_end_of}
+use Rattle.fb_schema.specs.Live.{Live, live_fields, required_end, required_end_of, next_required, next_required_of}
 use Rattle.fb_verify.specs.declared.checks.Checks.{Checks}
 use Rattle.fb_verify.specs.declared.scratch.Frame.{Frame}
 use Rattle.fb_verify.specs.Bounds.{Bounds}
@@ -36,6 +39,54 @@ not_required [] i f h e = absurd (let w : None ≡ Some f = e in cc)
 not_required (g ∷ gs) zero f h e = let same : g ≡ f = cc in subst (λ (x : Live). x.required ≡ false) same (not_at_once g.required (required_end_of gs) h)
 not_required (g ∷ gs) (suc i) f h e = not_required gs i f (later_end g.required _ (required_end_of gs) i refl h) e
 
+-- What the schema tells of the next required field.
+abbrev is_required : Live → Bool
+is_required f = f.required
+
+abbrev first_from : List Live → ℕ → ℕ
+first_from fs i = position_or_len is_required (drop i fs)
+
+item_at : (fs : List Live) (i j : ℕ) (f : Live) → i ≤ j → slice_get fs j ≡ Some f → get_or (drop i fs) (j - i) f ≡ f
+item_at fs i j f low at =
+    let e : i + (j - i) ≡ j = omega (arith, low) in
+    get_or-drop i fs (j - i) f ∙ ap (λ k. get_or fs k f) e ∙ get_or_from_slice_get fs j f f at
+
+free_until : (fs : List Live) (i j : ℕ) (f : Live) → i ≤ j → j < i + first_from fs i → slice_get fs j ≡ Some f → f.required ≡ false
+free_until fs i j f low lt at = ap is_required (sym (item_at fs i j f low at)) ∙ fails_before_first is_required (drop i fs) (j - i) f (omega (arith, lt, low))
+
+none_past : (p n i : ℕ) → option_map (λ j. i + j) (cond (nat_lt p n) (Some p) None) ≡ None → n ≤ p
+none_past p n i e = go (nat_lt p n) refl e where
+  go : (b : Bool) → nat_lt p n ≡ b → option_map (λ j. i + j) (cond b (Some p) None) ≡ None → n ≤ p
+  go true x e = absurd cc
+  go false x e = grind (arith, nat_tests)
+
+some_past : (p n i place : ℕ) → option_map (λ j. i + j) (cond (nat_lt p n) (Some p) None) ≡ Some place → (p < n) × (place ≡ i + p)
+some_past p n i place e = go (nat_lt p n) refl e where
+  go : (b : Bool) → nat_lt p n ≡ b → option_map (λ j. i + j) (cond b (Some p) None) ≡ Some place → (p < n) × (place ≡ i + p)
+  go true x e = (grind (arith, nat_tests), let w : Some (i + p) ≡ Some place = e in cc)
+  go false x e = absurd (let w : None ≡ Some place = e in cc)
+
+none_free : (fs : List Live) (i : ℕ) → next_required_of fs i ≡ None → (j : ℕ) (f : Live) → i ≤ j → slice_get fs j ≡ Some f → f.required ≡ false
+none_free fs i none j f low at =
+    let past = none_past (first_from fs i) (length (drop i fs)) i none in
+    free_until fs i j f low (omega (arith, past, length-drop i fs, slice_get_within fs j f at, low)) at
+
+some_free : (fs : List Live) (i place : ℕ) → next_required_of fs i ≡ Some place → (j : ℕ) (f : Live) → i ≤ j → j < place → slice_get fs j ≡ Some f → f.required ≡ false
+some_free fs i place some j f low lt at = free_until fs i j f low (omega (arith, lt, (some_past (first_from fs i) (length (drop i fs)) i place some).1)) at
+
+-- it is one of them, at that place or behind it, and required
+pub some_found : (fs : List Live) (i place : ℕ) → next_required_of fs i ≡ Some place → (d : Live) → (place ≤ length fs) × (i ≤ place) × (place < length fs) × ((f : Live) → slice_get fs place ≡ Some f → f.required ≡ true)
+some_found fs i place some d =
+    let told = some_past (first_from fs i) (length (drop i fs)) i place some in
+    let long = length-drop i fs in
+    let low : i ≤ place = omega (arith, told.1) in
+    let same : place - i ≡ first_from fs i = omega (arith, told.1) in (
+      omega (arith, told.0, told.1, long),
+      low,
+      omega (arith, told.0, told.1, long),
+      λ f at. ap is_required (sym (item_at fs i place f low at)) ∙ ap (λ k. is_required (get_or (drop i fs) k f)) same ∙ passes_at_first is_required (drop i fs) f told.0,
+    )
+
 -- A field whose slot lies behind the vtable, and which isn't required.
 module _ (c : Checks) (b : List ℕ) (S : Rows) (t : ℕ) (f : Live) (past : has_slot b t f.slot ≡ false) (free : f.required ≡ false) where
   absent_holds : own_failure c b S t f ≡ None
@@ -61,28 +112,46 @@ module _ (c : Checks) (b : List ℕ) (S : Rows) (L : Bounds) (s : Origin) (below
   abbrev top_at : ℕ → Frame
   top_at i = record { table = top.table; next = i; number = top.number; row = top.row }
 
-  module _ (rests : (top.row).left ≡ 0) (field : Live) (here : slice_get fields top.next ≡ Some field) (past : vtable_size b (top.table).at < field.slot + 2) (free : required_end S (top.table).object ≤ top.next) where
+  module _ (rests : (top.row).left ≡ 0) (field : Live) (here : slice_get fields top.next ≡ Some field) (past : vtable_size b (top.table).at < field.slot + 2) where
     past_from : (i : ℕ) (f : Live) → top.next ≤ i → slice_get fields i ≡ Some f → field.slot ≤ f.slot
     past_from i f low there = elim (eq-or-lt_of_le low) [
       | inl same ↦ (let w : Some field ≡ Some f = sym here ∙ ap (slice_get fields) same ∙ there in let v : field ≡ f = cc in omega (arith, ap (λ (x : Live). x.slot) v))
       | inr less ↦ omega (arith, (h.served).rising (top.table).object top.next i field f here there less)
     ]
 
-    passed_from : (m i : ℕ) → i + m ≡ length fields → top.next ≤ i → IsUnderWay c b S L s below (top_at i) n d r → IsUnderWay c b S L s below (top_at (length fields)) n d r
-    passed_from zero i e low g = let same : i ≡ length fields = omega (arith, e) in subst (λ j. IsUnderWay c b S L s below (top_at j) n d r) same g
-    passed_from (suc m) i e low g =
-        let x = get_or fields i field in
-        let f = slice_get-get_or fields i field (omega (arith, e)) in
-        let t = (top.table).at in
-        let none = no_slot (vtable_size b t) x.slot (omega (arith, past, past_from i x low f)) in
-        let may = not_required fields i x (omega (arith, free, low)) f in
-        passed_from m (i + 1) (omega (arith, e)) (omega (arith, low))
-        (field_skipped c b S L s below (top_at i) n d r g x blank.row top.number r rests f (omega (arith, absent_reads c b S t x none may)) (no_row c b S) g.reads refl (absent_holds c b S t x none may)
-        (absent_leads c b S t x none may ∙ sym (row_none b S blank.row refl)))
+    -- a field behind it has no slot either
+    pub no_slot_from : (i : ℕ) (f : Live) → top.next ≤ i → slice_get fields i ≡ Some f → has_slot b (top.table).at f.slot ≡ false
+    no_slot_from i f low there = no_slot (vtable_size b (top.table).at) f.slot (omega (arith, past, past_from i f low there))
 
-    -- the table's other fields are passed
-    pub others_absent : IsUnderWay c b S L s below (top_at (length fields)) n d r
-    others_absent = passed_from (length fields - top.next) top.next (omega (arith, (h.frame).next)) (omega arith) h
+    module _ (stop : ℕ) (within : stop ≤ length fields) (free : (i : ℕ) (f : Live) → top.next ≤ i → i < stop → slice_get fields i ≡ Some f → f.required ≡ false) where
+      passed_from : (m i : ℕ) → i + m ≡ stop → top.next ≤ i → IsUnderWay c b S L s below (top_at i) n d r → IsUnderWay c b S L s below (top_at stop) n d r
+      passed_from zero i e low g = let same : i ≡ stop = omega (arith, e) in subst (λ j. IsUnderWay c b S L s below (top_at j) n d r) same g
+      passed_from (suc m) i e low g =
+          let x = get_or fields i field in
+          let f = slice_get-get_or fields i field (omega (arith, e, within)) in
+          let t = (top.table).at in
+          let none = no_slot_from i x low f in
+          let may = free i x low (omega (arith, e)) f in
+          passed_from m (i + 1) (omega (arith, e)) (omega (arith, low))
+          (field_skipped c b S L s below (top_at i) n d r g x blank.row top.number r rests f (omega (arith, absent_reads c b S t x none may)) (no_row c b S) g.reads refl (absent_holds c b S t x none may)
+          (absent_leads c b S t x none may ∙ sym (row_none b S blank.row refl)))
+
+      -- the table's fields before that one are passed
+      pub absent_to : top.next ≤ stop → IsUnderWay c b S L s below (top_at stop) n d r
+      absent_to low = passed_from (stop - top.next) top.next (omega (arith, low)) (omega arith) h
+
+    -- the table's other fields are passed, where none of them is required
+    pub others_absent : required_end S (top.table).object ≤ top.next → IsUnderWay c b S L s below (top_at (length fields)) n d r
+    others_absent free = absent_to (length fields) (omega arith) (λ i f low lt at. not_required fields i f (omega (arith, free, low)) at) (h.frame).next
+
+    pub none_required : next_required S (top.table).object top.next ≡ None → IsUnderWay c b S L s below (top_at (length fields)) n d r
+    none_required none = absent_to (length fields) (omega arith) (λ i f low lt at. none_free fields top.next none i f low at) (h.frame).next
+
+    -- or those before the next required one
+    pub required_next : (place : ℕ) → next_required S (top.table).object top.next ≡ Some place → IsUnderWay c b S L s below (top_at place) n d r
+    required_next place some =
+        let found = some_found fields top.next place some field in
+        absent_to place found.0 (λ i f low lt at. some_free fields top.next place some i f low lt at) found.1
 
   -- which leaves no more work
   pub absent_work : frame_work S (top_at (length fields)) ≤ frame_work S top

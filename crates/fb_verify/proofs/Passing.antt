@@ -1,17 +1,19 @@
 -- A walk goes on past fields that lead to no table, or stops at one.
-use Rattle.std.proofs.Common.{◌≡◌, ℕ, ◌+◌, ◌-◌, ◌^◌, ◌<◌, ◌≤◌, inl, inr, Bool, true, false, IsTrue, IfSome, if◌then◌else◌, List, [], ◌∷◌, map, length, refl, sym, ◌∙◌, ap, subst, arith, Option, Some, None, Ok}
+use Rattle.std.proofs.Common.{◌≡◌, ℕ, ◌+◌, ◌-◌, ◌^◌, ◌<◌, ◌≤◌, inl, inr, Bool, true, false, IsTrue, IfSome, if◌then◌else◌, List, [], ◌∷◌, map, length, get_or, option_map, refl, sym, ◌∙◌, ap, subst, arith, Option, Some, None, Ok}
 use Rattle.std.specs.Prelude.{◌*◌, slice_get}
 use Rattle.std.proofs.lemmas.List.{length-map}
+use Rattle.std.proofs.lemmas.Option.{slice_get-get_or, slice_get-map}
 use Rattle.fb_bytes.specs.Word.{Metered}
 use Rattle.fb_schema.specs.declared.views.Act.TheVariants.{Other}
 use Rattle.fb_schema.specs.declared.views.Step.{Step}
 use Rattle.fb_schema.specs.declared.kinds.Kind.{Kind}
 use Rattle.fb_schema.specs.Rows.{Rows}
-use Rattle.fb_schema.specs.Live.{Live, live_fields, required_end}
+use Rattle.fb_schema.specs.Live.{Live, live_fields, required_end, next_required}
 use Rattle.fb_schema.specs.Steps.{act_of, step_of}
 use Rattle.fb_verify.specs.declared.checks.Checks.{Checks}
 use Rattle.fb_verify.specs.declared.fault.Fault.{Fault}
 use Rattle.fb_verify.specs.declared.fault.Reason.{Reason}
+use Rattle.fb_verify.specs.declared.fault.Reason.TheVariants.{MissingRequired}
 use Rattle.fb_verify.specs.declared.links.Link.{Link}
 use Rattle.fb_verify.specs.declared.offset_row.Row.{Row}
 use Rattle.fb_verify.specs.declared.offset_row.Referent.TheVariants.{Text as AText}
@@ -34,7 +36,7 @@ use Rattle.fb_verify.specs.PassesOn.{fields_left, PassesOn}
 use Rattle.fb_verify.specs.Stops.{reads_failure, lead_reads_failure}
 use Rattle.fb_verify.specs.Links.{element_of, type_of, field_link}
 use Rattle.fb_verify.specs.Told.{refused, stopped}
-use Rattle.fb_verify.proofs.Absent.{others_absent}
+use Rattle.fb_verify.proofs.Absent.{others_absent, none_required, required_next, no_slot_from, some_found}
 use Rattle.fb_verify.proofs.Budgets.{fewer_reads}
 use Rattle.fb_verify.proofs.Chains.{after_none, both_none}
 use Rattle.fb_verify.proofs.Frames.{field_within, frame_next, no_row, own_few}
@@ -196,6 +198,23 @@ module _ {w : Walk} {m : Metered} {under : Waiting} {top : Frame} {steps : List 
       let slot = ap (λ (z : Step). z.slot) found.2 in
       rw long (others_absent w.checks b w.schema.now w.limits under.start under.frames top w.tables w.deepest m.count h.walking h.rests found.0 found.1 (omega (arith, past, slot)) free)
 
+  -- the same where the schema tells that none of them is required
+  pub rest_absent : vtable_size b table_at < step.slot + 2 → next_required w.schema.now (top.table).object top.next ≡ None → IsWalking w m under.start under.frames (record top { next = length steps })
+  rest_absent past none =
+      let slot = ap (λ (z : Step). z.slot) found.2 in
+      rw long (none_required w.checks b w.schema.now w.limits under.start under.frames top w.tables w.deepest m.count h.walking h.rests found.0 found.1 (omega (arith, past, slot)) none)
+
+  -- or which is
+  pub before_required : vtable_size b table_at < step.slot + 2 → (place : ℕ) → next_required w.schema.now (top.table).object top.next ≡ Some place → IsWalking w m under.start under.frames (record top { next = place })
+  before_required past place some =
+      let slot = ap (λ (z : Step). z.slot) found.2 in
+      required_next w.checks b w.schema.now w.limits under.start under.frames top w.tables w.deepest m.count h.walking h.rests found.0 found.1 (omega (arith, past, slot)) place some
+
+  pub required_bare : vtable_size b table_at < step.slot + 2 → (place : ℕ) (f : Live) → top.next ≤ place → slice_get fields place ≡ Some f → has_slot b table_at f.slot ≡ false
+  required_bare past place f low at =
+      let slot = ap (λ (z : Step). z.slot) found.2 in
+      no_slot_from w.checks b w.schema.now w.limits under.start under.frames top w.tables w.deepest m.count h.walking h.rests found.0 found.1 (omega (arith, past, slot)) place f low at
+
   module _ (plain : step.act ≡ Other → field_place b table_at step.slot ≡ None) (at k new : ℕ) (failed : Option Reason) (told : tested_by at new failed ≡ after k (plain_failure w.checks b table_at step)) where
     abbrev plain_field : act_of found.0 (found.0).kind ≡ Other → field_place b table_at (found.0).slot ≡ None
     plain_field = λ e. ap (λ (z : Step). field_place b table_at z.slot) (sym found.2) ∙ plain (ap (λ (z : Step). z.act) found.2 ∙ e)
@@ -233,6 +252,37 @@ module _ {w : Walk} {m : Metered} {under : Waiting} {top : Frame} {steps : List 
     present = λ f found. (ap (λ o. field_place b table_at o) (sym (same_slot f found)) ∙ sym here, subst (λ o. IsTrue (has_slot b table_at o)) (same_slot f found) slot);
     near = near;
   }
+
+-- A required field without a slot is the fault.
+bare_told : (c : Checks) (b : List ℕ) (t k : ℕ) (step : Step) → has_slot b t step.slot ≡ false → step.required ≡ true → tested_by t k (Some MissingRequired) ≡ after k (plain_failure c b t step)
+unfolding plain_failure field_place
+bare_told c b t k step bare needed = rw (bare, needed) (let w : k ≡ k + 0 = omega arith in ap (λ r. tested_by t r (Some MissingRequired)) w)
+
+bare_place : (b : List ℕ) (t o : ℕ) → has_slot b t o ≡ false → field_place b t o ≡ None
+unfolding field_place
+bare_place b t o bare = rw bare refl
+
+pub required_within : {w : Walk} {m : Metered} {under : Waiting} {top : Frame} {steps : List Step} {step : Step} → AtStep w m under top steps step
+    → (place : ℕ) → next_required w.schema.now (top.table).object top.next ≡ Some place → place < length (live_fields w.schema.now (top.table).object)
+required_within {w} {m} {under} {top} h place some = (some_found (live_fields w.schema.now (top.table).object) top.next place some (found h).0).2
+
+pub required_stops : {w : Walk} {m : Metered} {under : Waiting} {top : Frame} {steps : List Step} {step : Step} → AtStep w m under top steps step → vtable_size m.bytes (top.table).at < step.slot + 2
+    → (place : ℕ) → next_required w.schema.now (top.table).object top.next ≡ Some place → AreAllowed (w.limits).reads (m.count + 6) → (stop : Stop) → IsStopAt w.schema.now (record top { next = place }) (top.table).at MissingRequired stop
+    → IsStopped w m under.start under.frames (stopped stop m.count)
+required_stops {w} {m} {under} {top} {steps} {step} h past place some room stop is =
+    let fs = live_fields w.schema.now (top.table).object in
+    let d = (found h).0 in
+    let at = some_found fs top.next place some d in
+    let f = get_or fs place d in
+    let got = slice_get-get_or fs place d at.2 in
+    let bare = required_bare h past place f at.1 got in
+    let there : AtStep w m under (record top { next = place }) steps (step_of f) = record {
+      walking = before_required h past place some;
+      rests = h.rests;
+      all = h.all;
+      got = ap (λ xs. slice_get xs place) h.all ∙ slice_get-map step_of fs place ∙ ap (option_map step_of) got;
+    } in
+    step_stops there (λ e. bare_place m.bytes (top.table).at f.slot bare) (top.table).at m.count m.count (Some MissingRequired) (bare_told w.checks m.bytes (top.table).at m.count (step_of f) bare (at.3 f got)) refl refl room stop is
 
 abbrev reads_told : Option Failure → ℕ
 reads_told None = 0

@@ -270,9 +270,14 @@ impl<'s, 'n> Walk<'s, 'n> {
         let steps = self.schema.steps_of(table.object);
         let mut next = top.next as usize;
         while let Some(step) = steps.get(next) {
-            if self.others_are_absent(table, next as u32, step.slot) {
-                top.next = steps.len() as u32;
-                return Ok(false);
+            if table.head.ends_before(step.slot) {
+                let Some(needed) = self.schema.next_required(table.object, next as u32) else {
+                    top.next = steps.len() as u32;
+                    return Ok(false);
+                };
+                top.next = needed;
+                *at = table.at;
+                return Err(Reason::MissingRequired);
             }
             let place = slot_at(reads, table.at, table.head, step.slot);
             if leads_on(step, table.at, place) {

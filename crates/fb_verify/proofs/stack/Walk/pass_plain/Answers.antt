@@ -1,5 +1,6 @@
-use Rattle.std.proofs.Common.{◌≡◌, ◌+◌, ◌*◌, ◌<◌, length, slice_get, None, refl, sym, ◌∙◌, ap, arith}
+use Rattle.std.proofs.Common.{◌≡◌, ℕ, nat_lt, true, ◌+◌, ◌*◌, ◌<◌, length, slice_get, None, refl, sym, ◌∙◌, ap, arith}
 use Rattle.std.proofs.lemmas.List.{length-map}
+use Rattle.std.proofs.lemmas.Bool.Decides.{nat_tests}
 use Rattle.fb_schema.specs.declared.views.Act.TheVariants.{Other}
 use Rattle.fb_schema.specs.Live.{live_fields}
 use Rattle.fb_schema.specs.Steps.{step_of}
@@ -12,7 +13,7 @@ use Rattle.fb_verify.specs.PassesOn.{fields_left}
 use Rattle.fb_verify.proofs.Budgets.{fewer_reads}
 use Rattle.fb_verify.proofs.Frames.{item_some, item_none, slot_few}
 use Rattle.fb_verify.proofs.Plains.{is_step, plain_few, plain_told, plain_counted, place_near}
-use Rattle.fb_verify.proofs.Passing.{AtStep, none_left, long, next_within, rest_passed, step_passed, step_stops, at_field, told_grows}
+use Rattle.fb_verify.proofs.Passing.{AtStep, none_left, long, next_within, rest_absent, required_within, required_stops, step_passed, step_stops, at_field, told_grows}
 use Rattle.fb_verify.proofs.stack.Walk.pass_plain.Goals as goal
 use Rattle.fb_verify.proofs.stack.Walk.pass_plain.Goals.{In-Some, After-test_at-failed}
 
@@ -24,15 +25,43 @@ top_at g c = record c.args.top.now { next = c.loop-step.next }
 here : (g : _) (c : In-Some g) → AtStep c.args.self.now c.loop-step.reads g.under (top_at g c) c.steps_of-steps.result.now c.in-Some.step.now
 here g c = record { walking = ((c.loop-step.invariant).between).walking; rests = ((c.loop-step.invariant).between).rests; all = c.steps_of-steps.ensures.value; got = item_some _ _ _ _ c.get.ensures.lookup c.in-Some.is }
 
-pub returns-then-others_are_absent : goal.returns-then-others_are_absent
-returns-then-others_are_absent g c =
-    let d = (goal.at.returns-then-others_are_absent g c).In-Some in
+below : (a b : ℕ) → nat_lt a b ≡ true → a < b
+below a b e = grind (arith, nat_tests)
+
+pub returns-in_default-next_required : goal.returns-in_default-next_required
+returns-in_default-next_required g c =
+    let d = (goal.at.returns-in_default-next_required g c).In-Some in
     let s = here g d in
     let i = c.loop-step.invariant in
-    let ends = c.if-others_are_absent.true in
     let all = long s in
-    let past : vtable_size c.loop-step.reads.bytes (c.args.top.now.table).at < (c.in-Some.step.now).slot + 2 = omega (arith, c.others_are_absent.ensures.past ends, (((((i.between).walking).frame).head).vtable).size) in
-    rw i.same (none_left refl (rest_passed s past (c.others_are_absent.ensures.free ends)) (omega (arith, i.forth, all, next_within s)) (omega (arith, all)) (omega (arith, all)) (omega (arith, i.paid, all)) (omega (arith, i.grows)) i.bytes)
+    let past : vtable_size c.loop-step.reads.bytes (c.args.top.now.table).at < (c.in-Some.step.now).slot + 2 = omega (arith, below _ _ (sym c.ends_before.ensures ∙ c.if-ends_before.true), (((((i.between).walking).frame).head).vtable).size) in
+    rw i.same (none_left refl (rest_absent s past (sym c.next_required.ensures ∙ c.in_default-next_required.is)) (omega (arith, i.forth, all, next_within s)) (omega (arith, all)) (omega (arith, all)) (omega (arith, i.paid, all)) (omega (arith, i.grows)) i.bytes)
+
+pub returns-then-ends_before : goal.returns-then-ends_before
+returns-then-ends_before g c =
+    let d = (goal.at.returns-then-ends_before g c).In-Some in
+    let s = here g d in
+    let i = c.loop-step.invariant in
+    let w = c.args.self.now in
+    let needed = c.in-Some-next_required.needed in
+    let some = sym c.next_required.ensures ∙ c.in-Some-next_required.is in
+    let within = next_within s in
+    let past : vtable_size c.loop-step.reads.bytes (c.args.top.now.table).at < (c.in-Some.step.now).slot + 2 = omega (arith, below _ _ (sym c.ends_before.ensures ∙ c.if-ends_before.true), (((((i.between).walking).frame).head).vtable).size) in
+    let room = fewer_reads (w.limits).reads (c.loop-step.reads.count + 6) (c.args.reads.now.count + 6 * fields_left w.schema.now c.args.top.now) (omega (arith, i.paid, within)) (c.requires.1.0).allowed in
+    rw i.same (record {
+      walking = tt;
+      field = tt;
+      same = refl;
+      forth = tt;
+      within = tt;
+      all = tt;
+      ends = tt;
+      paid = tt;
+      grows = i.grows;
+      bytes = i.bytes;
+      next = required_within s needed some;
+      err = λ stop is. rw i.bytes at (required_stops s past needed some room stop is);
+    })
 
 pub test_at-failed-requires-clause-step : goal.test_at-failed-requires-clause-step
 test_at-failed-requires-clause-step g c =
