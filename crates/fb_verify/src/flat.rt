@@ -2,7 +2,7 @@
 
 ghost use Rattle.std.specs.Prelude.{◌≡◌, ◌+◌, ◌*◌, ◌^◌, ◌<◌, ◌≤◌, length, map, MatchOption, IfOk, IfErr, IfSome, IsTrue, None, true, false};
 ghost use Rattle.fb_schema.specs.Rows.{is_table};
-ghost use Rattle.fb_schema.specs.Live.{live_fields, required_end};
+ghost use Rattle.fb_schema.specs.Live.{live_fields};
 ghost use Rattle.fb_schema.specs.Steps.{is_plain, step_of};
 ghost use Rattle.fb_verify.specs.Bounds.{AreAllowed};
 ghost use Rattle.fb_verify.specs.Cost.{head_reads};
@@ -27,7 +27,7 @@ use crate::scratch::Frame;
 use crate::site::{Halt, LastLink, Refusal, Site, Stop, is_aligned};
 use crate::stack::Walk;
 use fb_bytes::{Reads, Tally};
-use fb_schema::Step;
+use fb_schema::{Schema, Step};
 
 /// The number of no field: the head of a table is under check.
 pub const IN_HEAD: u32 = 4_294_967_295;
@@ -93,15 +93,14 @@ fn test_head(reads: &mut Reads<'_>, checks: Checks, at: &mut u64, head: &mut Hea
     None
 }
 
-/// Passes the fields of an open table of which none leads to a table, by their steps; so many are up to the last
-/// required one. Where one fails, the position is moved to where it does, and its number is written. The walk that is
+/// Passes the fields of an open table of which none leads to a table, by their steps. Where one fails, the position is moved to where it does, and its number is written. The walk that is
 /// under way, and the frames that wait in it, are those that the contract speaks of.
 #[inline(always)]
 fn pass_steps(
     reads: &mut Reads<'_>,
     checks: Checks,
     steps: &[Step],
-    needed: u32,
+    schema: &Schema<'_>,
     table: Table,
     next: &mut u32,
     at: &mut u64,
@@ -112,16 +111,21 @@ fn pass_steps(
     requires few { reads.old.count < 2 ^ 58 }
     requires same { checks ≡ going.walk.checks }
     requires steps { steps.now ≡ map step_of (live_fields going.walk.schema.now table.object) }
-    requires needed { needed ≡ required_end going.walk.schema.now table.object }
+    requires schema { schema.now ≡ going.walk.schema.now }
     requires plain { is_plain going.walk.schema.now table.object ≡ true }
     requires few_steps { length steps.now < 2 ^ 32 }
     ensures { PassesOn going.walk reads.old reads.new going.under (opened table) (record (opened table) { next = next.new }) at.new (came result) }
 {
     let mut past = 0;
     while let Some(step) = steps.get(past) {
-        if table.head.ends_before(step.slot) && needed <= past as u32 {
-            *next = steps.len() as u32;
-            return None;
+        if table.head.ends_before(step.slot) {
+            let Some(needed) = schema.next_required(table.object, past as u32) else {
+                *next = steps.len() as u32;
+                return None;
+            };
+            *next = needed;
+            *at = table.at;
+            return Some(Reason::MissingRequired);
         }
         let mut tested = slot_at(reads, table.at, table.head, step.slot);
         let failed = test_at(reads, checks, table, &mut tested, step);
@@ -148,7 +152,7 @@ fn pass_flat(
     checks: Checks,
     object: u32,
     steps: &[Step],
-    needed: u32,
+    schema: &Schema<'_>,
     next: &mut u32,
     at: &mut u64,
 ) -> Option<Reason>
@@ -159,7 +163,7 @@ fn pass_flat(
     requires near { at.old < 2 ^ 33 }
     requires same { checks ≡ going.walk.checks }
     requires steps { steps.now ≡ map step_of (live_fields going.walk.schema.now object) }
-    requires needed { needed ≡ required_end going.walk.schema.now object }
+    requires schema { schema.now ≡ going.walk.schema.now }
     requires plain { is_plain going.walk.schema.now object ≡ true }
     requires few_steps { length steps.now < 2 ^ 32 }
     ensures { PassesFlat going.walk reads.old reads.new going.under object at.old next.new at.new result }
@@ -185,7 +189,7 @@ fn pass_flat(
         object,
         at: *at,
     };
-    pass_steps(reads, checks, steps, needed, table, next, at)
+    pass_steps(reads, checks, steps, schema, table, next, at)
 }
 
 /// Where the walk stops at the head of a table of this object.
@@ -242,7 +246,7 @@ impl<'s, 'n> Walk<'s, 'n> {
         ensures { PassesFlats self.old self.new reads.old reads.new under top.old top.new result }
     {
         let steps = self.schema.steps_of(object);
-        let needed = self.schema.required_end(object);
+        let schema = self.schema;
         let cost = 8 + 6 * steps.len() as u64;
         let room = self.limits.short();
         let mut row = top.row;
@@ -258,7 +262,7 @@ impl<'s, 'n> Walk<'s, 'n> {
             self.deepest = self.deepest.max(waiting + 2);
             let mut next = 0;
             let came = pass_flat(
-                self, top, row, reads, checks, object, steps, needed, &mut next, &mut at,
+                self, top, row, reads, checks, object, steps, schema, &mut next, &mut at,
             );
             if let Some(reason) = came {
                 top.row = row;

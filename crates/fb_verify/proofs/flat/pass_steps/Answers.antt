@@ -1,7 +1,7 @@
 use Rattle.std.proofs.Common.{◌≡◌, ℕ, nat_lt, true, ◌+◌, ◌*◌, ◌<◌, slice_get, None, refl, sym, ◌∙◌, ap, arith}
 use Rattle.std.proofs.lemmas.Bool.Decides.{nat_tests}
 use Rattle.fb_schema.specs.declared.views.Act.TheVariants.{Other}
-use Rattle.fb_schema.specs.Live.{live_fields}
+use Rattle.fb_schema.specs.Live.{live_fields, next_required}
 use Rattle.fb_verify.specs.declared.scratch.Frame.{Frame}
 use Rattle.fb_verify.specs.Places.{vtable_size, field_place}
 use Rattle.fb_verify.specs.Order.{after}
@@ -11,9 +11,9 @@ use Rattle.fb_verify.specs.Stack.{opened}
 use Rattle.fb_verify.proofs.Budgets.{fewer_reads}
 use Rattle.fb_verify.proofs.Frames.{item_some}
 use Rattle.fb_verify.proofs.Plains.{is_step, never_leads, plain_few, plain_told, plain_counted}
-use Rattle.fb_verify.proofs.Passing.{AtStep, none_left, long, next_within, rest_passed, step_passed, step_stops, told_grows}
+use Rattle.fb_verify.proofs.Passing.{AtStep, none_left, long, next_within, rest_absent, required_within, required_stops, step_passed, step_stops, told_grows}
 use Rattle.fb_verify.proofs.flat.pass_steps.Goals as goal
-use Rattle.fb_verify.proofs.flat.pass_steps.Goals.{In-Some, After-test_at-failed}
+use Rattle.fb_verify.proofs.flat.pass_steps.Goals.{In-Some, After-next_required, After-test_at-failed}
 
 below : (a b : ℕ) → nat_lt a b ≡ true → a < b
 below a b e = grind (arith, nat_tests)
@@ -26,14 +26,49 @@ top_at g c = record (opened c.args.table) { next = c.loop-step.past }
 here : (g : _) (c : In-Some g) → AtStep (g.going).walk c.loop-step.reads (g.going).under (top_at g c) c.args.steps.now c.in-Some.step.now
 here g c = record { walking = ((c.loop-step.invariant).between).walking; rests = ((c.loop-step.invariant).between).rests; all = c.requires.1.1.1.1.0; got = item_some _ _ _ _ c.get.ensures.lookup c.in-Some.is }
 
-pub returns-then-needed-past : goal.returns-then-needed-past
-returns-then-needed-past g c =
-    let d = (goal.at.returns-then-needed-past g c).In-Some in
+-- the schema is the walk's
+looks : (g : _) (c : After-next_required g) → c.next_required.result ≡ next_required (g.going).walk.schema.now (c.args.table).object c.loop-step.past
+looks g c = c.next_required.ensures ∙ ap (λ S. next_required S (c.args.table).object c.loop-step.past) c.requires.1.1.1.1.1.0
+
+pub next_required-requires : goal.next_required-requires
+next_required-requires g c = rw c.requires.1.1.1.1.1.0 ((((c.loop-step.invariant).between).walking).frame).object
+
+pub returns-in_default-next_required : goal.returns-in_default-next_required
+returns-in_default-next_required g c =
+    let d = (goal.at.returns-in_default-next_required g c).In-Some in
+    let e = (goal.at.returns-in_default-next_required g c).After-next_required in
     let s = here g d in
     let i = c.loop-step.invariant in
     let all = long s in
     let past : vtable_size c.loop-step.reads.bytes (c.args.table).at < (c.in-Some.step.now).slot + 2 = omega (arith, below _ _ (sym c.ends_before.ensures ∙ c.if-ends_before.true), (((((i.between).walking).frame).head).vtable).size) in
-    none_left refl (rest_passed s past (omega (arith, c.if-needed-past.true, c.requires.1.1.1.1.1.0))) (omega (arith, all, next_within s)) (omega (arith, all)) (omega (arith, all)) (omega (arith, i.paid, all)) (omega (arith, i.grows)) i.bytes
+    none_left refl (rest_absent s past (sym (looks g e) ∙ c.in_default-next_required.is)) (omega (arith, all, next_within s)) (omega (arith, all)) (omega (arith, all)) (omega (arith, i.paid, all)) (omega (arith, i.grows)) i.bytes
+
+pub returns-then-ends_before : goal.returns-then-ends_before
+returns-then-ends_before g c =
+    let d = (goal.at.returns-then-ends_before g c).In-Some in
+    let e = (goal.at.returns-then-ends_before g c).After-next_required in
+    let s = here g d in
+    let i = c.loop-step.invariant in
+    let w = (g.going).walk in
+    let needed = c.in-Some-next_required.needed in
+    let some = sym (looks g e) ∙ c.in-Some-next_required.is in
+    let within = next_within s in
+    let past : vtable_size c.loop-step.reads.bytes (c.args.table).at < (c.in-Some.step.now).slot + 2 = omega (arith, below _ _ (sym c.ends_before.ensures ∙ c.if-ends_before.true), (((((i.between).walking).frame).head).vtable).size) in
+    let room = fewer_reads (w.limits).reads (c.loop-step.reads.count + 6) (c.args.reads.now.count + 6 * fields_left w.schema.now (opened c.args.table)) (omega (arith, i.paid, within)) (c.requires.1.0).allowed in
+    record {
+      walking = tt;
+      field = tt;
+      same = refl;
+      forth = tt;
+      within = tt;
+      all = tt;
+      ends = tt;
+      paid = tt;
+      grows = i.grows;
+      bytes = i.bytes;
+      next = required_within s needed some;
+      err = λ stop is. rw i.bytes at (required_stops s past needed some room stop is);
+    }
 
 pub test_at-failed-requires-clause-step : goal.test_at-failed-requires-clause-step
 test_at-failed-requires-clause-step g c =

@@ -126,7 +126,7 @@ pass_flat-came-requires g c =
         fewer_reads (w.limits).reads (c.test_lead-failed.new.reads.count + 3 + 6 * length c.steps_of-steps.result.now) c.short-room.result (omega (arith, paid g d, room g d)) (allowed g d),
         (
           omega (arith, paid g d, room g d, c.short-room.ensures.short),
-          (e.near none c.args.object refl, (checks g f, (rw (schema g d) c.steps_of-steps.ensures.value, (rw (schema g d) c.required_end-needed.ensures, (rw (schema g d) c.requires.1.1.1.1.0, c.steps_of-steps.ensures.few))))),
+          (e.near none c.args.object refl, (checks g f, (rw (schema g d) c.steps_of-steps.ensures.value, (sym (schema g d), (rw (schema g d) c.requires.1.1.1.1.0, c.steps_of-steps.ensures.few))))),
         ),
       ),
     )
