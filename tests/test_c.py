@@ -25,6 +25,7 @@ HEADER = (TOP / "include/fbcheck.h").read_text()
 
 # How C++ is compiled, where there is a compiler for it.
 CPP = {"compiler": "c++", "standard": "-std=c++11"} if shutil.which("c++") else None
+CPP_17, CPP_20 = ({"compiler": "c++", "standard": f"-std=c++{year}"} for year in (17, 20))
 ORDERS = TOP / "examples/deliveries.bfbs"
 ALL = file_of("all.bfbs", FILE)
 
@@ -712,7 +713,7 @@ class LibraryForC(LibraryCase):
             words = ran("pkg-config", "--cflags", "--libs", "fbcheck", PKG_CONFIG_PATH=str(OUT))[1].split()
         check = self.compiled("check_c", TOP / "examples/c/check.c", *words, *SHARED[1:])
         if CPP:
-            check_cpp = self.compiled("check_cpp", TOP / "examples/c/check.cpp", *words, *SHARED[1:], **CPP)
+            check_cpp = self.compiled("check_cpp", TOP / "examples/c/check.cpp", *words, *SHARED[1:], **CPP_17)
         self.compiled("check_sane", TOP / "examples/c/check.c", *SANITIZED, *STATIC)
         python = module()
         with python.Verifier(ORDERS.read_bytes()) as verifier:
@@ -760,9 +761,10 @@ class LibraryForC(LibraryCase):
                 self.same(f"{name}, {program.name}", (status, out.strip(), bool(err)), (wanted, line, wanted == 2))
             if CPP:
                 status, out, err = ran(check_cpp, *words)
-                shown = without_names(line.encode()).decode()
-                told = (status, shown.startswith(out.strip()), bool(err))
-                self.same(f"{name}, check_cpp", told, (wanted, True, wanted == 2))
+                if wanted == 1:
+                    told = run("--bare", "--names", "--schema", small, given=words[1].read_bytes())
+                    line = told.out.decode().removeprefix("1 ").strip()
+                self.same(f"{name}, check_cpp", (status, out.strip(), bool(err)), (wanted, line, wanted == 2))
         for name, words, text in [
             ("no schema", [orc, orc], "check: no schema: 8, reason 5 at 4\n"),
             ("no schema file", [FOLDER / "nowhere", orc], f"check: {FOLDER}/nowhere can't be read\n"),
@@ -773,8 +775,10 @@ class LibraryForC(LibraryCase):
             for program in [check, check_cpp] if CPP else [check]:
                 self.same(f"{name}, told by {program.name}", ran(program, *words), (2, "", text))
         if CPP:
-            moved = self.compiled("moved", TOP / "tests/c/moved.cpp", *SANITIZED, *STATIC, **CPP)
-            self.same("a Verifier that is moved", ran(moved, small, orc), (0, "2 0 0 2 0 M\n", ""))
+            for how, spans in [(CPP_17, ""), (CPP_20, "10 ")]:
+                moved = self.compiled("moved", TOP / "tests/c/moved.cpp", *SANITIZED, *STATIC, **how)
+                self.same(f"a Schema that is moved, {how['standard']}", ran(moved, small, orc),
+                          (0, f"misuse 2 1 1 misuse 2 1 misuse 4 1 {spans}M\n", ""))
 
     def test_texts_of_the_pages(self):
         """The C that README.md shows works when it is pasted."""

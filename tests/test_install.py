@@ -16,6 +16,7 @@ PLACES = {
     "share/bash-completion/completions/fbcheck": 0o644,
     "share/zsh/site-functions/_fbcheck": 0o644,
     "include/fbcheck.h": 0o644,
+    "include/fbcheck.hpp": 0o644,
     "lib/libfbcheck.a": 0o644,
     "lib/libfbcheck.so.1": 0o755,
     "lib/libfbcheck.so": 0o755,

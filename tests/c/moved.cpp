@@ -1,29 +1,43 @@
-// What a Verifier of examples/c/fbcheck.hpp holds goes with it when it is moved: moved SCHEMA.bfbs GOOD_BUFFER
+// What a Schema of fbcheck.hpp holds goes with it when it is moved: moved SCHEMA.bfbs GOOD_BUFFER
 //
-// Prints the answers of each of two Verifiers, and the name of the schema's first object.
-#include "../../examples/c/fbcheck.hpp"
+// Prints the answers of each of two Schemas, those with room of their own, and the name of the schema's first object.
+#include <fbcheck.hpp>
 
 #include <fstream>
 #include <iostream>
 #include <iterator>
+#include <vector>
 
-static std::vector<std::uint8_t> bytes_of(const char *path) {
+static std::vector<std::byte> bytes_of(const char *path) {
     std::ifstream file(path, std::ios::binary);
-    return {std::istreambuf_iterator<char>(file), std::istreambuf_iterator<char>()};
+    std::vector<std::byte> bytes;
+    for (std::istreambuf_iterator<char> at(file), end; at != end; ++at) bytes.push_back(std::byte(*at));
+    return bytes;
 }
 
 int main(int, char **words) {
-    const std::vector<std::uint8_t> buffer = bytes_of(words[2]);
-    const auto answer = [&](fbcheck::Verifier &verifier) {
-        std::cout << verifier.verify(buffer.data(), buffer.size()).status << " ";
+    const auto file = bytes_of(words[1]), buffer = bytes_of(words[2]);
+    fbcheck::Options options;
+    const auto answer = [&](const fbcheck::Schema &schema, fbcheck::Scratch *scratch = nullptr) {
+        try {
+            std::cout << schema.good(buffer.data(), buffer.size(), options, scratch) << " ";
+        } catch (const fbcheck::Misuse &misuse) {
+            std::cout << "misuse " << misuse.status << " ";
+        }
     };
-    fbcheck::Verifier first(bytes_of(words[1]));
-    fbcheck::Verifier second(std::move(first));
+    fbcheck::Schema first(file.data(), file.size());
+    fbcheck::Schema second(std::move(first));
     answer(first), answer(second);
     first = std::move(second);
     answer(first), answer(second);
-    first = fbcheck::Verifier(bytes_of(words[1]));
+    first = fbcheck::Schema(file.data(), file.size());
     answer(first);
+    fbcheck::Scratch scratch(1000);
+    options.max_depth = 1000;
+    answer(first), answer(first, &scratch);
+#if __cplusplus >= 202002L
+    std::cout << bool(first.check(buffer, {}, &scratch)) << first.good(std::span(buffer).first(4)) << " ";
+#endif
     char name[16];
-    std::cout << std::string(name, fbcheck_object_name(first.schema(), 0, name, sizeof name)) << "\n";
+    std::cout << std::string(name, fbcheck_object_name(first.get(), 0, name, sizeof name)) << "\n";
 }
