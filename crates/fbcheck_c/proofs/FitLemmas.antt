@@ -1,12 +1,11 @@
 -- How steps that fit go on from kind to kind.
-use Rattle.std.proofs.Common.{◌≡◌, ℕ, ◌+◌, ◌<◌, List, [], ◌∷◌, get_or, length, below_more, Option, Some, None, IsSomeAnd, sym, ap, subst, ◌∙◌, arith}
+use Rattle.std.proofs.Common.{◌≡◌, List, [], ◌∷◌, Some, None, subst}
 use Rattle.fb_schema.specs.declared.kinds.Kind.{Kind}
 use Rattle.fb_schema.specs.Rows.{Rows}
 use Rattle.fb_access.specs.declared.step.Step.{Step}
 use Rattle.fb_access.specs.Fitting.{StepsFit, next_kind}
-use Rattle.fbcheck_c.specs.declared.steps.PlainPath.{PlainPath}
 use Rattle.fbcheck_c.specs.declared.steps.PlainStep.{PlainStep}
-use Rattle.fbcheck_c.specs.Steps.{AreSteps, FitFrom, FitsFrom, step_of}
+use Rattle.fbcheck_c.specs.Steps.{AreSteps, FitFrom, step_of}
 
 module _ (S : Rows) (kind : Kind) (c : PlainStep) (cs : List PlainStep) where
   on_at : (path : List Step) (s : Step) (after : Kind) → step_of c ≡ Some s → next_kind S kind s ≡ Some after → AreSteps (c ∷ cs) path → StepsFit S kind path → FitFrom S after cs

@@ -1,5 +1,5 @@
 -- What is no union has no member.
-use Rattle.std.proofs.Common.{◌≡◌, ℕ, pos, Bool, true, false, if◌then◌else◌, List, [], filter, find, slice_get, Option, Some, None, refl, ap}
+use Rattle.std.proofs.Common.{◌≡◌, ℕ, pos, Bool, true, false, if◌then◌else◌, [], filter, find, slice_get, Option, Some, None, refl, ap}
 use Rattle.std.specs.Option.{option_and_then}
 use Rattle.std.specs.Ordering.{int_eq}
 use Rattle.fb_schema.specs.Kinds.{kind_of}

@@ -1,5 +1,5 @@
 -- The place of a fault is written where its way was found.
-use Rattle.std.proofs.Common.{◌≡◌, ℕ, List, length, sym, subst, Option, Some, IsSomeAnd}
+use Rattle.std.proofs.Common.{ℕ, List, length, sym, subst, IsSomeAnd}
 use Rattle.fb_verify.specs.Links.{StopsAlong}
 use Rattle.fb_verify.specs.Stops.{Stops}
 use Rattle.fb_verify.specs.Verdict.{HasNone}
@@ -12,8 +12,8 @@ use Rattle.fbcheck_c.specs.declared.answer.Answer.{Answer}
 use Rattle.fbcheck_c.specs.declared.answer.Answer.TheVariants.{Done, Good, Bad, UnknownOptions, OutOfRange, NoIdent, NoRoot, TooLong, NoSchema, NoSpan, BadStream, BadPath, NoRoom, Misfit}
 use Rattle.fbcheck_c.specs.declared.checking.Begun.{Begun}
 use Rattle.fbcheck_c.specs.declared.options.Options.{Options}
-use Rattle.fbcheck_c.specs.Answered.{Begins, IsBadFrom, IsChecked, Serves}
-use Rattle.fbcheck_c.specs.Asked.{checks_asked, ident_asked, limits_of, root_asked, start_asked}
+use Rattle.fbcheck_c.specs.Answered.{Begins, IsBadFrom, Serves}
+use Rattle.fbcheck_c.specs.Asked.{checks_asked, ident_asked, start_asked}
 use Rattle.fbcheck_c.specs.Placed.{IsLocated, IsPlaceTold, IsWritten}
 
 module _ (l : Loaded) (n : ℕ) (o : Options) (b : List ℕ) (begun : Begun) (begins : Begins l n o (length b) begun) where

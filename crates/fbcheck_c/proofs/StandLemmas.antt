@@ -1,7 +1,6 @@
 -- The bytes of a value stand where its extent says.
-use Rattle.std.proofs.Common.{◌≡◌, ℕ, ◌+◌, ◌*◌, List, None, refl, sym, ap, arith}
+use Rattle.std.proofs.Common.{◌≡◌, ℕ, ◌+◌, ◌*◌, List, None, refl, ap, arith}
 use Rattle.fb_bytes.specs.Word.{word}
-use Rattle.fb_schema.specs.Kinds.{scalar_size, struct_size}
 use Rattle.fb_schema.specs.Rows.{Rows}
 use Rattle.fb_schema.specs.declared.kinds.Scalar.{Scalar}
 use Rattle.fb_schema.specs.declared.kinds.Scalar.TheVariants.{UType, Bool as AsBool, Byte, UByte, Short, UShort, Int as AsInt, UInt as AsUInt, Long, ULong, Float as AsFloat, Double}

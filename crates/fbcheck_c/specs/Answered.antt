@@ -1,7 +1,6 @@
 -- Which answer a call gives.
 use Rattle.std.specs.Prelude.{◌≡◌, ℕ, ◌<◌, ◌≤◌, ◌^◌, List, length, Option, Some, None, Result, Ok, Err, IsSomeAnd, IsSome, IsTrue}
 use Rattle.fb_schema.specs.Rows.{is_table}
-use Rattle.fb_verify.specs.Bounds.{Bounds}
 use Rattle.fb_verify.specs.MostReads.{most_reads}
 use Rattle.fb_verify.specs.Stops.{Stops}
 use Rattle.fb_verify.specs.Verdict.{Reports, HasNone}
@@ -12,7 +11,7 @@ use Rattle.fb_bfbs.specs.Loads.{IsLoaded, IsLoadFault}
 use Rattle.fb_bfbs.specs.declared.loading.Loaded.{Loaded}
 use Rattle.fb_bfbs.specs.declared.load_fault.LoadFault.TheVariants.{OutOfMemory}
 use Rattle.fbcheck_c.specs.declared.answer.Answer.{Answer}
-use Rattle.fbcheck_c.specs.declared.answer.Answer.TheVariants.{Done, Good, Bad, UnknownOptions, OutOfRange, NoIdent, NoRoot, TooLong, NoSchema}
+use Rattle.fbcheck_c.specs.declared.answer.Answer.TheVariants.{Done, Good, Bad, OutOfRange, NoIdent, NoRoot, TooLong, NoSchema}
 use Rattle.fbcheck_c.specs.declared.checking.Begun.{Begun}
 use Rattle.fbcheck_c.specs.declared.held.Held.{Held}
 use Rattle.fbcheck_c.specs.declared.held.Held.TheVariants.{Schema, Room}

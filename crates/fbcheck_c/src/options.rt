@@ -1,6 +1,6 @@
 //! What a caller in C asks of a buffer.
 
-ghost use Rattle.std.specs.Prelude.{◌≡◌, ◌≤◌, IsTrue, ◌↔◌, MatchResult};
+ghost use Rattle.std.specs.Prelude.{◌≡◌, IsTrue, ◌↔◌, MatchResult};
 ghost use Rattle.fb_schema.specs.Rows.{is_table};
 ghost use Rattle.std.specs.Prelude.{IfSome};
 ghost use Rattle.fbcheck_c.specs.Asked.{AreKnown, HasLimits, LimitsFail, checks_asked, ident_asked, if_table, limits_of, own_ident, published, root_asked, start_asked, start_of};

@@ -1,7 +1,6 @@
 //! The place of a fault in words.
 
-ghost use Rattle.std.specs.Prelude.{◌≡◌, ◌≤◌, length, take};
-ghost use Rattle.fb_access.specs.Location.{location_text};
+ghost use Rattle.std.specs.Prelude.{◌≡◌, length, take};
 ghost use Rattle.fbcheck_c.specs.Placed.{IsLocated, IsLocatedBy, IsWritten, cut_to};
 ghost use Rattle.fbcheck_c.specs.Answered.{levels};
 
