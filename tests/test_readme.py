@@ -44,14 +44,6 @@ class Readme(unittest.TestCase):
             missing = [target for target in targets if not (page.parent / target).exists()]
             self.assertEqual((page.name, missing), (page.name, []))
 
-    def test_field_by_its_id(self):
-        """The loop of docs/REFERENCE.md finds the name of a field by its number."""
-        page = (TOP / "docs/REFERENCE.md").read_text()
-        loop = re.search(r"```sh\n(for i in .*?)```", page, re.S)[1].replace("my.bfbs", "examples/deliveries.bfbs")
-        run = subprocess.run(["sh", "-c", loop.replace("./fbcheck", str(PROGRAM))], cwd=TOP, capture_output=True,
-                             text=True, timeout=60)
-        self.assertEqual([line.split()[-1] for line in run.stdout.splitlines()], ['"items"'])
-
     def test_naive_checker_alone(self):
         """The naive checker uses the types of rows, and nothing else of the crates that are held against it."""
         texts = [path.read_text() for path in (TOP / "crates/evidence/src/naive").glob("*.rt")]
