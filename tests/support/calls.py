@@ -132,6 +132,9 @@ class _Step(ctypes.Structure):
 class _Path(ctypes.Structure):
     _fields_ = [*_fields(_U32, "count reserved"), ("steps", _Step * STEPS)]
 
+    def __iter__(self):
+        return iter(self.steps[: self.count])
+
 
 class _Value(ctypes.Structure):
     _fields_ = [
