@@ -2,6 +2,8 @@
 use Rattle.std.proofs.Common.{[], false, pos, None}
 use Rattle.fb_schema.specs.declared.kinds.Kind.TheVariants.{Scalar}
 use Rattle.fb_schema.specs.declared.kinds.Scalar.TheVariants.{UType}
+use Rattle.fb_schema.specs.declared.flat.ObjectPart.{ObjectPart}
+use Rattle.fb_schema.specs.declared.flat.EnumPart.{EnumPart}
 use Rattle.fb_schema.specs.declared.views.FieldView.{FieldView}
 use Rattle.fb_schema.specs.declared.rows.TypeRow.{TypeRow}
 use Rattle.fb_schema.specs.declared.rows.FieldRow.{FieldRow}
@@ -15,6 +17,12 @@ blank_field = record { name = record { ref_ptr = (0, 0); now = [] }; ty = blank_
 
 abbrev pub blank_member : MemberRow
 blank_member = record { name = record { ref_ptr = (0, 0); now = [] }; value = pos 0; ty = blank_type }
+
+abbrev pub blank_object : ObjectPart
+blank_object = record { name = record { ref_ptr = (0, 0); now = [] }; fields = (0, 0); is_struct = false; minalign = pos 0; bytesize = pos 0 }
+
+abbrev pub blank_enum : EnumPart
+blank_enum = record { name = record { ref_ptr = (0, 0); now = [] }; members = (0, 0); is_union = false }
 
 abbrev pub blank_view : FieldView
 blank_view = record { number = 0; slot = 0; name = record { ref_ptr = (0, 0); now = [] }; kind = Scalar UType; default = pos 0; required = false; optional = false; size = 0; align = 0; companion = None }

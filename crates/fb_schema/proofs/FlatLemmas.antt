@@ -1,10 +1,10 @@
 -- A list that is added behind others leaves them as they are.
-use Rattle.std.proofs.Common.{◌≡◌, ◌≤◌, ◌<◌, ◌-◌, ◌+◌, ℕ, zero, suc, [], ◌∷◌, ◌++◌, map, length, List, take, drop, get_or, refl, ◌∙◌, ap, arith, length-append, subst, sym, Bool, true, false, if◌then◌else◌}
-use Rattle.std.proofs.lemmas.List.{map-append}
+use Rattle.std.proofs.Common.{◌≡◌, ◌≤◌, ◌<◌, ◌-◌, ◌+◌, ◌^◌, ℕ, zero, suc, [], ◌∷◌, ◌++◌, map, length, List, take, drop, get_or, refl, ◌∙◌, ap, arith, length-append, subst, sym, Bool, true, false, if◌then◌else◌}
+use Rattle.std.proofs.lemmas.List.{map-append, length-take}
 use Rattle.std.proofs.lemmas.List.Elements.{All-head, All-tail}
 use Rattle.std.proofs.Math.Seq.{take-length}
 use Rattle.std.specs.List.{All}
-use Rattle.fb_schema.specs.Flat.{part, AreWithin}
+use Rattle.fb_schema.specs.Flat.{part, IsPart, AreWithin}
 
 drop_front : {T : Type 0} (xs ys : List T) (a : ℕ) → a ≤ length xs → drop a (xs ++ ys) ≡ drop a xs ++ ys
 drop_front xs ys zero h = refl
@@ -27,10 +27,6 @@ kept xs ys r h =
     let long = length_left xs r.0 in
     ap (take (r.1 - r.0)) front ∙ take_front (drop r.0 xs) ys (r.1 - r.0) (omega arith)
 
-all_kept : {T : Type 0} (xs ys : List T) (rs : List (ℕ × ℕ)) → AreWithin xs rs → map (part (xs ++ ys)) rs ≡ map (part xs) rs
-all_kept xs ys [] h = refl
-all_kept xs ys (r ∷ rs) h = λ i. kept xs ys r (All-head (λ r. (r.0 ≤ r.1) × (r.1 ≤ length xs)) r rs h) i ∷ all_kept xs ys rs (All-tail (λ r. (r.0 ≤ r.1) × (r.1 ≤ length xs)) r rs h) i
-
 nothing : {T : Type 0} (zs : List T) → length zs ≡ 0 → zs ≡ []
 nothing [] e = refl
 nothing (z ∷ zs) e = absurd (omega arith)
@@ -42,27 +38,51 @@ last xs ys =
     let rest : drop (length xs) (xs ++ ys) ≡ ys = drop_front xs ys (length xs) (omega arith) ∙ ap (λ zs. zs ++ ys) (nothing (drop (length xs) xs) (omega arith)) in
     ap (take (length (xs ++ ys) - length xs)) rest ∙ ap (λ n. take n ys) (let w : length (xs ++ ys) - length xs ≡ length ys = omega arith in w) ∙ take-length ys
 
--- the lists after one is added
-pub pushed : {T : Type 0} (xs ys new : List T) (rs ranges : List (ℕ × ℕ)) (start end : ℕ) → AreWithin xs rs → new ≡ xs ++ ys → ranges ≡ rs ++ (start, end) ∷ [] → start ≡ length xs → end ≡ length new → map (part new) ranges ≡ map (part xs) rs ++ ys ∷ []
-pushed xs ys new rs ranges start end within n r s e =
-    ap (map (part new)) r
-    ∙ ap (λ zs. map (part zs) (rs ++ (start, end) ∷ [])) n
-    ∙ map-append (part (xs ++ ys)) rs ((start, end) ∷ [])
-    ∙ ap (λ zs. zs ++ part (xs ++ ys) (start, end) ∷ []) (all_kept xs ys rs within)
-    ∙ ap (λ z. map (part xs) rs ++ z ∷ []) (ap (λ m. part (xs ++ ys) (m, end)) s ∙ ap (λ m. part (xs ++ ys) (length xs, m)) (e ∙ ap length n) ∙ last xs ys)
+-- what is made of owners and their parts, after one is added
+module _ {O T Z : Type 0} (range : O → ℕ × ℕ) (make : O → List T → Z) where
+  IsHeld : ℕ → O → Type 0
+  IsHeld n o = ((range o).0 ≤ (range o).1) × ((range o).1 ≤ n)
+
+  all_kept : (xs ys : List T) (os : List O) → All (IsHeld (length xs)) os → map (λ o. make o (part (xs ++ ys) (range o))) os ≡ map (λ o. make o (part xs (range o))) os
+  unfolding IsHeld
+  all_kept xs ys [] h = refl
+  all_kept xs ys (o ∷ os) h = λ i. make o (kept xs ys (range o) (All-head (IsHeld (length xs)) o os h) i) ∷ all_kept xs ys os (All-tail (IsHeld (length xs)) o os h) i
+
+  pub pushed : (xs ys new : List T) (os owners : List O) (o : O) → All (λ o. ((range o).0 ≤ (range o).1) × ((range o).1 ≤ length xs)) os → new ≡ xs ++ ys → owners ≡ os ++ o ∷ [] → range o ≡ (length xs, length new)
+      → map (λ o. make o (part new (range o))) owners ≡ map (λ o. make o (part xs (range o))) os ++ make o ys ∷ []
+  unfolding IsHeld
+  pushed xs ys new os owners o within n r is =
+      ap (map (λ o. make o (part new (range o)))) r
+      ∙ ap (λ zs. map (λ o. make o (part zs (range o))) (os ++ o ∷ [])) n
+      ∙ map-append (λ o. make o (part (xs ++ ys) (range o))) os (o ∷ [])
+      ∙ ap (λ zs. zs ++ make o (part (xs ++ ys) (range o)) ∷ []) (all_kept xs ys os within)
+      ∙ ap (λ z. map (λ o. make o (part xs (range o))) os ++ make o z ∷ []) (ap (part (xs ++ ys)) is ∙ ap (λ m. part (xs ++ ys) (length xs, m)) (ap length n) ∙ last xs ys)
 
 all_wider : (m n : ℕ) → m ≤ n → (rs : List (ℕ × ℕ)) → All (λ r. (r.0 ≤ r.1) × (r.1 ≤ m)) rs → All (λ r. (r.0 ≤ r.1) × (r.1 ≤ n)) rs
 all_wider m n le rs h = λ k d lt. let w = h k d lt in (w.0, omega (arith, w.1))
 
-all_pushed : (P : ℕ × ℕ → Type 0) (rs : List (ℕ × ℕ)) (r : ℕ × ℕ) → All P rs → P r → All P (rs ++ r ∷ [])
-all_pushed P [] r h here = go where
-  go : (k : ℕ) (d : ℕ × ℕ) → k < length (r ∷ []) → P (get_or (r ∷ []) k d)
+all_pushed : {X : Type 0} (P : X → Type 0) (xs : List X) (x : X) → All P xs → P x → All P (xs ++ x ∷ [])
+all_pushed {X} P [] x h here = go where
+  go : (k : ℕ) (d : X) → k < length (x ∷ []) → P (get_or (x ∷ []) k d)
   go zero d lt = here
   go (suc k) d lt = absurd (omega arith)
-all_pushed P (x ∷ rs) r h here = go (all_pushed P rs r (All-tail P x rs h) here) where
-  go : All P (rs ++ r ∷ []) → (k : ℕ) (d : ℕ × ℕ) → k < length (x ∷ (rs ++ r ∷ [])) → P (get_or (x ∷ (rs ++ r ∷ [])) k d)
-  go ih zero d lt = All-head P x rs h
+all_pushed {X} P (y ∷ xs) x h here = go (all_pushed P xs x (All-tail P y xs h) here) where
+  go : All P (xs ++ x ∷ []) → (k : ℕ) (d : X) → k < length (y ∷ (xs ++ x ∷ [])) → P (get_or (y ∷ (xs ++ x ∷ [])) k d)
+  go ih zero d lt = All-head P y xs h
   go ih (suc k) d lt = ih k d (omega arith)
+
+-- the ranges of owners, after one is added
+pub parts_step : {O T : Type 0} (range : O → ℕ × ℕ) (xs ys new : List T) (os owners : List O) (o : O) → All (λ o. IsPart (length xs) (range o)) os → new ≡ xs ++ ys → owners ≡ os ++ o ∷ [] → range o ≡ (length xs, length new) → length ys < 2 ^ 31
+    → All (λ o. IsPart (length new) (range o)) owners
+parts_step range xs ys new os owners o parts n r is few =
+    let long : length new ≡ length xs + length ys = ap length n ∙ length-append xs ys in
+    let last : IsPart (length new) (length xs, length new) = record { ordered = omega arith; within = omega arith; few = omega arith } in
+    subst (All (λ o. IsPart (length new) (range o))) (sym r)
+    (all_pushed (λ o. IsPart (length new) (range o)) os o (λ k d lt. let p = parts k d lt in record { ordered = p.ordered; within = omega (arith, p.within); few = p.few }) (subst (IsPart (length new)) (sym is) last))
+
+-- a part has few rows
+pub part_few : {T : Type 0} (rows : List T) (r : ℕ × ℕ) → IsPart (length rows) r → length (part rows r) < 2 ^ 31
+part_few rows r h = let long = length-take (r.1 - r.0) (drop r.0 rows) in omega (arith, long, h.few)
 
 pub within_pushed : {T : Type 0} (xs ys new : List T) (rs ranges : List (ℕ × ℕ)) (start end : ℕ) → AreWithin xs rs → new ≡ xs ++ ys → ranges ≡ rs ++ (start, end) ∷ [] → start ≡ length xs → end ≡ length new → AreWithin new ranges
 within_pushed xs ys new rs ranges start end within n r s e =

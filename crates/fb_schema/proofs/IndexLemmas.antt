@@ -133,11 +133,11 @@ required_step v xs i d b lt e =
       go true l = omega (arith, l)
       go false l = refl
 
-pub kept_read : {X Y : Type 0} (f : X → Y) (xs : List X) (i : ℕ) (x : X) → i < length xs → x ≡ get_or xs i x → slice_get (map f xs) i ≡ Some (f x)
-kept_read f xs i x lt is = mapped_at f xs i x (slice_get-get_or xs i x lt ∙ ap Some (sym is))
+pub kept_read : {X Y : Type 0} (f : X → Y) (xs : List X) (i : ℕ) (d : X) → i < length xs → slice_get (map f xs) i ≡ Some (f (get_or xs i d))
+kept_read f xs i d lt = mapped_at f xs i (get_or xs i d) (slice_get-get_or xs i d lt)
 
-pub mapped_read : {X Y : Type 0} (f : X → Y) (xs : List X) (i : ℕ) (x : X) → i < length xs → x ≡ get_or xs i x → f x ≡ get_or (map f xs) i (f x)
-mapped_read f xs i x lt is = ap f is ∙ sym (get_or-map f xs i x (f x) lt)
+pub mapped_read : {X Y : Type 0} (f : X → Y) (xs : List X) (i : ℕ) (d : X) → i < length xs → f (get_or xs i d) ≡ get_or (map f xs) i (f (get_or xs i d))
+mapped_read f xs i d lt = let x = get_or xs i d in ap f (get_or_default xs i d x lt) ∙ sym (get_or-map f xs i x (f x) lt)
 
 -- one map after another
 pub mapped_twice : {X Y Z : Type 0} (g : Y → Z) (f : X → Y) (xs : List X) → map (λ x. g (f x)) xs ≡ map g (map f xs)

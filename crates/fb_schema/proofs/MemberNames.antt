@@ -10,12 +10,14 @@ use Rattle.std.specs.Option.{option_map}
 use Rattle.std.specs.Ordering.{int_eq, bool_cmp, is_eq}
 use Rattle.std.specs.Str.{bytes_eq}
 use Rattle.std.specs.declared.cmp.Ordering.TheVariants.{Equal}
-use Rattle.fb_schema.specs.declared.rows.EnumRow.{EnumRow}
+use Rattle.fb_schema.specs.declared.flat.EnumPart.{EnumPart}
 use Rattle.fb_schema.specs.declared.rows.MemberRow.{MemberRow}
 use Rattle.fb_schema.specs.Demands.{first_code, members_asked, member_demands, stands_before, same_value, same_member_name}
 use Rattle.fb_schema.specs.Members.{is_member_value, member_named}
 use Rattle.fb_schema.specs.Sorting.{name_cmp, member_cmp, member_key}
-use Rattle.fb_schema.specs.Rows.{Rows, Member, member_of_row, enum_of}
+use Rattle.fb_schema.specs.Rows.{Rows, Member, member_of_row}
+use Rattle.fb_schema.specs.Flat.{part}
+use Rattle.fb_schema.specs.FlatRows.{enum_in}
 use Rattle.fb_schema.proofs.DemandLaws.{clear_line}
 use Rattle.fb_schema.proofs.FindLemmas.{find_filter, found_item, no_item}
 use Rattle.fb_schema.proofs.MemberLemmas.{name_not_again, clear_demands, both_equal}
@@ -120,10 +122,10 @@ module _ (rows : Rows) (members : List MemberRow) (clear : (q : ℕ) → first_c
       never j x low (tied (get_or members j x) (ap test (sym (get_or-map member_of_row members j x d low)) ∙ h)))
 
 -- what is looked up of a union, over its row
-pub member_named_is : (rows : Rows) (enums : List EnumRow) → rows.enums ≡ map enum_of enums → (n : ℕ) (row : EnumRow) → slice_get enums n ≡ Some row → row.is_union ≡ true → (name : List ℕ)
-    → member_named rows n name ≡ option_map (λ m. unsigned_abs m.value) (find (λ m. bytes_eq m.name name) (filter (λ m. is_member_value m.value) (map member_of_row row.members.items)))
+pub member_named_is : (rows : Rows) (all : List MemberRow) (enums : List EnumPart) → rows.enums ≡ map (enum_in all) enums → (n : ℕ) (row : EnumPart) → slice_get enums n ≡ Some row → row.is_union ≡ true → (name : List ℕ)
+    → member_named rows n name ≡ option_map (λ m. unsigned_abs m.value) (find (λ m. bytes_eq m.name name) (filter (λ m. is_member_value m.value) (map member_of_row (part all row.members))))
 unfolding member_named
-member_named_is rows enums same n row at union name = ap (λ ms. option_map (λ (m : Member). unsigned_abs m.value) (find (λ m. bytes_eq m.name name) ms)) (members_read rows enums same n row at union)
+member_named_is rows all enums same n row at union name = ap (λ ms. option_map (λ (m : Member). unsigned_abs m.value) (find (λ m. bytes_eq m.name name) ms)) (members_read rows all enums same n row at union)
 
 -- a member's value is a byte
 pub small_value : (z : ℤ) → is_member_value z ≡ true → unsigned_abs z < 256

@@ -9,14 +9,17 @@ use Rattle.std.specs.Cmp.Lexicographic.{slice_cmp}
 use Rattle.std.specs.Ordering.{nat_cmp}
 use Rattle.std.specs.declared.cmp.Ordering.TheVariants.{Equal}
 use Rattle.fb_schema.specs.declared.kinds.Kind.{Kind}
-use Rattle.fb_schema.specs.declared.rows.ObjectRow.{ObjectRow}
+use Rattle.fb_schema.specs.declared.flat.ObjectPart.{ObjectPart}
 use Rattle.fb_schema.specs.declared.views.FieldView.{FieldView}
 use Rattle.fb_schema.specs.Demands.{IsLegal, first_code, table_asked, demands_of_object, demands_of_struct_field, demands_of_table_field}
 use Rattle.fb_schema.specs.Index.{view_name}
 use Rattle.fb_schema.specs.Kinds.{kind_of}
 use Rattle.fb_schema.specs.Live.{Live, by_slot, is_live, live_rows, live_as, live_of, live_of_view, live_in, AreApart}
 use Rattle.fb_schema.specs.Sorting.{IsAgain, name_cmp, field_name}
-use Rattle.fb_schema.specs.Rows.{Rows, Field, field_of, object_of, is_some_table}
+use Rattle.fb_schema.specs.Rows.{Rows, Field, field_of, is_some_table}
+use Rattle.fb_schema.specs.declared.rows.FieldRow.{FieldRow}
+use Rattle.fb_schema.specs.Flat.{part}
+use Rattle.fb_schema.specs.FlatRows.{object_in}
 use Rattle.fb_schema.proofs.IndexLemmas.{legal_slots, table_list}
 use Rattle.fb_schema.proofs.Kinded.{live_long, live_at}
 use Rattle.fb_schema.proofs.LegalLemmas.{legal_clear}
@@ -25,24 +28,24 @@ use Rattle.fb_schema.proofs.Numbers.{lt_or_eq, le_or_lt, get_or_default, slice_g
 use Rattle.fb_schema.proofs.WalkLemmas.{mapped_at, not_named_table}
 
 -- no field of a legal table has an earlier one's name
-no_name_again : (rows : Rows) (n : ℕ) (row : ObjectRow) → IsLegal rows → slice_get rows.objects n ≡ Some (object_of row) → row.is_struct ≡ false → (q : ℕ) → IsAgain name_cmp (map field_name row.fields.items) q → ⊥
-no_name_again rows n row legal at table q a =
-    let fields = map field_of row.fields.items in
+no_name_again : (rows : Rows) (n : ℕ) (all : List FieldRow) (row : ObjectPart) → IsLegal rows → slice_get rows.objects n ≡ Some (object_in all row) → row.is_struct ≡ false → (q : ℕ) → IsAgain name_cmp (map field_name (part all row.fields)) q → ⊥
+no_name_again rows n all row legal at table q a =
+    let fields = map field_of (part all row.fields) in
     let here : first_code (table_asked rows fields q) ≡ None =
     sym (ap (λ x. first_code (demands_of_object rows n (suc q) x)) at ∙ ap first_code (table_list row.is_struct (demands_of_struct_field rows row.bytesize fields q (slice_get fields q)) (demands_of_table_field rows fields q (slice_get fields q)) table))
     ∙ legal_clear rows legal 0 n (suc q) in
-    not_named_table rows row.fields.items q here a
+    not_named_table rows (part all row.fields) q here a
 
 -- two of a table's fields with one name are one
-one_name : (rows : Rows) (n : ℕ) (row : ObjectRow) → IsLegal rows → slice_get rows.objects n ≡ Some (object_of row) → row.is_struct ≡ false
-    → (i j : ℕ) (d : Field) → i < length (map field_of row.fields.items) → j < length (map field_of row.fields.items) → (get_or (map field_of row.fields.items) i d).name ≡ (get_or (map field_of row.fields.items) j d).name → i ≡ j
-one_name rows n row legal at table i j d a b e = elim (le_or_lt i j) [
-  | inl le ↦ elim (lt_or_eq i j le) [ inl lt ↦ absurd (no_name_again rows n row legal at table j (again i j lt b e)) | inr same ↦ same ]
-  | inr lt ↦ absurd (no_name_again rows n row legal at table i (again j i lt a (sym e)))
+one_name : (rows : Rows) (n : ℕ) (all : List FieldRow) (row : ObjectPart) → IsLegal rows → slice_get rows.objects n ≡ Some (object_in all row) → row.is_struct ≡ false
+    → (i j : ℕ) (d : Field) → i < length (map field_of (part all row.fields)) → j < length (map field_of (part all row.fields)) → (get_or (map field_of (part all row.fields)) i d).name ≡ (get_or (map field_of (part all row.fields)) j d).name → i ≡ j
+one_name rows n all row legal at table i j d a b e = elim (le_or_lt i j) [
+  | inl le ↦ elim (lt_or_eq i j le) [ inl lt ↦ absurd (no_name_again rows n all row legal at table j (again i j lt b e)) | inr same ↦ same ]
+  | inr lt ↦ absurd (no_name_again rows n all row legal at table i (again j i lt a (sym e)))
 ] where
-  again : (i j : ℕ) → i < j → j < length (map field_of row.fields.items) → (get_or (map field_of row.fields.items) i d).name ≡ (get_or (map field_of row.fields.items) j d).name → IsAgain name_cmp (map field_name row.fields.items) j
+  again : (i j : ℕ) → i < j → j < length (map field_of (part all row.fields)) → (get_or (map field_of (part all row.fields)) i d).name ≡ (get_or (map field_of (part all row.fields)) j d).name → IsAgain name_cmp (map field_name (part all row.fields)) j
   again i j lt within e =
-      let rs = row.fields.items in
+      let rs = (part all row.fields) in
       let low : j < length rs = rw length-map at within in
       let x = (slice_get_some rs j low).0 in
       let first : i < length rs = omega arith in
@@ -90,13 +93,13 @@ named_alike rows live g f None e = absurd (let w : None ≡ Some f = e in cc)
 named_alike rows live g f (Some kind) e = let w : live_as rows live g kind ≡ f = cc in sym (ap (λ (l : Live). l.name) w)
 
 -- the views of a table's live fields have names of their own
-pub view_not_again : (rows : Rows) (n : ℕ) (row : ObjectRow) → IsLegal rows → slice_get rows.objects n ≡ Some (object_of row) → row.is_struct ≡ false → (views : List FieldView) → map live_of_view views ≡ live_in rows (Some (object_of row))
+pub view_not_again : (rows : Rows) (n : ℕ) (all : List FieldRow) (row : ObjectPart) → IsLegal rows → slice_get rows.objects n ≡ Some (object_in all row) → row.is_struct ≡ false → (views : List FieldView) → map live_of_view views ≡ live_in rows (Some (object_in all row))
     → (q : ℕ) → IsAgain name_cmp (map view_name views) q → ⊥
-view_not_again rows n row legal at table views same q a =
-    let fields = map field_of row.fields.items in
+view_not_again rows n all row legal at table views same q a =
+    let fields = map field_of (part all row.fields) in
     let live = by_slot (filter is_live fields) in
-    let listed : live_rows (object_of row) ≡ live = live_list row.is_struct live table in
-    let long : length views ≡ length live = sym (length-map views live_of_view) ∙ ap length same ∙ live_long rows legal n (object_of row) at ∙ ap length listed in
+    let listed : live_rows (object_in all row) ≡ live = live_list row.is_struct live table in
+    let long : length views ≡ length live = sym (length-map views live_of_view) ∙ ap length same ∙ live_long rows legal n (object_in all row) at ∙ ap length listed in
     let within : q < length views = rw length-map at a.within in
     let first : a.earlier < length views = let lt = a.before in omega arith in
     let v = (slice_get_some views q within).0 in
@@ -105,19 +108,19 @@ view_not_again rows n row legal at table views same q a =
     λ k lt.
     let row_at = ap (λ ls. slice_get ls k) listed ∙ slice_get-get_or live k f (omega arith) in
     let view_at = mapped_at live_of_view views k (get_or views k v) (slice_get-get_or views k v lt) in
-    named_alike rows (live_rows (object_of row)) (get_or live k f) (live_of_view (get_or views k v)) (kind_of rows (get_or live k f).ty)
-    (sym (live_at rows legal n (object_of row) at k ∙ ap (option_and_then (live_of rows (live_rows (object_of row)))) row_at) ∙ sym (ap (λ ls. slice_get ls k) same) ∙ view_at) in
+    named_alike rows (live_rows (object_in all row)) (get_or live k f) (live_of_view (get_or views k v)) (kind_of rows (get_or live k f).ty)
+    (sym (live_at rows legal n (object_in all row) at k ∙ ap (option_and_then (live_of rows (live_rows (object_in all row)))) row_at) ∙ sym (ap (λ ls. slice_get ls k) same) ∙ view_at) in
     let e = get_or-map view_name views a.earlier v v.name first in
     let g = get_or-map view_name views q v v.name within in
     let tied : slice_cmp nat_cmp (get_or views a.earlier v).name.now (get_or views q v).name.now ≡ Equal = ap (λ z. name_cmp z (get_or views q v).name) (sym e) ∙ ap (name_cmp (get_or (map view_name views) a.earlier v.name)) (sym g) ∙ a.alike v.name in
-    live_names fields (legal_slots rows n (object_of row) legal at table) (one_name rows n row legal at table) a.earlier q f a.before (omega arith)
+    live_names fields (legal_slots rows n (object_in all row) legal at table) (one_name rows n all row legal at table) a.earlier q f a.before (omega arith)
     (sym (name_at a.earlier first) ∙ exact_bytes _ _ tied ∙ name_at q within)
 
 -- a table's row
-pub table_at : (objects : List ObjectRow) (n : ℕ) → IsTrue (is_some_table (slice_get (map object_of objects) n)) → (row : ObjectRow) × (slice_get objects n ≡ Some row) × (row.is_struct ≡ false)
-table_at [] n h = absurd (let w : false ≡ true = h in cc)
-table_at (o ∷ os) zero h = (o, refl, not_it o.is_struct h) where
+pub table_at : (all : List FieldRow) (objects : List ObjectPart) (n : ℕ) → IsTrue (is_some_table (slice_get (map (object_in all) objects) n)) → (row : ObjectPart) × (slice_get objects n ≡ Some row) × (row.is_struct ≡ false)
+table_at all [] n h = absurd (let w : false ≡ true = h in cc)
+table_at all (o ∷ os) zero h = (o, refl, not_it o.is_struct h) where
   not_it : (b : Bool) → not b ≡ true → b ≡ false
   not_it true h = absurd (let w : false ≡ true = h in cc)
   not_it false h = refl
-table_at (o ∷ os) (suc n) h = table_at os n h
+table_at all (o ∷ os) (suc n) h = table_at all os n h

@@ -4,9 +4,12 @@ use Rattle.std.proofs.lemmas.Bool.Decides.{nat_tests}
 use Rattle.std.specs.Cmp.{signed_Decides}
 use Rattle.std.specs.Option.{option_map}
 use Rattle.std.specs.Ordering.{int_eq}
-use Rattle.fb_schema.specs.declared.rows.EnumRow.{EnumRow}
+use Rattle.fb_schema.specs.declared.flat.EnumPart.{EnumPart}
+use Rattle.fb_schema.specs.declared.rows.MemberRow.{MemberRow}
 use Rattle.fb_schema.specs.Members.{is_member_value, members_in, member_name}
-use Rattle.fb_schema.specs.Rows.{Rows, Member, Enum, member_of_row, enum_of, is_union, is_some_union}
+use Rattle.fb_schema.specs.Rows.{Rows, Member, Enum, member_of_row, is_union, is_some_union}
+use Rattle.fb_schema.specs.Flat.{part}
+use Rattle.fb_schema.specs.FlatRows.{enum_in}
 use Rattle.fb_schema.proofs.FindLemmas.{find_filter}
 use Rattle.fb_schema.proofs.UnionLemmas.{members_read, none_of}
 
@@ -24,14 +27,14 @@ asked_once : (v : ℕ) → 0 < v → v < 256 → (z : ℤ) → (is_member_value 
 asked_once v a b z = with_implied (is_member_value z) (int_eq z (pos v)) (λ e. ap is_member_value ((signed_Decides z (pos v)).0 e) ∙ real_value v a b)
 
 -- the name that is looked up of a union, over its row
-pub member_name_is : (rows : Rows) (enums : List EnumRow) → rows.enums ≡ map enum_of enums → (n : ℕ) (row : EnumRow) → slice_get enums n ≡ Some row → row.is_union ≡ true → (v : ℕ) → 0 < v → v < 256
-    → member_name rows n v ≡ option_map (λ m. m.name) (find (λ m. int_eq m.value (pos v)) (map member_of_row row.members.items))
+pub member_name_is : (rows : Rows) (all : List MemberRow) (enums : List EnumPart) → rows.enums ≡ map (enum_in all) enums → (n : ℕ) (row : EnumPart) → slice_get enums n ≡ Some row → row.is_union ≡ true → (v : ℕ) → 0 < v → v < 256
+    → member_name rows n v ≡ option_map (λ m. m.name) (find (λ m. int_eq m.value (pos v)) (map member_of_row (part all row.members)))
 unfolding member_name
-member_name_is rows enums same n row at union v a b =
-    ap (λ ms. option_map (λ (m : Member). m.name) (find (λ m. int_eq m.value (pos v)) ms)) (members_read rows enums same n row at union)
+member_name_is rows all enums same n row at union v a b =
+    ap (λ ms. option_map (λ (m : Member). m.name) (find (λ m. int_eq m.value (pos v)) ms)) (members_read rows all enums same n row at union)
     ∙ ap (option_map (λ (m : Member). m.name)) (
-    find_filter (λ m. int_eq m.value (pos v)) (λ m. is_member_value m.value) (map member_of_row row.members.items)
-    ∙ ap (λ t. find t (map member_of_row row.members.items)) (λ i m. asked_once v a b m.value i))
+    find_filter (λ m. int_eq m.value (pos v)) (λ m. is_member_value m.value) (map member_of_row (part all row.members))
+    ∙ ap (λ t. find t (map member_of_row (part all row.members))) (λ i m. asked_once v a b m.value i))
 
 -- the value 0 has no name
 pub no_name_of_zero : (rows : Rows) (n : ℕ) → member_name rows n 0 ≡ None

@@ -4,8 +4,10 @@ use Rattle.std.proofs.lemmas.List.{get_or_append_left}
 use Rattle.std.proofs.Math.Seq.{get_or-append_seam}
 use Rattle.std.proofs.lemmas.Grind.{take_at_read}
 use Rattle.std.specs.Option.{option_and_then}
-use Rattle.fb_schema.specs.declared.rows.EnumRow.{EnumRow}
+use Rattle.fb_schema.specs.declared.flat.EnumPart.{EnumPart}
 use Rattle.fb_schema.specs.declared.views.Target.{Target}
+use Rattle.fb_schema.specs.declared.rows.MemberRow.{MemberRow}
+use Rattle.fb_schema.specs.Flat.{part}
 use Rattle.fb_schema.specs.Kinds.{kind_of}
 use Rattle.fb_schema.specs.Rows.{Rows, Member, member_of_row}
 use Rattle.fb_schema.specs.Targets.{nothing, target_at, target_of, kind_among, AreTargets, HaveTargets}
@@ -61,9 +63,9 @@ module _ (places : List ℕ) (place n : ℕ) (long : length places ≡ n) where
   ]
 
 -- one enum more, with its places and targets
-have_more : (rows : Rows) (enums : List EnumRow) (places : List (List ℕ)) (targets : List (List Target)) (row : EnumRow) (ps : List ℕ) (ts : List Target) → HaveTargets rows enums places targets
-    → (row.is_union ≡ true → AreTargets rows (map member_of_row row.members.items) ps ts) → HaveTargets rows (enums ++ row ∷ []) (places ++ ps ∷ []) (targets ++ ts ∷ [])
-have_more rows enums places targets row ps ts h r = record {
+have_more : (rows : Rows) (all : List MemberRow) (enums : List EnumPart) (places : List (List ℕ)) (targets : List (List Target)) (row : EnumPart) (ps : List ℕ) (ts : List Target) → HaveTargets rows all enums places targets
+    → (row.is_union ≡ true → AreTargets rows (map member_of_row (part all row.members)) ps ts) → HaveTargets rows all (enums ++ row ∷ []) (places ++ ps ∷ []) (targets ++ ts ∷ [])
+have_more rows all enums places targets row ps ts h r = record {
   long_places = length_one places ps ∙ ap suc h.long_places ∙ sym (length_one enums row);
   long_targets = length_one targets ts ∙ ap suc h.long_targets ∙ sym (length_one enums row);
   at = λ n a b d e f k. elim (slice_get_end enums row a n e) [
@@ -77,20 +79,20 @@ have_more rows enums places targets row ps ts h r = record {
       | inl there ↦ absurd (let lt = slice_get_below places b n there in let m = new.0 in let l = h.long_places in omega arith)
       | inr here ↦ elim (slice_get_end targets ts d n k) [
         | inl there ↦ absurd (let lt = slice_get_below targets d n there in let m = new.0 in let l = h.long_targets in omega arith)
-        | inr last ↦ subst (λ x. x.is_union ≡ true → AreTargets rows (map member_of_row x.members.items) b d) new.1
-            (subst (λ y. row.is_union ≡ true → AreTargets rows (map member_of_row row.members.items) y d) here.1
-            (subst (λ z. row.is_union ≡ true → AreTargets rows (map member_of_row row.members.items) ps z) last.1 r))
+        | inr last ↦ subst (λ x. x.is_union ≡ true → AreTargets rows (map member_of_row (part all x.members)) b d) new.1
+            (subst (λ y. row.is_union ≡ true → AreTargets rows (map member_of_row (part all row.members)) y d) here.1
+            (subst (λ z. row.is_union ≡ true → AreTargets rows (map member_of_row (part all row.members)) ps z) last.1 r))
       ]
     ]
   ];
 }
 
 -- a step of the loop over enums
-pub have_step : (rows : Rows) (enums : List EnumRow) (i : ℕ) (row : EnumRow) (places places' : List (List ℕ)) (targets targets' : List (List Target)) (ps : List ℕ) (ts : List Target) → i < length enums → row ≡ get_or enums i row
-    → HaveTargets rows (take i enums) places targets → places' ≡ places ++ ps ∷ [] → targets' ≡ targets ++ ts ∷ []
-    → (row.is_union ≡ true → AreTargets rows (map member_of_row row.members.items) ps ts) → HaveTargets rows (take (i + 1) enums) places' targets'
-have_step rows enums i row places places' targets targets' ps ts lt is h e f r =
+pub have_step : (rows : Rows) (all : List MemberRow) (enums : List EnumPart) (i : ℕ) (row : EnumPart) (places places' : List (List ℕ)) (targets targets' : List (List Target)) (ps : List ℕ) (ts : List Target) → i < length enums → row ≡ get_or enums i row
+    → HaveTargets rows all (take i enums) places targets → places' ≡ places ++ ps ∷ [] → targets' ≡ targets ++ ts ∷ []
+    → (row.is_union ≡ true → AreTargets rows (map member_of_row (part all row.members)) ps ts) → HaveTargets rows all (take (i + 1) enums) places' targets'
+have_step rows all enums i row places places' targets targets' ps ts lt is h e f r =
     let more : take i enums ++ row ∷ [] ≡ take (i + 1) enums = ap (λ z. take i enums ++ z ∷ []) is ∙ sym (take_at_read enums i row lt).1 in
-    subst (λ es. HaveTargets rows es places' targets') more
-    (subst (λ x. HaveTargets rows (take i enums ++ row ∷ []) x targets') (sym e)
-    (subst (HaveTargets rows (take i enums ++ row ∷ []) (places ++ ps ∷ [])) (sym f) (have_more rows (take i enums) places targets row ps ts h r)))
+    subst (λ es. HaveTargets rows all es places' targets') more
+    (subst (λ x. HaveTargets rows all (take i enums ++ row ∷ []) x targets') (sym e)
+    (subst (HaveTargets rows all (take i enums ++ row ∷ []) (places ++ ps ∷ [])) (sym f) (have_more rows all (take i enums) places targets row ps ts h r)))

@@ -7,15 +7,16 @@ use Rattle.std.specs.Ordering.{int_cmp, int_eq}
 use Rattle.std.specs.Option.{option_and_then}
 use Rattle.std.specs.declared.cmp.Ordering.TheVariants.{Equal}
 use Rattle.std.proofs.lemmas.Cmp.{int_cmp_total}
-use Rattle.fb_schema.specs.declared.rows.EnumRow.{EnumRow}
+use Rattle.fb_schema.specs.declared.flat.EnumPart.{EnumPart}
 use Rattle.fb_schema.specs.declared.rows.MemberRow.{MemberRow}
 use Rattle.fb_schema.specs.Demands.{Demand, IsLegal, first_code, members_asked, demands_of_enum}
-use Rattle.fb_schema.specs.Index.{kept_members}
 use Rattle.fb_schema.specs.Kinds.{kind_of}
 use Rattle.fb_schema.specs.Matched.{AreMatched}
 use Rattle.fb_schema.specs.Members.{is_member_value, member_of, members_in}
 use Rattle.fb_schema.specs.Sorting.{member_value}
-use Rattle.fb_schema.specs.Rows.{Rows, Member, Enum, member_of_row, enum_of, is_some_union}
+use Rattle.fb_schema.specs.Rows.{Rows, Member, Enum, member_of_row, is_some_union}
+use Rattle.fb_schema.specs.Flat.{part}
+use Rattle.fb_schema.specs.FlatRows.{enum_in}
 use Rattle.fb_schema.proofs.FindLemmas.{find_filter, found_item, no_item}
 use Rattle.fb_schema.proofs.LegalLemmas.{legal_clear}
 use Rattle.fb_schema.proofs.MemberLemmas.{value_not_again}
@@ -24,10 +25,10 @@ use Rattle.fb_schema.proofs.PlaceLemmas.{alike_one}
 use Rattle.fb_schema.proofs.WalkLemmas.{mapped_at}
 
 -- a union's row
-pub union_at : (enums : List EnumRow) (n : ℕ) → IsTrue (is_some_union (slice_get (map enum_of enums) n)) → (row : EnumRow) × (slice_get enums n ≡ Some row) × (row.is_union ≡ true)
-union_at [] n h = absurd (let w : false ≡ true = h in cc)
-union_at (e ∷ es) zero h = (e, refl, h)
-union_at (e ∷ es) (suc n) h = union_at es n h
+pub union_at : (all : List MemberRow) (enums : List EnumPart) (n : ℕ) → IsTrue (is_some_union (slice_get (map (enum_in all) enums) n)) → (row : EnumPart) × (slice_get enums n ≡ Some row) × (row.is_union ≡ true)
+union_at all [] n h = absurd (let w : false ≡ true = h in cc)
+union_at all (e ∷ es) zero h = (e, refl, h)
+union_at all (e ∷ es) (suc n) h = union_at all es n h
 
 pub read_within : {X : Type 0} (xs : List X) (n : ℕ) (x : X) → slice_get xs n ≡ Some x → n < length xs
 read_within [] n x e = absurd (let w : None ≡ Some x = e in cc)
@@ -49,21 +50,17 @@ union_members true ms e = refl
 union_members false ms e = absurd (let w : false ≡ true = e in cc)
 
 -- no member of a union of legal rows breaks a demand
-pub members_clear : (rows : Rows) (enums : List EnumRow) → rows.enums ≡ map enum_of enums → IsLegal rows → (n : ℕ) (row : EnumRow) → slice_get enums n ≡ Some row → row.is_union ≡ true → (q : ℕ) → first_code (members_asked rows (map member_of_row row.members.items) q) ≡ None
-members_clear rows enums same legal n row at union q =
-    let here : slice_get rows.enums n ≡ Some (enum_of row) = ap (λ es. slice_get es n) same ∙ mapped_at enum_of enums n row at in
-    sym (ap first_code (ap (demands_of_enum rows (suc q)) here ∙ union_list row.is_union (members_asked rows (map member_of_row row.members.items) q) union))
+pub members_clear : (rows : Rows) (all : List MemberRow) (enums : List EnumPart) → rows.enums ≡ map (enum_in all) enums → IsLegal rows → (n : ℕ) (row : EnumPart) → slice_get enums n ≡ Some row → row.is_union ≡ true → (q : ℕ) → first_code (members_asked rows (map member_of_row (part all row.members)) q) ≡ None
+members_clear rows all enums same legal n row at union q =
+    let here : slice_get rows.enums n ≡ Some (enum_in all row) = ap (λ es. slice_get es n) same ∙ mapped_at (enum_in all) enums n row at in
+    sym (ap first_code (ap (demands_of_enum rows (suc q)) here ∙ union_list row.is_union (members_asked rows (map member_of_row (part all row.members)) q) union))
     ∙ legal_clear rows legal 1 n (suc q)
 
 -- the members of a union are those of its row
-pub members_read : (rows : Rows) (enums : List EnumRow) → rows.enums ≡ map enum_of enums → (n : ℕ) (row : EnumRow) → slice_get enums n ≡ Some row → row.is_union ≡ true → members_in (slice_get rows.enums n) ≡ filter (λ m. is_member_value m.value) (map member_of_row row.members.items)
-members_read rows enums same n row at union =
-    ap members_in (ap (λ es. slice_get es n) same ∙ mapped_at enum_of enums n row at)
-    ∙ union_members row.is_union (filter (λ m. is_member_value m.value) (map member_of_row row.members.items)) union
-
--- all members of a union are kept
-pub union_kept : (row : EnumRow) → row.is_union ≡ true → kept_members row ≡ row.members.items
-union_kept row union = ap (λ b. if b then row.members.items else []) union
+pub members_read : (rows : Rows) (all : List MemberRow) (enums : List EnumPart) → rows.enums ≡ map (enum_in all) enums → (n : ℕ) (row : EnumPart) → slice_get enums n ≡ Some row → row.is_union ≡ true → members_in (slice_get rows.enums n) ≡ filter (λ m. is_member_value m.value) (map member_of_row (part all row.members))
+members_read rows all enums same n row at union =
+    ap members_in (ap (λ es. slice_get es n) same ∙ mapped_at (enum_in all) enums n row at)
+    ∙ union_members row.is_union (filter (λ m. is_member_value m.value) (map member_of_row (part all row.members))) union
 
 pub both_true : (a b : Bool) → (a && b) ≡ true → b ≡ true
 both_true true b h = h
@@ -121,10 +118,10 @@ module _ (rows : Rows) (members : List MemberRow) (clear : (q : ℕ) → first_c
       never j (member_value x) low (ap (λ z. int_cmp z (pos v)) (get_or-map member_value members j x (member_value x) low) ∙ (Equal-is (int_cmp (get_or members j x).value (pos v))).0 ((signed_Decides (get_or members j x).value (pos v)).1 there)))
 
 -- what is looked up of a union, over its row
-pub member_of_row_is : (rows : Rows) (enums : List EnumRow) → rows.enums ≡ map enum_of enums → (n : ℕ) (row : EnumRow) → slice_get enums n ≡ Some row → row.is_union ≡ true → (v : ℕ)
-    → member_of rows n v ≡ option_and_then (λ m. kind_of rows m.ty) (find (λ m. int_eq m.value (pos v)) (filter (λ m. is_member_value m.value) (map member_of_row row.members.items)))
+pub member_of_row_is : (rows : Rows) (all : List MemberRow) (enums : List EnumPart) → rows.enums ≡ map (enum_in all) enums → (n : ℕ) (row : EnumPart) → slice_get enums n ≡ Some row → row.is_union ≡ true → (v : ℕ)
+    → member_of rows n v ≡ option_and_then (λ m. kind_of rows m.ty) (find (λ m. int_eq m.value (pos v)) (filter (λ m. is_member_value m.value) (map member_of_row (part all row.members))))
 unfolding member_of
-member_of_row_is rows enums same n row at union v = ap (λ ms. option_and_then (λ (m : Member). kind_of rows m.ty) (find (λ m. int_eq m.value (pos v)) ms)) (members_read rows enums same n row at union)
+member_of_row_is rows all enums same n row at union v = ap (λ ms. option_and_then (λ (m : Member). kind_of rows m.ty) (find (λ m. int_eq m.value (pos v)) ms)) (members_read rows all enums same n row at union)
 
 zero_test : (z : ℤ) → (is_member_value z && int_eq z (pos 0)) ≡ true → ⊥
 zero_test z h = go z ((signed_Decides z (pos 0)).0 (both_true (is_member_value z) (int_eq z (pos 0)) h)) h where

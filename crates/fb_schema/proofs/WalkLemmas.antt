@@ -13,11 +13,12 @@ use Rattle.std.specs.Cmp.Lexicographic.{slice_cmp}
 use Rattle.std.specs.Ordering.{nat_cmp, int_cmp}
 use Rattle.std.specs.Str.{bytes_eq}
 use Rattle.std.specs.declared.cmp.Ordering.TheVariants.{Equal}
-use Rattle.fb_schema.specs.declared.rows.ObjectRow.{ObjectRow}
+use Rattle.fb_schema.specs.declared.flat.ObjectPart.{ObjectPart}
 use Rattle.fb_schema.specs.declared.rows.FieldRow.{FieldRow}
 use Rattle.fb_schema.specs.declared.rows.MemberRow.{MemberRow}
 use Rattle.fb_schema.specs.Sorting.{IsAgain, IsFirstAgain, name_cmp, object_name, field_name, field_slot, member_value}
-use Rattle.fb_schema.specs.Rows.{Rows, field_of, object_of, member_of_row}
+use Rattle.fb_schema.specs.Rows.{Rows, field_of, member_of_row}
+use Rattle.fb_schema.specs.FlatRows.{object_in}
 use Rattle.fb_schema.specs.Demands.{Demand, is_at, first_code, stands_before, same_object_name, same_field_name, same_slot, same_value, struct_field_demands, struct_asked, demands_of_struct_field, Demand, table_field_demands, table_asked, demands_of_table_field, stands_below}
 use Rattle.fb_schema.specs.declared.kinds.TypeField.TheVariants.{ForUnion, ForUnions}
 use Rattle.fb_schema.proofs.DemandLaws.{passed_over, clear_line}
@@ -37,8 +38,8 @@ names_total = on_total (λ (b : Bor (List ℕ)). b.now) nat_list_cmp_total
 pub field_names_agree : (a b : FieldRow) → Decides (same_field_name (field_of a) (field_of b)) (name_cmp (field_name a) (field_name b) ≡ Equal)
 field_names_agree a b = names_agree a.name.now b.name.now
 
-pub object_names_agree : (a b : ObjectRow) → Decides (same_object_name (object_of a) (object_of b)) (name_cmp (object_name a) (object_name b) ≡ Equal)
-object_names_agree a b = names_agree a.name.now b.name.now
+pub object_names_agree : (fields : List FieldRow) (a b : ObjectPart) → Decides (same_object_name (object_in fields a) (object_in fields b)) (name_cmp (object_name a) (object_name b) ≡ Equal)
+object_names_agree fields a b = names_agree a.name.now b.name.now
 
 pub slots_agree : (a b : FieldRow) → Decides (same_slot (field_of a) (field_of b)) (nat_cmp (field_slot a) (field_slot b) ≡ Equal)
 slots_agree a b = (

@@ -1,12 +1,13 @@
 -- What the index of a schema has to do with its rows.
-use Rattle.std.specs.Prelude.{[], if◌then◌else◌, ◌≡◌, ◌+◌, ◌<◌, ◌≤◌, ℕ, List, map, length, drop, slice_index_or, Some}
+use Rattle.std.specs.Prelude.{[], Bool, if◌then◌else◌, ◌≡◌, ◌+◌, ◌<◌, ◌≤◌, ℕ, List, map, length, drop, slice_index_or, Some}
 use Rattle.std.specs.List.{position_or_len}
 use Rattle.std.specs.Borrow.{Bor}
-use Rattle.fb_schema.specs.declared.rows.EnumRow.{EnumRow}
+use Rattle.fb_schema.specs.declared.flat.EnumPart.{EnumPart}
 use Rattle.fb_schema.specs.declared.rows.MemberRow.{MemberRow}
 use Rattle.fb_schema.specs.declared.views.FieldView.{FieldView}
 use Rattle.fb_schema.specs.declared.index.LiveIndex.{LiveIndex}
 use Rattle.fb_schema.specs.declared.index.MemberIndex.{MemberIndex}
+use Rattle.fb_schema.specs.Flat.{part}
 use Rattle.fb_schema.specs.FlatLists.{lists_of}
 use Rattle.fb_schema.specs.Live.{Live, live_of_view, live_in, required_end_of, widest_of}
 use Rattle.fb_schema.specs.Matched.{AreMatched}
@@ -36,11 +37,11 @@ pub record IsLiveIndex {A : Type 0} (rows : Rows) (objects : List Object) (index
   pub widest : index.widest ≡ widest_of objects
   pub few : index.widest ≤ 32766
 
--- the members of a union
-abbrev pub kept_members : EnumRow → List MemberRow
-kept_members row = if row.is_union then row.members.items else []
+-- the members of an enum that are kept: those of a union
+abbrev pub kept_members : Bool → List MemberRow → List MemberRow
+kept_members is_union members = if is_union then members else []
 
 -- what the types of the unions among these enums lead to, and the orders of their members' names
-pub record IsMemberIndex {A : Type 0} (rows : Rows) (enums : List EnumRow) (index : MemberIndex A) : Type 0 where
-  pub targets : HaveTargets rows enums (lists_of index.places) (lists_of index.targets)
-  pub names : AreMatched (λ row order. IsOrderOf member_cmp (map member_key (kept_members row)) order) enums (lists_of index.names)
+pub record IsMemberIndex {A : Type 0} (rows : Rows) (members : List MemberRow) (enums : List EnumPart) (index : MemberIndex A) : Type 0 where
+  pub targets : HaveTargets rows members enums (lists_of index.places) (lists_of index.targets)
+  pub names : AreMatched (λ row order. IsOrderOf member_cmp (map member_key (kept_members row.is_union (part members row.members))) order) enums (lists_of index.names)

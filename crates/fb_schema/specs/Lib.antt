@@ -13,6 +13,7 @@ pub mod LookUps
 -- What proofs alone need.
 pub mod Flat
 pub mod FlatLists
+pub mod FlatRows
 pub mod Heads
 pub mod Index
 pub mod Indexed

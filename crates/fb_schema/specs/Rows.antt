@@ -1,14 +1,12 @@
 -- The rows of a schema, as contracts see them: plain records without references.
-use Rattle.std.specs.Prelude.{ℕ, ◌<◌, ◌^◌, All, length, vec_len, ℤ, pos, negsuc, Bool, false, not, List, map, slice_get, Option, Some, None, option_map, position, if◌then◌else◌}
+use Rattle.std.specs.Prelude.{ℕ, ◌<◌, ◌^◌, All, length, vec_len, ℤ, pos, negsuc, Bool, false, not, List, map, slice_get, Option, Some, None, position, if◌then◌else◌}
 use Rattle.std.specs.Option.{option_and_then}
 use Rattle.std.specs.Str.{bytes_eq}
 use Rattle.fb_schema.specs.declared.rows.TypeRow.{TypeRow}
 use Rattle.fb_schema.specs.declared.rows.FieldRow.{FieldRow}
 use Rattle.fb_schema.specs.declared.rows.ObjectRow.{ObjectRow}
 use Rattle.fb_schema.specs.declared.rows.MemberRow.{MemberRow}
-use Rattle.std.specs.Borrow.{Bor}
 use Rattle.fb_schema.specs.declared.rows.EnumRow.{EnumRow}
-use Rattle.fb_schema.specs.declared.types.RowLists.{RowLists}
 
 -- a field of a table or struct
 pub record Field : Type 0 where
@@ -92,17 +90,6 @@ is_some_union (Some e) = e.is_union
 -- the enum of this number is a union
 abbrev pub is_union : Rows → ℕ → Bool
 is_union rows n = is_some_union (slice_get rows.enums n)
-
--- the rows that two borrowed lists have
-abbrev pub borrowed_rows : RowLists → Rows
-borrowed_rows r = rows_of r.objects.now r.enums.now
-
--- an object that was found, without where it lies in memory
-abbrev pub found_object : Option (Bor ObjectRow) → Option Object
-found_object found = option_map (λ o. object_of o.now) found
-
-abbrev pub found_enum : Option (Bor EnumRow) → Option Enum
-found_enum found = option_map (λ e. enum_of e.now) found
 
 -- every list has fewer than 2 ^ 31 items
 pub record AreFew (os : List ObjectRow) (es : List EnumRow) : Type 0 where

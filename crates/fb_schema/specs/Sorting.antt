@@ -11,7 +11,7 @@ use Rattle.std.specs.List.{list_any}
 use Rattle.fb_schema.specs.declared.kinds.TypeField.{TypeField}
 use Rattle.fb_schema.specs.Rows.{Field}
 use Rattle.fb_schema.specs.Demands.{stands_below}
-use Rattle.fb_schema.specs.declared.rows.ObjectRow.{ObjectRow}
+use Rattle.fb_schema.specs.declared.flat.ObjectPart.{ObjectPart}
 use Rattle.fb_schema.specs.declared.rows.FieldRow.{FieldRow}
 use Rattle.fb_schema.specs.declared.rows.MemberRow.{MemberRow}
 
@@ -52,7 +52,7 @@ name_cmp a b = slice_cmp nat_cmp a.now b.now
 abbrev pub member_cmp : Bool × Bor (List ℕ) → Bool × Bor (List ℕ) → Ordering
 member_cmp a b = ordering_then (bool_cmp a.0 b.0) (name_cmp a.1 b.1)
 
-abbrev pub object_name : ObjectRow → Bor (List ℕ)
+abbrev pub object_name : ObjectPart → Bor (List ℕ)
 object_name o = o.name
 
 abbrev pub field_name : FieldRow → Bor (List ℕ)

@@ -4,12 +4,13 @@ use Rattle.std.specs.Option.{option_and_then}
 use Rattle.std.specs.Ordering.{int_eq, int_cmp}
 use Rattle.fb_schema.specs.declared.kinds.Kind.{Kind}
 use Rattle.fb_schema.specs.declared.kinds.Kind.TheVariants.{Scalar, Text, Struct, Table, Union, Scalars, Texts, Structs, Tables, Unions}
-use Rattle.fb_schema.specs.declared.rows.EnumRow.{EnumRow}
+use Rattle.fb_schema.specs.declared.flat.EnumPart.{EnumPart}
 use Rattle.fb_schema.specs.declared.rows.MemberRow.{MemberRow}
 use Rattle.fb_schema.specs.declared.views.Goal.{Goal}
 use Rattle.fb_schema.specs.declared.views.Goal.TheVariants.{Nothing, Text as AText, Table as ATable, Struct as AStruct}
 use Rattle.fb_schema.specs.declared.views.Target.{Target}
 use Rattle.fb_schema.specs.Demands.{first_code, members_asked}
+use Rattle.fb_schema.specs.Flat.{part}
 use Rattle.fb_schema.specs.Kinds.{kind_of, struct_size, struct_align}
 use Rattle.fb_schema.specs.Members.{is_member_value}
 use Rattle.fb_schema.specs.Rows.{Rows, Member, member_of_row}
@@ -57,11 +58,11 @@ pub record AreTargets (rows : Rows) (members : List Member) (places : List ℕ) 
   pub at : (value : ℕ) → value < 256 → target_at places targets value ≡ target_of rows (kind_among rows members value)
 
 -- the same of each union among these enums
-pub record HaveTargets (rows : Rows) (enums : List EnumRow) (places : List (List ℕ)) (targets : List (List Target)) : Type 0 where
+pub record HaveTargets (rows : Rows) (members : List MemberRow) (enums : List EnumPart) (places : List (List ℕ)) (targets : List (List Target)) : Type 0 where
   pub long_places : length places ≡ length enums
   pub long_targets : length targets ≡ length enums
-  pub at : (n : ℕ) (row : EnumRow) (ps : List ℕ) (ts : List Target) → slice_get enums n ≡ Some row → slice_get places n ≡ Some ps → slice_get targets n ≡ Some ts
-      → row.is_union ≡ true → AreTargets rows (map member_of_row row.members.items) ps ts
+  pub at : (n : ℕ) (row : EnumPart) (ps : List ℕ) (ts : List Target) → slice_get enums n ≡ Some row → slice_get places n ≡ Some ps → slice_get targets n ≡ Some ts
+      → row.is_union ≡ true → AreTargets rows (map member_of_row (part members row.members)) ps ts
 
 -- the values of members that break no demand in order, and their kinds
 pub record AreSorted (rows : Rows) (members : List MemberRow) (values : List (ℤ × ℕ)) (kinds : List (Option Kind)) : Type 0 where

@@ -1,14 +1,17 @@
 // What is demanded of each row, asked in the order of the definition's lists.
 
-ghost use Rattle.std.specs.Prelude.{◌≡◌};
-ghost use Rattle.fb_schema.specs.Rows.{field_of, object_of, member_of_row, borrowed_rows};
+ghost use Rattle.std.specs.Prelude.{◌≡◌, List};
+ghost use Rattle.fb_schema.specs.declared.rows.FieldRow.{FieldRow};
+ghost use Rattle.fb_schema.specs.FlatRows.{object_in, borrowed_rows};
+ghost use Rattle.fb_schema.specs.Rows.{field_of, member_of_row};
 ghost use Rattle.fb_schema.specs.Kinds.{shape_of};
 ghost use Rattle.fb_schema.specs.Demands.{first_code, is_alignment, passes_end, lacks_type_field, object_demands, struct_field_demands, table_field_demands, member_demands};
 
 use crate::fault::Code;
+use crate::flat::{ObjectPart, RowLists};
 use crate::kinds::{Element, Shape};
-use crate::rows::{FieldRow, MemberRow, ObjectRow};
-use crate::types::{RowLists, is_for_member, is_inline, is_supported, shape_of};
+use crate::rows::{FieldRow, MemberRow};
+use crate::types::{is_for_member, is_inline, is_supported, shape_of};
 
 /// Whether a struct may have this alignment: a power of two from 1 to 256.
 fn is_alignment(minalign: i32) -> bool
@@ -21,8 +24,8 @@ fn is_alignment(minalign: i32) -> bool
 }
 
 /// The code of the first demand that an object breaks before its list.
-pub fn object_fault(object: &ObjectRow, named: bool) -> Option<Code>
-    ensures { result ≡ first_code (object_demands (object_of object.now) named) }
+pub fn object_fault(object: &ObjectPart, named: bool) -> Option<Code>
+    ensures { (fields : List FieldRow) → result ≡ first_code (object_demands (object_in fields object.now) named) }
 {
     if named {
         Some(Code::NameTwice)
@@ -34,7 +37,7 @@ pub fn object_fault(object: &ObjectRow, named: bool) -> Option<Code>
 }
 
 /// Whether a field ends past the end of its struct.
-fn passes_end(rows: &RowLists, object: &ObjectRow, field: &FieldRow) -> bool
+fn passes_end(rows: &RowLists, object: &ObjectPart, field: &FieldRow) -> bool
     ensures { result ≡ passes_end (borrowed_rows rows.now) object.now.bytesize (field_of field.now) }
 {
     let end = i64::from(field.slot) + rows.inline_bytes(field.ty);
@@ -44,7 +47,7 @@ fn passes_end(rows: &RowLists, object: &ObjectRow, field: &FieldRow) -> bool
 /// The code of the first demand that a field of a struct breaks.
 pub fn struct_field_fault(
     rows: &RowLists,
-    object: &ObjectRow,
+    object: &ObjectPart,
     field: &FieldRow,
     named: bool,
 ) -> Option<Code>

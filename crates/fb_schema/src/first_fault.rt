@@ -3,17 +3,18 @@
 ghost use Rattle.std.specs.Prelude.{◌≡◌, ◌<◌, ◌^◌, pos, not, ◌&&◌, map, length, IfOk, OnOk, IfErr, All, vec_len};
 ghost use Rattle.std.specs.Ordering.{int_eq};
 ghost use Rattle.fb_schema.specs.Sorting.{IsOrderOf, name_cmp, object_name};
-ghost use Rattle.fb_schema.specs.Rows.{field_of, object_of, enum_of, borrowed_rows};
+ghost use Rattle.fb_schema.specs.Rows.{field_of, member_of_row};
+ghost use Rattle.fb_schema.specs.FlatRows.{borrowed_rows};
 ghost use Rattle.fb_schema.specs.Demands.{is_at, IsFirstOf, struct_asked, table_asked, members_asked, demands_of_field};
 
 use crate::demands::{Beside, member_fault, object_fault, struct_field_fault, table_field_fault};
 use crate::fault::Code;
+use crate::flat::{ObjectPart, RowLists};
 use crate::keys::{in_order, is_none};
 use crate::kinds::TypeField;
-use crate::rows::{EnumRow, FieldRow, MemberRow, ObjectRow};
+use crate::rows::{FieldRow, MemberRow};
 use crate::sorting::first_again;
 use crate::type_fields::{stands_below, type_slots};
-use crate::types::RowLists;
 use std::alloc::{AllocError, Allocator};
 
 /// The first demand that a part breaks, with the part's place. An error comes only where memory was refused.
@@ -33,7 +34,7 @@ pub fn is_at(again: Option<u32>, place: usize) -> bool
 pub fn struct_fields_fault<A: Allocator + Copy>(
     alloc: A,
     rows: &RowLists,
-    object: &ObjectRow,
+    object: &ObjectPart,
     fields: &[FieldRow],
 ) -> FirstFault
     requires { length fields.now < 2 ^ 31 }
@@ -92,11 +93,14 @@ fn is_named(member: &MemberRow, again: Option<u32>, place: usize) -> bool
 }
 
 /// The first demand that a member of a union breaks, with the member's place.
-pub fn members_fault<A: Allocator + Copy>(alloc: A, rows: &RowLists, row: &EnumRow) -> FirstFault
-    requires { vec_len row.now.members < 2 ^ 31 }
-    ensures { IfOk result (λ first. IsFirstOf (members_asked (borrowed_rows rows.now) (enum_of row.now).members) first) }
+pub fn members_fault<A: Allocator + Copy>(
+    alloc: A,
+    rows: &RowLists,
+    members: &[MemberRow],
+) -> FirstFault
+    requires { length members.now < 2 ^ 31 }
+    ensures { IfOk result (λ first. IsFirstOf (members_asked (borrowed_rows rows.now) (map member_of_row members.now)) first) }
 {
-    let members = row.members.as_slice();
     let values = in_order(alloc, members, |member| member.value)?;
     let names = in_order(alloc, members, |member| (is_none(member), member.name))?;
     let value_again = first_again(&values);

@@ -1,22 +1,24 @@
 // How the index of legal rows is made.
 
-ghost use Rattle.std.specs.Prelude.{◌≡◌, ◌<◌, ◌≤◌, ◌^◌, ◌+◌, map, length, take, IfOk, OnOk, All, vec_len};
+ghost use Rattle.std.specs.Prelude.{◌≡◌, ◌<◌, ◌^◌, ◌+◌, map, length, take, IfOk, OnOk, All};
 ghost use Rattle.fb_schema.specs.Sorting.{IsOrderOf, name_cmp};
-ghost use Rattle.fb_schema.specs.Rows.{borrowed_rows, member_of_row};
+ghost use Rattle.fb_schema.specs.Flat.{IsPart};
+ghost use Rattle.fb_schema.specs.FlatRows.{borrowed_rows};
+ghost use Rattle.fb_schema.specs.Rows.{member_of_row};
 ghost use Rattle.fb_schema.specs.Index.{kept_members, view_name, AreNextRequired, IsLiveIndex, IsMemberIndex};
 ghost use Rattle.fb_schema.specs.Kinds.{kind_of};
 ghost use Rattle.fb_schema.specs.Demands.{IsLegal};
 ghost use Rattle.fb_schema.specs.Live.{live_of_view, required_end_of};
 
+use crate::flat::RowLists;
 use crate::index::{LiveIndex, MemberIndex};
 use crate::keys::{in_order, is_none};
 use crate::kinds::Kind;
 use crate::lists::Lists;
 use crate::live::table_views;
-use crate::rows::{EnumRow, MemberRow};
+use crate::rows::MemberRow;
 use crate::steps::{are_plain, field_steps};
 use crate::targets::enum_targets;
-use crate::types::RowLists;
 use crate::views::FieldView;
 use std::alloc::{AllocError, Allocator};
 
@@ -67,22 +69,19 @@ fn member_kinds<A: Allocator>(
 }
 
 /// The members of a union; none of an enum that isn't one.
-fn kept_members<'r, 'n>(row: &'r EnumRow<'n>) -> &'r [MemberRow<'n>]
-    ensures value { result.now ≡ kept_members row.now }
-    ensures fewer { length result.now ≤ vec_len row.now.members }
+fn kept_members<'r, 'n>(is_union: bool, members: &'r [MemberRow<'n>]) -> &'r [MemberRow<'n>]
+    requires { length members.now < 2 ^ 31 }
+    ensures value { result.now ≡ kept_members is_union members.now }
+    ensures few { length result.now < 2 ^ 31 }
 {
-    if row.is_union {
-        row.members.as_slice()
-    } else {
-        &[]
-    }
+    if is_union { members } else { &[] }
 }
 
 impl<'n, A: Allocator + Copy> LiveIndex<'n, A> {
     /// Adds what is kept of the object with this number, behind those before it.
     fn add(&mut self, alloc: A, rows: &RowLists<'_, 'n>, n: usize) -> Result<(), AllocError>
         requires legal { IsLegal (borrowed_rows rows.now) }
-        requires few_fields { All (λ o. vec_len o.fields < 2 ^ 31) rows.now.objects.now }
+        requires parts { All (λ o. IsPart (length rows.now.fields.now) o.fields) rows.now.objects.now }
         requires here { n < length rows.now.objects.now }
         requires before { IsLiveIndex (borrowed_rows rows.now) (take n (borrowed_rows rows.now).objects) self.old }
         ensures { OnOk result (IsLiveIndex (borrowed_rows rows.now) (take (n + 1) (borrowed_rows rows.now).objects) self.new) }
@@ -106,13 +105,13 @@ impl<'n, A: Allocator + Copy> MemberIndex<'n, A> {
     /// Adds what is kept of the enum with this number, behind those before it.
     fn add(&mut self, alloc: A, rows: &RowLists<'_, 'n>, n: usize) -> Result<(), AllocError>
         requires legal { IsLegal (borrowed_rows rows.now) }
-        requires few { All (λ e. vec_len e.members < 2 ^ 31) rows.now.enums.now }
+        requires parts { All (λ e. IsPart (length rows.now.members.now) e.members) rows.now.enums.now }
         requires here { n < length rows.now.enums.now }
-        requires before { IsMemberIndex (borrowed_rows rows.now) (take n rows.now.enums.now) self.old }
-        ensures { OnOk result (IsMemberIndex (borrowed_rows rows.now) (take (n + 1) rows.now.enums.now) self.new) }
+        requires before { IsMemberIndex (borrowed_rows rows.now) rows.now.members.now (take n rows.now.enums.now) self.old }
+        ensures { OnOk result (IsMemberIndex (borrowed_rows rows.now) rows.now.members.now (take (n + 1) rows.now.enums.now) self.new) }
     {
         let row = &rows.enums[n];
-        let members = kept_members(row);
+        let members = kept_members(row.is_union, rows.members_of(row));
         let kinds = member_kinds(alloc, rows, members)?;
         let values = in_order(alloc, members, |member| member.value)?;
         let names = in_order(alloc, members, |member| (is_none(member), member.name))?;
@@ -130,16 +129,18 @@ pub fn live_index<'n, A: Allocator + Copy>(
     rows: &RowLists<'_, 'n>,
 ) -> Result<LiveIndex<'n, A>, AllocError>
     requires legal { IsLegal (borrowed_rows rows.now) }
-    requires few_fields { All (λ o. vec_len o.fields < 2 ^ 31) rows.now.objects.now }
+    requires parts { All (λ o. IsPart (length rows.now.fields.now) o.fields) rows.now.objects.now }
     ensures { IfOk result (IsLiveIndex (borrowed_rows rows.now) (borrowed_rows rows.now).objects) }
 {
+    let tables = rows.objects.len();
+    let fields = rows.fields.len();
     let mut index = LiveIndex {
-        fields: Lists::new(alloc),
-        names: Lists::new(alloc),
-        steps: Lists::new(alloc),
-        required: Vec::new(alloc),
-        plain: Vec::new(alloc),
-        next_required: Lists::new(alloc),
+        fields: Lists::with_capacity(alloc, tables, fields)?,
+        names: Lists::with_capacity(alloc, tables, fields)?,
+        steps: Lists::with_capacity(alloc, tables, fields)?,
+        required: Vec::with_capacity(alloc, tables)?,
+        plain: Vec::with_capacity(alloc, tables)?,
+        next_required: Lists::with_capacity(alloc, tables, fields)?,
         widest: 0,
     };
     for n in 0..rows.objects.len() {
@@ -154,13 +155,15 @@ pub fn member_index<'n, A: Allocator + Copy>(
     rows: &RowLists<'_, 'n>,
 ) -> Result<MemberIndex<'n, A>, AllocError>
     requires legal { IsLegal (borrowed_rows rows.now) }
-    requires few { All (λ e. vec_len e.members < 2 ^ 31) rows.now.enums.now }
-    ensures { IfOk result (IsMemberIndex (borrowed_rows rows.now) rows.now.enums.now) }
+    requires parts { All (λ e. IsPart (length rows.now.members.now) e.members) rows.now.enums.now }
+    ensures { IfOk result (IsMemberIndex (borrowed_rows rows.now) rows.now.members.now rows.now.enums.now) }
 {
+    let unions = rows.enums.len();
+    let members = rows.members.len();
     let mut index = MemberIndex {
-        places: Lists::new(alloc),
-        targets: Lists::new(alloc),
-        names: Lists::new(alloc),
+        places: Lists::with_capacity(alloc, unions, members)?,
+        targets: Lists::with_capacity(alloc, unions, members)?,
+        names: Lists::with_capacity(alloc, unions, members)?,
     };
     for n in 0..rows.enums.len() {
         index.add(alloc, rows, n)?;

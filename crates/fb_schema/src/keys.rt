@@ -4,7 +4,8 @@ ghost use Rattle.std.specs.Prelude.{◌≡◌, ◌<◌, ◌^◌, pos, length, ma
 ghost use Rattle.std.specs.Ordering.{nat_cmp, int_cmp, int_eq};
 ghost use Rattle.fb_schema.specs.Sorting.{IsOrderOf, GivesKeys, name_cmp, member_cmp, object_name, field_name, field_slot, member_value, member_key};
 
-use crate::rows::{FieldRow, MemberRow, ObjectRow};
+use crate::flat::ObjectPart;
+use crate::rows::{FieldRow, MemberRow};
 use crate::sorting::put_in_order;
 use std::alloc::{AllocError, Allocator};
 

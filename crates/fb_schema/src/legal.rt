@@ -1,8 +1,9 @@
 // Rows are refused by the first demand that they break.
 
-ghost use Rattle.std.specs.Prelude.{◌≡◌, ◌<◌, ◌^◌, map, length, IfOk, OnOk, IfErr, All, vec_len};
+ghost use Rattle.std.specs.Prelude.{◌≡◌, ◌<◌, ◌^◌, map, length, IfOk, OnOk, IfErr, All};
 ghost use Rattle.fb_schema.specs.Sorting.{IsOrderOf, IsFirstAgain, name_cmp, object_name};
-ghost use Rattle.fb_schema.specs.Rows.{AreFew, object_of, enum_of, borrowed_rows};
+ghost use Rattle.fb_schema.specs.Flat.{IsPart};
+ghost use Rattle.fb_schema.specs.FlatRows.{object_in, enum_in, borrowed_rows, AreParts};
 ghost use Rattle.fb_schema.specs.Demands.{IsLegal, AreClear, Refuses, IsFirstOf, demands_of_field, demands_of_union};
 
 use crate::demands::object_fault;
@@ -10,17 +11,16 @@ use crate::fault::{Code, SchemaFault};
 use crate::first_fault::{
     FirstFault, is_at, members_fault, struct_fields_fault, table_fields_fault,
 };
-use crate::rows::{EnumRow, ObjectRow};
+use crate::flat::{EnumPart, ObjectPart, RowLists};
 use crate::sorting::first_again;
-use crate::types::RowLists;
 use std::alloc::Allocator;
 
 /// The first demand that a field of an object breaks, with the field's place.
-fn fields_fault<A: Allocator + Copy>(alloc: A, rows: &RowLists, object: &ObjectRow) -> FirstFault
-    requires { vec_len object.now.fields < 2 ^ 31 }
-    ensures { IfOk result (λ first. IsFirstOf (demands_of_field (borrowed_rows rows.now) (object_of object.now)) first) }
+fn fields_fault<A: Allocator + Copy>(alloc: A, rows: &RowLists, object: &ObjectPart) -> FirstFault
+    requires { IsPart (length rows.now.fields.now) object.now.fields }
+    ensures { IfOk result (λ first. IsFirstOf (demands_of_field (borrowed_rows rows.now) (object_in rows.now.fields.now object.now)) first) }
 {
-    let fields = object.fields.as_slice();
+    let fields = rows.fields_of(object);
     if object.is_struct {
         struct_fields_fault(alloc, rows, object, fields)
     } else {
@@ -30,12 +30,12 @@ fn fields_fault<A: Allocator + Copy>(alloc: A, rows: &RowLists, object: &ObjectR
 
 /// The first demand that a member of an enum breaks, with the member's place. An enum that is no union is asked
 /// nothing.
-fn union_fault<A: Allocator + Copy>(alloc: A, rows: &RowLists, row: &EnumRow) -> FirstFault
-    requires { vec_len row.now.members < 2 ^ 31 }
-    ensures { IfOk result (λ first. IsFirstOf (demands_of_union (borrowed_rows rows.now) (enum_of row.now)) first) }
+fn union_fault<A: Allocator + Copy>(alloc: A, rows: &RowLists, row: &EnumPart) -> FirstFault
+    requires { IsPart (length rows.now.members.now) row.now.members }
+    ensures { IfOk result (λ first. IsFirstOf (demands_of_union (borrowed_rows rows.now) (enum_in rows.now.members.now row.now)) first) }
 {
     if row.is_union {
-        members_fault(alloc, rows, row)
+        members_fault(alloc, rows, rows.members_of(row))
     } else {
         Ok(None)
     }
@@ -60,7 +60,7 @@ fn objects_legal<A: Allocator + Copy>(
     again: Option<u32>,
 ) -> Result<(), SchemaFault>
     requires few { length rows.now.objects.now < 2 ^ 31 }
-    requires few_fields { All (λ o. vec_len o.fields < 2 ^ 31) rows.now.objects.now }
+    requires parts { All (λ o. IsPart (length rows.now.fields.now) o.fields) rows.now.objects.now }
     requires again { IsFirstAgain name_cmp (map object_name rows.now.objects.now) again }
     ensures clear { OnOk result (AreClear (borrowed_rows rows.now) 0) }
     ensures refused { IfErr result (Refuses (borrowed_rows rows.now)) }
@@ -80,7 +80,7 @@ fn objects_legal<A: Allocator + Copy>(
 /// Refuses unions by the first demand that one of their members breaks.
 fn unions_legal<A: Allocator + Copy>(alloc: A, rows: &RowLists) -> Result<(), SchemaFault>
     requires few { length rows.now.enums.now < 2 ^ 31 }
-    requires few_members { All (λ e. vec_len e.members < 2 ^ 31) rows.now.enums.now }
+    requires parts { All (λ e. IsPart (length rows.now.members.now) e.members) rows.now.enums.now }
     requires objects { AreClear (borrowed_rows rows.now) 0 }
     ensures clear { OnOk result (AreClear (borrowed_rows rows.now) 1) }
     ensures refused { IfErr result (Refuses (borrowed_rows rows.now)) }
@@ -100,7 +100,7 @@ pub fn legal<A: Allocator + Copy>(
     rows: &RowLists,
     order: &[(&[u8], u32)],
 ) -> Result<(), SchemaFault>
-    requires few { AreFew rows.now.objects.now rows.now.enums.now }
+    requires parts { AreParts rows.now.objects.now rows.now.fields.now rows.now.enums.now rows.now.members.now }
     requires order { IsOrderOf name_cmp (map object_name rows.now.objects.now) order.now }
     ensures legal { OnOk result (IsLegal (borrowed_rows rows.now)) }
     ensures refused { IfErr result (Refuses (borrowed_rows rows.now)) }

@@ -8,6 +8,7 @@ pub mod examples;
 mod fault;
 mod few;
 mod first_fault;
+mod flat;
 mod index;
 mod indexing;
 mod keys;

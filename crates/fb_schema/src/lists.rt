@@ -14,16 +14,16 @@ pub struct Lists<T: Drop, A: Allocator> {
 }
 
 impl<T: Copy, A: Allocator + Copy> Lists<T, A> {
-    ghost use Rattle.std.specs.Prelude.{◌≡◌, ◌<◌, [], ◌∷◌, ◌++◌, OnOk, slice_get, Some};
+    ghost use Rattle.std.specs.Prelude.{◌≡◌, ◌<◌, [], ◌∷◌, ◌++◌, IfOk, OnOk, slice_get, Some};
     ghost use Rattle.fb_schema.specs.FlatLists.{lists_of};
 
-    pub fn new(alloc: A) -> Lists<T, A>
-        ensures { lists_of result ≡ [] }
+    /// No lists, with room for so many, and for so many items in all.
+    pub fn with_capacity(alloc: A, lists: usize, items: usize) -> Result<Lists<T, A>, AllocError>
+        ensures { IfOk result (λ all. lists_of all ≡ []) }
     {
-        Lists {
-            ranges: Vec::new(alloc),
-            rows: Vec::new(alloc),
-        }
+        let ranges = Vec::with_capacity(alloc, lists)?;
+        let rows = Vec::with_capacity(alloc, items)?;
+        Ok(Lists { ranges, rows })
     }
 
     /// Adds a list at the end.

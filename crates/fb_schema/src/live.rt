@@ -1,12 +1,14 @@
 // The live fields of tables in rising slot.
 
-ghost use Rattle.std.specs.Prelude.{◌≡◌, ◌<◌, ◌^◌, ◌+◌, ◌==◌, filter, map, filter_map, position, length, vec_len, IfOk, false, ◌≤◌};
-ghost use Rattle.fb_schema.specs.Rows.{field_of, object_of, borrowed_rows};
+ghost use Rattle.std.specs.Prelude.{◌≡◌, ◌<◌, ◌^◌, ◌+◌, ◌==◌, filter, map, filter_map, position, length, IfOk, false, ◌≤◌};
+ghost use Rattle.fb_schema.specs.Rows.{field_of};
+ghost use Rattle.fb_schema.specs.Flat.{part, IsPart};
+ghost use Rattle.fb_schema.specs.FlatRows.{object_in, borrowed_rows};
 ghost use Rattle.fb_schema.specs.Live.{is_live, by_slot, companion_of, live_as, live_of, live_of_view, live_in, AreApart, AreRising, AreKinded, AreSpaced};
 
+use crate::flat::{ObjectPart, RowLists};
 use crate::kinds::Kind;
-use crate::rows::{FieldRow, ObjectRow};
-use crate::types::RowLists;
+use crate::rows::FieldRow;
 use crate::views::FieldView;
 use std::alloc::{AllocError, Allocator};
 
@@ -108,21 +110,21 @@ fn views<'n, A: Allocator>(
 /// The live fields of an object, none where it is a struct.
 pub fn table_views<'n, A: Allocator + Copy>(
     alloc: A,
-    rows: &RowLists,
-    object: &ObjectRow<'n>,
+    rows: &RowLists<'_, 'n>,
+    object: &ObjectPart<'n>,
 ) -> Result<Vec<FieldView<'n>, A>, AllocError>
-    requires few { vec_len object.now.fields < 2 ^ 31 }
-    requires apart { object.now.is_struct ≡ false → AreApart (map field_of object.now.fields.items) }
-    requires kinds { object.now.is_struct ≡ false → AreKinded (borrowed_rows rows.now) (by_slot (filter is_live (map field_of object.now.fields.items))) }
-    requires spaced { object.now.is_struct ≡ false → AreSpaced (by_slot (filter is_live (map field_of object.now.fields.items))) }
-    ensures value { IfOk result (λ views. map live_of_view views.items ≡ live_in (borrowed_rows rows.now) (Some (object_of object.now))) }
+    requires part { IsPart (length rows.now.fields.now) object.now.fields }
+    requires apart { object.now.is_struct ≡ false → AreApart (map field_of (part rows.now.fields.now object.now.fields)) }
+    requires kinds { object.now.is_struct ≡ false → AreKinded (borrowed_rows rows.now) (by_slot (filter is_live (map field_of (part rows.now.fields.now object.now.fields)))) }
+    requires spaced { object.now.is_struct ≡ false → AreSpaced (by_slot (filter is_live (map field_of (part rows.now.fields.now object.now.fields)))) }
+    ensures value { IfOk result (λ views. map live_of_view views.items ≡ live_in (borrowed_rows rows.now) (Some (object_in rows.now.fields.now object.now))) }
     // A slot is a number of 16 bits.
     ensures few { IfOk result (λ views. length views.items ≤ 32766) }
 {
     if object.is_struct {
         return Ok(Vec::new(alloc));
     }
-    let live = live_rows(alloc, object.fields.as_slice())?;
+    let live = live_rows(alloc, rows.fields_of(object))?;
     let views = views(alloc, rows, &live)?;
     Ok(views)
 }

@@ -14,6 +14,7 @@ ghost use Rattle.fb_schema.specs.Steps.{is_plain, step_of};
 ghost use Rattle.fb_schema.specs.Targets.{target_at, target_of};
 
 use crate::fault::SchemaFault;
+use crate::flat::FlatRows;
 use crate::index::{LiveIndex, MemberIndex};
 use crate::indexing::{live_index, member_index};
 use crate::keys::in_order;
@@ -22,37 +23,36 @@ use crate::legal::legal;
 use crate::rows::{EnumRow, MemberRow, ObjectRow};
 use crate::sorting::place_of;
 use crate::targets::Targets;
-use crate::types::RowLists;
 use crate::views::{FieldView, ObjectView, Step};
 use std::alloc::{Allocator, Global};
 use std::marker::Model;
 
 /// Rows that are legal, with an index by which look-ups answer. Contracts see the rows that were handed in.
 ///
-/// The rows stay in the memory that they came in; the index is in that of the allocator which `build` was given.
+/// Both are in the memory of the allocator which `build` was given.
 #[derive(Drop)]
 pub struct Schema<'n, A: Allocator = Global> {
-    objects: Vec<ObjectRow<'n>>,
-    enums: Vec<EnumRow<'n>>,
+    rows: FlatRows<'n, A>,
     order: Vec<(&'n [u8], u32), A>,
     live: LiveIndex<'n, A>,
     members: MemberIndex<'n, A>,
 }
 
 impl<'n, A: Allocator> Model for Schema<'n, A> {
-    ghost use Rattle.fb_schema.specs.Rows.{Rows, rows_of};
+    ghost use Rattle.fb_schema.specs.Rows.{Rows};
+    ghost use Rattle.fb_schema.specs.FlatRows.{flat_rows};
     ghost use Rattle.fb_schema.specs.Indexed.{IsIndexed};
 
     ghost Value = { Rows };
 
-    ghost view = { λ s. rows_of s.objects.items s.enums.items };
+    ghost view = { λ s. flat_rows s.rows };
 
-    ghost invariant = { λ s. IsIndexed s.objects.items s.enums.items s.order.items s.live s.members };
+    ghost invariant = { λ s. IsIndexed s.rows s.order.items s.live s.members };
 }
 
 impl<'n, A: Allocator + Copy> Schema<'n, A> {
     /// Takes rows that are legal, and refuses others by the first demand that they break (C1 to C8). C9 is answered
-    /// only where a growth was refused. What was handed in is dropped on a refusal.
+    /// only where a growth was refused. What was handed in is dropped once it stands flat.
     pub fn build(
         alloc: A,
         objects: Vec<ObjectRow<'n>>,
@@ -63,17 +63,14 @@ impl<'n, A: Allocator + Copy> Schema<'n, A> {
         ensures rows { IfOk result (λ s. s ≡ rows_of objects.entry.items enums.entry.items) }
         ensures refused { IfErr result (Refuses (rows_of objects.entry.items enums.entry.items)) }
     {
-        let rows = RowLists {
-            objects: objects.as_slice(),
-            enums: enums.as_slice(),
-        };
-        let order = in_order(alloc, rows.objects, |object| object.name)?;
-        legal(alloc, &rows, &order)?;
-        let live = live_index(alloc, &rows)?;
-        let members = member_index(alloc, &rows)?;
+        let rows = FlatRows::new(alloc, objects, enums)?;
+        let lists = rows.lists();
+        let order = in_order(alloc, lists.objects, |object| object.name)?;
+        legal(alloc, &lists, &order)?;
+        let live = live_index(alloc, &lists)?;
+        let members = member_index(alloc, &lists)?;
         Ok(Schema {
-            objects,
-            enums,
+            rows,
             order,
             live,
             members,
@@ -87,21 +84,21 @@ impl<'n, A: Allocator + Copy> Schema<'n, A> {
         ensures served { IsServed self.now }
         ensures kinds { HaveKinds self.now }
     {
-        let _objects = &self.objects;
+        let _rows = &self.rows;
     }
 
     /// How many objects there are.
     pub fn object_count(&self) -> u32
         ensures { result ≡ length self.now.objects }
     {
-        self.objects.len() as u32
+        self.rows.objects.len() as u32
     }
 
     /// Whether the object of this number is a table.
     pub fn is_table(&self, n: u32) -> bool
         ensures { result ≡ is_table self.now n }
     {
-        match self.objects.get(n as usize) {
+        match self.rows.objects.get(n as usize) {
             Some(object) => !object.is_struct,
             None => false,
         }
@@ -111,7 +108,7 @@ impl<'n, A: Allocator + Copy> Schema<'n, A> {
     pub fn is_union(&self, e: u32) -> bool
         ensures { result ≡ is_union self.now e }
     {
-        match self.enums.get(e as usize) {
+        match self.rows.enums.get(e as usize) {
             Some(row) => row.is_union,
             None => false,
         }
@@ -122,7 +119,7 @@ impl<'n, A: Allocator + Copy> Schema<'n, A> {
         requires { n < length self.now.objects }
         ensures { option_map head_of (slice_get self.now.objects n) ≡ Some (head_of_view result) }
     {
-        let object = &self.objects[n as usize];
+        let object = &self.rows.objects[n as usize];
         ObjectView {
             name: object.name,
             is_struct: object.is_struct,
@@ -257,7 +254,7 @@ impl<'n, A: Allocator + Copy> Schema<'n, A> {
         let names = self.members.names.get(e as usize);
         match place_of(names, &(false, name)) {
             Some(place) => {
-                let value = self.enums[e as usize].members[place as usize].value;
+                let value = self.rows.members_at(e as usize)[place as usize].value;
                 Some(value.unsigned_abs() as u8)
             }
             None => None,
@@ -271,7 +268,7 @@ impl<'n, A: Allocator + Copy> Schema<'n, A> {
         if value == 0 || !self.is_union(e) {
             return None;
         }
-        name_of(&self.enums[e as usize].members, value)
+        name_of(self.rows.members_at(e as usize), value)
     }
 
     /// The greatest number of live fields of a table, 0 without tables.

@@ -1,7 +1,8 @@
 // What types are and what they name, read off the rows.
 
 ghost use Rattle.std.specs.Prelude.{◌≡◌, Some, option_map, ◌^◌, pos, neg_ℤ, ◌*ℤ◌, ◌<ℤ◌};
-ghost use Rattle.fb_schema.specs.Rows.{entry_at, is_some_table, is_some_union, borrowed_rows, found_object, found_enum};
+ghost use Rattle.fb_schema.specs.Rows.{entry_at, is_some_table, is_some_union};
+ghost use Rattle.fb_schema.specs.FlatRows.{borrowed_rows, found_object, found_enum};
 ghost use Rattle.fb_schema.specs.Kinds.{element_of, shape_of, scalar_size, kind_of, object_kind, union_kind, shape_kind, struct_size, struct_align, kind_size, kind_align};
 ghost use Rattle.fb_schema.specs.Vectors.{vector_of};
 ghost use Rattle.fb_schema.specs.Demands.{is_inline, is_supported, is_for_member, is_object, is_union_shape, is_type_field, names_no_object, names_table, names_no_union, inline_bytes, bytes_in, element_bytes};
@@ -9,21 +10,15 @@ ghost use Rattle.fb_schema.specs.declared.kinds.Kind.{Kind};
 ghost use Rattle.fb_schema.specs.declared.kinds.Shape.{Shape};
 
 use crate::base_type;
+use crate::flat::{EnumPart, ObjectPart, RowLists};
 use crate::kinds::{Element, Kind, Scalar, Shape, TypeField};
-use crate::rows::{EnumRow, ObjectRow, TypeRow};
+use crate::rows::TypeRow;
 
 /// The size and alignment of a value, in bytes.
 #[derive(Clone, Copy)]
 pub struct Layout {
     pub size: u32,
     pub align: u32,
-}
-
-/// The two lists of rows while they are checked.
-#[derive(Clone, Copy)]
-pub struct RowLists<'r, 'n> {
-    pub objects: &'r [ObjectRow<'n>],
-    pub enums: &'r [EnumRow<'n>],
 }
 
 impl Scalar {
@@ -178,16 +173,16 @@ fn entry_at<T>(entries: &[T], index: i32) -> Option<&T>
 impl<'r, 'n> RowLists<'r, 'n> {
     /// The object that an index names.
     #[tactic(auto, using(crate::proofs::LookLemmas::entry_found))]
-    pub fn object_at(&self, index: i32) -> Option<&'r ObjectRow<'n>>
-        ensures { found_object result ≡ entry_at (borrowed_rows self.now).objects index }
+    pub fn object_at(&self, index: i32) -> Option<&'r ObjectPart<'n>>
+        ensures { found_object self.now.fields.now result ≡ entry_at (borrowed_rows self.now).objects index }
     {
         entry_at(self.objects, index)
     }
 
     /// The enum that an index names.
     #[tactic(auto, using(crate::proofs::LookLemmas::entry_found))]
-    pub fn enum_at(&self, index: i32) -> Option<&'r EnumRow<'n>>
-        ensures { found_enum result ≡ entry_at (borrowed_rows self.now).enums index }
+    pub fn enum_at(&self, index: i32) -> Option<&'r EnumPart<'n>>
+        ensures { found_enum self.now.members.now result ≡ entry_at (borrowed_rows self.now).enums index }
     {
         entry_at(self.enums, index)
     }

@@ -1,18 +1,18 @@
-use Rattle.std.proofs.Common.{◌≡◌, ℕ, Option, Some, None, map, get_or, subst, sym, ◌∙◌, below_more, rules}
+use Rattle.std.proofs.Common.{◌≡◌, map, get_or, sym, ◌∙◌, below_more, rules}
 use Rattle.std.proofs.lemmas.Option.{slice_get-get_or}
 use Rattle.std.specs.Ordering.{int_cmp}
-use Rattle.fb_schema.specs.declared.fault.Code.{Code}
 use Rattle.fb_schema.specs.Sorting.{IsFirstAgain, member_cmp, member_value, member_key}
-use Rattle.fb_schema.specs.Rows.{member_of_row, enum_of, borrowed_rows}
-use Rattle.fb_schema.specs.Demands.{first_code, members_asked, IsFirstOf}
+use Rattle.fb_schema.specs.FlatRows.{borrowed_rows}
+use Rattle.fb_schema.specs.Rows.{member_of_row}
+use Rattle.fb_schema.specs.Demands.{first_code, members_asked}
 use Rattle.fb_schema.proofs.Blank.{blank_member}
 use Rattle.fb_schema.proofs.MemberLemmas.{member_code, past_members}
 use Rattle.fb_schema.proofs.first_fault.members_fault.Goals as goal
-use Rattle.fb_schema.proofs.first_fault.members_fault.Goals.{After-as_slice-members, After-member_fault}
+use Rattle.fb_schema.proofs.first_fault.members_fault.Goals.{After-member_fault}
 
-found : (g : _) (c : After-member_fault g) → c.member_fault.result ≡ first_code (members_asked (borrowed_rows c.args.rows.now) (map member_of_row c.as_slice-members.result.now) c.loop-p.p)
+found : (g : _) (c : After-member_fault g) → c.member_fault.result ≡ first_code (members_asked (borrowed_rows c.args.rows.now) (map member_of_row c.args.members.now) c.loop-p.p)
 found g c =
-    let members = c.as_slice-members.result.now in
+    let members = c.args.members.now in
     let p = c.loop-p.p in
     let values : IsFirstAgain int_cmp (map member_value members) c.first_again-value_again.result = c.first_again-value_again.ensures (map member_value members) (rw c.deref.ensures.value (c.in_ok-values.ensures member_value (λ x k r. search rules))) in
     let names : IsFirstAgain member_cmp (map member_key members) c.first_again-name_again.result = c.first_again-name_again.ensures (map member_key members) (rw c.deref-2.ensures.value (c.in_ok-names.ensures member_key (λ x k r. search rules))) in
@@ -20,18 +20,11 @@ found g c =
     ∙ member_code (borrowed_rows c.args.rows.now) members p (get_or members p blank_member) c.first_again-value_again.result c.first_again-name_again.result c.is_at-taken.result c.is_named-named.result (slice_get-get_or members p blank_member c.loop-p-test.true) values names c.loop-p.invariant
     c.is_at-taken.ensures c.is_named-named.ensures
 
--- the members that are gone through are those of the row
-of_row : (g : _) (c : After-as_slice-members g) (first : Option (Code × ℕ)) → IsFirstOf (members_asked (borrowed_rows c.args.rows.now) (map member_of_row c.as_slice-members.result.now)) first
-    → IsFirstOf (members_asked (borrowed_rows c.args.rows.now) (enum_of c.args.row.now).members) first
-of_row g c first h = subst (λ members. IsFirstOf (members_asked (borrowed_rows c.args.rows.now) (map member_of_row members)) first) c.as_slice-members.ensures.value h
-
 pub returns-in-Some : goal.returns-in-Some
-returns-in-Some g c =
-    let at = goal.at.returns-in-Some g c in
-    of_row g at.After-as_slice-members (Some (c.in-Some.code, c.loop-p.p)) (sym (found g at.After-member_fault) ∙ c.in-Some.is, c.loop-p.invariant)
+returns-in-Some g c = (sym (found g (goal.at.returns-in-Some g c).After-member_fault) ∙ c.in-Some.is, c.loop-p.invariant)
 
 pub returns : goal.returns
-returns g c = of_row g (goal.at.returns g c).After-as_slice-members None (past_members _ _ c.loop-p.p c.loop-p-test.false c.loop-p.invariant)
+returns g c = past_members _ _ c.loop-p.p c.loop-p-test.false c.loop-p.invariant
 
 pub loop-p-preserved : goal.loop-p-preserved
 loop-p-preserved g c = below_more _ _ c.loop-p.invariant (sym (found g (goal.at.loop-p-preserved g c).After-member_fault) ∙ c.in_default.is)

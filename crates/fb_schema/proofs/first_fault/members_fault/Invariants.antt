@@ -1,5 +1,6 @@
 use Rattle.std.proofs.Common.{◌≡◌, ◌<◌, ℕ, map, None}
-use Rattle.fb_schema.specs.Rows.{member_of_row, borrowed_rows}
+use Rattle.fb_schema.specs.FlatRows.{borrowed_rows}
+use Rattle.fb_schema.specs.Rows.{member_of_row}
 use Rattle.fb_schema.specs.Demands.{first_code, members_asked}
 use Rattle.fb_schema.proofs.first_fault.members_fault.Given as goal
 

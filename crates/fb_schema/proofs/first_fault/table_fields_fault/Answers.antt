@@ -3,7 +3,8 @@ use Rattle.std.proofs.lemmas.Option.{slice_get-get_or}
 use Rattle.std.specs.Ordering.{nat_cmp}
 use Rattle.fb_schema.specs.declared.kinds.TypeField.TheVariants.{ForUnion, ForUnions}
 use Rattle.fb_schema.specs.Sorting.{IsFirstAgain, name_cmp, field_name, field_slot, AreTypeSlots}
-use Rattle.fb_schema.specs.Rows.{field_of, borrowed_rows}
+use Rattle.fb_schema.specs.FlatRows.{borrowed_rows}
+use Rattle.fb_schema.specs.Rows.{field_of}
 use Rattle.fb_schema.specs.Demands.{first_code, table_asked}
 use Rattle.fb_schema.proofs.Blank.{blank_field}
 use Rattle.fb_schema.proofs.WalkLemmas.{table_code}

@@ -1,5 +1,6 @@
 use Rattle.std.proofs.Common.{◌≡◌, ◌<◌, ℕ, map, None}
-use Rattle.fb_schema.specs.Rows.{field_of, borrowed_rows}
+use Rattle.fb_schema.specs.FlatRows.{borrowed_rows}
+use Rattle.fb_schema.specs.Rows.{field_of}
 use Rattle.fb_schema.specs.Demands.{first_code, table_asked}
 use Rattle.fb_schema.proofs.first_fault.table_fields_fault.Given as goal
 

@@ -1,5 +1,5 @@
 use Rattle.std.proofs.Common.{take}
-use Rattle.fb_schema.specs.Rows.{borrowed_rows}
+use Rattle.fb_schema.specs.FlatRows.{borrowed_rows}
 use Rattle.fb_schema.specs.Index.{IsLiveIndex}
 use Rattle.fb_schema.proofs.indexing.live_index.Given as goal
 

@@ -1,7 +1,7 @@
 use Rattle.std.proofs.Common.{take}
-use Rattle.fb_schema.specs.Rows.{borrowed_rows}
+use Rattle.fb_schema.specs.FlatRows.{borrowed_rows}
 use Rattle.fb_schema.specs.Index.{IsMemberIndex}
 use Rattle.fb_schema.proofs.indexing.member_index.Given as goal
 
 abbrev pub invariant-loop-n : goal.invariant-loop-n
-invariant-loop-n g l = IsMemberIndex (borrowed_rows l.rows) (take l.n l.rows.enums.now) l.index
+invariant-loop-n g l = IsMemberIndex (borrowed_rows l.rows) l.rows.members.now (take l.n l.rows.enums.now) l.index

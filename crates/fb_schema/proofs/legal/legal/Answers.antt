@@ -1,4 +1,4 @@
-use Rattle.fb_schema.specs.Rows.{borrowed_rows}
+use Rattle.fb_schema.specs.FlatRows.{borrowed_rows}
 use Rattle.fb_schema.proofs.OwnerLemmas.{legal_if}
 use Rattle.fb_schema.proofs.legal.legal.Goals as goal
 

@@ -1,4 +1,4 @@
-use Rattle.fb_schema.specs.Rows.{borrowed_rows}
+use Rattle.fb_schema.specs.FlatRows.{borrowed_rows}
 use Rattle.fb_schema.proofs.DemandLaws.{AreClearBelow}
 use Rattle.fb_schema.proofs.legal.unions_legal.Given as goal
 

@@ -1,7 +1,8 @@
 use Rattle.std.proofs.Common.{map, get_or, Some, IsSome, option_map, sym, ap, subst, ◌∙◌, rules}
 use Rattle.std.proofs.lemmas.Option.{slice_get-get_or}
 use Rattle.fb_schema.specs.Live.{live_as, live_of, live_of_view}
-use Rattle.fb_schema.specs.Rows.{field_of, borrowed_rows}
+use Rattle.fb_schema.specs.FlatRows.{borrowed_rows}
+use Rattle.fb_schema.specs.Rows.{field_of}
 use Rattle.fb_schema.proofs.Blank.{blank_field}
 use Rattle.fb_schema.proofs.IndexLemmas.{few_step}
 use Rattle.fb_schema.proofs.Kept.{kept_step}

@@ -4,7 +4,8 @@ use Rattle.fb_schema.specs.FlatLists.{lists_of}
 use Rattle.fb_schema.specs.Index.{view_name}
 use Rattle.fb_schema.specs.Live.{Live, live_in, live_fields, live_of_view}
 use Rattle.fb_schema.specs.Sorting.{name_cmp}
-use Rattle.fb_schema.specs.Rows.{Rows, rows_of, object_of, is_table}
+use Rattle.fb_schema.specs.FlatRows.{flat_rows, object_in}
+use Rattle.fb_schema.specs.Rows.{Rows, is_table}
 use Rattle.fb_schema.proofs.LookLemmas.{live_read}
 use Rattle.fb_schema.proofs.NameLemmas.{table_at, view_not_again}
 use Rattle.fb_schema.proofs.Numbers.{slice_get_some}
@@ -17,20 +18,20 @@ pub returns : goal.returns
 unfolding live_fields
 returns g c =
     let s = c.self.inside in
-    let rows = rows_of s.objects.items s.enums.items in
+    let rows = flat_rows s.rows in
     let n = c.args.n in
     let name = c.args.name in
-    let t = table_at s.objects.items n (subst (λ (r : Rows). IsTrue (is_table r n)) (sym c.self.view_is) c.requires) in
+    let t = table_at s.rows.fields.items s.rows.objects.items n (subst (λ (r : Rows). IsTrue (is_table r n)) (sym c.self.view_is) c.requires) in
     let lists = lists_of s.live.fields in
     let long = c.self.invariant.fields.names.long in
     let in_names = read_within (lists_of s.live.names) n c.get.result.now c.get.ensures in
     let views = slice_get_some lists n (omega arith) in
     let order = c.self.invariant.fields.names.at n views.0 c.get.result.now views.1 c.get.ensures in
     let value = live_read rows rows.objects (map (map live_of_view) lists) n (map live_of_view views.0) c.self.invariant.fields.live (mapped_at (map live_of_view) lists n views.0 views.1) in
-    let at = mapped_at object_of s.objects.items n t.0 t.1 in
-    let same : map live_of_view views.0 ≡ live_in rows (Some (object_of t.0)) = value ∙ ap (live_in rows) at in
+    let at = mapped_at (object_in s.rows.fields.items) s.rows.objects.items n t.0 t.1 in
+    let same : map live_of_view views.0 ≡ live_in rows (Some (object_in s.rows.fields.items t.0)) = value ∙ ap (live_in rows) at in
     let found = c.place_of.ensures (map view_name views.0) order in
     place_position name_cmp names_total view_name live_of_view views.0 name (λ (f : Live). bytes_eq f.name name.now) (λ v. names_agree v.name.now name.now)
-    (view_not_again rows n t.0 c.self.invariant.legal at t.2 views.0 same) c.place_of.result found
+    (view_not_again rows n s.rows.fields.items t.0 c.self.invariant.legal at t.2 views.0 same) c.place_of.result found
     ∙ ap (position (λ (f : Live). bytes_eq f.name name.now)) value
     ∙ ap (λ r. position (λ (f : Live). bytes_eq f.name name.now) (live_fields r n)) c.self.view_is

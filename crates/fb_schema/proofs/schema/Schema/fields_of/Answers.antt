@@ -2,7 +2,7 @@ use Rattle.std.proofs.Common.{◌≡◌, ◌≤◌, length, map, ◌∙◌, ap, 
 use Rattle.std.proofs.lemmas.List.{length-map}
 use Rattle.fb_schema.specs.FlatLists.{lists_of}
 use Rattle.fb_schema.specs.Live.{live_fields, live_of_view, widest}
-use Rattle.fb_schema.specs.Rows.{rows_of}
+use Rattle.fb_schema.specs.FlatRows.{flat_rows}
 use Rattle.fb_schema.proofs.LookLemmas.{live_read, within_widest, few_read}
 use Rattle.fb_schema.proofs.WalkLemmas.{mapped_at}
 use Rattle.fb_schema.proofs.schema.Schema.fields_of.Goals as goal
@@ -12,7 +12,7 @@ value : (g : _) (c : After-get g) → map live_of_view c.get.result.now ≡ live
 unfolding live_fields
 value g c =
     let s = c.self.inside in
-    let rows = rows_of s.objects.items s.enums.items in
+    let rows = flat_rows s.rows in
     live_read rows rows.objects (map (map live_of_view) (lists_of s.live.fields)) c.args.n (map live_of_view c.get.result.now) c.self.invariant.fields.live
     (mapped_at (map live_of_view) (lists_of s.live.fields) c.args.n c.get.result.now c.get.ensures)
     ∙ ap (λ r. live_fields r c.args.n) c.self.view_is
@@ -29,4 +29,4 @@ returns-clause-within g c = counted g (goal.at.returns-clause-within g c).After-
 pub returns-clause-few : goal.returns-clause-few
 returns-clause-few g c =
     let s = c.self.inside in
-    few_read (rows_of s.objects.items s.enums.items) c.args.self.now s.live.widest (length c.get.result.now) c.self.invariant.fields.widest c.self.invariant.fields.few c.self.view_is (counted g (goal.at.returns-clause-few g c).After-get)
+    few_read (flat_rows s.rows) c.args.self.now s.live.widest (length c.get.result.now) c.self.invariant.fields.widest c.self.invariant.fields.few c.self.view_is (counted g (goal.at.returns-clause-few g c).After-get)

@@ -1,6 +1,7 @@
 use Rattle.std.proofs.Common.{◌∙◌, IsTrue, ap, subst, sym}
 use Rattle.fb_schema.specs.Steps.{is_plain}
-use Rattle.fb_schema.specs.Rows.{is_table, rows_of}
+use Rattle.fb_schema.specs.FlatRows.{flat_rows}
+use Rattle.fb_schema.specs.Rows.{is_table}
 use Rattle.fb_schema.proofs.LookLemmas.{plain_read}
 use Rattle.fb_schema.proofs.schema.Schema.is_plain.Goals as goal
 
@@ -8,5 +9,5 @@ pub returns : goal.returns
 returns g c =
     let s = c.self.inside in
     let n = c.args.n in
-    plain_read (rows_of s.objects.items s.enums.items) s.live.plain.items n c.index.result.now c.self.invariant.fields.plain (subst (λ r. IsTrue (is_table r n)) (sym c.self.view_is) c.requires) c.index.ensures
+    plain_read (flat_rows s.rows) s.live.plain.items n c.index.result.now c.self.invariant.fields.plain (subst (λ r. IsTrue (is_table r n)) (sym c.self.view_is) c.requires) c.index.ensures
     ∙ ap (λ r. is_plain r n) c.self.view_is

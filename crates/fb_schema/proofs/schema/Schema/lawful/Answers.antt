@@ -1,7 +1,7 @@
 use Rattle.std.proofs.Common.{subst, arith}
 use Rattle.fb_schema.specs.Demands.{IsLegal}
 use Rattle.fb_schema.specs.Live.{widest}
-use Rattle.fb_schema.specs.Rows.{rows_of}
+use Rattle.fb_schema.specs.FlatRows.{flat_rows}
 use Rattle.fb_schema.specs.Served.{IsServed, HaveKinds}
 use Rattle.fb_schema.proofs.Kinded.{have_kinds}
 use Rattle.fb_schema.proofs.TypedLemmas.{served_by}
@@ -16,7 +16,7 @@ returns-clause-served g c =
     let s = c.self.inside in
     let few = c.self.invariant.fields.few in
     let most = c.self.invariant.fields.widest in
-    subst IsServed c.self.view_is (served_by (rows_of s.objects.items s.enums.items) c.self.invariant.legal (omega arith))
+    subst IsServed c.self.view_is (served_by (flat_rows s.rows) c.self.invariant.legal (omega arith))
 
 pub returns-clause-kinds : goal.returns-clause-kinds
-returns-clause-kinds g c = let s = c.self.inside in subst HaveKinds c.self.view_is (have_kinds (rows_of s.objects.items s.enums.items) c.self.invariant.legal)
+returns-clause-kinds g c = let s = c.self.inside in subst HaveKinds c.self.view_is (have_kinds (flat_rows s.rows) c.self.invariant.legal)

@@ -1,11 +1,11 @@
 use Rattle.std.proofs.Common.{◌≡◌, ◌<◌, pos, List, Some, find, map, slice_get, IsTrue, true, refl, sym, ap, subst, ◌∙◌, arith}
-use Rattle.std.proofs.lemmas.Option.{get_or_from_slice_get}
 use Rattle.std.specs.Option.{option_map}
 use Rattle.std.specs.Ordering.{int_eq}
-use Rattle.fb_schema.specs.declared.rows.EnumRow.{EnumRow}
+use Rattle.fb_schema.specs.declared.flat.EnumPart.{EnumPart}
 use Rattle.fb_schema.specs.declared.rows.MemberRow.{MemberRow}
 use Rattle.fb_schema.specs.Members.{member_name}
-use Rattle.fb_schema.specs.Rows.{Rows, Member, rows_of, is_union, member_of_row}
+use Rattle.fb_schema.specs.FlatRows.{flat_rows}
+use Rattle.fb_schema.specs.Rows.{Rows, Member, is_union, member_of_row}
 use Rattle.fb_schema.proofs.NamedValues.{member_name_is, no_name_of_zero, no_name_of_other}
 use Rattle.fb_schema.proofs.UnionLemmas.{union_at, read_within}
 use Rattle.fb_schema.proofs.schema.Schema.member_name.Goals as goal
@@ -18,25 +18,20 @@ returns-then-value-eq0 g c = elim c.then-value-eq0.branch [
 ]
 
 -- the union's row
-union_row : (g : _) (c : After-self g) → (row : EnumRow) × (slice_get c.self.inside.enums.items c.args.e ≡ Some row) × (row.is_union ≡ true)
-union_row g c = union_at c.self.inside.enums.items c.args.e (subst (λ (r : Rows). IsTrue (is_union r c.args.e)) (sym c.self.view_is) (sym c.is_union.ensures ∙ c.if-not-is_union.false))
+union_row : (g : _) (c : After-self g) → (row : EnumPart) × (slice_get c.self.inside.rows.enums.items c.args.e ≡ Some row) × (row.is_union ≡ true)
+union_row g c = union_at c.self.inside.rows.members.items c.self.inside.rows.enums.items c.args.e (subst (λ (r : Rows). IsTrue (is_union r c.args.e)) (sym c.self.view_is) (sym c.is_union.ensures ∙ c.if-not-is_union.false))
 
-pub index-requires : goal.index-requires
-index-requires g c =
-    let within = read_within c.self.inside.enums.items c.args.e (union_row g c).0 (union_row g c).1 in
-    let long = c.self.inside.enums.ok.0 in
-    omega arith
+pub members_at-requires-clause-here : goal.members_at-requires-clause-here
+members_at-requires-clause-here g c = read_within c.self.inside.rows.enums.items c.args.e (union_row g c).0 (union_row g c).1
 
 pub returns : goal.returns
 returns g c =
     let d = (goal.at.returns g c).After-self in
-    let rows = rows_of c.self.inside.objects.items c.self.inside.enums.items in
-    let row = (union_row g d).0 in
-    let same : c.index.result.now ≡ row = c.index.ensures ∙ get_or_from_slice_get c.self.inside.enums.items c.args.e row c.index.result.now (union_row g d).1 in
-    let members : c.deref.result.now ≡ row.members.items = c.deref.ensures.value ∙ ap (λ (r : EnumRow). r.members.items) same in
+    let flat = c.self.inside.rows in
+    let u = union_row g d in
     let above : 0 < c.args.value = omega arith in
     let below : c.args.value < 256 = omega arith in
     c.name_of.ensures
-    ∙ ap (λ (ms : List MemberRow). option_map (λ (m : Member). m.name) (find (λ m. int_eq m.value (pos c.args.value)) (map member_of_row ms))) members
-    ∙ sym (member_name_is rows c.self.inside.enums.items refl c.args.e row (union_row g d).1 (union_row g d).2 c.args.value above below)
+    ∙ ap (λ (ms : List MemberRow). option_map (λ (m : Member). m.name) (find (λ m. int_eq m.value (pos c.args.value)) (map member_of_row ms))) (c.members_at.ensures u.0 u.1)
+    ∙ sym (member_name_is (flat_rows flat) flat.members.items flat.enums.items refl c.args.e u.0 u.1 u.2 c.args.value above below)
     ∙ ap (λ (r : Rows). member_name r c.args.e c.args.value) c.self.view_is

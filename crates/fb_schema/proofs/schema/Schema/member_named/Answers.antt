@@ -1,41 +1,48 @@
-use Rattle.std.proofs.Common.{◌≡◌, ◌<◌, ℕ, Some, None, map, length, slice_get, get_or, find, filter, IsTrue, true, false, unsigned_abs, refl, sym, ap, subst, ◌∙◌, arith, to_z, of_z, w64}
+use Rattle.std.proofs.Common.{◌≡◌, ◌<◌, ℕ, Some, None, List, map, length, slice_get, get_or, find, filter, IsTrue, true, false, unsigned_abs, refl, sym, ap, subst, ◌∙◌, arith, to_z, of_z, w64}
 use Rattle.std.proofs.lemmas.List.{length-map, get_or-map}
 use Rattle.std.specs.Option.{option_map}
 use Rattle.std.specs.Str.{bytes_eq}
 use Rattle.std.specs.declared.cmp.Ordering.TheVariants.{Equal}
-use Rattle.fb_schema.specs.declared.rows.EnumRow.{EnumRow}
+use Rattle.fb_schema.specs.declared.flat.EnumPart.{EnumPart}
 use Rattle.fb_schema.specs.Demands.{first_code, members_asked}
+use Rattle.fb_schema.specs.Flat.{part}
+use Rattle.fb_schema.specs.Index.{kept_members}
 use Rattle.fb_schema.specs.Members.{member_named, is_member_value}
 use Rattle.fb_schema.specs.Sorting.{IsOrderOf, IsPlaceOf, member_cmp, member_key}
-use Rattle.fb_schema.specs.Rows.{Rows, Member, rows_of, is_union, member_of_row}
+use Rattle.fb_schema.specs.FlatRows.{flat_rows}
+use Rattle.fb_schema.specs.Rows.{Rows, Member, is_union, member_of_row}
 use Rattle.fb_schema.proofs.Blank.{blank_member}
-use Rattle.fb_schema.proofs.UnionLemmas.{union_at, union_kept, members_clear}
+use Rattle.fb_schema.proofs.UnionLemmas.{union_at, members_clear}
 use Rattle.fb_schema.proofs.MemberNames.{name_found, name_missing, member_named_is, real_at, small_value, fits_small}
-use Rattle.std.proofs.lemmas.Option.{get_or_from_slice_get}
 use Rattle.std.proofs.lemmas.Int.{to_z-of_z}
-use Rattle.fb_schema.proofs.Numbers.{get_or_default}
 use Rattle.fb_schema.specs.declared.rows.MemberRow.{MemberRow}
 use Rattle.fb_schema.proofs.schema.Schema.member_named.Goals as goal
 use Rattle.fb_schema.proofs.schema.Schema.member_named.Goals.{After-place_of}
 
-union_row : (g : _) (c : After-place_of g) → (row : EnumRow) × (slice_get c.self.inside.enums.items c.args.e ≡ Some row) × (row.is_union ≡ true)
-union_row g c = union_at c.self.inside.enums.items c.args.e (subst (λ (r : Rows). IsTrue (is_union r c.args.e)) (sym c.self.view_is) c.requires)
+union_row : (g : _) (c : After-place_of g) → (row : EnumPart) × (slice_get c.self.inside.rows.enums.items c.args.e ≡ Some row) × (row.is_union ≡ true)
+union_row g c = union_at c.self.inside.rows.members.items c.self.inside.rows.enums.items c.args.e (subst (λ (r : Rows). IsTrue (is_union r c.args.e)) (sym c.self.view_is) c.requires)
 
 rows : (g : _) (c : After-place_of g) → Rows
-rows g c = rows_of c.self.inside.objects.items c.self.inside.enums.items
+rows g c = flat_rows c.self.inside.rows
 
-placed : (g : _) (c : After-place_of g) → IsPlaceOf member_cmp (map member_key (union_row g c).0.members.items) (false, c.args.name) c.place_of.result
+-- the members of the union
+listed : (g : _) (c : After-place_of g) → List MemberRow
+listed g c = part c.self.inside.rows.members.items (union_row g c).0.members
+
+placed : (g : _) (c : After-place_of g) → IsPlaceOf member_cmp (map member_key (listed g c)) (false, c.args.name) c.place_of.result
+unfolding listed
 placed g c =
     let row = (union_row g c).0 in
-    c.place_of.ensures (map member_key row.members.items) (subst (λ ms. IsOrderOf member_cmp (map member_key ms) c.get-names.result.now) (union_kept row (union_row g c).2) (c.self.invariant.kinds.names.at c.args.e row c.get-names.result.now (union_row g c).1 c.get-names.ensures))
+    let list = part c.self.inside.rows.members.items row.members in
+    c.place_of.ensures (map member_key list) (subst (λ b. IsOrderOf member_cmp (map member_key (kept_members b list)) c.get-names.result.now) (union_row g c).2 (c.self.invariant.kinds.names.at c.args.e row c.get-names.result.now (union_row g c).1 c.get-names.ensures))
 
-clear : (g : _) (c : After-place_of g) (q : ℕ) → first_code (members_asked (rows g c) (map member_of_row (union_row g c).0.members.items) q) ≡ None
-unfolding rows
-clear g c = members_clear (rows g c) c.self.inside.enums.items refl c.self.invariant.legal c.args.e (union_row g c).0 (union_row g c).1 (union_row g c).2
+clear : (g : _) (c : After-place_of g) (q : ℕ) → first_code (members_asked (rows g c) (map member_of_row (listed g c)) q) ≡ None
+unfolding rows listed
+clear g c = members_clear (rows g c) c.self.inside.rows.members.items c.self.inside.rows.enums.items refl c.self.invariant.legal c.args.e (union_row g c).0 (union_row g c).1 (union_row g c).2
 
-read : (g : _) (c : After-place_of g) → member_named (rows g c) c.args.e c.args.name.now ≡ option_map (λ m. unsigned_abs m.value) (find (λ m. bytes_eq m.name c.args.name.now) (filter (λ m. is_member_value m.value) (map member_of_row (union_row g c).0.members.items)))
-unfolding rows
-read g c = member_named_is (rows g c) c.self.inside.enums.items refl c.args.e (union_row g c).0 (union_row g c).1 (union_row g c).2 c.args.name.now
+read : (g : _) (c : After-place_of g) → member_named (rows g c) c.args.e c.args.name.now ≡ option_map (λ m. unsigned_abs m.value) (find (λ m. bytes_eq m.name c.args.name.now) (filter (λ m. is_member_value m.value) (map member_of_row (listed g c))))
+unfolding rows listed
+read g c = member_named_is (rows g c) c.self.inside.rows.members.items c.self.inside.rows.enums.items refl c.args.e (union_row g c).0 (union_row g c).1 (union_row g c).2 c.args.name.now
 
 seen : (g : _) (c : After-place_of g) → member_named (rows g c) c.args.e c.args.name.now ≡ member_named c.args.self.now c.args.e c.args.name.now
 unfolding rows
@@ -44,50 +51,50 @@ seen g c = ap (λ r. member_named r c.args.e c.args.name.now) c.self.view_is
 pub returns-in-None : goal.returns-in-None
 returns-in-None g c =
     let d = (goal.at.returns-in-None g c).After-place_of in
-    let members = (union_row g d).0.members.items in
+    let members = listed g d in
     let h : IsPlaceOf member_cmp (map member_key members) (false, c.args.name) None = subst (IsPlaceOf member_cmp (map member_key members) (false, c.args.name)) c.in-None.is (placed g d) in
     sym (ap (option_map (λ (m : Member). unsigned_abs m.value)) (name_missing (rows g d) members (clear g d) c.args.name (λ k x lt e. h k (member_key x) (rw length-map lt) (ap (λ z. member_cmp z (false, c.args.name)) (get_or-map member_key members k x (member_key x) lt) ∙ e))))
     ∙ sym (read g d) ∙ seen g d
 
 -- the member at the place of the name
-found : (g : _) (c : After-place_of g) (place : ℕ) → c.place_of.result ≡ Some place → (place < length (union_row g c).0.members.items) × (member_cmp (member_key (get_or (union_row g c).0.members.items place blank_member)) (false, c.args.name) ≡ Equal)
+found : (g : _) (c : After-place_of g) (place : ℕ) → c.place_of.result ≡ Some place → (place < length (listed g c)) × (member_cmp (member_key (get_or (listed g c) place blank_member)) (false, c.args.name) ≡ Equal)
 found g c place is =
-    let members = (union_row g c).0.members.items in
+    let members = listed g c in
     let h : IsPlaceOf member_cmp (map member_key members) (false, c.args.name) (Some place) = subst (IsPlaceOf member_cmp (map member_key members) (false, c.args.name)) is (placed g c) in
     let lt : place < length members = rw length-map at h.0 in
     (lt, ap (λ z. member_cmp z (false, c.args.name)) (sym (get_or-map member_key members place blank_member (member_key blank_member) lt)) ∙ h.1 (member_key blank_member))
 
--- the row that was read is the union's
-same_row : (g : _) (c : After-place_of g) (r : EnumRow) → r ≡ get_or c.self.inside.enums.items c.args.e r → r ≡ (union_row g c).0
-same_row g c r e = e ∙ get_or_from_slice_get c.self.inside.enums.items c.args.e (union_row g c).0 r (union_row g c).1
-
-pub index-requires-in-Some : goal.index-requires-in-Some
-index-requires-in-Some g c =
-    let d = (goal.at.index-requires-in-Some g c).After-place_of in
+pub bounds-members_at-place : goal.bounds-members_at-place
+unfolding listed
+bounds-members_at-place g c =
+    let d = (goal.at.bounds-members_at-place g c).After-place_of in
     let lt = (found g d c.in-Some.place c.in-Some.is).0 in
-    let same = ap (λ (r : EnumRow). length r.members.items) (same_row g d c.index.result.now c.index.ensures) in
-    let long = c.index.result.now.members.ok.0 in
+    let same = ap length (c.members_at.ensures (union_row g d).0 (union_row g d).1) in
     omega arith
 
 -- the member that was read
-read_value : (g : _) (c : After-place_of g) (place : ℕ) (is : c.place_of.result ≡ Some place) (r : EnumRow) (m : MemberRow) (n : ℕ) → r ≡ get_or c.self.inside.enums.items c.args.e r → m ≡ get_or r.members.items place m → n ≡ unsigned_abs (to_z w64 (of_z w64 m.value))
+read_value : (g : _) (c : After-place_of g) (place : ℕ) (is : c.place_of.result ≡ Some place) (lent : List MemberRow) (n : ℕ) → lent ≡ listed g c → n ≡ unsigned_abs (to_z w64 (of_z w64 (get_or lent place blank_member).value))
     → (n < 256) × (Some n ≡ member_named c.args.self.now c.args.e c.args.name.now)
-read_value g c place is r m n e f k =
-    let members = (union_row g c).0.members.items in
+read_value g c place is lent n e k =
+    let members = listed g c in
     let h = found g c place is in
     let x = get_or members place blank_member in
-    let same : m ≡ x = f ∙ ap (λ (r : EnumRow). get_or r.members.items place m) (same_row g c r e) ∙ get_or_default members place m blank_member h.0 in
     let real = real_at (rows g c) members (clear g c) c.args.name place blank_member h.0 h.1 in
-    let value : n ≡ unsigned_abs x.value = k ∙ ap (λ (m : MemberRow). unsigned_abs (to_z w64 (of_z w64 m.value))) same ∙ ap unsigned_abs (to_z-of_z w64 x.value (fits_small x.value real)) in
+    let value : n ≡ unsigned_abs x.value = k ∙ ap (λ ms. unsigned_abs (to_z w64 (of_z w64 (get_or ms place blank_member).value))) e ∙ ap unsigned_abs (to_z-of_z w64 x.value (fits_small x.value real)) in
     let small = small_value x.value real in (
       omega arith,
       ap Some value ∙ sym (ap (option_map (λ (m : Member). unsigned_abs m.value)) (name_found (rows g c) members (clear g c) c.args.name place blank_member h.0 h.1)) ∙ sym (read g c) ∙ seen g c,
     )
 
 pub overflow_cast-result : goal.overflow_cast-result
+unfolding listed
 overflow_cast-result g c =
-    let small = (read_value g (goal.at.overflow_cast-result g c).After-place_of c.in-Some.place c.in-Some.is c.index.result.now c.index-in-Some.result.now c.unsigned_abs.result c.index.ensures c.index-in-Some.ensures c.unsigned_abs.ensures.value).0 in
+    let d = (goal.at.overflow_cast-result g c).After-place_of in
+    let small = (read_value g d c.in-Some.place c.in-Some.is _ c.unsigned_abs.result (c.members_at.ensures (union_row g d).0 (union_row g d).1) c.unsigned_abs.ensures.value).0 in
     record { fits = omega arith }
 
 pub returns-in-Some : goal.returns-in-Some
-returns-in-Some g c = (read_value g (goal.at.returns-in-Some g c).After-place_of c.in-Some.place c.in-Some.is c.index.result.now c.index-in-Some.result.now c.unsigned_abs.result c.index.ensures c.index-in-Some.ensures c.unsigned_abs.ensures.value).1
+unfolding listed
+returns-in-Some g c =
+    let d = (goal.at.returns-in-Some g c).After-place_of in
+    (read_value g d c.in-Some.place c.in-Some.is _ c.unsigned_abs.result (c.members_at.ensures (union_row g d).0 (union_row g d).1) c.unsigned_abs.ensures.value).1

@@ -2,7 +2,8 @@ use Rattle.std.proofs.Common.{IsTrue, sym, subst}
 use Rattle.fb_schema.specs.FlatLists.{lists_of}
 use Rattle.fb_schema.specs.Index.{AreNextRequired}
 use Rattle.fb_schema.specs.Live.{live_fields}
-use Rattle.fb_schema.specs.Rows.{is_table, rows_of}
+use Rattle.fb_schema.specs.FlatRows.{flat_rows}
+use Rattle.fb_schema.specs.Rows.{is_table}
 use Rattle.fb_schema.proofs.NextRequired.{item_lent, no_item_lent, next_found, next_missed, next_past, next_read}
 use Rattle.fb_schema.proofs.schema.Schema.next_required.Goals as goal
 use Rattle.fb_schema.proofs.schema.Schema.next_required.Goals.{After-get-places}
@@ -12,7 +13,7 @@ places : (g : _) (c : After-get-places g) → AreNextRequired (live_fields c.arg
 places g c =
     let s = c.self.inside in
     let n = c.args.n in
-    let rows = rows_of s.objects.items s.enums.items in
+    let rows = flat_rows s.rows in
     subst (λ r. AreNextRequired (live_fields r n) c.get-places.result.now) c.self.view_is
     (next_read rows (lists_of s.live.next_required) n c.get-places.result.now c.self.invariant.fields.next_required (subst (λ r. IsTrue (is_table r n)) (sym c.self.view_is) c.requires) c.get-places.ensures)
 

@@ -1,7 +1,8 @@
 use Rattle.std.proofs.Common.{map, ap, ◌∙◌, position, refl}
 use Rattle.std.specs.Str.{bytes_eq}
 use Rattle.fb_schema.specs.Sorting.{name_cmp, object_name}
-use Rattle.fb_schema.specs.Rows.{Object, Rows, object_of, rows_of}
+use Rattle.fb_schema.specs.FlatRows.{flat_rows, object_in}
+use Rattle.fb_schema.specs.Rows.{Object, Rows}
 use Rattle.fb_schema.proofs.PlaceLemmas.{place_position}
 use Rattle.fb_schema.proofs.LegalLemmas.{legal_clear}
 use Rattle.fb_schema.proofs.OwnerLemmas.{no_object_again}
@@ -11,9 +12,9 @@ use Rattle.fb_schema.proofs.schema.Schema.object_named.Goals as goal
 pub returns : goal.returns
 returns g c =
     let s = c.self.inside in
-    let rows = rows_of s.objects.items s.enums.items in
+    let rows = flat_rows s.rows in
     let name = c.args.name in
-    let found = c.place_of.ensures (map object_name s.objects.items) (rw c.deref.ensures.value c.self.invariant.names) in
-    place_position name_cmp names_total object_name object_of s.objects.items name (λ (o : Object). bytes_eq o.name name.now) (λ o. names_agree o.name.now name.now)
-    (no_object_again rows s.objects.items refl (λ q. legal_clear rows c.self.invariant.legal 0 q 0)) c.place_of.result found
+    let found = c.place_of.ensures (map object_name s.rows.objects.items) (rw c.deref.ensures.value c.self.invariant.names) in
+    place_position name_cmp names_total object_name (object_in s.rows.fields.items) s.rows.objects.items name (λ (o : Object). bytes_eq o.name name.now) (λ o. names_agree o.name.now name.now)
+    (no_object_again rows s.rows.fields.items s.rows.objects.items refl (λ q. legal_clear rows c.self.invariant.legal 0 q 0)) c.place_of.result found
     ∙ ap (λ (r : Rows). position (λ (o : Object). bytes_eq o.name name.now) r.objects) c.self.view_is

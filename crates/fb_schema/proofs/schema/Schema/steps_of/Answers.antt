@@ -2,7 +2,7 @@ use Rattle.std.proofs.Common.{◌≡◌, ◌≤◌, length, map, ◌∙◌, ap, 
 use Rattle.std.proofs.lemmas.List.{length-map}
 use Rattle.fb_schema.specs.FlatLists.{lists_of}
 use Rattle.fb_schema.specs.Live.{live_fields, widest}
-use Rattle.fb_schema.specs.Rows.{rows_of}
+use Rattle.fb_schema.specs.FlatRows.{flat_rows}
 use Rattle.fb_schema.specs.Steps.{step_of}
 use Rattle.fb_schema.proofs.LookLemmas.{steps_read, within_widest, few_read}
 use Rattle.fb_schema.proofs.schema.Schema.steps_of.Goals as goal
@@ -11,7 +11,7 @@ use Rattle.fb_schema.proofs.schema.Schema.steps_of.Goals.{After-get}
 value : (g : _) (c : After-get g) → c.get.result.now ≡ map step_of (live_fields c.args.self.now c.args.n)
 value g c =
     let s = c.self.inside in
-    steps_read (rows_of s.objects.items s.enums.items) (lists_of s.live.steps) c.args.n c.get.result.now c.self.invariant.fields.steps c.get.ensures
+    steps_read (flat_rows s.rows) (lists_of s.live.steps) c.args.n c.get.result.now c.self.invariant.fields.steps c.get.ensures
     ∙ ap (λ r. map step_of (live_fields r c.args.n)) c.self.view_is
 
 pub returns-clause-value : goal.returns-clause-value
@@ -23,4 +23,4 @@ counted g c = omega (arith, ap length (value g c), length-map (live_fields c.arg
 pub returns-clause-few : goal.returns-clause-few
 returns-clause-few g c =
     let s = c.self.inside in
-    few_read (rows_of s.objects.items s.enums.items) c.args.self.now s.live.widest (length c.get.result.now) c.self.invariant.fields.widest c.self.invariant.fields.few c.self.view_is (counted g (goal.at.returns-clause-few g c).After-get)
+    few_read (flat_rows s.rows) c.args.self.now s.live.widest (length c.get.result.now) c.self.invariant.fields.widest c.self.invariant.fields.few c.self.view_is (counted g (goal.at.returns-clause-few g c).After-get)

@@ -1,6 +1,7 @@
 use Rattle.std.proofs.Common.{IsTrue, refl, sym, ap, subst, ◌∙◌}
 use Rattle.fb_schema.specs.Members.{member_of}
-use Rattle.fb_schema.specs.Rows.{Rows, rows_of, is_union}
+use Rattle.fb_schema.specs.FlatRows.{flat_rows}
+use Rattle.fb_schema.specs.Rows.{Rows, is_union}
 use Rattle.fb_schema.specs.Targets.{target_of}
 use Rattle.fb_schema.proofs.UnionLemmas.{union_at, member_of_row_is}
 use Rattle.fb_schema.proofs.schema.Schema.targets_of.Goals as goal
@@ -9,8 +10,8 @@ pub returns : goal.returns
 returns g c = λ value lt.
     let s = c.self.inside in
     let e = c.args.e in
-    let rows = rows_of s.objects.items s.enums.items in
-    let u = union_at s.enums.items e (subst (λ (r : Rows). IsTrue (is_union r e)) (sym c.self.view_is) c.requires) in
+    let rows = flat_rows s.rows in
+    let u = union_at s.rows.members.items s.rows.enums.items e (subst (λ (r : Rows). IsTrue (is_union r e)) (sym c.self.view_is) c.requires) in
     (c.self.invariant.kinds.targets.at e u.0 c.get.result.now c.get-2.result.now u.1 c.get.ensures c.get-2.ensures u.2).at value lt
-    ∙ ap (target_of rows) (sym (member_of_row_is rows s.enums.items refl e u.0 u.1 u.2 value))
+    ∙ ap (target_of rows) (sym (member_of_row_is rows s.rows.members.items s.rows.enums.items refl e u.0 u.1 u.2 value))
     ∙ ap (λ r. target_of r (member_of r e value)) c.self.view_is

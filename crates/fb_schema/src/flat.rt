@@ -1,0 +1,196 @@
+// The rows of a schema, flat: all fields of all objects in one vector, and all members of all enums in another.
+
+ghost use Rattle.std.specs.Prelude.{◌≡◌, ◌<◌, ◌^◌, map, length, IfOk, All, vec_len, slice_get, Some};
+ghost use Rattle.fb_schema.specs.declared.flat.EnumPart.{EnumPart};
+ghost use Rattle.fb_schema.specs.Rows.{AreFew, object_of, enum_of, rows_of};
+ghost use Rattle.fb_schema.specs.Flat.{part, IsPart};
+ghost use Rattle.fb_schema.specs.FlatRows.{object_with, object_in, enum_in, flat_rows, AreParts};
+
+use crate::rows::{EnumRow, FieldRow, MemberRow, ObjectRow};
+use std::alloc::{AllocError, Allocator};
+
+/// An object, with the range of its fields among those of all objects.
+#[derive(Drop)]
+pub struct ObjectPart<'n> {
+    pub name: &'n [u8],
+    pub fields: (usize, usize),
+    pub is_struct: bool,
+    pub minalign: i32,
+    pub bytesize: i32,
+}
+
+/// An enum, with the range of its members among those of all enums.
+#[derive(Drop)]
+pub struct EnumPart<'n> {
+    pub name: &'n [u8],
+    pub members: (usize, usize),
+    pub is_union: bool,
+}
+
+/// The rows of a schema.
+#[derive(Drop)]
+pub struct FlatRows<'n, A: Allocator> {
+    pub objects: Vec<ObjectPart<'n>, A>,
+    pub fields: Vec<FieldRow<'n>, A>,
+    pub enums: Vec<EnumPart<'n>, A>,
+    pub members: Vec<MemberRow<'n>, A>,
+}
+
+/// The same, lent.
+#[derive(Clone, Copy)]
+pub struct RowLists<'r, 'n> {
+    pub objects: &'r [ObjectPart<'n>],
+    pub fields: &'r [FieldRow<'n>],
+    pub enums: &'r [EnumPart<'n>],
+    pub members: &'r [MemberRow<'n>],
+}
+
+/// The rows in a range.
+fn part<T>(rows: &[T], range: (usize, usize)) -> &[T]
+    requires { IsPart (length rows.now) range }
+    ensures value { result.now ≡ part rows.now range }
+    ensures few { length result.now < 2 ^ 31 }
+{
+    let (start, end) = range;
+    &rows[start..end]
+}
+
+impl<'r, 'n> RowLists<'r, 'n> {
+    /// The fields of an object.
+    pub fn fields_of(&self, object: &ObjectPart<'n>) -> &'r [FieldRow<'n>]
+        requires { IsPart (length self.now.fields.now) object.now.fields }
+        ensures value { result.now ≡ part self.now.fields.now object.now.fields }
+        ensures few { length result.now < 2 ^ 31 }
+    {
+        part(self.fields, object.fields)
+    }
+
+    /// The members of an enum.
+    pub fn members_of(&self, row: &EnumPart<'n>) -> &'r [MemberRow<'n>]
+        requires { IsPart (length self.now.members.now) row.now.members }
+        ensures value { result.now ≡ part self.now.members.now row.now.members }
+        ensures few { length result.now < 2 ^ 31 }
+    {
+        part(self.members, row.members)
+    }
+}
+
+/// An object, with this range for its fields.
+fn object_part<'n>(object: &ObjectRow<'n>, fields: (usize, usize)) -> ObjectPart<'n>
+    ensures range { result.fields ≡ fields }
+    ensures same { object_with result object.now.fields.items ≡ object_of object.now }
+{
+    ObjectPart {
+        name: object.name,
+        fields,
+        is_struct: object.is_struct,
+        minalign: object.minalign,
+        bytesize: object.bytesize,
+    }
+}
+
+/// How many fields these objects have: the room that is asked for them.
+fn count_fields(objects: &[ObjectRow]) -> usize {
+    let mut count: usize = 0;
+    for object in objects {
+        count = count.saturating_add(object.fields.len());
+    }
+    count
+}
+
+/// How many members these enums have, likewise.
+fn count_members(enums: &[EnumRow]) -> usize {
+    let mut count: usize = 0;
+    for row in enums {
+        count = count.saturating_add(row.members.len());
+    }
+    count
+}
+
+/// These objects, and their fields one after another.
+fn flat_objects<'n, A: Allocator + Copy>(
+    alloc: A,
+    objects: &[ObjectRow<'n>],
+) -> Result<(Vec<ObjectPart<'n>, A>, Vec<FieldRow<'n>, A>), AllocError>
+    requires { All (λ o. vec_len o.fields < 2 ^ 31) objects.now }
+    ensures value { IfOk result (λ flat. map (object_in flat.1.items) flat.0.items ≡ map object_of objects.now) }
+    ensures parts { IfOk result (λ flat. All (λ o. IsPart (length flat.1.items) o.fields) flat.0.items) }
+{
+    let mut parts = Vec::with_capacity(alloc, objects.len())?;
+    let mut fields = Vec::with_capacity(alloc, count_fields(objects))?;
+    for object in objects {
+        let start = fields.len();
+        fields.extend_from_slice(&object.fields)?;
+        parts.push(object_part(object, (start, fields.len())))?;
+    }
+    Ok((parts, fields))
+}
+
+/// These enums, and their members one after another.
+fn flat_enums<'n, A: Allocator + Copy>(
+    alloc: A,
+    enums: &[EnumRow<'n>],
+) -> Result<(Vec<EnumPart<'n>, A>, Vec<MemberRow<'n>, A>), AllocError>
+    requires { All (λ e. vec_len e.members < 2 ^ 31) enums.now }
+    ensures value { IfOk result (λ flat. map (enum_in flat.1.items) flat.0.items ≡ map enum_of enums.now) }
+    ensures parts { IfOk result (λ flat. All (λ e. IsPart (length flat.1.items) e.members) flat.0.items) }
+{
+    let mut parts = Vec::with_capacity(alloc, enums.len())?;
+    let mut members = Vec::with_capacity(alloc, count_members(enums))?;
+    for row in enums {
+        let start = members.len();
+        members.extend_from_slice(&row.members)?;
+        parts.push(EnumPart {
+            name: row.name,
+            members: (start, members.len()),
+            is_union: row.is_union,
+        })?;
+    }
+    Ok((parts, members))
+}
+
+impl<'n, A: Allocator + Copy> FlatRows<'n, A> {
+    /// These rows, which are dropped once they stand flat.
+    pub fn new(
+        alloc: A,
+        objects: Vec<ObjectRow<'n>>,
+        enums: Vec<EnumRow<'n>>,
+    ) -> Result<FlatRows<'n, A>, AllocError>
+        requires { AreFew objects.items enums.items }
+        ensures value { IfOk result (λ flat. flat_rows flat ≡ rows_of objects.entry.items enums.entry.items) }
+        ensures parts { IfOk result (λ flat. AreParts flat.objects.items flat.fields.items flat.enums.items flat.members.items) }
+    {
+        let (objects, fields) = flat_objects(alloc, &objects)?;
+        let (enums, members) = flat_enums(alloc, &enums)?;
+        Ok(FlatRows {
+            objects,
+            fields,
+            enums,
+            members,
+        })
+    }
+
+    /// The members of the enum with this number.
+    pub fn members_at(&self, e: usize) -> &[MemberRow<'n>]
+        requires here { e < length self.now.enums.items }
+        requires parts { All (λ e. IsPart (length self.now.members.items) e.members) self.now.enums.items }
+        ensures { (row : EnumPart) → slice_get self.now.enums.items e ≡ Some row → result.now ≡ part self.now.members.items row.members }
+    {
+        part(&self.members, self.enums[e].members)
+    }
+
+    /// These rows, lent.
+    pub fn lists(&self) -> RowLists<'_, 'n>
+        ensures objects { result.objects.now ≡ self.now.objects.items }
+        ensures fields { result.fields.now ≡ self.now.fields.items }
+        ensures enums { result.enums.now ≡ self.now.enums.items }
+        ensures members { result.members.now ≡ self.now.members.items }
+    {
+        RowLists {
+            objects: &self.objects,
+            fields: &self.fields,
+            enums: &self.enums,
+            members: &self.members,
+        }
+    }
+}
