@@ -8,7 +8,7 @@ use Rattle.std.proofs.lemmas.Option.{slice_get-get_or, slice_get_within, get_or_
 use Rattle.std.proofs.lemmas.List.{get_or-drop}
 use Rattle.std.proofs.lemmas.List.Sums.{passes_at_first, fails_before_first}
 use Rattle.fb_schema.specs.Rows.{Rows}
-use Rattle.fb_schema.specs.Live.{Live, live_fields, required_end, required_end_of, next_required, next_required_of}
+use Rattle.fb_schema.specs.Live.{Live, live_fields, next_required, next_required_of}
 use Rattle.fb_verify.specs.declared.checks.Checks.{Checks}
 use Rattle.fb_verify.specs.declared.scratch.Frame.{Frame}
 use Rattle.fb_verify.specs.Bounds.{Bounds}
@@ -20,24 +20,6 @@ use Rattle.fb_verify.specs.Stack.{blank, frame_work, Origin, IsUnderWay}
 use Rattle.fb_verify.proofs.Frames.{no_row}
 use Rattle.fb_verify.proofs.Walking.{field_skipped}
 use Rattle.fb_verify.proofs.Words.{row_none}
-
--- From the end of what is required on no field is.
-none_after : (n : ℕ) → nat_lt 0 n ≡ false → n ≡ 0
-none_after n e = grind (arith, nat_tests)
-
-not_at_once : (b : Bool) (n : ℕ) → (if b || nat_lt 0 n then 1 + n else 0) ≤ 0 → b ≡ false
-not_at_once true n h = absurd (omega arith)
-not_at_once false n h = refl
-
-later_end : (b c : Bool) (n i : ℕ) → nat_lt 0 n ≡ c → (if b || c then 1 + n else 0) ≤ suc i → n ≤ i
-later_end true c n i e h = omega arith
-later_end false true n i e h = omega arith
-later_end false false n i e h = omega (arith, none_after n e)
-
-not_required : (fs : List Live) (i : ℕ) (f : Live) → required_end_of fs ≤ i → slice_get fs i ≡ Some f → f.required ≡ false
-not_required [] i f h e = absurd (let w : None ≡ Some f = e in cc)
-not_required (g ∷ gs) zero f h e = let same : g ≡ f = cc in subst (λ (x : Live). x.required ≡ false) same (not_at_once g.required (required_end_of gs) h)
-not_required (g ∷ gs) (suc i) f h e = not_required gs i f (later_end g.required _ (required_end_of gs) i refl h) e
 
 -- What the schema tells of the next required field.
 abbrev is_required : Live → Bool
@@ -87,15 +69,16 @@ some_found fs i place some d =
       λ f at. ap is_required (sym (item_at fs i place f low at)) ∙ ap (λ k. is_required (get_or (drop i fs) k f)) same ∙ passes_at_first is_required (drop i fs) f told.0,
     )
 
--- A field whose slot lies behind the vtable, and which isn't required.
+-- A field whose slot lies behind the vtable costs no read.
+pub bare_reads : (b : List ℕ) (t : ℕ) (f : Live) → has_slot b t f.slot ≡ false → own_reads b t f ≡ 0
+unfolding own_reads field_place
+bare_reads b t f past = rw past refl
+
+-- Nor does it fail, where it isn't required.
 module _ (c : Checks) (b : List ℕ) (S : Rows) (t : ℕ) (f : Live) (past : has_slot b t f.slot ≡ false) (free : f.required ≡ false) where
   absent_holds : own_failure c b S t f ≡ None
   unfolding own_failure field_place
   absent_holds = rw (past, free) refl
-
-  absent_reads : own_reads b t f ≡ 0
-  unfolding own_reads field_place
-  absent_reads = rw past refl
 
   absent_leads : entries b S t f ≡ []
   unfolding entries field_place
@@ -133,7 +116,7 @@ module _ (c : Checks) (b : List ℕ) (S : Rows) (L : Bounds) (s : Origin) (below
           let none = no_slot_from i x low f in
           let may = free i x low (omega (arith, e)) f in
           passed_from m (i + 1) (omega (arith, e)) (omega (arith, low))
-          (field_skipped c b S L s below (top_at i) n d r g x blank.row top.number r rests f (omega (arith, absent_reads c b S t x none may)) (no_row c b S) g.reads refl (absent_holds c b S t x none may)
+          (field_skipped c b S L s below (top_at i) n d r g x blank.row top.number r rests f (omega (arith, bare_reads b t x none)) (no_row c b S) g.reads refl (absent_holds c b S t x none may)
           (absent_leads c b S t x none may ∙ sym (row_none b S blank.row refl)))
 
       -- the table's fields before that one are passed
@@ -141,9 +124,6 @@ module _ (c : Checks) (b : List ℕ) (S : Rows) (L : Bounds) (s : Origin) (below
       absent_to low = passed_from (stop - top.next) top.next (omega (arith, low)) (omega arith) h
 
     -- the table's other fields are passed, where none of them is required
-    pub others_absent : required_end S (top.table).object ≤ top.next → IsUnderWay c b S L s below (top_at (length fields)) n d r
-    others_absent free = absent_to (length fields) (omega arith) (λ i f low lt at. not_required fields i f (omega (arith, free, low)) at) (h.frame).next
-
     pub none_required : next_required S (top.table).object top.next ≡ None → IsUnderWay c b S L s below (top_at (length fields)) n d r
     none_required none = absent_to (length fields) (omega arith) (λ i f low lt at. none_free fields top.next none i f low at) (h.frame).next
 

@@ -8,7 +8,7 @@ use Rattle.fb_schema.specs.declared.views.Act.TheVariants.{Other}
 use Rattle.fb_schema.specs.declared.views.Step.{Step}
 use Rattle.fb_schema.specs.declared.kinds.Kind.{Kind}
 use Rattle.fb_schema.specs.Rows.{Rows}
-use Rattle.fb_schema.specs.Live.{Live, live_fields, required_end, next_required}
+use Rattle.fb_schema.specs.Live.{Live, live_fields, next_required}
 use Rattle.fb_schema.specs.Steps.{act_of, step_of}
 use Rattle.fb_verify.specs.declared.checks.Checks.{Checks}
 use Rattle.fb_verify.specs.declared.fault.Fault.{Fault}
@@ -36,7 +36,7 @@ use Rattle.fb_verify.specs.PassesOn.{fields_left, PassesOn}
 use Rattle.fb_verify.specs.Stops.{reads_failure, lead_reads_failure}
 use Rattle.fb_verify.specs.Links.{element_of, type_of, field_link}
 use Rattle.fb_verify.specs.Told.{refused, stopped}
-use Rattle.fb_verify.proofs.Absent.{others_absent, none_required, required_next, no_slot_from, some_found}
+use Rattle.fb_verify.proofs.Absent.{none_required, required_next, bare_reads, no_slot_from, some_found}
 use Rattle.fb_verify.proofs.Budgets.{fewer_reads}
 use Rattle.fb_verify.proofs.Chains.{after_none, both_none}
 use Rattle.fb_verify.proofs.Frames.{field_within, frame_next, no_row, own_few}
@@ -192,13 +192,7 @@ module _ {w : Walk} {m : Metered} {under : Waiting} {top : Frame} {steps : List 
   same_slot : (f : Live) → slice_get fields top.next ≡ Some f → step.slot ≡ f.slot
   same_slot f here = let w : Some found.0 ≡ Some f = sym found.1 ∙ here in let v : found.0 ≡ f = cc in ap (λ (z : Step). z.slot) found.2 ∙ ap (λ (z : Live). z.slot) v
 
-  -- it and those after it are absent
-  pub rest_passed : vtable_size b table_at < step.slot + 2 → required_end w.schema.now (top.table).object ≤ top.next → IsWalking w m under.start under.frames (record top { next = length steps })
-  rest_passed past free =
-      let slot = ap (λ (z : Step). z.slot) found.2 in
-      rw long (others_absent w.checks b w.schema.now w.limits under.start under.frames top w.tables w.deepest m.count h.walking h.rests found.0 found.1 (omega (arith, past, slot)) free)
-
-  -- the same where the schema tells that none of them is required
+  -- it and those after it are absent, and the schema tells that none of them is required
   pub rest_absent : vtable_size b table_at < step.slot + 2 → next_required w.schema.now (top.table).object top.next ≡ None → IsWalking w m under.start under.frames (record top { next = length steps })
   rest_absent past none =
       let slot = ap (λ (z : Step). z.slot) found.2 in
@@ -230,15 +224,18 @@ module _ {w : Walk} {m : Metered} {under : Waiting} {top : Frame} {steps : List 
         plain_passed w.checks b w.schema.now w.limits under.start under.frames top w.tables w.deepest m.count h.walking h.rests found.0 found.1 plain_field q (z ∙ ap (λ x. m.count + plain_reads b table_at x) found.2) cheap (sym chain_is ∙ none)
 
     -- or fails, and the walk stops there
-    pub step_stops : {reason : Reason} → failed ≡ Some reason → m.count ≡ k → AreAllowed (w.limits).reads (m.count + 6) → (stop : Stop) → IsStopAt w.schema.now top at reason stop
+    pub stops_paid : {reason : Reason} → failed ≡ Some reason → m.count ≡ k → AreAllowed (w.limits).reads (m.count + own_reads b table_at found.0) → (stop : Stop) → IsStopAt w.schema.now top at reason stop
         → IsStopped w m under.start under.frames (stopped stop new)
-    step_stops {reason} e z room stop is =
+    stops_paid {reason} e z cheap stop is =
         let by : Refusal = record { at = at; reason = reason } in
         let here = sym told ∙ ap (tested_by at new) e in
         let x = ap (after k) (sym chain_is) ∙ here in
-        let cheap = fewer_reads (w.limits).reads (m.count + own_reads b table_at found.0) (m.count + 6) (omega (arith, own_few b table_at found.0)) room in
         subst (λ f. IsStopped w m under.start under.frames f) (stop_is stop by (top.table).object (found.0).number new is.refusal is.object (is.field found.0 found.1))
         (plain_stops w.checks b w.schema.now w.limits under.start under.frames top w.tables w.deepest m.count h.walking h.rests found.0 found.1 plain_field cheap by new (ap (λ x'. after x' (plain_failure w.checks b table_at (step_of found.0))) z ∙ x))
+
+    pub step_stops : {reason : Reason} → failed ≡ Some reason → m.count ≡ k → AreAllowed (w.limits).reads (m.count + 6) → (stop : Stop) → IsStopAt w.schema.now top at reason stop
+        → IsStopped w m under.start under.frames (stopped stop new)
+    step_stops e z room stop is = stops_paid e z (fewer_reads (w.limits).reads (m.count + own_reads b table_at found.0) (m.count + 6) (omega (arith, own_few b table_at found.0)) room) stop is
 
   -- its slot was read, and tells that its field stands there and may lead to a table
   pub at_field : (place : Option ℕ) → place ≡ field_place b table_at step.slot → IfSome place (λ _. IsTrue (has_slot b table_at step.slot)) → IfSome place (λ p. p < 2 ^ 34)
@@ -267,9 +264,9 @@ pub required_within : {w : Walk} {m : Metered} {under : Waiting} {top : Frame} {
 required_within {w} {m} {under} {top} h place some = (some_found (live_fields w.schema.now (top.table).object) top.next place some (found h).0).2
 
 pub required_stops : {w : Walk} {m : Metered} {under : Waiting} {top : Frame} {steps : List Step} {step : Step} → AtStep w m under top steps step → vtable_size m.bytes (top.table).at < step.slot + 2
-    → (place : ℕ) → next_required w.schema.now (top.table).object top.next ≡ Some place → AreAllowed (w.limits).reads (m.count + 6) → (stop : Stop) → IsStopAt w.schema.now (record top { next = place }) (top.table).at MissingRequired stop
+    → (place : ℕ) → next_required w.schema.now (top.table).object top.next ≡ Some place → (stop : Stop) → IsStopAt w.schema.now (record top { next = place }) (top.table).at MissingRequired stop
     → IsStopped w m under.start under.frames (stopped stop m.count)
-required_stops {w} {m} {under} {top} {steps} {step} h past place some room stop is =
+required_stops {w} {m} {under} {top} {steps} {step} h past place some stop is =
     let fs = live_fields w.schema.now (top.table).object in
     let d = (found h).0 in
     let at = some_found fs top.next place some d in
@@ -282,7 +279,9 @@ required_stops {w} {m} {under} {top} {steps} {step} h past place some room stop 
       all = h.all;
       got = ap (λ xs. slice_get xs place) h.all ∙ slice_get-map step_of fs place ∙ ap (option_map step_of) got;
     } in
-    step_stops there (λ e. bare_place m.bytes (top.table).at f.slot bare) (top.table).at m.count m.count (Some MissingRequired) (bare_told w.checks m.bytes (top.table).at m.count (step_of f) bare (at.3 f got)) refl refl room stop is
+    let its : (found there).0 ≡ f = (let w : Some (found there).0 ≡ Some f = sym (found there).1 ∙ got in cc) in
+    let cheap : AreAllowed (w.limits).reads (m.count + own_reads m.bytes (top.table).at (found there).0) = fewer_reads (w.limits).reads (m.count + own_reads m.bytes (top.table).at (found there).0) m.count (omega (arith, ap (own_reads m.bytes (top.table).at) its, bare_reads m.bytes (top.table).at f bare)) (h.walking).reads in
+    stops_paid there (λ e. bare_place m.bytes (top.table).at f.slot bare) (top.table).at m.count m.count (Some MissingRequired) (bare_told w.checks m.bytes (top.table).at m.count (step_of f) bare (at.3 f got)) refl refl cheap stop is
 
 abbrev reads_told : Option Failure → ℕ
 reads_told None = 0

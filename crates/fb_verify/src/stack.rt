@@ -2,7 +2,7 @@
 
 ghost use Rattle.std.specs.Prelude.{◌≡◌, ◌+◌, ◌-◌, ◌*◌, ◌^◌, ◌<◌, ◌≤◌, max, length, List, take, slice_get, slice_index_or, [], ◌∷◌, ◌++◌, IfOk, IfErr, IfSome, MatchOption, IsTrue, Some, None, true, false};
 ghost use Rattle.fb_schema.specs.Rows.{is_table};
-ghost use Rattle.fb_schema.specs.Live.{Live, live_fields, live_of_view, required_end};
+ghost use Rattle.fb_schema.specs.Live.{Live, live_fields, live_of_view};
 ghost use Rattle.fb_schema.specs.Served.{IsServed};
 ghost use Rattle.fb_verify.specs.Bounds.{AreAllowed};
 ghost use Rattle.fb_verify.specs.Cost.{head_reads, own_reads};
@@ -105,17 +105,6 @@ impl<'s, 'n> Walk<'s, 'n> {
         })
     }
 
-    /// Whether a table's next field, which has this slot, and all those after it are absent, and none of them is
-    /// required: slots rise, so no later one lies in a vtable that ends before this one.
-    #[inline(always)]
-    fn others_are_absent(&self, table: Table, next: u32, slot: u16) -> bool
-        requires table { IsTrue (is_table self.now.schema.now table.object) }
-        ensures past { result ≡ true → (table.head).size < slot + 2 }
-        ensures free { result ≡ true → required_end self.now.schema.now table.object ≤ next }
-    {
-        table.head.ends_before(slot) && self.schema.required_end(table.object) <= next
-    }
-
     /// Goes on with a field of a table that stands at this place, whose slot was the last read: checks it by itself,
     /// asks the budget, and answers whether the field leads on, and then by which offset words. What fails does so at
     /// this field.
@@ -201,9 +190,13 @@ impl<'s, 'n> Walk<'s, 'n> {
     {
         let fields = self.schema.fields_of(top.table.object);
         while let Some(field) = fields.get(top.next as usize) {
-            if self.others_are_absent(top.table, top.next, field.slot) {
-                top.next = fields.len() as u32;
-                return Ok(false);
+            if top.table.head.ends_before(field.slot) {
+                let Some(needed) = self.schema.next_required(top.table.object, top.next) else {
+                    top.next = fields.len() as u32;
+                    return Ok(false);
+                };
+                let reason = Reason::MissingRequired;
+                return Err(self.stop_at(top.table.object, needed, top.table.at, reason));
             }
             top.next += 1;
             if self.pass_field(meter, top.table, field, &mut top.row)? {

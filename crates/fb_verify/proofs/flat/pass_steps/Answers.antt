@@ -49,12 +49,9 @@ returns-then-ends_before g c =
     let e = (goal.at.returns-then-ends_before g c).After-next_required in
     let s = here g d in
     let i = c.loop-step.invariant in
-    let w = (g.going).walk in
     let needed = c.in-Some-next_required.needed in
     let some = sym (looks g e) ∙ c.in-Some-next_required.is in
-    let within = next_within s in
     let past : vtable_size c.loop-step.reads.bytes (c.args.table).at < (c.in-Some.step.now).slot + 2 = omega (arith, below _ _ (sym c.ends_before.ensures ∙ c.if-ends_before.true), (((((i.between).walking).frame).head).vtable).size) in
-    let room = fewer_reads (w.limits).reads (c.loop-step.reads.count + 6) (c.args.reads.now.count + 6 * fields_left w.schema.now (opened c.args.table)) (omega (arith, i.paid, within)) (c.requires.1.0).allowed in
     record {
       walking = tt;
       field = tt;
@@ -67,7 +64,7 @@ returns-then-ends_before g c =
       grows = i.grows;
       bytes = i.bytes;
       next = required_within s needed some;
-      err = λ stop is. rw i.bytes at (required_stops s past needed some room stop is);
+      err = λ stop is. rw i.bytes at (required_stops s past needed some stop is);
     }
 
 pub test_at-failed-requires-clause-step : goal.test_at-failed-requires-clause-step

@@ -1,12 +1,18 @@
-use Rattle.std.proofs.Common.{◌≡◌, ◌+◌, ◌<◌, length, refl, sym, ◌∙◌, ap, arith}
+use Rattle.std.proofs.Common.{◌≡◌, ℕ, nat_lt, true, ◌+◌, ◌<◌, map, length, option_map, refl, sym, ◌∙◌, ap, arith}
+use Rattle.std.proofs.lemmas.Bool.Decides.{nat_tests}
+use Rattle.std.proofs.lemmas.Option.{slice_get-map}
 use Rattle.fb_schema.specs.Live.{live_fields, live_of_view}
+use Rattle.fb_schema.specs.Steps.{step_of}
 use Rattle.fb_verify.specs.Places.{vtable_size}
 use Rattle.fb_verify.specs.PassesOn.{PassesFields}
-use Rattle.fb_verify.proofs.Absent.{others_absent}
 use Rattle.fb_verify.proofs.Frames.{item_some, field_at, length_map}
 use Rattle.fb_verify.proofs.NextField.{err_exit, AtNext, askable, next_stops, next_leads, next_over}
+use Rattle.fb_verify.proofs.Passing.{AtStep, long, rest_absent, required_within, required_stops}
 use Rattle.fb_verify.proofs.stack.Walk.pass_each.Goals as goal
 use Rattle.fb_verify.proofs.stack.Walk.pass_each.Goals.{In-Some}
+
+below : (a b : ℕ) → nat_lt a b ≡ true → a < b
+below a b e = grind (arith, nat_tests)
 
 -- the field that comes
 here : (g : _) (c : In-Some g) → AtNext c.args.self.now c.loop-field.meter g.under c.loop-field.top (live_of_view c.in-Some.field.now)
@@ -29,29 +35,57 @@ returns-in_err-pass_field g c =
     err_exit c.from_residual.result _ (λ r. PassesFields c.args.self.now c.args.meter.now c.pass_field.new.meter g.under c.args.top.now (record c.loop-field.top { next = c.loop-field.top.next + 1; row = c.pass_field.new.row }) r) c.from_residual.ensures.1
     (record { walking = tt; leads = tt; rests = tt; all = tt; falls = tt; grows = tt; bytes = e.bytes ∙ i.bytes; err = rw i.bytes at (next_stops h _ e.err) })
 
-pub returns-then-others_are_absent : goal.returns-then-others_are_absent
-returns-then-others_are_absent g c =
-    let h = here g (goal.at.returns-then-others_are_absent g c).In-Some in
+-- its step
+stepped : (g : _) (c : In-Some g) → AtStep c.args.self.now c.loop-field.meter g.under c.loop-field.top (map step_of (live_fields c.args.self.now.schema.now (c.loop-field.top.table).object)) (step_of (live_of_view c.in-Some.field.now))
+stepped g c =
+    let h = here g c in
+    record { walking = h.walking; rests = h.rests; all = refl; got = slice_get-map step_of (live_fields c.args.self.now.schema.now (c.loop-field.top.table).object) c.loop-field.top.next ∙ ap (option_map step_of) h.here }
+
+pub returns-in_default-next_required : goal.returns-in_default-next_required
+returns-in_default-next_required g c =
+    let h = here g (goal.at.returns-in_default-next_required g c).In-Some in
+    let s = stepped g (goal.at.returns-in_default-next_required g c).In-Some in
     let i = c.loop-field.invariant in
     let top = c.loop-field.top in
-    let w = c.args.self.now in
-    let m = c.loop-field.meter in
     let fields = c.fields_of-fields.result.now in
     let all = rw (sym i.table) at (ap length c.fields_of-fields.ensures.value) in
-    let long : length fields ≡ length (live_fields w.schema.now (top.table).object) = omega (arith, length_map live_of_view fields, all) in
-    let ends = c.if-others_are_absent.true in
-    let past : vtable_size m.bytes (top.table).at < (c.in-Some.field.now).slot + 2 = omega (arith, c.others_are_absent.ensures.past ends, ((((h.walking).frame).head).vtable).size) in
+    let all_fields : length fields ≡ length (live_fields c.args.self.now.schema.now (top.table).object) = omega (arith, length_map live_of_view fields, all) in
+    let past : vtable_size c.loop-field.meter.bytes (top.table).at < (c.in-Some.field.now).slot + 2 = omega (arith, below _ _ (sym c.ends_before.ensures ∙ c.if-ends_before.true), ((((h.walking).frame).head).vtable).size) in
     let next = ((h.walking).frame).next in
     record {
-      walking = rw long (others_absent w.checks m.bytes w.schema.now w.limits (g.under).start (g.under).frames top w.tables w.deepest m.count h.walking h.rests _ h.here past (c.others_are_absent.ensures.free ends));
+      walking = rw (all_fields ∙ sym (long s)) (rest_absent s past (sym c.next_required.ensures ∙ c.in_default-next_required.is));
       leads = λ e. absurd cc;
       rests = λ _. h.rests;
-      all = λ _. omega (arith, long);
-      falls = omega (arith, i.falls, long, next);
+      all = λ _. omega (arith, all_fields);
+      falls = omega (arith, i.falls, all_fields, next);
       grows = i.grows;
       bytes = i.bytes;
       err = tt;
     }
+
+pub returns-then-ends_before : goal.returns-then-ends_before
+returns-then-ends_before g c =
+    let h = here g (goal.at.returns-then-ends_before g c).In-Some in
+    let s = stepped g (goal.at.returns-then-ends_before g c).In-Some in
+    let i = c.loop-field.invariant in
+    let e = c.stop_at.ensures in
+    let past : vtable_size c.loop-field.meter.bytes (c.loop-field.top.table).at < (c.in-Some.field.now).slot + 2 = omega (arith, below _ _ (sym c.ends_before.ensures ∙ c.if-ends_before.true), ((((h.walking).frame).head).vtable).size) in
+    let some = sym c.next_required.ensures ∙ c.in-Some-next_required.is in
+    record {
+      walking = tt;
+      leads = tt;
+      rests = tt;
+      all = tt;
+      falls = tt;
+      grows = tt;
+      bytes = i.bytes;
+      err = rw i.bytes at (required_stops s past c.in-Some-next_required.needed some c.stop_at.result (record { refusal = e.refusal; object = e.object; field = e.field }));
+    }
+
+pub stop_at-requires-clause-next : goal.stop_at-requires-clause-next
+stop_at-requires-clause-next g c =
+    let s = stepped g (goal.at.stop_at-requires-clause-next g c).In-Some in
+    required_within s c.in-Some-next_required.needed (sym c.next_required.ensures ∙ c.in-Some-next_required.is)
 
 pub returns-then-branch : goal.returns-then-branch
 returns-then-branch g c =

@@ -42,12 +42,9 @@ returns-then-ends_before g c =
     let d = (goal.at.returns-then-ends_before g c).In-Some in
     let s = here g d in
     let i = c.loop-step.invariant in
-    let w = c.args.self.now in
     let needed = c.in-Some-next_required.needed in
     let some = sym c.next_required.ensures ∙ c.in-Some-next_required.is in
-    let within = next_within s in
     let past : vtable_size c.loop-step.reads.bytes (c.args.top.now.table).at < (c.in-Some.step.now).slot + 2 = omega (arith, below _ _ (sym c.ends_before.ensures ∙ c.if-ends_before.true), (((((i.between).walking).frame).head).vtable).size) in
-    let room = fewer_reads (w.limits).reads (c.loop-step.reads.count + 6) (c.args.reads.now.count + 6 * fields_left w.schema.now c.args.top.now) (omega (arith, i.paid, within)) (c.requires.1.0).allowed in
     rw i.same (record {
       walking = tt;
       field = tt;
@@ -60,7 +57,7 @@ returns-then-ends_before g c =
       grows = i.grows;
       bytes = i.bytes;
       next = required_within s needed some;
-      err = λ stop is. rw i.bytes at (required_stops s past needed some room stop is);
+      err = λ stop is. rw i.bytes at (required_stops s past needed some stop is);
     })
 
 pub test_at-failed-requires-clause-step : goal.test_at-failed-requires-clause-step
