@@ -1,5 +1,5 @@
 -- What it takes to pass a table whose fields lead to no table, and what that leaves.
-use Rattle.std.specs.Prelude.{◌≡◌, ℕ, ◌+◌, ◌*◌, ◌<◌, ◌≤◌, List, [], ◌∷◌, ◌++◌, false, Option, Some, None, Result, Ok, Err, IfOk, IfErr, IfSome, Bool, length}
+use Rattle.std.specs.Prelude.{◌≡◌, ℕ, ◌+◌, ◌*◌, ◌<◌, ◌≤◌, List, [], ◌∷◌, ◌++◌, true, false, Option, Some, None, Result, Ok, Err, IfOk, IfErr, IfSome, Bool, length}
 use Rattle.fb_bytes.specs.Word.{Metered}
 use Rattle.fb_schema.specs.Live.{live_fields}
 use Rattle.fb_verify.specs.declared.fault.Reason.{Reason}
@@ -57,6 +57,21 @@ pub record PassesFlats {A : Type 0} (w then : Walk) (m new : Metered) (under : W
   pub walking : IfOk result (λ _. IsWalking then new under.start under.frames past)
   pub falls : IfOk result (λ _. new.count + work w.schema.now w.limits under.frames past then.tables ≤ m.count + work w.schema.now w.limits under.frames top w.tables)
   pub began : IfOk result (λ _. (past.row).left < (top.row).left → new.count + work w.schema.now w.limits under.frames past then.tables < m.count + work w.schema.now w.limits under.frames top w.tables)
+  pub grows : IfOk result (λ _. m.count ≤ new.count)
+  pub bytes : new.bytes ≡ m.bytes
+  pub links : IfErr result (λ h. h.links ≡ length under.frames + 1)
+  pub deep : IfErr result (λ h. h.links + links_left h.last ≤ (w.limits).depth)
+  pub err : IfErr result (λ h. HaltsIn w m under.start (under.frames ++ past ∷ []) h new.count)
+
+-- offset words of the top's row were passed, each with what it leads to, and that row is left of it; or the frame below
+-- was opened for a table to which one leads (more tells which); or the walk stops at one
+pub record PassesMembers (w then : Walk) (m new : Metered) (under : Waiting) (top past below : Frame) (result : Result Bool Halt) : Type 0 where
+  pub same : IfOk result (λ _. then ≡ record w { tables = then.tables; deepest = then.deepest })
+  pub walking : IfOk result (λ more. more ≡ false → IsWalking then new under.start under.frames past)
+  pub falls : IfOk result (λ more. more ≡ false → new.count + work w.schema.now w.limits under.frames past then.tables ≤ m.count + work w.schema.now w.limits under.frames top w.tables)
+  pub began : IfOk result (λ more. more ≡ false → (past.row).left < (top.row).left → new.count + work w.schema.now w.limits under.frames past then.tables < m.count + work w.schema.now w.limits under.frames top w.tables)
+  pub opened : IfOk result (λ more. more ≡ true → IsWalking then new under.start (under.frames ++ past ∷ []) below)
+  pub leads : IfOk result (λ more. more ≡ true → new.count + work w.schema.now w.limits (under.frames ++ past ∷ []) below then.tables < m.count + work w.schema.now w.limits under.frames top w.tables)
   pub grows : IfOk result (λ _. m.count ≤ new.count)
   pub bytes : new.bytes ≡ m.bytes
   pub links : IfErr result (λ h. h.links ≡ length under.frames + 1)

@@ -1,17 +1,17 @@
 // Tables whose fields lead to no table, passed whole by reads that are counted in a register.
 
-ghost use Rattle.std.specs.Prelude.{◌≡◌, ◌+◌, ◌*◌, ◌^◌, ◌<◌, ◌≤◌, length, map, MatchOption, IfOk, IfErr, IfSome, IsTrue, None, true, false};
+ghost use Rattle.std.specs.Prelude.{slice_index_or, ◌≡◌, ◌+◌, ◌*◌, ◌^◌, ◌<◌, ◌≤◌, length, map, MatchOption, IfOk, IfErr, IfSome, IsTrue, None, true, false};
 ghost use Rattle.fb_schema.specs.Rows.{is_table};
 ghost use Rattle.fb_schema.specs.Live.{live_fields};
 ghost use Rattle.fb_schema.specs.Steps.{is_plain, step_of};
 ghost use Rattle.fb_verify.specs.Bounds.{AreAllowed};
 ghost use Rattle.fb_verify.specs.Cost.{head_reads};
-ghost use Rattle.fb_verify.specs.Flat.{came, Going, MayOpen, PassesFlat, PassesFlats};
+ghost use Rattle.fb_verify.specs.Flat.{came, Going, MayOpen, PassesFlat, PassesFlats, PassesMembers};
 ghost use Rattle.fb_verify.specs.Order.{head_failure};
 ghost use Rattle.fb_verify.specs.PassesOn.{IsBetween, HasRoom, PassesOn};
 ghost use Rattle.fb_verify.specs.Places.{has_vtable, vtable};
 ghost use Rattle.fb_verify.specs.Plain.{IsTested};
-ghost use Rattle.fb_verify.specs.Stack.{opened, Waiting, IsWalking};
+ghost use Rattle.fb_verify.specs.Stack.{blank, opened, Waiting, IsWalking};
 ghost use Rattle.fb_verify.specs.declared.offset_row.Leads.TheVariants.{All};
 ghost use Rattle.fb_verify.specs.declared.offset_row.Referent.TheVariants.{Table as ATable};
 ghost use Rattle.fb_verify.specs.Told.{IsHead};
@@ -192,6 +192,38 @@ fn pass_flat(
     pass_steps(reads, checks, steps, schema, table, next, at)
 }
 
+/// Opens the frame of the table at a position, of this object, if its head holds; else the position is moved to where
+/// that fails.
+#[inline(always)]
+fn open_frame(
+    reads: &mut Reads<'_>,
+    checks: Checks,
+    object: u32,
+    at: &mut u64,
+    frame: &mut Frame,
+) -> Option<Reason>
+    requires few { reads.old.count < 2 ^ 60 }
+    requires near { at.old < 2 ^ 33 }
+    ensures tested { IsTested reads.old reads.new at.new (head_failure checks reads.old.bytes at.old) (head_reads checks) result }
+    ensures head { result ≡ None → IsHead checks reads.old.bytes at.old (frame.new.table).head }
+    ensures opened { result ≡ None → frame.new ≡ opened (record { object = object; at = at.old; head = (frame.new.table).head }) }
+{
+    let mut head = Head {
+        vtable: 0,
+        size: 0,
+        inline: 0,
+    };
+    let failed = test_head(reads, checks, at, &mut head);
+    if failed.is_none() {
+        *frame = Frame::opened(Table {
+            head,
+            object,
+            at: *at,
+        });
+    }
+    failed
+}
+
 /// Where the walk stops at the head of a table of this object.
 #[cold]
 #[inline(never)]
@@ -341,30 +373,173 @@ impl<'s, 'n> Walk<'s, 'n> {
         answer
     }
 
-    /// The same where all words of the row lead to tables of one object, whose fields lead to no table, and where one
-    /// table more may be open and the budget is not used up; else it passes none.
+    /// Whether an offset word is left of a row, and the limits allow to open one more table, for so many reads at most
+    /// behind all these words.
+    #[inline(always)]
+    fn has_member(&self, reads: &Reads<'_>, row: Row, room: u64) -> bool
+        requires few { reads.now.count < 2 ^ 58 }
+        ensures more { result ≡ true → 0 < row.left }
+        ensures fewer { result ≡ true → self.now.tables < (self.now.limits).tables }
+        ensures small { result ≡ true → (self.now.limits).tables < 2 ^ 32 }
+        ensures room { result ≡ true → reads.now.count + 4 * row.left + 8 ≤ room }
+    {
+        row.left > 0
+            && self.tables < self.limits.tables()
+            && reads.count() + 4 * u64::from(row.left) + 8 <= room
+    }
+
+    /// Passes offset words that are left of the top table's field, each with what it leads to, until one leads to a
+    /// table of which a field may lead on. That table is opened below the top then, and the answer is yes. So many
+    /// frames wait below the top.
+    #[inline(always)]
+    fn pass_members(
+        &mut self,
+        checks: Checks,
+        reads: &mut Reads<'_>,
+        waiting: u32,
+        top: &mut Frame,
+        below: &mut Frame,
+    ) -> Result<bool, Halt>
+        ghost under: { Waiting }
+        requires waiting { waiting ≡ length under.frames }
+        requires walking { IsWalking self.old reads.old under.start under.frames top.old }
+        requires deep { waiting + 1 < (self.old.limits).depth }
+        requires low { waiting + 1 < 4096 }
+        requires few { reads.old.count ≤ 2 ^ 56 }
+        requires same { checks ≡ self.old.checks }
+        ensures { PassesMembers self.old self.new reads.old reads.new under top.old top.new below.new result }
+    {
+        let schema = self.schema;
+        let room = self.limits.short();
+        while self.has_member(reads, top.row, room) {
+            let child = match self.pass_words_of(checks, reads, top, top.row) {
+                Ok(child) => child,
+                Err(stop) => return Err(stop.halt(waiting + 1, LastLink::Behind)),
+            };
+            let Some(child) = child else {
+                return Ok(false);
+            };
+            top.row.advance();
+            self.tables += 1;
+            self.deepest = self.deepest.max(waiting + 2);
+            let object = child.object;
+            let mut at = child.at;
+            let steps = schema.steps_of(object);
+            if !schema.is_plain(object) || reads.count() + 4 + 6 * steps.len() as u64 > room {
+                let failed = open_frame(reads, checks, object, &mut at, below);
+                if let Some(reason) = failed {
+                    let stop = stop_in_head(object, at, reason);
+                    return Err(stop.halt(waiting + 1, LastLink::Behind));
+                }
+                return Ok(true);
+            }
+            let mut next = 0;
+            let came = pass_flat(
+                self, top, top.row, reads, checks, object, steps, schema, &mut next, &mut at,
+            );
+            if let Some(reason) = came {
+                if next == IN_HEAD {
+                    let stop = stop_in_head(object, at, reason);
+                    return Err(stop.halt(waiting + 1, LastLink::Behind));
+                }
+                let stop = self.stop_at(object, next, at, reason);
+                return Err(stop.halt(waiting + 1, LastLink::InField));
+            }
+        }
+        Ok(false)
+    }
+
+    /// The same by the tally, whatever the checks are.
+    #[cold]
+    #[inline(never)]
+    fn pass_members_by_checks(
+        &mut self,
+        meter: &mut Tally<'_>,
+        waiting: u32,
+        top: &mut Frame,
+        below: &mut Frame,
+    ) -> Result<bool, Halt>
+        ghost under: { Waiting }
+        requires waiting { waiting ≡ length under.frames }
+        requires walking { IsWalking self.old meter.old under.start under.frames top.old }
+        requires deep { waiting + 1 < (self.old.limits).depth }
+        requires low { waiting + 1 < 4096 }
+        requires few { meter.old.count ≤ 2 ^ 56 }
+        ensures { PassesMembers self.old self.new meter.old meter.new under top.old top.new below.new result }
+    {
+        let checks = self.checks;
+        let mut reads = meter.lend();
+        let answer = self.pass_members(checks, &mut reads, waiting, top, below);
+        meter.settle(reads);
+        answer
+    }
+
+    /// The same, quickly where the checks are the published ones.
+    #[inline(always)]
+    fn pass_members_on(
+        &mut self,
+        meter: &mut Tally<'_>,
+        waiting: u32,
+        top: &mut Frame,
+        below: &mut Frame,
+    ) -> Result<bool, Halt>
+        ghost under: { Waiting }
+        requires waiting { waiting ≡ length under.frames }
+        requires walking { IsWalking self.old meter.old under.start under.frames top.old }
+        requires deep { waiting + 1 < (self.old.limits).depth }
+        requires low { waiting + 1 < 4096 }
+        requires few { meter.old.count ≤ 2 ^ 56 }
+        ensures { PassesMembers self.old self.new meter.old meter.new under top.old top.new below.new result }
+    {
+        let checks = self.checks;
+        if !checks.alignment || checks.inline_size {
+            return self.pass_members_by_checks(meter, waiting, top, below);
+        }
+        let published = Checks {
+            alignment: true,
+            inline_size: false,
+        };
+        let mut reads = meter.lend();
+        let answer = self.pass_members(published, &mut reads, waiting, top, below);
+        meter.settle(reads);
+        answer
+    }
+
+    /// Passes offset words of a row in a loop: where all lead to tables of one object, whose fields lead to no table, or
+    /// where the types of a union tell what each leads to. It needs that one table more may be open and that the budget
+    /// is not used up; else it passes none. Where it answers yes, the first frame of the room is that of a table that was
+    /// opened below the top.
     #[inline(never)]
     pub fn pass_flat_row(
         &mut self,
         meter: &mut Tally<'_>,
         waiting: u32,
         top: &mut Frame,
-    ) -> Result<(), Halt>
+        room: &mut [Frame],
+    ) -> Result<bool, Halt>
         ghost under: { Waiting }
         requires waiting { waiting ≡ length under.frames }
         requires walking { IsWalking self.old meter.old under.start under.frames top.old }
         requires leads { 0 < (top.old.row).left }
-        ensures { PassesFlats self.old self.new meter.old meter.new under top.old top.new result }
+        requires room { (self.old.limits).depth ≤ waiting + 1 + length room.old }
+        ensures passes { PassesMembers self.old self.new meter.old meter.new under top.old top.new (slice_index_or room.new 0 blank) result }
+        ensures length { length room.new ≡ length room.old }
     {
-        let Leads::All(Referent::Table(object)) = top.row.leads else {
-            return Ok(());
-        };
-        if !self.schema.is_plain(object)
-            || waiting + 1 >= self.limits.depth()
-            || !self.limits.allows_short(meter.reads())
-        {
-            return Ok(());
+        if waiting + 1 >= self.limits.depth() || !self.limits.allows_short(meter.reads()) {
+            return Ok(false);
         }
-        self.pass_flats_on(meter, waiting, object, top)
+        match top.row.leads {
+            Leads::All(Referent::Table(object)) => {
+                if !self.schema.is_plain(object) {
+                    return Ok(false);
+                }
+                match self.pass_flats_on(meter, waiting, object, top) {
+                    Ok(()) => Ok(false),
+                    Err(halt) => Err(halt),
+                }
+            }
+            Leads::ByType(_, _) => { self.pass_members_on(meter, waiting, top, &mut room[0]) },
+            _ => Ok(false),
+        }
     }
 }

@@ -7,6 +7,7 @@ ghost use Rattle.fb_verify.specs.OffsetRows.{lead_to, first_word, past_first, Is
 ghost use Rattle.fb_verify.specs.Stack.{Waiting, IsWalking, IsAtTable, IsStoppedBehind};
 ghost use Rattle.fb_verify.specs.Told.{stopped};
 
+use crate::checks::Checks;
 use crate::element::Child;
 use crate::fault::Reason;
 use crate::field::referent_at;
@@ -75,10 +76,12 @@ impl Walk<'_, '_> {
 
     /// Passes offset words that are left of the top table's field, with the strings and structs that they lead to,
     /// until one leads to a table, and answers that table; none where no word is left. Where one fails, the row is left
-    /// past it. The budget allows whatever they cost. These are the words, of which a caller may know constants.
+    /// past it. The budget allows whatever they cost. These are the walk's own checks, and the words, of which a caller may
+    /// know constants.
     #[inline(always)]
-    fn pass_words_of(
+    pub fn pass_words_of(
         &self,
+        checks: Checks,
         reads: &mut Reads<'_>,
         top: &mut Frame,
         words: Row,
@@ -88,6 +91,7 @@ impl Walk<'_, '_> {
         requires room { AreAllowed (self.now.limits).reads (reads.old.count + 4 * (top.old.row).left) }
         requires few { reads.old.count + 4 * (top.old.row).left < 2 ^ 56 }
         requires same { words ≡ top.old.row }
+        requires checks { checks ≡ self.now.checks }
         ensures walking { IfOk result (λ o. o ≡ None → IsWalking self.now reads.new under.start under.frames top.new) }
         ensures table { IfOk result (λ o. IfSome o (λ child. IsAtTable self.now reads.new.bytes reads.new.count under.start under.frames top.new (reads.old.count + 4 * (top.old.row).left) child)) }
         ensures top { IfOk result (λ _. top.new ≡ record top.old { row = top.new.row }) }
@@ -98,7 +102,6 @@ impl Walk<'_, '_> {
         ensures bytes { reads.new.bytes ≡ reads.old.bytes }
         ensures err { IfErr result (λ s. IsStoppedBehind self.now reads.old under.start (under.frames ++ top.new ∷ []) (stopped s reads.new.count)) }
     {
-        let checks = self.checks;
         let mut row = words;
         while row.left > 0 {
             let referent = first_referent(reads, self.schema, row);
@@ -139,9 +142,9 @@ impl Walk<'_, '_> {
                 leads: Leads::All(Referent::Text),
                 ..top.row
             };
-            return self.pass_words_of(reads, top, texts);
+            return self.pass_words_of(self.checks, reads, top, texts);
         }
-        self.pass_words_of(reads, top, top.row)
+        self.pass_words_of(self.checks, reads, top, top.row)
     }
 
     /// Passes one or more offset words that are left of the top table's field, with the strings and structs that they

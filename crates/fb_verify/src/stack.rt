@@ -474,8 +474,9 @@ impl<'s, 'n> Walk<'s, 'n> {
     {
         let _schema = self.schema;
         if top.row.left > 1 {
-            match self.pass_flat_row(meter, waiting, top) {
-                Ok(()) => {}
+            match self.pass_flat_row(meter, waiting, top, room) {
+                Ok(true) => return Ok(true),
+                Ok(false) => {}
                 Err(halt) => return Err(halt),
             }
             if top.row.left == 0 {

@@ -32,7 +32,7 @@ told g c =
     let w = c.args.self.now in
     let first = c.first_referent-referent.ensures in
     word_told w.checks c.loop-row.reads.bytes w.schema.now w.limits (g.under).start (g.under).frames (top_at g c) w.tables w.deepest c.loop-row.reads.count (c.loop-row.invariant).walking (lead_to c.first_referent-referent.result) first.lead
-    c.loop-row.reads.count c.first_referent-referent.new.reads.count (ap (λ x. x.count) first.counted) _ (rw (ap (λ x. x.bytes) first.counted) at c.test_lead-failed.ensures.told)
+    c.loop-row.reads.count c.first_referent-referent.new.reads.count (ap (λ x. x.count) first.counted) _ (rw (ap (λ x. x.bytes) first.counted, c.requires.1.1.1.1) at c.test_lead-failed.ensures.told)
 
 -- where it tells nothing, the word holds
 holds : (g : _) (c : After-test_lead-failed g) → c.test_lead-failed.result ≡ None → element_failure c.args.self.now.checks c.loop-row.reads.bytes (first_word c.loop-row.reads.bytes c.args.self.now.schema.now c.loop-row.row) ≡ None
