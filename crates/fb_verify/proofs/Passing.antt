@@ -150,7 +150,7 @@ module _ (c : Checks) (b : List ℕ) (S : Rows) (L : Bounds) (s : Origin) (below
     ]
 
 -- The slot of a field was read that stands there and may lead to a table.
-slot_is_one : (b : List ℕ) (at o : ℕ) → IsTrue (has_slot b at o) → slot_reads b at o ≡ 1
+pub slot_is_one : (b : List ℕ) (at o : ℕ) → IsTrue (has_slot b at o) → slot_reads b at o ≡ 1
 slot_is_one b at o h = go (has_slot b at o) h where
   go : (x : Bool) → IsTrue x → ◌≡◌ {A = ℕ} (if x then 1 else 0) 1
   go true h = refl

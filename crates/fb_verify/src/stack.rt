@@ -23,12 +23,12 @@ use crate::fault::Reason;
 use crate::field::{FieldSpot, Table, check_present};
 use crate::head::{Head, check_head, read_slot};
 use crate::limits::Limits;
-use crate::offset_row::Row;
+use crate::offset_row::{Referent, Row};
 use crate::plain::{leads_on, slot_at, test_at};
 use crate::scratch::Frame;
 use crate::site::{Halt, LastLink, Refusal, Site, Stop, refuse};
 use fb_bytes::{Reads, Tally};
-use fb_schema::{FieldView, Schema};
+use fb_schema::{FieldView, Kind, Schema};
 
 /// What a walk carries: what it is asked, the tables that it opened, and the greatest number of them that were open at
 /// once.
@@ -107,9 +107,9 @@ impl<'s, 'n> Walk<'s, 'n> {
 
     /// Goes on with a field of a table that stands at this place, whose slot was the last read: checks it by itself,
     /// asks the budget, and answers whether the field leads on, and then by which offset words. What fails does so at
-    /// this field.
+    /// this field. One that leads to a table comes first, so that it goes past the other kinds without a jump.
     #[inline(always)]
-    #[tactic(auto, using(crate::proofs::Refusals::told_after), unfolding(crate::specs::Order::own_failure, crate::specs::Cost::own_reads, crate::specs::Fields::entries))]
+    #[tactic(auto, using(crate::proofs::Refusals::told_after), unfolding(crate::specs::Order::own_failure, crate::specs::Order::table_failure, crate::specs::Cost::own_reads, crate::specs::Fields::entries, crate::specs::Fields::row))]
     fn pass_present(
         &self,
         meter: &mut Tally<'_>,
@@ -131,6 +131,13 @@ impl<'s, 'n> Walk<'s, 'n> {
             object: table.object,
             field: Some(field.number),
         };
+        if let Kind::Table(object) = field.kind {
+            if !self.checks.inline_size {
+                *row = Row::one(Referent::Table(object), place);
+                ask_reads(meter, self.limits, site, table.at)?;
+                return Ok(true);
+            }
+        }
         let spot = FieldSpot {
             at: table.at,
             head: table.head,
