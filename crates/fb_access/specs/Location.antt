@@ -67,6 +67,6 @@ cut_to most text = if nat_lt most (length text) then take most text ++ codes "..
 unfoldable pub location_text : Rows → Fault → List Link → List ℕ
 location_text S f links = cut_to 4096 (whole_text S f links)
 
--- behind what was there, as much of a text as brings both to so many bytes
-unfoldable pub filled : ℕ → List ℕ → List ℕ → List ℕ
-filled most before text = before ++ take (most - length before) text
+-- behind what was there, as much of a text as brings both to a byte more than is told
+unfoldable pub filled : List ℕ → List ℕ → List ℕ
+filled before text = before ++ take (4097 - length before) text

@@ -1,12 +1,13 @@
 // Where a fault is, in words.
 
-ghost use Rattle.std.specs.Prelude.{◌≡◌, ◌++◌, [], take, slice_get, codes, option_map, option_and_then, OnOk};
+ghost use Rattle.std.specs.Prelude.{◌≡◌, ◌+◌, ◌≤◌, ◌++◌, [], length, take, slice_get, codes, option_map, option_and_then, OnOk};
 ghost use Rattle.std.specs.List.{flat_map};
 ghost use Rattle.fb_schema.specs.Live.{live_of_view};
 ghost use Rattle.fb_access.specs.Fitting.{numbered};
 ghost use Rattle.fb_access.specs.Location.{name_byte, name_text, named, field_name, link_member, element_text, link_text, path_text, whole_text, location_text, filled};
 
 use crate::field::field_numbered;
+use arrayvec::ArrayVec;
 use fb_schema::{FieldView, Kind, Schema};
 use fb_verify::{Fault, Link};
 use itoa::Buffer;
@@ -15,14 +16,33 @@ use std::alloc::{AllocError, Allocator};
 /// The most bytes of a place that are told.
 const MOST: usize = 4_096;
 
-/// Adds where a fault is to a text, by the names of the schema: `in `, the path of what is under check, to which these
-/// links lead, and in brackets its table's full name with the field's. A byte of a name that no identifier has stands
-/// as `?`. Of more than 4,096 bytes the first 4,096 and `..` are added, and no more is copied than one byte beyond.
+/// As many, and one by which a longer place is known.
+const FRONT: usize = 4_097;
+
+/// The place of a fault in words: as many bytes as are told, and `..`.
+pub type LocationText = ArrayVec<u8, 4_098>;
+
+/// Where a fault is, by the names of the schema: `in `, the path of what is under check, to which these links lead, and
+/// in brackets its table's full name with the field's. A byte of a name that no identifier has stands as `?`. Of more
+/// than 4,096 bytes the first 4,096 and `..` are told, and no more is copied than one byte beyond. It takes no memory.
+#[tactic(auto, using(crate::proofs::Filling::told_whole, crate::proofs::Filling::told_cut), unfolding(crate::specs::Location::location_text))]
+pub fn location_of(schema: &Schema<'_>, fault: &Fault, links: &[Link]) -> LocationText
+    ensures { result.items ≡ location_text schema.now fault.now links.now }
+{
+    let mut text = ArrayVec::new();
+    put_front(&mut text, schema, fault, links);
+    if text.len() > MOST {
+        text.truncate(MOST);
+        put_all(&mut text, b"..");
+    }
+    text
+}
+
+/// Adds where a fault is to a text, as [`location_of`] has it.
 ///
 /// # Errors
 ///
 /// `AllocError` where memory was refused.
-#[tactic(auto, using(crate::proofs::Filling::told_whole, crate::proofs::Filling::told_cut), unfolding(crate::specs::Location::location_text))]
 pub fn put_location<A: Allocator>(
     text: &mut Vec<u8, A>,
     schema: &Schema<'_>,
@@ -31,126 +51,90 @@ pub fn put_location<A: Allocator>(
 ) -> Result<(), AllocError>
     ensures ok { OnOk result (text.new.items ≡ text.old.items ++ location_text schema.now fault.now links.now) }
 {
-    let end = text.len() + MOST;
-    put_front(text, end + 1, schema, fault, links)?;
-    if text.len() <= end {
-        return Ok(());
-    }
-    text.truncate(end);
-    text.extend_from_slice(b"..")
+    text.extend_from_slice(location_of(schema, fault, links).as_slice())
 }
 
 /// Adds where a fault is, up to so many bytes in all.
 #[tactic(auto, using(crate::proofs::Filling::filled_twice), unfolding(crate::specs::Location::whole_text))]
-fn put_front<A: Allocator>(
-    text: &mut Vec<u8, A>,
-    most: usize,
-    schema: &Schema<'_>,
-    fault: &Fault,
-    links: &[Link],
-) -> Result<(), AllocError>
-    ensures { OnOk result (text.new.items ≡ filled most text.old.items (whole_text schema.now fault.now links.now)) }
+fn put_front(text: &mut LocationText, schema: &Schema<'_>, fault: &Fault, links: &[Link])
+    ensures { text.new.items ≡ filled text.old.items (whole_text schema.now fault.now links.now) }
 {
-    put_text(text, most, b"in ")?;
-    put_path(text, most, schema, links)?;
-    put_text(text, most, b" [")?;
-    put_named(text, most, b"", object_name(schema, fault.object))?;
-    put_named(text, most, b".", field_of(schema, fault))?;
-    put_text(text, most, b"]")
+    put_text(text, b"in ");
+    put_path(text, schema, links);
+    put_text(text, b" [");
+    put_named(text, b"", object_name(schema, fault.object));
+    put_named(text, b".", field_of(schema, fault));
+    put_text(text, b"]");
 }
 
 /// Adds the path to which links lead, up to so many bytes in all.
 #[tactic(auto, using(crate::proofs::Filling::filled_twice))]
-fn put_path<A: Allocator>(
-    text: &mut Vec<u8, A>,
-    most: usize,
-    schema: &Schema<'_>,
-    links: &[Link],
-) -> Result<(), AllocError>
-    ensures { OnOk result (text.new.items ≡ filled most text.old.items (path_text schema.now links.now)) }
+fn put_path(text: &mut LocationText, schema: &Schema<'_>, links: &[Link])
+    ensures { text.new.items ≡ filled text.old.items (path_text schema.now links.now) }
 {
     match links.split_first() {
-        None => put_text(text, most, b"."),
+        None => put_text(text, b"."),
         Some((first, rest)) => {
-            put_link(text, most, schema, first)?;
-            put_links(text, most, schema, rest)
+            put_link(text, schema, first);
+            put_links(text, schema, rest);
         }
     }
 }
 
 /// Adds links, each behind a dot, up to so many bytes in all.
-fn put_links<A: Allocator>(
-    text: &mut Vec<u8, A>,
-    most: usize,
-    schema: &Schema<'_>,
-    links: &[Link],
-) -> Result<(), AllocError>
-    ensures { OnOk result (text.new.items ≡ filled most text.old.items (flat_map (λ l. codes "." ++ link_text schema.now l) links.now)) }
+fn put_links(text: &mut LocationText, schema: &Schema<'_>, links: &[Link])
+    ensures { text.new.items ≡ filled text.old.items (flat_map (λ l. codes "." ++ link_text schema.now l) links.now) }
 {
     for link in links {
-        put_text(text, most, b".")?;
-        put_link(text, most, schema, link)?;
+        put_text(text, b".");
+        put_link(text, schema, link);
     }
-    Ok(())
 }
 
 /// Adds one link, a field with the element and the member that it has of it, up to so many bytes in all.
 #[tactic(auto, using(crate::proofs::Filling::filled_twice))]
-fn put_link<A: Allocator>(
-    text: &mut Vec<u8, A>,
-    most: usize,
-    schema: &Schema<'_>,
-    link: &Link,
-) -> Result<(), AllocError>
-    ensures { OnOk result (text.new.items ≡ filled most text.old.items (link_text schema.now link.now)) }
+fn put_link(text: &mut LocationText, schema: &Schema<'_>, link: &Link)
+    ensures { text.new.items ≡ filled text.old.items (link_text schema.now link.now) }
 {
-    put_named(text, most, b"", name_of(schema, link.object, link.field))?;
-    put_element(text, most, link.element)?;
-    put_named(text, most, b"@", member_of(schema, link))
+    put_named(text, b"", name_of(schema, link.object, link.field));
+    put_element(text, link.element);
+    put_named(text, b"@", member_of(schema, link));
 }
 
 /// Adds an element's number between brackets, up to so many bytes in all.
 #[tactic(auto, using(crate::proofs::Filling::filled_twice, crate::proofs::Filling::filled_nothing))]
-fn put_element<A: Allocator>(
-    text: &mut Vec<u8, A>,
-    most: usize,
-    element: Option<u32>,
-) -> Result<(), AllocError>
-    ensures { OnOk result (text.new.items ≡ filled most text.old.items (element_text element)) }
+fn put_element(text: &mut LocationText, element: Option<u32>)
+    ensures { text.new.items ≡ filled text.old.items (element_text element) }
 {
     let Some(number) = element else {
-        return Ok(());
+        return;
     };
     let mut buffer = Buffer::new();
-    put_text(text, most, b"[")?;
-    put_text(text, most, buffer.format(number).as_bytes())?;
-    put_text(text, most, b"]")
+    put_text(text, b"[");
+    put_text(text, buffer.format(number).as_bytes());
+    put_text(text, b"]");
 }
 
 /// Adds a name behind a mark, where there is one, up to so many bytes in all.
 #[tactic(auto, using(crate::proofs::Filling::filled_name, crate::proofs::Filling::filled_nothing))]
-fn put_named<A: Allocator>(
-    text: &mut Vec<u8, A>,
-    most: usize,
-    mark: &[u8],
-    name: Option<&[u8]>,
-) -> Result<(), AllocError>
-    ensures { OnOk result (text.new.items ≡ filled most text.old.items (named mark.now (option_map (λ n. n.now) name.entry))) }
+fn put_named(text: &mut LocationText, mark: &[u8], name: Option<&[u8]>)
+    ensures { text.new.items ≡ filled text.old.items (named mark.now (option_map (λ n. n.now) name.entry)) }
 {
     let Some(name) = name else {
-        return Ok(());
+        return;
     };
-    put_text(text, most, mark)?;
-    let name = front(name, most.saturating_sub(text.len()));
-    put_name(text, name)
+    put_text(text, mark);
+    let name = front(name, FRONT.saturating_sub(text.len()));
+    put_name(text, name);
 }
 
 /// Adds a text, up to so many bytes in all.
 #[tactic(auto, unfolding(crate::specs::Location::filled))]
-fn put_text<A: Allocator>(text: &mut Vec<u8, A>, most: usize, more: &[u8]) -> Result<(), AllocError>
-    ensures { OnOk result (text.new.items ≡ filled most text.old.items more.now) }
+fn put_text(text: &mut LocationText, more: &[u8])
+    ensures { text.new.items ≡ filled text.old.items more.now }
 {
-    text.extend_from_slice(front(more, most.saturating_sub(text.len())))
+    let more = front(more, FRONT.saturating_sub(text.len()));
+    put_all(text, more);
 }
 
 /// The first bytes of a text, so many where it has them.
@@ -160,14 +144,24 @@ fn front(text: &[u8], most: usize) -> &[u8]
     &text[..text.len().min(most)]
 }
 
-/// Adds a name.
-fn put_name<A: Allocator>(text: &mut Vec<u8, A>, name: &[u8]) -> Result<(), AllocError>
-    ensures { OnOk result (text.new.items ≡ text.old.items ++ name_text name.now) }
+/// Adds a text for which there is room.
+fn put_all(text: &mut LocationText, more: &[u8])
+    requires { length text.old.items + length more.now ≤ 4098 }
+    ensures { text.new.items ≡ text.old.items ++ more.now }
+{
+    let Ok(()) = text.try_extend_from_slice(more) else {
+        unreachable!()
+    };
+}
+
+/// Adds a name for which there is room.
+fn put_name(text: &mut LocationText, name: &[u8])
+    requires { length text.old.items + length name.now ≤ 4098 }
+    ensures { text.new.items ≡ text.old.items ++ name_text name.now }
 {
     for byte in name {
-        text.push(name_byte(*byte))?;
+        text.push(name_byte(*byte));
     }
-    Ok(())
 }
 
 /// A byte of a name as it is written.

@@ -4,10 +4,10 @@ use Rattle.fb_access.proofs.Filling.{filled_nothing, filled_twice}
 use Rattle.fb_access.proofs.location.put_links.Goals as goal
 
 pub loop-link-init : goal.loop-link-init
-loop-link-init g c = sym (filled_nothing c.args.most c.args.text.now.items)
+loop-link-init c = sym (filled_nothing c.args.text.now.items)
 
 pub loop-link-preserved : goal.loop-link-preserved
-loop-link-preserved g c = grind (arith, common_steps, filled_twice, filled_nothing)
+loop-link-preserved c = grind (arith, common_steps, filled_twice, filled_nothing)
 
 pub returns : goal.returns
-returns g c = grind (arith, common_steps, filled_twice, filled_nothing)
+returns c = grind (arith, common_steps, filled_twice, filled_nothing)

@@ -4,4 +4,4 @@ use Rattle.fb_access.specs.Location.{filled, link_text}
 use Rattle.fb_access.proofs.location.put_links.Given as goal
 
 abbrev pub invariant-loop-link : goal.invariant-loop-link
-invariant-loop-link g l = l.text.items ≡ filled l.most l.initial.text.items (flat_map (λ x. codes "." ++ link_text l.schema x) (take l.link-index l.links))
+invariant-loop-link l = l.text.items ≡ filled l.initial.text.items (flat_map (λ x. codes "." ++ link_text l.schema x) (take l.link-index l.links))

@@ -3,7 +3,7 @@ use Rattle.std.proofs.lemmas.Grind.{common_steps}
 use Rattle.fb_access.proofs.location.put_name.Goals as goal
 
 pub loop-byte-preserved : goal.loop-byte-preserved
-loop-byte-preserved g c = grind (arith, common_steps)
+loop-byte-preserved c = grind (arith, common_steps)
 
 pub returns : goal.returns
-returns g c = grind (arith, common_steps)
+returns c = grind (arith, common_steps)

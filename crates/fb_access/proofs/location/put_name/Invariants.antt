@@ -3,4 +3,4 @@ use Rattle.fb_access.specs.Location.{name_byte}
 use Rattle.fb_access.proofs.location.put_name.Given as goal
 
 abbrev pub invariant-loop-byte : goal.invariant-loop-byte
-invariant-loop-byte g l = l.text.items ≡ l.initial.text.items ++ map name_byte (take l.byte-index l.name)
+invariant-loop-byte l = l.text.items ≡ l.initial.text.items ++ map name_byte (take l.byte-index l.name)
