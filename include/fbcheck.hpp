@@ -129,9 +129,8 @@ class Schema {
         std::string place;
         for (std::size_t whole = told.status == FBCHECK_BAD ? 256 : 0; whole > place.size();) {
             place.resize(whole);
-            if (fbcheck_locate(schema_, room(scratch), &options, bytes(buffer), length, place.data(), place.size(),
-                               &whole, &told) == FBCHECK_NO_MEMORY)
-                throw std::bad_alloc();
+            fbcheck_locate(schema_, room(scratch), &options, bytes(buffer), length, place.data(), place.size(), &whole,
+                           &told);
             if (whole <= place.size()) place.resize(whole);
         }
         return Verdict(told, std::move(place));

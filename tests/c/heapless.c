@@ -1,7 +1,6 @@
 /*
  * Makes every call but those that make and free something, with a scratch and without, while a request for memory ends
- * the process: heapless SCHEMA.bfbs BUFFER PATH, of which the buffer is good. Only fbcheck_resolve may ask, and
- * fbcheck_locate of a bad one.
+ * the process: heapless SCHEMA.bfbs BUFFER PATH, of which the buffer is good. Only fbcheck_resolve may ask.
  */
 #include <fbcheck.h>
 #include <fcntl.h>
@@ -57,6 +56,7 @@ static void call_each(const fbcheck_schema *schema, fbcheck_scratch *scratch, co
         || fbcheck_verify_each(schema, scratch, NULL, bytes[1], lengths[1], spans, verdicts, 2) != FBCHECK_BAD
         || fbcheck_read(schema, scratch, NULL, bytes[1], lengths[1], path, &value, 1, verdicts) != FBCHECK_OK
         || fbcheck_locate(schema, scratch, NULL, bytes[1], lengths[1], name, 64, &written, verdicts) != FBCHECK_OK
+        || fbcheck_locate(schema, scratch, NULL, bytes[1], 3, name, 64, &written, verdicts) != FBCHECK_BAD
         || fbcheck_most_reads(schema, NULL, 99, &reads) != FBCHECK_OK
         || fbcheck_table(schema, "?", 1) != FBCHECK_NO_TABLE
         || fbcheck_framer_feed(&framer, room, sizeof room, (const uint8_t *)"abc", 3, &used) != FBCHECK_MORE

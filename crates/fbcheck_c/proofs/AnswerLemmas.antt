@@ -1,5 +1,5 @@
 -- To whom a yes is due, and to whom a no.
-use Rattle.std.proofs.Common.{length, ◌≡◌, ℕ, ◌≤◌, ◌^◌, List, refl, subst, arith, Option, Some, IsSomeAnd}
+use Rattle.std.proofs.Common.{length, ◌≡◌, ℕ, ◌≤◌, ◌<◌, ◌^◌, List, refl, subst, arith, Option, Some, IsSomeAnd}
 use Rattle.fb_verify.specs.Tree.{Tree}
 use Rattle.fb_verify.specs.Verdict.{HasNone}
 use Rattle.fb_verify.specs.WellFormed.{IsWellFormed, IsWithin}
@@ -17,39 +17,55 @@ use Rattle.fbcheck_c.specs.Told.{told}
 at_value : {X : Type 0} (o : Option X) (x : X) (P : X → Type 0) → o ≡ Some x → IsSomeAnd o P → P x
 at_value o x P e h = subst (λ v. IsSomeAnd v P) e h
 
-module _ (l : Loaded) (n : ℕ) (o : Options) (b : List ℕ) (root : ℕ) (ident : Ident) (c : CanServe l n o b root ident) where
+module _ (l : Loaded) (n : ℕ) (o : Options) (b : List ℕ) (root : ℕ) (ident : Ident) (c : CanServe l n o root ident) where
   served : (P : ℕ → Ident → Type 0) → Serves l n o P → P root ident
   served P h = at_value (ident_asked l o) ident (P root) c.ident_is (at_value (root_asked l o) root (λ r. IsSomeAnd (ident_asked l o) (P r)) c.root_is h.1)
 
   pub good_gets_yes : (y : Tree) (a : Answer) → IsWellFormed (checks_asked o) b l.schema root (start_asked o) ident y
-      → IsWithin y (checks_asked o) b l.schema (start_asked o) ident (limits_of o (length b)) → IsChecked l n o b a → (told a).status ≡ 0
-  good_gets_yes y (Good r) w i h = refl
-  good_gets_yes y (Bad f) w i h = let bad = served (IsBadFrom l o b f) h in absurd (bad.none y w i)
-  good_gets_yes y Done w i h = absurd h
-  good_gets_yes y UnknownOptions w i h = absurd (h c.limits.known)
-  good_gets_yes y OutOfRange w i h = let room = c.limits.depth in let past = h.1 in absurd (omega arith)
-  good_gets_yes y NoIdent w i h = let e = c.ident_is in let none = h.2 in cc
-  good_gets_yes y NoRoot w i h = let e = c.root_is in let none = h.1 in cc
-  good_gets_yes y TooLong w i h = let short = c.short in let long = served (λ r d. 2 ^ 31 ≤ length b) h in absurd (omega arith)
-  good_gets_yes y (NoSchema fault) w i h = absurd h
-  good_gets_yes y NoSpan w i h = absurd h
-  good_gets_yes y (BadStream fault) w i h = absurd h
-  good_gets_yes y (BadPath fault) w i h = absurd h
-  good_gets_yes y NoRoom w i h = absurd h
-  good_gets_yes y Misfit w i h = absurd h
+      → IsWithin y (checks_asked o) b l.schema (start_asked o) ident (limits_of o (length b)) → length b < 2 ^ 31 → IsChecked l n o b a → (told a).status ≡ 0
+  good_gets_yes y (Good r) w i short h = refl
+  good_gets_yes y (Bad f) w i short h = let bad = served (IsBadFrom l o b f) h.1 in absurd (bad.none y w i)
+  good_gets_yes y Done w i short h = absurd h
+  good_gets_yes y UnknownOptions w i short h = absurd (h c.limits.known)
+  good_gets_yes y OutOfRange w i short h = let room = c.limits.depth in let past = h.1 in absurd (omega arith)
+  good_gets_yes y NoIdent w i short h = let e = c.ident_is in let none = h.2 in cc
+  good_gets_yes y NoRoot w i short h = let e = c.root_is in let none = h.1 in cc
+  good_gets_yes y TooLong w i short h = let long = served (λ r d. 2 ^ 31 ≤ length b) h in absurd (omega arith)
+  good_gets_yes y (NoSchema fault) w i short h = absurd h
+  good_gets_yes y NoSpan w i short h = absurd h
+  good_gets_yes y (BadStream fault) w i short h = absurd h
+  good_gets_yes y (BadPath fault) w i short h = absurd h
+  good_gets_yes y NoRoom w i short h = absurd h
+  good_gets_yes y Misfit w i short h = absurd h
 
-  pub bad_gets_no : (a : Answer) → HasNone (checks_asked o) b l.schema root (start_asked o) ident (limits_of o (length b)) → IsChecked l n o b a → (told a).status ≡ 1
-  bad_gets_no (Good r) none h = let good = served (IsGoodFrom l o b r) h in absurd (none good.found good.well_formed good.within)
-  bad_gets_no (Bad f) none h = refl
-  bad_gets_no Done none h = absurd h
-  bad_gets_no UnknownOptions none h = absurd (h c.limits.known)
-  bad_gets_no OutOfRange none h = let room = c.limits.depth in let past = h.1 in absurd (omega arith)
-  bad_gets_no NoIdent none h = let e = c.ident_is in let no = h.2 in cc
-  bad_gets_no NoRoot none h = let e = c.root_is in let no = h.1 in cc
-  bad_gets_no TooLong none h = let short = c.short in let long = served (λ r d. 2 ^ 31 ≤ length b) h in absurd (omega arith)
-  bad_gets_no (NoSchema fault) none h = absurd h
-  bad_gets_no NoSpan none h = absurd h
-  bad_gets_no (BadStream fault) none h = absurd h
-  bad_gets_no (BadPath fault) none h = absurd h
-  bad_gets_no NoRoom none h = absurd h
-  bad_gets_no Misfit none h = absurd h
+  pub bad_gets_no : (a : Answer) → HasNone (checks_asked o) b l.schema root (start_asked o) ident (limits_of o (length b)) → length b < 2 ^ 31 → IsChecked l n o b a → (told a).status ≡ 1
+  bad_gets_no (Good r) none short h = let good = served (IsGoodFrom l o b r) h.1 in absurd (none good.found good.well_formed good.within)
+  bad_gets_no (Bad f) none short h = refl
+  bad_gets_no Done none short h = absurd h
+  bad_gets_no UnknownOptions none short h = absurd (h c.limits.known)
+  bad_gets_no OutOfRange none short h = let room = c.limits.depth in let past = h.1 in absurd (omega arith)
+  bad_gets_no NoIdent none short h = let e = c.ident_is in let no = h.2 in cc
+  bad_gets_no NoRoot none short h = let e = c.root_is in let no = h.1 in cc
+  bad_gets_no TooLong none short h = let long = served (λ r d. 2 ^ 31 ≤ length b) h in absurd (omega arith)
+  bad_gets_no (NoSchema fault) none short h = absurd h
+  bad_gets_no NoSpan none short h = absurd h
+  bad_gets_no (BadStream fault) none short h = absurd h
+  bad_gets_no (BadPath fault) none short h = absurd h
+  bad_gets_no NoRoom none short h = absurd h
+  bad_gets_no Misfit none short h = absurd h
+
+  pub long_gets_its_number : (a : Answer) → 2 ^ 31 ≤ length b → IsChecked l n o b a → (told a).status ≡ 7
+  long_gets_its_number (Good r) long h = let short = h.0 in absurd (omega arith)
+  long_gets_its_number (Bad f) long h = let short = h.0 in absurd (omega arith)
+  long_gets_its_number Done long h = absurd h
+  long_gets_its_number UnknownOptions long h = absurd (h c.limits.known)
+  long_gets_its_number OutOfRange long h = let room = c.limits.depth in let past = h.1 in absurd (omega arith)
+  long_gets_its_number NoIdent long h = let e = c.ident_is in let no = h.2 in cc
+  long_gets_its_number NoRoot long h = let e = c.root_is in let no = h.1 in cc
+  long_gets_its_number TooLong long h = refl
+  long_gets_its_number (NoSchema fault) long h = absurd h
+  long_gets_its_number NoSpan long h = absurd h
+  long_gets_its_number (BadStream fault) long h = absurd h
+  long_gets_its_number (BadPath fault) long h = absurd h
+  long_gets_its_number NoRoom long h = absurd h
+  long_gets_its_number Misfit long h = absurd h

@@ -1,5 +1,5 @@
 -- The laws of what a check answers: to whom a yes is due, and to whom a no; and where a value's bytes are.
-use Rattle.std.specs.Prelude.{◌≡◌, ℕ, ◌<◌, ◌^◌, List, length, Option, Some, None}
+use Rattle.std.specs.Prelude.{◌≡◌, ℕ, ◌<◌, ◌≤◌, ◌^◌, List, length, Option, Some, None}
 use Rattle.fb_schema.specs.Rows.{Rows}
 use Rattle.fb_verify.specs.Tree.{Tree}
 use Rattle.fb_verify.specs.Verdict.{HasNone}
@@ -17,18 +17,17 @@ use Rattle.fbcheck_c.specs.Answered.{IsChecked}
 use Rattle.fbcheck_c.specs.Asked.{HasLimits, checks_asked, ident_asked, limits_of, root_asked, start_asked}
 use Rattle.fbcheck_c.specs.Told.{told}
 
--- the schema has the root and the identifier that the options ask, there is room for their depth, and the buffer is
--- short enough to be one
-pub record CanServe (l : Loaded) (n : ℕ) (o : Options) (b : List ℕ) (root : ℕ) (ident : Ident) : Type 0 where
+-- the schema has the root and the identifier that the options ask, and there is room for their depth
+pub record CanServe (l : Loaded) (n : ℕ) (o : Options) (root : ℕ) (ident : Ident) : Type 0 where
   pub limits : HasLimits o n
   pub root_is : root_asked l o ≡ Some root
   pub ident_is : ident_asked l o ≡ Some ident
-  pub short : length b < 2 ^ 31
 
--- where some tree of the buffer is well formed and within the limits, every answer is the number of a yes
+-- where the buffer is short enough and some tree of it is well formed and within the limits, every answer is the number of a yes
 abbrev pub GoodGetsYes : Type 0
 GoodGetsYes = (l : Loaded) (n : ℕ) (o : Options) (b : List ℕ) (root : ℕ) (ident : Ident) (y : Tree) (a : Answer)
-    → CanServe l n o b root ident
+    → CanServe l n o root ident
+    → length b < 2 ^ 31
     → IsWellFormed (checks_asked o) b l.schema root (start_asked o) ident y
     → IsWithin y (checks_asked o) b l.schema (start_asked o) ident (limits_of o (length b))
     → IsChecked l n o b a → (told a).status ≡ 0
@@ -36,9 +35,17 @@ GoodGetsYes = (l : Loaded) (n : ℕ) (o : Options) (b : List ℕ) (root : ℕ) (
 -- where none is, every answer is the number of a no
 abbrev pub BadGetsNo : Type 0
 BadGetsNo = (l : Loaded) (n : ℕ) (o : Options) (b : List ℕ) (root : ℕ) (ident : Ident) (a : Answer)
-    → CanServe l n o b root ident
+    → CanServe l n o root ident
+    → length b < 2 ^ 31
     → HasNone (checks_asked o) b l.schema root (start_asked o) ident (limits_of o (length b))
     → IsChecked l n o b a → (told a).status ≡ 1
+
+-- where it is too long, whatever is in it, every answer is that number
+abbrev pub LongGetsItsNumber : Type 0
+LongGetsItsNumber = (l : Loaded) (n : ℕ) (o : Options) (b : List ℕ) (root : ℕ) (ident : Ident) (a : Answer)
+    → CanServe l n o root ident
+    → 2 ^ 31 ≤ length b
+    → IsChecked l n o b a → (told a).status ≡ 7
 
 -- the bytes that a value shows stand where the extent says; what shows none, and is no vector, has no extent
 abbrev pub Stands : List ℕ → Shown → Option Extent → Type 0

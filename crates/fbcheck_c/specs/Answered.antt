@@ -45,11 +45,11 @@ HoldsSchema P (Room r) = ⊥
 
 abbrev pub HoldsRoom : ℕ → Held → Type 0
 HoldsRoom depth (Schema l) = ⊥
-HoldsRoom depth (Room r) = r.scratch ≡ depth
+HoldsRoom depth (Room r) = r ≡ depth
 
 -- for how many levels there is room: those of a handle that holds room, else 64
 abbrev pub levels : Option Held → ℕ
-levels (Some (Room r)) = r.scratch
+levels (Some (Room r)) = r
 levels _ = 64
 
 -- what a load into a handle answers, with what is held before and after: the file's schema, or what was held
@@ -96,8 +96,8 @@ pub record IsBadFrom (l : Loaded) (o : Options) (b : List ℕ) (f : Fault) (root
 
 -- what a check of a buffer answers
 abbrev pub IsChecked : Loaded → ℕ → Options → List ℕ → Answer → Type 0
-IsChecked l n o b (Good r) = Serves l n o (IsGoodFrom l o b r)
-IsChecked l n o b (Bad f) = Serves l n o (IsBadFrom l o b f)
+IsChecked l n o b (Good r) = (length b < 2 ^ 31) × Serves l n o (IsGoodFrom l o b r)
+IsChecked l n o b (Bad f) = (length b < 2 ^ 31) × Serves l n o (IsBadFrom l o b f)
 IsChecked l n o b TooLong = Serves l n o (λ root ident. 2 ^ 31 ≤ length b)
 IsChecked l n o b a = IsUnserved l n o a
 

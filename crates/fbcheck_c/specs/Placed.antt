@@ -1,15 +1,13 @@
 -- What is written of where a fault is.
 use Rattle.std.specs.Prelude.{◌≡◌, ℕ, List, ◌++◌, drop, length, take}
-use Rattle.fb_schema.specs.Rows.{Rows}
 use Rattle.fb_verify.specs.Links.{StopsAlong}
 use Rattle.fb_verify.specs.declared.fault.Fault.{Fault}
 use Rattle.fb_verify.specs.declared.links.Link.{Link}
 use Rattle.fb_verify.specs.declared.start.Ident.{Ident}
 use Rattle.fb_access.specs.Location.{location_text}
 use Rattle.fb_bfbs.specs.declared.loading.Loaded.{Loaded}
-use Rattle.fb_bfbs.specs.declared.load_fault.LoadFault.TheVariants.{OutOfMemory}
 use Rattle.fbcheck_c.specs.declared.answer.Answer.{Answer}
-use Rattle.fbcheck_c.specs.declared.answer.Answer.TheVariants.{Bad, NoRoot, NoSchema}
+use Rattle.fbcheck_c.specs.declared.answer.Answer.TheVariants.{Bad, NoRoot}
 use Rattle.fbcheck_c.specs.declared.held.Held.{Held}
 use Rattle.fbcheck_c.specs.declared.held.Held.TheVariants.{Schema, Room}
 use Rattle.fbcheck_c.specs.declared.options.Options.{Options}
@@ -30,23 +28,15 @@ pub record IsUntold (room room' : List ℕ) (told told' : ℕ) : Type 0 where
   pub length_is : told' ≡ told
   pub room_is : room' ≡ room
 
--- what is answered where the place of a fault is written, to which these links lead
-abbrev pub IsWritten : Rows → Fault → List Link → List ℕ → List ℕ → ℕ → ℕ → Answer → Type 0
-IsWritten S f links room room' told told' (Bad g) = (g ≡ f) × IsTextTold (location_text S f links) room room' told'
-IsWritten S f links room room' told told' (NoSchema OutOfMemory) = IsUntold room room' told told'
-IsWritten S f links room room' told told' _ = ⊥
-
 -- the place of this fault is told, by the links that lead to it from the root
 abbrev pub IsPlaceTold : Loaded → Options → List ℕ → Fault → List ℕ → List ℕ → ℕ → ℕ → Ident → Type 0
 IsPlaceTold l o b f room room' told root ident = (links : List Link)
     × StopsAlong (checks_asked o) b l.schema root (start_asked o) ident (limits_of o (length b)) f links
     × IsTextTold (location_text l.schema f links) room room' told
 
--- what is answered where the place of a fault is asked for: what a check answers, with the place of a bad buffer's; or
--- that memory was refused for it
+-- what is answered where the place of a fault is asked for: what a check answers, with the place of a bad buffer's
 abbrev pub IsLocated : Loaded → ℕ → Options → List ℕ → List ℕ → List ℕ → ℕ → ℕ → Answer → Type 0
 IsLocated l n o b room room' told told' (Bad f) = IsChecked l n o b (Bad f) × Serves l n o (IsPlaceTold l o b f room room' told')
-IsLocated l n o b room room' told told' (NoSchema OutOfMemory) = IsUntold room room' told told'
 IsLocated l n o b room room' told told' a = IsChecked l n o b a × IsUntold room room' told told'
 
 abbrev pub IsLocatedBy : Held → ℕ → Options → List ℕ → List ℕ → List ℕ → ℕ → Answer → Type 0

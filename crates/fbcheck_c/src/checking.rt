@@ -106,10 +106,10 @@ fn check_shallow(loaded: &Loaded<'static>, options: &Options, buffer: &[u8]) -> 
 /// The same in the room that is given.
 #[inline(always)]
 fn check_in(loaded: &Loaded<'static>, room: &mut Room, options: &Options, buffer: &[u8]) -> Answer
-    ensures answer { IsChecked loaded.now room.old.scratch options.now buffer.now result }
+    ensures answer { IsChecked loaded.now room.old options.now buffer.now result }
     ensures kept { room.new ≡ room.old }
 {
-    let begun = match begin(loaded, room.scratch.depth(), options, buffer.len() as u64) {
+    let begun = match begin(loaded, room.levels(), options, buffer.len() as u64) {
         Ok(begun) => begun,
         Err(answer) => return answer,
     };
@@ -206,10 +206,10 @@ fn read_in(
     paths: &[PlainPath],
     values: &mut [Value],
 ) -> Answer
-    ensures answer { IsRead loaded.now room.old.scratch options.now buffer.now paths.now values.old values.new result }
+    ensures answer { IsRead loaded.now room.old options.now buffer.now paths.now values.old values.new result }
     ensures kept { room.new ≡ room.old }
 {
-    let begun = match begin(loaded, room.scratch.depth(), options, buffer.len() as u64) {
+    let begun = match begin(loaded, room.levels(), options, buffer.len() as u64) {
         Ok(begun) => begun,
         Err(answer) => return answer,
     };

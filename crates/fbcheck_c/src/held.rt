@@ -6,6 +6,7 @@ ghost use Rattle.fb_verify.specs.declared.scratch.ScratchFault.TheVariants.{Limi
 use fb_bfbs::Loaded;
 use fb_verify::{Link, Scratch, ScratchFault};
 use std::alloc::{AllocError, Global};
+use std::marker::Model;
 
 /// What stands in a row of links where none was put.
 pub const NO_LINK: Link = Link {
@@ -15,11 +16,22 @@ pub const NO_LINK: Link = Link {
     member: None,
 };
 
-/// Room for the open tables of a check, and for as many links of the way to a fault.
+/// Room for the open tables of a check, and for as many links of the way to a fault. A contract sees it as the number of
+/// its levels.
 #[derive(Drop)]
 pub struct Room {
     pub scratch: Scratch,
     pub links: Vec<Link>,
+}
+
+impl Model for Room {
+    ghost use Rattle.std.specs.Prelude.{◌≡◌, ℕ, length};
+
+    ghost Value = { ℕ };
+
+    ghost view = { λ r. r.scratch };
+
+    ghost invariant = { λ r. length r.links.items ≡ r.scratch };
 }
 
 /// What a pointer of a caller in C leads to: a schema, or room for a check.
@@ -45,7 +57,7 @@ impl Room {
     ///
     /// As [`Scratch::new`] has it.
     pub fn new(alloc: Global, depth: u32) -> Result<Room, ScratchFault>
-        ensures depth { IfOk result (λ r. (r.scratch ≡ depth) × (depth ≤ 4096)) }
+        ensures depth { IfOk result (λ r. (r ≡ depth) × (depth ≤ 4096)) }
         ensures range { IfErr result (λ f. f ≡ LimitOutOfRange → 4096 < depth) }
         ensures memory { IfErr result (λ f. f ≡ OutOfMemory → depth ≤ 4096) }
     {
@@ -54,5 +66,12 @@ impl Room {
             Ok(links) => Ok(Room { scratch, links }),
             Err(_) => Err(ScratchFault::OutOfMemory),
         }
+    }
+
+    /// The number of its levels.
+    pub fn levels(&self) -> u32
+        ensures { result ≡ self.now }
+    {
+        self.scratch.depth()
     }
 }

@@ -1,9 +1,9 @@
 //! What follows from the definitions of answers alone. These functions have no body: their contracts are the theorems.
 
-ghost use Rattle.fbcheck_c.specs.AnswerLaws.{BadGetsNo, GoodGetsYes, ValuesStand};
+ghost use Rattle.fbcheck_c.specs.AnswerLaws.{BadGetsNo, GoodGetsYes, LongGetsItsNumber, ValuesStand};
 
-/// Where the schema, the room and the options can serve a buffer, and some tree of it is well formed and within the limits, the
-/// answer is 0.
+/// Where the schema, the room and the options can serve a buffer of less than 2^31 bytes, and some tree of it is well
+/// formed and within the limits, the answer is 0.
 pub fn a_good_buffer_gets_a_yes()
     ensures { GoodGetsYes }
 {}
@@ -11,6 +11,11 @@ pub fn a_good_buffer_gets_a_yes()
 /// Where they can, and none is, the answer is 1.
 pub fn a_bad_buffer_gets_a_no()
     ensures { BadGetsNo }
+{}
+
+/// Where they can, and it has more bytes, the answer is 7.
+pub fn a_long_buffer_gets_its_number()
+    ensures { LongGetsItsNumber }
 {}
 
 /// The bytes that are told of a float, a string and a struct are its value; what has no bytes is told none.

@@ -192,7 +192,7 @@ pub extern "C" fn fbcheck_locate_proved(
 ) -> u32
     ensures told { (a : Answer) × (verdict.new ≡ told a) × IsLocatedBy schema.held (levels room.old.inside) options.now buffer.now text.old text.new written.new a }
     ensures status { result ≡ verdict.new.status }
-    ensures kept { levels room.new.inside ≡ levels room.old.inside }
+    ensures kept { room.new.inside ≡ room.old.inside }
 {
     let located = locate(alloc, schema.held(), room, options, buffer, text, written);
     let place = located.told();

@@ -1,7 +1,10 @@
-use Rattle.std.proofs.Common.{rules}
-use Rattle.fbcheck_c.proofs.PlaceLemmas.{located}
+use Rattle.std.proofs.Common.{◌≡◌, ◌∙◌, ap, length, sym}
+use Rattle.std.specs.List.{length_refill}
 use Rattle.fbcheck_c.proofs.place.locate_in.Goals as goal
 
-pub returns-in-Err-verify_and_locate-clause-answer : goal.returns-in-Err-verify_and_locate-clause-answer
-returns-in-Err-verify_and_locate-clause-answer c =
-    located c.args.loaded.now c.args.room.now.scratch c.args.options.now c.args.buffer.now c.in-Ok.begun (search rules) c.in-Err-verify_and_locate.located.fault _ (search rules) (search rules) (search rules) _ _ _ _ c.write_place.result c.write_place.ensures
+-- there are as many links as before, and so as many as levels
+pub invariant_of-room : goal.invariant_of-room
+invariant_of-room c =
+    let old = c.room.inside.links in
+    let is : old.len ≡ length old.items = sym c.as_mut_slice-links.ensures.len ∙ ap length c.as_mut_slice-links.ensures.value in
+    sym (length_refill old.len old.items c.locate_within.new.links is) ∙ is ∙ c.room.invariant ∙ sym c.locate_within.ensures.kept

@@ -4,4 +4,4 @@ use Rattle.fbcheck_c.proofs.place.locate_shallow.Goals as goal
 
 pub returns-in-Err-verify_and_locate_shallow : goal.returns-in-Err-verify_and_locate_shallow
 returns-in-Err-verify_and_locate_shallow c =
-    located c.args.loaded.now 64 c.args.options.now c.args.buffer.now c.in-Ok.begun (search rules) c.in-Err-verify_and_locate_shallow.located.fault _ (search rules) (search rules) (search rules) _ _ _ _ c.write_place.result c.write_place.ensures
+    located c.args.loaded.now 64 c.args.options.now c.args.buffer.now c.in-Ok.begun (search rules) c.in-Err-verify_and_locate_shallow.located.fault _ (search rules) (search rules) (search rules) _ _ 0 _ (search rules) c.write_place.ensures
