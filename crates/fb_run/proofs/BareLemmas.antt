@@ -1,9 +1,11 @@
 -- What is told of a bare input, of which a front was written.
-use Rattle.std.proofs.Common.{◌≡◌, ℕ, ◌+◌, ◌≤◌, List, ◌++◌, Option, length, subst, sym, ◌∙◌, ap}
+use Rattle.std.proofs.Common.{◌≡◌, ℕ, ◌+◌, ◌≤◌, List, ◌++◌, length, subst, sym, ◌∙◌, ap}
+use Rattle.std.specs.Prelude.{Option}
 use Rattle.std.specs.Io.KnownBytes.{Appends, Consumes}
 use Rattle.std.proofs.KnownBytes.{Appends-trans, Keeps-refl}
+use Rattle.fb_run.specs.Ends.{Ends, Outs, Reader, Takes, Writer, beside}
 use Rattle.fb_run.specs.Job.{Job, Verdict}
-use Rattle.fb_run.specs.Texts.{Texts, followed, silent}
+use Rattle.fb_run.specs.Texts.{Sizes, Texts, followed, no_bytes, silent}
 use Rattle.fb_run.specs.Line.{IsTold}
 use Rattle.fb_run.specs.Lines.{AddsTold, AddsThrough, StopsBehind, WritesFront, WritesFronts}
 use Rattle.fb_run.specs.Sums.{no_tally, tally_with}
@@ -14,82 +16,86 @@ use Rattle.fb_run.specs.declared.fault.RunFault.TheVariants as run
 use Rattle.fb_run.proofs.TextsLemmas.{same_texts}
 
 -- the first message is counted with nothing before it
-counts_first : (bytes message : List ℕ) (verdict : Verdict) (tally : Tally) → message ≡ bytes → tally ≡ no_tally → tally_with message verdict tally ≡ tally_with bytes verdict no_tally
-counts_first bytes message verdict tally same zero =
-    ap (λ (t : Tally). tally_with message verdict t) zero ∙ ap (λ (b : List ℕ). tally_with b verdict no_tally) same
+counts_first : (bytes : List ℕ) (verdict : Verdict) (tally : Tally) → tally ≡ no_tally → tally_with bytes verdict tally ≡ tally_with bytes verdict no_tally
+counts_first bytes verdict tally zero = ap (λ (t : Tally). tally_with bytes verdict t) zero
 
-writes_part : (job : Job) (bytes message : List ℕ) (text text' : Texts) (tally tally' : Tally) (count noted : ℕ) (s s' n n' : Option (List ℕ)) (fault : RunFault)
-    → message ≡ bytes → text ≡ silent → tally ≡ no_tally → count ≡ 0 → noted ≡ 0
-    → AddsTold job (1 + (tally.yes + tally.no)) message text tally text' tally' → WritesFronts text' s s' n n' count noted fault
-    → WritesPart job bytes s s' n n' tally' fault
-writes_part job bytes message text text' tally tally' count noted s s' n n' fault same none zero c0 n0 adds front =
-    let whole : text' ≡ adds.line = same_texts _ _ _ _ adds.out_is adds.notes_are ∙ ap (λ t. followed t adds.line) none in
+-- and it is the first
+first_of : (job : Job) (bytes : List ℕ) (verdict : Verdict) (line : Texts) (tally : Tally) → tally ≡ no_tally → IsTold job (1 + (tally.yes + tally.no)) bytes verdict line → IsTold job 1 bytes verdict line
+first_of job bytes verdict line tally zero told =
     let first : 1 + (tally.yes + tally.no) ≡ 1 = ap (λ (t : Tally). 1 + (t.yes + t.no)) zero in
-    record {
-      verdict = adds.verdict;
-      line = adds.line;
-      is_line = subst (λ (b : List ℕ). IsTold job 1 b adds.verdict adds.line) same (subst (λ (k : ℕ). IsTold job k message adds.verdict adds.line) first adds.is_line);
-      wrote = subst (λ (k : ℕ). WritesFronts adds.line s s' n n' k 0 fault) c0
-          (subst (λ (k : ℕ). WritesFronts adds.line s s' n n' count k fault) n0 (subst (λ (t : Texts). WritesFronts t s s' n n' count noted fault) whole front));
-      tally_is = adds.tally_is ∙ counts_first bytes message adds.verdict tally same zero;
-    }
+    subst (λ (k : ℕ). IsTold job k bytes verdict line) first told
 
--- the run came to rest in a write
-pub fails_part : (job : Job) (bytes message : List ℕ) (text text' : Texts) (tally tally' : Tally) (count noted : ℕ) (r r' s s' n n' : Option (List ℕ)) (fault : RunFault)
-    → Consumes r r' bytes → length bytes ≤ job.limit → message ≡ bytes → text ≡ silent → tally ≡ no_tally → count ≡ 0 → noted ≡ 0
-    → AddsTold job (1 + (tally.yes + tally.no)) message text tally text' tally' → WritesFronts text' s s' n n' count noted fault
-    → FailsBare job job.limit r r' s s' n n' tally' fault
-fails_part job bytes message text text' tally tally' count noted r r' s s' n n' (run.WriteFault written) read within same none zero c0 n0 adds front =
-    (bytes, read, (within, writes_part job bytes message text text' tally tally' count noted s s' n n' (run.WriteFault written) same none zero c0 n0 adds front))
-fails_part job bytes message text text' tally tally' count noted r r' s s' n n' (run.NoteFault written) read within same none zero c0 n0 adds front =
-    (bytes, read, (within, writes_part job bytes message text text' tally tally' count noted s s' n n' (run.NoteFault written) same none zero c0 n0 adds front))
-fails_part job bytes message text text' tally tally' count noted r r' s s' n n' _ read within same none zero c0 n0 adds never = absurd never
+module _ (job : Job) (bytes : List ℕ) (text : Texts) (tally : Tally) (size : Sizes) (before after : Ends)
+    (read : Consumes before.reader.left after.reader.left bytes) (within : length bytes ≤ job.limit) (none : text ≡ silent) (zero : tally ≡ no_tally) (start : size ≡ no_bytes) where
+  writes_part : (text' : Texts) (tally' : Tally) (fault : RunFault) → AddsTold job (1 + (tally.yes + tally.no)) bytes text tally text' tally'
+      → WritesFronts text' before.outs after.outs size fault → WritesPart job bytes before.outs after.outs tally' fault
+  writes_part text' tally' fault adds front =
+      let whole : text' ≡ adds.line = same_texts _ _ _ _ adds.out_is adds.notes_are ∙ ap (λ t. followed t adds.line) none in record {
+        verdict = adds.verdict;
+        line = adds.line;
+        is_line = first_of job bytes adds.verdict adds.line tally zero adds.is_line;
+        wrote = subst (λ (k : Sizes). WritesFronts adds.line before.outs after.outs k fault) start
+            (subst (λ (t : Texts). WritesFronts t before.outs after.outs size fault) whole front);
+        tally_is = adds.tally_is ∙ counts_first bytes adds.verdict tally zero;
+      }
 
--- what is told of it came through, and what waited then was written
-pub passes_through : (job : Job) (bytes message : List ℕ) (text text' : Texts) (tally tally' told : Tally) (before written : ℕ) (r r' s s₁ s' n n' : Option (List ℕ))
-    → told ≡ tally' → Consumes r r' bytes → length bytes ≤ job.limit → message ≡ bytes → text ≡ silent → tally ≡ no_tally
-    → AddsThrough job (1 + (tally.yes + tally.no)) message text tally text' tally' s s₁ before written → Appends s₁ s' text'.out → Appends n n' text'.notes
-    → PassesBare job job.limit r r' s s' n n' told
-passes_through job bytes message text text' tally tally' told before written r r' s s₁ s' n n' counted read within same none zero through more further =
-    let adds = through.adds in
-    let out : through.front ++ text'.out ≡ adds.line.out = adds.out_is ∙ ap (λ (t : Texts). t.out ++ adds.line.out) none in
-    let notes : text'.notes ≡ adds.line.notes = adds.notes_are ∙ ap (λ (t : Texts). t.notes ++ adds.line.notes) none in
-    let first : 1 + (tally.yes + tally.no) ≡ 1 = ap (λ (t : Tally). 1 + (t.yes + t.no)) zero in
-    record {
-      bytes = bytes;
-      read = read;
-      within = within;
-      verdict = adds.verdict;
-      line = adds.line;
-      is_line = subst (λ (b : List ℕ). IsTold job 1 b adds.verdict adds.line) same (subst (λ (k : ℕ). IsTold job k message adds.verdict adds.line) first adds.is_line);
-      wrote = subst (Appends s s') out (Appends-trans s s₁ s' through.front text'.out through.wrote more);
-      noted = subst (Appends n n') notes further;
-      tally_is = counted ∙ adds.tally_is ∙ counts_first bytes message adds.verdict tally same zero;
-    }
+  -- the run came to rest in a write
+  pub fails_part : (text' : Texts) (tally' : Tally) (fault : RunFault) → AddsTold job (1 + (tally.yes + tally.no)) bytes text tally text' tally'
+      → WritesFronts text' before.outs after.outs size fault → FailsBare job before after tally' fault
+  fails_part text' tally' (run.WriteFault written) adds front = (bytes, read, (within, writes_part text' tally' (run.WriteFault written) adds front))
+  fails_part text' tally' (run.NoteFault written) adds front = (bytes, read, (within, writes_part text' tally' (run.NoteFault written) adds front))
+  fails_part text' tally' _ adds never = absurd never
+
+  -- what is told of it came through, and what waited then was written
+  pub passes_through : (text' : Texts) (tally' told : Tally) (between : Writer) (written : ℕ) → told ≡ tally'
+      → AddsThrough job (1 + (tally.yes + tally.no)) bytes text tally text' tally' before.outs.writer.bytes between.bytes size.out written
+      → Takes (record { writer = between; notes = before.outs.notes }) after.outs text' → PassesBare job before after told
+  passes_through text' tally' told between written counted through more =
+      let adds = through.adds in
+      let out : through.front ++ text'.out ≡ adds.line.out = adds.out_is ∙ ap (λ (t : Texts). t.out ++ adds.line.out) none in
+      let notes : text'.notes ≡ adds.line.notes = adds.notes_are ∙ ap (λ (t : Texts). t.notes ++ adds.line.notes) none in
+      record {
+        bytes = bytes;
+        read = read;
+        within = within;
+        verdict = adds.verdict;
+        line = adds.line;
+        is_line = first_of job bytes adds.verdict adds.line tally zero adds.is_line;
+        takes = record {
+          wrote = subst (Appends before.outs.writer.bytes after.outs.writer.bytes) out
+              (Appends-trans before.outs.writer.bytes between.bytes after.outs.writer.bytes through.front text'.out through.wrote more.wrote);
+          noted = subst (Appends before.outs.notes.bytes after.outs.notes.bytes) notes more.noted;
+        };
+        tally_is = counted ∙ adds.tally_is ∙ counts_first bytes adds.verdict tally zero;
+      }
 
 -- what is told of it came to rest
-pub fails_through : (job : Job) (bytes message : List ℕ) (text : Texts) (tally tally' : Tally) (before : ℕ) (r r' s s' n : Option (List ℕ)) (fault : RunFault)
-    → Consumes r r' bytes → length bytes ≤ job.limit → message ≡ bytes → text ≡ silent → tally ≡ no_tally → before ≡ 0
-    → StopsBehind job (1 + (tally.yes + tally.no)) message text tally tally' s s' before fault → FailsBare job job.limit r r' s s' n n tally' fault
-fails_through job bytes message text tally tally' before r r' s s' n run.OutOfMemory read within same none zero c0 (verdict, line, told, keeps, counted) =
-    (bytes, read, (within, ((keeps, Keeps-refl n), counted ∙ zero)))
-fails_through job bytes message text tally tally' before r r' s s' n (run.WriteFault written) read within same none zero c0 (verdict, line, told, front, counted) =
-    let first : 1 + (tally.yes + tally.no) ≡ 1 = ap (λ (t : Tally). 1 + (t.yes + t.no)) zero in
-    let part : WritesPart job bytes s s' n n tally' (run.WriteFault written) = record {
+pub fails_through : (job : Job) (bytes : List ℕ) (text : Texts) (tally tally' : Tally) (size : ℕ) (before after : Reader) (writer writer' notes : Writer) (fault : RunFault)
+    → Consumes before.left after.left bytes → length bytes ≤ job.limit → text ≡ silent → tally ≡ no_tally → size ≡ 0
+    → StopsBehind job (1 + (tally.yes + tally.no)) bytes text tally tally' writer.bytes writer'.bytes size fault
+    → FailsBare job (beside before (record { writer = writer; notes = notes })) (beside after (record { writer = writer'; notes = notes })) tally' fault
+fails_through job bytes text tally tally' size before after writer writer' notes run.OutOfMemory read within none zero c0 (verdict, line, told, keeps, counted) =
+    (bytes, read, (within, ((keeps, Keeps-refl notes.bytes), counted ∙ zero)))
+fails_through job bytes text tally tally' size before after writer writer' notes (run.WriteFault written) read within none zero c0 (verdict, line, told, front, counted) = (
+  bytes,
+  read,
+  (
+    within,
+    record {
       verdict = verdict;
       line = line;
-      is_line = subst (λ (b : List ℕ). IsTold job 1 b verdict line) same (subst (λ (k : ℕ). IsTold job k message verdict line) first told);
+      is_line = first_of job bytes verdict line tally zero told;
       wrote = (
-        subst (λ (c : ℕ). WritesFront line.out s s' c written) c0 (subst (λ (t : Texts). WritesFront (t.out ++ line.out) s s' before written) none front),
-        Keeps-refl n,
+        subst (λ (c : ℕ). WritesFront line.out writer.bytes writer'.bytes c written) c0
+            (subst (λ (t : Texts). WritesFront (t.out ++ line.out) writer.bytes writer'.bytes size written) none front),
+        Keeps-refl notes.bytes,
       );
-      tally_is = counted ∙ counts_first bytes message verdict tally same zero;
-    } in
-    (bytes, read, (within, part))
-fails_through job bytes message text tally tally' before r r' s s' n _ read within same none zero c0 (verdict, line, told, never, counted) = absurd never
+      tally_is = counted ∙ counts_first bytes verdict tally zero;
+    },
+  ),
+)
+fails_through job bytes text tally tally' size before after writer writer' notes _ read within none zero c0 (verdict, line, told, never, counted) = absurd never
 
--- nothing was told, where the limit is that of the job
-pub fails_untold : (job : Job) (limit : ℕ) (r r' s s' n n' : Option (List ℕ)) (told : Tally) (fault : RunFault) → limit ≡ job.limit → told ≡ no_tally
-    → FailsBare job limit r r' s s' n n' no_tally fault → FailsBare job job.limit r r' s s' n n' told fault
-fails_untold job limit r r' s s' n n' told fault is none fails =
-    subst (λ (k : ℕ). FailsBare job k r r' s s' n n' told fault) is (subst (λ (t : Tally). FailsBare job limit r r' s s' n n' t fault) (sym none) fails)
+-- nothing was told
+pub fails_untold : (job : Job) (before after : Ends) (told : Tally) (fault : RunFault) → told ≡ no_tally → FailsBare job before after no_tally fault → FailsBare job before after told fault
+fails_untold job before after told fault none fails = subst (λ (t : Tally). FailsBare job before after t fault) (sym none) fails

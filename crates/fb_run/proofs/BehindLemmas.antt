@@ -7,7 +7,8 @@ use Rattle.std.specs.List.{flat_map}
 use Rattle.std.specs.Io.KnownBytes.{Appends}
 use Rattle.std.proofs.KnownBytes.{Appends-nil, Appends-trans}
 use Rattle.fb_run.specs.Lines.{ComesBehind, WritesFront, WritesFronts}
-use Rattle.fb_run.specs.Texts.{Texts, followed, to_out}
+use Rattle.fb_run.specs.Ends.{Outs, Writer}
+use Rattle.fb_run.specs.Texts.{Sizes, Texts, followed, to_out}
 use Rattle.fb_run.specs.declared.fault.RunFault.{RunFault}
 use Rattle.fb_run.specs.declared.fault.RunFault.TheVariants as run
 
@@ -99,9 +100,16 @@ module _ (f : ℕ → List ℕ) (bytes : List ℕ) (i : ℕ) (inside : i < lengt
       subst (λ l. WritesFront (w ++ l) s s'' b n) all front
 
 -- a write that came to rest behind a front came to rest within the whole
-pub fronts_behind : (front : List ℕ) (text : Texts) (s s' s'' n n' : Option (List ℕ)) (b b' noted : ℕ) (fault : RunFault) → Appends s s' front → b' ≡ b + length front
-    → WritesFronts text s' s'' n n' b' noted fault → WritesFronts (followed (to_out front) text) s s'' n n' b noted fault
-fronts_behind front text s s' s'' n n' b b' noted (run.WriteFault written) wrote count (within, keeps) =
-    (front_behind [] front [] text.out s s' s'' b b' written (behind_written [] front [] s s' b b' refl refl wrote count) within, keeps)
-fronts_behind front text s s' s'' n n' b b' noted (run.NoteFault written) wrote count (more, within) = (Appends-trans s s' s'' front text.out wrote more, within)
-fronts_behind front text s s' s'' n n' b b' noted _ wrote count never = absurd never
+pub fronts_behind : (front : List ℕ) (text : Texts) (a c : Outs) (between : Writer) (size size' : Sizes) (fault : RunFault) → Appends a.writer.bytes between.bytes front
+    → size'.out ≡ size.out + length front → size'.notes ≡ size.notes → WritesFronts text (record { writer = between; notes = a.notes }) c size' fault
+    → WritesFronts (followed (to_out front) text) a c size fault
+fronts_behind front text a c between size size' (run.WriteFault written) wrote count same (within, keeps) = (
+  front_behind [] front [] text.out a.writer.bytes between.bytes c.writer.bytes size.out size'.out written
+      (behind_written [] front [] a.writer.bytes between.bytes size.out size'.out refl refl wrote count) within,
+  keeps,
+)
+fronts_behind front text a c between size size' (run.NoteFault written) wrote count same (more, within) = (
+  Appends-trans a.writer.bytes between.bytes c.writer.bytes front text.out wrote more,
+  subst (λ (k : ℕ). WritesFront text.notes a.notes.bytes c.notes.bytes k written) same within,
+)
+fronts_behind front text a c between size size' _ wrote count same never = absurd never

@@ -13,5 +13,6 @@ pub mod RunLemmas
 pub mod Shown
 pub mod StreamLemmas
 pub mod SumsLemmas
+pub mod TakesLemmas
 pub mod TextsLemmas
 pub mod ThroughLemmas

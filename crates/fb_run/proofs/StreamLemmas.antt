@@ -49,40 +49,40 @@ splits_one limit m is = record {
   last = inl (empty_partial limit);
 }
 
-pub tells_nothing : (job : Job) (limit : ℕ) → Tells job limit [] silent no_tally []
-tells_nothing job limit = ([], splits_rest limit [] (inl (empty_partial limit)), (refl, refl))
+pub tells_nothing : (job : Job) → Tells job [] silent no_tally []
+tells_nothing job = ([], splits_rest job.limit [] (inl (empty_partial job.limit)), (refl, refl))
 
 -- more bytes are held
-tells_held : (job : Job) (limit : ℕ) (tally : Tally) (bytes more held held' : List ℕ) (text : Texts) → held' ≡ held ++ more → IsPartial limit held'
-    → Tells job limit bytes text tally held → Tells job limit (bytes ++ more) text tally held'
-tells_held job limit tally bytes more held held' text is part (xs, splits, lines) =
-    let behind : Splits limit (held ++ more) [] held' = subst (λ (l : List ℕ). Splits limit l [] held') is (splits_rest limit held' (inl part)) in
-    (xs, subst (λ (l : List (List ℕ)). Splits limit (bytes ++ more) l held') (append-nil xs) (splits_then limit bytes more held held' xs [] splits behind), lines)
+tells_held : (job : Job) (tally : Tally) (bytes more held held' : List ℕ) (text : Texts) → held' ≡ held ++ more → IsPartial job.limit held'
+    → Tells job bytes text tally held → Tells job (bytes ++ more) text tally held'
+tells_held job tally bytes more held held' text is part (xs, splits, lines) =
+    let behind : Splits job.limit (held ++ more) [] held' = subst (λ (l : List ℕ). Splits job.limit l [] held') is (splits_rest job.limit held' (inl part)) in
+    (xs, subst (λ (l : List (List ℕ)). Splits job.limit (bytes ++ more) l held') (append-nil xs) (splits_then job.limit bytes more held held' xs [] splits behind), lines)
 
 -- a message was whole and got its line
-pub tells_line : (job : Job) (limit : ℕ) (tally tally' : Tally) (bytes more held message : List ℕ) (text text' : Texts) → message ≡ held ++ more → IsMessage limit message
+pub tells_line : (job : Job) (tally tally' : Tally) (bytes more held message : List ℕ) (text text' : Texts) → message ≡ held ++ more → IsMessage job.limit message
     → AddsTold job (1 + (tally.yes + tally.no)) message text tally text' tally' → (written : Texts)
-    → Tells job limit bytes (followed written text) tally held → Tells job limit (bytes ++ more) (followed written text') tally' []
-tells_line job limit tally tally' bytes more held message text text' at is adds written (xs, splits, lines) =
-    let one : Splits limit (held ++ more) (message ∷ []) [] = subst (λ (l : List ℕ). Splits limit l (message ∷ []) []) at (splits_one limit message is) in
+    → Tells job bytes (followed written text) tally held → Tells job (bytes ++ more) (followed written text') tally' []
+tells_line job tally tally' bytes more held message text text' at is adds written (xs, splits, lines) =
+    let one : Splits job.limit (held ++ more) (message ∷ []) [] = subst (λ (l : List ℕ). Splits job.limit l (message ∷ []) []) at (splits_one job.limit message is) in
     let whole : text' ≡ followed text adds.line = same_texts _ _ _ _ adds.out_is adds.notes_are in
     let grown : followed (followed written text) adds.line ≡ followed written text' = followed_assoc written text adds.line ∙ ap (λ l. followed written l) (sym whole) in (
       xs ++ message ∷ [],
-      splits_then limit bytes more held [] xs (message ∷ []) splits one,
+      splits_then job.limit bytes more held [] xs (message ∷ []) splits one,
       subst (λ (l : Texts). AreTold job 1 (xs ++ message ∷ []) l tally') grown
           (lines_more job xs message (followed written text) adds.line tally tally' adds.verdict adds.tally_is lines adds.is_line),
     )
 
 -- what was told is that of the first messages, whatever comes
-pub tells_some : (job : Job) (limit : ℕ) (tally : Tally) (bytes more held : List ℕ) (text : Texts) → Tells job limit bytes text tally held → TellsSome job limit (bytes ++ more) text tally
-tells_some job limit tally bytes more held text (xs, splits, lines) =
-    let further = readings_some limit (held ++ more) in
-    (xs ++ further.0, further.1, xs, further.0, splits_then limit bytes more held further.1 xs further.0 splits further.2, refl, lines)
+pub tells_some : (job : Job) (tally : Tally) (bytes more held : List ℕ) (text : Texts) → Tells job bytes text tally held → TellsSome job (bytes ++ more) text tally
+tells_some job tally bytes more held text (xs, splits, lines) =
+    let further = readings_some job.limit (held ++ more) in
+    (xs ++ further.0, further.1, xs, further.0, splits_then job.limit bytes more held further.1 xs further.0 splits further.2, refl, lines)
 
 -- no memory was left
-pub rests_memory : (job : Job) (limit : ℕ) (tally : Tally) (bytes more held : List ℕ) (text : Texts) → Tells job limit bytes text tally held → Rests job limit (bytes ++ more) text tally run.OutOfMemory
-rests_memory job limit tally bytes more held text tells =
-    let some = tells_some job limit tally bytes more held text tells in
+pub rests_memory : (job : Job) (tally : Tally) (bytes more held : List ℕ) (text : Texts) → Tells job bytes text tally held → Rests job (bytes ++ more) text tally run.OutOfMemory
+rests_memory job tally bytes more held text tells =
+    let some = tells_some job tally bytes more held text tells in
     (some.0, some.1, some.4, some)
 
 -- the framer failed at a piece
@@ -94,26 +94,25 @@ halts_feed job before old new piece (stream.Oversize number) told limit held is 
     let whole : Splits job.limit (bytes ++ piece) xs (before.held ++ piece) =
     subst (λ (l : List (List ℕ)). Splits job.limit (bytes ++ piece) l (before.held ++ piece)) (append-nil xs)
     (splits_then job.limit bytes piece before.held (before.held ++ piece) xs [] splits (splits_rest job.limit (before.held ++ piece) (inr over))) in
-    subst (Rests job job.limit (bytes ++ piece) (followed written before.text) before.tally) (sym is)
+    subst (Rests job (bytes ++ piece) (followed written before.text) before.tally) (sym is)
     (xs, before.held ++ piece, whole, (over, refused.number ∙ ap (λ l. declared (l ++ piece)) held, lines))
 halts_feed job before old new piece stream.OutOfMemory told limit held is starved bytes written tells =
-    subst (Rests job job.limit (bytes ++ piece) (followed written before.text) before.tally) (sym is)
-    (rests_memory job job.limit before.tally bytes piece before.held (followed written before.text) tells)
+    subst (Rests job (bytes ++ piece) (followed written before.text) before.tally) (sym is)
+    (rests_memory job before.tally bytes piece before.held (followed written before.text) tells)
 halts_feed job before old new piece (stream.Truncated held) told limit same is never bytes written tells = absurd never
 halts_feed job before old new piece stream.Failed told limit held is never bytes written tells = absurd never
 
 pub feed_kind : (old new : Framing) (piece : List ℕ) (fault : StreamFault) (told : RunFault) → told ≡ feed_fault fault → FeedFails old new piece fault → IsFeedFault told
 feed_kind old new piece (stream.Oversize number) told is refused = subst IsFeedFault (sym is) tt
 feed_kind old new piece stream.OutOfMemory told is starved = subst IsFeedFault (sym is) tt
-feed_kind old new piece (stream.Truncated held) told is never = absurd never
-feed_kind old new piece stream.Failed told is never = absurd never
+feed_kind old new piece _ told is never = absurd never
 
 -- there was no memory for a line
 pub halts_memory : (job : Job) (before : Standing) (piece : List ℕ) (text : Texts) (tally : Tally) → text ≡ before.text → tally ≡ before.tally → Halts job before piece text tally run.OutOfMemory
 halts_memory job before piece text tally same counted bytes written tells =
-    rests_memory job job.limit tally bytes piece before.held (followed written text)
-    (subst (λ (l : Texts). Tells job job.limit bytes (followed written l) tally before.held) (sym same)
-    (subst (λ (t : Tally). Tells job job.limit bytes (followed written before.text) t before.held) (sym counted) tells))
+    rests_memory job tally bytes piece before.held (followed written text)
+    (subst (λ (l : Texts). Tells job bytes (followed written l) tally before.held) (sym same)
+    (subst (λ (t : Tally). Tells job bytes (followed written before.text) t before.held) (sym counted) tells))
 
 -- the front of a piece was fed, and no message was whole
 pub onward_partial : (job : Job) (before after : Standing) (old new : Framing) (piece : List ℕ) (used : ℕ) (whole : Bool) → old.limit ≡ job.limit → old.held ≡ before.held
@@ -122,16 +121,16 @@ pub onward_partial : (job : Job) (before after : Standing) (old new : Framing) (
 onward_partial job before after old new piece used whole limit held feeds part is same counted bytes written tells =
     let grown : after.held ≡ before.held ++ take used piece = sym is ∙ feeds.held ∙ ap (λ l. l ++ take used piece) held in
     let part' : IsPartial job.limit after.held = subst (IsPartial job.limit) is (subst (λ (n : ℕ). IsPartial n new.held) (feeds.limit ∙ limit) part) in
-    let more = tells_held job job.limit before.tally bytes (take used piece) before.held after.held (followed written before.text) grown part' tells in
-    subst (λ (l : Texts). Tells job job.limit (bytes ++ take used piece) (followed written l) after.tally after.held) (sym same)
-    (subst (λ (t : Tally). Tells job job.limit (bytes ++ take used piece) (followed written before.text) t after.held) (sym counted) more)
+    let more = tells_held job before.tally bytes (take used piece) before.held after.held (followed written before.text) grown part' tells in
+    subst (λ (l : Texts). Tells job (bytes ++ take used piece) (followed written l) after.tally after.held) (sym same)
+    (subst (λ (t : Tally). Tells job (bytes ++ take used piece) (followed written before.text) t after.held) (sym counted) more)
 
 -- bytes came by which a message was whole, and it got its line
 pub onward_message : (job : Job) (before after : Standing) (piece message : List ℕ) → message ≡ before.held ++ piece → IsMessage job.limit message → after.held ≡ []
     → AddsTold job (1 + (before.tally.yes + before.tally.no)) message before.text before.tally after.text after.tally → Onward job before piece after
 onward_message job before after piece message at is gone adds bytes written tells =
-    subst (λ (l : List ℕ). Tells job job.limit (bytes ++ piece) (followed written after.text) after.tally l) (sym gone)
-    (tells_line job job.limit before.tally after.tally bytes piece before.held message before.text after.text at is adds written tells)
+    subst (λ (l : List ℕ). Tells job (bytes ++ piece) (followed written after.text) after.tally l) (sym gone)
+    (tells_line job before.tally after.tally bytes piece before.held message before.text after.text at is adds written tells)
 
 -- the framer came to hold it
 pub onward_line : (job : Job) (before after : Standing) (old new : Framing) (piece message : List ℕ) (used : ℕ) (whole : Bool) → old.limit ≡ job.limit → old.held ≡ before.held
@@ -148,7 +147,7 @@ HasPassed job before piece rest after = (front : List ℕ) × (piece ≡ front +
 -- at first nothing was
 pub passed_none : (job : Job) (before : Standing) (piece : List ℕ) → HasPassed job before piece piece before
 passed_none job before piece =
-    ([], refl, λ bytes written tells. subst (λ (l : List ℕ). Tells job job.limit l (followed written before.text) before.tally before.held) (sym (append-nil bytes)) tells)
+    ([], refl, λ bytes written tells. subst (λ (l : List ℕ). Tells job l (followed written before.text) before.tally before.held) (sym (append-nil bytes)) tells)
 
 -- n bytes more
 pub passed_more : (job : Job) (before between after : Standing) (n : ℕ) (piece rest rest' : List ℕ) → rest' ≡ drop n rest
@@ -156,7 +155,7 @@ pub passed_more : (job : Job) (before between after : Standing) (n : ℕ) (piece
 passed_more job before between after n piece rest rest' is (front, whole, first) second = (
   front ++ take n rest,
   front-more piece front rest rest' n whole is,
-  λ bytes written tells. subst (λ (l : List ℕ). Tells job job.limit l (followed written after.text) after.tally after.held) (append_assoc bytes front (take n rest))
+  λ bytes written tells. subst (λ (l : List ℕ). Tells job l (followed written after.text) after.tally after.held) (append_assoc bytes front (take n rest))
       (second (bytes ++ front) written (first bytes written tells)),
 )
 
@@ -170,29 +169,22 @@ onward_front job before after n piece rest is (front, whole, onward) =
 pub halts_after : (job : Job) (before after : Standing) (piece rest : List ℕ) (text : Texts) (tally : Tally) (fault : RunFault) → HasPassed job before piece rest after → Halts job after rest text tally fault
     → Halts job before piece text tally fault
 halts_after job before after piece rest text tally fault (front, whole, first) second bytes written tells =
-    subst (λ (l : List ℕ). Rests job job.limit l (followed written text) tally fault) (append_assoc bytes front rest ∙ ap (λ l. bytes ++ l) (sym whole))
+    subst (λ (l : List ℕ). Rests job l (followed written text) tally fault) (append_assoc bytes front rest ∙ ap (λ l. bytes ++ l) (sym whole))
     (second (bytes ++ front) written (first bytes written tells))
 
 -- what was told in the front of a piece is that of the first messages, whatever the rest is
 pub gathers_front : (job : Job) (before after : Standing) (n : ℕ) (piece : List ℕ) → Onward job before (take n piece) after → Gathers job before piece after.text after.tally
 gathers_front job before after n piece onward bytes written tells =
-    subst (λ (l : List ℕ). TellsSome job job.limit l (followed written after.text) after.tally) (append_assoc bytes (take n piece) (drop n piece) ∙ ap (λ l. bytes ++ l) (take-append-drop n piece))
-    (tells_some job job.limit after.tally (bytes ++ take n piece) (drop n piece) after.held (followed written after.text) (onward bytes written tells))
+    subst (λ (l : List ℕ). TellsSome job l (followed written after.text) after.tally) (append_assoc bytes (take n piece) (drop n piece) ∙ ap (λ l. bytes ++ l) (take-append-drop n piece))
+    (tells_some job after.tally (bytes ++ take n piece) (drop n piece) after.held (followed written after.text) (onward bytes written tells))
 
-some_of : (job : Job) (limit : ℕ) (bytes : List ℕ) (text : Texts) (tally : Tally) (fault : RunFault) → IsFeedFault fault → Rests job limit bytes text tally fault
-    → TellsSome job limit bytes text tally
-some_of job limit bytes text tally (run.Stream (stream.Oversize number)) kind (xs, rest, splits, (over, is, lines)) = (xs, rest, xs, [], splits, sym (append-nil xs), lines)
-some_of job limit bytes text tally run.OutOfMemory kind (xs, rest, splits, some) = some
-some_of job limit bytes text tally (run.Stream (stream.Truncated held)) kind rests = absurd kind
-some_of job limit bytes text tally (run.Stream stream.OutOfMemory) kind rests = absurd kind
-some_of job limit bytes text tally (run.Stream stream.Failed) kind rests = absurd kind
-some_of job limit bytes text tally run.ReadFault kind rests = absurd kind
-some_of job limit bytes text tally run.TooManyTurns kind rests = absurd kind
-some_of job limit bytes text tally (run.WriteFault written) kind rests = absurd kind
-some_of job limit bytes text tally (run.NoteFault written) kind rests = absurd kind
-some_of job limit bytes text tally (run.BareTooLong most) kind rests = absurd kind
+some_of : (job : Job) (bytes : List ℕ) (text : Texts) (tally : Tally) (fault : RunFault) → IsFeedFault fault → Rests job bytes text tally fault
+    → TellsSome job bytes text tally
+some_of job bytes text tally (run.Stream (stream.Oversize number)) kind (xs, rest, splits, (over, is, lines)) = (xs, rest, xs, [], splits, sym (append-nil xs), lines)
+some_of job bytes text tally run.OutOfMemory kind (xs, rest, splits, some) = some
+some_of job bytes text tally _ kind rests = absurd kind
 
 -- so does one in which the run came to rest
 pub gathers_halts : (job : Job) (before : Standing) (piece : List ℕ) (text : Texts) (tally : Tally) (fault : RunFault) → IsFeedFault fault → Halts job before piece text tally fault
     → Gathers job before piece text tally
-gathers_halts job before piece text tally fault kind halts bytes written tells = some_of job job.limit (bytes ++ piece) (followed written text) tally fault kind (halts bytes written tells)
+gathers_halts job before piece text tally fault kind halts bytes written tells = some_of job (bytes ++ piece) (followed written text) tally fault kind (halts bytes written tells)

@@ -1,7 +1,8 @@
 -- What a fault of a part is told as, the causes of faults, and the exit status.
-use Rattle.std.specs.Prelude.{◌≡◌, ℕ, ◌+◌, ◌==◌, Bool, true, if◌then◌else◌, Result, Ok, Err}
+use Rattle.std.specs.Prelude.{◌≡◌, ℕ, ◌+◌, ◌-◌, ◌==◌, Bool, true, if◌then◌else◌, Result, Ok, Err}
 use Rattle.fb_bytes.specs.declared.stream_fault.StreamFault.{StreamFault}
 use Rattle.fb_bytes.specs.declared.stream_fault.StreamFault.TheVariants as stream
+use Rattle.fb_run.specs.Ends.{Ends, Outs, Writer}
 use Rattle.fb_run.specs.declared.fault.RunFault.{RunFault}
 use Rattle.fb_run.specs.declared.fault.RunFault.TheVariants.{ReadFault, WriteFault, NoteFault, Stream, TooManyTurns, OutOfMemory}
 use Rattle.fb_run.specs.declared.tally.Tally.{Tally}
@@ -11,19 +12,43 @@ abbrev pub feed_fault : StreamFault → RunFault
 feed_fault stream.OutOfMemory = OutOfMemory
 feed_fault cause = Stream cause
 
--- no call failed, by the failures of the reader, the writer and the notes before and after
-abbrev pub IsUnfailed : ℕ → ℕ → ℕ → ℕ → ℕ → ℕ → Type 0
-IsUnfailed failures failures' refusals refusals' complaints complaints' = (failures' ≡ failures) × (refusals' ≡ refusals) × (complaints' ≡ complaints)
+-- the calls that failed of a reader, a writer and the notes
+pub record Failures : Type 0 where
+  pub reads : ℕ
+  pub writes : ℕ
+  pub notes : ℕ
 
--- the cause of a fault, by the same counts, the reads that were left, and whether the input's end was told: one call of
--- the reader, the writer or the notes failed, as the fault says, or none did
-abbrev pub IsCaused : ℕ → ℕ → ℕ → ℕ → ℕ → ℕ → ℕ → Bool → RunFault → Type 0
-IsCaused failures failures' refusals refusals' complaints complaints' left ended ReadFault = (failures' ≡ failures + 1) × (refusals' ≡ refusals) × (complaints' ≡ complaints)
-IsCaused failures failures' refusals refusals' complaints complaints' left ended (WriteFault written) = (failures' ≡ failures) × (refusals' ≡ refusals + 1) × (complaints' ≡ complaints)
-IsCaused failures failures' refusals refusals' complaints complaints' left ended (NoteFault written) = (failures' ≡ failures) × (refusals' ≡ refusals) × (complaints' ≡ complaints + 1)
-IsCaused failures failures' refusals refusals' complaints complaints' left ended TooManyTurns = IsUnfailed failures failures' refusals refusals' complaints complaints' × (left ≡ 0)
-IsCaused failures failures' refusals refusals' complaints complaints' left ended (Stream (stream.Truncated held)) = IsUnfailed failures failures' refusals refusals' complaints complaints' × (ended ≡ true)
-IsCaused failures failures' refusals refusals' complaints complaints' left ended _ = IsUnfailed failures failures' refusals refusals' complaints complaints'
+abbrev pub failed : ℕ → Outs → Failures
+failed reads outs = record { reads = reads; writes = outs.writer.failures; notes = outs.notes.failures }
+
+abbrev pub failures_of : Ends → Failures
+failures_of ends = failed ends.reader.failures ends.outs
+
+-- no call failed
+abbrev pub IsUnfailed : Failures → Failures → Type 0
+IsUnfailed before after = (after.reads ≡ before.reads) × (after.writes ≡ before.writes) × (after.notes ≡ before.notes)
+
+-- the cause of a fault, by the calls that failed, the reads that were left, and whether the input's end was told: one
+-- call of the reader, the writer or the notes failed, as the fault says, or none did
+abbrev pub IsCaused : Failures → Failures → ℕ → Bool → RunFault → Type 0
+IsCaused before after left ended ReadFault = IsUnfailed (record before { reads = before.reads + 1 }) after
+IsCaused before after left ended (WriteFault written) = IsUnfailed (record before { writes = before.writes + 1 }) after
+IsCaused before after left ended (NoteFault written) = IsUnfailed (record before { notes = before.notes + 1 }) after
+IsCaused before after left ended TooManyTurns = IsUnfailed before after × (left ≡ 0)
+IsCaused before after left ended (Stream (stream.Truncated held)) = IsUnfailed before after × (ended ≡ true)
+IsCaused before after left ended _ = IsUnfailed before after
+
+-- the same where it befell the writer and the notes alone, whatever is read
+abbrev pub IsCausedOut : Outs → Outs → RunFault → Type 0
+IsCausedOut before after fault = (reads left : ℕ) (ended : Bool) → IsCaused (failed reads before) (failed reads after) left ended fault
+
+-- and where it befell the writer alone
+abbrev pub IsCausedWriting : Writer → Writer → RunFault → Type 0
+IsCausedWriting before after fault = (notes : Writer) → IsCausedOut (record { writer = before; notes = notes }) (record { writer = after; notes = notes }) fault
+
+-- no call of the writer or the notes failed
+abbrev pub IsUnfailedOut : Outs → Outs → Type 0
+IsUnfailedOut before after = (after.writer.failures ≡ before.writer.failures) × (after.notes.failures ≡ before.notes.failures)
 
 -- how a run ended: well, or for a cause
 abbrev pub End : Type 0
@@ -35,14 +60,14 @@ end_of (Ok tally) = Ok tt
 end_of (Err fault) = Err fault
 
 -- how a run ended, by the same counts: after its end was told, where no call failed, or by the cause of its fault
-abbrev pub EndsBeside : ℕ → ℕ → ℕ → ℕ → ℕ → ℕ → ℕ → Bool → End → Type 0
-EndsBeside failures failures' refusals refusals' complaints complaints' left ended (Ok done) =
-    IsUnfailed failures failures' refusals refusals' complaints complaints' × (ended ≡ true)
-EndsBeside failures failures' refusals refusals' complaints complaints' left ended (Err fault) = IsCaused failures failures' refusals refusals' complaints complaints' left ended fault
+abbrev pub EndsWith : Failures → Failures → ℕ → Bool → End → Type 0
+EndsWith before after left ended (Ok done) = IsUnfailed before after × (ended ≡ true)
+EndsWith before after left ended (Err fault) = IsCaused before after left ended fault
 
--- the same where nothing is noted
-abbrev pub EndsBy : ℕ → ℕ → ℕ → ℕ → ℕ → Bool → Result Tally RunFault → Type 0
-EndsBy failures failures' refusals refusals' left ended answer = EndsBeside failures failures' refusals refusals' 0 0 left ended (end_of answer)
+-- the same by its ends, where it may make so many reads
+abbrev pub EndsBeside : Ends → Ends → ℕ → End → Type 0
+EndsBeside before after turns =
+    EndsWith (failures_of before) (failures_of after) (before.reader.calls + turns - after.reader.calls) after.reader.ended
 
 -- the exit status: 0 without a no, 1 with one, 3 after a fault
 abbrev pub status_of : Result Tally RunFault → ℕ

@@ -2,7 +2,8 @@
 use Rattle.std.specs.Prelude.{◌≡◌, ℕ, ◌+◌, ◌≤◌, List, [], ◌∷◌, ◌++◌, Option, length, take}
 use Rattle.std.specs.Io.KnownBytes.{Appends, Keeps}
 use Rattle.fb_run.specs.Job.{Job, Verdict}
-use Rattle.fb_run.specs.Texts.{Texts, followed, silent, to_out}
+use Rattle.fb_run.specs.Ends.{Outs}
+use Rattle.fb_run.specs.Texts.{Sizes, Texts, followed, silent, to_out}
 use Rattle.fb_run.specs.Line.{IsTold, told_of}
 use Rattle.fb_run.specs.Sums.{no_tally, tally_with}
 use Rattle.fb_run.specs.declared.options.Mode.{Mode}
@@ -80,7 +81,9 @@ StopsBehind job k message text tally tally' sink sink' before fault =
 
 -- a write came to rest within these texts: within that for the writer, with nothing noted, or behind it within the
 -- notes
-abbrev pub WritesFronts : Texts → Option (List ℕ) → Option (List ℕ) → Option (List ℕ) → Option (List ℕ) → ℕ → ℕ → RunFault → Type 0
-WritesFronts text sink sink' notes notes' before noted (WriteFault written) = WritesFront text.out sink sink' before written × Keeps notes notes'
-WritesFronts text sink sink' notes notes' before noted (NoteFault written) = Appends sink sink' text.out × WritesFront text.notes notes notes' noted written
-WritesFronts text sink sink' notes notes' before noted _ = ⊥
+abbrev pub WritesFronts : Texts → Outs → Outs → Sizes → RunFault → Type 0
+WritesFronts text outs outs' before (WriteFault written) =
+    WritesFront text.out outs.writer.bytes outs'.writer.bytes before.out written × Keeps outs.notes.bytes outs'.notes.bytes
+WritesFronts text outs outs' before (NoteFault written) =
+    Appends outs.writer.bytes outs'.writer.bytes text.out × WritesFront text.notes outs.notes.bytes outs'.notes.bytes before.notes written
+WritesFronts text outs outs' before _ = ⊥

@@ -1,7 +1,8 @@
 -- A run, over a stream or over one bare input.
-use Rattle.std.specs.Prelude.{◌≡◌, ℕ, List, Option, None, Result, Ok, Err}
+use Rattle.std.specs.Prelude.{◌≡◌, Result, Ok, Err}
 use Rattle.fb_verify.specs.declared.start.Start.{Start}
 use Rattle.fb_verify.specs.declared.start.Start.TheVariants as start
+use Rattle.fb_run.specs.Ends.{Ends}
 use Rattle.fb_run.specs.Job.{Job}
 use Rattle.fb_run.specs.Bare.{PassesBare, FailsBare}
 use Rattle.fb_run.specs.Stream.{PassesStream, FailsStream}
@@ -10,22 +11,22 @@ use Rattle.fb_run.specs.Faults.{End}
 use Rattle.fb_run.specs.declared.tally.Tally.{Tally}
 
 -- what was read and written by a run over one bare input that ended so, and came to these numbers by then
-abbrev pub IsBareRun : Job → Option (List ℕ) → Option (List ℕ) → Option (List ℕ) → Option (List ℕ) → Option (List ℕ) → Option (List ℕ) → Tally → End → Type 0
-IsBareRun job source source' sink sink' notes notes' tally (Ok done) = PassesBare job job.limit source source' sink sink' notes notes' tally
-IsBareRun job source source' sink sink' notes notes' tally (Err fault) = FailsBare job job.limit source source' sink sink' notes notes' tally fault
+abbrev pub IsBareRun : Job → Ends → Ends → Tally → End → Type 0
+IsBareRun job before after tally (Ok done) = PassesBare job before after tally
+IsBareRun job before after tally (Err fault) = FailsBare job before after tally fault
 
 -- and by one over a stream
-abbrev pub IsStreamRun : Job → Option (List ℕ) → Option (List ℕ) → Option (List ℕ) → Option (List ℕ) → Option (List ℕ) → Option (List ℕ) → Tally → End → Type 0
-IsStreamRun job source source' sink sink' notes notes' tally (Ok done) = PassesStream job job.limit source source' sink sink' notes notes' tally
-IsStreamRun job source source' sink sink' notes notes' tally (Err fault) = FailsStream job job.limit source source' sink sink' notes notes' tally fault
+abbrev pub IsStreamRun : Job → Ends → Ends → Tally → End → Type 0
+IsStreamRun job before after tally (Ok done) = PassesStream job before after tally
+IsStreamRun job before after tally (Err fault) = FailsStream job before after tally fault
 
 -- the input is one bare buffer, or a stream of buffers with their sizes
-abbrev pub IsRunFrom : Start → Job → Option (List ℕ) → Option (List ℕ) → Option (List ℕ) → Option (List ℕ) → Option (List ℕ) → Option (List ℕ) → Tally → End → Type 0
+abbrev pub IsRunFrom : Start → Job → Ends → Ends → Tally → End → Type 0
 IsRunFrom start.Bare = IsBareRun
 IsRunFrom start.Prefixed = IsStreamRun
 
 -- what was read, written and noted by a run that ended so, and came to these numbers by then
-abbrev pub IsRunBeside : Job → Option (List ℕ) → Option (List ℕ) → Option (List ℕ) → Option (List ℕ) → Option (List ℕ) → Option (List ℕ) → Tally → End → Type 0
+abbrev pub IsRunBeside : Job → Ends → Ends → Tally → End → Type 0
 IsRunBeside job = IsRunFrom job.start job
 
 -- the answer of a run that ended so and came to these numbers
@@ -33,7 +34,6 @@ abbrev pub answer_by : Tally → End → Result Tally RunFault
 answer_by tally (Ok done) = Ok tally
 answer_by tally (Err fault) = Err fault
 
--- what was read and written by a run that answered this, of which no notes are known
-abbrev pub IsRun : Job → Option (List ℕ) → Option (List ℕ) → Option (List ℕ) → Option (List ℕ) → Result Tally RunFault → Type 0
-IsRun job source source' sink sink' answer =
-    (tally : Tally) × (end : End) × IsRunBeside job source source' sink sink' None None tally end × (answer ≡ answer_by tally end)
+-- what was read and written by a run that answered this
+abbrev pub IsRun : Job → Ends → Ends → Result Tally RunFault → Type 0
+IsRun job before after answer = (tally : Tally) × (end : End) × IsRunBeside job before after tally end × (answer ≡ answer_by tally end)

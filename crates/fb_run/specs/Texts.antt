@@ -6,6 +6,11 @@ pub record Texts : Type 0 where
   pub out : List ℕ
   pub notes : List ℕ
 
+-- how many bytes on each output
+pub record Sizes : Type 0 where
+  pub out : ℕ
+  pub notes : ℕ
+
 -- nothing
 abbrev pub silent : Texts
 silent = record { out = []; notes = [] }
@@ -21,6 +26,14 @@ to_notes bytes = record { out = []; notes = bytes }
 abbrev pub followed : Texts → Texts → Texts
 followed first second = record { out = first.out ++ second.out; notes = first.notes ++ second.notes }
 
+-- none on either
+abbrev pub no_bytes : Sizes
+no_bytes = record { out = 0; notes = 0 }
+
 -- what waits to be written
 abbrev pub waiting : {A : Type 0} → Output A → Texts
 waiting output = record { out = output.out.bytes.items; notes = output.notes.bytes.items }
+
+-- how many were written before
+abbrev pub written_by : {A : Type 0} → Output A → Sizes
+written_by output = record { out = output.out.written; notes = output.notes.written }

@@ -1,12 +1,14 @@
 //! What is told of a bare input that was read whole.
 
-ghost use Rattle.std.specs.Prelude.{◌≡◌, ◌+◌, ◌<◌, ◌≤◌, ◌^◌, length, true, ℕ, List, Option};
+ghost use Rattle.std.specs.Prelude.{◌≡◌, ◌+◌, ◌<◌, ◌≤◌, ◌^◌, length, true, ℕ};
 ghost use Rattle.std.specs.Io.KnownBytes.{Consumes};
-ghost use Rattle.fb_run.specs.Faults.{EndsBeside};
+ghost use Rattle.fb_run.specs.Ends.{Reader, beside};
+ghost use Rattle.fb_run.specs.Faults.{EndsWith, failed};
 ghost use Rattle.fb_run.specs.Job.{HasRoom};
 ghost use Rattle.fb_run.specs.Run.{IsBareRun};
+ghost use Rattle.fb_run.specs.Seen.{outs_of};
 ghost use Rattle.fb_run.specs.Sums.{no_tally};
-ghost use Rattle.fb_run.specs.Texts.{silent, waiting};
+ghost use Rattle.fb_run.specs.Texts.{no_bytes, silent, waiting, written_by};
 
 use crate::checker::Checker;
 use crate::fault::RunFault;
@@ -26,17 +28,16 @@ pub fn tell_whole<A: Allocator, K: Sink, N: Sink>(
 ) -> Result<(), RunFault>
     requires empty { waiting output.old ≡ silent }
     requires counted { output.old.counter ≡ no_tally }
-    requires written { output.old.out.written ≡ 0 }
-    requires noted { output.old.notes.written ≡ 0 }
+    requires written { written_by output.old ≡ no_bytes }
     requires room { HasRoom checker.now room.old }
     requires within { length bytes.now ≤ checker.now.limit }
     requires limit { checker.now.limit < 2 ^ 31 }
     requires writes { K.calls writer.old < 2 ^ 64 }
     requires tells { N.calls notes.old < 2 ^ 64 }
-    ensures run { (source source' : Option (List ℕ)) → Consumes source source' bytes.now
-        → IsBareRun checker.now source source' (K.contents writer.old) (K.contents writer.new) (N.contents notes.old) (N.contents notes.new) output.new.counter result }
-    ensures end { (failures left : ℕ) → EndsBeside failures failures (K.failures writer.old) (K.failures writer.new)
-        (N.failures notes.old) (N.failures notes.new) left true result }
+    ensures run { (before after : Reader) → Consumes before.left after.left bytes.now → IsBareRun checker.now
+        (beside before (outs_of K.Sink N.Sink writer.old notes.old)) (beside after (outs_of K.Sink N.Sink writer.new notes.new)) output.new.counter result }
+    ensures end { (reads left : ℕ) → EndsWith
+        (failed reads (outs_of K.Sink N.Sink writer.old notes.old)) (failed reads (outs_of K.Sink N.Sink writer.new notes.new)) left true result }
     ensures pushes { N.calls notes.new ≤ N.calls notes.old + 2 ^ 64 }
 {
     output.add_through(checker, room, bytes, writer)?;

@@ -1,16 +1,17 @@
 //! What a run tells: gathered, counted, and written together.
 
-ghost use Rattle.std.specs.Prelude.{Err, IfErr, IsTrue, Ok, OnOk, OnErr, ◌≡◌, ◌+◌, ◌<◌, ◌≤◌, ◌^◌, ◌++◌, length, codes, take, ℕ, Bool, List, option_map};
+ghost use Rattle.std.specs.Prelude.{Err, IfErr, IsTrue, Ok, OnOk, OnErr, ◌≡◌, ◌+◌, ◌<◌, ◌≤◌, ◌^◌, ◌++◌, length, codes, take, ℕ, List, option_map};
 ghost use Rattle.std.specs.Borrow.{Bor};
-ghost use Rattle.std.specs.Io.KnownBytes.{Appends};
 ghost use Rattle.fb_access.specs.Denotes.{shown};
 ghost use Rattle.fb_run.specs.AnswerText.{answer_text};
-ghost use Rattle.fb_run.specs.Faults.{IsCaused};
+ghost use Rattle.fb_run.specs.Ends.{Takes};
+ghost use Rattle.fb_run.specs.Faults.{IsCausedOut, IsCausedWriting, IsUnfailedOut};
 ghost use Rattle.fb_run.specs.Job.{HasRoom, brief_verdict, verdict_of};
 ghost use Rattle.fb_run.specs.Line.{told_of, verdict_line, with_place};
 ghost use Rattle.fb_run.specs.Lines.{Adds, AddsThrough, AddsTold, ComesBehind, StopsBehind, StopsIn, WritesFronts};
+ghost use Rattle.fb_run.specs.Seen.{GrowsBy, IsBelow, load_of, outs_of, writer_of};
 ghost use Rattle.fb_run.specs.Sums.{no_tally};
-ghost use Rattle.fb_run.specs.Texts.{silent, waiting};
+ghost use Rattle.fb_run.specs.Texts.{silent, waiting, written_by};
 
 use crate::checker::{Checker, Found, Wrong};
 use crate::counter::Counter;
@@ -180,8 +181,7 @@ impl<A: Allocator> Output<A> {
         ensures one { OnOk result (self.new.counter.yes + self.new.counter.no ≡ self.old.counter.yes + self.old.counter.no + 1) }
         ensures err { IfErr result (λ fault. StopsBehind checker.now (1 + (self.old.counter.yes + self.old.counter.no)) message.now
             (waiting self.old) self.old.counter self.new.counter (K.contents writer.old) (K.contents writer.new) self.old.out.written fault) }
-        ensures failed { IfErr result (λ fault. (failures complaints left : ℕ) (ended : Bool) → IsCaused failures failures
-            (K.failures writer.old) (K.failures writer.new) complaints complaints left ended fault) }
+        ensures failed { IfErr result (IsCausedWriting (writer_of K.Sink writer.old) (writer_of K.Sink writer.new)) }
         ensures unfailed { OnOk result (K.failures writer.new ≡ K.failures writer.old) }
         ensures little { OnOk result (self.new.out.written ≤ self.old.out.written + 2 ^ 67) }
         ensures calls { OnOk result (K.calls writer.new ≤ K.calls writer.old + 2 ^ 67) }
@@ -216,8 +216,7 @@ impl<A: Allocator> Output<A> {
         ensures notes { OnOk result ((waiting self.new).notes ≡ (waiting self.old).notes ++ (told_of mode number message.now (verdict_of verdict.now)).notes) }
         ensures err { IfErr result (λ fault. StopsIn ((waiting self.old).out ++ (told_of mode number message.now (verdict_of verdict.now)).out)
             (K.contents writer.old) (K.contents writer.new) self.old.out.written fault) }
-        ensures failed { IfErr result (λ fault. (failures complaints left : ℕ) (ended : Bool) → IsCaused failures failures
-            (K.failures writer.old) (K.failures writer.new) complaints complaints left ended fault) }
+        ensures failed { IfErr result (IsCausedWriting (writer_of K.Sink writer.old) (writer_of K.Sink writer.new)) }
         ensures unfailed { OnOk result (K.failures writer.new ≡ K.failures writer.old) }
         ensures little { OnOk result (self.new.out.written ≤ self.old.out.written + 2 ^ 67) }
         ensures calls { OnOk result (K.calls writer.new ≤ K.calls writer.old + 2 ^ 67) }
@@ -319,26 +318,16 @@ impl<A: Allocator> Output<A> {
 
     /// Writes what waits, first for the writer and then for the notes.
     pub fn flush<K: Sink, N: Sink>(&mut self, writer: &mut K, notes: &mut N) -> Result<(), RunFault>
-        requires writes { K.calls writer.old < 2 ^ 99 + 2 ^ 98 }
-        requires tells { N.calls notes.old < 2 ^ 99 }
-        requires written { self.old.out.written < 2 ^ 100 }
-        requires noted { self.old.notes.written < 2 ^ 100 }
-        ensures wrote { OnOk result (Appends (K.contents writer.old) (K.contents writer.new) (waiting self.old).out) }
-        ensures told { OnOk result (Appends (N.contents notes.old) (N.contents notes.new) (waiting self.old).notes) }
+        requires load { IsBelow (load_of K.Sink N.Sink writer.old notes.old self.old) (2 ^ 99 + 2 ^ 98) }
+        ensures takes { OnOk result (Takes (outs_of K.Sink N.Sink writer.old notes.old) (outs_of K.Sink N.Sink writer.new notes.new) (waiting self.old)) }
         ensures empty { OnOk result (waiting self.new ≡ silent) }
         ensures written { OnOk result (self.new.out.written ≡ self.old.out.written + length (waiting self.old).out) }
         ensures noted { OnOk result (self.new.notes.written ≡ self.old.notes.written + length (waiting self.old).notes) }
-        ensures err { IfErr result (WritesFronts (waiting self.old) (K.contents writer.old) (K.contents writer.new)
-            (N.contents notes.old) (N.contents notes.new) self.old.out.written self.old.notes.written) }
-        ensures failed { IfErr result (λ fault. (failures left : ℕ) (ended : Bool) → IsCaused failures failures
-            (K.failures writer.old) (K.failures writer.new) (N.failures notes.old) (N.failures notes.new) left ended fault) }
-        ensures unfailed { OnOk result (K.failures writer.new ≡ K.failures writer.old) }
-        ensures unrefused { OnOk result (N.failures notes.new ≡ N.failures notes.old) }
+        ensures err { IfErr result (WritesFronts (waiting self.old) (outs_of K.Sink N.Sink writer.old notes.old) (outs_of K.Sink N.Sink writer.new notes.new) (written_by self.old)) }
+        ensures failed { IfErr result (IsCausedOut (outs_of K.Sink N.Sink writer.old notes.old) (outs_of K.Sink N.Sink writer.new notes.new)) }
+        ensures unfailed { OnOk result (IsUnfailedOut (outs_of K.Sink N.Sink writer.old notes.old) (outs_of K.Sink N.Sink writer.new notes.new)) }
         ensures counted { self.new.counter ≡ self.old.counter }
-        ensures little { self.new.out.written ≤ self.old.out.written + 2 ^ 63 }
-        ensures less { self.new.notes.written ≤ self.old.notes.written + 2 ^ 63 }
-        ensures writes { K.calls writer.new ≤ K.calls writer.old + 2 ^ 63 }
-        ensures tells { N.calls notes.new ≤ N.calls notes.old + 2 ^ 63 }
+        ensures load { GrowsBy (load_of K.Sink N.Sink writer.old notes.old self.old) (load_of K.Sink N.Sink writer.new notes.new self.new) (2 ^ 63) }
         ensures pushes { K.calls writer.new ≤ K.calls writer.old + length (waiting self.old).out }
         ensures mentions { N.calls notes.new ≤ N.calls notes.old + length (waiting self.old).notes }
     {

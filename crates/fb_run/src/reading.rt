@@ -1,12 +1,13 @@
 //! Reading from a source, a piece at a time.
 
-ghost use Rattle.std.specs.Prelude.{IfOk, IfErr, OnOk, OnErr, ◌≡◌, ◌+◌, ◌-◌, ◌<◌, ◌≤◌, ◌^◌, length, take, true, false, ℕ, Bool, List, Option};
+ghost use Rattle.std.specs.Prelude.{Err, IfOk, IfErr, OnOk, OnErr, ◌≡◌, ◌+◌, ◌<◌, ◌≤◌, ◌^◌, length, take, true, false};
 ghost use Rattle.std.specs.Io.KnownBytes.{Consumes, Keeps};
 ghost use Rattle.fb_bytes.specs.Ends.{failed};
 ghost use Rattle.fb_run.specs.Bare.{FailsBare};
-ghost use Rattle.fb_run.specs.Faults.{IsCaused};
+ghost use Rattle.fb_run.specs.Faults.{EndsBeside};
 ghost use Rattle.fb_run.specs.Job.{Job};
-ghost use Rattle.fb_run.specs.Prompt.{IsUnended};
+ghost use Rattle.fb_run.specs.Prompt.{IsBarePrompt};
+ghost use Rattle.fb_run.specs.Seen.{HasLeave, MayAsk, ends_of};
 ghost use Rattle.fb_run.specs.Sums.{no_tally};
 
 use crate::fault::RunFault;
@@ -39,8 +40,7 @@ pub fn pull_piece<A: Allocator, S: Input<K, N>, K: Sink, N: Sink>(
 ) -> io::Result<usize>
     requires room { 0 < length piece.old.items }
     requires calls { S.calls source.old < 2 ^ 100 }
-    requires leave { S.may_ask (S.remaining source.old) (K.contents writer.now) (N.contents notes.now)
-        (S.calls source.old) (S.failures source.old) (S.ended source.old) }
+    requires leave { MayAsk S.Input (ends_of S.Input K.Sink N.Sink source.old writer.now notes.now) }
     ensures room { length piece.new.items ≡ length piece.old.items }
     ensures fits { IfOk result (λ n. n ≤ length piece.new.items) }
     ensures ok { IfOk result (λ n. Consumes (S.remaining source.old) (S.remaining source.new) (take n piece.new.items)) }
@@ -66,17 +66,15 @@ pub fn read_whole<A: Allocator, B: Allocator, S: Input<K, N>, K: Sink, N: Sink>(
 ) -> Result<Vec<u8, A>, RunFault>
     requires room { length piece.old.items ≡ PIECE }
     requires calls { S.calls source.old + turns < 2 ^ 100 }
-    requires leave { (left : Option (List ℕ)) (bytes : List ℕ) (calls : ℕ) (ended : Bool) → Consumes (S.remaining source.old) left bytes
-        → length bytes ≤ limit → IsUnended (S.calls source.old) calls (S.ended source.old) ended
-        → S.may_ask left (K.contents writer.now) (N.contents notes.now) calls (S.failures source.old) ended }
+    requires leave { HasLeave S.Input (ends_of S.Input K.Sink N.Sink source.old writer.now notes.now) (IsBarePrompt limit) }
     ensures ok { IfOk result (λ whole. Consumes (S.remaining source.old) (S.remaining source.new) whole.items) }
     ensures within { IfOk result (λ whole. length whole.items ≤ limit) }
     ensures end { OnOk result (S.ended source.new ≡ true) }
     ensures unfailed { OnOk result (S.failures source.new ≡ S.failures source.old) }
-    ensures fault { IfErr result (λ fault. (job : Job) (sink note : Option (List ℕ))
-        → FailsBare job limit (S.remaining source.old) (S.remaining source.new) sink sink note note no_tally fault) }
-    ensures cause { IfErr result (λ fault. (refusals complaints : ℕ) → IsCaused (S.failures source.old) (S.failures source.new)
-        refusals refusals complaints complaints (S.calls source.old + turns - S.calls source.new) (S.ended source.new) fault) }
+    ensures fault { IfErr result (λ fault. (job : Job) → job.limit ≡ limit → FailsBare job
+        (ends_of S.Input K.Sink N.Sink source.old writer.now notes.now) (ends_of S.Input K.Sink N.Sink source.new writer.now notes.now) no_tally fault) }
+    ensures cause { IfErr result (λ fault. EndsBeside
+        (ends_of S.Input K.Sink N.Sink source.old writer.now notes.now) (ends_of S.Input K.Sink N.Sink source.new writer.now notes.now) turns (Err fault)) }
     ensures turns { S.calls source.new ≤ S.calls source.old + turns }
 {
     let mut whole = Vec::new(alloc);

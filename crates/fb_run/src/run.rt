@@ -1,10 +1,11 @@
 //! A run over an input, by a schema.
 
-ghost use Rattle.std.specs.Prelude.{◌≡◌, length, ◌+◌, ◌-◌, ◌<◌, ◌≤◌, ◌^◌, ℕ, Bool, List, Option, None};
-ghost use Rattle.fb_run.specs.Faults.{EndsBeside, EndsBy};
+ghost use Rattle.std.specs.Prelude.{◌≡◌, length, ◌+◌, ◌<◌, ◌≤◌, ◌^◌};
+ghost use Rattle.fb_run.specs.Faults.{EndsBeside, end_of};
 ghost use Rattle.fb_run.specs.Job.{Serves, job_of};
-ghost use Rattle.fb_run.specs.Prompt.{IsPrompt, IsUnended};
+ghost use Rattle.fb_run.specs.Prompt.{IsPrompt};
 ghost use Rattle.fb_run.specs.Run.{IsRun, IsRunBeside, answer_by};
+ghost use Rattle.fb_run.specs.Seen.{HasCallsLeft, HasLeave, ends_of, noteless};
 ghost use Rattle.fb_run.specs.Sums.{no_tally};
 
 use crate::checker::Checker;
@@ -78,18 +79,11 @@ pub fn run_beside<A: Allocator, S: Input<K, N>, K: Sink, N: Sink>(
 ) -> Ran
     requires serves { Serves schema.now options.now }
     requires turns { turns ≤ MOST_TURNS }
-    requires reads { S.calls reader.old < 2 ^ 64 }
-    requires writes { K.calls writer.old < 2 ^ 64 }
-    requires tells { N.calls notes.old < 2 ^ 64 }
-    requires leave { (source sink note : Option (List ℕ)) (calls : ℕ) (ended : Bool) → IsPrompt (job_of schema.now options.now) (S.remaining reader.old) source
-        (K.contents writer.old) sink (N.contents notes.old) note
-        → IsUnended (S.calls reader.old) calls (S.ended reader.old) ended → S.may_ask source sink note calls (S.failures reader.old) ended }
+    requires few { HasCallsLeft S.Input K.Sink N.Sink reader.old writer.old notes.old }
+    requires leave { HasLeave S.Input (ends_of S.Input K.Sink N.Sink reader.old writer.old notes.old) (IsPrompt (job_of schema.now options.now)) }
 
-    ensures run { IsRunBeside (job_of schema.now options.now) (S.remaining reader.old) (S.remaining reader.new)
-        (K.contents writer.old) (K.contents writer.new) (N.contents notes.old) (N.contents notes.new) result.tally result.end }
-    ensures end { EndsBeside (S.failures reader.old) (S.failures reader.new)
-        (K.failures writer.old) (K.failures writer.new) (N.failures notes.old) (N.failures notes.new)
-        (S.calls reader.old + turns - S.calls reader.new) (S.ended reader.new) result.end }
+    ensures run { IsRunBeside (job_of schema.now options.now) (ends_of S.Input K.Sink N.Sink reader.old writer.old notes.old) (ends_of S.Input K.Sink N.Sink reader.new writer.new notes.new) result.tally result.end }
+    ensures end { EndsBeside (ends_of S.Input K.Sink N.Sink reader.old writer.old notes.old) (ends_of S.Input K.Sink N.Sink reader.new writer.new notes.new) turns result.end }
     ensures places { length result.tally.reasons ≡ 13 }
     ensures pushes { N.calls notes.new ≤ N.calls notes.old + 2 ^ 96 }
     ensures turns { S.calls reader.new ≤ S.calls reader.old + turns }
@@ -120,14 +114,10 @@ pub fn run_within<A: Allocator, S: Input<K, Nowhere>, K: Sink>(
     requires turns { turns ≤ MOST_TURNS }
     requires reads { S.calls reader.old < 2 ^ 64 }
     requires writes { K.calls writer.old < 2 ^ 64 }
-    requires leave { (source sink note : Option (List ℕ)) (calls : ℕ) (ended : Bool) → IsPrompt (job_of schema.now options.now) (S.remaining reader.old) source
-        (K.contents writer.old) sink None note
-        → IsUnended (S.calls reader.old) calls (S.ended reader.old) ended → S.may_ask source sink note calls (S.failures reader.old) ended }
+    requires leave { HasLeave S.Input (noteless S.Input K.Sink reader.old writer.old) (IsPrompt (job_of schema.now options.now)) }
 
-    ensures run { IsRun (job_of schema.now options.now)
-        (S.remaining reader.old) (S.remaining reader.new) (K.contents writer.old) (K.contents writer.new) result }
-    ensures end { EndsBy (S.failures reader.old) (S.failures reader.new) (K.failures writer.old) (K.failures writer.new)
-        (S.calls reader.old + turns - S.calls reader.new) (S.ended reader.new) result }
+    ensures run { IsRun (job_of schema.now options.now) (noteless S.Input K.Sink reader.old writer.old) (noteless S.Input K.Sink reader.new writer.new) result }
+    ensures end { EndsBeside (noteless S.Input K.Sink reader.old writer.old) (noteless S.Input K.Sink reader.new writer.new) turns (end_of result) }
     ensures turns { S.calls reader.new ≤ S.calls reader.old + turns }
 {
     let mut notes = Nowhere::new();
@@ -145,14 +135,10 @@ pub fn run<A: Allocator, S: Input<K, Nowhere>, K: Sink>(
     requires serves { Serves schema.now options.now }
     requires reads { S.calls reader.old < 2 ^ 64 }
     requires writes { K.calls writer.old < 2 ^ 64 }
-    requires leave { (source sink note : Option (List ℕ)) (calls : ℕ) (ended : Bool) → IsPrompt (job_of schema.now options.now) (S.remaining reader.old) source
-        (K.contents writer.old) sink None note
-        → IsUnended (S.calls reader.old) calls (S.ended reader.old) ended → S.may_ask source sink note calls (S.failures reader.old) ended }
+    requires leave { HasLeave S.Input (noteless S.Input K.Sink reader.old writer.old) (IsPrompt (job_of schema.now options.now)) }
 
-    ensures run { IsRun (job_of schema.now options.now)
-        (S.remaining reader.old) (S.remaining reader.new) (K.contents writer.old) (K.contents writer.new) result }
-    ensures end { EndsBy (S.failures reader.old) (S.failures reader.new) (K.failures writer.old) (K.failures writer.new)
-        (S.calls reader.old + MOST_TURNS - S.calls reader.new) (S.ended reader.new) result }
+    ensures run { IsRun (job_of schema.now options.now) (noteless S.Input K.Sink reader.old writer.old) (noteless S.Input K.Sink reader.new writer.new) result }
+    ensures end { EndsBeside (noteless S.Input K.Sink reader.old writer.old) (noteless S.Input K.Sink reader.new writer.new) MOST_TURNS (end_of result) }
     ensures turns { S.calls reader.new ≤ S.calls reader.old + MOST_TURNS }
 {
     run_within(alloc, reader, writer, schema, options, MOST_TURNS)

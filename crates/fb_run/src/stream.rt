@@ -1,11 +1,11 @@
 //! A run over a stream of size-prefixed buffers, or over one bare buffer.
 
-ghost use Rattle.std.specs.Prelude.{IfOk, IfErr, OnOk, ◌≡◌, ◌+◌, ◌-◌, ◌*◌, ◌<◌, ◌≤◌, ◌^◌, ℕ, Bool, List, Option, [], length, take};
-ghost use Rattle.fb_run.specs.Faults.{EndsBeside, IsCaused};
-ghost use Rattle.fb_run.specs.Prompt.{IsPrompt, IsUnended};
+ghost use Rattle.std.specs.Prelude.{IfOk, IfErr, OnOk, ◌≡◌, ◌+◌, ◌*◌, ◌<◌, ◌≤◌, ◌^◌, length, take};
+ghost use Rattle.fb_run.specs.Faults.{EndsBeside, IsCausedOut, IsCausedWriting, IsUnfailedOut};
+ghost use Rattle.fb_run.specs.Prompt.{IsPrompt};
 ghost use Rattle.fb_run.specs.Run.{IsRunBeside};
-ghost use Rattle.fb_run.specs.Stream.{Gathers, Halts, HaltsThrough, IsFeedFault, IsReady, Onward, OnwardThrough, PassesPiece, StopsAmid, standing};
-ghost use Rattle.fb_run.specs.Sums.{no_tally};
+ghost use Rattle.fb_run.specs.Seen.{GrowsBy, HasCallsLeft, HasLeave, IsBelow, ends_of, load_of, outs_of, writer_of};
+ghost use Rattle.fb_run.specs.Stream.{Gathers, Halts, HaltsThrough, IsFeedFault, IsReady, Onward, OnwardThrough, PassesPiece, StopsAmid, at_first, standing};
 ghost use Rattle.fb_run.specs.Texts.{silent, waiting};
 
 use crate::bare::tell_whole;
@@ -32,9 +32,7 @@ impl<'a, A: Allocator> Carried<&'a A> {
     /// What is carried at first: nothing is told, and nothing is held.
     pub fn new(alloc: &'a A, checker: &Checker<'_, '_, '_>) -> Result<Self, AllocError>
         ensures ready { IfOk result (λ carried. IsReady checker.now carried.framer carried.room) }
-        ensures empty { IfOk result (λ carried. standing carried ≡ record { text = silent; tally = no_tally; held = [] }) }
-        ensures written { IfOk result (λ carried. carried.output.out.written ≡ 0) }
-        ensures noted { IfOk result (λ carried. carried.output.notes.written ≡ 0) }
+        ensures empty { IfOk result (λ carried. standing carried ≡ at_first) }
     {
         let room = checker.room(alloc)?;
         let Ok(framer) = Framer::new(alloc, checker.limit()) else {
@@ -70,22 +68,13 @@ impl<A: Allocator> Carried<A> {
     ) -> Result<(), RunFault>
         requires room { length piece.old.items ≡ PIECE }
         requires ready { IsReady checker.now self.old.framer self.old.room }
-        requires start { standing self.old ≡ record { text = silent; tally = no_tally; held = [] } }
-        requires written { self.old.output.out.written ≡ 0 }
-        requires noted { self.old.output.notes.written ≡ 0 }
+        requires start { standing self.old ≡ at_first }
         requires turns { turns ≤ MOST_TURNS }
-        requires reads { S.calls reader.old < 2 ^ 64 }
-        requires writes { K.calls writer.old < 2 ^ 64 }
-        requires tells { N.calls notes.old < 2 ^ 64 }
-        requires leave { (source sink note : Option (List ℕ)) (calls : ℕ) (ended : Bool) → IsPrompt checker.now (S.remaining reader.old) source
-            (K.contents writer.old) sink (N.contents notes.old) note
-            → IsUnended (S.calls reader.old) calls (S.ended reader.old) ended → S.may_ask source sink note calls (S.failures reader.old) ended }
+        requires few { HasCallsLeft S.Input K.Sink N.Sink reader.old writer.old notes.old }
+        requires leave { HasLeave S.Input (ends_of S.Input K.Sink N.Sink reader.old writer.old notes.old) (IsPrompt checker.now) }
 
-        ensures run { IsRunBeside checker.now
-            (S.remaining reader.old) (S.remaining reader.new) (K.contents writer.old) (K.contents writer.new)
-            (N.contents notes.old) (N.contents notes.new) self.new.output.counter result }
-        ensures end { EndsBeside (S.failures reader.old) (S.failures reader.new) (K.failures writer.old) (K.failures writer.new)
-            (N.failures notes.old) (N.failures notes.new) (S.calls reader.old + turns - S.calls reader.new) (S.ended reader.new) result }
+        ensures run { IsRunBeside checker.now (ends_of S.Input K.Sink N.Sink reader.old writer.old notes.old) (ends_of S.Input K.Sink N.Sink reader.new writer.new notes.new) self.new.output.counter result }
+        ensures end { EndsBeside (ends_of S.Input K.Sink N.Sink reader.old writer.old notes.old) (ends_of S.Input K.Sink N.Sink reader.new writer.new notes.new) turns result }
         ensures pushes { N.calls notes.new ≤ N.calls notes.old + 2 ^ 96 }
         ensures turns { S.calls reader.new ≤ S.calls reader.old + turns }
     {
@@ -129,29 +118,18 @@ impl<A: Allocator> Carried<A> {
         requires piece { length piece.now ≤ PIECE }
         requires few { self.old.output.counter.yes + self.old.output.counter.no < 2 ^ 61 }
         requires empty { waiting self.old.output ≡ silent }
-        requires writes { K.calls writer.old < 2 ^ 99 + 2 ^ 97 }
-        requires tells { N.calls notes.old < 2 ^ 98 }
-        requires little { self.old.output.out.written < 2 ^ 99 + 2 ^ 97 }
-        requires less { self.old.output.notes.written < 2 ^ 99 }
+        requires load { IsBelow (load_of K.Sink N.Sink writer.old notes.old self.old.output) (2 ^ 99 + 2 ^ 97) }
 
-        ensures passes { OnOk result (PassesPiece checker.now (standing self.old) piece.now (standing self.new)
-            (K.contents writer.old) (K.contents writer.new) (N.contents notes.old) (N.contents notes.new)
-            self.old.output.out.written self.new.output.out.written self.old.output.notes.written self.new.output.notes.written) }
+        ensures passes { OnOk result (PassesPiece checker.now (standing self.old) piece.now (standing self.new) (outs_of K.Sink N.Sink writer.old notes.old) (outs_of K.Sink N.Sink writer.new notes.new)) }
         ensures ready { OnOk result (IsReady checker.now self.new.framer self.new.room) }
         ensures empty { OnOk result (waiting self.new.output ≡ silent) }
         ensures few { OnOk result (self.new.output.counter.yes + self.new.output.counter.no
             ≤ self.old.output.counter.yes + self.old.output.counter.no + PIECE + 1) }
 
-        ensures stops { IfErr result (λ fault. StopsAmid checker.now (standing self.old) piece.now self.new.output.counter
-            (K.contents writer.old) (K.contents writer.new) (N.contents notes.old) (N.contents notes.new)
-            self.old.output.out.written self.old.output.notes.written fault) }
-        ensures failed { IfErr result (λ fault. (failures left : ℕ) (ended : Bool) → IsCaused failures failures
-            (K.failures writer.old) (K.failures writer.new) (N.failures notes.old) (N.failures notes.new) left ended fault) }
-        ensures unfailed { OnOk result (K.failures writer.new ≡ K.failures writer.old) }
-        ensures unrefused { OnOk result (N.failures notes.new ≡ N.failures notes.old) }
-        ensures little { OnOk result (self.new.output.out.written ≤ self.old.output.out.written + 9 * 2 ^ 64) }
-        ensures less { OnOk result (self.new.output.notes.written ≤ self.old.output.notes.written + 2 ^ 64) }
-        ensures calls { OnOk result (K.calls writer.new ≤ K.calls writer.old + 9 * 2 ^ 64) }
+        ensures stops { IfErr result (StopsAmid checker.now (standing self.old) piece.now self.new.output.counter (outs_of K.Sink N.Sink writer.old notes.old) (outs_of K.Sink N.Sink writer.new notes.new)) }
+        ensures failed { IfErr result (IsCausedOut (outs_of K.Sink N.Sink writer.old notes.old) (outs_of K.Sink N.Sink writer.new notes.new)) }
+        ensures unfailed { OnOk result (IsUnfailedOut (outs_of K.Sink N.Sink writer.old notes.old) (outs_of K.Sink N.Sink writer.new notes.new)) }
+        ensures load { OnOk result (GrowsBy (load_of K.Sink N.Sink writer.old notes.old self.old.output) (load_of K.Sink N.Sink writer.new notes.new self.new.output) (9 * 2 ^ 64)) }
         ensures tells { N.calls notes.new ≤ N.calls notes.old + 2 ^ 64 }
     {
         let held = self.pass_held(checker, piece, writer)?;
@@ -170,29 +148,18 @@ impl<A: Allocator> Carried<A> {
         requires ready { IsReady checker.now self.old.framer self.old.room }
         requires piece { length piece.now ≤ PIECE }
         requires few { self.old.output.counter.yes + self.old.output.counter.no < 2 ^ 61 + 1 }
-        requires writes { K.calls writer.old < 2 ^ 99 + 2 ^ 97 + 2 ^ 67 }
-        requires tells { N.calls notes.old < 2 ^ 98 }
-        requires little { self.old.output.out.written < 2 ^ 99 + 2 ^ 97 + 2 ^ 67 }
-        requires less { self.old.output.notes.written < 2 ^ 99 }
+        requires load { IsBelow (load_of K.Sink N.Sink writer.old notes.old self.old.output) (2 ^ 99 + 2 ^ 97 + 2 ^ 67) }
 
-        ensures passes { OnOk result (PassesPiece checker.now (standing self.old) piece.now (standing self.new)
-            (K.contents writer.old) (K.contents writer.new) (N.contents notes.old) (N.contents notes.new)
-            self.old.output.out.written self.new.output.out.written self.old.output.notes.written self.new.output.notes.written) }
+        ensures passes { OnOk result (PassesPiece checker.now (standing self.old) piece.now (standing self.new) (outs_of K.Sink N.Sink writer.old notes.old) (outs_of K.Sink N.Sink writer.new notes.new)) }
         ensures ready { OnOk result (IsReady checker.now self.new.framer self.new.room) }
         ensures empty { OnOk result (waiting self.new.output ≡ silent) }
         ensures few { OnOk result (self.new.output.counter.yes + self.new.output.counter.no
             ≤ self.old.output.counter.yes + self.old.output.counter.no + length piece.now) }
 
-        ensures stops { IfErr result (λ fault. StopsAmid checker.now (standing self.old) piece.now self.new.output.counter
-            (K.contents writer.old) (K.contents writer.new) (N.contents notes.old) (N.contents notes.new)
-            self.old.output.out.written self.old.output.notes.written fault) }
-        ensures failed { IfErr result (λ fault. (failures left : ℕ) (ended : Bool) → IsCaused failures failures
-            (K.failures writer.old) (K.failures writer.new) (N.failures notes.old) (N.failures notes.new) left ended fault) }
-        ensures unfailed { OnOk result (K.failures writer.new ≡ K.failures writer.old) }
-        ensures unrefused { OnOk result (N.failures notes.new ≡ N.failures notes.old) }
-        ensures little { OnOk result (self.new.output.out.written ≤ self.old.output.out.written + 2 ^ 64) }
-        ensures less { OnOk result (self.new.output.notes.written ≤ self.old.output.notes.written + 2 ^ 64) }
-        ensures calls { OnOk result (K.calls writer.new ≤ K.calls writer.old + 2 ^ 64) }
+        ensures stops { IfErr result (StopsAmid checker.now (standing self.old) piece.now self.new.output.counter (outs_of K.Sink N.Sink writer.old notes.old) (outs_of K.Sink N.Sink writer.new notes.new)) }
+        ensures failed { IfErr result (IsCausedOut (outs_of K.Sink N.Sink writer.old notes.old) (outs_of K.Sink N.Sink writer.new notes.new)) }
+        ensures unfailed { OnOk result (IsUnfailedOut (outs_of K.Sink N.Sink writer.old notes.old) (outs_of K.Sink N.Sink writer.new notes.new)) }
+        ensures load { OnOk result (GrowsBy (load_of K.Sink N.Sink writer.old notes.old self.old.output) (load_of K.Sink N.Sink writer.new notes.new self.new.output) (2 ^ 64)) }
         ensures tells { N.calls notes.new ≤ N.calls notes.old + 2 ^ 64 }
     {
         let mut rest = piece;
@@ -217,36 +184,22 @@ impl<A: Allocator> Carried<A> {
         requires ready { IsReady checker.now self.old.framer self.old.room }
         requires piece { length piece.now ≤ PIECE }
         requires few { self.old.output.counter.yes + self.old.output.counter.no < 2 ^ 62 }
-        requires writes { K.calls writer.old < 2 ^ 99 + 2 ^ 98 }
-        requires tells { N.calls notes.old < 2 ^ 99 }
-        requires little { self.old.output.out.written < 2 ^ 100 }
-        requires less { self.old.output.notes.written < 2 ^ 100 }
+        requires load { IsBelow (load_of K.Sink N.Sink writer.old notes.old self.old.output) (2 ^ 99 + 2 ^ 98) }
 
         ensures within { IfOk result (λ used. used ≤ length piece.now) }
         ensures some { IfOk result (λ used. 0 < length piece.now → 0 < used) }
-        ensures passes { IfOk result (λ used. PassesPiece checker.now (standing self.old) (take used piece.now) (standing self.new)
-            (K.contents writer.old) (K.contents writer.new) (N.contents notes.old) (N.contents notes.new)
-            self.old.output.out.written self.new.output.out.written self.old.output.notes.written self.new.output.notes.written) }
+        ensures passes { IfOk result (λ used. PassesPiece checker.now (standing self.old) (take used piece.now) (standing self.new) (outs_of K.Sink N.Sink writer.old notes.old) (outs_of K.Sink N.Sink writer.new notes.new)) }
         ensures ready { OnOk result (IsReady checker.now self.new.framer self.new.room) }
         ensures empty { OnOk result (waiting self.new.output ≡ silent) }
         ensures few { IfOk result (λ used. self.new.output.counter.yes + self.new.output.counter.no
             ≤ self.old.output.counter.yes + self.old.output.counter.no + used) }
 
-        ensures stops { IfErr result (λ fault. StopsAmid checker.now (standing self.old) piece.now self.new.output.counter
-            (K.contents writer.old) (K.contents writer.new) (N.contents notes.old) (N.contents notes.new)
-            self.old.output.out.written self.old.output.notes.written fault) }
-        ensures failed { IfErr result (λ fault. (failures left : ℕ) (ended : Bool) → IsCaused failures failures
-            (K.failures writer.old) (K.failures writer.new) (N.failures notes.old) (N.failures notes.new) left ended fault) }
-        ensures unfailed { OnOk result (K.failures writer.new ≡ K.failures writer.old) }
-        ensures unrefused { OnOk result (N.failures notes.new ≡ N.failures notes.old) }
-        ensures little { OnOk result (self.new.output.out.written ≤ self.old.output.out.written + 2 ^ 63) }
-        ensures less { OnOk result (self.new.output.notes.written ≤ self.old.output.notes.written + 2 ^ 63) }
-        ensures calls { OnOk result (K.calls writer.new ≤ K.calls writer.old + 2 ^ 63) }
+        ensures stops { IfErr result (StopsAmid checker.now (standing self.old) piece.now self.new.output.counter (outs_of K.Sink N.Sink writer.old notes.old) (outs_of K.Sink N.Sink writer.new notes.new)) }
+        ensures failed { IfErr result (IsCausedOut (outs_of K.Sink N.Sink writer.old notes.old) (outs_of K.Sink N.Sink writer.new notes.new)) }
+        ensures unfailed { OnOk result (IsUnfailedOut (outs_of K.Sink N.Sink writer.old notes.old) (outs_of K.Sink N.Sink writer.new notes.new)) }
+        ensures load { OnOk result (GrowsBy (load_of K.Sink N.Sink writer.old notes.old self.old.output) (load_of K.Sink N.Sink writer.new notes.new self.new.output) (2 ^ 63)) }
         ensures tells { N.calls notes.new ≤ N.calls notes.old + 2 ^ 63 }
-        ensures little_between { IfOk result (λ used. used < length piece.now → self.new.output.out.written ≤ self.old.output.out.written + 2 ^ 40) }
-        ensures less_between { IfOk result (λ used. used < length piece.now → self.new.output.notes.written ≤ self.old.output.notes.written + 2 ^ 40) }
-        ensures calls_between { IfOk result (λ used. used < length piece.now → K.calls writer.new ≤ K.calls writer.old + 2 ^ 40) }
-        ensures tells_between { IfOk result (λ used. used < length piece.now → N.calls notes.new ≤ N.calls notes.old + 2 ^ 40) }
+        ensures between { IfOk result (λ used. used < length piece.now → GrowsBy (load_of K.Sink N.Sink writer.old notes.old self.old.output) (load_of K.Sink N.Sink writer.new notes.new self.new.output) (2 ^ 40)) }
     {
         let used = self.use_up(checker, piece);
         self.output.flush(writer, notes)?;
@@ -270,15 +223,13 @@ impl<A: Allocator> Carried<A> {
 
         ensures within { IfOk result (λ used. used ≤ length piece.now) }
         ensures onward { IfOk result (λ used. OnwardThrough checker.now (standing self.old) (take used piece.now) (standing self.new)
-            (K.contents writer.old) (K.contents writer.new) self.old.output.out.written self.new.output.out.written) }
+            (K.contents writer.old) (K.contents writer.new)) }
         ensures ready { OnOk result (IsReady checker.now self.new.framer self.new.room) }
         ensures few { OnOk result (self.new.output.counter.yes + self.new.output.counter.no
             ≤ self.old.output.counter.yes + self.old.output.counter.no + 1) }
 
-        ensures halts { IfErr result (λ fault. HaltsThrough checker.now (standing self.old) piece.now
-            self.new.output.counter (K.contents writer.old) (K.contents writer.new) self.old.output.out.written fault) }
-        ensures failed { IfErr result (λ fault. (failures complaints left : ℕ) (ended : Bool) → IsCaused failures failures
-            (K.failures writer.old) (K.failures writer.new) complaints complaints left ended fault) }
+        ensures halts { IfErr result (HaltsThrough checker.now (standing self.old) piece.now self.new.output.counter (K.contents writer.old) (K.contents writer.new)) }
+        ensures failed { IfErr result (IsCausedWriting (writer_of K.Sink writer.old) (writer_of K.Sink writer.new)) }
         ensures unfailed { OnOk result (K.failures writer.new ≡ K.failures writer.old) }
         ensures little { OnOk result (self.new.output.out.written ≤ self.old.output.out.written + 2 ^ 67) }
         ensures calls { OnOk result (K.calls writer.new ≤ K.calls writer.old + 2 ^ 67) }

@@ -1,5 +1,5 @@
 -- A run by the schema of a file, or without one by the fixed table of schema files.
-use Rattle.std.specs.Prelude.{◌≡◌, ℕ, Bool, List, Option, Some, None, Result, Ok, Err, min, length}
+use Rattle.std.specs.Prelude.{◌≡◌, ℕ, List, Option, Some, None, Result, Ok, Err, min, length}
 use Rattle.std.specs.Borrow.{Bor}
 use Rattle.std.specs.Io.KnownBytes.{Keeps}
 use Rattle.fb_schema.specs.Rows.{Rows}
@@ -10,6 +10,7 @@ use Rattle.fb_bfbs.specs.declared.loading.Loaded.{Loaded}
 use Rattle.fb_bfbs.specs.declared.load_fault.LoadFault.{LoadFault}
 use Rattle.fb_bfbs.specs.declared.load_fault.LoadFault.TheVariants as load
 use Rattle.fbcheck.specs.Asked.{AsksBy}
+use Rattle.fb_run.specs.Ends.{Ends, Unwritten}
 use Rattle.fb_run.specs.Job.{Job}
 use Rattle.fb_run.specs.Prompt.{IsPrompt}
 use Rattle.fb_run.specs.Run.{IsRunBeside}
@@ -18,7 +19,7 @@ use Rattle.fbcheck.specs.declared.fault.AskFault.{AskFault}
 use Rattle.fbcheck.specs.declared.fault.AskFault.TheVariants.{Load, OutOfMemory}
 use Rattle.fbcheck.specs.declared.fault.CheckFault.{CheckFault}
 use Rattle.fbcheck.specs.declared.fault.CheckFault.TheVariants as check
-use Rattle.fb_run.specs.Faults.{End, EndsBeside, IsUnfailed}
+use Rattle.fb_run.specs.Faults.{End, EndsBeside, IsUnfailed, failures_of}
 use Rattle.fb_run.specs.declared.run.Ran.{Ran}
 use Rattle.fb_run.specs.declared.tally.Tally.{Tally}
 
@@ -56,36 +57,35 @@ LacksJob file settings OutOfMemory = Unit {0}
 LacksJob file settings fault = Asks file settings (Err fault)
 
 -- nothing was read, written or noted
-abbrev pub IsIdle : Option (List ℕ) → Option (List ℕ) → Option (List ℕ) → Option (List ℕ) → Option (List ℕ) → Option (List ℕ) → Type 0
-IsIdle source source' sink sink' notes notes' = Keeps source source' × Keeps sink sink' × Keeps notes notes'
+abbrev pub IsIdle : Ends → Ends → Type 0
+IsIdle before after = Keeps before.reader.left after.reader.left × Unwritten before.outs after.outs
 
 -- what was read, written and noted by a run that was asked for, which ended so and came to these numbers by then
-abbrev pub RunsAsAsked : Option (Bor (List ℕ)) → Settings → Option (List ℕ) → Option (List ℕ) → Option (List ℕ) → Option (List ℕ) → Option (List ℕ) → Option (List ℕ) → Tally → End → Type 0
-RunsAsAsked file settings source source' sink sink' notes notes' tally end = (job : Job) × Asks file settings (Ok job) × IsRunBeside job source source' sink sink' notes notes' tally end
+abbrev pub RunsAsAsked : Option (Bor (List ℕ)) → Settings → Ends → Ends → Tally → End → Type 0
+RunsAsAsked file settings before after tally end = (job : Job) × Asks file settings (Ok job) × IsRunBeside job before after tally end
 
 -- the same where it may be that no run began, since nothing was asked for or memory was refused before
-abbrev pub IsCheckedBeside : Option (Bor (List ℕ)) → Settings → Option (List ℕ) → Option (List ℕ) → Option (List ℕ) → Option (List ℕ) → Option (List ℕ) → Option (List ℕ) → Result Ran AskFault → Type 0
-IsCheckedBeside file settings source source' sink sink' notes notes' (Ok ran) = RunsAsAsked file settings source source' sink sink' notes notes' ran.tally ran.end
-IsCheckedBeside file settings source source' sink sink' notes notes' (Err fault) = LacksJob file settings fault × IsIdle source source' sink sink' notes notes'
+abbrev pub IsCheckedBeside : Option (Bor (List ℕ)) → Settings → Ends → Ends → Result Ran AskFault → Type 0
+IsCheckedBeside file settings before after (Ok ran) = RunsAsAsked file settings before after ran.tally ran.end
+IsCheckedBeside file settings before after (Err fault) = LacksJob file settings fault × IsIdle before after
 
--- the same of an answer alone, where no notes are known
-abbrev pub IsChecked : Option (Bor (List ℕ)) → Settings → Option (List ℕ) → Option (List ℕ) → Option (List ℕ) → Option (List ℕ) → Result Tally CheckFault → Type 0
-IsChecked file settings source source' sink sink' (Ok tally) = RunsAsAsked file settings source source' sink sink' None None tally (Ok tt)
-IsChecked file settings source source' sink sink' (Err (check.Run fault)) = (tally : Tally) × RunsAsAsked file settings source source' sink sink' None None tally (Err fault)
-IsChecked file settings source source' sink sink' (Err (check.Ask fault)) = LacksJob file settings fault × Keeps source source' × Keeps sink sink'
+-- the same of an answer alone
+abbrev pub IsChecked : Option (Bor (List ℕ)) → Settings → Ends → Ends → Result Tally CheckFault → Type 0
+IsChecked file settings before after (Ok tally) = RunsAsAsked file settings before after tally (Ok tt)
+IsChecked file settings before after (Err (check.Run fault)) = (tally : Tally) × RunsAsAsked file settings before after tally (Err fault)
+IsChecked file settings before after (Err (check.Ask fault)) = LacksJob file settings fault × IsIdle before after
 
 -- there was nothing to check by
 abbrev pub IsUnasked : CheckFault → Type 0
 IsUnasked (check.Ask fault) = Unit {0}
 IsUnasked (check.Run fault) = ⊥
 
--- how it ended, by the failures of the reader and the writer before and after, the reads that were left, and whether the
--- input's end was told: a run by its end or the cause of its fault
-abbrev pub EndsChecked : ℕ → ℕ → ℕ → ℕ → ℕ → Bool → Result Tally CheckFault → Type 0
-EndsChecked failures failures' refusals refusals' left ended (Ok tally) = EndsBeside failures failures' refusals refusals' 0 0 left ended (Ok tt)
-EndsChecked failures failures' refusals refusals' left ended (Err (check.Run fault)) = EndsBeside failures failures' refusals refusals' 0 0 left ended (Err fault)
-EndsChecked failures failures' refusals refusals' left ended (Err (check.Ask fault)) = IsUnfailed failures failures' refusals refusals' 0 0
+-- how it ended, with so many reads at most: a run by its end or the cause of its fault
+abbrev pub EndsChecked : Ends → Ends → ℕ → Result Tally CheckFault → Type 0
+EndsChecked before after turns (Ok tally) = EndsBeside before after turns (Ok tt)
+EndsChecked before after turns (Err (check.Run fault)) = EndsBeside before after turns (Err fault)
+EndsChecked before after turns (Err (check.Ask fault)) = IsUnfailed (failures_of before) (failures_of after)
 
 -- all that was read by now is told, of a run that was asked for
-abbrev pub IsPromptAsAsked : Option (Bor (List ℕ)) → Settings → Option (List ℕ) → Option (List ℕ) → Option (List ℕ) → Option (List ℕ) → Option (List ℕ) → Option (List ℕ) → Type 0
-IsPromptAsAsked file settings source source' sink sink' notes notes' = (job : Job) × Asks file settings (Ok job) × IsPrompt job source source' sink sink' notes notes'
+abbrev pub IsPromptAsAsked : Option (Bor (List ℕ)) → Settings → Ends → Ends → Type 0
+IsPromptAsAsked file settings before now = (job : Job) × Asks file settings (Ok job) × IsPrompt job before now

@@ -7,7 +7,8 @@ use Rattle.clap.specs.Faults.{fault_of}
 use Rattle.fbcheck.specs.Checking.{IsIdle, IsPromptAsAsked, LacksJob, RunsAsAsked}
 use Rattle.fbcheck.specs.Faults.{ask_status}
 use Rattle.fbcheck_words.specs.CommandLine.{program}
-use Rattle.fb_run.specs.Faults.{End, EndsBeside, IsUnfailed, status_of}
+use Rattle.fb_run.specs.Ends.{Ends, Writer, with_notes}
+use Rattle.fb_run.specs.Faults.{End, EndsBeside, IsUnfailed, failures_of, status_of}
 use Rattle.fb_run.specs.Lines.{WritesFront}
 use Rattle.fbcheck_words.specs.Refusal.{Refuses, refusal_status}
 use Rattle.fb_run.specs.Sums.{summary_line}
@@ -18,6 +19,7 @@ use Rattle.fbcheck_words.specs.declared.choices.SettingsFault.{SettingsFault}
 use Rattle.fbcheck_words.specs.declared.choices.SettingsFault.TheVariants as refusal
 use Rattle.fbcheck.specs.declared.files.FileFault.{FileFault}
 use Rattle.fbcheck.specs.declared.files.FileFault.TheVariants as file_fault
+use Rattle.fb_run.specs.declared.fault.RunFault.TheVariants.{WriteFault}
 use Rattle.fb_run.specs.declared.tally.Tally.{Tally}
 use Rattle.fbcheck.specs.declared.stop.Ending.{Ending}
 use Rattle.fbcheck.specs.declared.stop.Ending.TheVariants.{Helped, Checked}
@@ -60,15 +62,14 @@ summed false tally = None
 summed true tally = Some tally
 
 -- the buffers were checked as the words ask, this was counted, and these numbers are to be told
-abbrev pub ChecksAsGiven : (Text → Result (List ℕ) FileFault → Type 0) → List Text → Option (List ℕ) → Option (List ℕ) → Option (List ℕ) → Option (List ℕ) → Option (List ℕ) → Option (List ℕ) → Option Tally → Tally → End → Type 0
-ChecksAsGiven gives given source source' sink sink' notes notes' sums tally end =
-    HoldsAsGiven gives given (λ file settings. RunsAsAsked file settings source source' sink sink' notes notes' tally end × (sums ≡ summed settings.summary tally))
+abbrev pub ChecksAsGiven : (Text → Result (List ℕ) FileFault → Type 0) → List Text → Ends → Ends → Option Tally → Tally → End → Type 0
+ChecksAsGiven gives given before after sums tally end =
+    HoldsAsGiven gives given (λ file settings. RunsAsAsked file settings before after tally end × (sums ≡ summed settings.summary tally))
 
 -- all that was read by now is told, of a run that the words ask for; they could be read
-abbrev pub IsPromptAsGiven : (Text → Result (List ℕ) FileFault → Type 0) → Result (List Text) WordsFault → Option (List ℕ) → Option (List ℕ) → Option (List ℕ) → Option (List ℕ) → Option (List ℕ) → Option (List ℕ) → Type 0
-IsPromptAsGiven gives (Ok given) source source' sink sink' notes notes' =
-    HoldsAsGiven gives given (λ file settings. IsPromptAsAsked file settings source source' sink sink' notes notes')
-IsPromptAsGiven gives (Err fault) source source' sink sink' notes notes' = ⊥
+abbrev pub IsPromptAsGiven : (Text → Result (List ℕ) FileFault → Type 0) → Result (List Text) WordsFault → Ends → Ends → Type 0
+IsPromptAsGiven gives (Ok given) before now = HoldsAsGiven gives given (λ file settings. IsPromptAsAsked file settings before now)
+IsPromptAsGiven gives (Err fault) before now = ⊥
 
 -- an error of `clap`
 abbrev pub IsUsage : SettingsFault → Type 0
@@ -77,50 +78,50 @@ IsUsage _ = ⊥
 
 -- what was written where the words give no settings: a text where they ask for one, all of it or the front that the
 -- sink took; else nothing. Wrong words are told by the text of `clap` where it is `clap` that refuses them
-abbrev pub Unserved : SettingsFault → Option (List ℕ) → Option (List ℕ) → Result Ending Stop → Type 0
-Unserved fault sink sink' (Ok Helped) = (refusal_status fault ≡ 0) × ((text : List ℕ) × (0 < length text) × Appends sink sink' text)
-Unserved fault sink sink' (Err (stop.CutOff written)) = (refusal_status fault ≡ 0) × ((text : List ℕ) × (written < length text) × WritesFront text sink sink' 0 written)
-Unserved fault sink sink' (Err (stop.Usage text)) = IsUsage fault × (refusal_status fault ≡ 2) × (0 < string_len text) × Keeps sink sink'
-Unserved fault sink sink' (Err (stop.Settings refusal.OutOfMemory)) = Keeps sink sink'
-Unserved fault sink sink' (Err (stop.Settings (refusal.Usage error))) = ⊥
-Unserved fault sink sink' (Err (stop.Settings told)) = (told ≡ fault) × Keeps sink sink'
-Unserved fault sink sink' _ = ⊥
+abbrev pub Unserved : SettingsFault → Writer → Writer → Result Ending Stop → Type 0
+Unserved fault before after (Ok Helped) = (refusal_status fault ≡ 0) × ((text : List ℕ) × (0 < length text) × Appends before.bytes after.bytes text)
+Unserved fault before after (Err (stop.CutOff written)) =
+    (refusal_status fault ≡ 0) × ((text : List ℕ) × (written < length text) × WritesFront text before.bytes after.bytes 0 written)
+Unserved fault before after (Err (stop.Usage text)) = IsUsage fault × (refusal_status fault ≡ 2) × (0 < string_len text) × Keeps before.bytes after.bytes
+Unserved fault before after (Err (stop.Settings refusal.OutOfMemory)) = Keeps before.bytes after.bytes
+Unserved fault before after (Err (stop.Settings (refusal.Usage error))) = ⊥
+Unserved fault before after (Err (stop.Settings told)) = (told ≡ fault) × Keeps before.bytes after.bytes
+Unserved fault before after _ = ⊥
 
 -- the words give no settings
-abbrev pub IsUnserved : List Text → Option (List ℕ) → Option (List ℕ) → Option (List ℕ) → Option (List ℕ) → Result Ending Stop → Type 0
-IsUnserved given source source' sink sink' outcome = (fault : SettingsFault) × Refuses given fault × Keeps source source' × Unserved fault sink sink' outcome
+abbrev pub IsUnserved : List Text → Ends → Ends → Result Ending Stop → Type 0
+IsUnserved given before after outcome =
+    (fault : SettingsFault) × Refuses given fault × Keeps before.reader.left after.reader.left
+    × Unserved fault before.outs.writer after.outs.writer outcome × Keeps before.outs.notes.bytes after.outs.notes.bytes
 
 -- what the program came to by these words, what it read, wrote and noted by then, and the numbers that are to be told
-abbrev pub ComesBy : (Text → Result (List ℕ) FileFault → Type 0) → List Text → Option (List ℕ) → Option (List ℕ) → Option (List ℕ) → Option (List ℕ) → Option (List ℕ) → Option (List ℕ) → Option Tally → Result Ending Stop → Type 0
-ComesBy gives given source source' sink sink' notes notes' sums (Ok (Checked tally)) = ChecksAsGiven gives given source source' sink sink' notes notes' sums tally (Ok tt)
-ComesBy gives given source source' sink sink' notes notes' sums (Err (stop.Run fault)) = (tally : Tally) × ChecksAsGiven gives given source source' sink sink' notes notes' sums tally (Err fault)
-ComesBy gives given source source' sink sink' notes notes' sums (Err (stop.Ask fault)) =
-    HoldsAsGiven gives given (λ file settings. LacksJob file settings fault) × IsIdle source source' sink sink' notes notes' × (sums ≡ None)
-ComesBy gives given source source' sink sink' notes notes' sums (Err (stop.File fault)) =
-    (fault_of program given ≡ []) × IsFileFault gives (text_of (codes "schema") given) fault × IsIdle source source' sink sink' notes notes' × (sums ≡ None)
-ComesBy gives given source source' sink sink' notes notes' sums outcome = IsUnserved given source source' sink sink' outcome × Keeps notes notes' × (sums ≡ None)
+abbrev pub ComesBy : (Text → Result (List ℕ) FileFault → Type 0) → List Text → Ends → Ends → Option Tally → Result Ending Stop → Type 0
+ComesBy gives given before after sums (Ok (Checked tally)) = ChecksAsGiven gives given before after sums tally (Ok tt)
+ComesBy gives given before after sums (Err (stop.Run fault)) = (tally : Tally) × ChecksAsGiven gives given before after sums tally (Err fault)
+ComesBy gives given before after sums (Err (stop.Ask fault)) =
+    HoldsAsGiven gives given (λ file settings. LacksJob file settings fault) × IsIdle before after × (sums ≡ None)
+ComesBy gives given before after sums (Err (stop.File fault)) =
+    (fault_of program given ≡ []) × IsFileFault gives (text_of (codes "schema") given) fault × IsIdle before after × (sums ≡ None)
+ComesBy gives given before after sums outcome = IsUnserved given before after outcome × (sums ≡ None)
 
 -- the same where it may be that the words could not be read
-abbrev pub ComesTo : (Text → Result (List ℕ) FileFault → Type 0) → Result (List Text) WordsFault → Option (List ℕ) → Option (List ℕ) → Option (List ℕ) → Option (List ℕ) → Option (List ℕ) → Option (List ℕ) → Option Tally → Result Ending Stop → Type 0
-ComesTo gives (Ok given) source source' sink sink' notes notes' sums outcome = ComesBy gives given source source' sink sink' notes notes' sums outcome
-ComesTo gives (Err fault) source source' sink sink' notes notes' sums (Err (stop.Words told)) = (told ≡ fault) × IsIdle source source' sink sink' notes notes' × (sums ≡ None)
-ComesTo gives (Err fault) source source' sink sink' notes notes' sums _ = ⊥
+abbrev pub ComesTo : (Text → Result (List ℕ) FileFault → Type 0) → Result (List Text) WordsFault → Ends → Ends → Option Tally → Result Ending Stop → Type 0
+ComesTo gives (Ok given) before after sums outcome = ComesBy gives given before after sums outcome
+ComesTo gives (Err fault) before after sums (Err (stop.Words told)) = (told ≡ fault) × IsIdle before after × (sums ≡ None)
+ComesTo gives (Err fault) before after sums _ = ⊥
 
--- how it ended, by the counts of the reader, the writer and the notes: a run by its end or its cause, help by whether a
--- write failed
-abbrev pub EndsSo : ℕ → ℕ → ℕ → ℕ → ℕ → ℕ → ℕ → Bool → Result Ending Stop → Type 0
-EndsSo failures failures' refusals refusals' complaints complaints' left ended (Ok (Checked tally)) =
-    EndsBeside failures failures' refusals refusals' complaints complaints' left ended (Ok tt)
-EndsSo failures failures' refusals refusals' complaints complaints' left ended (Err (stop.Run fault)) =
-    EndsBeside failures failures' refusals refusals' complaints complaints' left ended (Err fault)
-EndsSo failures failures' refusals refusals' complaints complaints' left ended (Err (stop.CutOff written)) =
-    (failures' ≡ failures) × (refusals' ≡ refusals + 1) × (complaints' ≡ complaints)
-EndsSo failures failures' refusals refusals' complaints complaints' left ended _ = IsUnfailed failures failures' refusals refusals' complaints complaints'
+-- how it ended, with so many reads at most: a run by its end or its cause, help by whether a write failed
+abbrev pub EndsSo : Ends → Ends → ℕ → Result Ending Stop → Type 0
+EndsSo before after turns (Ok (Checked tally)) = EndsBeside before after turns (Ok tt)
+EndsSo before after turns (Err (stop.Run fault)) = EndsBeside before after turns (Err fault)
+EndsSo before after turns (Err (stop.CutOff written)) = EndsBeside before after turns (Err (WriteFault written))
+EndsSo before after turns _ = IsUnfailed (failures_of before) (failures_of after)
 
 -- this text was noted, or a front of it in a write that failed, as the count of such writes before and after tells
-abbrev pub IsNoted : List ℕ → Option (List ℕ) → Option (List ℕ) → ℕ → ℕ → Type 0
-IsNoted text notes notes' complaints complaints' =
-    (Appends notes notes' text × (complaints' ≡ complaints)) ⊎ ((written : ℕ) × WritesFront text notes notes' 0 written × (complaints' ≡ complaints + 1))
+abbrev pub IsNoted : List ℕ → Writer → Writer → Type 0
+IsNoted text before after =
+    (Appends before.bytes after.bytes text × (after.failures ≡ before.failures))
+    ⊎ ((written : ℕ) × WritesFront text before.bytes after.bytes 0 written × (after.failures ≡ before.failures + 1))
 
 -- a run that came to its end stops for want of its summary; all else ends as it would without
 abbrev pub unsummed : Result Ending Stop → ℕ → Result Ending Stop
@@ -128,17 +129,17 @@ unsummed (Ok (Checked tally)) written = Err (stop.Unsummed written)
 unsummed outcome written = outcome
 
 -- where numbers are to be told, their line is noted, or a front of it in a write that failed
-abbrev pub SumsUp : Option Tally → Option (List ℕ) → Option (List ℕ) → ℕ → ℕ → Result Ending Stop → Result Ending Stop → Type 0
-SumsUp None notes notes' complaints complaints' outcome ending = Keeps notes notes' × (complaints' ≡ complaints) × (ending ≡ outcome)
-SumsUp (Some tally) notes notes' complaints complaints' outcome ending =
-    (Appends notes notes' (summary_line tally) × (complaints' ≡ complaints) × (ending ≡ outcome))
-    ⊎ ((written : ℕ) × WritesFront (summary_line tally) notes notes' 0 written × (complaints' ≡ complaints + 1) × (ending ≡ unsummed outcome written))
+abbrev pub SumsUp : Option Tally → Writer → Writer → Result Ending Stop → Result Ending Stop → Type 0
+SumsUp None before after outcome ending = Keeps before.bytes after.bytes × (after.failures ≡ before.failures) × (ending ≡ outcome)
+SumsUp (Some tally) before after outcome ending =
+    (Appends before.bytes after.bytes (summary_line tally) × (after.failures ≡ before.failures) × (ending ≡ outcome))
+    ⊎ ((written : ℕ) × WritesFront (summary_line tally) before.bytes after.bytes 0 written × (after.failures ≡ before.failures + 1) × (ending ≡ unsummed outcome written))
 
 -- nothing is told of a good end; of a stop the text of `clap`, or else one that begins with the program's name
-abbrev pub Complains : Result Ending Stop → Option (List ℕ) → Option (List ℕ) → ℕ → ℕ → Type 0
-Complains (Ok ending) notes notes' complaints complaints' = Keeps notes notes' × (complaints' ≡ complaints)
-Complains (Err (stop.Usage text)) notes notes' complaints complaints' = IsNoted (string_bytes text) notes notes' complaints complaints'
-Complains (Err cause) notes notes' complaints complaints' = (why : List ℕ) × IsNoted (codes "fbcheck: " ++ why) notes notes' complaints complaints'
+abbrev pub Complains : Result Ending Stop → Writer → Writer → Type 0
+Complains (Ok ending) before after = Keeps before.bytes after.bytes × (after.failures ≡ before.failures)
+Complains (Err (stop.Usage text)) before after = IsNoted (string_bytes text) before after
+Complains (Err cause) before after = (why : List ℕ) × IsNoted (codes "fbcheck: " ++ why) before after
 
 -- the exit status of a stop
 abbrev pub stop_status : Stop → ℕ
@@ -159,20 +160,17 @@ exit_status (Ok Helped) = 0
 exit_status (Ok (Checked tally)) = status_of (Ok tally)
 exit_status (Err cause) = stop_status cause
 
--- The program did what its words ask, told behind its notes the numbers that they ask for and why it came to rest if it
--- did, and ended with the status of that. Behind what it came to the notes had `between`, and behind the numbers
--- `behind`, with so many failed writes by then.
-pub record IsServed (gives : Text → Result (List ℕ) FileFault → Type 0) (given : Result (List Text) WordsFault) (source source' sink sink' notes notes' : Option (List ℕ))
-    (failures failures' refusals refusals' complaints complaints' left : ℕ) (ended : Bool) (status : ℕ) : Type 0 where
+-- The program did what its words ask with at most so many reads, told behind its notes the numbers that they ask for and
+-- why it came to rest if it did, and ended with the status of that. Behind what it came to the notes were `between`, and
+-- behind the numbers `behind`.
+pub record IsServed (gives : Text → Result (List ℕ) FileFault → Type 0) (given : Result (List Text) WordsFault) (before after : Ends) (turns status : ℕ) : Type 0 where
   pub outcome : Result Ending Stop
   pub sums : Option Tally
-  pub between : Option (List ℕ)
-  pub complaints_between : ℕ
-  pub comes : ComesTo gives given source source' sink sink' notes between sums outcome
-  pub ends : EndsSo failures failures' refusals refusals' complaints complaints_between left ended outcome
+  pub between : Writer
+  pub comes : ComesTo gives given before (with_notes after between) sums outcome
+  pub ends : EndsSo before (with_notes after between) turns outcome
   pub ending : Result Ending Stop
-  pub behind : Option (List ℕ)
-  pub complaints_behind : ℕ
-  pub summed : SumsUp sums between behind complaints_between complaints_behind outcome ending
-  pub told : Complains ending behind notes' complaints_behind complaints'
+  pub behind : Writer
+  pub summed : SumsUp sums between behind outcome ending
+  pub told : Complains ending behind after.outs.notes
   pub status_is : status ≡ exit_status ending

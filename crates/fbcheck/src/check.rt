@@ -1,10 +1,10 @@
 //! A run by a schema file, as the settings of the command line ask.
 
-ghost use Rattle.std.specs.Prelude.{IfErr, IfOk, OnErr, length, ◌≡◌, ◌+◌, ◌-◌, ◌<◌, ◌≤◌, ◌^◌, ℕ, Bool, List, Option, None};
+ghost use Rattle.std.specs.Prelude.{IfErr, IfOk, OnErr, length, ◌≡◌, ◌+◌, ◌<◌, ◌≤◌, ◌^◌};
 ghost use Rattle.fbcheck_words.specs.Ranges.{AreInRange};
 ghost use Rattle.fbcheck.specs.Checking.{EndsChecked, IsChecked, IsCheckedBeside, IsPromptAsAsked, IsUnasked};
 ghost use Rattle.fb_run.specs.Faults.{EndsBeside};
-ghost use Rattle.fb_run.specs.Prompt.{IsUnended};
+ghost use Rattle.fb_run.specs.Seen.{HasCallsLeft, HasLeave, ends_of, noteless};
 
 use crate::asked::asked_of;
 use crate::fault::{AskFault, CheckFault};
@@ -34,22 +34,17 @@ pub fn check_beside<S: Input<K, N>, K: Sink, N: Sink>(
     notes: &mut N,
 ) -> Result<Ran, AskFault>
     requires ranges { AreInRange settings.now }
-    requires reads { S.calls reader.old < 2 ^ 64 }
-    requires writes { K.calls writer.old < 2 ^ 64 }
-    requires tells { N.calls notes.old < 2 ^ 64 }
-    requires leave { (source sink note : Option (List ℕ)) (calls : ℕ) (ended : Bool) → IsPromptAsAsked schema_bytes settings.now (S.remaining reader.old) source
-        (K.contents writer.old) sink (N.contents notes.old) note
-        → IsUnended (S.calls reader.old) calls (S.ended reader.old) ended → S.may_ask source sink note calls (S.failures reader.old) ended }
+    requires few { HasCallsLeft S.Input K.Sink N.Sink reader.old writer.old notes.old }
+    requires leave { HasLeave S.Input (ends_of S.Input K.Sink N.Sink reader.old writer.old notes.old) (IsPromptAsAsked schema_bytes settings.now) }
 
-    ensures run { IsCheckedBeside schema_bytes.entry settings.now (S.remaining reader.old) (S.remaining reader.new)
-        (K.contents writer.old) (K.contents writer.new) (N.contents notes.old) (N.contents notes.new) result }
+    ensures run { IsCheckedBeside schema_bytes.entry settings.now (ends_of S.Input K.Sink N.Sink reader.old writer.old notes.old)
+        (ends_of S.Input K.Sink N.Sink reader.new writer.new notes.new) result }
     ensures places { IfOk result (λ ran. length ran.tally.reasons ≡ 13) }
     ensures unread { OnErr result (reader.new ≡ reader.old) }
     ensures unwritten { OnErr result (writer.new ≡ writer.old) }
     ensures unnoted { OnErr result (notes.new ≡ notes.old) }
-    ensures end { IfOk result (λ ran. EndsBeside (S.failures reader.old) (S.failures reader.new)
-        (K.failures writer.old) (K.failures writer.new) (N.failures notes.old) (N.failures notes.new)
-        (S.calls reader.old + MOST_TURNS - S.calls reader.new) (S.ended reader.new) ran.end) }
+    ensures end { IfOk result (λ ran. EndsBeside (ends_of S.Input K.Sink N.Sink reader.old writer.old notes.old)
+        (ends_of S.Input K.Sink N.Sink reader.new writer.new notes.new) MOST_TURNS ran.end) }
     ensures pushes { N.calls notes.new ≤ N.calls notes.old + 2 ^ 96 }
     ensures turns { S.calls reader.new ≤ S.calls reader.old + MOST_TURNS }
 {
@@ -76,16 +71,12 @@ pub fn check<S: Input<K, Nowhere>, K: Sink>(
     requires ranges { AreInRange settings.now }
     requires reads { S.calls reader.old < 2 ^ 64 }
     requires writes { K.calls writer.old < 2 ^ 64 }
-    requires leave { (source sink note : Option (List ℕ)) (calls : ℕ) (ended : Bool) → IsPromptAsAsked schema_bytes settings.now (S.remaining reader.old) source
-        (K.contents writer.old) sink None note
-        → IsUnended (S.calls reader.old) calls (S.ended reader.old) ended → S.may_ask source sink note calls (S.failures reader.old) ended }
+    requires leave { HasLeave S.Input (noteless S.Input K.Sink reader.old writer.old) (IsPromptAsAsked schema_bytes settings.now) }
 
-    ensures run { IsChecked schema_bytes.entry settings.now
-        (S.remaining reader.old) (S.remaining reader.new) (K.contents writer.old) (K.contents writer.new) result }
+    ensures run { IsChecked schema_bytes.entry settings.now (noteless S.Input K.Sink reader.old writer.old) (noteless S.Input K.Sink reader.new writer.new) result }
     ensures unread { IfErr result (λ fault. IsUnasked fault → reader.new ≡ reader.old) }
     ensures unwritten { IfErr result (λ fault. IsUnasked fault → writer.new ≡ writer.old) }
-    ensures end { EndsChecked (S.failures reader.old) (S.failures reader.new) (K.failures writer.old) (K.failures writer.new)
-        (S.calls reader.old + MOST_TURNS - S.calls reader.new) (S.ended reader.new) result }
+    ensures end { EndsChecked (noteless S.Input K.Sink reader.old writer.old) (noteless S.Input K.Sink reader.new writer.new) MOST_TURNS result }
     ensures turns { S.calls reader.new ≤ S.calls reader.old + MOST_TURNS }
 {
     let mut notes = Nowhere::new();

@@ -1,7 +1,8 @@
 //! What the program does, from its words to its exit status.
 
-ghost use Rattle.std.specs.Prelude.{IfOk, IfSome, ◌≡◌, ◌+◌, ◌-◌, ◌<◌, ◌≤◌, ◌^◌, ℕ, Bool, List, Option, length, string_len};
-ghost use Rattle.fb_run.specs.Prompt.{IsUnended};
+ghost use Rattle.std.specs.Prelude.{IfOk, IfSome, ◌≡◌, ◌+◌, ◌<◌, ◌≤◌, ◌^◌, ℕ, length, string_len};
+ghost use Rattle.fb_run.specs.Ends.{Reader, Writer, beside};
+ghost use Rattle.fb_run.specs.Seen.{HasCallsLeft, HasLeave, ends_of, writer_of};
 ghost use Rattle.fbcheck.specs.Serving.{ComesTo, EndsSo, IsPromptAsGiven, IsServed, Unserved, summed, words_of};
 
 use crate::check::check_beside;
@@ -25,17 +26,11 @@ pub fn serve<F: Files, S: Input<K, N>, K: Sink, N: Sink>(
     writer: &mut K,
     notes: &mut N,
 ) -> u8
-    requires reads { S.calls reader.old < 2 ^ 64 }
-    requires writes { K.calls writer.old < 2 ^ 64 }
-    requires tells { N.calls notes.old < 2 ^ 64 }
-    requires leave { (source sink note : Option (List ℕ)) (calls : ℕ) (ended : Bool) → IsPromptAsGiven (F.gives files.now) (words_of words) (S.remaining reader.old) source
-        (K.contents writer.old) sink (N.contents notes.old) note
-        → IsUnended (S.calls reader.old) calls (S.ended reader.old) ended → S.may_ask source sink note calls (S.failures reader.old) ended }
+    requires few { HasCallsLeft S.Input K.Sink N.Sink reader.old writer.old notes.old }
+    requires leave { HasLeave S.Input (ends_of S.Input K.Sink N.Sink reader.old writer.old notes.old) (IsPromptAsGiven (F.gives files.now) (words_of words)) }
 
-    ensures served { IsServed (F.gives files.now) (words_of words)
-        (S.remaining reader.old) (S.remaining reader.new) (K.contents writer.old) (K.contents writer.new) (N.contents notes.old) (N.contents notes.new)
-        (S.failures reader.old) (S.failures reader.new) (K.failures writer.old) (K.failures writer.new) (N.failures notes.old) (N.failures notes.new)
-        (S.calls reader.old + MOST_TURNS - S.calls reader.new) (S.ended reader.new) result }
+    ensures served { IsServed (F.gives files.now) (words_of words) (ends_of S.Input K.Sink N.Sink reader.old writer.old notes.old)
+        (ends_of S.Input K.Sink N.Sink reader.new writer.new notes.new) MOST_TURNS result }
     ensures turns { S.calls reader.new ≤ S.calls reader.old + MOST_TURNS }
 {
     let mut sums = None;
@@ -55,18 +50,13 @@ fn come_to<F: Files, S: Input<K, N>, K: Sink, N: Sink>(
     notes: &mut N,
     sums: &mut Option<Tally>,
 ) -> Result<Ending, Stop>
-    requires reads { S.calls reader.old < 2 ^ 64 }
-    requires writes { K.calls writer.old < 2 ^ 64 }
-    requires tells { N.calls notes.old < 2 ^ 64 }
-    requires leave { (source sink note : Option (List ℕ)) (calls : ℕ) (ended : Bool) → IsPromptAsGiven (F.gives files.now) (words_of words) (S.remaining reader.old) source
-        (K.contents writer.old) sink (N.contents notes.old) note
-        → IsUnended (S.calls reader.old) calls (S.ended reader.old) ended → S.may_ask source sink note calls (S.failures reader.old) ended }
+    requires few { HasCallsLeft S.Input K.Sink N.Sink reader.old writer.old notes.old }
+    requires leave { HasLeave S.Input (ends_of S.Input K.Sink N.Sink reader.old writer.old notes.old) (IsPromptAsGiven (F.gives files.now) (words_of words)) }
 
-    ensures comes { ComesTo (F.gives files.now) (words_of words) (S.remaining reader.old) (S.remaining reader.new)
-        (K.contents writer.old) (K.contents writer.new) (N.contents notes.old) (N.contents notes.new) sums.new result }
+    ensures comes { ComesTo (F.gives files.now) (words_of words) (ends_of S.Input K.Sink N.Sink reader.old writer.old notes.old)
+        (ends_of S.Input K.Sink N.Sink reader.new writer.new notes.new) sums.new result }
     ensures places { IfSome sums.new (λ tally. length tally.reasons ≡ 13) }
-    ensures ends { EndsSo (S.failures reader.old) (S.failures reader.new) (K.failures writer.old) (K.failures writer.new)
-        (N.failures notes.old) (N.failures notes.new) (S.calls reader.old + MOST_TURNS - S.calls reader.new) (S.ended reader.new) result }
+    ensures ends { EndsSo (ends_of S.Input K.Sink N.Sink reader.old writer.old notes.old) (ends_of S.Input K.Sink N.Sink reader.new writer.new notes.new) MOST_TURNS result }
     ensures turns { S.calls reader.new ≤ S.calls reader.old + MOST_TURNS }
     ensures noted { N.calls notes.new < 2 ^ 98 }
 {
@@ -113,9 +103,9 @@ fn without_settings<K: Sink>(
     writer: &mut K,
 ) -> Result<Ending, Stop>
     requires { K.calls writer.old < 2 ^ 64 }
-    ensures comes { Unserved fault (K.contents writer.old) (K.contents writer.new) result }
-    ensures ends { (failures complaints left : ℕ) (ended : Bool)
-        → EndsSo failures failures (K.failures writer.old) (K.failures writer.new) complaints complaints left ended result }
+    ensures comes { Unserved fault (writer_of K.Sink writer.old) (writer_of K.Sink writer.new) result }
+    ensures ends { (reader : Reader) (notes : Writer) (turns : ℕ) → EndsSo (beside reader (record { writer = writer_of K.Sink writer.old; notes = notes }))
+        (beside reader (record { writer = writer_of K.Sink writer.new; notes = notes })) turns result }
 {
     let status = fault.status();
     let SettingsFault::Usage(error) = &fault else {

@@ -2,6 +2,7 @@
 
 ghost use Rattle.std.specs.Prelude.{IfSome, ◌≡◌, ◌+◌, ◌<◌, ◌^◌, length};
 ghost use Rattle.std.specs.IoError.{error_kind};
+ghost use Rattle.fb_run.specs.Seen.{writer_of};
 ghost use Rattle.fbcheck.specs.Faults.{words_fault};
 ghost use Rattle.fbcheck.specs.Serving.{Complains, IsNoted, SumsUp, exit_status, stop_status};
 ghost use Rattle.fbcheck_words.specs.declared.choices.SettingsFault.TheVariants as refusal;
@@ -134,7 +135,7 @@ impl Stop {
     /// Writes the text of `clap`, or else a line that begins with the program's name. What can't be written is left.
     fn tell<N: Sink>(&self, notes: &mut N)
         requires { N.calls notes.old < 2 ^ 99 }
-        ensures { Complains (Err self.now) (N.contents notes.old) (N.contents notes.new) (N.failures notes.old) (N.failures notes.new) }
+        ensures { Complains (Err self.now) (writer_of N.Sink notes.old) (writer_of N.Sink notes.new) }
     {
         if let Stop::Usage(text) = self {
             note(notes, text.as_bytes());
@@ -152,7 +153,7 @@ impl Stop {
 /// Notes this text. What can't be written is left.
 fn note<N: Sink>(notes: &mut N, text: &[u8])
     requires { N.calls notes.old + length text.now < 2 ^ 100 }
-    ensures { IsNoted text.now (N.contents notes.old) (N.contents notes.new) (N.failures notes.old) (N.failures notes.new) }
+    ensures { IsNoted text.now (writer_of N.Sink notes.old) (writer_of N.Sink notes.new) }
 {
     push_all(notes, text);
 }
@@ -165,7 +166,7 @@ pub fn sum_up<N: Sink>(
 ) -> Result<Ending, Stop>
     requires calls { N.calls notes.old < 2 ^ 98 }
     requires places { IfSome sums.now (λ tally. length tally.reasons ≡ 13) }
-    ensures summed { SumsUp sums.now (N.contents notes.old) (N.contents notes.new) (N.failures notes.old) (N.failures notes.new) outcome result }
+    ensures summed { SumsUp sums.now (writer_of N.Sink notes.old) (writer_of N.Sink notes.new) outcome result }
     ensures calls { N.calls notes.new < 2 ^ 99 }
 {
     let Some(tally) = sums else {
@@ -186,7 +187,7 @@ pub fn sum_up<N: Sink>(
 /// Tells on standard error why the program came to rest, if it did, and nothing else.
 pub fn tell<N: Sink>(outcome: &Result<Ending, Stop>, notes: &mut N)
     requires { N.calls notes.old < 2 ^ 99 }
-    ensures { Complains outcome.now (N.contents notes.old) (N.contents notes.new) (N.failures notes.old) (N.failures notes.new) }
+    ensures { Complains outcome.now (writer_of N.Sink notes.old) (writer_of N.Sink notes.new) }
 {
     if let Err(stop) = outcome {
         stop.tell(notes);

@@ -1,6 +1,7 @@
 use Rattle.std.proofs.Common.{length, ◌≡◌, ◌+◌, ◌≤◌}
 use Rattle.std.specs.Io.KnownBytes.{Consumes}
-use Rattle.fb_run.specs.Prompt.{IsUnended}
+use Rattle.fb_run.specs.Ends.{IsUnended}
+use Rattle.fb_run.specs.Seen.{reader_of}
 use Rattle.fb_run.proofs.reading.read_whole.Given as goal
 
 abbrev pub invariant-loop-left : goal.invariant-loop-left
@@ -10,8 +11,7 @@ invariant-loop-left g l = record {
   read : Consumes (g.S.Input.remaining l.initial.source) (g.S.Input.remaining l.source) l.whole.items;
   fewer : l.left ≤ l.initial.left;
   calls : g.S.Input.calls l.source + l.left ≡ g.S.Input.calls l.initial.source + l.initial.left;
-  asks : IsUnended (g.S.Input.calls l.initial.source) (g.S.Input.calls l.source) (g.S.Input.ended l.initial.source) (g.S.Input.ended l.source);
-  failures : g.S.Input.failures l.source ≡ g.S.Input.failures l.initial.source;
+  asks : IsUnended (reader_of g.S.Input l.initial.source) (reader_of g.S.Input l.source);
 }
 
 abbrev pub decreases-loop-left : goal.decreases-loop-left

@@ -1,44 +1,38 @@
-use Rattle.std.proofs.Common.{None, Option, Result, refl, subst}
+use Rattle.std.proofs.Common.{None, Option, refl, subst}
 use Rattle.std.specs.Prelude.{map, string_bytes}
 use Rattle.std.proofs.KnownBytes.{Keeps-refl}
 use Rattle.clap.specs.Walk.{Text}
+use Rattle.fb_run.specs.Seen.{reader_of, writer_of}
 use Rattle.fbcheck.specs.Serving.{ComesTo, IsFileFault, words_of}
-use Rattle.fbcheck.specs.declared.stop.Ending.{Ending}
-use Rattle.fbcheck.specs.declared.stop.Stop.{Stop}
 use Rattle.fb_run.proofs.RunLemmas.{err_exit}
 use Rattle.fbcheck.proofs.ServingLemmas.{checks_given, comes_read, comes_unserved, holds_given, prompt_read}
 use Rattle.fbcheck.proofs.serve.come_to.Goals as goal
 
 pub returns-in-Err-settings-clause-comes : goal.returns-in-Err-settings-clause-comes
 returns-in-Err-settings-clause-comes g c =
-    comes_read _ c.args.words c.in-Ok.words c.as_slice.result.now _ _ _ _ _ _ _ _ c.in-Ok.is c.as_slice.ensures.value
-    (comes_unserved (g.F.Files.gives c.args.files.now) (map string_bytes c.as_slice.result.now) (g.S.Input.remaining c.args.reader.now) _ _ (g.N.Sink.contents c.args.notes.now) c.in-Err-settings.fault _ c.in-Err-settings.ensures.refused c.without_settings.ensures.comes)
+    comes_read _ c.args.words c.in-Ok.words c.as_slice.result.now _ _ _ _ c.in-Ok.is c.as_slice.ensures.value
+    (comes_unserved (g.F.Files.gives c.args.files.now) (map string_bytes c.as_slice.result.now) (reader_of g.S.Input c.args.reader.now) (writer_of g.K.Sink c.args.writer.now)
+    (writer_of g.K.Sink c.without_settings.new.writer) (writer_of g.N.Sink c.args.notes.now) c.in-Err-settings.fault _ c.in-Err-settings.ensures.refused c.without_settings.ensures.comes)
 
 pub returns-in-Err-settings-clause-ends : goal.returns-in-Err-settings-clause-ends
-returns-in-Err-settings-clause-ends g c = c.without_settings.ensures.ends _ _ _ _
+returns-in-Err-settings-clause-ends g c = c.without_settings.ensures.ends (reader_of g.S.Input c.args.reader.now) (writer_of g.N.Sink c.args.notes.now) _
 
 pub returns-in_err-file-clause-comes : goal.returns-in_err-file-clause-comes
 returns-in_err-file-clause-comes g c =
     let set = c.in-Ok-settings.ensures in
-    err_exit c.from_residual.result _
-    (λ (answer : Result Ending Stop). ComesTo (g.F.Files.gives c.args.files.now) (words_of c.args.words) (g.S.Input.remaining c.args.reader.now) (g.S.Input.remaining c.args.reader.now)
-    (g.K.Sink.contents c.args.writer.now) (g.K.Sink.contents c.args.writer.now) (g.N.Sink.contents c.args.notes.now) (g.N.Sink.contents c.args.notes.now) None answer)
-    c.from_residual.ensures.1
-    (comes_read _ c.args.words c.in-Ok.words c.as_slice.result.now _ _ _ _ _ _ _ _ c.in-Ok.is c.as_slice.ensures.value (
+    err_exit c.from_residual.result _ (ComesTo (g.F.Files.gives c.args.files.now) (words_of c.args.words) _ _ None) c.from_residual.ensures.1
+    (comes_read _ c.args.words c.in-Ok.words c.as_slice.result.now _ _ _ _ c.in-Ok.is c.as_slice.ensures.value (
       set.given.read,
       subst (λ (t : Option Text). IsFileFault (g.F.Files.gives c.args.files.now) t c.in_err-file.field-0.0) set.given.schema c.in_err-file.ensures.fault,
-      (Keeps-refl _, Keeps-refl _, Keeps-refl _),
+      (Keeps-refl _, (Keeps-refl _, Keeps-refl _)),
       refl,
     ))
 
 pub returns-in_err-ran-clause-comes : goal.returns-in_err-ran-clause-comes
 returns-in_err-ran-clause-comes g c =
     let set = c.in-Ok-settings.ensures in
-    err_exit c.from_residual-in_err-ran.result _
-    (λ (answer : Result Ending Stop). ComesTo (g.F.Files.gives c.args.files.now) (words_of c.args.words) (g.S.Input.remaining c.args.reader.now) (g.S.Input.remaining c.check_beside.new.reader)
-    (g.K.Sink.contents c.args.writer.now) (g.K.Sink.contents c.check_beside.new.writer) (g.N.Sink.contents c.args.notes.now) (g.N.Sink.contents c.check_beside.new.notes) None answer)
-    c.from_residual-in_err-ran.ensures.1
-    (comes_read _ c.args.words c.in-Ok.words c.as_slice.result.now _ _ _ _ _ _ _ _ c.in-Ok.is c.as_slice.ensures.value (
+    err_exit c.from_residual-in_err-ran.result _ (ComesTo (g.F.Files.gives c.args.files.now) (words_of c.args.words) _ _ None) c.from_residual-in_err-ran.ensures.1
+    (comes_read _ c.args.words c.in-Ok.words c.as_slice.result.now _ _ _ _ c.in-Ok.is c.as_slice.ensures.value (
       holds_given _ _ c.in-Ok-settings.settings c.as_deref.result _ _ set.given c.as_deref.ensures.value c.in_ok-file.ensures.bytes c.in_err-ran.ensures.run.0,
       c.in_err-ran.ensures.run.1,
       refl,
@@ -47,23 +41,23 @@ returns-in_err-ran-clause-comes g c =
 pub returns-in-Ok-end-clause-comes : goal.returns-in-Ok-end-clause-comes
 returns-in-Ok-end-clause-comes g c =
     let set = c.in-Ok-settings.ensures in
-    comes_read _ c.args.words c.in-Ok.words c.as_slice.result.now _ _ _ _ _ _ _ _ c.in-Ok.is c.as_slice.ensures.value
-    (checks_given _ _ c.in-Ok-settings.settings c.as_deref.result _ _ _ _ _ _ _ _ _ _ _ c.in-Ok-end.is
+    comes_read _ c.args.words c.in-Ok.words c.as_slice.result.now _ _ _ _ c.in-Ok.is c.as_slice.ensures.value
+    (checks_given _ _ c.in-Ok-settings.settings c.as_deref.result _ _ _ _ _ _ _ c.in-Ok-end.is
     set.given c.as_deref.ensures.value c.in_ok-file.ensures.bytes c.in_ok-ran.ensures.run c.summed.ensures)
 
 pub returns-clause-comes : goal.returns-clause-comes
 returns-clause-comes g c =
     let set = c.in-Ok-settings.ensures in
-    comes_read _ c.args.words c.in-Ok.words c.as_slice.result.now _ _ _ _ _ _ _ _ c.in-Ok.is c.as_slice.ensures.value (
+    comes_read _ c.args.words c.in-Ok.words c.as_slice.result.now _ _ _ _ c.in-Ok.is c.as_slice.ensures.value (
       _,
-      checks_given _ _ c.in-Ok-settings.settings c.as_deref.result _ _ _ _ _ _ _ _ _ _ _ c.in-Err-end.is
+      checks_given _ _ c.in-Ok-settings.settings c.as_deref.result _ _ _ _ _ _ _ c.in-Err-end.is
           set.given c.as_deref.ensures.value c.in_ok-file.ensures.bytes c.in_ok-ran.ensures.run c.summed.ensures,
     )
 
 pub check_beside-requires-clause-leave : goal.check_beside-requires-clause-leave
-check_beside-requires-clause-leave g c source sink note calls ended prompt =
+check_beside-requires-clause-leave g c now prompt unended =
     let set = c.in-Ok-settings.ensures in
-    c.requires.leave source sink note calls ended
-    (prompt_read _ c.args.words c.in-Ok.words c.as_slice.result.now _ _ _ _ _ _ c.in-Ok.is c.as_slice.ensures.value
+    c.requires.leave now
+    (prompt_read _ c.args.words c.in-Ok.words c.as_slice.result.now _ _ c.in-Ok.is c.as_slice.ensures.value
     (holds_given _ _ c.in-Ok-settings.settings c.as_deref.result _ _
-    set.given c.as_deref.ensures.value c.in_ok-file.ensures.bytes prompt))
+    set.given c.as_deref.ensures.value c.in_ok-file.ensures.bytes prompt)) unended

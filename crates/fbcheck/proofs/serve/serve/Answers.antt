@@ -1,16 +1,15 @@
+use Rattle.fb_run.specs.Seen.{writer_of}
 use Rattle.fbcheck.proofs.serve.serve.Goals as goal
 
 pub returns-clause-served : goal.returns-clause-served
 returns-clause-served g c = record {
   outcome = c.come_to-outcome.result;
   sums = c.come_to-outcome.new.sums;
-  between = g.N.Sink.contents c.come_to-outcome.new.notes;
-  complaints_between = g.N.Sink.failures c.come_to-outcome.new.notes;
+  between = writer_of g.N.Sink c.come_to-outcome.new.notes;
   comes = c.come_to-outcome.ensures.comes;
   ends = c.come_to-outcome.ensures.ends;
   ending = c.sum_up-ending.result;
-  behind = g.N.Sink.contents c.sum_up-ending.new.notes;
-  complaints_behind = g.N.Sink.failures c.sum_up-ending.new.notes;
+  behind = writer_of g.N.Sink c.sum_up-ending.new.notes;
   summed = c.sum_up-ending.ensures.summed;
   told = c.tell.ensures;
   status_is = c.exit_status.ensures;

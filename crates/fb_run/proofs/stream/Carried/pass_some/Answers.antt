@@ -5,6 +5,7 @@ use Rattle.fb_bytes.specs.Framing.{Framing}
 use Rattle.fb_bytes.specs.Messages.{IsMessage}
 use Rattle.fb_verify.proofs.Frames.{if_err_exit}
 use Rattle.fb_run.specs.Stream.{Halts, standing}
+use Rattle.fb_run.specs.Texts.{no_bytes}
 use Rattle.fb_run.proofs.StreamLemmas.{halts_feed, halts_memory, onward_line, onward_message}
 use Rattle.fb_run.proofs.stream.Carried.pass_some.Goals as goal
 
@@ -17,7 +18,7 @@ pub returns-in-Some-clause-onward : goal.returns-in-Some-clause-onward
 returns-in-Some-clause-onward g c =
     let message = c.in-Some.message.now in
     let none : c.args.self.now.framer.held ≡ [] = nil_from_length c.args.self.now.framer.held (omega (arith, c.held.ensures.value)) in
-    onward_message _ (standing c.args.self.now) _ _ message
+    onward_message _ (standing c.args.self.now) (record { text = _; tally = _; held = _; written = no_bytes }) _ message
     (c.in-Some.ensures.front ∙ ap (λ (l : List ℕ). l ++ take (length message) c.args.rest.now) (sym none))
     (subst (λ (n : ℕ). IsMessage n message) c.limit.ensures.value c.in-Some.ensures.whole) none c.in_ok-add.ensures.ok
 
@@ -35,7 +36,7 @@ returns-in_err-add-2-clause-halts g c =
 pub returns-clause-onward : goal.returns-clause-onward
 returns-clause-onward g c =
     let message = c.in-Some-message.ensures.whole.0 refl in
-    onward_line _ (standing c.args.self.now) _ c.args.self.now.framer c.feed.new.self c.args.rest.now c.in-Some-message.message.now c.in_ok-taken.taken.used c.in_ok-taken.taken.whole c.requires.ready.limit refl c.in_ok-taken.ensures.ok
+    onward_line _ (standing c.args.self.now) (record { text = _; tally = _; held = _; written = no_bytes }) c.args.self.now.framer c.feed.new.self c.args.rest.now c.in-Some-message.message.now c.in_ok-taken.taken.used c.in_ok-taken.taken.whole c.requires.ready.limit refl c.in_ok-taken.ensures.ok
     c.in-Some-message.ensures.bytes message.1 (ap (λ (f : Framing). f.held) (c.next.ensures.whole message)) c.in_ok-add-2.ensures.ok
 
 pub returns-in_default-message-clause-onward : goal.returns-in_default-message-clause-onward

@@ -6,7 +6,7 @@ use Rattle.fb_run.proofs.StreamLemmas.{gathers_front, gathers_halts, halts_after
 use Rattle.fb_run.proofs.stream.Carried.use_up.Goals as goal
 
 pub loop-rest-init : goal.loop-rest-init
-loop-rest-init g c = record { ready = c.requires.ready; passed = passed_none _ _ _; within = search rules; few = search rules; written = search rules; noted = search rules }
+loop-rest-init g c = record { ready = c.requires.ready; passed = passed_none _ (standing c.args.self.now) _; within = search rules; few = search rules; written = search rules; noted = search rules }
 
 pub loop-rest-preserved : goal.loop-rest-preserved
 loop-rest-preserved g c =
@@ -14,7 +14,8 @@ loop-rest-preserved g c =
     let some = c.in_ok-used.ensures in
     record {
       ready = some.ready;
-      passed = passed_more _ _ _ _ c.in_ok-used.used _ c.loop-rest.rest.now _ (take_rest c.loop-rest.rest.now c.in_ok-used.used) before.passed some.onward;
+      passed = passed_more _ (standing c.args.self.now) (standing c.loop-rest.self) (standing c.pass_some.new.self) c.in_ok-used.used _ c.loop-rest.rest.now _
+          (take_rest c.loop-rest.rest.now c.in_ok-used.used) before.passed some.onward;
       within = search rules;
       few = search rules;
       written = search rules;
@@ -24,25 +25,30 @@ loop-rest-preserved g c =
 pub returns-in_err-used-clause-halts : goal.returns-in_err-used-clause-halts
 returns-in_err-used-clause-halts g c =
     if_err_exit c.from_residual.result _ (Halts _ (standing c.args.self.now) _ _ _) c.from_residual.ensures.1
-    (halts_after _ _ _ _ c.loop-rest.rest.now _ _ _ c.loop-rest.invariant.passed c.in_err-used.ensures.halts)
+    (halts_after _ (standing c.args.self.now) (standing c.loop-rest.self) _ c.loop-rest.rest.now _ _ _ c.loop-rest.invariant.passed c.in_err-used.ensures.halts)
 
 pub returns-in_err-used-clause-gathers : goal.returns-in_err-used-clause-gathers
 returns-in_err-used-clause-gathers g c =
-    gathers_halts _ _ _ _ _ c.in_err-used.field-0.0 c.in_err-used.ensures.kind (halts_after _ _ _ _ c.loop-rest.rest.now _ _ _ c.loop-rest.invariant.passed c.in_err-used.ensures.halts)
+    gathers_halts _ (standing c.args.self.now) _ _ _ c.in_err-used.field-0.0 c.in_err-used.ensures.kind
+    (halts_after _ (standing c.args.self.now) (standing c.loop-rest.self) _ c.loop-rest.rest.now _ _ _ c.loop-rest.invariant.passed c.in_err-used.ensures.halts)
 
 pub returns-then-is_much-clause-onward : goal.returns-then-is_much-clause-onward
 returns-then-is_much-clause-onward g c =
-    onward_front _ _ _ _ _ _ (search rules)
-    (passed_more _ _ _ _ c.in_ok-used.used _ c.loop-rest.rest.now _ (take_rest c.loop-rest.rest.now c.in_ok-used.used) c.loop-rest.invariant.passed c.in_ok-used.ensures.onward)
+    onward_front _ (standing c.args.self.now) (standing c.pass_some.new.self) _ _ _ (search rules)
+    (passed_more _ (standing c.args.self.now) (standing c.loop-rest.self) (standing c.pass_some.new.self) c.in_ok-used.used _ c.loop-rest.rest.now _
+    (take_rest c.loop-rest.rest.now c.in_ok-used.used) c.loop-rest.invariant.passed c.in_ok-used.ensures.onward)
 
 pub returns-then-is_much-clause-gathers : goal.returns-then-is_much-clause-gathers
 returns-then-is_much-clause-gathers g c =
-    gathers_front _ _ _ _ _
-    (onward_front _ _ _ _ _ _ refl
-    (passed_more _ _ _ _ c.in_ok-used.used _ c.loop-rest.rest.now _ (take_rest c.loop-rest.rest.now c.in_ok-used.used) c.loop-rest.invariant.passed c.in_ok-used.ensures.onward))
+    gathers_front _ (standing c.args.self.now) (standing c.pass_some.new.self) _ _
+    (onward_front _ (standing c.args.self.now) (standing c.pass_some.new.self) _ _ _ refl
+    (passed_more _ (standing c.args.self.now) (standing c.loop-rest.self) (standing c.pass_some.new.self) c.in_ok-used.used _ c.loop-rest.rest.now _
+    (take_rest c.loop-rest.rest.now c.in_ok-used.used) c.loop-rest.invariant.passed c.in_ok-used.ensures.onward))
 
 pub returns-clause-onward : goal.returns-clause-onward
-returns-clause-onward g c = onward_front _ _ _ _ _ c.loop-rest.rest.now (search rules) c.loop-rest.invariant.passed
+returns-clause-onward g c = onward_front _ (standing c.args.self.now) (standing c.loop-rest.self) _ _ c.loop-rest.rest.now (search rules) c.loop-rest.invariant.passed
 
 pub returns-clause-gathers : goal.returns-clause-gathers
-returns-clause-gathers g c = gathers_front _ _ _ _ _ (onward_front _ _ _ _ _ c.loop-rest.rest.now refl c.loop-rest.invariant.passed)
+returns-clause-gathers g c =
+    gathers_front _ (standing c.args.self.now) (standing c.loop-rest.self) _ _
+    (onward_front _ (standing c.args.self.now) (standing c.loop-rest.self) _ _ c.loop-rest.rest.now refl c.loop-rest.invariant.passed)
