@@ -1,9 +1,8 @@
 -- What is told of a bare input, of which a front was written.
 use Rattle.std.proofs.Common.{◌≡◌, ℕ, ◌+◌, ◌≤◌, List, ◌++◌, length, subst, sym, ◌∙◌, ap}
-use Rattle.std.specs.Prelude.{Option}
 use Rattle.std.specs.Io.KnownBytes.{Appends, Consumes}
 use Rattle.std.proofs.KnownBytes.{Appends-trans, Keeps-refl}
-use Rattle.fb_run.specs.Ends.{Ends, Outs, Reader, Takes, Writer, beside}
+use Rattle.fb_run.specs.Ends.{Ends, Reader, Takes, Writer, beside}
 use Rattle.fb_run.specs.Job.{Job, Verdict}
 use Rattle.fb_run.specs.Texts.{Sizes, Texts, followed, no_bytes, silent}
 use Rattle.fb_run.specs.Line.{IsTold}

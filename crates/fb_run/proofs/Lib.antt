@@ -8,7 +8,6 @@ pub mod LineLemmas
 pub mod LinesLemmas
 pub mod LongLemmas
 pub mod Pieces
-pub mod RanLemmas
 pub mod RunLemmas
 pub mod Shown
 pub mod StreamLemmas

@@ -1,5 +1,5 @@
 -- A run over a stream: what was read and written, and then one piece more.
-use Rattle.std.proofs.Common.{◌≡◌, ℕ, ◌+◌, ◌-◌, Bool, true, List, [], ◌++◌, length, take, drop, refl, sym, ap, subst, ◌∙◌, arith, append-nil, append_assoc, length-append, length-take-le, take-append-drop, Result, Ok, Err, IsErrAnd}
+use Rattle.std.proofs.Common.{◌≡◌, ℕ, ◌+◌, ◌-◌, Bool, true, List, [], ◌++◌, take, drop, refl, sym, ap, subst, ◌∙◌, arith, append-nil, append_assoc, length-append, length-take-le, take-append-drop, Result, Ok, Err, IsErrAnd}
 use Rattle.std.specs.Io.KnownBytes.{Consumes}
 use Rattle.std.proofs.KnownBytes.{Consumes-nil, Appends-kept, Appends-trans, Keeps-refl}
 use Rattle.fb_verify.specs.declared.start.Start.{Start}
@@ -128,14 +128,7 @@ module _ (job : Job) (from : Start) (first now : Ends) (is : from ≡ job.start)
   pub prompt_stream : (from ≡ start.Bare → ⊥) → IsStreamPrompt job first now → IsPrompt job first now
   prompt_stream = at_stream (λ x. IsPromptFrom x job first now) from job.start is
 
--- a job that is the same has the same run, and is prompt with it
-pub runs_by : (job job' : Job) (first now : Ends) (tally : Tally) (end : End) → job ≡ job' → IsRunBeside job first now tally end → IsRunBeside job' first now tally end
-runs_by job job' first now tally end is run = subst (λ (j : Job). IsRunBeside j first now tally end) is run
-
-pub prompt_by : (job job' : Job) (first now : Ends) → job ≡ job' → IsPrompt job first now → IsPrompt job' first now
-prompt_by job job' first now is prompt = subst (λ (j : Job). IsPrompt j first now) is prompt
-
--- so it is in a run, however its input starts
+-- without memory nothing is read or written, however the input starts
 none_from : (from : Start) (job : Job) (ends : Ends) → IsRunFrom from job ends ends no_tally (Err run.OutOfMemory)
 none_from start.Bare job ends =
     ([], Consumes-nil ends.reader.left, (omega arith, ((Keeps-refl ends.outs.writer.bytes, Keeps-refl ends.outs.notes.bytes), refl)))
@@ -148,9 +141,13 @@ pub ends_none : (ends : Ends) (turns : ℕ) (ran : Ran) → ran ≡ record { tal
 ends_none ends turns ran is = subst (λ (t : Ran). EndsBeside ends ends turns t.end) (sym is) (refl, refl, refl)
 
 -- the end that an answer tells is that of its run
-pub same_end : (tally : Tally) (end : End) → end_of (answer_by tally end) ≡ end
+same_end : (tally : Tally) (end : End) → end_of (answer_by tally end) ≡ end
 same_end tally (Ok done) = refl
 same_end tally (Err fault) = refl
+
+pub ends_answer : (first now : Ends) (turns : ℕ) (tally : Tally) (end : End) (answer : Result Tally RunFault) → answer ≡ answer_by tally end
+    → EndsBeside first now turns end → EndsBeside first now turns (end_of answer)
+ends_answer first now turns tally end answer is ends = subst (λ (e : End). EndsBeside first now turns e) (sym (ap end_of is ∙ same_end tally end)) ends
 
 -- the exit of a `?`
 pub err_exit : {A E : Type 0} (answer : Result A E) (x : E) (P : Result A E → Type 0) → IsErrAnd answer (λ e. e ≡ x) → P (Err x) → P answer

@@ -1,6 +1,6 @@
 -- What a writer and notes take, one text after another.
-use Rattle.std.proofs.Common.{◌≡◌, ℕ, ◌+◌, length, arith, length-append}
-use Rattle.std.specs.Prelude.{List, []}
+use Rattle.std.proofs.Common.{arith, length-append}
+use Rattle.std.specs.Prelude.{[]}
 use Rattle.std.proofs.KnownBytes.{Appends-kept, Appends-nil, Appends-trans}
 use Rattle.fb_run.specs.Ends.{Outs, Takes, Unwritten}
 use Rattle.fb_run.specs.Stream.{Writes}

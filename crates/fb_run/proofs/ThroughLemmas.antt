@@ -1,5 +1,5 @@
 -- A piece of which a front was passed, and what is told in it was written.
-use Rattle.std.proofs.Common.{◌≡◌, ℕ, ◌+◌, ◌≤◌, Bool, List, [], ◌++◌, Option, length, take, drop, refl, sym, ap, subst, ◌∙◌, arith, append-nil, append_assoc, length-append, take-append-drop}
+use Rattle.std.proofs.Common.{◌≡◌, ℕ, ◌+◌, ◌≤◌, Bool, List, [], ◌++◌, Option, length, take, drop, refl, sym, ap, subst, ◌∙◌, arith, append-nil, append_assoc, take-append-drop}
 use Rattle.std.specs.Io.KnownBytes.{Consumes, Keeps}
 use Rattle.std.proofs.KnownBytes.{Appends-nil, Consumes-trans}
 use mathlib.Core.Logic.{inl, inr}
@@ -11,7 +11,7 @@ use Rattle.fb_run.specs.Ends.{Ends, Outs, Reader, Takes, Writer, beside}
 use Rattle.fb_run.specs.Faults.{IsCausedWriting}
 use Rattle.fb_run.specs.Job.{Job}
 use Rattle.fb_run.specs.Lines.{AddsTold, AddsThrough, StopsBehind, WritesFront, WritesFronts}
-use Rattle.fb_run.specs.Stream.{FailsStream, Gathers, Halts, HaltsThrough, IsFeedFault, Onward, OnwardThrough, PassesPiece, Rests, Standing, StopsAmid, StopsWriting, Tells, TellsSome, Writes, with_written}
+use Rattle.fb_run.specs.Stream.{FailsStream, Gathers, Halts, HaltsThrough, IsFeedFault, Onward, OnwardThrough, PassesPiece, Rests, Standing, StopsAmid, Tells, TellsSome, Writes, with_written}
 use Rattle.fb_run.specs.Texts.{Sizes, Texts, followed, no_bytes, silent, to_out}
 use Rattle.fb_run.specs.declared.tally.Tally.{Tally}
 use Rattle.fb_run.specs.declared.fault.RunFault.{RunFault}

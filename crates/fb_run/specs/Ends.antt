@@ -1,7 +1,11 @@
--- What is seen of the ends of a run: of its reader, its writer and the notes beside that.
-use Rattle.std.specs.Prelude.{◌≡◌, ℕ, ◌⊎◌, Bool, false, List, Option}
+-- What contracts see of the ends of a run, by the ghosts of their traits: of its reader, its writer and the notes beside
+-- that.
+use Rattle.std.specs.Prelude.{◌≡◌, ℕ, ◌+◌, ◌<◌, ◌≤◌, ◌^◌, ◌⊎◌, Bool, false, List, Option, None}
 use Rattle.std.specs.Io.KnownBytes.{Appends, Keeps}
-use Rattle.fb_run.specs.Texts.{Texts}
+use Rattle.fb_bytes.specs.declared.ends.Sink as sink
+use Rattle.fb_run.specs.Texts.{Sizes, Texts, written_by}
+use Rattle.fb_run.specs.declared.input.Input as input
+use Rattle.fb_run.specs.declared.output.Output.{Output}
 
 -- of a reader: what is left to read, the calls of it, those that failed, and whether it told its end
 pub record Reader : Type 0 where
@@ -45,3 +49,51 @@ pub record Takes (before after : Outs) (text : Texts) : Type 0 where
 -- no read failed, and it is asked for the first time, or no read has told its end since
 abbrev pub IsUnended : Reader → Reader → Type 0
 IsUnended before now = (now.failures ≡ before.failures) × ((now.ended ≡ false) ⊎ ((now.calls ≡ before.calls) × (now.ended ≡ before.ended)))
+
+-- what the ghosts of their traits tell of them
+abbrev pub writer_of : {K : Type 0} → sink.Ghosts K → K → Writer
+writer_of k writer = record { bytes = k.contents writer; failures = k.failures writer }
+
+abbrev pub outs_of : {K N : Type 0} → sink.Ghosts K → sink.Ghosts N → K → N → Outs
+outs_of k n writer notes = record { writer = writer_of k writer; notes = writer_of n notes }
+
+abbrev pub reader_of : {S K N : Type 0} → input.Ghosts S K N → S → Reader
+reader_of s reader = record { left = s.remaining reader; calls = s.calls reader; failures = s.failures reader; ended = s.ended reader }
+
+abbrev pub ends_of : {S K N : Type 0} → input.Ghosts S K N → sink.Ghosts K → sink.Ghosts N → S → K → N → Ends
+ends_of s k n reader writer notes = beside (reader_of s reader) (outs_of k n writer notes)
+
+-- the same beside notes of which nothing is known
+abbrev pub noteless : {S K N : Type 0} → input.Ghosts S K N → sink.Ghosts K → S → K → Ends
+noteless s k reader writer = beside (reader_of s reader) (record { writer = writer_of k writer; notes = record { bytes = None; failures = 0 } })
+
+-- few enough calls were made of them for one run more
+abbrev pub HasCallsLeft : {S K N : Type 0} → input.Ghosts S K N → sink.Ghosts K → sink.Ghosts N → S → K → N → Type 0
+HasCallsLeft s k n reader writer notes = (s.calls reader < 2 ^ 64) × (k.calls writer < 2 ^ 64) × (n.calls notes < 2 ^ 64)
+
+-- the calls made of a writer and notes, and the bytes written to each
+pub record Load : Type 0 where
+  pub writes : ℕ
+  pub tells : ℕ
+  pub written : Sizes
+
+abbrev pub load_of : {K N A : Type 0} → sink.Ghosts K → sink.Ghosts N → K → N → Output A → Load
+load_of k n writer notes output = record { writes = k.calls writer; tells = n.calls notes; written = written_by output }
+
+-- each is less than this
+abbrev pub IsBelow : Load → ℕ → Type 0
+IsBelow load most = (load.writes < most) × (load.tells < most) × (load.written.out < most) × (load.written.notes < most)
+
+-- each grew by no more than this
+abbrev pub GrowsBy : Load → Load → ℕ → Type 0
+GrowsBy before after more =
+    (after.writes ≤ before.writes + more) × (after.tells ≤ before.tells + more)
+    × (after.written.out ≤ before.written.out + more) × (after.written.notes ≤ before.written.notes + more)
+
+-- the leave to ask with these ends
+abbrev pub MayAsk : {S K N : Type 0} → input.Ghosts S K N → Ends → Type 0
+MayAsk s now = s.may_ask now.reader.left now.outs.writer.bytes now.outs.notes.bytes now.reader.calls now.reader.failures now.reader.ended
+
+-- from these ends on, the reader may be asked wherever no read failed or told its end and all that was read is told
+abbrev pub HasLeave : {S K N : Type 0} → input.Ghosts S K N → Ends → (Ends → Ends → Type 0) → Type 0
+HasLeave s before IsPrompt = (now : Ends) → IsPrompt before now → IsUnended before.reader now.reader → MayAsk s now

@@ -128,7 +128,7 @@ job_of rows options = record {
   ident = options.ident;
   limits = options.limits;
   per_byte = options.reads_per_byte;
-  checks = record { alignment = options.alignment; inline_size = options.inline_size };
+  checks = options.checks;
   steps = options.path;
   limit = options.max_bytes;
   mode = options.mode;

@@ -3,7 +3,6 @@ pub mod Job
 pub mod AnswerText
 pub mod Texts
 pub mod Ends
-pub mod Seen
 pub mod Line
 pub mod Sums
 pub mod Lines

@@ -20,6 +20,10 @@ no_tally = record {
   reads = 0;
 }
 
+-- how many messages came to this
+abbrev pub count_of : Tally → ℕ
+count_of tally = tally.yes + tally.no
+
 -- one more at a place
 abbrev pub one_more : ℕ → List ℕ → List ℕ
 one_more place counts = slice_set counts place (slice_index counts place + 1)
@@ -51,8 +55,8 @@ tally_with message (Err bad) others = record {
 pub record IsBounded (tally : Tally) : Type 0 where
   pub places : length tally.reasons ≡ 13
   pub reasons : All (λ n. n ≤ tally.no) tally.reasons
-  pub bytes : tally.bytes ≤ 2147483648 * (tally.yes + tally.no)
-  pub tables : tally.tables ≤ 4294967296 * (tally.yes + tally.no)
+  pub bytes : tally.bytes ≤ 2147483648 * count_of tally
+  pub tables : tally.tables ≤ 4294967296 * count_of tally
 
 -- how often the reason with this number was given, where it was, in front of the rest
 abbrev pub reason_part : ℕ → ℕ → List ℕ → List ℕ
@@ -76,7 +80,7 @@ counts_part tally =
 -- how many there are, and how many had a yes and a no, in front of the rest
 abbrev pub verdicts_part : Tally → List ℕ → List ℕ
 verdicts_part tally rest =
-    codes "summary: messages=" ++ decimal (tally.yes + tally.no) ++ codes " yes=" ++ decimal tally.yes ++ codes " no=" ++ decimal tally.no
+    codes "summary: messages=" ++ decimal (count_of tally) ++ codes " yes=" ++ decimal tally.yes ++ codes " no=" ++ decimal tally.no
     ++ rest
 
 -- the line that tells all of it

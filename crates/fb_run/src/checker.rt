@@ -10,9 +10,7 @@ use crate::room::Room;
 use fb_access::{Answer, Path, get, put_location};
 use fb_bytes::Meter;
 use fb_schema::Schema;
-use fb_verify::{
-    Checks, Fault, Limits, Located, Report, Start, Verified, verify, verify_and_locate, walk,
-};
+use fb_verify::{Fault, Limits, Located, Report, Start, Verified, verify, verify_and_locate, walk};
 use std::alloc::{AllocError, Allocator};
 use std::marker::Model;
 
@@ -140,7 +138,7 @@ impl<'s, 'n, 'o> Checker<'s, 'n, 'o> {
             self.start(),
             ident,
             self.limits_for(bytes),
-            self.checks(),
+            self.options.checks,
             &mut room.scratch,
         )
     }
@@ -169,16 +167,6 @@ impl<'s, 'n, 'o> Checker<'s, 'n, 'o> {
         limits.of_length(reads_per_byte, bytes.len() as u64)
     }
 
-    /// What is checked beside what always is.
-    fn checks(&self) -> Checks
-        ensures { result ≡ self.now.checks }
-    {
-        Checks {
-            alignment: self.options.alignment,
-            inline_size: self.options.inline_size,
-        }
-    }
-
     /// The buffer, where it is well formed, or its fault.
     fn verified<'b, A: Allocator>(
         &self,
@@ -199,7 +187,7 @@ impl<'s, 'n, 'o> Checker<'s, 'n, 'o> {
         let Options { root, ident, .. } = *self.options;
         let limits = self.limits_for(bytes);
         let start = self.start();
-        let checks = self.checks();
+        let checks = self.options.checks;
         let scratch = &mut room.scratch;
         let links = &mut room.links;
         match self.options.names {

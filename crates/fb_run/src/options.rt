@@ -1,7 +1,7 @@
 //! What a run is asked.
 
 use fb_access::Path;
-use fb_verify::{Ident, Limits};
+use fb_verify::{Checks, Ident, Limits};
 
 /// What a run tells of the buffers, to the writer and to the notes beside it.
 #[derive(Clone, Copy, Debug, PartialEq, Eq)]
@@ -40,10 +40,8 @@ pub struct Options {
     pub max_bytes: u32,
     /// Whether the input is one bare buffer, and no stream of size-prefixed ones.
     pub bare: bool,
-    /// Whether alignment is checked.
-    pub alignment: bool,
-    /// Whether fields are held against their table's inline size.
-    pub inline_size: bool,
+    /// What is checked beside what always is.
+    pub checks: Checks,
     /// What is told of the buffers.
     pub mode: Mode,
     /// How the places of faults are told.

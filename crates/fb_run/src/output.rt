@@ -4,13 +4,12 @@ ghost use Rattle.std.specs.Prelude.{Err, IfErr, IsTrue, Ok, OnOk, OnErr, ◌≡�
 ghost use Rattle.std.specs.Borrow.{Bor};
 ghost use Rattle.fb_access.specs.Denotes.{shown};
 ghost use Rattle.fb_run.specs.AnswerText.{answer_text};
-ghost use Rattle.fb_run.specs.Ends.{Takes};
+ghost use Rattle.fb_run.specs.Ends.{GrowsBy, IsBelow, Takes, load_of, outs_of, writer_of};
 ghost use Rattle.fb_run.specs.Faults.{IsCausedOut, IsCausedWriting, IsUnfailedOut};
 ghost use Rattle.fb_run.specs.Job.{HasRoom, brief_verdict, verdict_of};
 ghost use Rattle.fb_run.specs.Line.{told_of, verdict_line, with_place};
 ghost use Rattle.fb_run.specs.Lines.{Adds, AddsThrough, AddsTold, ComesBehind, StopsBehind, StopsIn, WritesFronts};
-ghost use Rattle.fb_run.specs.Seen.{GrowsBy, IsBelow, load_of, outs_of, writer_of};
-ghost use Rattle.fb_run.specs.Sums.{no_tally};
+ghost use Rattle.fb_run.specs.Sums.{count_of, no_tally};
 ghost use Rattle.fb_run.specs.Texts.{silent, waiting, written_by};
 
 use crate::checker::{Checker, Found, Wrong};
@@ -69,11 +68,11 @@ impl<A: Allocator> Output<A> {
         message: &[u8],
     ) -> Result<(), AllocError>
         requires room { HasRoom checker.now room.old }
-        requires few { self.old.counter.yes + self.old.counter.no < 2 ^ 63 }
+        requires few { count_of self.old.counter < 2 ^ 63 }
         requires short { length message.now < 2 ^ 31 }
-        ensures ok { OnOk result (AddsTold checker.now (1 + (self.old.counter.yes + self.old.counter.no)) message.now
+        ensures ok { OnOk result (AddsTold checker.now (1 + count_of self.old.counter) message.now
             (waiting self.old) self.old.counter (waiting self.new) self.new.counter) }
-        ensures one { OnOk result (self.new.counter.yes + self.new.counter.no ≡ self.old.counter.yes + self.old.counter.no + 1) }
+        ensures one { OnOk result (count_of self.new.counter ≡ count_of self.old.counter + 1) }
         ensures err_text { OnErr result (waiting self.new ≡ waiting self.old) }
         ensures err_counted { OnErr result (self.new.counter ≡ self.old.counter) }
         ensures written { self.new.out.written ≡ self.old.out.written }
@@ -92,9 +91,9 @@ impl<A: Allocator> Output<A> {
     /// Adds what the mode tells of the next message with this report, where no more is asked, and counts it.
     #[inline(always)]
     fn add_yes(&mut self, mode: Mode, message: &[u8], report: &Report) -> Result<(), AllocError>
-        requires few { self.old.counter.yes + self.old.counter.no < 2 ^ 63 }
+        requires few { count_of self.old.counter < 2 ^ 63 }
         requires short { length message.now < 2 ^ 31 }
-        ensures ok { OnOk result (Adds mode (1 + (self.old.counter.yes + self.old.counter.no)) message.now (brief_verdict (Ok report.now))
+        ensures ok { OnOk result (Adds mode (1 + count_of self.old.counter) message.now (brief_verdict (Ok report.now))
             (waiting self.old) self.old.counter (waiting self.new) self.new.counter) }
         ensures err_text { OnErr result (waiting self.new ≡ waiting self.old) }
         ensures err_counted { OnErr result (self.new.counter ≡ self.old.counter) }
@@ -116,9 +115,9 @@ impl<A: Allocator> Output<A> {
     /// Adds what the mode tells of the next message with this fault, where no more is asked, and counts it.
     #[inline(never)]
     fn add_no(&mut self, mode: Mode, message: &[u8], fault: Fault) -> Result<(), AllocError>
-        requires few { self.old.counter.yes + self.old.counter.no < 2 ^ 63 }
+        requires few { count_of self.old.counter < 2 ^ 63 }
         requires short { length message.now < 2 ^ 31 }
-        ensures ok { OnOk result (Adds mode (1 + (self.old.counter.yes + self.old.counter.no)) message.now (brief_verdict (Err fault))
+        ensures ok { OnOk result (Adds mode (1 + count_of self.old.counter) message.now (brief_verdict (Err fault))
             (waiting self.old) self.old.counter (waiting self.new) self.new.counter) }
         ensures err_text { OnErr result (waiting self.new ≡ waiting self.old) }
         ensures err_counted { OnErr result (self.new.counter ≡ self.old.counter) }
@@ -141,11 +140,11 @@ impl<A: Allocator> Output<A> {
         message: &[u8],
     ) -> Result<(), AllocError>
         requires room { HasRoom checker.now room.old }
-        requires few { self.old.counter.yes + self.old.counter.no < 2 ^ 63 }
+        requires few { count_of self.old.counter < 2 ^ 63 }
         requires short { length message.now < 2 ^ 31 }
-        ensures ok { OnOk result (AddsTold checker.now (1 + (self.old.counter.yes + self.old.counter.no)) message.now
+        ensures ok { OnOk result (AddsTold checker.now (1 + count_of self.old.counter) message.now
             (waiting self.old) self.old.counter (waiting self.new) self.new.counter) }
-        ensures one { OnOk result (self.new.counter.yes + self.new.counter.no ≡ self.old.counter.yes + self.old.counter.no + 1) }
+        ensures one { OnOk result (count_of self.new.counter ≡ count_of self.old.counter + 1) }
         ensures err_text { OnErr result (waiting self.new ≡ waiting self.old) }
         ensures err_counted { OnErr result (self.new.counter ≡ self.old.counter) }
         ensures written { self.new.out.written ≡ self.old.out.written }
@@ -171,15 +170,15 @@ impl<A: Allocator> Output<A> {
         writer: &mut K,
     ) -> Result<(), RunFault>
         requires room { HasRoom checker.now room.old }
-        requires few { self.old.counter.yes + self.old.counter.no < 2 ^ 63 }
+        requires few { count_of self.old.counter < 2 ^ 63 }
         requires short { length message.now < 2 ^ 31 }
         requires writes { K.calls writer.old < 2 ^ 99 + 2 ^ 97 }
         requires written { self.old.out.written < 2 ^ 99 + 2 ^ 97 }
-        ensures ok { OnOk result (AddsThrough checker.now (1 + (self.old.counter.yes + self.old.counter.no)) message.now
+        ensures ok { OnOk result (AddsThrough checker.now (1 + count_of self.old.counter) message.now
             (waiting self.old) self.old.counter (waiting self.new) self.new.counter
             (K.contents writer.old) (K.contents writer.new) self.old.out.written self.new.out.written) }
-        ensures one { OnOk result (self.new.counter.yes + self.new.counter.no ≡ self.old.counter.yes + self.old.counter.no + 1) }
-        ensures err { IfErr result (λ fault. StopsBehind checker.now (1 + (self.old.counter.yes + self.old.counter.no)) message.now
+        ensures one { OnOk result (count_of self.new.counter ≡ count_of self.old.counter + 1) }
+        ensures err { IfErr result (λ fault. StopsBehind checker.now (1 + count_of self.old.counter) message.now
             (waiting self.old) self.old.counter self.new.counter (K.contents writer.old) (K.contents writer.new) self.old.out.written fault) }
         ensures failed { IfErr result (IsCausedWriting (writer_of K.Sink writer.old) (writer_of K.Sink writer.new)) }
         ensures unfailed { OnOk result (K.failures writer.new ≡ K.failures writer.old) }

@@ -7,7 +7,7 @@ ghost use Rattle.fb_run.specs.Bare.{FailsBare};
 ghost use Rattle.fb_run.specs.Faults.{EndsBeside};
 ghost use Rattle.fb_run.specs.Job.{Job};
 ghost use Rattle.fb_run.specs.Prompt.{IsBarePrompt};
-ghost use Rattle.fb_run.specs.Seen.{HasLeave, MayAsk, ends_of};
+ghost use Rattle.fb_run.specs.Ends.{HasLeave, MayAsk, ends_of};
 ghost use Rattle.fb_run.specs.Sums.{no_tally};
 
 use crate::fault::RunFault;

@@ -5,7 +5,7 @@ ghost use Rattle.fb_run.specs.Faults.{EndsBeside, end_of};
 ghost use Rattle.fb_run.specs.Job.{Serves, job_of};
 ghost use Rattle.fb_run.specs.Prompt.{IsPrompt};
 ghost use Rattle.fb_run.specs.Run.{IsRun, IsRunBeside, answer_by};
-ghost use Rattle.fb_run.specs.Seen.{HasCallsLeft, HasLeave, ends_of, noteless};
+ghost use Rattle.fb_run.specs.Ends.{HasCallsLeft, HasLeave, ends_of, noteless};
 ghost use Rattle.fb_run.specs.Sums.{no_tally};
 
 use crate::checker::Checker;

@@ -4,8 +4,9 @@ ghost use Rattle.std.specs.Prelude.{IfOk, IfErr, OnOk, ◌≡◌, ◌+◌, ◌*�
 ghost use Rattle.fb_run.specs.Faults.{EndsBeside, IsCausedOut, IsCausedWriting, IsUnfailedOut};
 ghost use Rattle.fb_run.specs.Prompt.{IsPrompt};
 ghost use Rattle.fb_run.specs.Run.{IsRunBeside};
-ghost use Rattle.fb_run.specs.Seen.{GrowsBy, HasCallsLeft, HasLeave, IsBelow, ends_of, load_of, outs_of, writer_of};
+ghost use Rattle.fb_run.specs.Ends.{GrowsBy, HasCallsLeft, HasLeave, IsBelow, ends_of, load_of, outs_of, writer_of};
 ghost use Rattle.fb_run.specs.Stream.{Gathers, Halts, HaltsThrough, IsFeedFault, IsReady, Onward, OnwardThrough, PassesPiece, StopsAmid, at_first, standing};
+ghost use Rattle.fb_run.specs.Sums.{count_of};
 ghost use Rattle.fb_run.specs.Texts.{silent, waiting};
 
 use crate::bare::tell_whole;
@@ -116,15 +117,14 @@ impl<A: Allocator> Carried<A> {
     ) -> Result<(), RunFault>
         requires ready { IsReady checker.now self.old.framer self.old.room }
         requires piece { length piece.now ≤ PIECE }
-        requires few { self.old.output.counter.yes + self.old.output.counter.no < 2 ^ 61 }
+        requires few { count_of self.old.output.counter < 2 ^ 61 }
         requires empty { waiting self.old.output ≡ silent }
         requires load { IsBelow (load_of K.Sink N.Sink writer.old notes.old self.old.output) (2 ^ 99 + 2 ^ 97) }
 
         ensures passes { OnOk result (PassesPiece checker.now (standing self.old) piece.now (standing self.new) (outs_of K.Sink N.Sink writer.old notes.old) (outs_of K.Sink N.Sink writer.new notes.new)) }
         ensures ready { OnOk result (IsReady checker.now self.new.framer self.new.room) }
         ensures empty { OnOk result (waiting self.new.output ≡ silent) }
-        ensures few { OnOk result (self.new.output.counter.yes + self.new.output.counter.no
-            ≤ self.old.output.counter.yes + self.old.output.counter.no + PIECE + 1) }
+        ensures few { OnOk result (count_of self.new.output.counter ≤ count_of self.old.output.counter + PIECE + 1) }
 
         ensures stops { IfErr result (StopsAmid checker.now (standing self.old) piece.now self.new.output.counter (outs_of K.Sink N.Sink writer.old notes.old) (outs_of K.Sink N.Sink writer.new notes.new)) }
         ensures failed { IfErr result (IsCausedOut (outs_of K.Sink N.Sink writer.old notes.old) (outs_of K.Sink N.Sink writer.new notes.new)) }
@@ -147,20 +147,18 @@ impl<A: Allocator> Carried<A> {
     ) -> Result<(), RunFault>
         requires ready { IsReady checker.now self.old.framer self.old.room }
         requires piece { length piece.now ≤ PIECE }
-        requires few { self.old.output.counter.yes + self.old.output.counter.no < 2 ^ 61 + 1 }
+        requires few { count_of self.old.output.counter < 2 ^ 61 + 1 }
         requires load { IsBelow (load_of K.Sink N.Sink writer.old notes.old self.old.output) (2 ^ 99 + 2 ^ 97 + 2 ^ 67) }
 
         ensures passes { OnOk result (PassesPiece checker.now (standing self.old) piece.now (standing self.new) (outs_of K.Sink N.Sink writer.old notes.old) (outs_of K.Sink N.Sink writer.new notes.new)) }
         ensures ready { OnOk result (IsReady checker.now self.new.framer self.new.room) }
         ensures empty { OnOk result (waiting self.new.output ≡ silent) }
-        ensures few { OnOk result (self.new.output.counter.yes + self.new.output.counter.no
-            ≤ self.old.output.counter.yes + self.old.output.counter.no + length piece.now) }
+        ensures few { OnOk result (count_of self.new.output.counter ≤ count_of self.old.output.counter + length piece.now) }
 
         ensures stops { IfErr result (StopsAmid checker.now (standing self.old) piece.now self.new.output.counter (outs_of K.Sink N.Sink writer.old notes.old) (outs_of K.Sink N.Sink writer.new notes.new)) }
         ensures failed { IfErr result (IsCausedOut (outs_of K.Sink N.Sink writer.old notes.old) (outs_of K.Sink N.Sink writer.new notes.new)) }
         ensures unfailed { OnOk result (IsUnfailedOut (outs_of K.Sink N.Sink writer.old notes.old) (outs_of K.Sink N.Sink writer.new notes.new)) }
-        ensures load { OnOk result (GrowsBy (load_of K.Sink N.Sink writer.old notes.old self.old.output) (load_of K.Sink N.Sink writer.new notes.new self.new.output) (2 ^ 64)) }
-        ensures tells { N.calls notes.new ≤ N.calls notes.old + 2 ^ 64 }
+        ensures load { GrowsBy (load_of K.Sink N.Sink writer.old notes.old self.old.output) (load_of K.Sink N.Sink writer.new notes.new self.new.output) (2 ^ 64) }
     {
         let mut rest = piece;
         'fronts: loop {
@@ -183,7 +181,7 @@ impl<A: Allocator> Carried<A> {
     ) -> Result<usize, RunFault>
         requires ready { IsReady checker.now self.old.framer self.old.room }
         requires piece { length piece.now ≤ PIECE }
-        requires few { self.old.output.counter.yes + self.old.output.counter.no < 2 ^ 62 }
+        requires few { count_of self.old.output.counter < 2 ^ 62 }
         requires load { IsBelow (load_of K.Sink N.Sink writer.old notes.old self.old.output) (2 ^ 99 + 2 ^ 98) }
 
         ensures within { IfOk result (λ used. used ≤ length piece.now) }
@@ -191,14 +189,12 @@ impl<A: Allocator> Carried<A> {
         ensures passes { IfOk result (λ used. PassesPiece checker.now (standing self.old) (take used piece.now) (standing self.new) (outs_of K.Sink N.Sink writer.old notes.old) (outs_of K.Sink N.Sink writer.new notes.new)) }
         ensures ready { OnOk result (IsReady checker.now self.new.framer self.new.room) }
         ensures empty { OnOk result (waiting self.new.output ≡ silent) }
-        ensures few { IfOk result (λ used. self.new.output.counter.yes + self.new.output.counter.no
-            ≤ self.old.output.counter.yes + self.old.output.counter.no + used) }
+        ensures few { IfOk result (λ used. count_of self.new.output.counter ≤ count_of self.old.output.counter + used) }
 
         ensures stops { IfErr result (StopsAmid checker.now (standing self.old) piece.now self.new.output.counter (outs_of K.Sink N.Sink writer.old notes.old) (outs_of K.Sink N.Sink writer.new notes.new)) }
         ensures failed { IfErr result (IsCausedOut (outs_of K.Sink N.Sink writer.old notes.old) (outs_of K.Sink N.Sink writer.new notes.new)) }
         ensures unfailed { OnOk result (IsUnfailedOut (outs_of K.Sink N.Sink writer.old notes.old) (outs_of K.Sink N.Sink writer.new notes.new)) }
-        ensures load { OnOk result (GrowsBy (load_of K.Sink N.Sink writer.old notes.old self.old.output) (load_of K.Sink N.Sink writer.new notes.new self.new.output) (2 ^ 63)) }
-        ensures tells { N.calls notes.new ≤ N.calls notes.old + 2 ^ 63 }
+        ensures load { GrowsBy (load_of K.Sink N.Sink writer.old notes.old self.old.output) (load_of K.Sink N.Sink writer.new notes.new self.new.output) (2 ^ 63) }
         ensures between { IfOk result (λ used. used < length piece.now → GrowsBy (load_of K.Sink N.Sink writer.old notes.old self.old.output) (load_of K.Sink N.Sink writer.new notes.new self.new.output) (2 ^ 40)) }
     {
         let used = self.use_up(checker, piece);
@@ -216,7 +212,7 @@ impl<A: Allocator> Carried<A> {
         writer: &mut K,
     ) -> Result<usize, RunFault>
         requires ready { IsReady checker.now self.old.framer self.old.room }
-        requires few { self.old.output.counter.yes + self.old.output.counter.no < 2 ^ 62 }
+        requires few { count_of self.old.output.counter < 2 ^ 62 }
         requires empty { waiting self.old.output ≡ silent }
         requires writes { K.calls writer.old < 2 ^ 99 + 2 ^ 97 }
         requires little { self.old.output.out.written < 2 ^ 99 + 2 ^ 97 }
@@ -225,8 +221,7 @@ impl<A: Allocator> Carried<A> {
         ensures onward { IfOk result (λ used. OnwardThrough checker.now (standing self.old) (take used piece.now) (standing self.new)
             (K.contents writer.old) (K.contents writer.new)) }
         ensures ready { OnOk result (IsReady checker.now self.new.framer self.new.room) }
-        ensures few { OnOk result (self.new.output.counter.yes + self.new.output.counter.no
-            ≤ self.old.output.counter.yes + self.old.output.counter.no + 1) }
+        ensures few { OnOk result (count_of self.new.output.counter ≤ count_of self.old.output.counter + 1) }
 
         ensures halts { IfErr result (HaltsThrough checker.now (standing self.old) piece.now self.new.output.counter (K.contents writer.old) (K.contents writer.new)) }
         ensures failed { IfErr result (IsCausedWriting (writer_of K.Sink writer.old) (writer_of K.Sink writer.new)) }
@@ -254,16 +249,14 @@ impl<A: Allocator> Carried<A> {
     fn use_up(&mut self, checker: &Checker<'_, '_, '_>, piece: &[u8]) -> Result<usize, RunFault>
         requires ready { IsReady checker.now self.old.framer self.old.room }
         requires piece { length piece.now ≤ PIECE }
-        requires few { self.old.output.counter.yes + self.old.output.counter.no < 2 ^ 62 }
+        requires few { count_of self.old.output.counter < 2 ^ 62 }
 
         ensures within { IfOk result (λ used. used ≤ length piece.now) }
         ensures some { IfOk result (λ used. 0 < length piece.now → 0 < used) }
-        ensures much { IfOk result (λ used. used < length piece.now
-            → length (waiting self.new.output).out + length (waiting self.new.output).notes < 2 ^ 40) }
+        ensures much { IfOk result (λ used. used < length piece.now → length (waiting self.new.output).out + length (waiting self.new.output).notes < 2 ^ 40) }
         ensures onward { IfOk result (λ used. Onward checker.now (standing self.old) (take used piece.now) (standing self.new)) }
         ensures ready { OnOk result (IsReady checker.now self.new.framer self.new.room) }
-        ensures few { IfOk result (λ used. self.new.output.counter.yes + self.new.output.counter.no
-            ≤ self.old.output.counter.yes + self.old.output.counter.no + used) }
+        ensures few { IfOk result (λ used. count_of self.new.output.counter ≤ count_of self.old.output.counter + used) }
 
         ensures halts { IfErr result (Halts checker.now (standing self.old) piece.now (waiting self.new.output) self.new.output.counter) }
         ensures kind { IfErr result (λ fault. IsFeedFault fault) }
@@ -289,14 +282,13 @@ impl<A: Allocator> Carried<A> {
     fn pass_some(&mut self, checker: &Checker<'_, '_, '_>, rest: &[u8]) -> Result<usize, RunFault>
         requires rest { 0 < length rest.now }
         requires ready { IsReady checker.now self.old.framer self.old.room }
-        requires few { self.old.output.counter.yes + self.old.output.counter.no < 2 ^ 63 }
+        requires few { count_of self.old.output.counter < 2 ^ 63 }
 
         ensures some { IfOk result (λ used. 0 < used) }
         ensures within { IfOk result (λ used. used ≤ length rest.now) }
         ensures onward { IfOk result (λ used. Onward checker.now (standing self.old) (take used rest.now) (standing self.new)) }
         ensures ready { OnOk result (IsReady checker.now self.new.framer self.new.room) }
-        ensures few { OnOk result (self.new.output.counter.yes + self.new.output.counter.no
-            ≤ self.old.output.counter.yes + self.old.output.counter.no + 1) }
+        ensures few { OnOk result (count_of self.new.output.counter ≤ count_of self.old.output.counter + 1) }
 
         ensures halts { IfErr result (Halts checker.now (standing self.old) rest.now (waiting self.new.output) self.new.output.counter) }
         ensures kind { IfErr result (λ fault. IsFeedFault fault) }

@@ -19,7 +19,7 @@ use Rattle.fbcheck_words.specs.declared.choices.SettingsFault.{SettingsFault}
 use Rattle.fbcheck.specs.declared.files.FileFault.{FileFault}
 use Rattle.fb_run.specs.declared.tally.Tally.{Tally}
 use Rattle.fbcheck.specs.declared.stop.Ending.{Ending}
-use Rattle.fbcheck.specs.declared.stop.Ending.TheVariants.{Helped, Checked}
+use Rattle.fbcheck.specs.declared.stop.Ending.TheVariants.{Checked}
 use Rattle.fbcheck.specs.declared.stop.Stop.{Stop}
 use Rattle.fbcheck.specs.declared.stop.Stop.TheVariants as stop
 use Rattle.fbcheck.specs.declared.stop.WordsFault.{WordsFault}
@@ -29,15 +29,11 @@ module _ (gives : Text → Result (List ℕ) FileFault → Type 0) where
   pub comes_unserved : (given : List Text) (reader : Reader) (writer writer' notes : Writer) (fault : SettingsFault) (outcome : Result Ending Stop) → Refuses given fault → Unserved fault writer writer' outcome
       → ComesBy gives given (beside reader (record { writer = writer; notes = notes })) (beside reader (record { writer = writer'; notes = notes })) None outcome
   comes_unserved given reader writer writer' notes fault (Ok (Checked tally)) refuses never = absurd never
-  comes_unserved given reader writer writer' notes fault (Ok Helped) refuses unserved = ((fault, refuses, Keeps-refl reader.left, unserved, Keeps-refl notes.bytes), refl)
   comes_unserved given reader writer writer' notes fault (Err (stop.Run cause)) refuses never = absurd never
   comes_unserved given reader writer writer' notes fault (Err (stop.Ask cause)) refuses never = absurd never
   comes_unserved given reader writer writer' notes fault (Err (stop.File cause)) refuses never = absurd never
-  comes_unserved given reader writer writer' notes fault (Err (stop.Words cause)) refuses unserved = ((fault, refuses, Keeps-refl reader.left, unserved, Keeps-refl notes.bytes), refl)
-  comes_unserved given reader writer writer' notes fault (Err (stop.Usage text)) refuses unserved = ((fault, refuses, Keeps-refl reader.left, unserved, Keeps-refl notes.bytes), refl)
-  comes_unserved given reader writer writer' notes fault (Err (stop.Settings cause)) refuses unserved = ((fault, refuses, Keeps-refl reader.left, unserved, Keeps-refl notes.bytes), refl)
   comes_unserved given reader writer writer' notes fault (Err (stop.Unsummed written)) refuses never = absurd never
-  comes_unserved given reader writer writer' notes fault (Err (stop.CutOff written)) refuses unserved = ((fault, refuses, Keeps-refl reader.left, unserved, Keeps-refl notes.bytes), refl)
+  comes_unserved given reader writer writer' notes fault outcome refuses unserved = ((fault, refuses, Keeps-refl reader.left, unserved, Keeps-refl notes.bytes), refl)
 
   -- what holds by the settings, and by what a read of the file of the words gave
   pub holds_given : (given : List Text) (settings : Settings) (file : Option (Bor (List ℕ))) (bytes : Option (List ℕ)) (Holds : Option (Bor (List ℕ)) → Settings → Type 0)

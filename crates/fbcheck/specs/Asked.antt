@@ -62,8 +62,7 @@ options_of settings root steps = record {
   reads_per_byte = settings.reads_per_byte;
   max_bytes = settings.max_bytes;
   bare = settings.bare;
-  alignment = settings.alignment;
-  inline_size = settings.inline_size;
+  checks = record { alignment = settings.alignment; inline_size = settings.inline_size };
   mode = mode_of settings.filter settings.quiet;
   names = places_of settings.names;
 }

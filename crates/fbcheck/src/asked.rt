@@ -12,7 +12,7 @@ use fb_access::Path;
 use fb_bfbs::{Loaded, load, reflection};
 use fb_run::{Mode, Options, Places};
 use fb_schema::Schema;
-use fb_verify::{Ident, Limits};
+use fb_verify::{Checks, Ident, Limits};
 use fbcheck_words::Settings;
 use std::alloc::Global;
 
@@ -128,8 +128,10 @@ fn options(settings: &Settings, root: u32, path: Option<Path>) -> Options
         reads_per_byte: settings.reads_per_byte,
         max_bytes: settings.max_bytes,
         bare: settings.bare,
-        alignment: settings.alignment,
-        inline_size: settings.inline_size,
+        checks: Checks {
+            alignment: settings.alignment,
+            inline_size: settings.inline_size,
+        },
         mode: mode(settings),
         names: places(settings),
     }

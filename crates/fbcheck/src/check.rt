@@ -4,7 +4,7 @@ ghost use Rattle.std.specs.Prelude.{IfErr, IfOk, OnErr, length, ◌≡◌, ◌+�
 ghost use Rattle.fbcheck_words.specs.Ranges.{AreInRange};
 ghost use Rattle.fbcheck.specs.Checking.{EndsChecked, IsChecked, IsCheckedBeside, IsPromptAsAsked, IsUnasked};
 ghost use Rattle.fb_run.specs.Faults.{EndsBeside};
-ghost use Rattle.fb_run.specs.Seen.{HasCallsLeft, HasLeave, ends_of, noteless};
+ghost use Rattle.fb_run.specs.Ends.{HasCallsLeft, HasLeave, ends_of, noteless};
 
 use crate::asked::asked_of;
 use crate::fault::{AskFault, CheckFault};

@@ -2,7 +2,7 @@
 
 ghost use Rattle.std.specs.Prelude.{IfSome, ◌≡◌, ◌+◌, ◌<◌, ◌^◌, length};
 ghost use Rattle.std.specs.IoError.{error_kind};
-ghost use Rattle.fb_run.specs.Seen.{writer_of};
+ghost use Rattle.fb_run.specs.Ends.{writer_of};
 ghost use Rattle.fbcheck.specs.Faults.{words_fault};
 ghost use Rattle.fbcheck.specs.Serving.{Complains, IsNoted, SumsUp, exit_status, stop_status};
 ghost use Rattle.fbcheck_words.specs.declared.choices.SettingsFault.TheVariants as refusal;

@@ -1,7 +1,7 @@
 use Rattle.std.proofs.Common.{rules, refl, sym, take, ◌++◌, ◌≤◌, ◌<◌, ◌+◌, length, arith}
 use Rattle.std.proofs.lemmas.Grind.{common_steps}
 use Rattle.std.proofs.KnownBytes.{Consumes-trans, Keeps-refl}
-use Rattle.fb_run.specs.Seen.{ends_of}
+use Rattle.fb_run.specs.Ends.{ends_of}
 use Rattle.fb_run.proofs.Pieces.{length-with}
 use Rattle.fb_run.proofs.reading.read_whole.Goals as goal
 

@@ -1,5 +1,5 @@
-use Rattle.fb_run.specs.Seen.{noteless}
-use Rattle.fb_run.proofs.RanLemmas.{ends_answer}
+use Rattle.fb_run.specs.Ends.{noteless}
+use Rattle.fb_run.proofs.RunLemmas.{ends_answer}
 use Rattle.fb_run.proofs.run.run_within.Goals as goal
 
 pub returns-clause-run : goal.returns-clause-run

@@ -2,7 +2,7 @@ use Rattle.std.proofs.Common.{None, Option, refl, subst}
 use Rattle.std.specs.Prelude.{map, string_bytes}
 use Rattle.std.proofs.KnownBytes.{Keeps-refl}
 use Rattle.clap.specs.Walk.{Text}
-use Rattle.fb_run.specs.Seen.{reader_of, writer_of}
+use Rattle.fb_run.specs.Ends.{reader_of, writer_of}
 use Rattle.fbcheck.specs.Serving.{ComesTo, IsFileFault, words_of}
 use Rattle.fb_run.proofs.RunLemmas.{err_exit}
 use Rattle.fbcheck.proofs.ServingLemmas.{checks_given, comes_read, comes_unserved, holds_given, prompt_read}

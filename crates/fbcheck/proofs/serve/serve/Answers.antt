@@ -1,4 +1,4 @@
-use Rattle.fb_run.specs.Seen.{writer_of}
+use Rattle.fb_run.specs.Ends.{writer_of}
 use Rattle.fbcheck.proofs.serve.serve.Goals as goal
 
 pub returns-clause-served : goal.returns-clause-served

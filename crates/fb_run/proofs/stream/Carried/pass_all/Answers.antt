@@ -4,7 +4,7 @@ use Rattle.std.specs.Io.KnownBytes.{Consumes}
 use Rattle.fb_run.specs.Faults.{EndsBeside}
 use Rattle.fb_run.specs.Prompt.{IsBarePrompt}
 use Rattle.fb_run.specs.Run.{IsRunBeside}
-use Rattle.fb_run.specs.Seen.{ends_of, outs_of, reader_of}
+use Rattle.fb_run.specs.Ends.{ends_of, outs_of, reader_of}
 use Rattle.fb_run.specs.Stream.{Standing, standing}
 use Rattle.fb_run.proofs.BareLemmas.{fails_untold}
 use Rattle.fb_run.proofs.RunLemmas.{caused_then, ends_told, err_exit, prompt_bare, prompt_stream, runs_bare, runs_stream, sofar_nothing}

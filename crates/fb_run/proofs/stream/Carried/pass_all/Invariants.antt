@@ -1,7 +1,6 @@
 use Rattle.std.proofs.Common.{length, ◌≡◌, ◌+◌, ◌-◌, ◌*◌, ◌^◌, ◌≤◌}
-use Rattle.fb_run.specs.Ends.{IsUnended}
+use Rattle.fb_run.specs.Ends.{GrowsBy, IsUnended, ends_of, load_of, outs_of, reader_of}
 use Rattle.fb_run.specs.Faults.{IsUnfailedOut}
-use Rattle.fb_run.specs.Seen.{GrowsBy, ends_of, load_of, outs_of, reader_of}
 use Rattle.fb_run.specs.Stream.{IsReady, standing}
 use Rattle.fb_run.specs.Texts.{silent, waiting}
 use Rattle.fb_run.proofs.RunLemmas.{Sofar}
