@@ -388,6 +388,12 @@ class Go(Binding, LibraryCase):
             self.made("gofmt", "-l", ".", folder=folder)
             self.made("go", "vet", "./...", folder=folder)
 
+    def test_room(self):
+        """A stream takes room for its messages, however long they may be."""
+        given = f"load {ORDERS} prefixed=1\nstream {STREAM} 7 7 {2 ** 31 - 1}\n".encode()
+        status, out, _ = ran("prlimit", f"--as={2 ** 31 - 1}", *self.driver, given=given, **FOUND)
+        self.same("it ends well", (status, out.count("ok tables="), out[-7:]), (0, 5, "\nend\n.\n"))
+
     def pasted(self, folder, code):
         (folder / "main.go").write_text(code)
         shutil.copy(DRIVERS / "go/go.mod", folder)

@@ -4,6 +4,7 @@ package fbcheck
 import "C"
 
 import (
+	"encoding/binary"
 	"fmt"
 	"io"
 )
@@ -22,10 +23,11 @@ type Messages struct {
 	reader   io.Reader
 	maxBytes int
 	framer   C.fbcheck_framer
-	room     []byte
+	room     []byte // as much as the messages up to now have needed
 	piece    []byte
 	rest     []byte // what of the piece isn't fed yet
 	ended    error  // what the reader said at last
+	checked  bool
 	verdict  Verdict
 	err      error
 }
@@ -40,10 +42,13 @@ func (s *Schema) Messages(reader io.Reader) *Messages {
 }
 
 // MaxBytes allows at most so many bytes a message, its size included, from 8 to 2^31 - 1. It is called before Next. So
-// much room is kept, of which the system gives what the longest message takes.
+// much room is taken at most, and kept: twice the longest message, as its size declares it.
 func (m *Messages) MaxBytes(bytes int) *Messages {
-	if bytes < 8 || bytes > 1<<31-1 || m.room != nil {
-		panic("fbcheck: no such number of bytes, or Next was called")
+	if bytes < 8 || bytes > 1<<31-1 {
+		panic(fmt.Sprintf("fbcheck: MaxBytes(%d) isn't from 8 to 2^31 - 1", bytes))
+	}
+	if m.room != nil {
+		panic("fbcheck: MaxBytes was called after Next")
 	}
 	m.maxBytes = bytes
 	return m
@@ -51,22 +56,28 @@ func (m *Messages) MaxBytes(bytes int) *Messages {
 
 // Next goes on to the next message. It is false at the end, and where the stream goes no further, which Err tells.
 func (m *Messages) Next() bool {
+	m.checked = false
 	if m.room == nil {
-		m.room = make([]byte, m.maxBytes)
+		m.makeRoom(256)
 	}
 	C.fbcheck_framer_next(&m.framer, first(m.room), C.size_t(len(m.room)))
 	for m.err == nil && !m.feed() {
 		m.fill()
 	}
-	if m.err != nil {
-		return false
+	return m.err == nil
+}
+
+// makeRoom begins a message in room for so many bytes, or for what is allowed.
+func (m *Messages) makeRoom(size int) {
+	if size > m.maxBytes {
+		size = m.maxBytes
 	}
-	m.verdict = m.schema.Check(m.Message())
-	return true
+	m.room, m.framer = make([]byte, size), C.fbcheck_framer{}
 }
 
 // feed feeds what is left of the piece, and tells whether a whole message is held.
 func (m *Messages) feed() bool {
+	held := m.framer.held
 	fed := C.feed_piece(&m.framer, first(m.room), C.size_t(len(m.room)), first(m.rest), C.size_t(len(m.rest)))
 	m.rest = m.rest[fed.used:]
 	switch fed.status {
@@ -74,7 +85,14 @@ func (m *Messages) feed() bool {
 		return true
 	case C.FBCHECK_MORE:
 	case C.FBCHECK_OVERSIZE:
-		m.err = &Error{Oversize, fmt.Sprintf("stream: S1 Oversize declared=%d", m.framer.declared)}
+		declared := uint32(m.framer.declared)
+		if int(declared) <= m.maxBytes-4 {
+			// Of this message its size alone has come, with the piece's first bytes: both are fed once more.
+			m.rest = append(binary.LittleEndian.AppendUint32(nil, declared), m.rest[4-held:]...)
+			m.makeRoom(2 * (int(declared) + 4))
+			return m.feed()
+		}
+		m.err = &Error{Oversize, fmt.Sprintf("stream: S1 Oversize declared=%d", declared)}
 	default:
 		m.err = &Error{Failed, texts[Failed]}
 	}
@@ -98,13 +116,17 @@ func (m *Messages) fill() {
 	}
 }
 
-// Message is the message with its size in front, until the next call of Next.
+// Message is the message with its size in front, until the next call of Next. Nothing has checked it: Verdict does, and
+// Read and Check of the schema, by which other goroutines can check a copy.
 func (m *Messages) Message() []byte {
 	return m.room[:m.framer.held:m.framer.held]
 }
 
-// Verdict is the verdict on the message.
+// Verdict is the verdict on the message, which is checked once.
 func (m *Messages) Verdict() Verdict {
+	if !m.checked {
+		m.verdict, m.checked = m.schema.Check(m.Message()), true
+	}
 	return m.verdict
 }
 

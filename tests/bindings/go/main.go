@@ -124,6 +124,9 @@ func stream(schema *fbcheck.Schema, words []string, to io.Writer) error {
 	reader := &pieces{file(words[0]), int(number(words[1])), int(number(words[2]))}
 	messages := schema.Messages(reader).MaxBytes(int(number(words[3])))
 	for count := 1; messages.Next(); count++ {
+		if messages.Verdict() != schema.Check(messages.Message()) {
+			return errors.New("Check says otherwise")
+		}
 		fmt.Fprintln(to, count, messages.Verdict())
 	}
 	return messages.Err()
