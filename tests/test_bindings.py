@@ -389,10 +389,11 @@ class Go(Binding, LibraryCase):
             self.made("go", "vet", "./...", folder=folder)
 
     def test_room(self):
-        """A stream takes room for its messages, however long they may be."""
+        """A stream takes room for its messages, however long they may be; and no shared library is needed."""
         given = f"load {ORDERS} prefixed=1\nstream {STREAM} 7 7 {2 ** 31 - 1}\n".encode()
-        status, out, _ = ran("prlimit", f"--as={2 ** 31 - 1}", *self.driver, given=given, **FOUND)
+        status, out, _ = ran("prlimit", f"--as={2 ** 31 - 1}", *self.driver, given=given)
         self.same("it ends well", (status, out.count("ok tables="), out[-7:]), (0, 5, "\nend\n.\n"))
+        self.holds("it's linked in", "fbcheck" not in ran("ldd", *self.driver)[1])
 
     def pasted(self, folder, code):
         (folder / "main.go").write_text(code)
