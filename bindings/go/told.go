@@ -8,6 +8,7 @@ import (
 	"fmt"
 	"math"
 	"strconv"
+	"unsafe"
 )
 
 // A Reason tells why a message is refused: the number of its code, as 10 for V10.
@@ -31,16 +32,14 @@ const (
 	TooManyReads                  // more reads than the options allow
 )
 
-var reasons = [...]string{"TooLong", "WrongPrefix", "OutOfBuffer", "Misaligned", "ZeroOffset", "WrongIdentifier",
-	"TooDeep", "TooManyTables", "BadVtable", "MissingRequired", "NoTerminator", "LengthsDiffer", "PastTable",
-	"TooManyReads"}
-
 // String is the code and name, as "V10 NoTerminator".
 func (r Reason) String() string {
-	if r == TooLong || int(r) >= len(reasons) {
-		return reasons[TooLong]
+	if r == TooLong {
+		return "TooLong"
 	}
-	return fmt.Sprintf("V%d %s", uint32(r), reasons[r])
+	var text [32]byte
+	length := C.fbcheck_reason_name(C.uint32_t(r), (*C.char)(unsafe.Pointer(&text)), C.size_t(len(text)))
+	return string(text[:length])
 }
 
 // A Verdict is what a check tells of a message: its counts, or its first fault.
@@ -107,21 +106,21 @@ type Status uint32
 
 // Why a call couldn't be served.
 const (
-	OutOfRange    Status = 4  // MaxDepth is above 4096
-	NoIdent       Status = 5  // the schema's own identifier was asked for, and it hasn't 4 bytes
-	NoRoot        Status = 6  // the schema has no root table of its own, or none of the name that was asked for
-	LongFile      Status = 7  // the schema file has 2^31 bytes or more
-	NotWellFormed Status = 8  // the schema file has a fault
-	BadSchema     Status = 9  // its rows are no schema
-	RootNotListed Status = 10 // its root table isn't listed in it
-	NoMemory      Status = 11 // memory was refused
-	Oversize      Status = 14 // a message of the stream is longer than MaxBytes
-	Truncated     Status = 15 // the stream ends inside a message
-	Failed        Status = 16 // the stream has failed before
-	BadPath       Status = 17 // the text is no path of the schema
-	TooManySteps  Status = 18 // the path has more than 31 steps
-	Misfit        Status = 19 // a path is none of this schema from this root
-	TooMuchShared Status = 20 // the schema file has more rows, or longer names, than its length pays for
+	OutOfRange    Status = C.FBCHECK_OUT_OF_RANGE    // MaxDepth is above 4096
+	NoIdent       Status = C.FBCHECK_NO_IDENT        // the identifier asked for hasn't 4 bytes
+	NoRoot        Status = C.FBCHECK_NO_ROOT         // the schema has no root table, or none of this name
+	LongFile      Status = C.FBCHECK_TOO_LONG        // the schema file has 2^31 bytes or more
+	NotWellFormed Status = C.FBCHECK_NOT_WELL_FORMED // the file is no binary schema, or a damaged one
+	BadSchema     Status = C.FBCHECK_BAD_SCHEMA      // its rows are no schema
+	RootNotListed Status = C.FBCHECK_ROOT_NOT_LISTED // its root table isn't listed in it
+	NoMemory      Status = C.FBCHECK_NO_MEMORY       // memory was refused
+	Oversize      Status = C.FBCHECK_OVERSIZE        // a message of the stream is longer than MaxBytes
+	Truncated     Status = C.FBCHECK_TRUNCATED       // the stream ends inside a message
+	Failed        Status = C.FBCHECK_FAILED          // the stream has failed before
+	BadPath       Status = C.FBCHECK_BAD_PATH        // the text is no path of the schema
+	TooManySteps  Status = C.FBCHECK_NO_ROOM         // the path has more than 31 steps
+	Misfit        Status = C.FBCHECK_MISFIT          // a path is none of this schema from this root
+	TooMuchShared Status = C.FBCHECK_TOO_MUCH_SHARED // the file has more rows, or longer names, than its length pays for
 )
 
 var texts = map[Status]string{
@@ -191,27 +190,56 @@ const (
 	Union                   // Uint: its type, 0 for none
 )
 
+var kinds = [...]string{"Absent", "NoElement", "OtherMember", "Bool", "Int", "Uint", "Float", "Text", "Struct",
+	"Vector", "Table", "Union"}
+
+// String is the name of the kind.
+func (k Kind) String() string {
+	if int(k) >= len(kinds) {
+		return fmt.Sprintf("Kind(%d)", uint32(k))
+	}
+	return kinds[k]
+}
+
 // A Value is what stands at the end of a path. What its kind has not is 0.
 type Value struct {
 	Kind  Kind
 	Uint  uint64
 	Int   int64
+	Float float64
 	Bytes []byte // where they stand in the message
 }
 
 func valueOf(told *C.fbcheck_value, message []byte) Value {
+	value := Value{Kind: Kind(told.kind), Uint: uint64(told.number), Int: int64(told.integer)}
 	bytes := message[told.at : told.at+told.size : told.at+told.size]
-	return Value{Kind: Kind(told.kind), Uint: uint64(told.number), Int: int64(told.integer), Bytes: bytes}
+	switch {
+	case value.Kind != Float:
+		value.Bytes = bytes
+	case len(bytes) == 4:
+		value.Float = float64(math.Float32frombits(binary.LittleEndian.Uint32(bytes)))
+	default:
+		value.Float = math.Float64frombits(binary.LittleEndian.Uint64(bytes))
+	}
+	return value
 }
 
-// Float is the number of a Float or Double, and else 0.
-func (v Value) Float() float64 {
-	switch {
-	case v.Kind != Float:
-		return 0
-	case len(v.Bytes) == 4:
-		return float64(math.Float32frombits(binary.LittleEndian.Uint32(v.Bytes)))
-	default:
-		return math.Float64frombits(binary.LittleEndian.Uint64(v.Bytes))
+// String is a text as it stands, a Bool or number in words, and else the kind, with how many elements a vector has, or
+// a union's type.
+func (v Value) String() string {
+	switch v.Kind {
+	case Bool:
+		return strconv.FormatBool(v.Uint != 0)
+	case Int:
+		return strconv.FormatInt(v.Int, 10)
+	case Uint:
+		return strconv.FormatUint(v.Uint, 10)
+	case Float:
+		return strconv.FormatFloat(v.Float, 'g', -1, 64)
+	case Text:
+		return string(v.Bytes)
+	case Vector, Union:
+		return fmt.Sprintf("%v(%d)", v.Kind, v.Uint)
 	}
+	return v.Kind.String()
 }

@@ -8,6 +8,7 @@ import (
 	"fmt"
 	"io"
 	"math"
+	"math/bits"
 	"os"
 	"reflect"
 	"strconv"
@@ -47,7 +48,7 @@ func number(word string) uint64 {
 }
 
 func options(words []string) fbcheck.Options {
-	asked := fbcheck.DefaultOptions()
+	var asked fbcheck.Options
 	for _, word := range words {
 		name, value, _ := strings.Cut(word, "=")
 		switch name {
@@ -81,20 +82,16 @@ func options(words []string) fbcheck.Options {
 func value(value fbcheck.Value) string {
 	bytes := hex.EncodeToString(value.Bytes)
 	switch value.Kind {
-	case fbcheck.Bool:
-		return strconv.FormatBool(value.Uint == 1)
-	case fbcheck.Int:
-		return fmt.Sprint(value.Int)
-	case fbcheck.Uint:
-		return fmt.Sprint(value.Uint)
+	case fbcheck.Absent:
+		return "absent"
+	case fbcheck.NoElement:
+		return "no-element"
+	case fbcheck.OtherMember:
+		return "other-member"
 	case fbcheck.Float:
-		var eight []byte
-		for bits := math.Float64bits(value.Float()); len(eight) < 8; bits >>= 8 {
-			eight = append(eight, byte(bits))
-		}
-		return "float:" + hex.EncodeToString(eight)
+		return fmt.Sprintf("float:%016x", bits.ReverseBytes64(math.Float64bits(value.Float)))
 	case fbcheck.Text:
-		return "text:" + bytes
+		return "text:" + hex.EncodeToString([]byte(value.String()))
 	case fbcheck.Struct:
 		return "struct:" + bytes
 	case fbcheck.Vector:
@@ -102,8 +99,7 @@ func value(value fbcheck.Value) string {
 	case fbcheck.Union:
 		return fmt.Sprintf("union:%d", value.Uint)
 	}
-	return map[fbcheck.Kind]string{fbcheck.Absent: "absent", fbcheck.NoElement: "no-element",
-		fbcheck.OtherMember: "other-member", fbcheck.Table: "table"}[value.Kind]
+	return strings.ToLower(value.String())
 }
 
 func check(schema *fbcheck.Schema, message []byte) string {
@@ -199,12 +195,12 @@ func loads(words []string) string {
 		if i == count/10 {
 			before = kilobytes()
 		}
-		schema, err := fbcheck.NewSchema(given, fbcheck.DefaultOptions())
+		schema, err := fbcheck.NewSchema(given, fbcheck.Options{})
 		if err != nil || schema.Check(nil).OK {
 			return "no schema"
 		}
 		schema.Close()
-		if _, err := fbcheck.NewSchema(given[:i%(len(given)/2)], fbcheck.DefaultOptions()); err == nil {
+		if _, err := fbcheck.NewSchema(given[:i%(len(given)/2)], fbcheck.Options{}); err == nil {
 			return "a schema"
 		}
 	}
@@ -282,7 +278,7 @@ func done(schema **fbcheck.Schema, words []string, to io.Writer) (told string, e
 	case "object":
 		return dash((*schema).ObjectName(uint32(number(rest[0])))), nil
 	case "field":
-		return dash((*schema).FieldName(uint32(number(rest[0])), uint32(number(rest[1])))), nil
+		return dash((*schema).FieldName(uint32(number(rest[0])), int64(number(rest[1])))), nil
 	}
 	return "", errors.New("what is " + words[0])
 }
