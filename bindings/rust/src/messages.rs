@@ -55,12 +55,12 @@ impl<R: Read> Messages<R> {
     ///
     /// # Panics
     /// Where it's below 8 or above 2^31 - 1, or a message was asked for already.
+    #[must_use]
+    #[track_caller]
     pub fn max_bytes(mut self, bytes: usize) -> Messages<R> {
-        assert!(
-            (8..=0x7fff_ffff).contains(&bytes),
-            "a message of at most {bytes} bytes"
-        );
-        assert!(self.room.is_empty(), "the room is in use");
+        let allowed = (8..=0x7fff_ffff).contains(&bytes);
+        assert!(allowed, "max_bytes({bytes}) isn't from 8 to 2^31 - 1");
+        assert!(self.room.is_empty(), "max_bytes after the first message");
         self.max_bytes = bytes;
         self
     }
@@ -70,6 +70,18 @@ impl<R: Read> Messages<R> {
     /// # Errors
     /// The reader failed, or the stream is none of such messages. It ends there.
     pub fn next_message(&mut self) -> Result<Option<(&[u8], Verdict)>, StreamError> {
+        if self.next_unchecked()?.is_none() {
+            return Ok(None);
+        }
+        let message = &self.room[..self.framer.held];
+        Ok(Some((message, self.schema.check(message))))
+    }
+
+    /// The next message with its size in front, for [`Schema::read`], or another thread, to check it.
+    ///
+    /// # Errors
+    /// As [`Messages::next_message`].
+    pub fn next_unchecked(&mut self) -> Result<Option<&[u8]>, StreamError> {
         if self.room.is_empty() {
             self.room = vec![0; self.max_bytes];
         }
@@ -81,8 +93,7 @@ impl<R: Read> Messages<R> {
                 return self.finish().map(|()| None);
             }
         }
-        let message = &self.room[..self.framer.held];
-        Ok(Some((message, self.schema.check(message))))
+        Ok(Some(&self.room[..self.framer.held]))
     }
 
     /// Feeds what is left of the piece, and tells whether a whole message is held.
@@ -105,7 +116,9 @@ impl<R: Read> Messages<R> {
                 self.at += used;
                 Ok(status == calls::OK)
             }
-            calls::OVERSIZE => Err(StreamError::Oversize(self.framer.declared)),
+            calls::OVERSIZE => Err(StreamError::Oversize {
+                declared: self.framer.declared,
+            }),
             _ => Err(StreamError::Failed),
         }
     }
@@ -127,7 +140,9 @@ impl<R: Read> Messages<R> {
         // SAFETY: the room has its size, and the framer is this room's.
         match unsafe { calls::fbcheck_framer_finish(framer, self.room.as_ptr(), size) } {
             calls::OK => Ok(()),
-            _ => Err(StreamError::Truncated(self.framer.held)),
+            _ => Err(StreamError::Truncated {
+                held: self.framer.held,
+            }),
         }
     }
 }
@@ -138,10 +153,16 @@ impl<R: Read> Messages<R> {
 pub enum StreamError {
     /// The reader failed.
     Read(std::io::Error),
-    /// A message is longer than [`Messages::max_bytes`]: so many bytes are declared, without its size.
-    Oversize(u32),
-    /// The stream ends inside a message, of which so many bytes came.
-    Truncated(usize),
+    /// A message is longer than [`Messages::max_bytes`].
+    Oversize {
+        /// So many bytes, without its size.
+        declared: u32,
+    },
+    /// The stream ends inside a message.
+    Truncated {
+        /// How many of its bytes came.
+        held: usize,
+    },
     /// It has failed before.
     Failed,
 }
@@ -150,10 +171,10 @@ impl fmt::Display for StreamError {
     fn fmt(&self, to: &mut fmt::Formatter) -> fmt::Result {
         match self {
             StreamError::Read(error) => write!(to, "read failed: {error}"),
-            StreamError::Oversize(declared) => {
+            StreamError::Oversize { declared } => {
                 write!(to, "stream: S1 Oversize declared={declared}")
             }
-            StreamError::Truncated(held) => write!(to, "stream: S2 Truncated held={held}"),
+            StreamError::Truncated { held } => write!(to, "stream: S2 Truncated held={held}"),
             StreamError::Failed => write!(to, "stream: S4 Failed"),
         }
     }

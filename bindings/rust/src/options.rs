@@ -31,7 +31,7 @@ impl Options {
     /// Loads the bytes of a schema file. They aren't needed any more then.
     ///
     /// # Errors
-    /// The file is no schema, memory was refused, or the options can't be served.
+    /// The file is no binary schema, memory was refused, or the options can't be served.
     pub fn load(&self, file: &[u8]) -> Result<Schema, Error> {
         Schema::load(file, self)
     }
