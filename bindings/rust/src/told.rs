@@ -216,6 +216,22 @@ impl<'m> Value<'m> {
     }
 }
 
+/// A text, a Bool or number in words, and else the kind, with how many elements a vector has, or a union's type.
+impl fmt::Display for Value<'_> {
+    fn fmt(&self, to: &mut fmt::Formatter) -> fmt::Result {
+        match *self {
+            Value::Bool(truth) => truth.fmt(to),
+            Value::Int(number) => number.fmt(to),
+            Value::UInt(number) => number.fmt(to),
+            Value::Float(number) => number.fmt(to),
+            Value::Text(bytes) => String::from_utf8_lossy(bytes).fmt(to),
+            Value::Struct(_) => to.write_str("Struct"),
+            Value::Vector(count, _) => write!(to, "Vector({count})"),
+            _ => fmt::Debug::fmt(self, to),
+        }
+    }
+}
+
 /// The number of 4 or 8 bytes.
 fn float(bytes: &[u8]) -> f64 {
     match bytes.try_into() {
@@ -228,11 +244,17 @@ fn float(bytes: &[u8]) -> f64 {
 #[derive(Clone, Debug, PartialEq, Eq)]
 #[non_exhaustive]
 pub enum Error {
-    /// The schema file has a fault.
+    /// The file is no binary schema, or a damaged one.
     NotWellFormed(Fault),
-    /// Its rows are no schema: the number of the code `C1` to `C8`, that of the object or enum, and the place of the
-    /// field or member in its list.
-    BadSchema(u32, u32, Option<u32>),
+    /// Its rows are no schema.
+    BadSchema {
+        /// The number of the code: 1 to 8 for `C1` to `C8`.
+        code: u32,
+        /// The number of the object or enum.
+        owner: u32,
+        /// The place of the field or member in its list.
+        part: Option<u32>,
+    },
     /// Its root table isn't listed in it.
     RootNotListed,
     /// Memory was refused.
@@ -247,9 +269,13 @@ pub enum Error {
     NoIdent,
     /// A depth above 4,096 was asked for.
     OutOfRange,
-    /// The text is no path of the schema: the number of the code `P1` to `P6`, and the place in the text with `P1`,
-    /// else the number of the step.
-    BadPath(u32, u64),
+    /// The text is no path of the schema.
+    BadPath {
+        /// The number of the code: 1 to 6 for `P1` to `P6`.
+        code: u32,
+        /// With `P1` the place in the text, else the number of the step.
+        at: u64,
+    },
     /// The path has more than 31 steps.
     TooManySteps,
 }
@@ -282,10 +308,17 @@ impl Error {
             calls::NO_ROOT => Error::NoRoot,
             calls::TOO_LONG => Error::TooLong,
             calls::NOT_WELL_FORMED => Error::NotWellFormed(Fault::of(verdict, b"")),
-            calls::BAD_SCHEMA => Error::BadSchema(verdict.reason, verdict.object, part),
+            calls::BAD_SCHEMA => Error::BadSchema {
+                code: verdict.reason,
+                owner: verdict.object,
+                part,
+            },
             calls::ROOT_NOT_LISTED => Error::RootNotListed,
             calls::NO_MEMORY => Error::NoMemory,
-            calls::BAD_PATH => Error::BadPath(verdict.reason, verdict.at),
+            calls::BAD_PATH => Error::BadPath {
+                code: verdict.reason,
+                at: verdict.at,
+            },
             calls::NO_ROOM => Error::TooManySteps,
             calls::TOO_MUCH_SHARED => Error::TooMuchShared,
             status => unreachable!("fbcheck answers {status}"),
@@ -297,7 +330,7 @@ impl fmt::Display for Error {
     fn fmt(&self, to: &mut fmt::Formatter) -> fmt::Result {
         match *self {
             Error::NotWellFormed(ref fault) => write!(to, "schema: L1 {fault}"),
-            Error::BadSchema(code, owner, part) => {
+            Error::BadSchema { code, owner, part } => {
                 let (name, part) = (CODES[code as usize - 1], number_or_dash(part));
                 write!(to, "schema: L2 C{code} {name} owner={owner} part={part}")
             }
@@ -308,7 +341,7 @@ impl fmt::Display for Error {
             Error::NoRoot => write!(to, "no root table"),
             Error::NoIdent => write!(to, "the schema's identifier must be four bytes"),
             Error::OutOfRange => write!(to, "max_depth is above 4096"),
-            Error::BadPath(code, at) => {
+            Error::BadPath { code, at } => {
                 let (name, at_or_step) = (
                     PATH_FAULTS[code as usize - 1],
                     if code == 1 { "at" } else { "step" },

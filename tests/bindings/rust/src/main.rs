@@ -62,18 +62,14 @@ fn hex(bytes: &[u8]) -> String {
 
 fn value(value: &Value) -> String {
     match *value {
-        Value::Absent => "absent".to_owned(),
         Value::NoElement => "no-element".to_owned(),
         Value::OtherMember => "other-member".to_owned(),
-        Value::Bool(bool) => bool.to_string(),
-        Value::Int(number) => number.to_string(),
-        Value::UInt(number) => number.to_string(),
         Value::Float(number) => format!("float:{}", hex(&number.to_le_bytes())),
         Value::Text(bytes) => format!("text:{}", hex(bytes)),
         Value::Struct(bytes) => format!("struct:{}", hex(bytes)),
         Value::Vector(length, bytes) => format!("vector:{length}:{}", hex(bytes)),
-        Value::Table => "table".to_owned(),
         Value::Union(number) => format!("union:{number}"),
+        _ => value.to_string().to_lowercase(),
     }
 }
 
@@ -102,18 +98,15 @@ fn stream(schema: &Schema, words: &[&str], to: &mut impl Write) -> Told {
 
 fn read(schema: &Schema, words: &[&str]) -> Told {
     let bytes = fs::read(words[0])?;
-    let mut told = Vec::new();
-    for text in &words[1..] {
-        let read = schema.read(&bytes, &[schema.path(text)?]);
-        let [one] = read.map_err(|fault| format!("bad {fault}"))?;
-        told.push(value(&one));
+    let paths = words[1..].iter().map(|text| schema.path(text));
+    let paths: Vec<Path> = paths.collect::<Result<_, _>>()?;
+    let read = schema.read_all(&bytes, &paths);
+    let values = read.map_err(|fault| format!("bad {fault}"))?;
+    for (path, told) in paths.iter().zip(&values) {
+        let [one] = schema.read(&bytes, &[*path])?;
+        assert_eq!(value(&one), value(told));
     }
-    if let &[first, second] = &words[1..] {
-        let paths: [Path; 2] = [schema.path(first)?, schema.path(second)?];
-        let both = schema.read(&bytes, &paths)?;
-        assert_eq!(both.map(|one| value(&one)).to_vec(), told);
-    }
-    Ok(told.join(" "))
+    Ok(values.iter().map(value).collect::<Vec<_>>().join(" "))
 }
 
 /// The verdict on a message, wherever it stands.
