@@ -345,25 +345,46 @@ class Node(Binding, LibraryCase):
 
     def test_style(self):
         if shutil.which("tsc"):
-            self.made("tsc", "--noEmit", "--strict", "--target", "es2022", TOP / "bindings/node/index.d.ts")
+            self.made("tsc", "--noEmit", "--strict", "--target", "es2022", "--module", "commonjs", DRIVERS / "types.ts")
 
     def test_wrong_words(self):
-        """What isn't bytes, and options that aren't there."""
+        """What isn't bytes, and options that aren't there; and texts that name what was asked for."""
+        plain = file_of("plain", PLAIN)
         rows = [("schema.check('abc')", "TypeError"), ("schema.check(new Uint16Array(4))", "TypeError"),
                 ("schema.check(undefined)", "TypeError"), ("schema.check(new ArrayBuffer(8))", "TypeError"),
                 ("new Schema(5)", "TypeError"), ("schema.with({ depth: 5 })", "TypeError"),
                 ("schema.with({ maxDepth: -1 })", "RangeError"), ("schema.with({ maxTables: 2 ** 32 })", "RangeError"),
                 ("schema.with({ maxReads: 2n ** 64n })", "RangeError"),
+                ("schema.with({ maxDepth: 4097 })", "RangeError"), ("schema.with({ alignment: 'no' })", "TypeError"),
                 ("schema.with({ ident: 'ABCDE' })", "RangeError"),
                 ("prefixed.messages([], { maxBytes: 7 })", "RangeError"), ("schema.messages([])", "TypeError"),
-                ("[...prefixed.messages(['abc'])]", "TypeError"),
-                ("schema.read(Buffer.alloc(0), 'name')", "BadBuffer"), ("new Schema('/nowhere')", "Error")]
+                ("[...prefixed.messages(['abc'])]", "TypeError"), ("prefixed.messages([], { max: 8 })", "TypeError"),
+                ("prefixed.messages()", "TypeError: a stream is bytes, or an iterable of pieces of them"),
+                ("schema.read(Buffer.alloc(0), 'name')", "BadBuffer"), ("new Schema('/nowhere')", "Error"),
+                ("schema.path(5)", "TypeError: a path is a string, or what path() gives"),
+                ("schema.read(Buffer.alloc(0), ['name'])", "TypeError: a path is a string"),
+                ("schema.path('nam')", "FbcheckError: path: P2 NoSuchField step=0 ('nam')"),
+                ("schema.with({ root: 'N' })", "FbcheckError: no root table ('N')"),
+                (f"new Schema('{plain}')",
+                 f"FbcheckError: schema: L1 V5 WrongIdentifier at=4 object=9 field=- reads=1 ('{plain}')")]
         code = (f"const {{ Schema }} = require('{TOP}/bindings/node'); const schema = new Schema('{FILES['M']}');\n"
                 "const prefixed = schema.with({ prefixed: true });\n"
-                "const told = (call) => { try { call(); } catch (e) { console.log(e.name); } };\n")
+                "const told = (call) => { try { console.log(call()); } catch (e) { console.log(String(e)); } };\n")
         code += "".join(f"told(() => {call});\n" for call, _ in rows)
         told = ran("node", "-e", code)
-        self.same("errors", (told[1].split(), told[2]), ([name for _, name in rows], ""))
+        self.same("errors", (told[1].count("\n"), told[2]), (len(rows), ""))
+        for (call, want), got in zip(rows, told[1].splitlines()):
+            self.holds(call, got.startswith(want), got)
+
+    def test_shown(self):
+        """Verdicts and values have what console.log and JSON.stringify show."""
+        code = (f"const schema = new (require('{TOP}/bindings/node').Schema)('{FILES['M']}');\n"
+                f"const orc = Buffer.from('{ORC.hex()}', 'hex'), told = (what) => console.log(JSON.stringify(what));\n"
+                "told(schema.verify(orc)); told(schema.check(Buffer.alloc(0))); told(schema.read(orc, 'name', 'hp'));")
+        bad = '{"ok":false,"reason":"OutOfBuffer","position":0,"object":0,"reads":0,"place":"in . [M]"}'
+        values = '[{"kind":"text","value":"Orc"},{"kind":"int","value":300}]'
+        self.same("as JSON", ran("node", "-e", code), (0, "\n".join(
+            ['{"ok":true,"tables":1,"depth":1,"reads":8}', bad, values, ""]), ""))
 
     def pasted(self, folder, code):
         (folder / "page.js").write_text(code.replace("./bindings/node", f"{TOP}/bindings/node"))

@@ -12,8 +12,7 @@ if (native.begin(told) !== 1) throw new Error('another libfbcheck is linked');
 const STATUSES = ['OK', 'BAD', 'NULL', 'UNKNOWN_OPTIONS', 'OUT_OF_RANGE', 'NO_IDENT', 'NO_ROOT', 'TOO_LONG',
   'NOT_WELL_FORMED', 'BAD_SCHEMA', 'ROOT_NOT_LISTED', 'NO_MEMORY', 'NO_SPAN', 'MORE', 'OVERSIZE', 'TRUNCATED', 'FAILED',
   'BAD_PATH', 'NO_ROOM', 'MISFIT', 'TOO_MUCH_SHARED'];
-const [OK, BAD, , , OUT_OF_RANGE, , NO_ROOT, TOO_LONG, NOT_WELL_FORMED, BAD_SCHEMA, , , , MORE, OVERSIZE, , ,
-  BAD_PATH] = STATUSES.keys();
+const { OK, BAD, NO_ROOT, TOO_LONG, MORE, OVERSIZE } = Object.fromEntries(STATUSES.map((name, n) => [name, n]));
 const NONE = 0xffffffff;
 const NO_TABLE = 0xfffffffe;
 const DEEPEST = 4096;
@@ -28,7 +27,6 @@ const PATH_FAULTS = ['', 'BadText', 'NoSuchField', 'NotIndexable', 'NotAUnion', 
 const KINDS = ['absent', 'no-element', 'other-member', 'bool', 'int', 'uint', 'float', 'text', 'struct', 'vector',
   'table', 'union'];
 const TEXTS = {
-  OUT_OF_RANGE: 'maxDepth is above 4096',
   NO_IDENT: "the schema's identifier must be four bytes",
   NO_ROOT: 'no root table',
   TOO_LONG: 'schema: L5 TooLong',
@@ -58,21 +56,33 @@ class BadBuffer extends FbcheckError {
   }
 }
 
-class Verdict {
-  constructor(ok, tables, depth, reads, reason, position, object, field, place) {
-    this.ok = ok;
-    this.tables = tables;
-    this.depth = depth;
-    this.reads = reads;
-    this.reason = reason;
-    this.position = position;
-    this.object = object;
-    this.field = field;
+/** The verdict on a good message, as it was told. */
+class Good {
+  constructor() {
+    this.ok = true;
+    this.tables = told[TABLES];
+    this.depth = told[DEPTH];
+    this.reads = told[READS];
+  }
+
+  toString() {
+    return `ok tables=${this.tables} depth=${this.depth} reads=${this.reads}`;
+  }
+}
+
+/** The verdict on a bad one, as it was told, with its place in words. */
+class Bad {
+  constructor(place) {
+    this.ok = false;
+    this.reason = REASONS[told[REASON]];
+    this.position = told[AT];
+    this.object = told[OBJECT];
+    this.field = told[FIELD] === NONE ? undefined : told[FIELD];
+    this.reads = told[READS];
     this.place = place;
   }
 
   toString() {
-    if (this.ok) return `ok tables=${this.tables} depth=${this.depth} reads=${this.reads}`;
     const code = REASONS.indexOf(this.reason);
     const reason = code === 0 ? this.reason : `V${code} ${this.reason}`;
     const field = this.field ?? '-';
@@ -81,25 +91,20 @@ class Verdict {
   }
 }
 
-/** The verdict of a fault that was told. */
-function refused(place) {
-  const field = told[FIELD] === NONE ? undefined : told[FIELD];
-  return new Verdict(false, 0, 0, told[READS], REASONS[told[REASON]], told[AT], told[OBJECT], field, place);
-}
-
-/** The error of a call that wasn't done, by what it told. */
-function errorOf(status) {
+/** The error of a call that wasn't done, by what it told, with the name of what was asked for. */
+function errorOf(status, asked) {
+  const name = STATUSES[status];
   const code = told[REASON];
-  let text = TEXTS[STATUSES[status]];
-  if (status === NOT_WELL_FORMED) {
-    text = `schema: L1 ${String(refused('')).slice('bad '.length)}`;
-  } else if (status === BAD_SCHEMA) {
+  let text = TEXTS[name];
+  if (name === 'NOT_WELL_FORMED') {
+    text = `schema: L1 ${String(new Bad('')).slice('bad '.length)}`;
+  } else if (name === 'BAD_SCHEMA') {
     const part = told[FIELD] === NONE ? '-' : told[FIELD];
     text = `schema: L2 C${code} ${CODES[code]} owner=${told[OBJECT]} part=${part}`;
-  } else if (status === BAD_PATH) {
+  } else if (name === 'BAD_PATH') {
     text = `path: P${code} ${PATH_FAULTS[code]} ${code === 1 ? 'at' : 'step'}=${told[AT]}`;
   }
-  return new FbcheckError(STATUSES[status], text);
+  return new FbcheckError(name, asked === undefined ? text : `${text} ('${asked}')`);
 }
 
 /** A whole number from 0 up to a greatest one, as a bigint. */
@@ -120,15 +125,17 @@ function bytesOf(schema, options) {
     prefixed: false, alignment: true, inlineSize: false, ident: undefined, ...options };
   bytes.writeUInt32LE(1, 0);
   bytes.writeUInt32LE(given.root === undefined ? NONE : native.table(schema, Buffer.from(given.root)), 4);
-  if (bytes.readUInt32LE(4) === NO_TABLE) throw errorOf(NO_ROOT);
+  if (bytes.readUInt32LE(4) === NO_TABLE) throw errorOf(NO_ROOT, given.root);
   for (const [name, value] of Object.entries(given)) {
     if (name in NUMBERS) {
       const [at, bits] = NUMBERS[name];
       const number = whole(name, value, (1n << bits) - 1n);
+      if (name === 'maxDepth' && number > DEEPEST) throw new RangeError(`maxDepth is above ${DEEPEST}`);
       if (bits === 64n) bytes.writeBigUInt64LE(number, at);
       else bytes.writeUInt32LE(Number(number), at);
     } else if (name in SWITCHES) {
-      bytes[SWITCHES[name]] = Boolean(value) !== (name === 'alignment');
+      if (typeof value !== 'boolean') throw new TypeError(`${name} is true or false, and not ${value}`);
+      bytes[SWITCHES[name]] = value !== (name === 'alignment');
     } else if (name === 'ident' && value !== undefined) {
       bytes[32] = value === 'own' ? 2 : 1;
       const four = value === 'own' ? Buffer.alloc(4) : Buffer.from(value, 'latin1');
@@ -138,7 +145,6 @@ function bytesOf(schema, options) {
       throw new TypeError(`no option ${name}`);
     }
   }
-  if (bytes.readUInt32LE(16) > DEEPEST) throw errorOf(OUT_OF_RANGE);
   return bytes;
 }
 
@@ -164,32 +170,35 @@ function joined(high, low) {
   return Number.isSafeInteger(number) ? number : BigInt(high) * 2n ** 32n + BigInt(low);
 }
 
+/** What stands at the end of a path: the value as it's read, and its bytes where they stand in the message. */
 class Value {
   #message;
-  #words;
+  #at;
+  #end;
 
   constructor(message, words) {
-    this.kind = KINDS[words[0]];
     this.#message = message;
-    this.#words = words;
+    this.#at = joined(words[7], words[6]);
+    this.#end = this.#at + joined(words[9], words[8]);
+    this.kind = KINDS[words[0]];
+    this.value = this.#valueOf(words);
   }
 
   get bytes() {
-    const at = joined(this.#words[7], this.#words[6]);
-    return this.#message.subarray(at, at + joined(this.#words[9], this.#words[8]));
+    return this.#message.subarray(this.#at, this.#end);
   }
 
-  get value() {
-    const words = this.#words;
+  #valueOf(words) {
+    const { buffer, byteOffset, length } = this.bytes;
     switch (this.kind) {
       case 'bool': return words[2] === 1;
       case 'int': return joined(words[5] | 0, words[4]);
       case 'uint': case 'vector': case 'union': return joined(words[3], words[2]);
-      case 'text': return Buffer.from(this.bytes.buffer, this.bytes.byteOffset, this.bytes.length).toString();
+      case 'text': return Buffer.from(buffer, byteOffset, length).toString();
       case 'struct': return this.bytes;
       case 'float': {
-        const view = new DataView(this.bytes.buffer, this.bytes.byteOffset);
-        return words[8] === 4 ? view.getFloat32(0, true) : view.getFloat64(0, true);
+        const view = new DataView(buffer, byteOffset);
+        return length === 4 ? view.getFloat32(0, true) : view.getFloat64(0, true);
       }
       default: return undefined;
     }
@@ -205,8 +214,9 @@ class Schema {
       this.#options = { ...file.#options, ...options };
       this.#schema = native.choose(file.#schema, bytesOf(file.#schema, this.#options));
     } else {
-      const loaded = native.load(typeof file === 'string' || file instanceof URL ? fs.readFileSync(file) : file);
-      if (loaded === undefined) throw errorOf(told[STATUS]);
+      const path = typeof file === 'string' || file instanceof URL ? file : undefined;
+      const loaded = native.load(path === undefined ? file : fs.readFileSync(path));
+      if (loaded === undefined) throw errorOf(told[STATUS], path);
       this.#options = options;
       try {
         this.#schema = native.choose(loaded, bytesOf(loaded, options));
@@ -227,19 +237,23 @@ class Schema {
   }
 
   check(message) {
-    if (native.check(this.#schema, message) === OK) {
-      return new Verdict(true, told[TABLES], told[DEPTH], told[READS], undefined, undefined, undefined, undefined, '');
-    }
-    return refused(native.locate(this.#schema, message));
+    return native.check(this.#schema, message) === OK ? new Good() : this.#bad(message);
   }
 
   verify(message) {
-    if (native.check(this.#schema, message) !== OK) throw new BadBuffer(refused(native.locate(this.#schema, message)));
+    const verdict = this.check(message);
+    if (verdict.ok) return verdict;
+    throw new BadBuffer(verdict);
+  }
+
+  #bad(message) {
+    return new Bad(native.locate(this.#schema, message));
   }
 
   path(text) {
+    if (typeof text !== 'string') throw new TypeError('a path is a string, or what path() gives');
     const bytes = native.resolve(this.#schema, Buffer.from(text));
-    if (bytes === undefined) throw errorOf(told[STATUS]);
+    if (bytes === undefined) throw errorOf(told[STATUS], text);
     return new Path(text, bytes);
   }
 
@@ -247,17 +261,20 @@ class Schema {
     const resolved = paths.map((path) => (path instanceof Path ? path : this.path(path)));
     const words = new Uint32Array(VALUE_WORDS * paths.length);
     const status = native.read(this.#schema, message, Path.join(resolved), new Uint8Array(words.buffer));
-    if (status === BAD || status === TOO_LONG) throw new BadBuffer(refused(native.locate(this.#schema, message)));
+    if (status === BAD || status === TOO_LONG) throw new BadBuffer(this.#bad(message));
     if (status !== OK) throw errorOf(status);
     return paths.map((_, n) => new Value(message, words.subarray(n * VALUE_WORDS, (n + 1) * VALUE_WORDS)));
   }
 
-  messages(pieces, { maxBytes = 64 << 20 } = {}) {
+  messages(pieces, { maxBytes = 64 << 20, ...others } = {}) {
+    for (const name in others) throw new TypeError(`no option ${name}`);
     if (!this.#options.prefixed) throw new TypeError('messages of a stream begin with their size: ask for prefixed');
     if (maxBytes < 8) throw new RangeError('maxBytes is below 8');
     const stream = native.stream(Number(whole('maxBytes', maxBytes, 2n ** 31n - 1n)));
     if (pieces instanceof Uint8Array) pieces = [pieces];
-    return Symbol.asyncIterator in pieces ? later(this, stream, pieces) : now(this, stream, pieces);
+    if (pieces?.[Symbol.asyncIterator]) return later(this, stream, pieces);
+    if (pieces?.[Symbol.iterator]) return now(this, stream, pieces);
+    throw new TypeError('a stream is bytes, or an iterable of pieces of them');
   }
 
   mostReads(length) {

@@ -1,0 +1,26 @@
+// What the types of the module for Node let pass, and what they don't: tsc --strict compiles it.
+import { BadBuffer, FbcheckError, Schema, type Good, type Value } from '../../bindings/node';
+
+export function texts(schema: Schema, message: Uint8Array, later: AsyncIterable<Uint8Array>): (string | number)[] {
+  const [name, count, place] = schema.read(message, 'name', schema.path('count'), 'place');
+  const rest: Value[] = schema.read(message, ...['name', 'count']);
+  const verdict = schema.check(message);
+  const good: Good = schema.verify(message);
+  schema.messages(later).next().then(({ value }) => value?.verdict);
+  for (const { verdict } of schema.messages([message])) verdict.reads.toFixed();
+  const error: unknown = new Error();
+  if (error instanceof BadBuffer) error.verdict.position.toFixed();
+  // @ts-expect-error: no such code
+  if (error instanceof FbcheckError && error.code === 'NO_ROT') return [];
+  // @ts-expect-error: only a text has a string
+  name.value.toUpperCase();
+  // @ts-expect-error: no such option
+  schema.with({ max_depth: 5 });
+  if (place.kind === 'struct') place.value.subarray(4);
+  return [
+    verdict.ok ? verdict.tables : verdict.reason,
+    name.kind === 'text' ? name.value.toUpperCase() : '',
+    count.kind === 'int' ? count.value.toString() : rest.length,
+    good.depth,
+  ];
+}
