@@ -207,6 +207,8 @@ class Python(LibraryCase):
                         {"max_reads": 2**64}, {"reads_per_byte": 2**32}]:
             self.fails(f"{options}", ValueError, *options, lambda: self.by("M", **options))
             self.fails(f"{options} in place of others", ValueError, *options, lambda: first.replace(**options))
+        for options in [{"max_depth": "7"}, {"max_reads": 1e6}, {"max_tables": None}]:
+            self.fails(f"{options}", TypeError, *options, lambda: self.by("M", **options))
         for wrong in (self.by, lambda _, **words: first.replace(**words)):
             self.fails("a word that is none", TypeError, "depth", lambda: wrong("M", depth=3))
 
@@ -296,6 +298,7 @@ class Python(LibraryCase):
             ("to..name", "first 3 bytes"), ("", "first 0 bytes"), ("é", "first 0 bytes"), ("to.nam", "P2 at '.nam'"),
             ("nam", "P2 at 'nam'"), ("to[3]", "P3 at '[3]'"), ("items[0]@Parcel@Parcel", "P4 at '@Parcel'"),
             ("items[0]@Nobody", "P5 at '@Nobody'"), ("to.name.x", "P6 at '.x'"),
+            ("to.home.x", "a struct is read whole"),
         ]:
             self.fails(f"the path {text!r}", of.PathError, words, lambda: paths.path(text))
             self.fails(f"{text!r} of a message", of.PathError, words, lambda: paths.read(POST, text))
@@ -315,6 +318,7 @@ class Python(LibraryCase):
         for name, source, words in [
             ("no bytes", b"", "V2 OutOfBuffer at byte 4"),
             ("a text", TOP / "examples/deliveries.fbs", "flatc --binary --schema"),
+            ("one by its path", "bindings/python/README.md", "bindings/python/README.md: no binary schema"),
             ("an object that isn't there", schema([table("A", field("b", an_object(7), 4))]),
              "C1 NoSuchObject in object 0, field 0"),
             ("a member twice", schema([table("A", field("u_type", U_TYPE, 4), field("u", a_union(0), 6))], [
@@ -332,7 +336,8 @@ class Python(LibraryCase):
         self.fails("an identifier that isn't one", of.SchemaError, "hasn't 4 bytes", lambda: of.Schema(
             schema([table("T")], root="T", ident="OWN"), ident="own"))
         self.fails("no file", FileNotFoundError, "nowhere", lambda: of.Schema("nowhere"))
-        self.fails("no bytes at all", TypeError, "bytes-like", lambda: of.Schema(3))
+        for source in (3, None, io.BytesIO(schemas.M)):
+            self.fails("no bytes at all", TypeError, "a path or a bytes-like", lambda: of.Schema(source))
         for kind in (bytes, bytearray, memoryview, lambda data: array.array("B", data)):
             self.same("a schema of any bytes", bool(of.Schema(kind(schemas.M)).check(ORC)), True)
         for path in (str(FILES["M"]), FILES["M"], pathlib.Path(FILES["M"])):
@@ -456,8 +461,9 @@ class Python(LibraryCase):
         self.same("the messages before come", got[:2], ([whole] * 2, of.Oversize))
         for limit in (7, 2**31):
             self.fails(f"room for {limit}", ValueError, "max_bytes", lambda: checker.messages(b"", max_bytes=limit))
-        for wrong in ("text", ["text"], 5, None, io.StringIO("text"), [5]):
-            self.fails(f"a stream that is {wrong!r}", TypeError, "", lambda: [*checker.messages(wrong)])
+        for wrong in ("text", ["text"], io.StringIO("text"), 5, None, [5]):
+            words = "" if wrong in (5, None, [5]) else 'open its file with "rb"'
+            self.fails(f"a stream that is {wrong!r}", TypeError, words, lambda: [*checker.messages(wrong)])
         self.holds("an end too early is an EOFError too", issubclass(of.Truncated, EOFError))
 
     def test_long_streams(self):
