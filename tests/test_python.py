@@ -1,6 +1,7 @@
 """The package for Python beside the program: the same verdicts and values, and what a caller in Python may do."""
 
 import array
+import asyncio
 import concurrent.futures
 import copy
 import io
@@ -430,6 +431,43 @@ class Python(LibraryCase):
         self.same("no message", [*checker.messages(b"")], [])
         bare = checker.replace(prefixed=False)
         self.fails("a schema of other messages", ValueError, "prefixed=True", lambda: bare.messages(POST))
+
+    def test_streams_that_come_later(self):
+        """The same by `async for`: of pieces, and of a reader, whose bytes are no lines."""
+        checker, want = self.module.Schema(ORDERS, prefixed=True), messages_of(POST)
+        lines = run("--schema", ORDERS, "--names", given=POST).out.decode().splitlines()
+
+        async def pieces(data, size):
+            for at in range(0, len(data), size):
+                await asyncio.sleep(0)
+                yield data[at:at + size]
+
+        async def reader(data):
+            made = asyncio.StreamReader()
+            made.feed_data(data)
+            made.feed_eof()
+            return made
+
+        async def told(stream, **words):
+            stream, found = await stream if asyncio.iscoroutine(stream) else stream, []
+            try:
+                async for one in checker.messages(stream, **words):
+                    found.append(one)
+            except self.module.StreamError as error:
+                found.append(str(error))
+            return found
+
+        streams_of_post = {f"pieces of {size}": pieces(POST, size) for size in (1, 7, 512, 9999)}
+        for name, stream in {"a reader": reader(POST), **streams_of_post}.items():
+            got = asyncio.run(told(stream))
+            self.same(name, ([message for message, _ in got], lines_of(verdict for _, verdict in got)), (want, lines))
+        long = prefixed(bytes(1 << 18))
+        self.same("no line's end", len(asyncio.run(told(reader(long * 3)))), 3)
+        got = asyncio.run(told(pieces(POST[:-3], 100)))
+        self.same("an end too early", (len(got), got[-1]), (
+            len(want), f"the stream ends inside a message, of which {len(want[-1]) - 3} bytes came"))
+        got = asyncio.run(told(pieces(POST, 100), max_bytes=99))
+        self.same("a long one", got, [f"a message of 4 + {len(want[0]) - 4} bytes, where at most 99 are allowed"])
 
     def test_faults_of_streams(self):
         of, checker = self.module, self.by("M", prefixed=True)
