@@ -17,7 +17,6 @@ from tests.support.buffers import ORC, POST
 from tests.support.builder import buffer, messages_of, prefixed
 from tests.support.every_kind import FILE, LITTLE, OPTIONS, WHOLE, variants, words_of
 from tests.support.library import OUT, SANITIZED, SHARED, STATIC, LibraryCase, module, ran
-from tests.support.preloaded import shared_library
 from tests.support.program import FOLDER, TOP, file_of, run
 from tests.support.schemas import INT, an_object, field, schema, table
 
@@ -461,40 +460,6 @@ class LibraryForC(LibraryCase):
                     self.same(f"{name} has no bytes of its own", (at, size), (0, 0))
         self.holds("there are some vectors", seen > 3, seen)
 
-    def test_under_valgrind(self):
-        """Where there is one: the messages of the example and some damaged ones, with nothing read that isn't there."""
-        if not shutil.which("valgrind"):
-            self.skipTest("valgrind isn't there")
-        tell = self.compiled("tell_plain", TOP / "tests/c/tell.c", *SHARED)
-        data = buffer(LITTLE, b"KIND", prefix=True)[4:]
-        given = b"".join(map(prefixed, variants(data, [1])))
-        status, out, err = ran("valgrind", "-q", "--error-exitcode=9", "--leak-check=full", tell, "--schema", ALL,
-                               given=given, seconds=600)
-        self.same("valgrind has nothing to say", (status, err), (0, ""))
-        self.same("and the lines are the program's", out, run("--schema", str(ALL), given=given).out.decode())
-
-    def test_memory(self):
-        """Loads and frees leave the heap as it was."""
-        bare = file_of("bare", buffer(WHOLE))
-        loads = self.compiled("loads", TOP / "tests/c/loads.c", *SHARED)
-        # Without the blocks that the heap keeps by for the next request, which are counted as in use.
-        tunables = {"GLIBC_TUNABLES": "glibc.malloc.tcache_count=0"}
-        self.same("10,000 rounds", ran(loads, ALL, bare, 10_000, **tunables), (0, "flat\n", ""))
-        sane = self.compiled("loads_sane", TOP / "tests/c/loads.c", *SANITIZED, *STATIC)
-        status, _, err = ran(sane, ALL, bare, 2_000)
-        self.same("and none under the sanitizers leaks", (status, err), (0, ""))
-        refuse = shared_library("memory/refuse.c")
-        starved = self.compiled("starved", TOP / "tests/c/starved.c", *SHARED)
-        statuses = []
-        while statuses[-1:] != [0] and len(statuses) < 1000:
-            more = {"LD_PRELOAD": str(refuse), "REFUSE_FIRST": str(len(statuses) + 1)}
-            statuses.append(ran(starved, ALL, bare, **more)[0])
-        self.same("each request of a load that is refused", statuses, [11] * (len(statuses) - 1) + [0])
-        self.holds("of which there are some", len(statuses) > 10, len(statuses))
-        heapless = self.compiled("heapless", TOP / "tests/c/heapless.c", *SHARED)
-        small, orc = file_of("M.bfbs", schemas.M), file_of("orc", ORC)
-        self.same("no other call asks for memory", ran(heapless, small, orc, "name"), (0, "", ""))
-
     def test_nulls(self):
         """Null pointers and options that can't be served are answered, in the header's order."""
         python = module()
@@ -625,14 +590,6 @@ class LibraryForC(LibraryCase):
             self.same("isn't asked by default", verifier.verify(other, python.Options(prefixed=1)).reason, 0)
         with python.Verifier(schemas.M) as verifier:
             self.same("a schema without one", verifier.verify(ORC, python.Options(ident_from=2)).reason, 0)
-
-    def test_threads(self):
-        """Eight threads on one schema are told what one is; and the thread sanitizer has nothing to say."""
-        stream = file_of("shared", b"".join(m + m[:30] + bytes([m[30] ^ 255]) + m[31:] for m in messages_of(POST)))
-        for name, words, rounds in [("threads", ["-O2"], 50_000), ("threads_tsan", ["-g", "-fsanitize=thread"], 500)]:
-            made = self.compiled(name, TOP / "tests/c/threads.c", *words, *STATIC, "-lpthread")
-            told = ran(made, ORDERS, stream, "to.name", 8, rounds, seconds=900)
-            self.same(f"{name}: {rounds} rounds", told, (0, f"{8 * 2 * rounds * 12}\n", ""))
 
     def test_names(self):
         """Names by their numbers, as the schema and the reference have them."""

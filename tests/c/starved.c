@@ -1,47 +1,101 @@
 /*
- * Makes a schema and a scratch where a request for memory may be refused (tests/memory/refuse.c), and asks the heap for
- * nothing itself. Ends with 0 where both were made, and with 11 where the want of memory was told and nothing was left
- * behind: the next time, when nothing is refused, both are made.
+ * Makes a schema and a scratch, resolves a path and has a fault told in words, where a request for memory may be refused
+ * (tests/memory/refuse.c), and asks the heap for nothing itself: starved SCHEMA.bfbs GOOD BAD PATH, of two buffers with
+ * their size in front.
+ *
+ * Ends with 0 where all was done, and with 11 to 14 where one of these calls told the want of memory, by which. What it
+ * should have written is as it was then, nothing else is disturbed, and the next time, when nothing is refused, it does
+ * as it should.
  */
 #include <fbcheck.h>
 #include <fcntl.h>
+#include <stdlib.h>
+#include <string.h>
 #include <unistd.h>
 
-static uint8_t bytes[2][65536];
+static uint8_t bytes[3][65536];
+static size_t lengths[3];
+static int met; /* by which call the want of memory was told */
 
-static size_t read_file(int which, const char *path)
+static void read_file(int which, const char *path)
 {
     int file = open(path, O_RDONLY);
     ssize_t length = file < 0 ? -1 : read(file, bytes[which], sizeof bytes[which]);
     if (length < 0)
-        _exit(2);
+        exit(2);
     close(file);
-    return (size_t)length;
+    lengths[which] = (size_t)length;
+}
+
+/* Whether a call told the want of memory, in place of the status that is wanted. No more than one may. */
+static int was_refused(int call, uint32_t status, uint32_t wanted)
+{
+    if (status == wanted)
+        return 0;
+    if (status != FBCHECK_NO_MEMORY || met != 0)
+        exit(3);
+    met = call;
+    return 1;
+}
+
+static fbcheck_schema *make_schema(void)
+{
+    fbcheck_verdict why;
+    fbcheck_schema *schema = fbcheck_schema_new(bytes[0], lengths[0], NULL, &why);
+    if ((schema == NULL) != (why.status != FBCHECK_OK))
+        exit(4);
+    return was_refused(11, why.status, FBCHECK_OK) ? make_schema() : schema;
+}
+
+static fbcheck_scratch *make_scratch(void)
+{
+    fbcheck_scratch *scratch = fbcheck_scratch_new(FBCHECK_DEEP);
+    return was_refused(12, scratch == NULL ? FBCHECK_NO_MEMORY : FBCHECK_OK, FBCHECK_OK) ? make_scratch() : scratch;
+}
+
+static void resolve(const fbcheck_schema *schema, const char *text, fbcheck_path *path)
+{
+    fbcheck_verdict why;
+    fbcheck_path before = *path;
+    uint32_t status = fbcheck_resolve(schema, NULL, text, strlen(text), path, &why);
+    if (status != why.status || (status != FBCHECK_OK && memcmp(path, &before, sizeof before) != 0))
+        exit(5);
+    if (was_refused(13, status, FBCHECK_OK))
+        resolve(schema, text, path);
+}
+
+static void locate(const fbcheck_schema *schema, fbcheck_scratch *scratch, const fbcheck_options *options)
+{
+    fbcheck_verdict why;
+    char text[256] = "";
+    size_t written = 77;
+    uint32_t status = fbcheck_locate(schema, scratch, options, bytes[2], lengths[2], text, sizeof text, &written, &why);
+    if (status != why.status || (status == FBCHECK_BAD) != (written != 0) || (text[0] != 0) != (written != 0))
+        exit(6);
+    if (was_refused(14, status, FBCHECK_BAD))
+        locate(schema, scratch, options);
 }
 
 int main(int count, char **words)
 {
+    fbcheck_options options = FBCHECK_OPTIONS_INIT;
+    fbcheck_path path = { 0, 0, { { 0, 0 } } };
+    fbcheck_value value;
     fbcheck_schema *schema;
     fbcheck_scratch *scratch;
-    fbcheck_verdict why;
-    uint32_t status;
-    size_t file, length;
-    if (count != 3)
+    if (count != 5)
         return 2;
-    file = read_file(0, words[1]);
-    length = read_file(1, words[2]);
-    schema = fbcheck_schema_new(bytes[0], file, NULL, &why);
-    status = why.status;
-    if ((schema == NULL) != (status != FBCHECK_OK))
-        return 3;
-    scratch = fbcheck_scratch_new(FBCHECK_DEEP);
-    if (scratch == NULL)
-        status = FBCHECK_NO_MEMORY;
-    if (schema == NULL && (schema = fbcheck_schema_new(bytes[0], file, NULL, NULL)) == NULL)
-        return 5;
-    if (fbcheck_verify(schema, scratch, NULL, bytes[1], length, NULL) != FBCHECK_OK)
-        return 6;
+    for (int which = 0; which < 3; which++)
+        read_file(which, words[which + 1]);
+    options.prefixed = 1;
+    schema = make_schema();
+    scratch = make_scratch();
+    resolve(schema, words[4], &path);
+    locate(schema, scratch, &options);
+    if (fbcheck_read(schema, scratch, &options, bytes[1], lengths[1], &path, &value, 1, NULL) != FBCHECK_OK
+        || value.kind == FBCHECK_ABSENT)
+        return 7;
     fbcheck_scratch_free(scratch);
     fbcheck_schema_free(schema);
-    return (int)status;
+    return met;
 }
