@@ -7,23 +7,36 @@ import os
 import re
 import shutil
 import subprocess
+import sys
 import unittest
 
 from tests.support.library import LibraryCase, ran
 from tests.support.program import FOLDER, PROGRAM, TOP, run
 
 VERSION = (TOP / "VERSION").read_text().strip()
-DEBS = [f"{name}_{VERSION}_amd64.deb" for name in ("fbcheck", "libfbcheck-dev", "libfbcheck1")]
+DEBS = [f"{name}_{VERSION}_amd64.deb" for name in ("fbcheck", "libfbcheck-dev", "libfbcheck1", "python3-fbcheck")]
 TARBALL = f"fbcheck-{VERSION}-x86_64-linux.tar.gz"
 LIBRARIES = "usr/lib/x86_64-linux-gnu"
+PACKAGES = "usr/lib/python3/dist-packages"
 GOOD = ["--schema", TOP / "examples/deliveries.bfbs", "--path", "to.name"]
 STREAM = (TOP / "examples/deliveries.bin").read_bytes()
 
 
-def packed(folder):
+# What a program in Python does with the package: it checks the stream, and reads values of good messages.
+IN_PYTHON = """
+import importlib.metadata, sys
+import fbcheck
+schema = fbcheck.Schema(sys.argv[1], prefixed=True)
+for message, verdict in schema.messages(sys.stdin.buffer):
+    print(verdict, *([repr(schema.read(message, "to.name"))] if verdict else []))
+print(importlib.metadata.version("fbcheck"), fbcheck.__file__)
+"""
+
+
+def packed(folder, **environment):
     """How ./package ends, and the files that it makes."""
     told = subprocess.run([TOP / "package", folder], capture_output=True, text=True, timeout=600,
-                          env={**os.environ, "DEBEMAIL": "fbcheck@fbcheck.dev"})
+                          env={**os.environ, "DEBEMAIL": "fbcheck@fbcheck.dev", **environment})
     return told.returncode, told.stderr, sorted(os.listdir(folder))
 
 
@@ -65,6 +78,10 @@ class Package(LibraryCase):
         again = FOLDER / "again"
         self.same("made once more", packed(again), self.told)
         self.same("it is the same bytes", (again / "SHA256SUMS").read_text(), (self.dist / "SHA256SUMS").read_text())
+        want = [name for name in self.told[2] if not name.startswith("python3-")]
+        told = "package: python3-fbcheck isn't made: no headers of Python 3.11 or later\n"
+        for python in ("", "/bin/false"):
+            self.same(f"without a Python, {python!r}", packed(FOLDER / "without", PYTHON=python), (0, told, want))
         status, out, err = ran(TOP / "package", "--help")
         self.same("a word with dashes is refused", (status, out, err), (2, "", "usage: ./package [FOLDER]\n"))
 
@@ -88,6 +105,12 @@ class Package(LibraryCase):
             self.same(f"{deb} asks for the glibc that it needs", needs, f"libc6 (>= {newest_glibc(*files)})")
         needs = ran("dpkg-deb", "--field", self.dist / DEBS[1], "Depends")[1].strip()
         self.same("the headers are for their own library", needs, f"libfbcheck1 (= {VERSION})")
+        extension = root / PACKAGES / "fbcheck/_fbcheck.abi3.so"
+        needs = ran("dpkg-deb", "--field", self.dist / DEBS[3], "Depends")[1].strip()
+        self.same("and the package for Python asks for Python and the library", needs,
+                  f"python3 (>= 3.11), libfbcheck1 (>= {VERSION}), libc6 (>= {newest_glibc(extension)})")
+        self.holds("which it takes when it runs", "libfbcheck.so.1" in ran("objdump", "-p", extension)[1])
+        self.python_uses(root)
 
     def test_what_they_need(self):
         program, library = PROGRAM, TOP / "out/libfbcheck.so.1"
@@ -121,6 +144,24 @@ class Package(LibraryCase):
         self.same("and knows them", sorted(listed.splitlines()),
                   sorted(f"{deb.split('_')[0]} {VERSION}" for deb in DEBS))
         self.used(root / "usr/bin/fbcheck", root / "usr/include", root / LIBRARIES, None)
+        self.python_uses(root)
+        status, out, err = ran("dpkg", f"--root={root}", "--force-depends", "--force-script-chrootless", "--remove",
+                               "python3-fbcheck")
+        self.same("and takes them away", (status, (root / PACKAGES).exists()), (0, False))
+
+    def python_uses(self, root):
+        """The package checks a stream by the system's Python, and by that of the tests."""
+        lines = run("--schema", GOOD[1], "--names", "--path", "to.name", given=STREAM).out.decode().splitlines()
+        want = [line.partition(" ")[2].replace('"', "'") for line in lines]
+        paths = {"PYTHONPATH": str(root / PACKAGES), "LD_LIBRARY_PATH": str(root / LIBRARIES), "PATH": "/usr/bin:/bin"}
+        for python in sorted({"/usr/bin/python3", sys.executable}):
+            if subprocess.run([python, "-c", "import sys; sys.exit(sys.version_info < (3, 11))"]).returncode:
+                continue
+            told = subprocess.run([python, "-B", "-c", IN_PYTHON, GOOD[1]], input=STREAM, capture_output=True,
+                                  env=paths, timeout=60)
+            *verdicts, last = told.stdout.decode().splitlines() or [""]
+            self.same(f"{python} is told what the program tells", (told.stderr, verdicts), (b"", want))
+            self.same("by this package", last, f"{VERSION} {root / PACKAGES / 'fbcheck/__init__.py'}")
 
     def used(self, program, headers, libraries, pages):
         """The program checks a stream, and a program in C is built and checks a buffer."""
