@@ -4,8 +4,10 @@ The comparison in process links the library for C.
 It is skipped where flatc, g++ or the headers of flatbuffers aren't there. No time is asked here.
 """
 
+import contextlib
 import dataclasses
 import hashlib
+import io
 import os
 import shutil
 import subprocess
@@ -14,7 +16,7 @@ import unittest
 import xml.etree.ElementTree
 
 from tests.support.library import LibraryCase
-from tests.support.program import PROGRAM, TOP, file_of, loaded
+from tests.support.program import PROGRAM, TOP, file_of, loaded, run
 
 COMPARE = TOP / "bench" / "compare"
 sys.path.insert(0, str(TOP / "bench" / "comparison"))
@@ -46,7 +48,7 @@ class Bench(LibraryCase):
     def setUpClass(cls):
         super().setUpClass()
         building.build()
-        building.build_library()
+        building.build_in_process()
 
     def test_verdicts_agree(self):
         ran = compared(PROGRAM)
@@ -92,17 +94,29 @@ class Bench(LibraryCase):
             self.holds(f"{name}: instructions a message", counted, cost)
 
     def test_verifiers_are_timed_in_process(self):
-        few = building.Size(50, 5)
-        corpus = dataclasses.replace(building.CORPORA[0], timed=few, counted=few)
-        costs = timing.measure_in_process(corpus, 2)
-        self.same("of all three", sorted(costs), ["fbcheck", "generated", "reflection"])
-        for name, cost in costs.items():
-            self.holds(f"{name}: best and median", 0 < cost.best <= cost.median < 1, cost)
+        corpus = dataclasses.replace(building.CORPORA[0], counted=building.Size(50))
+        stream = building.messages(corpus, corpus.cached)
+        tables, taken = timing.measure_in_process(corpus, 2)
+        lines = run("--schema", corpus.schema, given=stream.read_bytes()).out.decode().splitlines()
+        want = sum(int(line.partition("tables=")[2].split()[0]) for line in lines)
+        self.same("the tables that the program tells of ten messages", (tables, len(lines)), (want, 10))
+        self.same("all three, on one thread and on more", sorted(taken),
+                  sorted((name, threads) for name in ("fbcheck", "generated", "reflection") for threads in (1, 2, 4)))
+        self.holds("seconds of the best round", all(0 < seconds < 1 for seconds in taken.values()), taken)
         last_is_bad = building.MADE / "last_is_bad.bin"
-        last_is_bad.write_bytes(building.messages(corpus, few).read_bytes() + bytes(4))
-        for name, command in building.commands_in_process(corpus).items():
-            with self.subTest(f"{name} is timed on good messages alone"), self.assertRaises(building.Failed):
-                timing.seconds_in_process(command, last_is_bad)
+        last_is_bad.write_bytes(stream.read_bytes() + bytes(4))
+        for pair in taken:
+            with self.subTest(f"{pair} is timed on good messages alone"), self.assertRaises(building.Failed):
+                timing.time_in_process(corpus, last_is_bad, 1, [pair])
+        compare = loaded(TOP / "bench/compare")
+        told = io.StringIO()
+        with contextlib.redirect_stdout(told):
+            compare.tell_in_process([(corpus, (20, dict.fromkeys(taken, 1e-6)))])
+            compare.tell_threads([(corpus, (20, {(name, threads): 1e-6 * threads for name, threads in taken}))])
+        rows = [line.split() for line in told.getvalue().splitlines() if line.startswith("monsters")]
+        self.same("a microsecond for ten messages of two tables",
+                  rows[0], ["monsters", "message", *["100.0"] * 3, "1.00", "1.00", "50.0", "a", "table"])
+        self.same("and as many on more threads in as much longer", rows[1], ["monsters", "message", *["10.00"] * 6])
 
     def test_reads_are_timed(self):
         linear = loaded(TOP / "bench/linear")

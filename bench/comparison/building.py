@@ -14,8 +14,9 @@ HEADER = pathlib.Path("/usr/include/flatbuffers/reflection.h")
 COMPILE = ["g++", "-std=c++17", "-O3", "-DNDEBUG", "-Wall", "-Wextra"]
 SOURCE = os.environ.get("FLATBUFFERS_SOURCE")
 # The verifier that goes by a binary schema isn't in the headers: it is linked, or compiled where its source is there.
-REFLECTION = "by_reflection_source" if SOURCE else "by_reflection"
-LIBRARY = [f"{SOURCE}/src/{name}.cpp" for name in ("reflection", "util")] if SOURCE else ["-l:libflatbuffers.a"]
+HOW = "_source" if SOURCE else ""
+REFLECTION = f"by_reflection{HOW}"
+LINKED = [f"{SOURCE}/src/{name}.cpp" for name in ("reflection", "util")] if SOURCE else ["-l:libflatbuffers.a"]
 
 
 class Failed(Exception):
@@ -45,6 +46,12 @@ class Corpus:
     @property
     def schema(self):
         return MADE / f"{self.name}.bfbs"
+
+    @property
+    def cached(self):
+        """So many as stay in the cache of a core, to be timed in process: a fifth of those that are counted."""
+        messages, parts = self.counted.messages, self.counted.parts
+        return Size(messages // 5, parts) if messages > 1 else Size(1, parts // 5)
 
     def units(self, size):
         """What instructions are told by: messages, or the elements of long ones."""
@@ -104,6 +111,11 @@ def generate(corpus):
         run("flatc", "--binary", "--schema", "-o", MADE, source)
 
 
+def made_for(corpus):
+    """The words by which a source is compiled for one corpus."""
+    return [f'-DGENERATED="{corpus.name}_generated.h"', f"-DROOT=compare::{corpus.root}"]
+
+
 def compile_program(name, source, *words, library=()):
     """A program of one source, which may stand on the headers of all schemas, and on a library."""
     made = MADE / name
@@ -117,19 +129,25 @@ def build():
     MADE.mkdir(parents=True, exist_ok=True)
     for corpus in CORPORA:
         generate(corpus)
-    wanted = [("make_messages", "make_messages.cpp"), (REFLECTION, "by_reflection.cpp", *LIBRARY)]
+    wanted = [("make_messages", "make_messages.cpp"), (REFLECTION, "by_reflection.cpp", *LINKED)]
     for corpus in CORPORA:
-        header = f'-DGENERATED="{corpus.name}_generated.h"'
-        wanted.append((f"by_generated_{corpus.name}", "by_generated.cpp", header, f"-DROOT=compare::{corpus.root}"))
+        wanted.append((f"by_generated_{corpus.name}", "by_generated.cpp", *made_for(corpus)))
     with concurrent.futures.ThreadPoolExecutor(os.cpu_count()) as threads:
         list(threads.map(lambda words: compile_program(*words), wanted))
 
 
-def build_library():
-    """The program that calls the library for C, with that library where it is stale."""
+def in_process(corpus):
+    """The program in which all verifiers check messages of this corpus."""
+    return MADE / f"in_process_{corpus.name}{HOW}"
+
+
+def build_in_process():
+    """These programs, and the library for C where it is stale."""
     run(TOP / "build_c")
     archive, header = TOP / "out/libfbcheck.a", TOP / "include/fbcheck.h"
-    compile_program("by_library", "by_library.cpp", f"-I{TOP / 'include'}", archive, library=[archive, header])
+    for corpus in CORPORA:
+        words = [*made_for(corpus), f"-I{header.parent}", archive, *LINKED, "-lpthread"]
+        compile_program(in_process(corpus), "in_process.cpp", *words, library=[archive, header])
 
 
 def messages(corpus, size):
@@ -146,20 +164,10 @@ def messages(corpus, size):
     return made
 
 
-def verifiers_for_cpp(corpus):
-    """How the C++ programs are called on a stream of this corpus, by their names."""
+def commands(corpus, program):
+    """How each program is called on a stream of this corpus, by its name."""
     return {
+        "fbcheck": [program, "--schema", corpus.schema],
         "reflection": [MADE / REFLECTION, corpus.schema],
         "generated": [MADE / f"by_generated_{corpus.name}"],
     }
-
-
-def commands(corpus, program):
-    """How each program is called on a stream of this corpus, by its name."""
-    return {"fbcheck": [program, "--schema", corpus.schema], **verifiers_for_cpp(corpus)}
-
-
-def commands_in_process(corpus):
-    """How each program is called that times a verifier in its own process, by the verifier's name."""
-    called = {"fbcheck": [MADE / "by_library", corpus.schema], **verifiers_for_cpp(corpus)}
-    return {name: [*command, "--timed"] for name, command in called.items()}

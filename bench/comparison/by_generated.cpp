@@ -1,6 +1,6 @@
 // The verifier that flatc generates for one schema. GENERATED is the header that it wrote, and ROOT the root table.
 //
-//   by_generated [--fenced | --timed] < STREAM
+//   by_generated [--fenced] < STREAM
 
 #include GENERATED
 

@@ -6,7 +6,6 @@
 #include <setjmp.h>
 #include <signal.h>
 #include <sys/mman.h>
-#include <time.h>
 #include <unistd.h>
 
 #include <algorithm>
@@ -184,57 +183,9 @@ int verify_fenced(const Verifies &verifies) {
   return 0;
 }
 
-// The processor time of this process by now, in nanoseconds.
-inline double processor_time() {
-  timespec time;
-  if (clock_gettime(CLOCK_PROCESS_CPUTIME_ID, &time) != 0) fail("there is no clock");
-  return 1e9 * static_cast<double>(time.tv_sec) + static_cast<double>(time.tv_nsec);
-}
-
-// Copies of the messages of standard input, one after another, and where each lies.
-class Messages {
- public:
-  Messages() {
-    Input input;
-    size_t length;
-    while (const uint8_t *message = input.next(length)) {
-      places_.emplace_back(bytes_.size(), length);
-      bytes_.insert(bytes_.end(), message, message + length);
-    }
-  }
-
-  // Whether each is good.
-  template <typename Verifies>
-  bool are_good(const Verifies &verifies) const {
-    return std::all_of(places_.begin(), places_.end(), [&](const std::pair<size_t, size_t> &place) {
-      return verifies(bytes_.data() + place.first, place.second);
-    });
-  }
-
- private:
-  std::vector<uint8_t> bytes_;
-  std::vector<std::pair<size_t, size_t>> places_;
-};
-
-// Verifies the messages of standard input where they lie in memory, five times over, and tells the nanoseconds that
-// the best time took for all of them. Each must be good.
-template <typename Verifies>
-int time_stream(const Verifies &verifies) {
-  const Messages messages;
-  double best = std::numeric_limits<double>::max();
-  for (int turn = 0; turn < 5; ++turn) {
-    const double begun = processor_time();
-    if (!messages.are_good(verifies)) fail("a message is refused");
-    best = std::min(best, processor_time() - begun);
-  }
-  std::printf("%.0f\n", best);
-  return 0;
-}
-
 // Does with the messages of standard input what the last word asks for.
 template <typename Verifies>
 int verify_as_asked(const Verifies &verifies, const char *asked) {
-  if (std::strcmp(asked, "--timed") == 0) return time_stream(verifies);
   if (std::strcmp(asked, "--fenced") == 0) return verify_fenced(verifies);
   return verify_stream(verifies);
 }

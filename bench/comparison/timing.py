@@ -1,4 +1,4 @@
-"""What the programs cost: processor time side by side, and instructions by callgrind."""
+"""What the programs cost: processor time side by side, and instructions by callgrind; what calls in a process take."""
 
 import dataclasses
 import os
@@ -8,7 +8,10 @@ import statistics
 import subprocess
 import typing
 
-from building import Failed, commands, commands_in_process, messages
+from building import Failed, commands, in_process, messages
+
+# On how many threads the verifiers are timed in process.
+THREADS = (1, 2, 4)
 
 
 @dataclasses.dataclass(frozen=True)
@@ -42,13 +45,16 @@ def in_turn(called, stream, runs, take):
     return taken
 
 
-def seconds_in_process(command, stream):
-    """The seconds that a verifier takes for a stream that lies in the memory of its process, as that process tells."""
+def time_in_process(corpus, stream, rounds, asked):
+    """The tables of a stream's messages, and the seconds that each of these verifiers takes for all of them in its best
+    round, all in one process and each on so many threads."""
+    words = [in_process(corpus), corpus.schema, str(rounds), *(str(word) for pair in asked for word in pair)]
     with open(stream, "rb") as given:
-        ran = subprocess.run(command, stdin=given, stdout=subprocess.PIPE, stderr=subprocess.PIPE, text=True)
+        ran = subprocess.run(words, stdin=given, capture_output=True, text=True)
     if ran.returncode != 0:
-        raise Failed(f"{command[0]} ended with status {ran.returncode} on {stream}: {ran.stderr}")
-    return float(ran.stdout) / 1e9
+        raise Failed(f"{words[0]} ended with status {ran.returncode} on {stream}: {ran.stderr}")
+    tables, *told = ran.stdout.splitlines()
+    return int(tables.split()[1]), {pair: int(line) / 1e9 for pair, line in zip(asked, told)}
 
 
 def count_instructions(command, stream):
@@ -75,10 +81,10 @@ def instructions(corpus, program):
     }
 
 
-def measure_in_process(corpus, runs):
-    """The cost of each verifier on a corpus in the process that calls it, by its name."""
-    taken = in_turn(commands_in_process(corpus), messages(corpus, corpus.timed), runs, seconds_in_process)
-    return {name: Cost(min(times), statistics.median(times), None) for name, times in taken.items()}
+def measure_in_process(corpus, rounds):
+    """The same of all verifiers on the messages of a corpus, on one thread and on more."""
+    asked = [(name, threads) for threads in THREADS for name in ("fbcheck", "reflection", "generated")]
+    return time_in_process(corpus, messages(corpus, corpus.cached), rounds, asked)
 
 
 def measure(corpus, program, runs):
