@@ -124,6 +124,12 @@ def compile_program(name, source, *words, library=()):
         run(*COMPILE, f"-I{MADE}", f"-I{HERE}", HERE / source, "-o", made, *words)
 
 
+def compile_programs(wanted, library=()):
+    """Such programs, each with the words for it, side by side."""
+    with concurrent.futures.ThreadPoolExecutor(os.cpu_count()) as threads:
+        list(threads.map(lambda words: compile_program(*words, library=library), wanted))
+
+
 def build():
     """All that a comparison stands on, but for the messages and fbcheck."""
     MADE.mkdir(parents=True, exist_ok=True)
@@ -132,8 +138,7 @@ def build():
     wanted = [("make_messages", "make_messages.cpp"), (REFLECTION, "by_reflection.cpp", *LINKED)]
     for corpus in CORPORA:
         wanted.append((f"by_generated_{corpus.name}", "by_generated.cpp", *made_for(corpus)))
-    with concurrent.futures.ThreadPoolExecutor(os.cpu_count()) as threads:
-        list(threads.map(lambda words: compile_program(*words), wanted))
+    compile_programs(wanted)
 
 
 def in_process(corpus):
@@ -145,9 +150,9 @@ def build_in_process():
     """These programs, and the library for C where it is stale."""
     run(TOP / "build_c")
     archive, header = TOP / "out/libfbcheck.a", TOP / "include/fbcheck.h"
-    for corpus in CORPORA:
-        words = [*made_for(corpus), f"-I{header.parent}", archive, *LINKED, "-lpthread"]
-        compile_program(in_process(corpus), "in_process.cpp", *words, library=[archive, header])
+    words = [f"-I{header.parent}", archive, *LINKED, "-lpthread"]
+    wanted = [(in_process(corpus), "in_process.cpp", *made_for(corpus), *words) for corpus in CORPORA]
+    compile_programs(wanted, [archive, header])
 
 
 def messages(corpus, size):
