@@ -446,6 +446,16 @@ class Java(Binding, LibraryCase):
         cls.made(cls.jdk / "bin/javac", "-Xlint:all", "-Werror", "-cp", TOP / "bindings/java/fbcheck.jar", "-d", folder,
                  source)
 
+    def test_jar(self):
+        """A module that Java 22 takes, with its sources beside it."""
+        jar = TOP / "bindings/java/fbcheck.jar"
+        told = ran(self.jdk / "bin/javap", "-v", "-cp", jar, "fbcheck.Schema")[1]
+        self.holds("its classes are of Java 22", "major version: 66" in told)
+        told = ran(self.jdk / "bin/java", "-p", jar, "--describe-module", "fbcheck")[1]
+        self.holds("a module", "exports fbcheck" in told, told)
+        told = ran(self.jdk / "bin/jar", "tf", f"{jar.with_suffix('')}-sources.jar")[1]
+        self.holds("sources", "fbcheck/Schema.java" in told, told)
+
     def pasted(self, folder, code):
         (folder / "Deliveries.java").write_text(code)
         self.compiled_java(folder / "Deliveries.java", folder)
