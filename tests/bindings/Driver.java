@@ -25,6 +25,7 @@ import java.util.ArrayList;
 import java.util.Arrays;
 import java.util.HexFormat;
 import java.util.List;
+import java.util.Locale;
 import java.util.concurrent.atomic.AtomicLong;
 
 final class Driver {
@@ -85,19 +86,15 @@ final class Driver {
 
     private static String text(Value value) {
         return switch (value) {
-            case Value.Absent() -> "absent";
             case Value.NoElement() -> "no-element";
             case Value.OtherMember() -> "other-member";
-            case Value.Bool(boolean set) -> String.valueOf(set);
-            case Value.Int(long number) -> String.valueOf(number);
-            case Value.UInt(long number) -> Long.toUnsignedString(number);
             case Value.Float(double number) -> "float:" + HexFormat.of().formatHex(
                     ByteBuffer.allocate(8).order(ByteOrder.LITTLE_ENDIAN).putDouble(number).array());
             case Value.Text(MemorySegment bytes) -> "text:" + hex(bytes);
             case Value.Struct(MemorySegment bytes) -> "struct:" + hex(bytes);
             case Value.Vector(long length, MemorySegment bytes) -> "vector:" + length + ":" + hex(bytes);
-            case Value.Table() -> "table";
             case Value.Union(int type) -> "union:" + type;
+            default -> value.toString().toLowerCase(Locale.ROOT);
         };
     }
 

@@ -5,28 +5,68 @@ import static java.lang.foreign.ValueLayout.JAVA_BYTE;
 import java.lang.foreign.MemorySegment;
 import java.nio.charset.StandardCharsets;
 
-/** What stands at the end of a path. Bytes are the message's own, where they stand. */
+/**
+ * What stands at the end of a path. Bytes are the message's own, where they stand; numbers in them are little-endian.
+ *
+ * <p>As a text it is the string or number in words, and else the kind, with how many elements a vector has, or a
+ * union's type.
+ */
 public sealed interface Value {
     /** Nothing: the field, or one on the way, is absent and has no default. */
-    record Absent() implements Value {}
+    record Absent() implements Value {
+        @Override
+        public String toString() {
+            return "Absent";
+        }
+    }
 
     /** Nothing: the vector has fewer elements. */
-    record NoElement() implements Value {}
+    record NoElement() implements Value {
+        @Override
+        public String toString() {
+            return "NoElement";
+        }
+    }
 
     /** Nothing: the union has another type. */
-    record OtherMember() implements Value {}
+    record OtherMember() implements Value {
+        @Override
+        public String toString() {
+            return "OtherMember";
+        }
+    }
 
     /** A Bool. */
-    record Bool(boolean value) implements Value {}
+    record Bool(boolean value) implements Value {
+        @Override
+        public String toString() {
+            return Boolean.toString(value);
+        }
+    }
 
     /** A Byte, Short, Int or Long. */
-    record Int(long value) implements Value {}
+    record Int(long value) implements Value {
+        @Override
+        public String toString() {
+            return Long.toString(value);
+        }
+    }
 
-    /** A UType, UByte, UShort, UInt or ULong, which is unsigned. */
-    record UInt(long value) implements Value {}
+    /** A UType, UByte, UShort, UInt or ULong, which is unsigned: {@link Long#toUnsignedString} and the like know it. */
+    record UInt(long value) implements Value {
+        @Override
+        public String toString() {
+            return Long.toUnsignedString(value);
+        }
+    }
 
     /** A Float or Double. */
-    record Float(double value) implements Value {}
+    record Float(double value) implements Value {
+        @Override
+        public String toString() {
+            return Double.toString(value);
+        }
+    }
 
     /** The bytes of a string, which need not be UTF-8. */
     record Text(MemorySegment bytes) implements Value {
@@ -34,17 +74,42 @@ public sealed interface Value {
         public String string() {
             return new String(bytes.toArray(JAVA_BYTE), StandardCharsets.UTF_8);
         }
+
+        @Override
+        public String toString() {
+            return string();
+        }
     }
 
     /** The bytes of a struct as they stand, padding included. */
-    record Struct(MemorySegment bytes) implements Value {}
+    record Struct(MemorySegment bytes) implements Value {
+        @Override
+        public String toString() {
+            return "Struct";
+        }
+    }
 
     /** How many elements a vector has; of scalars and structs their bytes in a row, else none. */
-    record Vector(long length, MemorySegment bytes) implements Value {}
+    record Vector(long length, MemorySegment bytes) implements Value {
+        @Override
+        public String toString() {
+            return "Vector(" + length + ")";
+        }
+    }
 
     /** A table. */
-    record Table() implements Value {}
+    record Table() implements Value {
+        @Override
+        public String toString() {
+            return "Table";
+        }
+    }
 
     /** A union by its type, which is 0 for none. */
-    record Union(int type) implements Value {}
+    record Union(int type) implements Value {
+        @Override
+        public String toString() {
+            return "Union(" + type + ")";
+        }
+    }
 }
