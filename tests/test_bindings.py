@@ -447,7 +447,7 @@ class Java(Binding, LibraryCase):
                  source)
 
     def test_jar(self):
-        """A module that Java 22 takes, with its sources beside it."""
+        """A module that Java 22 takes, with its sources beside it; and what is told where the library isn't found."""
         jar = TOP / "bindings/java/fbcheck.jar"
         told = ran(self.jdk / "bin/javap", "-v", "-cp", jar, "fbcheck.Schema")[1]
         self.holds("its classes are of Java 22", "major version: 66" in told)
@@ -455,6 +455,15 @@ class Java(Binding, LibraryCase):
         self.holds("a module", "exports fbcheck" in told, told)
         told = ran(self.jdk / "bin/jar", "tf", f"{jar.with_suffix('')}-sources.jar")[1]
         self.holds("sources", "fbcheck/Schema.java" in told, told)
+        words = [word.replace(f"{OUT}", "/nowhere") if "library" in word else word for word in map(str, self.driver)]
+        told = ran(*words, given=f"load {ORDERS}\n".encode())
+        want = "UnsatisfiedLinkError: /nowhere/libfbcheck.so.1 can't be opened: -Dfbcheck.library=FILE"
+        self.holds("no library", told[0] == 1 and want in told[2], told)
+
+    def test_room(self):
+        """A stream takes room for its messages, however long they may be."""
+        told = self.told(f"load {ORDERS} prefixed=1", f"stream {STREAM} 7 7 {2 ** 31 - 1}")
+        self.same("good messages", (told[1].count("ok tables="), told[1][-4:]), (5, "\nend"))
 
     def pasted(self, folder, code):
         (folder / "Deliveries.java").write_text(code)

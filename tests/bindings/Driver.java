@@ -139,6 +139,7 @@ final class Driver {
         int number = 0;
         for (Messages.Message message : schema.messages(pieces, Integer.parseInt(words.get(3)))) {
             number++;
+            same(message.verdict(), schema.check(message.bytes()));
             to.println(number + " " + message.verdict());
         }
         return "end";

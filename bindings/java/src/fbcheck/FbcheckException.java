@@ -16,7 +16,7 @@ public class FbcheckException extends RuntimeException {
         NO_ROOT(6, "no root table"),
         /** The schema file has 2^31 bytes or more. */
         TOO_LONG(7, "schema: L5 TooLong"),
-        /** The schema file has a fault. */
+        /** The file is no binary schema, or a damaged one. */
         NOT_WELL_FORMED(8, ""),
         /** Its rows are no schema. */
         BAD_SCHEMA(9, ""),
@@ -47,7 +47,7 @@ public class FbcheckException extends RuntimeException {
             this.text = text;
         }
 
-        private static Status of(int number) {
+        static Status of(int number) {
             for (Status status : values()) {
                 if (status.number == number) {
                     return status;
@@ -89,7 +89,7 @@ public class FbcheckException extends RuntimeException {
     }
 
     /** The exception of this status, of which nothing more is told. */
-    static FbcheckException of(int status) {
-        return of(new long[] {status, 0, 0, 0});
+    static FbcheckException of(Status status) {
+        return new FbcheckException(status, status.text);
     }
 }

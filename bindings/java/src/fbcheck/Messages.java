@@ -1,45 +1,63 @@
 package fbcheck;
 
-import static java.lang.foreign.ValueLayout.JAVA_BYTE;
-import static java.lang.foreign.ValueLayout.JAVA_INT;
-import static java.lang.foreign.ValueLayout.JAVA_LONG;
+import static java.lang.foreign.ValueLayout.JAVA_INT_UNALIGNED;
 
 import java.io.IOException;
 import java.io.InputStream;
 import java.io.UncheckedIOException;
-import java.lang.foreign.Arena;
 import java.lang.foreign.MemorySegment;
+import java.util.Arrays;
 import java.util.Iterator;
 import java.util.NoSuchElementException;
 
 /** The messages of a stream, which are gone through once, by one thread at a time. */
 public final class Messages implements Iterable<Messages.Message>, Iterator<Messages.Message> {
-    /**
-     * A message of a stream.
-     *
-     * @param bytes a copy of it, with its size in front
-     * @param verdict the verdict on it
-     */
-    public record Message(byte[] bytes, Verdict verdict) {}
+    /** A message of a stream, which any thread may use. */
+    public static final class Message {
+        private final Schema schema;
+        private final byte[] bytes;
+        private Verdict verdict;
+
+        private Message(Schema schema, byte[] bytes) {
+            this.schema = schema;
+            this.bytes = bytes;
+        }
+
+        /** Its own bytes, with its size in front. Nothing has checked them: {@link #verdict} does, and the schema. */
+        public byte[] bytes() {
+            return bytes;
+        }
+
+        /** The verdict on it, which is checked when this is asked first. */
+        public synchronized Verdict verdict() {
+            if (verdict == null) {
+                verdict = schema.check(bytes);
+            }
+            return verdict;
+        }
+    }
 
     private final Schema schema;
     private final InputStream stream;
-    private final MemorySegment framer;
-    private final MemorySegment room;
+    private final int maxBytes;
+    private final byte[] small;
     private final byte[] piece = new byte[1 << 16];
+    private final MemorySegment pieces = MemorySegment.ofArray(piece);
     private int at; // what of the piece isn't fed yet
     private int end;
+    private byte[] room; // for the message that is coming
+    private long[] framer;
     private Message next;
 
     Messages(Schema schema, InputStream stream, int maxBytes) {
         if (maxBytes < 8) {
-            throw new IllegalArgumentException("a message of at most " + maxBytes + " bytes");
+            throw new IllegalArgumentException("maxBytes is " + maxBytes + ", and must be 8 at least");
         }
-        Arena arena = Arena.ofAuto();
         this.schema = schema;
         this.stream = stream;
-        framer = arena.allocate(Calls.FRAMER_BYTES, 8);
-        room = Calls.room(maxBytes, arena);
+        this.maxBytes = maxBytes;
+        small = new byte[Math.min(maxBytes, 256)];
+        begin(small);
     }
 
     @Override
@@ -52,7 +70,9 @@ public final class Messages implements Iterable<Messages.Message>, Iterator<Mess
         try {
             while (next == null) {
                 if (feed()) {
-                    take();
+                    int length = (int) framer[0];
+                    next = new Message(schema, room == small ? Arrays.copyOf(room, length) : room);
+                    begin(small);
                 } else if (at == end && !fill()) {
                     return false;
                 }
@@ -73,35 +93,45 @@ public final class Messages implements Iterable<Messages.Message>, Iterator<Mess
         return message;
     }
 
-    /** Feeds what is left of the piece, and tells whether a whole message is held. */
-    private boolean feed() {
-        long[] used = {0};
-        MemorySegment rest = MemorySegment.ofArray(piece).asSlice(at, end - at);
-        int status = Calls.feed(framer, room, rest, MemorySegment.ofArray(used));
-        at += (int) used[0];
-        if (status == Calls.OVERSIZE) {
-            String declared = Integer.toUnsignedString(framer.get(JAVA_INT, 12));
-            throw new FbcheckException(FbcheckException.Status.OVERSIZE, "stream: S1 Oversize declared=" + declared);
-        } else if (status != Calls.OK && status != Calls.MORE) {
-            throw FbcheckException.of(status);
-        }
-        return status == Calls.OK;
+    /** Begins a message in this room. */
+    private void begin(byte[] room) {
+        this.room = room;
+        framer = new long[Calls.FRAMER_LONGS];
     }
 
-    private void take() {
-        byte[] bytes = room.asSlice(0, framer.get(JAVA_LONG, 0)).toArray(JAVA_BYTE);
-        next = new Message(bytes, schema.check(bytes));
-        Calls.next(framer, room);
+    /** Feeds what is left of the piece, and tells whether a whole message is held. */
+    private boolean feed() {
+        int held = (int) framer[0];
+        long[] used = {0};
+        int status = Calls.feed(MemorySegment.ofArray(framer), MemorySegment.ofArray(room),
+                pieces.asSlice(at, end - at), MemorySegment.ofArray(used));
+        at += (int) used[0];
+        if (status == Calls.OK || status == Calls.MORE) {
+            return status == Calls.OK;
+        }
+        FbcheckException.Status why = FbcheckException.Status.of(status);
+        if (why != FbcheckException.Status.OVERSIZE) {
+            throw FbcheckException.of(why);
+        }
+        int declared = Told.high(framer[1]);
+        if (Integer.compareUnsigned(declared, maxBytes - 4) > 0) {
+            throw new FbcheckException(why, "stream: S1 Oversize declared=" + Integer.toUnsignedString(declared));
+        }
+        // Of this message its size alone has come, which is put in front of the piece's rest, and fed once more.
+        at -= held;
+        pieces.set(JAVA_INT_UNALIGNED, at, declared);
+        begin(new byte[declared + 4]);
+        return feed();
     }
 
     /** Reads the next piece, and tells whether there is one. */
     private boolean fill() throws IOException {
-        int length = stream.read(piece);
-        at = 0;
-        end = Math.max(length, 0);
-        if (length < 0 && Calls.finish(framer, room) != Calls.OK) {
-            String held = Long.toString(framer.get(JAVA_LONG, 0));
-            throw new FbcheckException(FbcheckException.Status.TRUNCATED, "stream: S2 Truncated held=" + held);
+        int front = 3; // room for as much of a size as an earlier piece may have had
+        int length = stream.read(piece, front, piece.length - front);
+        at = front;
+        end = front + Math.max(length, 0);
+        if (length < 0 && Calls.finish(MemorySegment.ofArray(framer), MemorySegment.ofArray(room)) != Calls.OK) {
+            throw new FbcheckException(FbcheckException.Status.TRUNCATED, "stream: S2 Truncated held=" + framer[0]);
         }
         return length >= 0;
     }

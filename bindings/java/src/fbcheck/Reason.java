@@ -1,43 +1,37 @@
 package fbcheck;
 
-/** Why a message is refused. As a text it is the code and name, as {@code V10 NoTerminator}. */
+/** Why a message is refused, by the number of its code. As a text it is code and name: {@code V10 NoTerminator}. */
 public enum Reason {
     /** The message has 2^31 bytes or more. Nothing of it was read. */
-    TOO_LONG("TooLong"),
+    TOO_LONG,
     /** The prefix isn't the number of bytes after it. */
-    WRONG_PREFIX("V1 WrongPrefix"),
+    WRONG_PREFIX,
     /** What should be read doesn't lie in the message. */
-    OUT_OF_BUFFER("V2 OutOfBuffer"),
+    OUT_OF_BUFFER,
     /** The position isn't a multiple of the alignment. */
-    MISALIGNED("V3 Misaligned"),
+    MISALIGNED,
     /** An offset is 0. */
-    ZERO_OFFSET("V4 ZeroOffset"),
+    ZERO_OFFSET,
     /** The file identifier isn't the one asked for. */
-    WRONG_IDENTIFIER("V5 WrongIdentifier"),
+    WRONG_IDENTIFIER,
     /** One table more than {@link Options#maxDepth} allows. */
-    TOO_DEEP("V6 TooDeep"),
+    TOO_DEEP,
     /** One table more than {@link Options#maxTables} allows. */
-    TOO_MANY_TABLES("V7 TooManyTables"),
+    TOO_MANY_TABLES,
     /** A vtable's size is odd or below 4. */
-    BAD_VTABLE("V8 BadVtable"),
+    BAD_VTABLE,
     /** A required field is absent. */
-    MISSING_REQUIRED("V9 MissingRequired"),
+    MISSING_REQUIRED,
     /** The byte after a string isn't 0. */
-    NO_TERMINATOR("V10 NoTerminator"),
+    NO_TERMINATOR,
     /** A vector of unions and its vector of types differ in length. */
-    LENGTHS_DIFFER("V11 LengthsDiffer"),
+    LENGTHS_DIFFER,
     /** A field ends past its table's inline size. */
-    PAST_TABLE("V12 PastTable"),
+    PAST_TABLE,
     /** More reads than the options allow. */
-    TOO_MANY_READS("V13 TooManyReads");
+    TOO_MANY_READS;
 
     private static final Reason[] ALL = values();
-
-    private final String text;
-
-    Reason(String text) {
-        this.text = text;
-    }
 
     static Reason of(int code) {
         return ALL[code];
@@ -45,6 +39,6 @@ public enum Reason {
 
     @Override
     public String toString() {
-        return text;
+        return this == TOO_LONG ? "TooLong" : Calls.reasonName(ordinal()).orElseThrow();
     }
 }

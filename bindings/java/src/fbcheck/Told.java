@@ -78,7 +78,7 @@ final class Told {
         return (int) two;
     }
 
-    private static int high(long two) {
+    static int high(long two) {
         return (int) (two >>> 32);
     }
 }
