@@ -426,7 +426,6 @@ class Go(Binding, LibraryCase):
 
 class Java(Binding, LibraryCase):
     language, folder, fence = "Java", "java", "java"
-    closed = "Already closed"
     jdk = jdk_of_22()
     words = ["--enable-native-access=ALL-UNNAMED", f"-Dfbcheck.library={OUT}/libfbcheck.so.1", "-Xms64m", "-Xmx64m",
              "-XX:+AlwaysPreTouch", "-cp"]

@@ -189,12 +189,15 @@ final class Driver {
             if (i == count / 2) {
                 before = kilobytes();
             }
-            try (Schema one = Schema.load(file, Options.DEFAULT)) {
-                same(one.with(Options.DEFAULT.prefixed(true)).check(new byte[0]).ok(), false);
+            try (Schema one = Schema.load(file)) {
+                try (Schema other = one.with(Options.DEFAULT.prefixed(true))) {
+                    same(other.check(new byte[0]).ok(), false);
+                }
+                same(one.check(new byte[0]).ok(), false);
             }
             if (i % 8 == 0) {
                 try {
-                    Schema.load(Arrays.copyOf(file, i % (file.length / 2)), Options.DEFAULT).close();
+                    Schema.load(Arrays.copyOf(file, i % (file.length / 2))).close();
                     throw new AssertionError("a schema");
                 } catch (FbcheckException thrown) {
                     same(thrown.status(), FbcheckException.Status.NOT_WELL_FORMED);
@@ -225,7 +228,7 @@ final class Driver {
     private static String done(List<String> words, PrintStream to) throws IOException, InterruptedException {
         List<String> rest = words.subList(1, words.size());
         switch (words.get(0)) {
-            case "load" -> schema = Schema.load(bytes(rest.get(0)), options(rest.subList(1, rest.size())));
+            case "load" -> schema = Schema.load(Path.of(rest.get(0)), options(rest.subList(1, rest.size())));
             case "with" -> schema = schema.with(options(rest));
             case "close" -> {
                 schema.close();
