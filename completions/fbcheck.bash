@@ -13,8 +13,9 @@ _fbcheck() {
         ;;
     --root | --ident | --path | --max-depth | --max-tables | --max-reads | --reads-per-byte | --max-bytes) ;;
     *)
-        mapfile -t COMPREPLY < <(compgen -W "--schema --root --ident --path --max-depth --max-tables --max-reads \
-            --reads-per-byte --max-bytes --bare --no-alignment --inline-size --quiet --filter --summary --names --help --version" -- "$word")
+        mapfile -t COMPREPLY < <(compgen -W "--schema --root --ident --schema-ident --path --max-depth --max-tables \
+            --max-reads --reads-per-byte --max-bytes --bare --no-alignment --inline-size --quiet --filter --summary --names \
+            --help --version" -- "$word")
         ;;
     esac
 }

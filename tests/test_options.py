@@ -100,6 +100,51 @@ class Options(Case):
             ("no byte", ["--ident="], b"", refused("ident must be four bytes")),
         ])
 
+    def test_the_schema_s_own_identifier_is_wanted(self):
+        declared = lambda ident: file_of("declared.bfbs", schemas.schema([schemas.table("M")], root="M", ident=ident))
+        empty = lambda ident="": spelled("0c000000") + ident.encode().ljust(4, b"\0") + spelled("04000400 04000000")
+        own = lambda ident: ("--schema", declared(ident), "--bare", "--schema-ident")
+        other = bad("1 bad V5 WrongIdentifier at=4 object=0 field=- reads=1")
+        yes = good("1 ok tables=1 depth=1 reads=4")
+        wrong = refused("the schema's identifier isn't four bytes")
+        for name, ident, given, want in [
+            ("the one that it declares", "KIND", empty("KIND"), yes),
+            ("another", "KIND", empty("KINE"), other),
+            ("none", "KIND", empty(), other),
+            ("none declared, and none there", None, empty(), good("1 ok tables=1 depth=1 reads=3")),
+            ("none declared, and one there", None, empty("KIND"), good("1 ok tables=1 depth=1 reads=3")),
+            ("one of five bytes declared", "KINDS", empty("KIND"), wrong),
+            ("one of three", "KIN", empty("KIN"), wrong),
+            ("one of no byte, as flatc writes it where none is declared", "", empty("KIND"),
+             good("1 ok tables=1 depth=1 reads=3")),
+            ("one of two letters of two bytes each", "éé", empty("éé"), yes),
+        ]:
+            self.same(name, run(*own(ident), given=given), want)
+        self.told_alike([
+            ("without a schema, that of schema files", ["--bare", "--schema-ident"], schemas.M,
+             good("1 ok tables=11 depth=4 reads=91")),
+            ("and another", ["--bare", "--schema-ident"], changed(schemas.M, (4, "58")),
+             bad("1 bad V5 WrongIdentifier at=4 object=9 field=- reads=1")),
+            ("an identifier of five bytes that isn't asked for", ("--schema", declared("KINDS"), "--bare"), empty("KIND"),
+             good("1 ok tables=1 depth=1 reads=3")),
+            ("the root comes first", (*own("KINDS"), "--root", "Q"), empty(), refused("no root table")),
+            ("the path too", (*own("KINDS"), "--path", "x"), empty(), refused("path: P2 NoSuchField step=0")),
+            ("beside another", ["--schema-ident", "--ident", "KIND"], b"",
+             refused("ident and schema-ident exclude each other")),
+            ("beside one of three bytes", ["--schema-ident", "--ident", "KIN"], b"", refused("ident must be four bytes")),
+            ("beside another, in a filter with a path",
+             ["--schema-ident", "--ident", "KIND", "--filter", "--path", "x"], b"", refused("a filter takes no path")),
+        ])
+        examples = TOP / "examples"
+        orders, stream = ("--schema", examples / "deliveries.bfbs"), (examples / "deliveries.bin").read_bytes()
+        self.same("what flatc writes", run(*orders, "--schema-ident", given=stream).out,
+                  run(*orders, "--ident", "POST", given=stream).out)
+        other = stream.replace(b"POST", b"PAST")
+        told = run(*orders, "--schema-ident", given=other).out.splitlines()
+        self.same("and changed", [line[1:] for line in told], [b" bad V5 WrongIdentifier at=8 object=1 field=- reads=2"] * 6)
+        ids = TOP / "tests/schema_files/ids.bfbs"
+        self.same("a schema file of flatc that declares none", run("--schema", ids, "--schema-ident"), good())
+
     def test_the_depth_is_limited(self):
         self.told_alike([
             ("64 levels are the default", bare("CHAIN"), levels(64), good("1 ok tables=64 depth=64 reads=255")),
@@ -309,7 +354,7 @@ class Options(Case):
             ["--max-reads", "seven"], ["--max-reads", "1e9"], ["--max-reads="], ["--max-reads"],
             ["--max-reads", "7", "--max-reads", "7"],
             ["--max-bytes", "7"], ["--max-bytes", "2147483648"], ["--max-bytes", "0"],
-            ["--bare", "--bare"], ["--bare=yes"], ["--Bare"], ["-b"],
+            ["--bare", "--bare"], ["--schema-ident", "--schema-ident"], ["--schema-ident=KIND"], ["--bare=yes"], ["--Bare"], ["-b"],
             ["--schema"], ["--root"], ["--ident"], ["--path"], ["--path", "name", "--path", "hp"],
             ["--schema", "a", "--schema", "a"], ["stray"], ["--", "stray"], ["-"], ["--nothing"], [""],
             ["--ident", "ABC", "--nothing"],
@@ -323,7 +368,8 @@ class Options(Case):
         for words in [["--help"], ["-h"], ["--bare", "--help"], ["--help", "--nothing"]]:
             ran = run(*words, given=SEVEN)
             self.same(f"{words} is status 0", (ran.status, ran.err), (0, b""))
-            for name in [*CALL, "--bare", "--quiet", "--help", "--version"]:
+            self.holds(f"{words} tells whence the input comes", b"\nUsage: fbcheck [OPTIONS] < INPUT\n" in ran.out, ran.out)
+            for name in [*CALL, "--schema-ident", "--bare", "--quiet", "--help", "--version"]:
                 self.holds(f"{words} tells of {name}", name.encode() in ran.out, ran.out)
         self.same("help is the same each time", run("-h"), Ran(0, run("--help").out, b""))
 

@@ -8,13 +8,14 @@ use Rattle.fb_access.proofs.OneAnswer.{one_answer}
 use Rattle.fb_bfbs.proofs.OneLoad.{one_answer as one_load}
 use Rattle.fb_bfbs.specs.declared.load_fault.LoadFault.{LoadFault}
 use Rattle.fb_bfbs.specs.declared.load_fault.LoadFault.TheVariants as load
-use Rattle.fb_bfbs.specs.LoadLaws.{Applies}
+use Rattle.fb_bfbs.specs.LoadLaws.{Applies, IsSameLoad, ident_bytes}
+use Rattle.fb_bfbs.specs.declared.loading.Loaded.{Loaded}
 use Rattle.fb_run.specs.Job.{Job, job_of}
-use Rattle.fbcheck.specs.Asked.{AsksBy, IsAsked, IsPath, IsPathFault, HasPathFault, asked_root, options_of}
-use Rattle.fbcheck.specs.Checking.{Asks, IsSchema, IsNoSchema, schema_limits}
+use Rattle.fbcheck.specs.Asked.{AsksBy, IsAsked, IsPath, IsPathFault, HasPathFault, LacksIdent, Own, asked_root, options_of}
+use Rattle.fbcheck.specs.Checking.{Asks, IsSchema, IsNoSchema, own_of, schema_limits}
 use Rattle.fbcheck_words.specs.declared.choices.Settings.{Settings}
 use Rattle.fbcheck.specs.declared.fault.AskFault.{AskFault}
-use Rattle.fbcheck.specs.declared.fault.AskFault.TheVariants.{Load, Path, NoRoot}
+use Rattle.fbcheck.specs.declared.fault.AskFault.TheVariants.{Load, Path, NoRoot, NoIdent}
 
 module _ (rows : Rows) (root : ℕ) where
   one_path : (text : Option (List ℕ)) (x y : Option (List Step)) → IsPath rows root text x → IsPath rows root text y → x ≡ y
@@ -41,7 +42,7 @@ same_root r n m e f = let w : Some n ≡ Some m = sym e ∙ f in cc
 no_root_or_one : (r : Option ℕ) (n : ℕ) → r ≡ Some n → r ≡ None → ⊥
 no_root_or_one r n e f = let w : Some n ≡ None = sym e ∙ f in cc
 
-module _ (rows : Rows) (own : Option ℕ) (settings : Settings) where
+module _ (rows : Rows) (own : Own) (settings : Settings) where
   abbrev path_text : Option (List ℕ)
   path_text = option_map string_bytes settings.path
 
@@ -49,7 +50,18 @@ module _ (rows : Rows) (own : Option ℕ) (settings : Settings) where
   one_job x y h i =
       let r = same_root (asked_root rows own settings) h.root i.root h.root_is i.root_is in
       let s = one_path rows i.root path_text h.steps i.steps (subst (λ n. IsPath rows n path_text h.steps) r h.steps_are) i.steps_are in
-      h.job_is ∙ ap (λ n. job_of rows (options_of settings n h.steps)) r ∙ ap (λ t. job_of rows (options_of settings i.root t)) s ∙ sym i.job_is
+      let w : Some h.ident ≡ Some i.ident = sym h.ident_is ∙ i.ident_is in
+      let a : h.ident ≡ i.ident = cc in
+      h.job_is ∙ ap (λ n. job_of rows (options_of settings n h.steps h.ident)) r ∙ ap (λ t. job_of rows (options_of settings i.root t h.ident)) s
+      ∙ ap (λ d. job_of rows (options_of settings i.root i.steps d)) a ∙ sym i.job_is
+
+  job_or_no_ident : (x : Job) → IsAsked rows own settings x → LacksIdent rows own settings → ⊥
+  job_or_no_ident x h i = let w : Some h.ident ≡ None = sym h.ident_is ∙ i.none in cc
+
+  no_ident_or_path_fault : (f : PathFault) → LacksIdent rows own settings → HasPathFault rows own settings f → ⊥
+  no_ident_or_path_fault f h i =
+      let r = same_root (asked_root rows own settings) h.root i.0 h.root_is i.1 in
+      steps_or_fault rows i.0 path_text h.steps f (subst (λ n. IsPath rows n path_text h.steps) r h.steps_are) i.2
 
   job_or_path_fault : (x : Job) (f : PathFault) → IsAsked rows own settings x → HasPathFault rows own settings f → ⊥
   job_or_path_fault x f h i =
@@ -65,6 +77,13 @@ module _ (rows : Rows) (own : Option ℕ) (settings : Settings) where
   asks_by_once (Ok x) (Ok y) h i = ap Ok (one_job x y h i)
   asks_by_once (Ok x) (Err NoRoot) h i = absurd (no_root_or_one (asked_root rows own settings) h.root h.root_is i)
   asks_by_once (Ok x) (Err (Path f)) h i = absurd (job_or_path_fault x f h i)
+  asks_by_once (Ok x) (Err NoIdent) h i = absurd (job_or_no_ident x h i)
+  asks_by_once (Err NoIdent) (Ok y) h i = absurd (job_or_no_ident y i h)
+  asks_by_once (Err NoIdent) (Err NoIdent) h i = refl
+  asks_by_once (Err NoIdent) (Err NoRoot) h i = absurd (no_root_or_one (asked_root rows own settings) h.root h.root_is i)
+  asks_by_once (Err NoIdent) (Err (Path g)) h i = absurd (no_ident_or_path_fault g h i)
+  asks_by_once (Err NoRoot) (Err NoIdent) h i = absurd (no_root_or_one (asked_root rows own settings) i.root i.root_is h)
+  asks_by_once (Err (Path f)) (Err NoIdent) h i = absurd (no_ident_or_path_fault f i h)
   asks_by_once (Err NoRoot) (Ok y) h i = absurd (no_root_or_one (asked_root rows own settings) i.root i.root_is h)
   asks_by_once (Err NoRoot) (Err NoRoot) h i = refl
   asks_by_once (Err NoRoot) (Err (Path g)) h i = absurd (no_root_or_one (asked_root rows own settings) i.0 i.1 h)
@@ -74,6 +93,7 @@ module _ (rows : Rows) (own : Option ℕ) (settings : Settings) where
   asks_by_once (Ok x) (Err _) h i = absurd i
   asks_by_once (Err NoRoot) (Err _) h i = absurd i
   asks_by_once (Err (Path f)) (Err _) h i = absurd i
+  asks_by_once (Err NoIdent) (Err _) h i = absurd i
   asks_by_once (Err _) y h i = absurd h
 
 -- a file that gives no schema has that fault
@@ -85,7 +105,7 @@ as_fault bytes load.RootNotListed h = h
 as_fault bytes load.TooLong h = h
 as_fault bytes load.TooMuchShared h = h
 
-schema_or_none : (file : Option (Bor (List ℕ))) (rows : Rows) (own : Option ℕ) (f : LoadFault) → IsSchema file rows own → IsNoSchema file f → ⊥
+schema_or_none : (file : Option (Bor (List ℕ))) (rows : Rows) (own : Own) (f : LoadFault) → IsSchema file rows own → IsNoSchema file f → ⊥
 schema_or_none None rows own f h i = i
 schema_or_none (Some bytes) rows own f h i = one_load bytes.now (schema_limits (length bytes.now)) (Ok h.0) (Err f) h.1 (as_fault bytes f i)
 
@@ -93,21 +113,25 @@ one_no_schema : (file : Option (Bor (List ℕ))) (f g : LoadFault) → IsNoSchem
 one_no_schema None f g h i = absurd h
 one_no_schema (Some bytes) f g h i = one_load bytes.now (schema_limits (length bytes.now)) (Err f) (Err g) (as_fault bytes f h) (as_fault bytes g i)
 
-same_rows : (file : Option (Bor (List ℕ))) (rows others : Rows) (own other : Option ℕ) → IsSchema file rows own → IsSchema file others other → rows ≡ others
+same_rows : (file : Option (Bor (List ℕ))) (rows others : Rows) (own other : Own) → IsSchema file rows own → IsSchema file others other → rows ≡ others
 same_rows None rows others own other h i = h.0 ∙ sym i.0
 same_rows (Some bytes) rows others own other h i =
     let e = one_load bytes.now (schema_limits (length bytes.now)) (Ok h.0) (Ok i.0) h.1 i.1 in
     h.2 ∙ e.schema ∙ sym i.2
 
-same_own : (file : Option (Bor (List ℕ))) (rows others : Rows) (own other : Option ℕ) → IsSchema file rows own → IsSchema file others other → own ≡ other
+same_own_of : (x y : Loaded) → IsSameLoad x y → own_of x ≡ own_of y
+same_own_of x y same =
+    ap (λ r. record { root = r; ident = ident_bytes x.ident }) same.root ∙ ap (λ t. record { root = y.root; ident = t }) same.ident
+
+same_own : (file : Option (Bor (List ℕ))) (rows others : Rows) (own other : Own) → IsSchema file rows own → IsSchema file others other → own ≡ other
 same_own None rows others own other h i = h.1 ∙ sym i.1
 same_own (Some bytes) rows others own other h i =
     let e = one_load bytes.now (schema_limits (length bytes.now)) (Ok h.0) (Ok i.0) h.1 i.1 in
-    h.3 ∙ e.root ∙ sym i.3
+    h.3 ∙ same_own_of h.0 i.0 e ∙ sym i.3
 
 -- what is asked by the rows of a file
 abbrev AsksOf : Option (Bor (List ℕ)) → Settings → Result Job AskFault → Type 0
-AsksOf file settings answer = (rows : Rows) × (own : Option ℕ) × IsSchema file rows own × AsksBy rows own settings answer
+AsksOf file settings answer = (rows : Rows) × (own : Own) × IsSchema file rows own × AsksBy rows own settings answer
 
 of_one_file : (file : Option (Bor (List ℕ))) (settings : Settings) (x y : Result Job AskFault) → AsksOf file settings x → AsksOf file settings y → x ≡ y
 of_one_file file settings x y h i =

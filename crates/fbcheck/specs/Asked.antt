@@ -1,5 +1,5 @@
 -- What the settings ask, by a schema that has a root table of its own, or none.
-use Rattle.std.specs.Prelude.{◌≡◌, ℕ, Bool, true, false, List, Option, Some, None, Result, Ok, Err, option_map, string_bytes}
+use Rattle.std.specs.Prelude.{◌≡◌, ℕ, Bool, true, false, List, Option, Some, None, Result, Ok, Err, option_map, string_bytes, length, ◌==◌, if◌then◌else◌}
 use Rattle.fb_schema.specs.Rows.{Rows, table_named}
 use Rattle.fb_access.specs.declared.step.Step.{Step}
 use Rattle.fb_access.specs.declared.path_fault.PathFault.{PathFault}
@@ -14,16 +14,21 @@ use Rattle.fb_run.specs.declared.options.Places.{Places}
 use Rattle.fb_run.specs.declared.options.Places.TheVariants.{Numbers, Words}
 use Rattle.fb_run.specs.declared.options.Options.{Options}
 use Rattle.fbcheck.specs.declared.fault.AskFault.{AskFault}
-use Rattle.fbcheck.specs.declared.fault.AskFault.TheVariants.{Path, NoRoot, OutOfMemory}
+use Rattle.fbcheck.specs.declared.fault.AskFault.TheVariants.{Path, NoRoot, NoIdent, OutOfMemory}
 
 -- the root table: the listed one of the name that is asked for, or else the schema's own
 abbrev pub root_of : Rows → Option (List ℕ) → Option ℕ → Option ℕ
 root_of rows None own = own
 root_of rows (Some name) own = table_named rows name
 
+-- what a schema has of its own: its root table and the bytes of its file identifier, where it declares them
+pub record Own : Type 0 where
+  pub root : Option ℕ
+  pub ident : Option (List ℕ)
+
 -- the root table that the settings ask for
-abbrev pub asked_root : Rows → Option ℕ → Settings → Option ℕ
-asked_root rows own settings = root_of rows (option_map string_bytes settings.root) own
+abbrev pub asked_root : Rows → Own → Settings → Option ℕ
+asked_root rows own settings = root_of rows (option_map string_bytes settings.root) own.root
 
 -- the steps from the root that a text names, where there is one
 abbrev pub IsPath : Rows → ℕ → Option (List ℕ) → Option (List Step) → Type 0
@@ -41,6 +46,16 @@ abbrev pub ident_of : Option (List ℕ) → Ident
 ident_of None = Any
 ident_of (Some bytes) = Want bytes
 
+-- the identifier that a schema's own asks for: any where it declares none, which `flatc` writes as one of no bytes, and
+-- none where it hasn't four
+abbrev pub own_ident : Option (List ℕ) → Option Ident
+own_ident None = Some Any
+own_ident (Some bytes) = if length bytes == 0 then Some Any else (if length bytes == 4 then Some (Want bytes) else None)
+
+-- the identifier that the settings ask for: the schema's own where they say so, or else that of the settings
+abbrev pub asked_ident : Own → Settings → Option Ident
+asked_ident own settings = if settings.schema_ident then own_ident own.ident else Some (ident_of settings.ident)
+
 -- what is told of the buffers, by whether they are filtered and whether there are no lines of good ones
 abbrev pub mode_of : Bool → Bool → Mode
 mode_of true quiet = Filter
@@ -52,11 +67,11 @@ abbrev pub places_of : Bool → Places
 places_of true = Words
 places_of false = Numbers
 
--- what the settings ask of each buffer, from this root and with these steps to the value
-abbrev pub options_of : Settings → ℕ → Option (List Step) → Options
-options_of settings root steps = record {
+-- what the settings ask of each buffer, from this root, with these steps to the value and this identifier
+abbrev pub options_of : Settings → ℕ → Option (List Step) → Ident → Options
+options_of settings root steps ident = record {
   root = root;
-  ident = ident_of settings.ident;
+  ident = ident;
   path = steps;
   limits = record { depth = settings.depth; tables = settings.tables; reads = Some settings.reads };
   reads_per_byte = settings.reads_per_byte;
@@ -67,25 +82,36 @@ options_of settings root steps = record {
   names = places_of settings.names;
 }
 
--- the buffers are checked from the root and with the path that the settings ask for
-pub record IsAsked (rows : Rows) (own : Option ℕ) (settings : Settings) (job : Job) : Type 0 where
+-- the buffers are checked from the root, with the path and by the identifier that the settings ask for
+pub record IsAsked (rows : Rows) (own : Own) (settings : Settings) (job : Job) : Type 0 where
   pub root : ℕ
   pub root_is : asked_root rows own settings ≡ Some root
   pub steps : Option (List Step)
   pub steps_are : IsPath rows root (option_map string_bytes settings.path) steps
-  pub job_is : job ≡ job_of rows (options_of settings root steps)
+  pub ident : Ident
+  pub ident_is : asked_ident own settings ≡ Some ident
+  pub job_is : job ≡ job_of rows (options_of settings root steps ident)
+
+-- the settings ask for a root and a path, and for the schema's own identifier, which hasn't four bytes
+pub record LacksIdent (rows : Rows) (own : Own) (settings : Settings) : Type 0 where
+  pub root : ℕ
+  pub root_is : asked_root rows own settings ≡ Some root
+  pub steps : Option (List Step)
+  pub steps_are : IsPath rows root (option_map string_bytes settings.path) steps
+  pub none : asked_ident own settings ≡ None
 
 -- the path that the settings ask for has this fault from the root
-abbrev pub HasPathFault : Rows → Option ℕ → Settings → PathFault → Type 0
+abbrev pub HasPathFault : Rows → Own → Settings → PathFault → Type 0
 HasPathFault rows own settings fault =
     (root : ℕ) × (asked_root rows own settings ≡ Some root) × IsPathFault rows root (option_map string_bytes settings.path) fault
 
--- by these rows and this own root, the settings ask that the buffers are checked by a job, or have nothing to check
+-- by these rows and what the schema has of its own, the settings ask that the buffers are checked by a job, or have nothing to check
 -- them by
-abbrev pub AsksBy : Rows → Option ℕ → Settings → Result Job AskFault → Type 0
+abbrev pub AsksBy : Rows → Own → Settings → Result Job AskFault → Type 0
 AsksBy rows own settings (Ok job) = IsAsked rows own settings job
 AsksBy rows own settings (Err NoRoot) = asked_root rows own settings ≡ None
 AsksBy rows own settings (Err (Path fault)) = HasPathFault rows own settings fault
+AsksBy rows own settings (Err NoIdent) = LacksIdent rows own settings
 AsksBy rows own settings (Err _) = ⊥
 
 -- why a text gives no path

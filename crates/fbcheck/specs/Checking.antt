@@ -1,5 +1,5 @@
 -- A run by the schema of a file, or without one by the fixed table of schema files.
-use Rattle.std.specs.Prelude.{◌≡◌, ℕ, List, Option, Some, None, Result, Ok, Err, min, length}
+use Rattle.std.specs.Prelude.{◌≡◌, ℕ, Bool, List, Option, Some, None, Result, Ok, Err, min, length, codes}
 use Rattle.std.specs.Borrow.{Bor}
 use Rattle.std.specs.Io.KnownBytes.{Keeps}
 use Rattle.fb_schema.specs.Rows.{Rows}
@@ -9,7 +9,8 @@ use Rattle.fb_bfbs.specs.Loads.{IsLoaded, IsLoadFault, schema_number}
 use Rattle.fb_bfbs.specs.declared.loading.Loaded.{Loaded}
 use Rattle.fb_bfbs.specs.declared.load_fault.LoadFault.{LoadFault}
 use Rattle.fb_bfbs.specs.declared.load_fault.LoadFault.TheVariants as load
-use Rattle.fbcheck.specs.Asked.{AsksBy}
+use Rattle.fb_bfbs.specs.LoadLaws.{ident_bytes}
+use Rattle.fbcheck.specs.Asked.{AsksBy, Own}
 use Rattle.fb_run.specs.Ends.{Ends, Unwritten}
 use Rattle.fb_run.specs.Job.{Job}
 use Rattle.fb_run.specs.Prompt.{IsPrompt}
@@ -28,10 +29,18 @@ use Rattle.fb_run.specs.declared.tally.Tally.{Tally}
 abbrev pub schema_limits : ℕ → Bounds
 schema_limits len = limits_of_length (record { depth = 64; tables = 1000000; reads = Some 100000000 }) 64 (min len 2147483647)
 
--- the rows of a schema file and the root table that it names; without a file the fixed table, and its table Schema
-abbrev pub IsSchema : Option (Bor (List ℕ)) → Rows → Option ℕ → Type 0
-IsSchema None rows own = (rows ≡ fixed) × (own ≡ Some schema_number)
-IsSchema (Some bytes) rows own = (loaded : Loaded) × IsLoaded bytes.now (schema_limits (length bytes.now)) loaded × (rows ≡ loaded.schema) × (own ≡ loaded.root)
+-- the root table and the identifier of a schema that was loaded
+abbrev pub own_of : Loaded → Own
+own_of loaded = record { root = loaded.root; ident = ident_bytes loaded.ident }
+
+-- what reflection.fbs declares: its table Schema and the identifier of schema files
+abbrev pub fixed_own : Own
+fixed_own = record { root = Some schema_number; ident = Some (codes "BFBS") }
+
+-- the rows of a schema file and what it has of its own; without a file the fixed table, and what reflection.fbs has
+abbrev pub IsSchema : Option (Bor (List ℕ)) → Rows → Own → Type 0
+IsSchema None rows own = (rows ≡ fixed) × (own ≡ fixed_own)
+IsSchema (Some bytes) rows own = (loaded : Loaded) × IsLoaded bytes.now (schema_limits (length bytes.now)) loaded × (rows ≡ loaded.schema) × (own ≡ own_of loaded)
 
 -- why a schema file gives no schema
 abbrev pub IsNoSchema : Option (Bor (List ℕ)) → LoadFault → Type 0
@@ -43,7 +52,7 @@ IsNoSchema (Some bytes) fault = IsLoadFault bytes.now (schema_limits (length byt
 -- by, and why
 abbrev pub Asks : Option (Bor (List ℕ)) → Settings → Result Job AskFault → Type 0
 Asks file settings (Err (Load fault)) = IsNoSchema file fault
-Asks file settings answer = (rows : Rows) × (own : Option ℕ) × IsSchema file rows own × AsksBy rows own settings answer
+Asks file settings answer = (rows : Rows) × (own : Own) × IsSchema file rows own × AsksBy rows own settings answer
 
 -- why there is no schema, where memory may be refused
 abbrev pub LacksSchema : Option (Bor (List ℕ)) → AskFault → Type 0

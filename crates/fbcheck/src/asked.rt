@@ -1,9 +1,10 @@
 //! What a schema file, or none, and the settings of the command line ask of a run.
 
-ghost use Rattle.std.specs.Prelude.{IfOk, IfErr, IfSome, IsTrue, Ok, ◌≡◌, ◌≤◌, option_map, string_bytes};
+ghost use Rattle.std.specs.Prelude.{ℕ, Option, IfOk, IfErr, IfSome, IsTrue, Ok, ◌≡◌, ◌≤◌, option_map, string_bytes};
 ghost use Rattle.fb_schema.specs.Rows.{is_table};
-ghost use Rattle.fbcheck.specs.Asked.{IsPath, PathFails, ident_of, mode_of, options_of, places_of, root_of};
-ghost use Rattle.fbcheck.specs.Checking.{Asks, IsSchema, LacksJob, LacksSchema, schema_limits};
+ghost use Rattle.fb_bfbs.specs.LoadLaws.{ident_bytes};
+ghost use Rattle.fbcheck.specs.Asked.{IsPath, PathFails, asked_ident, ident_of, mode_of, options_of, own_ident, places_of, root_of};
+ghost use Rattle.fbcheck.specs.Checking.{Asks, IsSchema, LacksJob, LacksSchema, own_of, schema_limits};
 ghost use Rattle.fbcheck_words.specs.Ranges.{AreInRange};
 ghost use Rattle.fb_run.specs.Job.{PathFits, Serves, job_of};
 
@@ -31,10 +32,11 @@ fn schema_limits(length: u64) -> Limits
     limits.of_length(64, length.min(LONGEST))
 }
 
-/// The schema of a schema file with its root table; without a file the fixed table, with its table `Schema`.
+/// The schema of a schema file with its root table and identifier; without a file the fixed table, with its table
+/// `Schema` and the identifier of schema files.
 #[tactic(auto, using(crate::proofs::AskedLemmas::schema_is_table))]
 fn schema_of(alloc: Global, schema_bytes: Option<&[u8]>) -> Result<Loaded<'_>, AskFault>
-    ensures schema { IfOk result (λ loaded. IsSchema schema_bytes.entry loaded.schema loaded.root) }
+    ensures schema { IfOk result (λ loaded. IsSchema schema_bytes.entry loaded.schema (own_of loaded)) }
     ensures table { IfOk result (λ loaded. IfSome loaded.root (λ n. IsTrue (is_table loaded.schema n))) }
     ensures no { IfErr result (LacksSchema schema_bytes.entry) }
 {
@@ -43,7 +45,7 @@ fn schema_of(alloc: Global, schema_bytes: Option<&[u8]>) -> Result<Loaded<'_>, A
         None => Ok(Loaded {
             schema: reflection(alloc)?,
             root: Some(SCHEMA),
-            ident: None,
+            ident: Some(b"BFBS"),
         }),
     }
 }
@@ -88,6 +90,29 @@ fn wanted(ident: Option<[u8; 4]>) -> Ident
     }
 }
 
+/// The identifier that a schema's own asks for: any where it declares none, which `flatc` writes as one of no bytes,
+/// and none where it hasn't four.
+fn own_ident(own: Option<&[u8]>) -> Option<Ident>
+    ensures { result ≡ own_ident (ident_bytes own.entry) }
+{
+    match own {
+        None | Some(&[]) => Some(Ident::Any),
+        Some(&[a, b, c, d]) => Some(Ident::Want([a, b, c, d])),
+        Some(_) => None,
+    }
+}
+
+/// The identifier that the settings ask for: the schema's own where they say so, or else that of the settings.
+fn find_ident(settings: &Settings, own: Option<&[u8]>) -> Option<Ident>
+    ensures { (root : Option ℕ) → result ≡ asked_ident (record { root = root; ident = ident_bytes own.entry }) settings.now }
+{
+    if settings.schema_ident {
+        own_ident(own)
+    } else {
+        Some(wanted(settings.ident))
+    }
+}
+
 /// What is told of the buffers.
 fn mode(settings: &Settings) -> Mode
     ensures { result ≡ mode_of settings.now.filter settings.now.quiet }
@@ -112,17 +137,17 @@ fn places(settings: &Settings) -> Places
     }
 }
 
-/// What the settings ask of each buffer, from this root and with this path.
-fn options(settings: &Settings, root: u32, path: Option<Path>) -> Options
+/// What the settings ask of each buffer, from this root, with this path and this identifier.
+fn options(settings: &Settings, root: u32, path: Option<Path>, ident: Ident) -> Options
     requires { AreInRange settings.now }
-    ensures { result ≡ options_of settings.now root path }
+    ensures { result ≡ options_of settings.now root path ident }
 {
     let Ok(limits) = Limits::new(settings.depth, settings.tables) else {
         unreachable!()
     };
     Options {
         root,
-        ident: wanted(settings.ident),
+        ident,
         path,
         limits: limits.with_reads(settings.reads),
         reads_per_byte: settings.reads_per_byte,
@@ -149,8 +174,9 @@ pub struct Asked<'b> {
 ///
 /// # Errors
 ///
-/// `Load` where the schema file gives no schema, then `NoRoot` where there is no root table, and then `Path` where the
-/// path isn't one from there; `OutOfMemory` in place of any where memory was refused.
+/// `Load` where the schema file gives no schema, then `NoRoot` where there is no root table, then `Path` where the path
+/// isn't one from there, and then `NoIdent` where the schema's own identifier is asked for and hasn't four bytes;
+/// `OutOfMemory` in place of any where memory was refused.
 pub fn asked_of<'b>(
     alloc: Global,
     schema_bytes: Option<&'b [u8]>,
@@ -161,9 +187,18 @@ pub fn asked_of<'b>(
     ensures serves { IfOk result (λ asked. Serves asked.schema asked.options) }
     ensures none { IfErr result (LacksJob schema_bytes.entry settings.now) }
 {
-    let Loaded { schema, root, .. } = schema_of(alloc, schema_bytes)?;
-    let root = find_root(&schema, &settings.root, root).ok_or(AskFault::NoRoot)?;
+    let Loaded {
+        schema,
+        root,
+        ident,
+    } = schema_of(alloc, schema_bytes)?;
+    let Some(root) = find_root(&schema, &settings.root, root) else {
+        return Err(AskFault::NoRoot);
+    };
     let path = find_path(alloc, &schema, root, &settings.path)?;
-    let options = options(settings, root, path);
+    let Some(ident) = find_ident(settings, ident) else {
+        return Err(AskFault::NoIdent);
+    };
+    let options = options(settings, root, path, ident);
     Ok(Asked { schema, options })
 }

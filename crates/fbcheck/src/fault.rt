@@ -23,6 +23,9 @@ pub enum AskFault {
     /// type's.
     #[error("path: {0}")]
     Path(PathFault),
+    /// The schema's own identifier is asked for, and it hasn't four bytes.
+    #[error("the schema's identifier isn't four bytes")]
+    NoIdent,
     /// Memory was refused.
     #[error("out of memory")]
     OutOfMemory,
@@ -70,7 +73,7 @@ impl From<PathFault> for AskFault {
 }
 
 impl AskFault {
-    /// The exit status: 2 where the schema file, the root or the path is wrong, 3 for want of memory.
+    /// The exit status: 2 where the schema file, the root, the path or the identifier is wrong, 3 for want of memory.
     pub fn status(&self) -> u8
         ensures { result ≡ ask_status self.now }
     {

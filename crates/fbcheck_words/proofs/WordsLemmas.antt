@@ -14,6 +14,7 @@ use Rattle.clap.proofs.OnLiterals.{clap_on_literals}
 use Rattle.clap.proofs.WalkLemmas.{first_value-rows, one_text-rows}
 use Rattle.fbcheck_words.specs.CommandLine.{program}
 use Rattle.fbcheck_words.specs.Matched.{IsReadOf}
+use Rattle.fbcheck_words.specs.Refusal.{IsPathless}
 use Rattle.fbcheck_words.specs.Values.{IsGiven, IsNumberOf, IsWrittenIn, text_of}
 
 simple : is_simple program ≡ true
@@ -63,6 +64,18 @@ some_text (Some found) text is same = (string_bytes found, sym same)
 some_text None text is same =
     let bad : false ≡ true = is in
     absurd cc
+
+-- the same of an identifier
+pub some_ident : (ident text : Option Text) → is_some ident ≡ true → ident ≡ text → (t : Text) × (text ≡ Some t)
+some_ident (Some ident) text is same = (ident, sym same)
+some_ident None text is same =
+    let bad : false ≡ true = is in
+    absurd cc
+
+-- a filter without a path is one by the words too
+pub pathless : {A : Type 0} (words : List Text) (filter : Bool) (path : Option (String A)) → IsTrue filter ↔ IsGiven (codes "filter") words
+    → option_map string_bytes path ≡ text_of (codes "path") words → (IsTrue filter → path ≡ None) → IsPathless words
+pathless words filter path told same apart given = sym same ∙ ap (option_map string_bytes) (apart (told.1 given))
 
 -- a flag that is turned round
 pub turned : (b : Bool) (P : Type 0) → IsTrue b ↔ P → (not b ≡ false) ↔ P

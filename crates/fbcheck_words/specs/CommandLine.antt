@@ -51,8 +51,11 @@ flag_rule name = record (new_rule name) { long = Some name; action = Some SetTru
 abbrev pub named : App
 named = on_top (λ s. record s { has_version = true; has_long_version = true }) (new_app (codes "fbcheck"))
 
+abbrev pub sources : App
+sources = with_rule (with_rule named (text_rule (codes "schema"))) (text_rule (codes "root"))
+
 abbrev pub texts : App
-texts = with_rule (with_rule (with_rule (with_rule named (text_rule (codes "schema"))) (text_rule (codes "root"))) (text_rule (codes "ident"))) (text_rule (codes "path"))
+texts = with_rule (with_rule (with_rule sources (text_rule (codes "ident"))) (flag_rule (codes "schema-ident"))) (text_rule (codes "path"))
 
 abbrev pub numbers : App
 numbers = with_rule (with_rule (with_rule (with_rule (with_rule texts depth_rule) tables_rule) reads_rule) by_length_rule) bytes_rule

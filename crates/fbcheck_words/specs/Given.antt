@@ -13,6 +13,8 @@ pub record AreGiven (given : List Text) (settings : Settings) : Type 0 where
   pub root : option_map string_bytes settings.root ≡ text_of (codes "root") given
   pub ident : settings.ident ≡ text_of (codes "ident") given
   pub four : IfSome settings.ident (λ bytes. length bytes ≡ 4)
+  pub schema_ident : IsTrue settings.schema_ident ↔ IsGiven (codes "schema-ident") given
+  pub one_ident : IsTrue settings.schema_ident → settings.ident ≡ None
   pub path : option_map string_bytes settings.path ≡ text_of (codes "path") given
   pub depth : IsNumberOf (codes "max-depth") 0 4096 given settings.depth
   pub tables : IsNumberOf (codes "max-tables") 0 4294967295 given settings.tables

@@ -15,6 +15,8 @@ pub struct Settings {
     pub root: Option<String>,
     /// The file identifier that each buffer must have (`--ident`). None: any.
     pub ident: Option<[u8; 4]>,
+    /// Whether it must have the schema's own (`--schema-ident`); `ident` is none then.
+    pub schema_ident: bool,
     /// The path whose value each yes line ends with (`--path`).
     pub path: Option<String>,
     /// How many tables may stand one inside another, 0 to 4,096 (`--max-depth`, 64).
@@ -56,6 +58,9 @@ pub enum SettingsFault {
     /// The words are read, and ask for a filter together with a path.
     #[error("a filter takes no path")]
     PathInFilter,
+    /// The words are read, and ask for an identifier and for the schema's own.
+    #[error("ident and schema-ident exclude each other")]
+    TwoIdents,
     /// No memory was to be had.
     #[error("out of memory")]
     OutOfMemory,
@@ -70,7 +75,7 @@ impl SettingsFault {
         match self {
             SettingsFault::Usage(error) if error.use_stderr() => 2,
             SettingsFault::Usage(_) => 0,
-            SettingsFault::BadIdent | SettingsFault::PathInFilter => 2,
+            SettingsFault::BadIdent | SettingsFault::PathInFilter | SettingsFault::TwoIdents => 2,
             SettingsFault::OutOfMemory => 3,
         }
     }

@@ -34,7 +34,7 @@ struct Choice<'a> {
 
 /// All options, in the order of help. As a constant they would be built anew in the loop's function, text by text,
 /// which is dear to prove.
-static CHOICES: [Choice<'static>; 16] = [
+static CHOICES: [Choice<'static>; 17] = [
     Choice {
         name: "schema",
         takes: Takes::Text("FILE"),
@@ -49,6 +49,11 @@ static CHOICES: [Choice<'static>; 16] = [
         name: "ident",
         takes: Takes::Text("XXXX"),
         help: "The file identifier that each buffer must have",
+    },
+    Choice {
+        name: "schema-ident",
+        takes: Takes::Nothing,
+        help: "Each buffer must have the schema's own file identifier, where it declares one",
     },
     Choice {
         name: "path",
@@ -141,6 +146,7 @@ fn named<'a>(alloc: Global) -> Command<'a>
 {
     Command::new(alloc, "fbcheck")
         .about("Checks size-prefixed FlatBuffers on standard input against a binary schema")
+        .override_usage("fbcheck [OPTIONS] < INPUT")
         .version(VERSION)
         .long_version(LONG_VERSION)
 }

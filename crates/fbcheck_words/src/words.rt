@@ -19,7 +19,8 @@ use std::alloc::{AllocError, Global};
 /// # Errors
 ///
 /// `Usage` where `clap` refuses them, help included, `BadIdent` where it reads them and the identifier isn't four bytes
-/// long, then `PathInFilter` where they ask for a filter and a path, and `OutOfMemory` for want of memory.
+/// long, then `PathInFilter` where they ask for a filter and a path, then `TwoIdents` where they ask for an identifier
+/// and for the schema's own, and `OutOfMemory` for want of memory.
 pub fn settings(alloc: Global, words: &[String]) -> Result<Settings, SettingsFault>
     ensures given { IfOk result (AreGiven (map string_bytes words.now)) }
     ensures ranges { IfOk result AreInRange }
@@ -29,6 +30,7 @@ pub fn settings(alloc: Global, words: &[String]) -> Result<Settings, SettingsFau
     let Ok(ident) = identifier(&matches) else {
         return Err(SettingsFault::BadIdent);
     };
+    let schema_ident = flag(&matches, "schema-ident");
     let Ok(schema) = copied(alloc, &matches, "schema") else {
         return Err(SettingsFault::OutOfMemory);
     };
@@ -53,10 +55,14 @@ pub fn settings(alloc: Global, words: &[String]) -> Result<Settings, SettingsFau
     if filter && path.is_some() {
         return Err(SettingsFault::PathInFilter);
     }
+    if schema_ident && ident.is_some() {
+        return Err(SettingsFault::TwoIdents);
+    }
     Ok(Settings {
         schema,
         root,
         ident,
+        schema_ident,
         path,
         depth,
         tables,
