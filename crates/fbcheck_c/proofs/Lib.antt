@@ -5,6 +5,7 @@ pub mod MemberLemmas
 pub mod NameLemmas
 pub mod Owned
 pub mod PlaceLemmas
+pub mod Shown
 pub mod SpanLemmas
 pub mod StandLemmas
 pub mod StepLemmas

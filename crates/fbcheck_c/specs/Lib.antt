@@ -10,5 +10,6 @@ pub mod Values
 pub mod Reached
 pub mod Placed
 pub mod Names
+pub mod Examples
 -- What a handle owns.
 pub mod Owns

@@ -18,6 +18,7 @@ ghost use Rattle.fbcheck_c.specs.declared.answer.Answer.{Answer};
 mod answer;
 mod checking;
 mod detached;
+mod examples;
 mod fits;
 mod framer;
 mod handle;
