@@ -39,7 +39,7 @@ class LibraryOnThreads(LibraryCase):
         sane = self.compiled("loads_sane", TOP / "tests/c/loads.c", *SANITIZED, *STATIC)
         status, _, err = ran(sane, ALL, bare, 2_000)
         self.same("and none under the sanitizers leaks", (status, err), (0, ""))
-        heapless = self.compiled("heapless", TOP / "tests/c/heapless.c", *SHARED)
+        heapless = self.compiled("heapless", TOP / "tests/c/heapless.c", *SHARED, "-lpthread")
         small, orc = file_of("M.bfbs", schemas.M), file_of("orc", ORC)
         self.same("no other call asks for memory", ran(heapless, small, orc, "name"), (0, "", ""))
 

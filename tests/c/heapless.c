@@ -1,9 +1,11 @@
 /*
- * Makes every call but those that make and free something, with a scratch and without, while a request for memory ends
- * the process: heapless SCHEMA.bfbs BUFFER PATH, of which the buffer is good. Only fbcheck_resolve may ask.
+ * Makes every call but those that make and free something, with a scratch and without, in a thread with 32 KB of stack,
+ * while a request for memory ends the process: heapless SCHEMA.bfbs BUFFER PATH, of which the buffer is good. Only
+ * fbcheck_resolve may ask.
  */
 #include <fbcheck.h>
 #include <fcntl.h>
+#include <pthread.h>
 #include <stdlib.h>
 #include <string.h>
 #include <unistd.h>
@@ -11,6 +13,9 @@
 static uint8_t bytes[2][65536];
 static size_t lengths[2];
 static int is_shut;
+static fbcheck_schema *schema;
+static fbcheck_scratch *scratch;
+static fbcheck_path path;
 
 void *__libc_malloc(size_t size);
 void *__libc_realloc(void *old, size_t size);
@@ -38,7 +43,7 @@ static void read_file(int which, const char *path)
     lengths[which] = (size_t)length;
 }
 
-static void call_each(const fbcheck_schema *schema, fbcheck_scratch *scratch, const fbcheck_path *path)
+static void call_each(fbcheck_scratch *scratch)
 {
     char name[64];
     uint64_t reads;
@@ -54,7 +59,7 @@ static void call_each(const fbcheck_schema *schema, fbcheck_scratch *scratch, co
     if (fbcheck_verify(schema, scratch, NULL, bytes[1], lengths[1], verdicts) != FBCHECK_OK
         || fbcheck_verify(schema, scratch, NULL, bytes[1], 3, verdicts) != FBCHECK_BAD
         || fbcheck_verify_each(schema, scratch, NULL, bytes[1], lengths[1], spans, verdicts, 2) != FBCHECK_BAD
-        || fbcheck_read(schema, scratch, NULL, bytes[1], lengths[1], path, &value, 1, verdicts) != FBCHECK_OK
+        || fbcheck_read(schema, scratch, NULL, bytes[1], lengths[1], &path, &value, 1, verdicts) != FBCHECK_OK
         || fbcheck_locate(schema, scratch, NULL, bytes[1], lengths[1], name, 64, &written, verdicts) != FBCHECK_OK
         || fbcheck_locate(schema, scratch, NULL, bytes[1], 3, name, 64, &written, verdicts) != FBCHECK_BAD
         || fbcheck_most_reads(schema, NULL, 99, &reads) != FBCHECK_OK
@@ -71,11 +76,19 @@ static void call_each(const fbcheck_schema *schema, fbcheck_scratch *scratch, co
         _exit(4);
 }
 
+static void *call_all(void *unused)
+{
+    is_shut = 1;
+    call_each(NULL);
+    call_each(scratch);
+    is_shut = 0;
+    return unused;
+}
+
 int main(int count, char **words)
 {
-    fbcheck_schema *schema;
-    fbcheck_scratch *scratch;
-    fbcheck_path path;
+    pthread_attr_t small;
+    pthread_t thread;
     if (count != 4)
         return 2;
     read_file(0, words[1]);
@@ -85,10 +98,9 @@ int main(int count, char **words)
     if (schema == NULL || scratch == NULL
         || fbcheck_resolve(schema, NULL, words[3], strlen(words[3]), &path, NULL) != FBCHECK_OK)
         return 5;
-    is_shut = 1;
-    call_each(schema, NULL, &path);
-    call_each(schema, scratch, &path);
-    is_shut = 0;
+    if (pthread_attr_init(&small) != 0 || pthread_attr_setstacksize(&small, 32768) != 0
+        || pthread_create(&thread, &small, call_all, NULL) != 0 || pthread_join(thread, NULL) != 0)
+        return 6;
     fbcheck_scratch_free(scratch);
     fbcheck_schema_free(schema);
     return 0;
