@@ -10,8 +10,8 @@ from tests.support.buffers import MEMBER, ORC, PLAIN, SEVEN
 from tests.support.builder import changed, prefixed, spelled
 from tests.support.cases import Case
 from tests.support.program import (
-    FOLDER, PROGRAM, SECONDS, Ran, Talk, bad, failed, file_of, good, lines, refused, run, run_broken_off, run_in_shell,
-    run_starved,
+    FOLDER, PROGRAM, SECONDS, Ran, Talk, bad, failed, fieldless, file_of, good, lines, refused, rootless, run,
+    run_broken_off, run_in_shell, run_starved,
 )
 from tests.support.schemas import (
     INT, LONG, SHORT, TEXT, a_struct, a_union, an_object, array, field, schema, table, union,
@@ -20,6 +20,8 @@ from tests.support.schemas import (
 FILES = schemas.files()
 BY_M = ("--schema", FILES["M"], "--bare")
 BY_N = ("--schema", FILES["N"])
+LIKE_JSON = "this looks like JSON"
+LIKE_TEXT = "this looks like a schema's text (.fbs): flatc --binary --schema makes the .bfbs"
 SEVENS = "1 ok tables=1 depth=1 reads=5", "2 ok tables=1 depth=1 reads=5"
 
 
@@ -69,20 +71,27 @@ class Faults(Case):
                   refused("ident must be four bytes"))
 
     def test_unreadable_schema_files(self):
-        unreadable = refused("cannot read schema")
-        self.same("one that isn't there", run("--schema", FOLDER / "nowhere.bfbs", given=SEVEN), unreadable)
-        self.same("a folder", run("--schema", FOLDER, given=SEVEN), unreadable)
-        self.same("an empty name", run("--schema=", given=SEVEN), unreadable)
-        self.same("below a file", run("--schema", FILES["M"] / "below", given=SEVEN), unreadable)
-        self.same("a name that is too long", run("--schema", "n" * 5000, given=SEVEN), unreadable)
-        self.same("before a root that isn't there", run("--schema", FOLDER, "--root", "Q"), unreadable)
         circle = FOLDER / "circle"
         circle.symlink_to(circle)
-        self.same("a link to itself", run("--schema", circle), unreadable)
+        long = "n" * 5000
+        for name, path, words, told in [
+            ("one that isn't there", FOLDER / "nowhere.bfbs", [], "no such file"),
+            ("a folder", FOLDER, [], "is a directory"),
+            ("an empty name", "", [], "no such file"),
+            ("below a file", FILES["M"] / "below", [], "not a directory"),
+            ("a name that is too long", long, [], "invalid file name"),
+            ("before a root that isn't there", FOLDER, ["--root", "Q"], "is a directory"),
+            ("a link to itself", circle, [], "too many links"),
+        ]:
+            got = run("--schema", path, *words, given=SEVEN)
+            self.same(name, got, refused(f"cannot read schema {path}: {told}"))
         if os.geteuid():
             locked = file_of("locked", schemas.M)
             locked.chmod(0)
-            self.same("one that may not be read", run("--schema", locked), unreadable)
+            self.same("one that may not be read", run("--schema", locked),
+                      refused(f"cannot read schema {locked}: permission denied"))
+        self.same("a name that breaks lines", run("--schema", 'a\nb\\"ö'),
+                  refused(r'cannot read schema a\x0ab\\\"\xc3\xb6: no such file'))
 
     def test_schema_files_that_are_no_plain_files(self):
         self.same("a pipe with a schema", run_by_pipe(schemas.M), good("1 ok tables=1 depth=1 reads=8"))
@@ -98,6 +107,7 @@ class Faults(Case):
                   bad("1 bad V2 OutOfBuffer at=0 object=0 field=- reads=0"))
 
     def test_schema_files_that_are_not_well_formed(self):
+        wrong = "V5 WrongIdentifier at=4 object=9 field=- reads=1"
         for name, data, want in [
             ("empty", b"", "V2 OutOfBuffer at=4 object=9 field=- reads=0"),
             ("the root offset alone", schemas.M[:4], "V2 OutOfBuffer at=4 object=9 field=- reads=0"),
@@ -105,7 +115,14 @@ class Faults(Case):
             ("another identifier", changed(schemas.M, (4, "58")), "V5 WrongIdentifier at=4 object=9 field=- reads=1"),
             ("behind a prefix", prefixed(schemas.M), "V5 WrongIdentifier at=4 object=9 field=- reads=1"),
             ("no objects", changed(schemas.M, (12, "0000")), "V9 MissingRequired at=24 object=9 field=0 reads=5"),
-            ("a text", b"table M { hp: short; }", "V5 WrongIdentifier at=4 object=9 field=- reads=1"),
+            ("a text", b"table M { hp: short; }", f"{wrong}; {LIKE_TEXT}"),
+            ("a text behind blanks", b"\r\n\t // M\ntable M {}", f"{wrong}; {LIKE_TEXT}"),
+            ("JSON", b'{"hp": 300, "name": "Orc"}', f"{wrong}; {LIKE_JSON}"),
+            ("JSON behind blanks", b'\n\t [{"hp": 300}]', f"{wrong}; {LIKE_JSON}"),
+            ("one byte of JSON", b"{", f"V2 OutOfBuffer at=4 object=9 field=- reads=0; {LIKE_JSON}"),
+            ("16 bytes of JSON, and others", b'{"name": "a\\u0a0' + b"\xff" * 9, f"{wrong}; {LIKE_JSON}"),
+            ("15 bytes of JSON, and another", b'{"name": "Orc",\xff', wrong),
+            ("a byte that no text has", b"table M \x7f { hp: short; }", wrong),
         ]:
             got = run("--schema", file_of("ill.bfbs", data), "--bare", given=ORC)
             self.same(name, got, refused(f"schema: L1 {want}"))
@@ -152,10 +169,10 @@ class Faults(Case):
                   good("1 ok tables=1 depth=1 reads=3"))
 
     def test_roots_of_schema_files(self):
-        rootless = file_of("rootless.bfbs", changed(schemas.M, (20, "0000")))
-        self.same("none, and none is asked for", run("--schema", rootless, given=SEVEN), refused("no root table"))
-        self.same("none, and a path", run("--schema", rootless, "--path", "name", given=ORC), refused("no root table"))
-        self.same("none, but one is asked for", run("--schema", rootless, "--root", "M", "--bare", given=ORC),
+        own = file_of("rootless.bfbs", changed(schemas.M, (20, "0000")))
+        self.same("none, and none is asked for", run("--schema", own, given=SEVEN), rootless(None, "M"))
+        self.same("none, and a path", run("--schema", own, "--path", "name", given=ORC), rootless(None, "M"))
+        self.same("none, but one is asked for", run("--schema", own, "--root", "M", "--bare", given=ORC),
                   good("1 ok tables=1 depth=1 reads=8"))
         listed = refused("schema: L3 RootNotListed")
         self.same("one of no object", run("--schema", file_of("none.bfbs", changed(schemas.M, (44, "00000000")))),
@@ -164,6 +181,22 @@ class Faults(Case):
         self.same("one that isn't listed", run("--schema", file_of("other.bfbs", other), "--root", "T"), listed)
         struct_root = schema([a_struct("S", 8, 8, field("x", LONG, 0))], root="S")
         self.same("a struct", run("--schema", file_of("struct.bfbs", struct_root)), listed)
+
+    def test_names_that_are_told(self):
+        fields = [field(f"f{number:02}", INT, 4 + 2 * number) for number in range(11)]
+        structs = [a_struct(f"S{number:02}", 4, 4, field("x", INT, 0)) for number in range(20)]
+        for many in (0, 1, 9, 10, 11):
+            tables = [f"T{number:02}" for number in range(many)]
+            path = file_of("tables.bfbs", schema([*structs, *map(table, tables)]))
+            self.same(f"{many} tables among structs", run("--schema", path, "--root", "S00"), rootless("S00", *tables))
+            path = file_of("fields.bfbs", schema([table("T", *fields[:many])], root="T"))
+            self.same(f"{many} fields", run("--schema", path, "--path", "x"),
+                      fieldless(*[f"f{number:02}" for number in range(many)]))
+        rows = [field("z", INT, 8), field("old", INT, 6, deprecated=True), field("a", INT, 4)]
+        path = file_of("order.bfbs", schema([table("T", *rows), table("a b\n\"")], root="T"))
+        self.same("live ones by their slots", run("--schema", path, "--path", "old"), fieldless("a", "z"))
+        self.same("names that break lines", run("--schema", path, "--root", "\x07é"),
+                  rootless(r"\x07\xc3\xa9", "T", r'a b\x0a\"'))
 
     def test_a_schema_file_of_two_gibibytes(self):
         huge = FOLDER / "huge.bfbs"
@@ -179,7 +212,6 @@ class Faults(Case):
         for root, fault, paths in [
             ("R", "P1 BadText at", {"": 0, "u..v": 2, "u[01]": 3, "u.": 2, "u ": 1}),
             ("Q", "P1 BadText at", {"us[4294967296]": 12}),
-            ("R", "P2 NoSuchField step", {"x": 0}),
             ("R", "P3 NotIndexable step", {"u[0]": 1}),
             ("Q", "P4 NotAUnion step", {"us@A": 1}),
             ("R", "P5 NoSuchMember step", {"u@Z": 1, "u@NONE": 1}),
@@ -188,7 +220,10 @@ class Faults(Case):
             for path, place in paths.items():
                 got = run("--schema", FILES["X"], "--root", root, f"--path={path}", given=MEMBER)
                 self.same(f"{path!r} from {root}", got, refused(f"path: {fault}={place}"))
-        self.same("the root comes before the path", run(*BY_M, "--root", "Q", "--path", "x"), refused("no root table"))
+        self.same("no such field", run("--schema", FILES["X"], "--root", "R", "--path", "x"), fieldless("u_type", "u"))
+        self.same("nor one of a member", run("--schema", FILES["X"], "--root", "R", "--path", "u@A.x"),
+                  refused("path: P2 NoSuchField step=2"))
+        self.same("the root comes before the path", run(*BY_M, "--root", "Q", "--path", "x"), rootless("Q", "M"))
         self.same("the schema comes before the root", run("--schema", "/dev/null", "--root", "Q", "--path", "x"),
                   refused("schema: L1 V2 OutOfBuffer at=4 object=9 field=- reads=0"))
 

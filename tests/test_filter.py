@@ -4,7 +4,7 @@ from tests.support import schemas
 from tests.support.buffers import BY_POST, NOTHING, ODD, ORC, POST, SEVEN
 from tests.support.builder import messages_of, prefixed, spelled
 from tests.support.cases import Case
-from tests.support.program import SECONDS, Ran, Talk, lines, refused, run, run_in_shell
+from tests.support.program import SECONDS, Ran, Talk, lines, refused, rootless, run, run_in_shell
 
 FILES = schemas.files()
 BY_M = ("--schema", FILES["M"], "--filter")
@@ -149,6 +149,6 @@ class Filter(Case):
         self.same("before the schema file is read", run("--schema", "/none/such", "--filter", "--path", "v"),
                   refused("a filter takes no path"))
         self.same("no schema, which passes schema files", run("--bare", "--filter", given=schemas.M), passed(schemas.M))
-        self.same("another root", run(*BY_N, "--root", "Q", given=SEVEN), refused("no root table"))
+        self.same("another root", run(*BY_N, "--root", "Q", given=SEVEN), rootless("Q", "N"))
         self.same("twice", run(*BY_N, "--filter").status, 2)
         self.same("with a value", run("--filter=yes").status, 2)

@@ -8,9 +8,11 @@ from tests.support import buffers, schemas
 from tests.support.buffers import ASKEW, MEMBER, ODD_MEMBER, ORC, PLAIN, SEVEN, TWINS, levels
 from tests.support.builder import changed, prefixed, spelled
 from tests.support.cases import Case
-from tests.support.program import SECONDS, TOP, Ran, bad, failed, file_of, good, refused, run
+from tests.support.program import SECONDS, TOP, Ran, bad, failed, fieldless, file_of, good, refused, rootless, run
 
 FILES = schemas.files()
+X = "A", "R", "Q"
+REFLECTION = [f"reflection.{name}" for name in schemas.REFLECTION]
 
 
 def by(name, *words):
@@ -66,18 +68,20 @@ class Options(Case):
             ("that root by its name", bare("X", "--root", "Q"), MEMBER, by_q),
             ("another root", bare("X", "--root", "R"), MEMBER, good("1 ok tables=2 depth=2 reads=11")),
             ("a table below", bare("X", "--root=A"), PLAIN, good("1 ok tables=1 depth=1 reads=3")),
-            ("a struct is no root", bare("X", "--root", "W"), MEMBER, refused("no root table")),
-            ("a name that isn't there", bare("X", "--root", "Z"), MEMBER, refused("no root table")),
-            ("a front of a name", bare("NODE", "--root", "Nod"), TWINS, refused("no root table")),
-            ("a name of another case", bare("M", "--root", "m"), ORC, refused("no root table")),
-            ("an empty name", bare("M", "--root="), ORC, refused("no root table")),
-            ("a field's name is no root", bare("M", "--root", "name"), ORC, refused("no root table")),
-            ("a schema file's name is no root", bare("M", "--root", str(FILES["M"])), ORC, refused("no root table")),
+            ("a struct is no root", bare("X", "--root", "W"), MEMBER, rootless("W", *X)),
+            ("a name that isn't there", bare("X", "--root", "Z"), MEMBER, rootless("Z", *X)),
+            ("a front of a name", bare("NODE", "--root", "Nod"), TWINS, rootless("Nod", "Node")),
+            ("a name of another case", bare("M", "--root", "m"), ORC, rootless("m", "M")),
+            ("an empty name", bare("M", "--root="), ORC, rootless("", "M")),
+            ("a field's name is no root", bare("M", "--root", "name"), ORC, rootless("name", "M")),
+            ("a schema file's name is no root", bare("M", "--root", str(FILES["M"])), ORC,
+             rootless(str(FILES["M"]), "M")),
             ("without a schema, a table of schema files", ["--bare", "--root", "reflection.Type"], PLAIN,
              good("1 ok tables=1 depth=1 reads=3")),
             ("without a schema, the usual root by name", ["--bare", "--root", "reflection.Schema"], schemas.M,
              good("1 ok tables=11 depth=4 reads=90")),
-            ("without a schema, a short name", ["--bare", "--root", "Schema"], schemas.M, refused("no root table")),
+            ("without a schema, a short name", ["--bare", "--root", "Schema"], schemas.M,
+             rootless("Schema", *REFLECTION)),
         ])
 
     def test_the_identifier_is_wanted(self):
@@ -127,8 +131,8 @@ class Options(Case):
              bad("1 bad V5 WrongIdentifier at=4 object=9 field=- reads=1")),
             ("an identifier of five bytes that isn't asked for", ("--schema", declared("KINDS"), "--bare"), empty("KIND"),
              good("1 ok tables=1 depth=1 reads=3")),
-            ("the root comes first", (*own("KINDS"), "--root", "Q"), empty(), refused("no root table")),
-            ("the path too", (*own("KINDS"), "--path", "x"), empty(), refused("path: P2 NoSuchField step=0")),
+            ("the root comes first", (*own("KINDS"), "--root", "Q"), empty(), rootless("Q", "M")),
+            ("the path too", (*own("KINDS"), "--path", "x"), empty(), fieldless()),
             ("beside another", ["--schema-ident", "--ident", "KIND"], b"",
              refused("ident and schema-ident exclude each other")),
             ("beside one of three bytes", ["--schema-ident", "--ident", "KIN"], b"", refused("ident must be four bytes")),
@@ -315,8 +319,8 @@ class Options(Case):
 
     def test_each_option_left_out_of_all(self):
         for name, want in [
-            ("--schema", refused("no root table")),
-            ("--root", refused("path: P2 NoSuchField step=0")),
+            ("--schema", rootless("R", *REFLECTION)),
+            ("--root", fieldless("us_type", "us")),
             ("--ident", good("1 ok tables=2 depth=2 reads=14 5")),
             ("--path", good("1 ok tables=2 depth=2 reads=15")),
             ("--max-depth", good("1 ok tables=2 depth=2 reads=15 5")),
@@ -332,8 +336,8 @@ class Options(Case):
 
     def test_each_option_changed_among_all(self):
         for name, value, want in [
-            ("--schema", FILES["M"], refused("no root table")),
-            ("--root", "A", refused("path: P2 NoSuchField step=0")),
+            ("--schema", FILES["M"], rootless("R", "M")),
+            ("--root", "A", fieldless("v")),
             ("--ident", "MEMO", bad("1 bad V5 WrongIdentifier at=8 object=2 field=- reads=2")),
             ("--path", "u@T", good("1 ok tables=2 depth=2 reads=15 other-member")),
             ("--max-depth", "1", bad("1 bad V6 TooDeep at=40 object=2 field=1 reads=11")),

@@ -6,7 +6,8 @@ from tests.support.builder import changed, prefixed, spelled
 from tests.support.cases import Case
 from tests.support.preloaded import ALONE, WITH_LATER, narrowed, sweep
 from tests.support.program import (
-    PROGRAM, SECONDS, Ran, Talk, lines, refused, run, run_broken_off, run_in_shell, run_starved, waiting,
+    PROGRAM, SECONDS, Ran, Talk, fieldless, lines, refused, rootless, run, run_broken_off, run_in_shell, run_starved,
+    waiting,
 )
 
 FILES = schemas.files()
@@ -198,9 +199,9 @@ class Summary(Case):
     def test_where_no_run_begins(self):
         for name, words, want in [
             ("a wrong identifier", ["--ident", "ABC"], refused("ident must be four bytes")),
-            ("no schema file", ["--schema", "/nowhere"], refused("cannot read schema")),
-            ("no such root", ["--root", "Q"], refused("no root table")),
-            ("no such path", ["--schema", FILES["N"], "--path", "w"], refused("path: P2 NoSuchField step=0")),
+            ("no schema file", ["--schema", "/nowhere"], refused("cannot read schema /nowhere: no such file")),
+            ("no such root", ["--schema", FILES["N"], "--root", "Q"], rootless("Q", "N")),
+            ("no such path", ["--schema", FILES["N"], "--path", "w"], fieldless("v")),
         ]:
             self.same(f"no summary: {name}", run("--summary", *words, given=SEVEN), want)
         self.same("no summary of help", run("--summary", "--help"), run("--help"))

@@ -8,7 +8,7 @@ from tests.support import schemas
 from tests.support.buffers import ASKEW, HALVES, MEMBER, MEMBERS, ORC, PLACED, PLAIN, SEVEN, TWINS, UNEQUAL, lower_type
 from tests.support.builder import buffer, changed, prefixed, spelled
 from tests.support.cases import Case
-from tests.support.program import PROGRAM, SECONDS, TOP, bad, file_of, good, refused, run
+from tests.support.program import PROGRAM, SECONDS, TOP, bad, fieldless, file_of, good, run
 from tests.support.schemas import (
     BOOL, BYTE, DOUBLE, FLOAT, INT, LONG, SHORT, TEXT, U_BYTE, U_INT, U_LONG, U_SHORT, U_TYPE, field, schema, table,
     vector,
@@ -129,7 +129,7 @@ class Values(Case):
         data = buffer({0: ("I", 2**32 - 1), 1: "here"})
         self.same("a deprecated field isn't checked", value(path, data, "--path", "now"), (0, True, '"here"'))
         self.same("and can't be named", run("--schema", path, "--path", "old", given=data),
-                  refused("path: P2 NoSuchField step=0"))
+                  fieldless("now"))
 
     def test_values_of_the_examples(self):
         """Beside the text that flatc made the messages of; the fifth message is broken, and has no value."""

@@ -91,6 +91,21 @@ def refused(text):
     return Ran(2, b"", lines(f"fbcheck: {text}"))
 
 
+def listed(names):
+    """Names as they are told behind a fault: up to ten, and whether there are more."""
+    return "".join(f" {name}" for name in names[:10]) + " .." * (len(names) > 10)
+
+
+def rootless(name, *tables):
+    """A run without a root table: the name that was asked for, or none, and the tables that there are."""
+    return refused(f"no root table{'' if name is None else ' ' + name}; tables:{listed(tables)}")
+
+
+def fieldless(*fields):
+    """A run with a path whose first name is no field of the root table, which has these."""
+    return refused(f"path: P2 NoSuchField step=0; fields:{listed(fields)}")
+
+
 def failed(text, *before):
     """A run that a fault ended, told by this text, with the lines that were written by then."""
     return Ran(3, lines(*before), lines(f"fbcheck: {text}"))

@@ -29,4 +29,5 @@ pub use options::{Mode, Options, Places};
 pub use reading::MOST_TURNS;
 pub use run::{Ran, run_beside, run_within};
 pub use tally::Tally;
+pub use value_text::put_bytes;
 pub use writing::{Nowhere, push_all};

@@ -1,3 +1,5 @@
 mod AskedLemmas
+mod HintLemmas
+mod NoteLemmas
 mod OneAsk
 mod ServingLemmas

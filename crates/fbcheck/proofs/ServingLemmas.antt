@@ -31,7 +31,7 @@ module _ (gives : Text → Result (List ℕ) FileFault → Type 0) where
   comes_unserved given reader writer writer' notes fault (Ok (Checked tally)) refuses never = absurd never
   comes_unserved given reader writer writer' notes fault (Err (stop.Run cause)) refuses never = absurd never
   comes_unserved given reader writer writer' notes fault (Err (stop.Ask cause)) refuses never = absurd never
-  comes_unserved given reader writer writer' notes fault (Err (stop.File cause)) refuses never = absurd never
+  comes_unserved given reader writer writer' notes fault (Err (stop.File cause hint)) refuses never = absurd never
   comes_unserved given reader writer writer' notes fault (Err (stop.Unsummed written)) refuses never = absurd never
   comes_unserved given reader writer writer' notes fault outcome refuses unserved = ((fault, refuses, Keeps-refl reader.left, unserved, Keeps-refl notes.bytes), refl)
 

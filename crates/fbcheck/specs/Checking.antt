@@ -1,5 +1,5 @@
 -- A run by the schema of a file, or without one by the fixed table of schema files.
-use Rattle.std.specs.Prelude.{◌≡◌, ℕ, Bool, List, Option, Some, None, Result, Ok, Err, min, length, codes}
+use Rattle.std.specs.Prelude.{◌≡◌, ℕ, Bool, List, Option, Some, None, Result, Ok, Err, min, length, codes, option_map, string_bytes}
 use Rattle.std.specs.Borrow.{Bor}
 use Rattle.std.specs.Io.KnownBytes.{Keeps}
 use Rattle.fb_schema.specs.Rows.{Rows}
@@ -10,14 +10,16 @@ use Rattle.fb_bfbs.specs.declared.loading.Loaded.{Loaded}
 use Rattle.fb_bfbs.specs.declared.load_fault.LoadFault.{LoadFault}
 use Rattle.fb_bfbs.specs.declared.load_fault.LoadFault.TheVariants as load
 use Rattle.fb_bfbs.specs.LoadLaws.{ident_bytes}
-use Rattle.fbcheck.specs.Asked.{AsksBy, Own}
+use Rattle.fbcheck.specs.Asked.{AsksBy, Own, asked_root}
+use Rattle.fbcheck.specs.Hints.{hint_text, path_hint, root_hint, schema_hint}
 use Rattle.fb_run.specs.Ends.{Ends, Unwritten}
 use Rattle.fb_run.specs.Job.{Job}
 use Rattle.fb_run.specs.Prompt.{IsPrompt}
 use Rattle.fb_run.specs.Run.{IsRunBeside}
 use Rattle.fbcheck_words.specs.declared.choices.Settings.{Settings}
 use Rattle.fbcheck.specs.declared.fault.AskFault.{AskFault}
-use Rattle.fbcheck.specs.declared.fault.AskFault.TheVariants.{Load, OutOfMemory}
+use Rattle.fbcheck.specs.declared.fault.AskFault.TheVariants.{Load, NoRoot, Path, OutOfMemory}
+use Rattle.fbcheck.specs.declared.hint.Unasked.{Unasked}
 use Rattle.fbcheck.specs.declared.fault.CheckFault.{CheckFault}
 use Rattle.fbcheck.specs.declared.fault.CheckFault.TheVariants as check
 use Rattle.fb_run.specs.Faults.{End, EndsBeside, IsUnfailed, failures_of}
@@ -65,6 +67,18 @@ abbrev pub LacksJob : Option (Bor (List ℕ)) → Settings → AskFault → Type
 LacksJob file settings OutOfMemory = Unit {0}
 LacksJob file settings fault = Asks file settings (Err fault)
 
+-- this is told behind a fault of what a schema file, or none, and the settings ask
+abbrev pub IsHint : Option (Bor (List ℕ)) → Settings → AskFault → List ℕ → Type 0
+IsHint file settings (Load fault) text = text ≡ schema_hint file
+IsHint file settings NoRoot text = (rows : Rows) × (own : Own) × IsSchema file rows own × (text ≡ root_hint rows (option_map string_bytes settings.root))
+IsHint file settings (Path fault) text = (rows : Rows) × (own : Own) × (root : ℕ) × IsSchema file rows own × (asked_root rows own settings ≡ Some root) × (text ≡ path_hint rows root (Path fault))
+IsHint file settings _ text = text ≡ codes "\n"
+
+-- there is nothing to check by, for this fault, and this is told behind it
+pub record IsUntold (file : Option (Bor (List ℕ))) (settings : Settings) (unasked : Unasked) : Type 0 where
+  pub lacks : LacksJob file settings unasked.fault
+  pub hint : IsHint file settings unasked.fault (hint_text unasked.hint)
+
 -- nothing was read, written or noted
 abbrev pub IsIdle : Ends → Ends → Type 0
 IsIdle before after = Keeps before.reader.left after.reader.left × Unwritten before.outs after.outs
@@ -74,9 +88,9 @@ abbrev pub RunsAsAsked : Option (Bor (List ℕ)) → Settings → Ends → Ends 
 RunsAsAsked file settings before after tally end = (job : Job) × Asks file settings (Ok job) × IsRunBeside job before after tally end
 
 -- the same where it may be that no run began, since nothing was asked for or memory was refused before
-abbrev pub IsCheckedBeside : Option (Bor (List ℕ)) → Settings → Ends → Ends → Result Ran AskFault → Type 0
+abbrev pub IsCheckedBeside : Option (Bor (List ℕ)) → Settings → Ends → Ends → Result Ran Unasked → Type 0
 IsCheckedBeside file settings before after (Ok ran) = RunsAsAsked file settings before after ran.tally ran.end
-IsCheckedBeside file settings before after (Err fault) = LacksJob file settings fault × IsIdle before after
+IsCheckedBeside file settings before after (Err unasked) = IsUntold file settings unasked × IsIdle before after
 
 -- the same of an answer alone
 abbrev pub IsChecked : Option (Bor (List ℕ)) → Settings → Ends → Ends → Result Tally CheckFault → Type 0

@@ -20,7 +20,7 @@ words_fault _ = words.NotText
 
 abbrev pub file_fault : ErrorKind → FileFault
 file_fault kind.OutOfMemory = file.OutOfMemory
-file_fault _ = file.Unreadable
+file_fault cause = file.Unreadable cause
 
 -- a fault of a load
 abbrev pub load_fault : LoadFault → AskFault

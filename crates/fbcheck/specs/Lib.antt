@@ -1,6 +1,7 @@
 -- What public contracts say, in reading order.
 pub mod Faults
 pub mod Asked
+pub mod Hints
 pub mod Checking
 pub mod Serving
 pub mod CheckLaws

@@ -4,7 +4,8 @@ use Rattle.std.specs.Borrow.{Bor}
 use Rattle.std.specs.Io.KnownBytes.{Appends, Keeps}
 use Rattle.clap.specs.Walk.{Text}
 use Rattle.clap.specs.Faults.{fault_of}
-use Rattle.fbcheck.specs.Checking.{IsIdle, IsPromptAsAsked, LacksJob, RunsAsAsked}
+use Rattle.fbcheck.specs.Checking.{IsIdle, IsPromptAsAsked, IsUntold, RunsAsAsked}
+use Rattle.fbcheck.specs.Hints.{file_hint, hint_text}
 use Rattle.fbcheck.specs.Faults.{ask_status}
 use Rattle.fbcheck_words.specs.CommandLine.{program}
 use Rattle.fb_run.specs.Ends.{Ends, Writer, with_notes}
@@ -40,9 +41,13 @@ IsFile gives (Some name) (Some bytes) = gives name (Ok bytes)
 IsFile gives _ _ = ⊥
 
 -- a file is named, and a read of it had this fault
-abbrev pub IsFileFault : (Text → Result (List ℕ) FileFault → Type 0) → Option Text → FileFault → Type 0
-IsFileFault gives None fault = ⊥
-IsFileFault gives (Some name) fault = gives name (Err fault)
+abbrev pub HasFileFault : (Text → Result (List ℕ) FileFault → Type 0) → Option Text → FileFault → Type 0
+HasFileFault gives None fault = ⊥
+HasFileFault gives (Some name) fault = gives name (Err fault)
+
+-- the same, and this is told behind it
+abbrev pub IsFileFault : (Text → Result (List ℕ) FileFault → Type 0) → Option Text → FileFault → List ℕ → Type 0
+IsFileFault gives name fault hint = HasFileFault gives name fault × (hint ≡ file_hint fault name)
 
 -- the bytes that are lent, where there are any
 abbrev pub lent_bytes : Option (Bor (List ℕ)) → Option (List ℕ)
@@ -98,10 +103,10 @@ IsUnserved given before after outcome =
 abbrev pub ComesBy : (Text → Result (List ℕ) FileFault → Type 0) → List Text → Ends → Ends → Option Tally → Result Ending Stop → Type 0
 ComesBy gives given before after sums (Ok (Checked tally)) = ChecksAsGiven gives given before after sums tally (Ok tt)
 ComesBy gives given before after sums (Err (stop.Run fault)) = (tally : Tally) × ChecksAsGiven gives given before after sums tally (Err fault)
-ComesBy gives given before after sums (Err (stop.Ask fault)) =
-    HoldsAsGiven gives given (λ file settings. LacksJob file settings fault) × IsIdle before after × (sums ≡ None)
-ComesBy gives given before after sums (Err (stop.File fault)) =
-    (fault_of program given ≡ []) × IsFileFault gives (text_of (codes "schema") given) fault × IsIdle before after × (sums ≡ None)
+ComesBy gives given before after sums (Err (stop.Ask unasked)) =
+    HoldsAsGiven gives given (λ file settings. IsUntold file settings unasked) × IsIdle before after × (sums ≡ None)
+ComesBy gives given before after sums (Err (stop.File fault hint)) =
+    (fault_of program given ≡ []) × IsFileFault gives (text_of (codes "schema") given) fault hint.items × IsIdle before after × (sums ≡ None)
 ComesBy gives given before after sums outcome = IsUnserved given before after outcome × (sums ≡ None)
 
 -- the same where it may be that the words could not be read
@@ -135,11 +140,17 @@ SumsUp (Some tally) before after outcome ending =
     (Appends before.bytes after.bytes (summary_line tally) × (after.failures ≡ before.failures) × (ending ≡ outcome))
     ⊎ ((written : ℕ) × WritesFront (summary_line tally) before.bytes after.bytes 0 written × (after.failures ≡ before.failures + 1) × (ending ≡ unsummed outcome written))
 
--- nothing is told of a good end; of a stop the text of `clap`, or else one that begins with the program's name
+-- what stands behind the text of a stop, to the end of its line
+abbrev pub behind : Stop → List ℕ
+behind (stop.File fault hint) = hint.items
+behind (stop.Ask unasked) = hint_text unasked.hint
+behind _ = codes "\n"
+
+-- nothing is told of a good end; of a stop the text of `clap`, or else a line that begins with the program's name
 abbrev pub Complains : Result Ending Stop → Writer → Writer → Type 0
 Complains (Ok ending) before after = Keeps before.bytes after.bytes × (after.failures ≡ before.failures)
 Complains (Err (stop.Usage text)) before after = IsNoted (string_bytes text) before after
-Complains (Err cause) before after = (why : List ℕ) × IsNoted (codes "fbcheck: " ++ why) before after
+Complains (Err cause) before after = (why : List ℕ) × IsNoted ((codes "fbcheck: " ++ why) ++ behind cause) before after
 
 -- the exit status of a stop
 abbrev pub stop_status : Stop → ℕ
@@ -149,9 +160,9 @@ stop_status (stop.Usage text) = 2
 stop_status (stop.Settings fault) = refusal_status fault
 stop_status (stop.CutOff written) = 3
 stop_status (stop.Unsummed written) = 3
-stop_status (stop.File file_fault.Unreadable) = 2
-stop_status (stop.File file_fault.OutOfMemory) = 3
-stop_status (stop.Ask fault) = ask_status fault
+stop_status (stop.File (file_fault.Unreadable cause) hint) = 2
+stop_status (stop.File file_fault.OutOfMemory hint) = 3
+stop_status (stop.Ask unasked) = ask_status unasked.fault
 stop_status (stop.Run fault) = status_of (Err fault)
 
 -- the exit status

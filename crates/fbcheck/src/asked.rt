@@ -4,11 +4,13 @@ ghost use Rattle.std.specs.Prelude.{ℕ, Option, IfOk, IfErr, IfSome, IsTrue, Ok
 ghost use Rattle.fb_schema.specs.Rows.{is_table};
 ghost use Rattle.fb_bfbs.specs.LoadLaws.{ident_bytes};
 ghost use Rattle.fbcheck.specs.Asked.{IsPath, PathFails, asked_ident, ident_of, mode_of, options_of, own_ident, places_of, root_of};
-ghost use Rattle.fbcheck.specs.Checking.{Asks, IsSchema, LacksJob, LacksSchema, own_of, schema_limits};
+ghost use Rattle.fbcheck.specs.Checking.{Asks, IsSchema, IsUntold, LacksSchema, own_of, schema_limits};
 ghost use Rattle.fbcheck_words.specs.Ranges.{AreInRange};
+ghost use Rattle.fbcheck_words.specs.declared.choices.Settings.{Settings};
 ghost use Rattle.fb_run.specs.Job.{PathFits, Serves, job_of};
 
 use crate::fault::AskFault;
+use crate::hint::{Unasked, path_hint, root_hint, schema_hint};
 use fb_access::Path;
 use fb_bfbs::{Loaded, load, reflection};
 use fb_run::{Mode, Options, Places};
@@ -162,6 +164,17 @@ fn options(settings: &Settings, root: u32, path: Option<Path>, ident: Ident) -> 
     }
 }
 
+/// Why a file gives no schema, with what it looks like.
+fn schemaless(alloc: Global, fault: AskFault, file: Option<&[u8]>) -> Unasked
+    requires { LacksSchema file fault }
+    ensures { (settings : Settings) → IsUntold file.entry settings result }
+{
+    match fault {
+        AskFault::Load(_) => Unasked::new(fault, schema_hint(alloc, file)),
+        _ => Unasked::plain(fault),
+    }
+}
+
 /// What a run is asked: a schema, and how buffers are checked by it.
 #[derive(Drop)]
 pub struct Asked<'b> {
@@ -176,28 +189,35 @@ pub struct Asked<'b> {
 ///
 /// `Load` where the schema file gives no schema, then `NoRoot` where there is no root table, then `Path` where the path
 /// isn't one from there, and then `NoIdent` where the schema's own identifier is asked for and hasn't four bytes;
-/// `OutOfMemory` in place of any where memory was refused.
+/// `OutOfMemory` in place of any where memory was refused. Each with what is told behind it.
 pub fn asked_of<'b>(
     alloc: Global,
     schema_bytes: Option<&'b [u8]>,
     settings: &Settings,
-) -> Result<Asked<'b>, AskFault>
+) -> Result<Asked<'b>, Unasked>
     requires { AreInRange settings.now }
     ensures job { IfOk result (λ asked. Asks schema_bytes.entry settings.now (Ok (job_of asked.schema asked.options))) }
     ensures serves { IfOk result (λ asked. Serves asked.schema asked.options) }
-    ensures none { IfErr result (LacksJob schema_bytes.entry settings.now) }
+    ensures none { IfErr result (IsUntold schema_bytes.entry settings.now) }
 {
     let Loaded {
         schema,
         root,
         ident,
-    } = schema_of(alloc, schema_bytes)?;
-    let Some(root) = find_root(&schema, &settings.root, root) else {
-        return Err(AskFault::NoRoot);
+    } = match schema_of(alloc, schema_bytes) {
+        Ok(loaded) => loaded,
+        Err(fault) => return Err(schemaless(alloc, fault, schema_bytes)),
     };
-    let path = find_path(alloc, &schema, root, &settings.path)?;
+    let Some(root) = find_root(&schema, &settings.root, root) else {
+        let hint = root_hint(alloc, &schema, &settings.root);
+        return Err(Unasked::new(AskFault::NoRoot, hint));
+    };
+    let path = match find_path(alloc, &schema, root, &settings.path) {
+        Ok(path) => path,
+        Err(fault) => return Err(Unasked::new(fault, path_hint(alloc, &schema, root, fault))),
+    };
     let Some(ident) = find_ident(settings, ident) else {
-        return Err(AskFault::NoIdent);
+        return Err(Unasked::plain(AskFault::NoIdent));
     };
     let options = options(settings, root, path, ident);
     Ok(Asked { schema, options })

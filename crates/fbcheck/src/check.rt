@@ -7,7 +7,8 @@ ghost use Rattle.fb_run.specs.Faults.{EndsBeside};
 ghost use Rattle.fb_run.specs.Ends.{HasCallsLeft, HasLeave, ends_of, noteless};
 
 use crate::asked::asked_of;
-use crate::fault::{AskFault, CheckFault};
+use crate::fault::CheckFault;
+use crate::hint::Unasked;
 use fb_bytes::Sink;
 use fb_run::{Input, MOST_TURNS, Nowhere, Ran, Tally, run_beside};
 use fbcheck_words::Settings;
@@ -24,7 +25,8 @@ use std::alloc::Global;
 ///
 /// `Load` where the schema file gives no schema, then `NoRoot` where there is no root table, then `Path` where the path
 /// isn't one from there, then `NoIdent` where the schema's own identifier is asked for and hasn't four bytes; all before
-/// anything is read of the input, and `OutOfMemory` in place of any where memory was refused. A run ends as [`run_beside`](fb_run::run_beside) says, with at most 2^32 reads.
+/// anything is read of the input, and `OutOfMemory` in place of any where memory was refused. Each with what is told
+/// behind it. A run ends as [`run_beside`](fb_run::run_beside) says, with at most 2^32 reads.
 pub fn check_beside<S: Input<K, N>, K: Sink, N: Sink>(
     alloc: Global,
     schema_bytes: Option<&[u8]>,
@@ -32,7 +34,7 @@ pub fn check_beside<S: Input<K, N>, K: Sink, N: Sink>(
     reader: &mut S,
     writer: &mut K,
     notes: &mut N,
-) -> Result<Ran, AskFault>
+) -> Result<Ran, Unasked>
     requires ranges { AreInRange settings.now }
     requires few { HasCallsLeft S.Input K.Sink N.Sink reader.old writer.old notes.old }
     requires leave { HasLeave S.Input (ends_of S.Input K.Sink N.Sink reader.old writer.old notes.old) (IsPromptAsAsked schema_bytes settings.now) }
@@ -88,6 +90,6 @@ pub fn check<S: Input<K, Nowhere>, K: Sink>(
                 ..
             },
         ) => Err(CheckFault::Run(fault)),
-        Err(fault) => Err(CheckFault::Ask(fault)),
+        Err(unasked) => Err(CheckFault::Ask(unasked.fault)),
     }
 }

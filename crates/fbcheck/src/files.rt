@@ -3,7 +3,7 @@
 ghost use Rattle.std.specs.Prelude.{◌≡◌, IfOk, IfErr, Ok, Err, ℕ, List, Option, Result, option_map, string_bytes, vec_items};
 ghost use Rattle.std.specs.IoError.{error_kind};
 ghost use Rattle.fbcheck.specs.Faults.{file_fault};
-ghost use Rattle.fbcheck.specs.Serving.{IsFile, IsFileFault};
+ghost use Rattle.fbcheck.specs.Serving.{HasFileFault, IsFile};
 ghost use Rattle.fbcheck.specs.declared.files.FileFault.{FileFault};
 
 use std::io;
@@ -13,9 +13,9 @@ use thiserror::Error;
 /// Why a schema file can't be read.
 #[derive(Clone, Copy, Debug, PartialEq, Eq, Error)]
 pub enum FileFault {
-    /// It isn't there, or a read of it failed.
+    /// It isn't there, or a read of it failed, for this cause.
     #[error("cannot read schema")]
-    Unreadable,
+    Unreadable(ErrorKind),
     /// Memory was refused.
     #[error("out of memory")]
     OutOfMemory,
@@ -28,7 +28,7 @@ impl FileFault {
     {
         match error.kind() {
             ErrorKind::OutOfMemory => FileFault::OutOfMemory,
-            _ => FileFault::Unreadable,
+            cause => FileFault::Unreadable(cause),
         }
     }
 }
@@ -47,7 +47,7 @@ pub trait Files {
 /// The bytes of the schema file, where one is named.
 pub fn read_schema<F: Files>(files: &F, name: &Option<String>) -> Result<Option<Vec<u8>>, FileFault>
     ensures bytes { IfOk result (λ file. IsFile (F.gives files.now) (option_map string_bytes name.now) (option_map vec_items file)) }
-    ensures fault { IfErr result (IsFileFault (F.gives files.now) (option_map string_bytes name.now)) }
+    ensures fault { IfErr result (HasFileFault (F.gives files.now) (option_map string_bytes name.now)) }
 {
     match name {
         Some(name) => Ok(Some(files.read(name.as_str())?)),

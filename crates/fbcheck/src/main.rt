@@ -14,6 +14,7 @@ mod check;
 mod check_laws;
 mod fault;
 mod files;
+mod hint;
 mod serve;
 mod stop;
 

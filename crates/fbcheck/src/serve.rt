@@ -6,6 +6,7 @@ ghost use Rattle.fbcheck.specs.Serving.{ComesTo, EndsSo, IsPromptAsGiven, IsServ
 
 use crate::check::check_beside;
 use crate::files::{Files, read_schema};
+use crate::hint::file_hint;
 use crate::stop::{Ending, Stop, WordsFault, exit_status, sum_up, tell};
 use clap::Error;
 use fb_bytes::Sink;
@@ -68,7 +69,10 @@ fn come_to<F: Files, S: Input<K, N>, K: Sink, N: Sink>(
         Ok(settings) => settings,
         Err(fault) => return without_settings(alloc, fault, writer),
     };
-    let file = read_schema(files, &settings.schema)?;
+    let file = match read_schema(files, &settings.schema) {
+        Ok(file) => file,
+        Err(fault) => return Err(Stop::File(fault, file_hint(alloc, fault, &settings.schema)?)),
+    };
     let ran = check_beside(alloc, file.as_deref(), &settings, reader, writer, notes)?;
     *sums = summed(settings.summary, ran.tally);
     match ran.end {

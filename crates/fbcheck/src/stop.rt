@@ -1,15 +1,15 @@
 //! How the program comes to its end: well, or for a cause.
 
-ghost use Rattle.std.specs.Prelude.{IfSome, ◌≡◌, ◌+◌, ◌<◌, ◌^◌, length};
+ghost use Rattle.std.specs.Prelude.{IfSome, ◌≡◌, ◌++◌, ◌+◌, ◌<◌, ◌^◌, length};
 ghost use Rattle.std.specs.IoError.{error_kind};
 ghost use Rattle.fb_run.specs.Ends.{writer_of};
 ghost use Rattle.fbcheck.specs.Faults.{words_fault};
-ghost use Rattle.fbcheck.specs.Serving.{Complains, IsNoted, SumsUp, exit_status, stop_status};
+ghost use Rattle.fbcheck.specs.Serving.{behind, Complains, IsNoted, SumsUp, exit_status, stop_status};
 ghost use Rattle.fbcheck_words.specs.declared.choices.SettingsFault.TheVariants as refusal;
 ghost use Rattle.fbcheck.specs.declared.stop.Stop.TheVariants as stop;
 
-use crate::fault::AskFault;
 use crate::files::FileFault;
+use crate::hint::Unasked;
 use arrayvec::ArrayString;
 use fb_bytes::Sink;
 use fb_run::summary::summary;
@@ -80,12 +80,12 @@ pub enum Stop {
     /// The run came to its end, and of its summary only the first `written` bytes were taken.
     #[error("write to standard error failed after {written} bytes of the summary")]
     Unsummed { written: usize },
-    /// The schema file can't be read.
+    /// The schema file can't be read, and this is told behind the cause.
     #[error("{0}")]
-    File(FileFault),
+    File(FileFault, Vec<u8>),
     /// There was nothing to check by.
     #[error("{0}")]
-    Ask(AskFault),
+    Ask(Unasked),
     /// The run came to rest.
     #[error("{0}")]
     Run(RunFault),
@@ -99,19 +99,11 @@ impl From<AllocError> for Stop {
     }
 }
 
-impl From<AskFault> for Stop {
+impl From<Unasked> for Stop {
     ghost from_gives = { λ cause s. s ≡ stop.Ask cause };
 
-    fn from(cause: AskFault) -> Self {
+    fn from(cause: Unasked) -> Self {
         Self::Ask(cause)
-    }
-}
-
-impl From<FileFault> for Stop {
-    ghost from_gives = { λ cause s. s ≡ stop.File cause };
-
-    fn from(cause: FileFault) -> Self {
-        Self::File(cause)
     }
 }
 
@@ -122,13 +114,25 @@ impl Stop {
         ensures { result ≡ stop_status self.now }
     {
         match self {
-            Stop::Words(WordsFault::NotText) | Stop::Usage(_) | Stop::File(FileFault::Unreadable) =>
-                2,
-            Stop::Words(WordsFault::OutOfMemory) | Stop::File(FileFault::OutOfMemory) => 3,
+            Stop::Words(WordsFault::NotText) | Stop::Usage(_) => 2,
+            Stop::Words(WordsFault::OutOfMemory) => 3,
+            Stop::File(FileFault::Unreadable(_), _) => 2,
+            Stop::File(FileFault::OutOfMemory, _) => 3,
             Stop::CutOff { .. } | Stop::Unsummed { .. } => 3,
             Stop::Settings(fault) => fault.status(),
-            Stop::Ask(fault) => fault.status(),
+            Stop::Ask(unasked) => unasked.fault.status(),
             Stop::Run(fault) => status(&Err(*fault)),
+        }
+    }
+
+    /// What stands behind its text, to the end of the line.
+    fn behind(&self) -> &[u8]
+        ensures { result.now ≡ behind self.now }
+    {
+        match self {
+            Stop::File(_, hint) => hint.as_slice(),
+            Stop::Ask(unasked) => unasked.hint(),
+            _ => b"\n",
         }
     }
 
@@ -142,11 +146,11 @@ impl Stop {
             return;
         }
         let mut why = ArrayString::<ROOM>::new();
-        let _ = writeln!(why, "{self}");
+        let _ = write!(why, "{self}");
         let mut line = ArrayString::<LINE>::new();
         line.push_str(NAME);
         line.push_str(why.as_str());
-        note(notes, line.as_str().as_bytes());
+        note_both(notes, line.as_str().as_bytes(), self.behind());
     }
 }
 
@@ -156,6 +160,16 @@ fn note<N: Sink>(notes: &mut N, text: &[u8])
     ensures { IsNoted text.now (writer_of N.Sink notes.old) (writer_of N.Sink notes.new) }
 {
     push_all(notes, text);
+}
+
+/// The same of two texts, one behind the other.
+fn note_both<N: Sink>(notes: &mut N, text: &[u8], behind: &[u8])
+    requires { N.calls notes.old + length text.now + length behind.now < 2 ^ 100 }
+    ensures { IsNoted (text.now ++ behind.now) (writer_of N.Sink notes.old) (writer_of N.Sink notes.new) }
+{
+    if push_all(notes, text) == text.len() {
+        push_all(notes, behind);
+    }
 }
 
 /// Notes a summary of these numbers, where there are some, and answers how the program ends with that.

@@ -1,17 +1,18 @@
-use Rattle.std.proofs.Common.{rules, sym, ◌∙◌}
-use Rattle.fbcheck.specs.Checking.{own_of}
+use Rattle.std.proofs.Common.{refl, rules, subst, sym, ◌∙◌}
+use Rattle.fbcheck.specs.Asked.{LacksIdent}
+use Rattle.fbcheck.specs.Checking.{IsUntold, own_of}
 use Rattle.fbcheck.proofs.asked.asked_of.Goals as goal
 
 pub returns-clause-job : goal.returns-clause-job
 returns-clause-job c =
-    let loaded = c.in_ok-schema.field-0 in (
+    let loaded = c.in-Ok.loaded in (
       loaded.schema,
       own_of loaded,
-      c.in_ok-schema.ensures.schema,
+      c.in-Ok.ensures.schema,
       record {
         root = c.in-Some.root;
         root_is = sym c.find_root.ensures.number ∙ c.in-Some.is;
-        steps = c.in_ok-path.path;
+        steps = c.in-Ok-find_path.path;
         steps_are = search rules;
         ident = c.in-Some-find_ident.ident;
         ident_is = sym (c.find_ident.ensures loaded.root) ∙ c.in-Some-find_ident.is;
@@ -21,15 +22,16 @@ returns-clause-job c =
 
 pub returns-in_default-find_ident-clause-none : goal.returns-in_default-find_ident-clause-none
 returns-in_default-find_ident-clause-none c =
-    let loaded = c.in_ok-schema.field-0 in (
-      loaded.schema,
-      own_of loaded,
-      c.in_ok-schema.ensures.schema,
-      record {
-        root = c.in-Some.root;
-        root_is = sym c.find_root.ensures.number ∙ c.in-Some.is;
-        steps = c.in_ok-path.path;
-        steps_are = search rules;
-        none = sym (c.find_ident.ensures loaded.root) ∙ search rules;
-      },
-    )
+    let loaded = c.in-Ok.loaded in
+    let lacks : LacksIdent loaded.schema (own_of loaded) c.args.settings.now = record {
+      root = c.in-Some.root;
+      root_is = sym c.find_root.ensures.number ∙ c.in-Some.is;
+      steps = c.in-Ok-find_path.path;
+      steps_are = search rules;
+      none = sym (c.find_ident.ensures loaded.root) ∙ search rules;
+    } in
+    subst (IsUntold c.args.schema_bytes c.args.settings.now) (sym c.plain.ensures)
+    (record { lacks = (loaded.schema, own_of loaded, c.in-Ok.ensures.schema, lacks); hint = refl })
+
+pub returns-in-Err-clause-none : goal.returns-in-Err-clause-none
+returns-in-Err-clause-none c = c.schemaless.ensures c.args.settings.now

@@ -1,9 +1,11 @@
-use Rattle.std.proofs.Common.{None, Option, refl, subst}
+use Rattle.std.proofs.Common.{Err, None, Option, refl, subst}
 use Rattle.std.specs.Prelude.{map, string_bytes}
 use Rattle.std.proofs.KnownBytes.{Keeps-refl}
 use Rattle.clap.specs.Walk.{Text}
 use Rattle.fb_run.specs.Ends.{reader_of, writer_of}
 use Rattle.fbcheck.specs.Serving.{ComesTo, IsFileFault, words_of}
+use Rattle.fbcheck_words.specs.declared.choices.SettingsFault.TheVariants as refusal
+use Rattle.fbcheck.specs.declared.stop.Stop.TheVariants as stop
 use Rattle.fb_run.proofs.RunLemmas.{err_exit}
 use Rattle.fbcheck.proofs.ServingLemmas.{checks_given, comes_read, comes_unserved, holds_given, prompt_read}
 use Rattle.fbcheck.proofs.serve.come_to.Goals as goal
@@ -17,23 +19,30 @@ returns-in-Err-settings-clause-comes g c =
 pub returns-in-Err-settings-clause-ends : goal.returns-in-Err-settings-clause-ends
 returns-in-Err-settings-clause-ends g c = c.without_settings.ensures.ends (reader_of g.S.Input c.args.reader.now) (writer_of g.N.Sink c.args.notes.now) _
 
-pub returns-in_err-file-clause-comes : goal.returns-in_err-file-clause-comes
-returns-in_err-file-clause-comes g c =
+pub returns-in-Err-read_schema-clause-comes : goal.returns-in-Err-read_schema-clause-comes
+returns-in-Err-read_schema-clause-comes g c =
     let set = c.in-Ok-settings.ensures in
-    err_exit c.from_residual.result _ (ComesTo (g.F.Files.gives c.args.files.now) (words_of c.args.words) _ _ None) c.from_residual.ensures.1
-    (comes_read _ c.args.words c.in-Ok.words c.as_slice.result.now _ _ _ _ c.in-Ok.is c.as_slice.ensures.value (
+    comes_read _ c.args.words c.in-Ok.words c.as_slice.result.now _ _ _ _ c.in-Ok.is c.as_slice.ensures.value (
       set.given.read,
-      subst (λ (t : Option Text). IsFileFault (g.F.Files.gives c.args.files.now) t c.in_err-file.field-0.0) set.given.schema c.in_err-file.ensures.fault,
+      subst (λ (t : Option Text). IsFileFault (g.F.Files.gives c.args.files.now) t c.in-Err-read_schema.fault c.in_ok-file_hint-in-Err-read_schema.field-0.items) set.given.schema
+          (c.in-Err-read_schema.ensures.fault, c.in_ok-file_hint-in-Err-read_schema.ensures),
       (Keeps-refl _, (Keeps-refl _, Keeps-refl _)),
       refl,
-    ))
+    )
+
+pub returns-in_err-file_hint-in-Err-read_schema-clause-comes : goal.returns-in_err-file_hint-in-Err-read_schema-clause-comes
+returns-in_err-file_hint-in-Err-read_schema-clause-comes g c =
+    err_exit c.from_residual.result _ (ComesTo (g.F.Files.gives c.args.files.now) (words_of c.args.words) _ _ None) c.from_residual.ensures.1
+    (comes_read _ c.args.words c.in-Ok.words c.as_slice.result.now _ _ _ _ c.in-Ok.is c.as_slice.ensures.value
+    (comes_unserved (g.F.Files.gives c.args.files.now) (map string_bytes c.as_slice.result.now) (reader_of g.S.Input c.args.reader.now) (writer_of g.K.Sink c.args.writer.now)
+    (writer_of g.K.Sink c.args.writer.now) (writer_of g.N.Sink c.args.notes.now) refusal.OutOfMemory (Err (stop.Settings refusal.OutOfMemory)) tt (Keeps-refl (g.K.Sink.contents c.args.writer.now))))
 
 pub returns-in_err-ran-clause-comes : goal.returns-in_err-ran-clause-comes
 returns-in_err-ran-clause-comes g c =
     let set = c.in-Ok-settings.ensures in
     err_exit c.from_residual-in_err-ran.result _ (ComesTo (g.F.Files.gives c.args.files.now) (words_of c.args.words) _ _ None) c.from_residual-in_err-ran.ensures.1
     (comes_read _ c.args.words c.in-Ok.words c.as_slice.result.now _ _ _ _ c.in-Ok.is c.as_slice.ensures.value (
-      holds_given _ _ c.in-Ok-settings.settings c.as_deref.result _ _ set.given c.as_deref.ensures.value c.in_ok-file.ensures.bytes c.in_err-ran.ensures.run.0,
+      holds_given _ _ c.in-Ok-settings.settings c.as_deref.result _ _ set.given c.as_deref.ensures.value c.in-Ok-read_schema.ensures.bytes c.in_err-ran.ensures.run.0,
       c.in_err-ran.ensures.run.1,
       refl,
     ))
@@ -43,7 +52,7 @@ returns-in-Ok-end-clause-comes g c =
     let set = c.in-Ok-settings.ensures in
     comes_read _ c.args.words c.in-Ok.words c.as_slice.result.now _ _ _ _ c.in-Ok.is c.as_slice.ensures.value
     (checks_given _ _ c.in-Ok-settings.settings c.as_deref.result _ _ _ _ _ _ _ c.in-Ok-end.is
-    set.given c.as_deref.ensures.value c.in_ok-file.ensures.bytes c.in_ok-ran.ensures.run c.summed.ensures)
+    set.given c.as_deref.ensures.value c.in-Ok-read_schema.ensures.bytes c.in_ok-ran.ensures.run c.summed.ensures)
 
 pub returns-clause-comes : goal.returns-clause-comes
 returns-clause-comes g c =
@@ -51,7 +60,7 @@ returns-clause-comes g c =
     comes_read _ c.args.words c.in-Ok.words c.as_slice.result.now _ _ _ _ c.in-Ok.is c.as_slice.ensures.value (
       _,
       checks_given _ _ c.in-Ok-settings.settings c.as_deref.result _ _ _ _ _ _ _ c.in-Err-end.is
-          set.given c.as_deref.ensures.value c.in_ok-file.ensures.bytes c.in_ok-ran.ensures.run c.summed.ensures,
+          set.given c.as_deref.ensures.value c.in-Ok-read_schema.ensures.bytes c.in_ok-ran.ensures.run c.summed.ensures,
     )
 
 pub check_beside-requires-clause-leave : goal.check_beside-requires-clause-leave
@@ -60,4 +69,4 @@ check_beside-requires-clause-leave g c now prompt unended =
     c.requires.leave now
     (prompt_read _ c.args.words c.in-Ok.words c.as_slice.result.now _ _ c.in-Ok.is c.as_slice.ensures.value
     (holds_given _ _ c.in-Ok-settings.settings c.as_deref.result _ _
-    set.given c.as_deref.ensures.value c.in_ok-file.ensures.bytes prompt)) unended
+    set.given c.as_deref.ensures.value c.in-Ok-read_schema.ensures.bytes prompt)) unended

@@ -1,0 +1,236 @@
+//! What is told behind a fault of status 2, to the end of its line.
+
+ghost use Rattle.std.specs.Prelude.{IfOk, IsTrue, OnOk, ◌≡◌, ◌++◌, option_map, string_bytes};
+ghost use Rattle.std.specs.List.{list_all};
+ghost use Rattle.fb_schema.specs.Live.{live_fields};
+ghost use Rattle.fb_schema.specs.Rows.{is_table};
+ghost use Rattle.fbcheck.specs.Hints.{fields_in, file_hint, front_hint, hint_text, is_blank, is_plain, listed, named, opens, path_hint, reason_text, root_hint, schema_hint, tables_in, with_hint};
+
+use crate::fault::AskFault;
+use crate::files::FileFault;
+use fb_access::PathFault;
+use fb_run::put_bytes;
+use fb_schema::Schema;
+use std::alloc::{AllocError, Global};
+use std::io::ErrorKind;
+use thiserror::Error;
+
+/// How many names are told.
+const MOST: u32 = 10;
+
+/// By how many of its first bytes a file is taken for a text.
+const FRONT: usize = 16;
+
+/// Why there is nothing to check buffers by, and what is told behind that.
+#[derive(Debug, Drop, Error)]
+#[error("{fault}")]
+pub struct Unasked {
+    /// The cause.
+    pub fault: AskFault,
+    /// What is told behind it, with the end of the line.
+    pub hint: Option<Vec<u8>>,
+}
+
+impl Unasked {
+    /// This fault with its hint, or want of memory where there was none for that.
+    pub fn new(fault: AskFault, hint: Result<Vec<u8>, AllocError>) -> Unasked
+        ensures { result ≡ with_hint fault hint }
+    {
+        match hint {
+            Ok(hint) => Unasked {
+                fault,
+                hint: Some(hint),
+            },
+            Err(_) => Unasked::plain(AskFault::OutOfMemory),
+        }
+    }
+
+    /// This fault alone.
+    pub fn plain(fault: AskFault) -> Unasked
+        ensures { result ≡ record { fault = fault; hint = None } }
+    {
+        Unasked { fault, hint: None }
+    }
+
+    /// What stands behind the fault's text, to the end of the line.
+    pub fn hint(&self) -> &[u8]
+        ensures { result.now ≡ hint_text self.now.hint }
+    {
+        match &self.hint {
+            Some(hint) => hint.as_slice(),
+            None => b"\n",
+        }
+    }
+}
+
+/// Adds a name behind a space.
+fn put_name(text: &mut Vec<u8>, name: &[u8]) -> Result<(), AllocError>
+    ensures { OnOk result (text.new.items ≡ text.old.items ++ named name.now) }
+{
+    text.extend_from_slice(b" ")?;
+    put_bytes(text, name)
+}
+
+/// Adds the names of the tables of a schema, of which there may be more than are told.
+fn put_tables(text: &mut Vec<u8>, schema: &Schema<'_>) -> Result<(), AllocError>
+    ensures { OnOk result (text.new.items ≡ text.old.items ++ listed 10 (tables_in schema.now.objects)) }
+{
+    let mut left = MOST;
+    for number in 0..schema.object_count() {
+        let object = schema.object(number);
+        if object.is_struct {
+            continue;
+        }
+        if left == 0 {
+            return text.extend_from_slice(b" ..");
+        }
+        put_name(text, object.name)?;
+        left -= 1;
+    }
+    Ok(())
+}
+
+/// Adds the names of a table's fields, of which there may be more than are told.
+fn put_fields(text: &mut Vec<u8>, schema: &Schema<'_>, table: u32) -> Result<(), AllocError>
+    requires { IsTrue (is_table schema.now table) }
+    ensures { OnOk result (text.new.items ≡ text.old.items ++ listed 10 (fields_in (live_fields schema.now table))) }
+{
+    let mut left = MOST;
+    for field in schema.fields_of(table) {
+        if left == 0 {
+            return text.extend_from_slice(b" ..");
+        }
+        put_name(text, field.name)?;
+        left -= 1;
+    }
+    Ok(())
+}
+
+/// Why the system gives no file.
+fn reason(cause: ErrorKind) -> &'static [u8]
+    ensures { result.now ≡ reason_text cause }
+{
+    match cause {
+        ErrorKind::NotFound => b"no such file",
+        ErrorKind::PermissionDenied => b"permission denied",
+        ErrorKind::IsADirectory => b"is a directory",
+        ErrorKind::NotADirectory => b"not a directory",
+        ErrorKind::InvalidFilename => b"invalid file name",
+        ErrorKind::FilesystemLoop => b"too many links",
+        _ => b"a read failed",
+    }
+}
+
+/// What is told behind the fault of a schema file that can't be read: its name, and why.
+pub fn file_hint(
+    alloc: Global,
+    fault: FileFault,
+    name: &Option<String>,
+) -> Result<Vec<u8>, AllocError>
+    ensures { IfOk result (λ hint. hint.items ≡ file_hint fault (option_map string_bytes name.now)) }
+{
+    let mut text = Vec::new(alloc);
+    if let (FileFault::Unreadable(cause), Some(name)) = (fault, name) {
+        put_name(&mut text, name.as_bytes())?;
+        text.extend_from_slice(b": ")?;
+        text.extend_from_slice(reason(cause))?;
+    }
+    text.extend_from_slice(b"\n")?;
+    Ok(text)
+}
+
+/// What is told where there is no root table: the name that was asked for, and the tables that there are.
+pub fn root_hint(
+    alloc: Global,
+    schema: &Schema<'_>,
+    name: &Option<String>,
+) -> Result<Vec<u8>, AllocError>
+    ensures { IfOk result (λ hint. hint.items ≡ root_hint schema.now (option_map string_bytes name.now)) }
+{
+    let mut text = Vec::new(alloc);
+    if let Some(name) = name {
+        put_name(&mut text, name.as_bytes())?;
+    }
+    text.extend_from_slice(b"; tables:")?;
+    put_tables(&mut text, schema)?;
+    text.extend_from_slice(b"\n")?;
+    Ok(text)
+}
+
+/// What is told behind the fault of a path: where its first name is no field of the root table, the fields that there
+/// are.
+pub fn path_hint(
+    alloc: Global,
+    schema: &Schema<'_>,
+    root: u32,
+    fault: AskFault,
+) -> Result<Vec<u8>, AllocError>
+    requires { IsTrue (is_table schema.now root) }
+    ensures { IfOk result (λ hint. hint.items ≡ path_hint schema.now root fault) }
+{
+    let mut text = Vec::new(alloc);
+    if let AskFault::Path(PathFault::NoSuchField { step: 0 }) = fault {
+        text.extend_from_slice(b"; fields:")?;
+        put_fields(&mut text, schema, root)?;
+    }
+    text.extend_from_slice(b"\n")?;
+    Ok(text)
+}
+
+/// Whether a byte is a blank of a text.
+fn is_blank(byte: u8) -> bool
+    ensures { result ≡ is_blank byte }
+{
+    byte == b'\t' || byte == b'\n' || byte == b'\r' || byte == b' '
+}
+
+/// Whether a byte may stand in a text.
+fn is_plain(byte: u8) -> bool
+    ensures { result ≡ is_plain byte }
+{
+    is_blank(byte) || (33 <= byte && byte <= 126)
+}
+
+/// Whether each of these bytes may stand in a text.
+fn are_plain(bytes: &[u8]) -> bool
+    ensures { result ≡ list_all is_plain bytes.now }
+{
+    bytes.iter().all(|byte| is_plain(*byte))
+}
+
+/// Whether the first byte that is no blank opens an object or a list of JSON.
+fn opens(bytes: &[u8]) -> bool
+    ensures { result ≡ opens bytes.now }
+{
+    for byte in bytes {
+        if !is_blank(*byte) {
+            return *byte == b'{' || *byte == b'[';
+        }
+    }
+    false
+}
+
+/// What a file looks like that begins so.
+fn front_hint(front: &[u8]) -> &'static [u8]
+    ensures { result.now ≡ front_hint front.now }
+{
+    if front.is_empty() || !are_plain(front) {
+        b"\n"
+    } else if opens(front) {
+        b"; this looks like JSON\n"
+    } else {
+        b"; this looks like a schema's text (.fbs): flatc --binary --schema makes the .bfbs\n"
+    }
+}
+
+/// What is told of a file that gives no schema, by its first bytes.
+pub fn schema_hint(alloc: Global, file: Option<&[u8]>) -> Result<Vec<u8>, AllocError>
+    ensures { IfOk result (λ hint. hint.items ≡ schema_hint file.entry) }
+{
+    let mut text = Vec::new(alloc);
+    match file {
+        Some(bytes) => text.extend_from_slice(front_hint(&bytes[..bytes.len().min(FRONT)]))?,
+        None => text.extend_from_slice(b"\n")?,
+    }
+    Ok(text)
+}
