@@ -33,6 +33,7 @@ questions_shown = record {
   this_ident = refl;
   own_ident = refl;
   no_own_ident = refl;
+  empty_ident = refl;
   long_ident = refl;
   bare = refl;
   prefixed = refl;

@@ -60,10 +60,11 @@ root_asked l o =
     if o.root == 4294967295 then if_table l.schema l.root
     else (if o.root == 4294967294 then None else if_table l.schema (Some o.root))
 
--- the identifier that a schema's own asks for: any where it has none, and none where it hasn't four bytes
+-- the identifier that a schema's own asks for: any where it has none or an empty one, and none where it hasn't four
+-- bytes
 abbrev pub own_ident : Option (Bor (List ℕ)) → Option Ident
 own_ident None = Some Any
-own_ident (Some name) = if length name.now == 4 then Some (Want name.now) else None
+own_ident (Some name) = if length name.now == 0 then Some Any else (if length name.now == 4 then Some (Want name.now) else None)
 
 -- the identifier that is asked of a buffer: any, that of the options, or the schema's own
 abbrev pub ident_asked : Loaded → Options → Option Ident

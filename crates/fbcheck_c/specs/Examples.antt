@@ -88,6 +88,7 @@ pub record Questions : Type 0 where
   pub this_ident : ident_asked (schema None (name (codes "OWNS"))) (with_ident 1) ≡ Some (Want (codes "THIS"))
   pub own_ident : ident_asked (schema None (name (codes "OWNS"))) (with_ident 2) ≡ Some (Want (codes "OWNS"))
   pub no_own_ident : ident_asked (schema None None) (with_ident 2) ≡ Some Any
+  pub empty_ident : ident_asked (schema None (name [])) (with_ident 2) ≡ Some Any
   pub long_ident : ident_asked (schema None (name (codes "LONGER"))) (with_ident 2) ≡ None
   pub bare : start_asked published ≡ Bare
   pub prefixed : start_asked (record published { prefixed = 255 }) ≡ Prefixed

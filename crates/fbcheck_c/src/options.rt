@@ -76,12 +76,13 @@ fn if_table(schema: &Schema<'_>, number: Option<u32>) -> Option<u32>
     }
 }
 
-/// The identifier that a schema's own asks for, none where it hasn't four bytes.
+/// The identifier that a schema's own asks for: any where it declares none, which `flatc` writes as one of no bytes,
+/// and none where it hasn't four.
 fn own_ident(own: Option<&[u8]>) -> Option<Ident>
     ensures { result ≡ own_ident own.entry }
 {
     match own {
-        None => Some(Ident::Any),
+        None | Some(&[]) => Some(Ident::Any),
         Some(&[a, b, c, d]) => Some(Ident::Want([a, b, c, d])),
         Some(_) => None,
     }
