@@ -1,26 +1,38 @@
-// fbcheck for C++17 and later: a schema that frees itself, and verdicts that are true of good buffers.
+// fbcheck for C++17 and later: a schema that frees itself, verdicts that are true of good buffers, values and streams.
 //
-//     const fbcheck::Schema schema(file.data(), file.size());
-//     if (const auto verdict = schema.check(buffer.data(), buffer.size()); !verdict) std::cerr << verdict << "\n";
+//     const fbcheck::Schema schema(file); // a std::string, a std::vector of bytes, a span
+//     if (const auto verdict = schema.check(buffer); !verdict) std::cerr << verdict << "\n";
 //
-// A bad buffer is no exception. A file that is no schema is one, SchemaError, and so is a call that can't be served,
-// Misuse: no root table, options of another version, a depth without room for it, a schema that was moved from. Any
-// number of threads may use one Schema. The calls of fbcheck.h that have no method here take get().
+//     const std::array paths{schema.path("to.name"), schema.path("price")};
+//     if (const auto found = schema.read(buffer, paths)) std::cout << *found[0].text() << found[1].real().value_or(0);
+//
+// A bad buffer is no exception. What is one tells why in words: SchemaError of a file that is no schema, PathError of a
+// text that is no path, StreamError of a stream, and Misuse of a call that can't be served: no root table, options of
+// another version, a depth without room for it, a schema that was moved from. std::bad_alloc is thrown too.
+//
+// Any number of threads may use one const Schema; to put another in its place meanwhile, let them share it by
+// std::shared_ptr. A Scratch and a Framer are used by one call at a time. The calls of fbcheck.h that have no method
+// here take get().
 #pragma once
 
 #include <fbcheck.h>
 
+#include <algorithm>
+#include <array>
 #include <cstddef>
 #include <cstdint>
+#include <cstring>
+#include <iterator>
+#include <memory>
 #include <new>
+#include <optional>
 #include <ostream>
 #include <stdexcept>
 #include <string>
 #include <string_view>
+#include <type_traits>
 #include <utility>
-#if __cplusplus >= 202002L
-#include <span>
-#endif
+#include <vector>
 
 namespace fbcheck {
 
@@ -29,21 +41,87 @@ struct Options : fbcheck_options {
     Options() noexcept : fbcheck_options FBCHECK_OPTIONS_INIT {}
 };
 
+// A path that was resolved. Only the Schema that resolved it knows it: another one may take it for another field.
+using Path = fbcheck_path;
+
+// Bytes that stand elsewhere: a pointer and a length, or what has data() and size() of bytes.
+class Bytes {
+  public:
+    Bytes(const void *data, std::size_t size) noexcept : data_(static_cast<const std::uint8_t *>(data)), size_(size) {}
+    template <class Of, class = std::enable_if_t<sizeof(*std::declval<const Of &>().data()) == 1>>
+    Bytes(const Of &of) noexcept : Bytes(of.data(), of.size()) {}
+
+    const std::uint8_t *data() const noexcept { return data_; }
+    std::size_t size() const noexcept { return size_; }
+    const std::uint8_t *begin() const noexcept { return data_; }
+    const std::uint8_t *end() const noexcept { return data_ + size_; }
+
+  private:
+    const std::uint8_t *data_;
+    std::size_t size_;
+};
+
+// What a status other than FBCHECK_OK says, with what else the verdict tells of it, as "V2 OutOfBuffer at=28".
+inline std::string why(const fbcheck_verdict &told) {
+    static constexpr const char *words[] = {
+        "good", "bad", "a pointer is null, or the schema was moved from", "the options are of another version",
+        "a depth or a room is out of range", "the schema's own identifier hasn't four bytes", "no root table",
+        "2^31 bytes or more", "not well formed", "no schema", "its root table isn't listed", "out of memory",
+        "the span isn't in the block", "the message goes on", "a message is too long for the room",
+        "the stream ends inside a message", "the stream has failed before", "no path", "too many steps",
+        "a path is none of this schema's from this root", "its rows or names are more than its length pays for"};
+    const auto part = [](const char *name, std::uint64_t value) { return name + std::to_string(value); };
+    const auto place = [&] {
+        return part(" object=", told.object) +
+               (told.field == FBCHECK_NONE ? std::string(" field=-") : part(" field=", told.field));
+    };
+    if (told.status == FBCHECK_BAD || told.status == FBCHECK_NOT_WELL_FORMED) {
+        char reason[20];
+        const std::string name(reason, fbcheck_reason_name(told.reason, reason, sizeof reason));
+        return name + part(" at=", told.at) + (told.status == FBCHECK_BAD ? place() : "");
+    }
+    if (told.status == FBCHECK_BAD_SCHEMA) return part("C", told.reason) + place();
+    if (told.status == FBCHECK_BAD_PATH)
+        return part("P", told.reason) + part(told.reason == FBCHECK_BAD_TEXT ? " at=" : " step=", told.at);
+    return told.status < std::size(words) ? words[told.status] : part("status ", told.status);
+}
+
+// The same of a status alone.
+inline std::string why(std::uint32_t status) {
+    fbcheck_verdict told{};
+    told.status = status;
+    return why(told);
+}
+
 // A file gave no schema: verdict.status and what follows it tell why.
 class SchemaError : public std::runtime_error {
   public:
-    explicit SchemaError(const fbcheck_verdict &told)
-        : std::runtime_error("no schema: " + std::to_string(told.status) + ", reason " + std::to_string(told.reason) +
-                             " at " + std::to_string(told.at)),
-          verdict(told) {}
+    explicit SchemaError(const fbcheck_verdict &told) : std::runtime_error("no schema: " + why(told)), verdict(told) {}
     fbcheck_verdict verdict;
+};
+
+// A text is no path from the root: verdict.status and what follows it tell why.
+class PathError : public std::runtime_error {
+  public:
+    PathError(std::string_view text, const fbcheck_verdict &told)
+        : std::runtime_error("no path: " + std::string(text) + ": " + why(told)), verdict(told) {}
+    fbcheck_verdict verdict;
+};
+
+// A stream has ended inside a message (FBCHECK_TRUNCATED), or a message has more bytes than it may (FBCHECK_OVERSIZE),
+// or the stream went on after that (FBCHECK_FAILED).
+class StreamError : public std::runtime_error {
+  public:
+    StreamError(std::uint32_t told, const fbcheck_framer &framer)
+        : std::runtime_error(why(told) + (told == FBCHECK_OVERSIZE ? ": " + std::to_string(framer.declared) : "")),
+          status(told) {}
+    std::uint32_t status;
 };
 
 // A call couldn't be served, and nothing was checked: status is an enum fbcheck_status.
 class Misuse : public std::logic_error {
   public:
-    explicit Misuse(std::uint32_t why)
-        : std::logic_error("nothing was checked: " + std::to_string(why)), status(why) {}
+    explicit Misuse(std::uint32_t told) : std::logic_error("nothing was checked: " + why(told)), status(told) {}
     std::uint32_t status;
 };
 
@@ -60,16 +138,11 @@ class Verdict {
 
     // The line of the program, without the message's number.
     std::string text() const {
-        const auto number = [](const char *name, std::uint64_t value) { return name + std::to_string(value); };
+        const auto reads = " reads=" + std::to_string(told_.reads);
         if (*this)
-            return "ok" + number(" tables=", told_.tables) + number(" depth=", told_.depth) +
-                   number(" reads=", told_.reads);
+            return "ok tables=" + std::to_string(told_.tables) + " depth=" + std::to_string(told_.depth) + reads;
         if (told_.status != FBCHECK_BAD) return "bad: it has 2^31 bytes or more";
-        char reason[20];
-        std::string line = "bad " + std::string(reason, fbcheck_reason_name(told_.reason, reason, sizeof reason));
-        line += number(" at=", told_.at) + number(" object=", told_.object) + " field=";
-        line += told_.field == FBCHECK_NONE ? "-" : std::to_string(told_.field);
-        return line + number(" reads=", told_.reads) + " " + place_;
+        return "bad " + why(told_) + reads + " " + place_;
     }
     friend std::ostream &operator<<(std::ostream &stream, const Verdict &verdict) { return stream << verdict.text(); }
 
@@ -78,88 +151,190 @@ class Verdict {
     std::string place_;
 };
 
-// Room for a walk deeper than FBCHECK_DEEP tables, or for one that clears no stack; used by one call at a time.
+// What stands at the end of a path: true where something does. Its bytes stand in the buffer, which must outlive it.
+class Value {
+  public:
+    Value() noexcept = default;
+    Value(const fbcheck_value &told, Bytes buffer) noexcept : told_(told), bytes_(buffer.data() + told.at, told.size) {}
+
+    explicit operator bool() const noexcept { return told_.kind > FBCHECK_OTHER_MEMBER; }
+    fbcheck_kind kind() const noexcept { return static_cast<fbcheck_kind>(told_.kind); }
+    const fbcheck_value &told() const noexcept { return told_; }
+
+    // Each has nothing where the value is of another kind.
+    std::optional<std::string_view> text() const noexcept {
+        if (kind() != FBCHECK_TEXT) return std::nullopt;
+        return std::string_view(reinterpret_cast<const char *>(bytes_.data()), bytes_.size());
+    }
+    // A Byte, Short, Int or Long.
+    std::optional<std::int64_t> integer() const noexcept {
+        return kind() == FBCHECK_INT ? std::optional(told_.integer) : std::nullopt;
+    }
+    // A Bool, a UType, UByte, UShort, UInt or ULong, the count of a vector, the type of a union.
+    std::optional<std::uint64_t> number() const noexcept {
+        const bool is = kind() == FBCHECK_BOOL || kind() == FBCHECK_UINT || kind() == FBCHECK_VECTOR ||
+                        kind() == FBCHECK_UNION;
+        return is ? std::optional(told_.number) : std::nullopt;
+    }
+    // A Float or Double. An absent one has nothing, whatever its default.
+    std::optional<double> real() const noexcept {
+        if (kind() != FBCHECK_FLOAT) return std::nullopt;
+        return bytes_.size() == sizeof(float) ? double(as<float>()) : as<double>();
+    }
+    // The bytes of a text, a Float, a Double, a struct, or a vector of scalars or structs; none of what else there is.
+    Bytes bytes() const noexcept { return bytes_; }
+
+  private:
+    template <class Number> Number as() const noexcept {
+        Number number;
+        std::memcpy(&number, bytes_.data(), sizeof number);
+        return number;
+    }
+    fbcheck_value told_{};
+    Bytes bytes_{nullptr, 0};
+};
+
+// What was read of a buffer: true where it is good, with the values at the ends of the paths, in their order.
+template <std::size_t Count> struct Reading {
+    Verdict verdict;
+    std::array<Value, Count> values;
+    explicit operator bool() const noexcept { return bool(verdict); }
+    const Value &operator[](std::size_t place) const { return values[place]; }
+};
+
+// How the library's own are freed.
+struct Free {
+    void operator()(fbcheck_schema *schema) const noexcept { fbcheck_schema_free(schema); }
+    void operator()(fbcheck_scratch *scratch) const noexcept { fbcheck_scratch_free(scratch); }
+};
+
+// Room for a walk deeper than FBCHECK_DEEP tables, or for one that clears no stack. It serves any Schema.
 class Scratch {
   public:
     explicit Scratch(std::uint32_t depth) : room_(fbcheck_scratch_new(depth)) {
         if (depth > FBCHECK_DEEPEST) throw Misuse(FBCHECK_OUT_OF_RANGE);
         if (room_ == nullptr) throw std::bad_alloc();
     }
-    ~Scratch() { fbcheck_scratch_free(room_); }
-    Scratch(const Scratch &) = delete;
-    Scratch &operator=(const Scratch &) = delete;
-    fbcheck_scratch *get() noexcept { return room_; }
+    fbcheck_scratch *get() noexcept { return room_.get(); }
 
   private:
-    fbcheck_scratch *room_;
+    std::unique_ptr<fbcheck_scratch, Free> room_;
 };
 
 // A schema, made of the bytes of a schema file, which it copies. It may be moved, and not be copied.
 class Schema {
   public:
-    Schema(const void *file, std::size_t length, const Options &options = {}) {
-        fbcheck_verdict why;
-        schema_ = fbcheck_schema_new(static_cast<const std::uint8_t *>(file), length, &options, &why);
-        if (schema_ == nullptr && why.status == FBCHECK_NO_MEMORY) throw std::bad_alloc();
-        if (schema_ == nullptr) throw SchemaError(why);
+    explicit Schema(Bytes file, const Options &options = {}) {
+        fbcheck_verdict told;
+        schema_.reset(fbcheck_schema_new(file.data(), file.size(), &options, &told));
+        if (schema_ == nullptr && told.status == FBCHECK_NO_MEMORY) throw std::bad_alloc();
+        if (schema_ == nullptr) throw SchemaError(told);
     }
-    ~Schema() { fbcheck_schema_free(schema_); }
-    Schema(Schema &&other) noexcept : schema_(std::exchange(other.schema_, nullptr)) {}
-    Schema &operator=(Schema &&other) noexcept {
-        std::swap(schema_, other.schema_);
-        return *this;
-    }
-    Schema(const Schema &) = delete;
-    Schema &operator=(const Schema &) = delete;
+    Schema(const void *file, std::size_t length, const Options &options = {}) : Schema(Bytes(file, length), options) {}
 
     // The number of the table of this name, for Options::root; FBCHECK_NO_TABLE where there is none.
-    std::uint32_t table(std::string_view name) const noexcept {
-        return fbcheck_table(schema_, name.data(), name.size());
+    std::uint32_t table(std::string_view name) const noexcept { return fbcheck_table(get(), name.data(), name.size()); }
+
+    // The path of a text, as "items[0]@Parcel.name", from the root that the options ask for.
+    Path path(std::string_view text, const Options &options = {}) const {
+        Path path;
+        fbcheck_verdict told;
+        const auto status = fbcheck_resolve(get(), &options, text.data(), text.size(), &path, &told);
+        if (status == FBCHECK_NO_MEMORY) throw std::bad_alloc();
+        if (status == FBCHECK_BAD_PATH || status == FBCHECK_NO_ROOM) throw PathError(text, told);
+        return served(status), path;
     }
 
     // Whether a buffer is good. It takes no memory.
+    bool good(Bytes buffer, const Options &options = {}, Scratch *scratch = nullptr) const {
+        return served(fbcheck_verify(get(), room(scratch), &options, buffer.data(), buffer.size(), nullptr)) ==
+               FBCHECK_OK;
+    }
     bool good(const void *buffer, std::size_t length, const Options &options = {}, Scratch *scratch = nullptr) const {
-        return verify(buffer, length, options, scratch).status == FBCHECK_OK;
+        return good(Bytes(buffer, length), options, scratch);
     }
 
-    // The verdict on a buffer, with the place of a fault in words, for which a bad one is checked once more.
-    Verdict check(const void *buffer, std::size_t length, const Options &options = {},
-                  Scratch *scratch = nullptr) const {
-        fbcheck_verdict told = verify(buffer, length, options, scratch);
-        std::string place;
-        for (std::size_t whole = told.status == FBCHECK_BAD ? 256 : 0; whole > place.size();) {
-            place.resize(whole);
-            fbcheck_locate(schema_, room(scratch), &options, bytes(buffer), length, place.data(), place.size(), &whole,
-                           &told);
-            if (whole <= place.size()) place.resize(whole);
-        }
+    // The verdict on a buffer, with the place of a fault in words.
+    Verdict check(Bytes buffer, const Options &options = {}, Scratch *scratch = nullptr) const {
+        fbcheck_verdict told;
+        std::size_t whole = 0;
+        const auto locate = [&](char *text, std::size_t size) {
+            served(fbcheck_locate(get(), room(scratch), &options, buffer.data(), buffer.size(), text, size, &whole,
+                                  &told));
+        };
+        char text[256];
+        locate(text, sizeof text);
+        std::string place(text, std::min(whole, sizeof text));
+        if (whole > sizeof text) place.resize(whole), locate(place.data(), whole);
         return Verdict(told, std::move(place));
     }
+    Verdict check(const void *buffer, std::size_t length, const Options &options = {},
+                  Scratch *scratch = nullptr) const {
+        return check(Bytes(buffer, length), options, scratch);
+    }
 
-#if __cplusplus >= 202002L
-    bool good(std::span<const std::byte> buffer, const Options &options = {}, Scratch *scratch = nullptr) const {
-        return good(buffer.data(), buffer.size(), options, scratch);
+    // The verdict on a buffer, and of a good one, which is checked once, the values at the ends of paths.
+    template <std::size_t Count>
+    Reading<Count> read(Bytes buffer, const std::array<Path, Count> &paths, const Options &options = {},
+                        Scratch *scratch = nullptr) const {
+        std::array<fbcheck_value, Count> found;
+        fbcheck_verdict told;
+        const auto status = fbcheck_read(get(), room(scratch), &options, buffer.data(), buffer.size(), paths.data(),
+                                         found.data(), Count, &told);
+        if (served(status) != FBCHECK_OK) return {check(buffer, options, scratch), {}};
+        Reading<Count> reading{Verdict(told, {}), {}};
+        std::transform(found.begin(), found.end(), reading.values.begin(),
+                       [buffer](const fbcheck_value &value) { return Value(value, buffer); });
+        return reading;
     }
-    Verdict check(std::span<const std::byte> buffer, const Options &options = {}, Scratch *scratch = nullptr) const {
-        return check(buffer.data(), buffer.size(), options, scratch);
-    }
-#endif
 
     // The schema for the calls of fbcheck.h; it stays this one's, which frees it.
-    const fbcheck_schema *get() const noexcept { return schema_; }
+    const fbcheck_schema *get() const noexcept { return schema_.get(); }
 
   private:
-    static const std::uint8_t *bytes(const void *buffer) noexcept { return static_cast<const std::uint8_t *>(buffer); }
     static fbcheck_scratch *room(Scratch *scratch) noexcept { return scratch ? scratch->get() : nullptr; }
-
-    fbcheck_verdict verify(const void *buffer, std::size_t length, const Options &options, Scratch *scratch) const {
-        fbcheck_verdict told;
-        const auto status = fbcheck_verify(schema_, room(scratch), &options, bytes(buffer), length, &told);
+    static std::uint32_t served(std::uint32_t status) {
         if (status != FBCHECK_OK && status != FBCHECK_BAD && status != FBCHECK_TOO_LONG) throw Misuse(status);
-        return told;
+        return status;
     }
 
-    fbcheck_schema *schema_ = nullptr;
+    std::unique_ptr<fbcheck_schema, Free> schema_;
+};
+
+// The messages of a stream that comes in pieces, each message with its size in front, for Options::prefixed.
+class Framer {
+  public:
+    // A message may have so many bytes, its size included; room for them is taken at once.
+    explicit Framer(std::size_t most) : room_(most) {
+        if (most < 8 || most > INT32_MAX) throw Misuse(FBCHECK_OUT_OF_RANGE);
+    }
+
+    // Calls each(Bytes) with each message that ends in this piece. Its bytes stand in the framer until each returns;
+    // where that throws, the rest of the piece is lost. Throws a StreamError where the stream is at fault.
+    template <class Each> void feed(Bytes piece, Each &&each) {
+        for (std::size_t at = 0, used = 0; at < piece.size(); at += used) {
+            const auto status = fbcheck_framer_feed(&framer_, room_.data(), room_.size(), piece.data() + at,
+                                                    piece.size() - at, &used);
+            if (status == FBCHECK_MORE) return;
+            if (status != FBCHECK_OK) throw StreamError(status, framer_);
+            const Bytes message(room_.data(), framer_.held);
+            fbcheck_framer_next(&framer_, room_.data(), room_.size());
+            each(message);
+        }
+    }
+
+    // Says that the stream has ended. Throws a StreamError where that is inside a message.
+    void finish() {
+        const auto status = fbcheck_framer_finish(&framer_, room_.data(), room_.size());
+        if (status != FBCHECK_OK) throw StreamError(status, framer_);
+    }
+
+    // How many bytes are held of the message that is coming, and how many one that is too long declared.
+    const fbcheck_framer &told() const noexcept { return framer_; }
+
+  private:
+    fbcheck_framer framer_ = FBCHECK_FRAMER_INIT;
+    std::vector<std::uint8_t> room_;
 };
 
 }  // namespace fbcheck

@@ -722,20 +722,51 @@ class LibraryForC(LibraryCase):
                     told = run("--bare", "--names", "--schema", small, given=words[1].read_bytes())
                     line = told.out.decode().removeprefix("1 ").strip()
                 self.same(f"{name}, check_cpp", (status, out.strip(), bool(err)), (wanted, line, wanted == 2))
-        for name, words, text in [
-            ("no schema", [orc, orc], "check: no schema: 8, reason 5 at 4\n"),
-            ("no schema file", [FOLDER / "nowhere", orc], f"check: {FOLDER}/nowhere can't be read\n"),
-            ("no buffer", [small, FOLDER / "nowhere"], f"check: {FOLDER}/nowhere can't be read\n"),
-            ("a folder", [small, FOLDER], f"check: {FOLDER} can't be read\n"),
-            ("no root table", [file_of("rootless", schema([table("T")])), orc], "check: nothing was checked: 6\n"),
+        for name, words, text, text_of_cpp in [
+            ("no schema", [orc, orc], "no schema: 8, reason 5 at 4", "no schema: V5 WrongIdentifier at=4"),
+            ("rows that are none", [file_of("bent", schema([table("T", field("a", INT, 5))])), orc],
+             "no schema: 9, reason 4 at 0", "no schema: C4 object=0 field=0"),
+            ("no schema file", [FOLDER / "nowhere", orc], *[f"{FOLDER}/nowhere can't be read"] * 2),
+            ("no buffer", [small, FOLDER / "nowhere"], *[f"{FOLDER}/nowhere can't be read"] * 2),
+            ("a folder", [small, FOLDER], *[f"{FOLDER} can't be read"] * 2),
+            ("no root table", [file_of("rootless", schema([table("T")])), orc], "nothing was checked: 6",
+             "nothing was checked: no root table"),
         ]:
-            for program in [check, check_cpp] if CPP else [check]:
-                self.same(f"{name}, told by {program.name}", ran(program, *words), (2, "", text))
+            self.same(f"{name}, told by check_c", ran(check, *words), (2, "", f"check: {text}\n"))
+            if CPP:
+                self.same(f"{name}, told by check_cpp", ran(check_cpp, *words), (2, "", f"check: {text_of_cpp}\n"))
         if CPP:
             for how, spans in [(CPP_17, ""), (CPP_20, "10 ")]:
                 moved = self.compiled("moved", TOP / "tests/c/moved.cpp", *SANITIZED, *STATIC, **how)
                 self.same(f"a Schema that is moved, {how['standard']}", ran(moved, small, orc),
                           (0, f"misuse 2 1 1 misuse 2 1 misuse 4 1 {spans}M\n", ""))
+
+    def test_streams_and_values_in_cpp(self):
+        """The classes of fbcheck.hpp for streams, paths and values: the program's lines, in pieces of any length."""
+        if not CPP:
+            return
+        source = TOP / "tests/c/reads.cpp"
+        made = [self.compiled("reads_17", source, *SANITIZED, *STATIC, **CPP_17),
+                self.compiled("reads_20", source, *SHARED, **CPP_20)]
+        number = lambda found: b"real:%f" % struct.unpack("<f", bytes.fromhex(found[1].decode()))
+        for path in ["to.name", "price", "floor", "stamps[0]", "stamps[1]", "route", "route[0]", "items", "first", "to",
+                     "to.home", "items[0]@Parcel.fragile", "items_type[0]", "first@Letter.pages", "helpers[1].age"]:
+            want = run("--schema", str(ORDERS), "--path", path, "--names", given=POST).out
+            want = re.sub(rb"float:(\w+)", number, want).decode()
+            for size, program in zip((1, 7, 4096), [*made, made[0]]):
+                self.same(f"{path}, in pieces of {size}", ran(program, ORDERS, path, size, 512, given=POST),
+                          (0, want, ""))
+        long = ".".join("a" * 32)
+        for name, words, given, text in [
+            ("a path", [ORDERS, "to.nam", 9, 512], POST, "no path: to.nam: P2 step=1"),
+            ("a text", [ORDERS, "to..name", 9, 512], POST, "no path: to..name: P1 at=3"),
+            ("a long path", [file_of("node", schemas.NODE), long, 9, 512], POST, f"no path: {long}: too many steps"),
+            ("a stream", [ORDERS, "to", 9, 512], POST[:-1], "the stream ends inside a message"),
+            ("a message", [ORDERS, "to", 9, 511], POST, "a message is too long for the room: 508"),
+            ("a room", [ORDERS, "to", 9, 7], POST, "nothing was checked: a depth or a room is out of range"),
+        ]:
+            status, _, err = ran(made[0], *words, given=given)
+            self.same(f"{name} at fault", (status, err), (2, f"{text}\n"))
 
     def test_texts_of_the_pages(self):
         """The C that README.md shows works when it is pasted."""

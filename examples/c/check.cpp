@@ -22,10 +22,10 @@ int main(int count, char **words) try {
     if (count < 3 || count > 4) throw std::runtime_error("usage: check SCHEMA.bfbs BUFFER [ROOT]");
     const auto file = bytes_of(words[1]);
     const auto buffer = bytes_of(words[2]);
-    const fbcheck::Schema schema(file.data(), file.size());
+    const fbcheck::Schema schema(file);
     fbcheck::Options options;
     if (count == 4) options.root = schema.table(words[3]);
-    const fbcheck::Verdict verdict = schema.check(buffer.data(), buffer.size(), options);
+    const fbcheck::Verdict verdict = schema.check(buffer, options);
     std::cout << verdict << "\n";
     return verdict ? 0 : 1;
 } catch (const std::exception &error) {

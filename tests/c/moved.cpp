@@ -6,6 +6,9 @@
 #include <fstream>
 #include <iostream>
 #include <iterator>
+#if __cplusplus >= 202002L
+#include <span>
+#endif
 #include <vector>
 
 static std::vector<std::byte> bytes_of(const char *path) {
@@ -36,7 +39,7 @@ int main(int, char **words) {
     options.max_depth = 1000;
     answer(first), answer(first, &scratch);
 #if __cplusplus >= 202002L
-    std::cout << bool(first.check(buffer, {}, &scratch)) << first.good(std::span(buffer).first(4)) << " ";
+    std::cout << bool(first.check(std::span(buffer), {}, &scratch)) << first.good(std::span(buffer).first(4)) << " ";
 #endif
     char name[16];
     std::cout << std::string(name, fbcheck_object_name(first.get(), 0, name, sizeof name)) << "\n";
