@@ -1,6 +1,6 @@
 //! What a run tells: gathered, counted, and written together.
 
-ghost use Rattle.std.specs.Prelude.{Err, IfErr, IsTrue, Ok, OnOk, OnErr, ◌≡◌, ◌+◌, ◌<◌, ◌≤◌, ◌^◌, ◌++◌, length, codes, take, ℕ, List, option_map};
+ghost use Rattle.std.specs.Prelude.{Err, IfErr, Ok, OnOk, OnErr, ◌≡◌, ◌⊎◌, ◌+◌, ◌<◌, ◌≤◌, ◌^◌, ◌++◌, length, true, false, codes, take, ℕ, List, option_map};
 ghost use Rattle.std.specs.Borrow.{Bor};
 ghost use Rattle.fb_access.specs.Denotes.{shown};
 ghost use Rattle.fb_run.specs.AnswerText.{answer_text};
@@ -10,7 +10,7 @@ ghost use Rattle.fb_run.specs.Job.{HasRoom, brief_verdict, verdict_of};
 ghost use Rattle.fb_run.specs.Line.{told_of, verdict_line, with_place};
 ghost use Rattle.fb_run.specs.Lines.{Adds, AddsThrough, AddsTold, ComesBehind, StopsBehind, StopsIn, WritesFronts};
 ghost use Rattle.fb_run.specs.Sums.{count_of, no_tally};
-ghost use Rattle.fb_run.specs.Texts.{silent, waiting, written_by};
+ghost use Rattle.fb_run.specs.Texts.{silent, size, waiting, written_by};
 
 use crate::checker::{Checker, Found, Wrong};
 use crate::counter::Counter;
@@ -309,7 +309,8 @@ impl<A: Allocator> Output<A> {
     /// Whether so much waits that it is written before the next message is checked. (Where it were 2^40 bytes, they would
     /// wait on; no line and no message has as many.)
     pub fn is_much(&self) -> bool
-        ensures { IsTrue result → length (waiting self.now).out + length (waiting self.now).notes < 2 ^ 40 }
+        ensures much { result ≡ true → 65536 ≤ size (waiting self.now) × (size (waiting self.now) < 2 ^ 40) }
+        ensures little { result ≡ false → size (waiting self.now) < 65536 ⊎ 2 ^ 40 ≤ size (waiting self.now) }
     {
         let waits = self.out.bytes.len() + self.notes.bytes.len();
         (MOST_WAITING..1 << 40).contains(&waits)
