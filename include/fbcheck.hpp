@@ -257,16 +257,8 @@ class Schema {
     // The verdict on a buffer, with the place of a fault in words.
     Verdict check(Bytes buffer, const Options &options = {}, Scratch *scratch = nullptr) const {
         fbcheck_verdict told;
-        std::size_t whole = 0;
-        const auto locate = [&](char *text, std::size_t size) {
-            served(fbcheck_locate(get(), room(scratch), &options, buffer.data(), buffer.size(), text, size, &whole,
-                                  &told));
-        };
-        char text[256];
-        locate(text, sizeof text);
-        std::string place(text, std::min(whole, sizeof text));
-        if (whole > sizeof text) place.resize(whole), locate(place.data(), whole);
-        return Verdict(told, std::move(place));
+        const auto status = fbcheck_verify(get(), room(scratch), &options, buffer.data(), buffer.size(), &told);
+        return served(status) == FBCHECK_OK ? Verdict(told, {}) : located(buffer, options, scratch);
     }
     Verdict check(const void *buffer, std::size_t length, const Options &options = {},
                   Scratch *scratch = nullptr) const {
@@ -281,7 +273,7 @@ class Schema {
         fbcheck_verdict told;
         const auto status = fbcheck_read(get(), room(scratch), &options, buffer.data(), buffer.size(), paths.data(),
                                          found.data(), Count, &told);
-        if (served(status) != FBCHECK_OK) return {check(buffer, options, scratch), {}};
+        if (served(status) != FBCHECK_OK) return {located(buffer, options, scratch), {}};
         Reading<Count> reading{Verdict(told, {}), {}};
         std::transform(found.begin(), found.end(), reading.values.begin(),
                        [buffer](const fbcheck_value &value) { return Value(value, buffer); });
@@ -292,6 +284,20 @@ class Schema {
     const fbcheck_schema *get() const noexcept { return schema_.get(); }
 
   private:
+    // The same of a buffer that isn't good, with its place in words.
+    Verdict located(Bytes buffer, const Options &options, Scratch *scratch) const {
+        fbcheck_verdict told;
+        std::size_t whole = 0;
+        const auto locate = [&](char *text, std::size_t size) {
+            served(fbcheck_locate(get(), room(scratch), &options, buffer.data(), buffer.size(), text, size, &whole,
+                                  &told));
+        };
+        char text[256];
+        locate(text, sizeof text);
+        std::string place(text, std::min(whole, sizeof text));
+        if (whole > sizeof text) place.resize(whole), locate(place.data(), whole);
+        return Verdict(told, std::move(place));
+    }
     static fbcheck_scratch *room(Scratch *scratch) noexcept { return scratch ? scratch->get() : nullptr; }
     static std::uint32_t served(std::uint32_t status) {
         if (status != FBCHECK_OK && status != FBCHECK_BAD && status != FBCHECK_TOO_LONG) throw Misuse(status);
