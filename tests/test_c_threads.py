@@ -48,7 +48,7 @@ class LibraryOnThreads(LibraryCase):
         starved = self.compiled("starved", TOP / "tests/c/starved.c", *SHARED)
         good, bad = (file_of(f"post-{number}", messages_of(POST)[number]) for number in (0, 4))
         statuses = [one.status for one in sweep([starved, ORDERS, good, bad, "items[0]@Parcel.tags[1]"], b"", ALONE)]
-        self.same("by each call in its turn", list(dict.fromkeys(statuses)), [11, 12, 13, 14])
+        self.same("by each call in its turn", list(dict.fromkeys(statuses)), [11, 12, 13])
         self.same("and by none out of it", statuses, sorted(statuses))
 
     def test_threads(self):
