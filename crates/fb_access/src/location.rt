@@ -54,7 +54,7 @@ pub fn put_location<A: Allocator>(
     text.extend_from_slice(location_of(schema, fault, links).as_slice())
 }
 
-/// Adds where a fault is, up to so many bytes in all.
+/// Adds where a fault is, up to where a place is cut.
 #[tactic(auto, using(crate::proofs::Filling::filled_twice), unfolding(crate::specs::Location::whole_text))]
 fn put_front(text: &mut LocationText, schema: &Schema<'_>, fault: &Fault, links: &[Link])
     ensures { text.new.items ≡ filled text.old.items (whole_text schema.now fault.now links.now) }
@@ -67,7 +67,7 @@ fn put_front(text: &mut LocationText, schema: &Schema<'_>, fault: &Fault, links:
     put_text(text, b"]");
 }
 
-/// Adds the path to which links lead, up to so many bytes in all.
+/// Adds the path to which links lead, up to where a place is cut.
 #[tactic(auto, using(crate::proofs::Filling::filled_twice))]
 fn put_path(text: &mut LocationText, schema: &Schema<'_>, links: &[Link])
     ensures { text.new.items ≡ filled text.old.items (path_text schema.now links.now) }
@@ -81,7 +81,7 @@ fn put_path(text: &mut LocationText, schema: &Schema<'_>, links: &[Link])
     }
 }
 
-/// Adds links, each behind a dot, up to so many bytes in all.
+/// Adds links, each behind a dot, up to where a place is cut.
 fn put_links(text: &mut LocationText, schema: &Schema<'_>, links: &[Link])
     ensures { text.new.items ≡ filled text.old.items (flat_map (λ l. codes "." ++ link_text schema.now l) links.now) }
 {
@@ -91,7 +91,7 @@ fn put_links(text: &mut LocationText, schema: &Schema<'_>, links: &[Link])
     }
 }
 
-/// Adds one link, a field with the element and the member that it has of it, up to so many bytes in all.
+/// Adds one link, a field with the element and the member that it has of it, up to where a place is cut.
 #[tactic(auto, using(crate::proofs::Filling::filled_twice))]
 fn put_link(text: &mut LocationText, schema: &Schema<'_>, link: &Link)
     ensures { text.new.items ≡ filled text.old.items (link_text schema.now link.now) }
@@ -101,7 +101,7 @@ fn put_link(text: &mut LocationText, schema: &Schema<'_>, link: &Link)
     put_named(text, b"@", member_of(schema, link));
 }
 
-/// Adds an element's number between brackets, up to so many bytes in all.
+/// Adds an element's number between brackets, up to where a place is cut.
 #[tactic(auto, using(crate::proofs::Filling::filled_twice, crate::proofs::Filling::filled_nothing))]
 fn put_element(text: &mut LocationText, element: Option<u32>)
     ensures { text.new.items ≡ filled text.old.items (element_text element) }
@@ -115,7 +115,7 @@ fn put_element(text: &mut LocationText, element: Option<u32>)
     put_text(text, b"]");
 }
 
-/// Adds a name behind a mark, where there is one, up to so many bytes in all.
+/// Adds a name behind a mark, where there is one, up to where a place is cut.
 #[tactic(auto, using(crate::proofs::Filling::filled_name, crate::proofs::Filling::filled_nothing))]
 fn put_named(text: &mut LocationText, mark: &[u8], name: Option<&[u8]>)
     ensures { text.new.items ≡ filled text.old.items (named mark.now (option_map (λ n. n.now) name.entry)) }
@@ -128,7 +128,7 @@ fn put_named(text: &mut LocationText, mark: &[u8], name: Option<&[u8]>)
     put_name(text, name);
 }
 
-/// Adds a text, up to so many bytes in all.
+/// Adds a text, up to where a place is cut.
 #[tactic(auto, unfolding(crate::specs::Location::filled))]
 fn put_text(text: &mut LocationText, more: &[u8])
     ensures { text.new.items ≡ filled text.old.items more.now }

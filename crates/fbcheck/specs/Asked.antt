@@ -92,7 +92,7 @@ pub record IsAsked (rows : Rows) (own : Own) (settings : Settings) (job : Job) :
   pub ident_is : asked_ident own settings ≡ Some ident
   pub job_is : job ≡ job_of rows (options_of settings root steps ident)
 
--- the settings ask for a root and a path, and for the schema's own identifier, which hasn't four bytes
+-- the settings ask for a root and a path, and for the schema's own identifier, which has neither no bytes nor four
 pub record LacksIdent (rows : Rows) (own : Own) (settings : Settings) : Type 0 where
   pub root : ℕ
   pub root_is : asked_root rows own settings ≡ Some root

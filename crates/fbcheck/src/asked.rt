@@ -188,7 +188,8 @@ pub struct Asked<'b> {
 /// # Errors
 ///
 /// `Load` where the schema file gives no schema, then `NoRoot` where there is no root table, then `Path` where the path
-/// isn't one from there, and then `NoIdent` where the schema's own identifier is asked for and hasn't four bytes;
+/// isn't one from there, and then `NoIdent` where the schema's own identifier is asked for and has neither no bytes nor
+/// four;
 /// `OutOfMemory` in place of any where memory was refused. Each with what is told behind it.
 pub fn asked_of<'b>(
     alloc: Global,

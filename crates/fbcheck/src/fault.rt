@@ -23,7 +23,7 @@ pub enum AskFault {
     /// type's.
     #[error("path: {0}")]
     Path(PathFault),
-    /// The schema's own identifier is asked for, and it hasn't four bytes.
+    /// The schema's own identifier is asked for, and it has neither no bytes nor four.
     #[error("the schema's identifier isn't four bytes")]
     NoIdent,
     /// Memory was refused.

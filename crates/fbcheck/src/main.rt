@@ -3,8 +3,8 @@
 //!
 //! The words of the command line are read first, then the schema file, then the input; help goes to standard output.
 //! Faults go to standard error, and the first ends the program. The exit status is 0 where every buffer had a yes or
-//! help was given, 1 where a buffer had a no, 2 where the words, the schema file, the root or the path are wrong, and
-//! 3 for every other fault.
+//! help was given, 1 where a buffer had a no, 2 where the words, the schema file, the root, the path or the schema's own
+//! identifier are wrong, and 3 for every other fault.
 #![tactic(auto)]
 
 ghost use Rattle.std.specs.Prelude.{⊤};

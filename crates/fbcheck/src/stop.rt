@@ -108,8 +108,8 @@ impl From<Unasked> for Stop {
 }
 
 impl Stop {
-    /// The exit status: 2 where the words, the schema file, the root or the path are wrong, and 3 after any other
-    /// fault.
+    /// The exit status: 2 where the words, the schema file, the root, the path or the schema's own identifier are
+    /// wrong, and 3 after any other fault.
     fn status(&self) -> u8
         ensures { result ≡ stop_status self.now }
     {
@@ -209,7 +209,7 @@ pub fn tell<N: Sink>(outcome: &Result<Ending, Stop>, notes: &mut N)
 }
 
 /// The program's exit status: 0 where every buffer had a yes or help was written, 1 where a buffer had a no, 2 where
-/// the words, the schema file, the root or the path are wrong, and 3 for every other fault.
+/// the words, the schema file, the root, the path or the schema's own identifier are wrong, and 3 for every other fault.
 pub fn exit_status(outcome: &Result<Ending, Stop>) -> u8
     ensures { result ≡ exit_status outcome.now }
 {

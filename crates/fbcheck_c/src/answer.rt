@@ -26,7 +26,7 @@ pub enum Answer {
     UnknownOptions,
     /// 4: a limit of depth is above the room for open tables, or the room above 4,096 levels.
     OutOfRange,
-    /// 5: the schema's own identifier is asked for, and hasn't four bytes.
+    /// 5: the schema's own identifier is asked for, and has neither no bytes nor four.
     NoIdent,
     /// 6: the schema has no root table of its own, or the number that is asked is no table's.
     NoRoot,
