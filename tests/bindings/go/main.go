@@ -196,8 +196,16 @@ func loads(words []string) string {
 			before = kilobytes()
 		}
 		schema, err := fbcheck.NewSchema(given, fbcheck.Options{})
-		if err != nil || schema.Check(nil).OK {
+		if err != nil {
 			return "no schema"
+		}
+		other, err := schema.With(fbcheck.Options{Prefixed: true})
+		if err != nil || other.Check(nil).OK {
+			return "no other options"
+		}
+		other.Close()
+		if schema.Check(nil).OK || other.Check(nil).OK {
+			return "a good message of no bytes"
 		}
 		schema.Close()
 		if _, err := fbcheck.NewSchema(given[:i%(len(given)/2)], fbcheck.Options{}); err == nil {
