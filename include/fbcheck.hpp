@@ -65,7 +65,7 @@ class Bytes {
 inline std::string why(const fbcheck_verdict &told) {
     static constexpr const char *words[] = {
         "good", "bad", "a pointer is null, or the schema was moved from", "the options are of another version",
-        "a depth or a room is out of range", "the schema's own identifier hasn't four bytes", "no root table",
+        "a depth or a room is out of range", "the schema's identifier isn't four bytes", "no root table",
         "2^31 bytes or more", "not well formed", "no schema", "its root table isn't listed", "out of memory",
         "the span isn't in the block", "the message goes on", "a message is too long for the room",
         "the stream ends inside a message", "the stream has failed before", "no path", "too many steps",

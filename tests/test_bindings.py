@@ -163,6 +163,10 @@ class Binding:
         answers = self.told(f"load {FILES['M']}", *[f"with {asked}" for asked, _ in rows])
         for (asked, want), got in zip(rows, answers[1:]):
             self.same(asked, got, want)
+        for ident in ("", "KIN", "KIND", "KINDS"):
+            file = file_of(f"ident{len(ident)}.bfbs", schema([table("T")], root="T", ident=ident))
+            want = run("--schema", file, "--schema-ident").err.decode().strip().replace("fbcheck:", "error") or "done"
+            self.same(f"the schema's own, {ident!r}", self.told(f"load {file}", "with ident=own"), ["done", want])
         words = [f"load {FILES['CHAIN']}", f"check {deep}", "with max_depth=99", f"check {deep}", "with max_depth=100",
                  f"check {deep}", f"load {FILES['M']}", f"check {ident}", "with ident=KIND", f"check {ident}",
                  "with ident=KIN.", f"check {ident}"]

@@ -107,7 +107,7 @@ type Status uint32
 // Why a call couldn't be served.
 const (
 	OutOfRange    Status = C.FBCHECK_OUT_OF_RANGE    // MaxDepth is above 4096
-	NoIdent       Status = C.FBCHECK_NO_IDENT        // the identifier asked for hasn't 4 bytes
+	NoIdent       Status = C.FBCHECK_NO_IDENT        // Ident hasn't 4 bytes; or the schema's own has some, but not 4
 	NoRoot        Status = C.FBCHECK_NO_ROOT         // the schema has no root table, or none of this name
 	LongFile      Status = C.FBCHECK_TOO_LONG        // the schema file has 2^31 bytes or more
 	NotWellFormed Status = C.FBCHECK_NOT_WELL_FORMED // the file is no binary schema, or a damaged one
@@ -125,7 +125,7 @@ const (
 
 var texts = map[Status]string{
 	OutOfRange:    "MaxDepth is above 4096",
-	NoIdent:       "the schema's identifier must be four bytes",
+	NoIdent:       "the schema's identifier isn't four bytes",
 	NoRoot:        "no root table",
 	LongFile:      "schema: L5 TooLong",
 	RootNotListed: "schema: L3 RootNotListed",

@@ -27,7 +27,7 @@ const PATH_FAULTS = ['', 'BadText', 'NoSuchField', 'NotIndexable', 'NotAUnion', 
 const KINDS = ['absent', 'no-element', 'other-member', 'bool', 'int', 'uint', 'float', 'text', 'struct', 'vector',
   'table', 'union'];
 const TEXTS = {
-  NO_IDENT: "the schema's identifier must be four bytes",
+  NO_IDENT: "the schema's identifier isn't four bytes",
   NO_ROOT: 'no root table',
   TOO_LONG: 'schema: L5 TooLong',
   ROOT_NOT_LISTED: 'schema: L3 RootNotListed',

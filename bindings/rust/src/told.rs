@@ -265,7 +265,7 @@ pub enum Error {
     TooMuchShared,
     /// The schema has no root table of its own, or none of the name that was asked for.
     NoRoot,
-    /// The schema's own identifier was asked for, and it hasn't 4 bytes.
+    /// The schema's own identifier was asked for, and it has some bytes, but not 4.
     NoIdent,
     /// A depth above 4,096 was asked for.
     OutOfRange,
@@ -339,7 +339,7 @@ impl fmt::Display for Error {
             Error::TooLong => write!(to, "schema: L5 TooLong"),
             Error::TooMuchShared => write!(to, "schema: L6 TooMuchShared"),
             Error::NoRoot => write!(to, "no root table"),
-            Error::NoIdent => write!(to, "the schema's identifier must be four bytes"),
+            Error::NoIdent => write!(to, "the schema's identifier isn't four bytes"),
             Error::OutOfRange => write!(to, "max_depth is above 4096"),
             Error::BadPath { code, at } => {
                 let (name, at_or_step) = (

@@ -10,8 +10,8 @@ public class FbcheckException extends RuntimeException {
         BAD(1, ""),
         /** {@link Options#maxDepth} is above 4,096. */
         OUT_OF_RANGE(4, "maxDepth is above 4096"),
-        /** The schema's own identifier was asked for, and it hasn't 4 bytes. */
-        NO_IDENT(5, "the schema's identifier must be four bytes"),
+        /** The schema's own identifier was asked for, and it has some bytes, but not 4. */
+        NO_IDENT(5, "the schema's identifier isn't four bytes"),
         /** The schema has no root table of its own, or none of the name that was asked for. */
         NO_ROOT(6, "no root table"),
         /** The schema file has 2^31 bytes or more. */
