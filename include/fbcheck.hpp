@@ -4,7 +4,8 @@
 //     if (const auto verdict = schema.check(buffer); !verdict) std::cerr << verdict << "\n";
 //
 //     const std::array paths{schema.path("to.name"), schema.path("price")};
-//     if (const auto found = schema.read(buffer, paths)) std::cout << *found[0].text() << found[1].real().value_or(0);
+//     if (const auto found = schema.read(buffer, paths))
+//         std::cout << found[0].text().value_or("") << found[1].real().value_or(0);
 //
 // A bad buffer is no exception. What is one tells why in words: SchemaError of a file that is no schema, PathError of a
 // text that is no path, StreamError of a stream, and Misuse of a call that can't be served: no root table, options of
