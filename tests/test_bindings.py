@@ -163,10 +163,10 @@ class Binding:
         answers = self.told(f"load {FILES['M']}", *[f"with {asked}" for asked, _ in rows])
         for (asked, want), got in zip(rows, answers[1:]):
             self.same(asked, got, want)
-        for ident in ("", "KIN", "KIND", "KINDS"):
-            file = file_of(f"ident{len(ident)}.bfbs", schema([table("T")], root="T", ident=ident))
+        for own in ("", "KIN", "KIND", "KINDS"):
+            file = file_of(f"own{len(own)}.bfbs", schema([table("T")], root="T", ident=own))
             want = run("--schema", file, "--schema-ident").err.decode().strip().replace("fbcheck:", "error") or "done"
-            self.same(f"the schema's own, {ident!r}", self.told(f"load {file}", "with ident=own"), ["done", want])
+            self.same(f"the schema's own, {own!r}", self.told(f"load {file}", "with ident=own"), ["done", want])
         words = [f"load {FILES['CHAIN']}", f"check {deep}", "with max_depth=99", f"check {deep}", "with max_depth=100",
                  f"check {deep}", f"load {FILES['M']}", f"check {ident}", "with ident=KIND", f"check {ident}",
                  "with ident=KIN.", f"check {ident}"]
@@ -202,7 +202,7 @@ class Binding:
         self.same("several at once", self.told(*commands)[1:], want)
 
     def test_errors(self):
-        """The texts of the program for schema files, paths and messages."""
+        """The texts of the program for schema files, paths and messages, without the names behind them."""
         file = ORDERS.read_bytes()
         given = [b"", file[:100], b"hello, world", file[:4] + b"BFBX" + file[8:],
                  schema([table("T", field("o", an_object(7), 4))], root="T"),
@@ -212,7 +212,7 @@ class Binding:
                  schema([table("T")], root="S"), schema([table("T")])]
         files = [file_of(f"wrong{number}.bfbs", data) for number, data in enumerate(given)]
         for path, got in zip(files, self.told(*[f"load {path}" for path in files])):
-            want = run("--schema", path).err.decode().removeprefix("fbcheck: ").strip()
+            want = run("--schema", path).err.decode().removeprefix("fbcheck: ").partition(";")[0].strip()
             self.same(f"{path.name}", got, f"error {want}")
         first = file_of("first", messages_of(POST)[0])
         texts = ["to..x", "to.nobody", "to[0]", "items@Parcel", "first@Nobody", "to.name.x", "items[4294967296]"]
