@@ -108,6 +108,11 @@ class Binding:
         self.same("the driver ends well", (status, err, len(answers)), (0, "", len(commands)))
         return [answer.strip() for answer in answers] + ["no answer"] * (len(commands) - len(answers))
 
+    @staticmethod
+    def fault(*words):
+        """What the program tells of a fault, without what it adds behind a semicolon."""
+        return run(*words).err.decode().removeprefix("fbcheck: ").partition(";")[0].strip()
+
     def test_verdicts(self):
         """Those of the program on streams of good and damaged messages, with every reason but a wrong prefix."""
         commands, wanted = [], []
@@ -212,8 +217,7 @@ class Binding:
                  schema([table("T")], root="S"), schema([table("T")])]
         files = [file_of(f"wrong{number}.bfbs", data) for number, data in enumerate(given)]
         for path, got in zip(files, self.told(*[f"load {path}" for path in files])):
-            want = run("--schema", path).err.decode().removeprefix("fbcheck: ").partition(";")[0].strip()
-            self.same(f"{path.name}", got, f"error {want}")
+            self.same(f"{path.name}", got, f"error {self.fault('--schema', path)}")
         first = file_of("first", messages_of(POST)[0])
         texts = ["to..x", "to.nobody", "to[0]", "items@Parcel", "first@Nobody", "to.name.x", "items[4294967296]"]
         torn = file_of("torn", messages_of(POST)[4])
@@ -221,8 +225,7 @@ class Binding:
                     f"misfit root=post.Parcel tags[0] {first}", f"read {first} {'.'.join(['to'] * 40)}"]
         _, *answers, bad, misfit, long = self.told(*commands)
         for text, got in zip(texts, answers):
-            want = run("--schema", ORDERS, "--path", text).err.decode().removeprefix("fbcheck: ").strip()
-            self.same(f"the path {text}", got, f"error {want}")
+            self.same(f"the path {text}", got, f"error {self.fault('--schema', ORDERS, '--path', text)}")
         want = run("--names", "--schema", ORDERS, given=messages_of(POST)[4]).out.decode()[2:].strip()
         self.same("a bad message has no values", bad, f"error {want}")
         self.same("a path of another root", misfit, "error a path is none of this schema from this root")
