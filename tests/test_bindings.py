@@ -33,6 +33,7 @@ from tests.support.program import FOLDER, TOP, file_of, run
 from tests.support.schemas import INT, TEXT, U_BYTE, a_union, an_object, field, schema, table, union
 
 DRIVERS = TOP / "tests/bindings"
+NO_SCHEMA = "; this is no binary schema, which flatc --binary --schema makes"
 FOUND = {"PKG_CONFIG_PATH": str(OUT), "LD_LIBRARY_PATH": str(OUT)}
 ORDERS = TOP / "examples/deliveries.bfbs"
 STREAM = TOP / "examples/deliveries.bin"
@@ -82,6 +83,8 @@ class Binding:
 
     max_depth = "maxDepth"
     closed = "the schema is closed"
+    quoted = ' ("{}")'  # what was asked for, behind the text of an error
+    names_files = False  # whether a schema file is loaded by its name, which an error tells too
 
     @classmethod
     def setUpClass(cls):
@@ -163,7 +166,8 @@ class Binding:
         ident = file_of("ident", buffer({0: ("h", 5)}, b"KIND"))
         rows = [
             ("max_depth=4097", f"error {self.max_depth} is above 4096"), ("max_depth=4096", "done"),
-            ("root=N", "error no root table"), ("root=M", "done"), ("ident=own", "done"), ("ident=NONE", "done"),
+            ("root=N", f"error no root table{self.quoted.format('N')}"), ("root=M", "done"), ("ident=own", "done"),
+            ("ident=NONE", "done"),
         ]
         answers = self.told(f"load {FILES['M']}", *[f"with {asked}" for asked, _ in rows])
         for (asked, want), got in zip(rows, answers[1:]):
@@ -207,7 +211,7 @@ class Binding:
         self.same("several at once", self.told(*commands)[1:], want)
 
     def test_errors(self):
-        """The texts of the program for schema files, paths and messages, without the names behind them."""
+        """The texts of the program for schema files, paths and messages, with what was asked for."""
         file = ORDERS.read_bytes()
         given = [b"", file[:100], b"hello, world", file[:4] + b"BFBX" + file[8:],
                  schema([table("T", field("o", an_object(7), 4))], root="T"),
@@ -217,18 +221,26 @@ class Binding:
                  schema([table("T")], root="S"), schema([table("T")])]
         files = [file_of(f"wrong{number}.bfbs", data) for number, data in enumerate(given)]
         for path, got in zip(files, self.told(*[f"load {path}" for path in files])):
-            self.same(f"{path.name}", got, f"error {self.fault('--schema', path)}")
+            want = self.fault("--schema", path)
+            if want.startswith("schema: L1 "):
+                want += NO_SCHEMA
+            if self.names_files and want.startswith("schema: "):
+                want += self.quoted.format(path)
+            self.same(f"{path.name}", got, f"error {want}")
         first = file_of("first", messages_of(POST)[0])
+        deep, none = ".".join(["next"] * 32), file_of("no_bytes", b"")
         texts = ["to..x", "to.nobody", "to[0]", "items@Parcel", "first@Nobody", "to.name.x", "items[4294967296]"]
         torn = file_of("torn", messages_of(POST)[4])
         commands = [f"load {ORDERS} prefixed=1", *[f"read {first} {text}" for text in texts], f"read {torn} to.name",
-                    f"misfit root=post.Parcel tags[0] {first}", f"read {first} {'.'.join(['to'] * 40)}"]
-        _, *answers, bad, misfit, long = self.told(*commands)
+                    f"misfit root=post.Parcel tags[0] {first}", f"load {FILES['CHAIN']}", f"read {none} {deep}"]
+        _, *answers, bad, misfit, _, long = self.told(*commands)
         for text, got in zip(texts, answers):
-            self.same(f"the path {text}", got, f"error {self.fault('--schema', ORDERS, '--path', text)}")
+            want = self.fault("--schema", ORDERS, "--path", text)
+            self.same(f"the path {text}", got, f"error {want}{self.quoted.format(text)}")
         want = run("--names", "--schema", ORDERS, given=messages_of(POST)[4]).out.decode()[2:].strip()
         self.same("a bad message has no values", bad, f"error {want}")
         self.same("a path of another root", misfit, "error a path is none of this schema from this root")
+        self.same("a long path", long, f"error the path has more than 31 steps{self.quoted.format(deep)}")
         if self.closed:
             after = [f"check {first}", f"read {first} to", "with prefixed=1", "object 1"]
             told = self.told(f"load {ORDERS}", "close", *after)
@@ -337,6 +349,7 @@ class Rust(Binding, LibraryCase):
 
 class Node(Binding, LibraryCase):
     language, folder, fence = "Node", "node", "js"
+    quoted, names_files = " ('{}')", True
     driver = ["node", DRIVERS / "driver.js"]
 
     @classmethod
@@ -373,7 +386,7 @@ class Node(Binding, LibraryCase):
                 ("schema.path('nam')", "FbcheckError: path: P2 NoSuchField step=0 ('nam')"),
                 ("schema.with({ root: 'N' })", "FbcheckError: no root table ('N')"),
                 (f"new Schema('{plain}')",
-                 f"FbcheckError: schema: L1 V5 WrongIdentifier at=4 object=9 field=- reads=1 ('{plain}')")]
+                 f"FbcheckError: schema: L1 V5 WrongIdentifier at=4 object=9 field=- reads=1{NO_SCHEMA} ('{plain}')")]
         code = (f"const {{ Schema }} = require('{TOP}/bindings/node'); const schema = new Schema('{FILES['M']}');\n"
                 "const prefixed = schema.with({ prefixed: true });\n"
                 "const told = (call) => { try { console.log(call()); } catch (e) { console.log(String(e)); } };\n")
@@ -433,6 +446,7 @@ class Go(Binding, LibraryCase):
 
 class Java(Binding, LibraryCase):
     language, folder, fence = "Java", "java", "java"
+    names_files = True
     jdk = jdk_of_22()
     words = ["--enable-native-access=ALL-UNNAMED", f"-Dfbcheck.library={OUT}/libfbcheck.so.1", "-Xms64m", "-Xmx64m",
              "-XX:+AlwaysPreTouch", "-cp"]

@@ -141,23 +141,27 @@ var codes = [...]string{"", "NoSuchObject", "NoSuchEnum", "Unsupported", "BadSlo
 
 var pathFaults = [...]string{"", "BadText", "NoSuchField", "NotIndexable", "NotAUnion", "NoSuchMember", "NotATable"}
 
+// noSchema is said behind the fault of a file that isn't well-formed.
+const noSchema = "; this is no binary schema, which flatc --binary --schema makes"
+
 // An Error is that of a call that couldn't be served.
 type Error struct {
 	Status Status
 	text   string
 }
 
-// Error is the text that the program tells.
+// Error is the text that the program tells, with the root or path that was asked for.
 func (e *Error) Error() string {
 	return "fbcheck: " + e.text
 }
 
-func errorOf(verdict C.fbcheck_verdict) *Error {
+// errorOf is the error that a call told, which was asked for something, or for nothing that has a name.
+func errorOf(verdict C.fbcheck_verdict, asked string) *Error {
 	status, code := Status(verdict.status), uint32(verdict.reason)
 	text := texts[status]
 	switch status {
 	case NotWellFormed:
-		text = "schema: L1 " + refused(verdict, "").String()[len("bad "):]
+		text = "schema: L1 " + refused(verdict, "").String()[len("bad "):] + noSchema
 	case BadSchema:
 		owner, field := uint32(verdict.object), dash(part(verdict.field))
 		text = fmt.Sprintf("schema: L2 C%d %s owner=%d part=%s", code, codes[code], owner, field)
@@ -168,7 +172,15 @@ func errorOf(verdict C.fbcheck_verdict) *Error {
 		}
 		text = fmt.Sprintf("path: P%d %s %s=%d", code, pathFaults[code], word, uint64(verdict.at))
 	}
+	if status == BadPath || status == TooManySteps {
+		text = naming(text, asked)
+	}
 	return &Error{Status: status, text: text}
+}
+
+// naming is a text with what was asked for.
+func naming(text, asked string) string {
+	return fmt.Sprintf("%s (%q)", text, asked)
 }
 
 // A Kind tells what stands at the end of a path.

@@ -38,6 +38,9 @@ const TEXTS = {
   TOO_MUCH_SHARED: 'schema: L6 TooMuchShared',
 };
 
+// What is said behind the fault of a file that isn't well-formed.
+const NO_SCHEMA = '; this is no binary schema, which flatc --binary --schema makes';
+
 class FbcheckError extends Error {
   name = 'FbcheckError';
 
@@ -97,7 +100,7 @@ function errorOf(status, asked) {
   const code = told[REASON];
   let text = TEXTS[name];
   if (name === 'NOT_WELL_FORMED') {
-    text = `schema: L1 ${String(new Bad('')).slice('bad '.length)}`;
+    text = `schema: L1 ${String(new Bad('')).slice('bad '.length)}${NO_SCHEMA}`;
   } else if (name === 'BAD_SCHEMA') {
     const part = told[FIELD] === NONE ? '-' : told[FIELD];
     text = `schema: L2 C${code} ${CODES[code]} owner=${told[OBJECT]} part=${part}`;

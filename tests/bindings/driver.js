@@ -189,9 +189,7 @@ async function main() {
     try {
       to.push(await done(line.split(' '), to));
     } catch (error) {
-      // The module's texts are the program's, with the name of what was asked for behind.
-      const text = error.message.replace(/ \('.*'\)$/, '');
-      to.push(`error ${error.code === 'ERR_ASSERTION' ? error.stack : text}`);
+      to.push(`error ${error.code === 'ERR_ASSERTION' ? error.stack : error.message}`);
     }
     process.stdout.write(`${[...to, '.'].join('\n')}\n`);
   }

@@ -240,7 +240,7 @@ fn float(bytes: &[u8]) -> f64 {
     }
 }
 
-/// Why there is no schema, or no path. Each is told as the program tells it.
+/// Why there is no schema, or no path. Each is told as the program tells it, with the root or path that was asked for.
 #[derive(Clone, Debug, PartialEq, Eq)]
 #[non_exhaustive]
 pub enum Error {
@@ -263,8 +263,10 @@ pub enum Error {
     TooLong,
     /// It has more rows, or longer names, than its length pays for.
     TooMuchShared,
-    /// The schema has no root table of its own, or none of the name that was asked for.
+    /// The schema has no root table of its own.
     NoRoot,
+    /// The schema has no table of this name, which was asked for as the root.
+    NoSuchRoot(String),
     /// The schema's own identifier was asked for, and it has some bytes, but not 4.
     NoIdent,
     /// A depth above 4,096 was asked for.
@@ -275,9 +277,11 @@ pub enum Error {
         code: u32,
         /// With `P1` the place in the text, else the number of the step.
         at: u64,
+        /// The text.
+        path: String,
     },
-    /// The path has more than 31 steps.
-    TooManySteps,
+    /// This path has more than 31 steps.
+    TooManySteps(String),
 }
 
 const CODES: [&str; 8] = [
@@ -299,8 +303,12 @@ const PATH_FAULTS: [&str; 6] = [
     "NotATable",
 ];
 
+/// What is said behind the fault of a file that isn't well-formed.
+const NO_SCHEMA: &str = "; this is no binary schema, which flatc --binary --schema makes";
+
 impl Error {
-    pub(crate) fn of(verdict: &calls::Verdict) -> Error {
+    /// What a call told, which was asked for something, or for nothing that has a name.
+    pub(crate) fn of(verdict: &calls::Verdict, asked: &str) -> Error {
         let part = (verdict.field != calls::NONE).then_some(verdict.field);
         match verdict.status {
             calls::OUT_OF_RANGE => Error::OutOfRange,
@@ -318,8 +326,9 @@ impl Error {
             calls::BAD_PATH => Error::BadPath {
                 code: verdict.reason,
                 at: verdict.at,
+                path: asked.to_owned(),
             },
-            calls::NO_ROOM => Error::TooManySteps,
+            calls::NO_ROOM => Error::TooManySteps(asked.to_owned()),
             calls::TOO_MUCH_SHARED => Error::TooMuchShared,
             status => unreachable!("fbcheck answers {status}"),
         }
@@ -329,7 +338,7 @@ impl Error {
 impl fmt::Display for Error {
     fn fmt(&self, to: &mut fmt::Formatter) -> fmt::Result {
         match *self {
-            Error::NotWellFormed(ref fault) => write!(to, "schema: L1 {fault}"),
+            Error::NotWellFormed(ref fault) => write!(to, "schema: L1 {fault}{NO_SCHEMA}"),
             Error::BadSchema { code, owner, part } => {
                 let (name, part) = (CODES[code as usize - 1], number_or_dash(part));
                 write!(to, "schema: L2 C{code} {name} owner={owner} part={part}")
@@ -339,16 +348,19 @@ impl fmt::Display for Error {
             Error::TooLong => write!(to, "schema: L5 TooLong"),
             Error::TooMuchShared => write!(to, "schema: L6 TooMuchShared"),
             Error::NoRoot => write!(to, "no root table"),
+            Error::NoSuchRoot(ref name) => write!(to, "no root table ({name:?})"),
             Error::NoIdent => write!(to, "the schema's identifier isn't four bytes"),
             Error::OutOfRange => write!(to, "max_depth is above 4096"),
-            Error::BadPath { code, at } => {
+            Error::BadPath { code, at, ref path } => {
                 let (name, at_or_step) = (
                     PATH_FAULTS[code as usize - 1],
                     if code == 1 { "at" } else { "step" },
                 );
-                write!(to, "path: P{code} {name} {at_or_step}={at}")
+                write!(to, "path: P{code} {name} {at_or_step}={at} ({path:?})")
             }
-            Error::TooManySteps => write!(to, "the path has more than 31 steps"),
+            Error::TooManySteps(ref path) => {
+                write!(to, "the path has more than 31 steps ({path:?})")
+            }
         }
     }
 }

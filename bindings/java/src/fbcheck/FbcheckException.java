@@ -62,6 +62,9 @@ public class FbcheckException extends RuntimeException {
     private static final String[] PATH_FAULTS = {"", "BadText", "NoSuchField", "NotIndexable", "NotAUnion",
         "NoSuchMember", "NotATable"};
 
+    /** What is said behind the fault of a file that isn't well-formed. */
+    private static final String NO_SCHEMA = "; this is no binary schema, which flatc --binary --schema makes";
+
     private final Status status;
 
     FbcheckException(Status status, String text) {
@@ -74,22 +77,31 @@ public class FbcheckException extends RuntimeException {
         return status;
     }
 
-    /** The exception of a call that told these numbers, with the text that the program tells. */
-    static FbcheckException of(long[] told) {
+    /**
+     * The exception of a call that told these numbers, with the text that the program tells, and with the file or path
+     * that was asked for, or null.
+     */
+    static FbcheckException of(long[] told, Object asked) {
         Status status = Status.of(Told.status(told));
         int code = Told.code(told);
-        return new FbcheckException(status, switch (status) {
-            case NOT_WELL_FORMED -> "schema: L1 " + Told.bad(told, "").toString().substring("bad ".length());
+        return new FbcheckException(status, naming(asked, switch (status) {
+            case NOT_WELL_FORMED -> "schema: L1 " + Told.bad(told, "").toString().substring("bad ".length())
+                    + NO_SCHEMA;
             case BAD_SCHEMA -> "schema: L2 C" + code + " " + CODES[code] + " owner=" + Told.object(told) + " part="
                     + Told.dash(Told.field(told));
             case BAD_PATH -> "path: P" + code + " " + PATH_FAULTS[code] + (code == 1 ? " at=" : " step=")
                     + Told.at(told);
             default -> status.text;
-        });
+        }));
     }
 
-    /** The exception of this status, of which nothing more is told. */
-    static FbcheckException of(Status status) {
-        return new FbcheckException(status, status.text);
+    /** The exception of this status, with what was asked for, or null. */
+    static FbcheckException of(Status status, String asked) {
+        return new FbcheckException(status, naming(asked, status.text));
+    }
+
+    /** A text with what was asked for, unless that is null. */
+    private static String naming(Object asked, String text) {
+        return asked == null ? text : text + " (\"" + asked + "\")";
     }
 }

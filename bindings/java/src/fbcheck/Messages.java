@@ -111,7 +111,7 @@ public final class Messages implements Iterable<Messages.Message>, Iterator<Mess
         }
         FbcheckException.Status why = FbcheckException.Status.of(status);
         if (why != FbcheckException.Status.OVERSIZE) {
-            throw FbcheckException.of(why);
+            throw FbcheckException.of(why, null);
         }
         int declared = Told.high(framer[1]);
         if (Integer.compareUnsigned(declared, maxBytes - 4) > 0) {

@@ -96,7 +96,7 @@ public record Options(String root, int maxDepth, int maxTables, long maxReads, i
             throw new IllegalArgumentException("ident must be four bytes");
         }
         if (Integer.compareUnsigned(maxDepth, Calls.DEEPEST) > 0) {
-            throw FbcheckException.of(FbcheckException.Status.OUT_OF_RANGE);
+            throw FbcheckException.of(FbcheckException.Status.OUT_OF_RANGE, null);
         }
         to.set(JAVA_INT, 0, Calls.VERSION);
         to.set(JAVA_INT, 4, table);
