@@ -24,6 +24,7 @@ PLACES = {
 }
 PACKAGE = ["__init__.py", "_fbcheck.pyi", "py.typed", "_fbcheck.abi3.so"]
 PAGE = (TOP / "docs/fbcheck.1").read_text()
+VERSION = (TOP / "VERSION").read_text().strip()
 
 # A program that was built elsewhere isn't what ./install takes.
 by_the_own_program = unittest.skipIf(PROGRAM != TOP / "crates/fbcheck/out/fbcheck", "another program is tested")
@@ -90,7 +91,8 @@ class Install(LibraryCase):
             ("neither PREFIX", {"DESTDIR": f"{FOLDER}/own", "PATH": self.without_python()}, FOLDER / "own/usr/local"),
             ("no Python", {"DESTDIR": f"{FOLDER}/without", "PYTHON": ""}, FOLDER / "without/usr/local"),
         ]:
-            python = {f"{packages()}/fbcheck/{file}": 0o644 for file in PACKAGE} if "PREFIX" in environment else {}
+            files = [*(f"fbcheck/{file}" for file in PACKAGE), f"fbcheck-{VERSION}.dist-info/METADATA"]
+            python = {f"{packages()}/{file}": 0o644 for file in files} if "PREFIX" in environment else {}
             places = {**PLACES, **python}
             status, out, err = installed(**environment)
             self.same(f"{name}: each file is told", (status, out), (0, [f"{top}/{place}" for place in places]))
@@ -108,12 +110,19 @@ class Install(LibraryCase):
         self.holds("a file for pkg-config has a whole path", f"libdir={FOLDER}/here/lib\n" in page, page)
         page = (FOLDER / "pkg/opt/it/lib/pkgconfig/fbcheck.pc").read_text()
         self.holds("a package's file for pkg-config knows nothing of DESTDIR", "libdir=/opt/it/lib\n" in page, page)
+        self.the_package(FOLDER / "local" / packages())
         self.a_program_in_c(FOLDER / "local")
-        code = "import fbcheck; print(fbcheck.Schema('deliveries.bfbs').check(b''))"
+
+    def the_package(self, folder):
+        """The package is used where it was put, and its version is known there; an older one isn't any more."""
+        code = ("import fbcheck, importlib.metadata; print(fbcheck.Schema('deliveries.bfbs').check(b''))\n"
+                "print(*[one.version for one in importlib.metadata.distributions() if one.name == 'fbcheck'])")
+        (folder / f"fbcheck-{VERSION}.dist-info").rename(folder / "fbcheck-0.dist-info")
+        installed(PREFIX=f"{FOLDER}/local")
         ran = subprocess.run(["python3", "-c", code], capture_output=True, text=True, cwd=TOP / "examples",
-                             env={"PATH": os.environ["PATH"], "PYTHONPATH": f"{FOLDER}/local/{packages()}"})
-        want = "bad V2 OutOfBuffer at=0 object=1 field=- reads=0 in . [post.Delivery]\n"
-        self.same("the package is used", (ran.returncode, ran.stdout), (0, want))
+                             env={"PATH": os.environ["PATH"], "PYTHONPATH": folder})
+        want = f"bad V2 OutOfBuffer at=0 object=1 field=- reads=0 in . [post.Delivery]\n{VERSION}\n"
+        self.same("the package is used, and its version is known", (ran.returncode, ran.stdout), (0, want))
 
     def without_python(self):
         """A PATH with a python3 that builds nothing."""
