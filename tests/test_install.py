@@ -89,7 +89,7 @@ class Install(LibraryCase):
             ("DESTDIR", {"DESTDIR": f"{FOLDER}/pkg", "PREFIX": "/opt/it"}, FOLDER / "pkg/opt/it"),
             ("a PREFIX below this folder", {"PREFIX": "here"}, FOLDER / "here"),
             ("neither PREFIX", {"DESTDIR": f"{FOLDER}/own", "PATH": self.without_python()}, FOLDER / "own/usr/local"),
-            ("no Python", {"DESTDIR": f"{FOLDER}/without", "PYTHON": ""}, FOLDER / "without/usr/local"),
+            ("no Python", {"DESTDIR": f"{FOLDER}/no-package", "PYTHON": ""}, FOLDER / "no-package/usr/local"),
         ]:
             files = [*(f"fbcheck/{file}" for file in PACKAGE), f"fbcheck-{VERSION}.dist-info/METADATA"]
             python = {f"{packages()}/{file}": 0o644 for file in files} if "PREFIX" in environment else {}
