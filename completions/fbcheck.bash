@@ -14,8 +14,12 @@ _fbcheck() {
     --root | --ident | --path | --max-depth | --max-tables | --max-reads | --reads-per-byte | --max-bytes) ;;
     *)
         mapfile -t COMPREPLY < <(compgen -W "--schema --root --ident --schema-ident --path --max-depth --max-tables \
-            --max-reads --reads-per-byte --max-bytes --bare --no-alignment --inline-size --quiet --filter --summary --names \
-            --help --version" -- "$word")
+            --max-reads --reads-per-byte --max-bytes --bare --delimited --no-alignment --inline-size --quiet --filter \
+            --summary --names --json --help --version" -- "$word")
+        [[ $word == -* ]] || {
+            compopt -o filenames 2>/dev/null
+            mapfile -t COMPREPLY < <(compgen -f -- "$word")
+        }
         ;;
     esac
 }

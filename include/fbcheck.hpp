@@ -209,7 +209,7 @@ struct Free {
     void operator()(fbcheck_scratch *scratch) const noexcept { fbcheck_scratch_free(scratch); }
 };
 
-// Room for a walk deeper than FBCHECK_DEEP tables, or for one that clears no stack. It serves any Schema.
+// Room for a walk deeper than FBCHECK_DEEP tables, or for one past three that clears no stack. It serves any Schema.
 class Scratch {
   public:
     explicit Scratch(std::uint32_t depth) : room_(fbcheck_scratch_new(depth)) {

@@ -133,11 +133,37 @@ class BesideNaive(Case):
             differing = [(bent.hex(), value, want) for bent, value, want in zip(given, got, wants) if value != want]
             self.same(f"{path} of each", (len(got), differing[:2]), (len(given), []))
 
+    def test_values_by_many_paths(self):
+        """Of some of them, the values at as many paths as may be, in the order in which these are asked for."""
+        data = buffer(WHOLE, b"KIND", prefix=True)[4:]
+        given = [bent for bent in variants(data, [4]) if Walk(ALL, 0, prefixed(bent)).verdict().startswith("ok")]
+        self.holds("some buffers are good", len(given) > 50, len(given))
+        chunks = [PATHS[first : first + 16] for first in range(0, len(PATHS), 16)]
+        for paths in [*chunks, PATHS[15::-1], PATHS[:2] * 8, PATHS[1:3]]:
+            words = [word for path in paths for word in ("--path", path)]
+            ran = run(*BY_ALL, *words, given=b"".join(map(prefixed, given)))
+            got = [line.split(" ", 5)[-1] for line in ran.out.decode().splitlines()]
+            wants = [" ".join(map(Reader(ALL, 0, prefixed(bent)).value, paths)) for bent in given]
+            differing = [(bent.hex(), value, want) for bent, value, want in zip(given, got, wants) if value != want]
+            self.same(f"{' '.join(paths)} of each", (len(got), differing[:2]), (len(given), []))
+
     def test_bare_buffers(self):
         data = buffer(LITTLE, b"KIND")
         for given in variants(data, [1, 4]):
             want = f"1 {Walk(ALL, 0, given).verdict(b'KIND', prefix=False)}\n".encode()
             self.same(f"bare, {given.hex()}", run(*BY_ALL, "--bare", "--ident", "KIND", given=given).out, want)
+
+    def test_delimited_buffers(self):
+        """Bare buffers in one stream, each behind its length."""
+        given = list(variants(buffer(WHOLE, b"KIND"), [1, 4, 252]))
+        for options in OPTIONS:
+            asked = {"tables": 500, **options}
+            ran = run(*BY_ALL, "--delimited", *words_of(asked), given=b"".join(map(prefixed, given)))
+            ident = asked.pop("ident", None)
+            wants = [f"{number} {Walk(ALL, 0, data, **asked).verdict(ident, prefix=False)}"
+                     for number, data in enumerate(given, 1)]
+            differing = [pair for pair in zip(ran.out.decode().splitlines(), wants) if pair[0] != pair[1]]
+            self.same(f"delimited, {options}", (ran.out.count(b"\n"), differing[:5]), (len(given), []))
 
     def test_schema_files_without_a_schema(self):
         """By the table that is built in."""

@@ -179,7 +179,8 @@ class Install(LibraryCase):
         (folder / "more").mkdir(parents=True)
         for name in ("a.bfbs", "b.bfbs", "a.fbs"):
             (folder / name).write_bytes(b"")
-        self.same("bash offers each option", completed(folder, ""), sorted(options()))
+        self.same("bash offers each option", completed(folder, "-"), sorted(options()))
+        self.same("or else the files that there are", completed(folder, ""), ["a.bfbs", "a.fbs", "b.bfbs", "more"])
         self.same("or those that begin so", completed(folder, "--max-r"), ["--max-reads"])
         self.same("for a schema, files of schemas and folders", completed(folder, "--schema", ""),
                   ["a.bfbs", "b.bfbs", "more"])

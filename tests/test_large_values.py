@@ -108,6 +108,20 @@ class LargeValues(Case):
             line = lines(f"1 ok tables=1 depth=1 reads=7 {quoted(text)}")
             self.same(f"a text of {len(text)} bytes, bare", (ran.status, ran.out == line, ran.err), (0, True, b""))
 
+    def test_several_large_texts(self):
+        """One behind another in a line, with others around them."""
+        texts = [(PATTERN * 200)[:size] for size in (3, 65_537, 9, 400_000, 0)]
+        stream = b"".join(prefixed(buffer({0: text})) for text in texts)
+        want = lines(*(f"{number} ok tables=1 depth=1 reads=8 {quoted(text)} {quoted(text)} {quoted(text)}"
+                       for number, text in enumerate(texts, 1)))
+        words = *BY_TEXT, "--path", "s", "--path", "s", "--path", "s"
+        ran = run(*words, given=stream)
+        self.same("large texts, each three times", (ran.status, ran.out == want, ran.err), (0, True, b""))
+        for room in (0, 37, 66, 70_000, 300_000, len(want) - 1):
+            ran = narrowed(*words, given=stream, room=room, write=1000)
+            self.same(f"room for {room} bytes", (ran.status, ran.out == want[:room], ran.err),
+                      (3, True, f"fbcheck: write failed after {room} bytes\n".encode()))
+
     def test_a_large_struct(self):
         rows = [table("T", field("all", vector(an_object(1)), 4)), a_struct("S", STRUCT, 4, field("n", INT, 0))]
         path = file_of("struct.bfbs", schema(rows, root="T"))

@@ -115,7 +115,7 @@ class Mistakes(Case):
     def test_what_is_said_beside_them(self):
         for name, words, stream, want in [
             ("a bare buffer with --bare", ["--bare"], BARE, 0),
-            ("a prefix put before it, without alignment", ["--no-alignment"], prefixed(BARE), 0),
+            ("a prefix put before it, with --delimited", ["--delimited"], prefixed(BARE), 0),
             ("a prefix taken off, without alignment", [*BY_POST, "--bare", "--no-alignment"], FIRST[4:], 0),
             ("the message without --bare", BY_POST, FIRST, 0),
             ("the root with its namespace", [*BY_POST, "--root", "post.Delivery"], FIRST, 0),

@@ -508,7 +508,7 @@ class Names(Case):
                 self.same(f"{name}: {place} is a path", run(*words[:2], "--path", place), good())
 
     def test_words_of_names(self):
-        for words in [["--names", "--names"], ["--names=yes"], ["--names="], ["--names", "yes"], ["--Names"],
+        for words in [["--names", "--names"], ["--names=yes"], ["--names="], ["--Names"],
                       ["--name"]]:
             ran = run(*words, given=SEVEN)
             self.same(f"{words} is status 2 and writes nothing", (ran.status, ran.out), (2, b""))

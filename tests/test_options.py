@@ -359,8 +359,8 @@ class Options(Case):
             ["--max-reads", "7", "--max-reads", "7"],
             ["--max-bytes", "7"], ["--max-bytes", "2147483648"], ["--max-bytes", "0"],
             ["--bare", "--bare"], ["--schema-ident", "--schema-ident"], ["--schema-ident=KIND"], ["--bare=yes"], ["--Bare"], ["-b"],
-            ["--schema"], ["--root"], ["--ident"], ["--path"], ["--path", "name", "--path", "hp"],
-            ["--schema", "a", "--schema", "a"], ["stray"], ["--", "stray"], ["-"], ["--nothing"], [""],
+            ["--schema"], ["--root"], ["--ident"], ["--path"], ["--delimited", "--delimited"],
+            ["--delimited=yes"], ["--json", "--json"], ["--json=no"], ["--schema", "a", "--schema", "a"], ["--nothing"],
             ["--ident", "ABC", "--nothing"],
         ]:
             ran = run(*words, given=SEVEN)
@@ -368,12 +368,27 @@ class Options(Case):
             self.holds(f"{words} is told on standard error", ran.err.startswith(b"error: ") and ran.err.endswith(b"\n"),
                        ran.err)
 
+    def test_words_that_do_not_agree(self):
+        """Each rule by itself, and the first of those that are broken."""
+        paths = [word for number in range(17) for word in ("--path", f"f{number}")]
+        self.told_alike([
+            ("17 paths", paths, b"", refused("more than 16 paths")),
+            ("one, in a filter", [*paths[:2], "--filter"], b"", refused("a filter takes no path")),
+            ("17, in a filter", [*paths, "--filter"], b"", refused("a filter takes no path")),
+            ("17, and two identifiers", [*paths, "--ident", "KIND", "--schema-ident"], b"",
+             refused("ident and schema-ident exclude each other")),
+            ("17, and a length before a bare buffer", [*paths, "--bare", "--delimited"], b"", refused("more than 16 paths")),
+            ("17, and a wrong identifier", [*paths, "--ident", "KIN"], b"", refused("ident must be four bytes")),
+            ("a length before a bare buffer", ["--bare", "--delimited"], b"",
+             refused("bare and delimited exclude each other")),
+        ])
+
     def test_help_is_given(self):
         for words in [["--help"], ["-h"], ["--bare", "--help"], ["--help", "--nothing"]]:
             ran = run(*words, given=SEVEN)
             self.same(f"{words} is status 0", (ran.status, ran.err), (0, b""))
-            self.holds(f"{words} tells whence the input comes", b"\nUsage: fbcheck [OPTIONS] < INPUT\n" in ran.out, ran.out)
-            for name in [*CALL, "--schema-ident", "--bare", "--quiet", "--help", "--version"]:
+            self.holds(f"{words} tells whence the input comes", b"\nUsage: fbcheck [OPTIONS] [FILE]... < INPUT\n" in ran.out, ran.out)
+            for name in [*CALL, "--schema-ident", "--bare", "--delimited", "--quiet", "--json", "--help", "--version"]:
                 self.holds(f"{words} tells of {name}", name.encode() in ran.out, ran.out)
         self.same("help is the same each time", run("-h"), Ran(0, run("--help").out, b""))
 

@@ -10,7 +10,7 @@ from tests.support.library import LibraryCase, module
 from tests.support.many import each
 from tests.support.naive import Schema
 from tests.support.paths import names_in, pieces_of, resolved, text_of, told
-from tests.support.schemas import LONG, TEXT, an_object, field, schema, table, vector
+from tests.support.schemas import INT, LONG, TEXT, a_struct, an_object, array, field, schema, table, vector
 
 # The objects and enums of each schema, its root, and how many paths of one, two and three steps resolve.
 SCHEMAS = {
@@ -18,10 +18,16 @@ SCHEMAS = {
     "nodes": ([table("Node", field("a", an_object(0), 4), field("b", an_object(0), 6))], [], "Node", [2, 4, 8]),
     "longs": ([table("N", field("v", LONG, 4))], [], "N", [1, 0, 0]),
     "vectors of longs": ([table("Z", field("l", vector(LONG), 4))], [], "Z", [1, 3, 0]),
-    # of u_type and u, then its three members, then v of the table
-    "unions": (schemas.X_OBJECTS, [schemas.X_UNION], "R", [2, 3, 1]),
+    # of u_type and u, then its three members, then v of the table and x of the struct
+    "unions": (schemas.X_OBJECTS, [schemas.X_UNION], "R", [2, 3, 2]),
     # of us_type and us, then three numbers in each, then three members behind each number in us
     "vectors of unions": (schemas.X_OBJECTS, [schemas.X_UNION], "Q", [2, 6, 9]),
+    # one and more, then a and its array and the three numbers behind more, and then three numbers in the array
+    "structs": (
+        [table("T", field("one", an_object(1), 4), field("more", vector(an_object(1)), 6)),
+         a_struct("S", 12, 4, field("a", INT, 0), field("row", array(INT, 2), 4))],
+        [], "T", [2, 5, 9],
+    ),
     # From the root 8 live fields; from there 3 numbers in each of 4 vectors of tables, and 8 fields of the root table's
     # object; and then 3 times 8, 7, 5 and 2 fields, and 3 numbers in each of 3 vectors of that object
     "reflection": (schemas.reflection(), [], "reflection.Schema", [8, 20, 75]),

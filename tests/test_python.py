@@ -299,7 +299,7 @@ class Python(LibraryCase):
             ("to..name", "first 3 bytes"), ("", "first 0 bytes"), ("é", "first 0 bytes"), ("to.nam", "P2 at '.nam'"),
             ("nam", "P2 at 'nam'"), ("to[3]", "P3 at '[3]'"), ("items[0]@Parcel@Parcel", "P4 at '@Parcel'"),
             ("items[0]@Nobody", "P5 at '@Nobody'"), ("to.name.x", "P6 at '.x'"),
-            ("to.home.x", "a struct is read whole"),
+            ("to.home.zz", "P2 at '.zz'"),
         ]:
             self.fails(f"the path {text!r}", of.PathError, words, lambda: paths.path(text))
             self.fails(f"{text!r} of a message", of.PathError, words, lambda: paths.read(POST, text))

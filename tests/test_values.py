@@ -6,12 +6,12 @@ import subprocess
 
 from tests.support import schemas
 from tests.support.buffers import ASKEW, HALVES, MEMBER, MEMBERS, ORC, PLACED, PLAIN, SEVEN, TWINS, UNEQUAL, lower_type
-from tests.support.builder import buffer, changed, prefixed, spelled
+from tests.support.builder import Plain, buffer, changed, prefixed, spelled
 from tests.support.cases import Case
 from tests.support.program import PROGRAM, SECONDS, TOP, bad, fieldless, file_of, good, run
 from tests.support.schemas import (
-    BOOL, BYTE, DOUBLE, FLOAT, INT, LONG, SHORT, TEXT, U_BYTE, U_INT, U_LONG, U_SHORT, U_TYPE, field, schema, table,
-    vector,
+    BOOL, BYTE, DOUBLE, FLOAT, INT, LONG, SHORT, TEXT, U_BYTE, U_INT, U_LONG, U_SHORT, U_TYPE, a_struct, an_object,
+    array, field, schema, table, vector,
 )
 
 FILES = schemas.files()
@@ -53,7 +53,8 @@ class Values(Case):
             ("X", MEMBER, "u_type", "1", "R"), ("X", lower_type(9), "u", "union:9", "R"),
             ("X", lower_type(9), "u@A.v", "other-member", "R"), ("X", PLAIN, "u", "absent", "R"),
             ("X", PLAIN, "u@A.v", "absent", "R"), ("X", PLAIN, "u_type", "0", "R"),
-            ("X", PLACED, "u@W", "struct:0700000000000000", "R"), ("X", PLACED, "u@A.v", "other-member", "R"),
+            ("X", PLACED, "u@W", "struct:0700000000000000", "R"), ("X", PLACED, "u@W.x", "7", "R"),
+            ("X", PLACED, "u@A.v", "other-member", "R"), ("X", MEMBER, "u@W.x", "other-member", "R"),
             ("X", MEMBERS, "us", "vector:2"), ("X", MEMBERS, "us[0]", "union:3"), ("X", MEMBERS, "us[0]@T", '"hi"'),
             ("X", MEMBERS, "us[1]", "union:0"), ("X", MEMBERS, "us[1]@T", "other-member"),
             ("X", MEMBERS, "us[2]@T", "no-element"), ("X", MEMBERS, "us[4294967295]", "no-element"),
@@ -70,6 +71,25 @@ class Values(Case):
         self.same("a no has no value",
                   run("--schema", FILES["M"], "--bare", "--path", "name", given=ORC[:-1] + b"\x01"),
                   bad("1 bad V10 NoTerminator at=31 object=0 field=1 reads=8"))
+
+    def test_several_values(self):
+        """They follow one another as their paths do, each behind a space."""
+        for paths, want in [
+            (("hp", "name"), '300 "Orc"'), (("name", "hp"), '"Orc" 300'), (("hp", "hp", "name"), '300 300 "Orc"'),
+            (("hp",) * 16, " ".join(["300"] * 16)),
+        ]:
+            words = [word for path in paths for word in ("--path", path)]
+            self.same(f"{paths}", value("M", ORC, *words), (0, True, want))
+        both = *("--schema", FILES["M"], "--bare"), "--path", "name", "--path", "hp"
+        self.same("where one is absent", run(*both, given=PLAIN).out.split(b" ")[-2:], [b"absent", b"100\n"])
+        self.same("a no has none", run(*both, given=ORC[:-1] + b"\x01"),
+                  bad("1 bad V10 NoTerminator at=31 object=0 field=1 reads=8"))
+        self.same("the first that fits not is told",
+                  run(*both[:3], "--path", "hp", "--path", "x", "--path", "name[0]", given=ORC).err,
+                  run(*both[:3], "--path", "x", given=ORC).err)
+        self.same("and not the one behind it",
+                  run(*both[:3], "--path", "hp", "--path", "name[0]", "--path", "x", given=ORC).err,
+                  run(*both[:3], "--path", "name[0]", given=ORC).err)
 
     def test_values_of_a_schema_file(self):
         for path, want in [
@@ -94,6 +114,30 @@ class Values(Case):
             floats = letter in "fd"
             want = "absent" if floats else "false" if name == "bool" else "0"
             self.same(f"{name} left out", value(path, PLAIN, "--path", name), (0, True, want))
+
+    def test_fields_of_structs(self):
+        inner = a_struct("In", 8, 4, field("a", SHORT, 0), field("b", FLOAT, 4))
+        outer = a_struct(
+            "Out", 44, 4, field("in", an_object(1), 0), field("three", array(U_SHORT, 3), 8),
+            field("two", array(an_object(1), 2), 16), field("last", BYTE, 32), field("none", array(INT, 0), 44),
+        )
+        rows = [table("T", field("one", an_object(2), 4), field("more", vector(an_object(2)), 6)), inner, outer]
+        path = file_of("structs.bfbs", schema(rows, root="T"))
+        pairs = [struct.pack("<hxxf", -300, 1.5), struct.pack("<hxxf", 7, 0.0), struct.pack("<hxxf", 8, -1.0)]
+        first = pairs[0] + struct.pack("<3Hxx", 1, 2, 65535) + pairs[1] + pairs[2] + struct.pack("<b11x", -5)
+        other = bytes(44)
+        data = buffer({0: ("44s", first), 1: Plain(other + first, 4, 2)})
+        for step, want in [
+            ("in", f"struct:{pairs[0].hex()}"), ("in.a", "-300"), ("in.b", "float:0000c03f"), ("three", "vector:3"),
+            ("three[0]", "1"), ("three[2]", "65535"), ("three[3]", "no-element"), ("two", "vector:2"),
+            ("two[1]", f"struct:{pairs[2].hex()}"), ("two[0].a", "7"), ("two[1].a", "8"), ("two[2].a", "no-element"),
+            ("last", "-5"), ("none", "vector:0"), ("none[0]", "no-element"),
+        ]:
+            self.same(step, value(path, data, "--path", f"one.{step}"), (0, True, want))
+            self.same(f"{step} of an element", value(path, data, "--path", f"more[1].{step}"), (0, True, want))
+        self.same("of another element", value(path, data, "--path", "more[0].in.a"), (0, True, "0"))
+        self.same("of no element", value(path, data, "--path", "more[2].in.a"), (0, True, "no-element"))
+        self.same("of an absent struct", value(path, PLAIN, "--path", "one.in.a"), (0, True, "absent"))
 
     def test_defaults_and_optional_ones(self):
         rows = [

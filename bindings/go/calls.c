@@ -19,7 +19,7 @@ static void begin(void)
 }
 
 /* Room for the open tables of a check. A check would do with its own stack, which null stands for where memory is
-   refused, but then it clears 16 KB each time. */
+   refused, but then it clears 5 KB where more than three tables are open. */
 static fbcheck_scratch *scratch_for(const checker *checker)
 {
 	uint32_t depth = checker->options.max_depth > FBCHECK_DEEP ? checker->options.max_depth : FBCHECK_DEEP;

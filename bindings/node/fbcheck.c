@@ -76,7 +76,7 @@ static napi_value failed(napi_env env, const char *why)
 }
 
 /* Room for the open tables of a check, or null where memory is refused, which is thrown. A check would do with its own
-   stack, but then it clears 16 KB each time. */
+   stack, but then it clears 5 KB where more than three tables are open. */
 static fbcheck_scratch *scratch_for(napi_env env, const struct checker *checker)
 {
     struct thread *thread = checker->thread;

@@ -9,7 +9,7 @@ import struct
 SIZES = [0, 1, 1, 1, 1, 2, 2, 4, 4, 8, 8, 4, 8]
 LETTERS = " BBbBhHiIqQfd"
 BOOL, FLOAT = 2, 11
-TEXT, VECTOR, OBJECT, UNION = 13, 14, 15, 16
+TEXT, VECTOR, OBJECT, UNION, ARRAY = 13, 14, 15, 16, 17
 NAMES = {
     "V1": "WrongPrefix", "V2": "OutOfBuffer", "V3": "Misaligned", "V4": "ZeroOffset", "V5": "WrongIdentifier",
     "V6": "TooDeep", "V7": "TooManyTables", "V8": "BadVtable", "V9": "MissingRequired", "V10": "NoTerminator",
@@ -27,13 +27,14 @@ def number_at(row, field):
 
 
 class Field:
-    """A field by its row: the base type and what it's of, and the element of a vector."""
+    """A field by its row: the base type and what it's of, the element of a vector, and the length of an array."""
 
     def __init__(self, row):
         kind = row[1]
         self.name, self.slot, self.required = row[0], number_at(row, 3), number_at(row, 7)
         self.base, self.element, self.index = number_at(kind, 0), number_at(kind, 1), number_at(kind, 2)
         self.default, self.optional = number_at(row, 4), number_at(row, 11)
+        self.length = number_at(kind, 3)
 
 
 def kind_of(base, index):
@@ -54,6 +55,7 @@ class Schema:
         self.names = [row[0] for row in objects]
         self.tables = [None if number_at(row, 2) else live_fields(row) for row in objects]
         self.structs = [(number_at(row, 4), number_at(row, 3)) if number_at(row, 2) else None for row in objects]
+        self.parts = [[Field(field) for field in row[1]] if number_at(row, 2) else None for row in objects]
         self.unions = [
             {number_at(member, 1): Field({0: member[0], 1: member[3]}) for member in row[1] if number_at(member, 1)}
             for row in enums
@@ -304,6 +306,9 @@ class Reader:
 
     def field(self, place, name):
         kind, at, _ = place
+        if self.schema.structs[kind.index]:
+            part = next(part for part in self.schema.parts[kind.index] if part.name == name)
+            return part, at + part.slot, None
         field = next(field for field in self.schema.tables[kind.index] if field.name == name)
         here = self.slot(at, field.slot)
         if here is None:
@@ -321,10 +326,11 @@ class Reader:
 
     def element(self, place, number):
         kind, at, types = place
-        if number >= self.read("I", at):
+        count, first = (kind.length, at) if kind.base == ARRAY else (self.read("I", at), at + 4)
+        if number >= count:
             raise End("no-element")
         element = kind_of(kind.element, kind.index)
-        here = at + 4 + number * self.schema.size(element.base, element.index)[0]
+        here = first + number * self.schema.size(element.base, element.index)[0]
         if element.base == UNION:
             return element, here, self.read("B", types + 4 + number)
         return element, here if self.schema.is_inline(element) else self.behind(here), None
@@ -343,6 +349,8 @@ class Reader:
             return quoted(self.data[at + 4 : at + 4 + self.read("I", at)])
         if kind.base == VECTOR:
             return f"vector:{self.read('I', at)}"
+        if kind.base == ARRAY:
+            return f"vector:{kind.length}"
         if kind.base == UNION:
             return f"union:{value}"
         sizes = self.schema.structs[kind.index]

@@ -1,6 +1,6 @@
 """Paths by the rows alone: the pieces of which they are written, and the steps that they are or the fault in them."""
 
-from tests.support.naive import OBJECT, UNION, VECTOR, kind_of
+from tests.support.naive import ARRAY, OBJECT, UNION, VECTOR, kind_of
 
 FIELD, ELEMENT, MEMBER = 1, 2, 3
 NO_FIELD, NO_VECTOR, NO_UNION, NO_MEMBER, NO_TABLE = range(2, 7)
@@ -24,20 +24,21 @@ def text_of(pieces):
     return "".join(written[kind].format(word) for kind, word in pieces)[1:]
 
 
-def is_table(schema, kind):
-    return kind.base == OBJECT and schema.structs[kind.index] is None
-
-
 def next_step(schema, kind, piece):
     """The step that a piece is at a value of this type, with the type to which it leads; or the number of the fault."""
     what, word = piece
     if what == FIELD:
-        if not is_table(schema, kind):
+        if kind.base != OBJECT:
             return NO_TABLE
-        found = [field for field in schema.tables[kind.index] if field.name == word]
-        return ((FIELD, (found[0].slot - 4) // 2), found[0]) if found else NO_FIELD
+        parts = schema.parts[kind.index]
+        fields = schema.tables[kind.index] if parts is None else parts
+        found = [(place, field) for place, field in enumerate(fields) if field.name == word]
+        if not found:
+            return NO_FIELD
+        place, field = found[0]
+        return (FIELD, (field.slot - 4) // 2 if parts is None else place), field
     if what == ELEMENT:
-        return ((ELEMENT, word), kind_of(kind.element, kind.index)) if kind.base == VECTOR else NO_VECTOR
+        return ((ELEMENT, word), kind_of(kind.element, kind.index)) if kind.base in (VECTOR, ARRAY) else NO_VECTOR
     if kind.base != UNION:
         return NO_UNION
     found = [value for value, member in schema.unions[kind.index].items() if member.name == word]

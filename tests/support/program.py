@@ -66,9 +66,9 @@ def run_broken_off(*words, given):
     return Ran(program.returncode, out, err)
 
 
-def run_starved(*words, given=b""):
+def run_starved(*words, given=b"", **how):
     """Runs the program in 16 MiB."""
-    return run(*words, given=given, preexec_fn=lambda: resource.setrlimit(resource.RLIMIT_AS, (1 << 24, 1 << 24)))
+    return run(*words, given=given, **how, preexec_fn=lambda: resource.setrlimit(resource.RLIMIT_AS, (1 << 24, 1 << 24)))
 
 
 def lines(*texts):

@@ -38,7 +38,8 @@ thread_local! {
     };
 }
 
-/// The room of this thread for one call. A call would do with its own stack, but then it clears 16 KB each time.
+/// The room of this thread for one call. A call would do with its own stack, but then it clears 5 KB where it
+/// has more than three tables open.
 pub struct Scratch(Room);
 
 impl Scratch {

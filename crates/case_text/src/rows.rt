@@ -51,15 +51,21 @@ fn field_row(text: &str) -> Option<FieldRow<'_>> {
     let ty = type_row(words.next()?)?;
     let mut row = field(name.as_bytes(), slot.parse::<u16>().ok()?, ty);
     for word in words {
-        match word {
-            "gone" => row.deprecated = true,
-            "far" => row.offset64 = true,
-            "required" => row.required = true,
-            "optional" => row.optional = true,
-            _ => row.default = word.strip_prefix("default=")?.parse::<i64>().ok()?,
-        }
+        mark(&mut row, word)?;
     }
     Some(row)
+}
+
+/// Marks a field by a word behind its type.
+fn mark(row: &mut FieldRow<'_>, word: &str) -> Option<()> {
+    match word {
+        "gone" => row.deprecated = true,
+        "far" => row.offset64 = true,
+        "required" => row.required = true,
+        "optional" => row.optional = true,
+        _ => row.default = word.strip_prefix("default=")?.parse::<i64>().ok()?,
+    }
+    Some(())
 }
 
 fn member_row(text: &str) -> Option<MemberRow<'_>> {
@@ -85,9 +91,9 @@ fn members<'t>(alloc: Global, text: &'t str) -> Result<Vec<MemberRow<'t>>, Fail>
     Ok(rows)
 }
 
-/// A struct's bytes and alignment.
-fn measures(text: &str) -> Option<(i32, i32)> {
-    let (bytesize, minalign) = text.split_once('/')?;
+/// A struct's bytes and alignment, by its kind.
+fn measures(kind: &str) -> Option<(i32, i32)> {
+    let (bytesize, minalign) = kind.strip_prefix("struct ")?.split_once('/')?;
     Some((bytesize.parse::<i32>().ok()?, minalign.parse::<i32>().ok()?))
 }
 
@@ -121,24 +127,40 @@ impl<'t> Rows<'t> {
         items: &'t str,
     ) -> Result<(), Fail> {
         match kind {
-            "table" => self
-                .objects
-                .push(table(alloc, name, &fields(alloc, items)?)?)?,
-            "union" => self
-                .enums
-                .push(union(alloc, name, &members(alloc, items)?)?)?,
-            "enum" => self
-                .enums
-                .push(plain_enum(alloc, name, &members(alloc, items)?)?)?,
-            _ => {
-                let measures = measures(kind.strip_prefix("struct ").ok_or("no kind")?);
-                let (bytesize, minalign) = measures.ok_or("no struct")?;
-                let fields = fields(alloc, items)?;
-                self.objects
-                    .push(structure(alloc, name, bytesize, minalign, &fields)?)?;
-            }
+            "table" => self.add_table(alloc, name, items),
+            "union" => self.add_union(alloc, name, items),
+            "enum" => self.add_enum(alloc, name, items),
+            _ => self.add_struct(alloc, name, kind, items),
         }
-        Ok(())
+    }
+
+    fn add_table(&mut self, alloc: Global, name: &'t [u8], items: &'t str) -> Result<(), Fail> {
+        let fields = fields(alloc, items)?;
+        Ok(self.objects.push(table(alloc, name, &fields)?)?)
+    }
+
+    fn add_union(&mut self, alloc: Global, name: &'t [u8], items: &'t str) -> Result<(), Fail> {
+        let members = members(alloc, items)?;
+        Ok(self.enums.push(union(alloc, name, &members)?)?)
+    }
+
+    fn add_enum(&mut self, alloc: Global, name: &'t [u8], items: &'t str) -> Result<(), Fail> {
+        let members = members(alloc, items)?;
+        Ok(self.enums.push(plain_enum(alloc, name, &members)?)?)
+    }
+
+    /// Adds the struct whose kind is the word `struct` with its measures.
+    fn add_struct(
+        &mut self,
+        alloc: Global,
+        name: &'t [u8],
+        kind: &str,
+        items: &'t str,
+    ) -> Result<(), Fail> {
+        let (bytesize, minalign) = measures(kind).ok_or("no struct")?;
+        let fields = fields(alloc, items)?;
+        let row = structure(alloc, name, bytesize, minalign, &fields)?;
+        Ok(self.objects.push(row)?)
     }
 
     /// What `build` answers of these rows. An error comes where there are more than `build` takes.

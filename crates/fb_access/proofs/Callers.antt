@@ -12,7 +12,7 @@ use Rattle.fb_verify.specs.Places.{target}
 use Rattle.fb_access.specs.declared.step.Step.{Step}
 use Rattle.fb_access.specs.declared.step.Step.TheVariants.{Field, Element}
 use Rattle.fb_access.specs.declared.spot.Spot.{Spot}
-use Rattle.fb_access.specs.declared.spot.Spot.TheVariants.{AtTable, AtInline, AtStruct, AtText, AtScalars, AtStructs, AtTexts, AtTables, AtUnions, AtUnion, AtNoElement}
+use Rattle.fb_access.specs.declared.spot.Spot.TheVariants.{AtTable, AtInline, AtStruct, AtText, AtScalars, AtStructs, AtScalarArray, AtStructArray, AtTexts, AtTables, AtUnions, AtUnion, AtNoElement}
 use Rattle.fb_access.specs.Fitting.{numbered, element_kind, next_kind}
 use Rattle.fb_access.specs.Spots.{kind_at, field_spot, spot_of_element}
 use Rattle.fb_access.specs.Denotes.{next_spot, Leads, allows, Reaches, Shown, vector, value}
@@ -64,6 +64,8 @@ module _ (b : List ℕ) (S : Rows) where
   unfolding next_spot spot_of_element value
   element_is_here (AtScalars s c) j n kind onward q h e v l d = let i : kind ≡ Scalars s = cc in let w : word b c 4 ≡ n = cc in if_below j (word b c 4) (AtInline s (c + 4 + scalar_size s * j)) q (AScalar s) onward refl (rw i at e) (rw w l) d
   element_is_here (AtStructs k c) j n kind onward q h e v l d = let i : kind ≡ Structs k = cc in let w : word b c 4 ≡ n = cc in if_below j (word b c 4) (AtStruct k (c + 4 + struct_size S k * j)) q (Struct k) onward refl (rw i at e) (rw w l) d
+  element_is_here (AtScalarArray s m p) j n kind onward q h e v l d = let i : kind ≡ Scalars s = cc in let w : m ≡ n = cc in if_below j m (AtInline s (p + scalar_size s * j)) q (AScalar s) onward refl (rw i at e) (rw w l) d
+  element_is_here (AtStructArray k m p) j n kind onward q h e v l d = let i : kind ≡ Structs k = cc in let w : m ≡ n = cc in if_below j m (AtStruct k (p + struct_size S k * j)) q (Struct k) onward refl (rw i at e) (rw w l) d
   element_is_here (AtTexts c) j n kind onward q h e v l d = let i : kind ≡ Texts = cc in let w : word b c 4 ≡ n = cc in if_below j (word b c 4) (AtText (target b (c + 4 + 4 * j))) q Text onward refl (rw i at e) (rw w l) d
   element_is_here (AtTables k c) j n kind onward q h e v l d = let i : kind ≡ Tables k = cc in let w : word b c 4 ≡ n = cc in if_below j (word b c 4) (AtTable k (target b (c + 4 + 4 * j))) q (Table k) onward refl (rw i at e) (rw w l) d
   element_is_here (AtUnions u t c) j n kind onward q h e v l d = let i : kind ≡ Unions u = cc in let w : word b c 4 ≡ n = cc in if_below j (word b c 4) (AtUnion u (word b (t + j) 1) (c + 4 + 4 * j)) q (Union u) onward refl (rw i at e) (rw w l) d

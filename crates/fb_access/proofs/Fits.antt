@@ -1,12 +1,15 @@
 -- The steps that parts are, and the kinds to which they lead.
-use Rattle.std.proofs.Common.{◌≡◌, ℕ, List, slice_get, Option, Some, None, Ok, Err, IsTrue, IsSome, refl, sym, ◌∙◌, ap, subst}
+use Rattle.std.proofs.Common.{◌≡◌, ℕ, ◌^◌, nat_lt, Bool, true, false, if◌then◌else◌, List, slice_get, Option, Some, None, Ok, Err, IsTrue, IsSome, refl, sym, ◌∙◌, ap, subst}
 use Rattle.std.specs.Str.{bytes_eq}
 use Rattle.fb_schema.specs.declared.kinds.Kind.{Kind}
 use Rattle.fb_schema.specs.declared.kinds.Kind.TheVariants.{Scalar, Text, Struct, Table, Union, Scalars, Texts, Structs, Tables, Unions}
 use Rattle.fb_schema.specs.declared.views.FieldView.{FieldView}
 use Rattle.fb_schema.specs.Demands.{IsLegal}
 use Rattle.fb_schema.specs.Live.{Live, live_fields, live_of_view, field_named}
+use Rattle.fb_schema.specs.declared.views.PartView.{PartView}
+use Rattle.fb_schema.specs.Kinds.{struct_size}
 use Rattle.fb_schema.specs.Members.{member_of, member_named}
+use Rattle.fb_schema.specs.Parts.{PartFits, part_at, part_named}
 use Rattle.fb_schema.specs.Rows.{Rows, is_union}
 use Rattle.fb_schema.specs.Served.{KindHolds, MemberHolds, IsServed}
 use Rattle.fb_access.specs.declared.step.Step.{Step}
@@ -16,7 +19,7 @@ use Rattle.fb_access.specs.declared.misfit.Fitted.{Fitted}
 use Rattle.fb_access.specs.Fitting.{element_kind, next_kind}
 use Rattle.fb_access.specs.Grammar.{Part, field, element, member, number_of}
 use Rattle.fb_access.specs.Kept.{IsThere}
-use Rattle.fb_access.specs.Resolving.{field_with_name, to_field, to_element, to_kind, to_member, field_step, member_step, fitting}
+use Rattle.fb_access.specs.Resolving.{field_with_name, to_field, to_part, to_place, to_element, to_kind, to_member, field_step, member_step, fitting}
 use Rattle.fb_access.proofs.Found.{found_at, none_found, found_there}
 use Rattle.fb_access.proofs.MemberKinds.{member_there}
 use Rattle.fb_access.proofs.NumberedFields.{found_by_number}
@@ -47,6 +50,14 @@ field_kind_there S f (Tables k) h = h
 field_kind_there S f (Unions e) h = h
 field_kind_there S f kind h = tt
 
+-- what stands in a struct names no table and no union
+part_there : (S : Rows) (bytes : ℕ) (part : PartView) (kind : Kind) → PartFits S bytes part kind → IsThere S kind
+part_there S bytes part (Scalar s) h = tt
+part_there S bytes part (Struct k) h = tt
+part_there S bytes part (Scalars s) h = tt
+part_there S bytes part (Structs k) h = tt
+part_there S bytes part kind h = absurd h
+
 -- a step that fits, with the kind to which it leads
 abbrev fitted : Step → Kind → Fitted
 fitted step kind = record { step = step; kind = kind }
@@ -62,6 +73,20 @@ module _ (S : Rows) (legal : IsLegal S) (served : IsServed S) where
         next = rw (found_by_number S served k t.0 f t.1) refl;
         there = field_kind_there S f f.kind (served.kinds k t.0 f t.1);
       })
+
+  part_leads : (k i : ℕ) (o : Option PartView) (x : Fitted) → part_at S k i ≡ o → to_part i o ≡ Ok x → Leads S (Struct k) x
+  unfolding next_kind
+  part_leads k i None x e h = absurd cc
+  part_leads k i (Some part) x e h = go (nat_lt i (2 ^ 16)) h where
+    go : (b : Bool) → (if b then Ok (fitted (Field i) part.kind) else Err NoSuchField) ≡ Ok x → Leads S (Struct k) x
+    go true h =
+        let same : fitted (Field i) part.kind ≡ x = cc in
+        subst (Leads S (Struct k)) same (record { next = rw e refl; there = part_there S (struct_size S k) part part.kind (served.parts k i part e) })
+    go false h = absurd cc
+
+  placed_leads : (k : ℕ) (o : Option ℕ) (x : Fitted) → to_place S k o ≡ Ok x → Leads S (Struct k) x
+  placed_leads k None x h = absurd cc
+  placed_leads k (Some i) x h = part_leads k i (part_at S k i) x refl h
 
   member_leads : (e : ℕ) (name : List ℕ) (o : Option ℕ) (x : Fitted) → IsTrue (is_union S e) → member_named S e name ≡ o → to_member S e o ≡ Ok x → Leads S (Union e) x
   unfolding next_kind
@@ -99,6 +124,7 @@ module _ (S : Rows) (legal : IsLegal S) (served : IsServed S) where
 
   named_leads : (kind : Kind) (name : List ℕ) (x : Fitted) → field_step S kind name ≡ Ok x → Leads S kind x
   named_leads (Table k) name x h = field_leads k name (field_with_name S k name) x refl h
+  named_leads (Struct k) name x h = placed_leads k (part_named S k name) x h
   named_leads kind name x h = absurd cc
 
   chosen_leads : (kind : Kind) (name : List ℕ) (x : Fitted) → IsThere S kind → member_step S kind name ≡ Ok x → Leads S kind x

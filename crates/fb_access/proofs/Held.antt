@@ -2,13 +2,17 @@
 use Rattle.std.proofs.Common.{◌≡◌, ℕ, List}
 use Rattle.fb_schema.specs.Rows.{Rows}
 use Rattle.fb_access.specs.declared.spot.Spot.{Spot}
-use Rattle.fb_access.specs.declared.spot.Spot.TheVariants.{AtTable, AtTexts, AtTables, AtUnion}
-use Rattle.fb_access.specs.Held.{IsSpot, IsTableAt, AreTextsAt, AreTablesAt, IsUnionAt}
+use Rattle.fb_access.specs.declared.spot.Spot.TheVariants.{AtTable, AtStruct, AtTexts, AtTables, AtUnion}
+use Rattle.fb_access.specs.Held.{IsSpot, IsTableAt, IsStructAt, AreTextsAt, AreTablesAt, IsUnionAt}
 
 module _ (b : List ℕ) (S : Rows) (q : Spot) where
   pub at_table : (k t : ℕ) → q ≡ AtTable k t → IsSpot b S q → IsTableAt b S k t
   unfolding IsSpot
   at_table k t e h = rw e at h
+
+  pub at_struct : (k p : ℕ) → q ≡ AtStruct k p → IsSpot b S q → IsStructAt b S k p
+  unfolding IsSpot
+  at_struct k p e h = rw e at h
 
   pub at_texts : (c : ℕ) → q ≡ AtTexts c → IsSpot b S q → AreTextsAt b S c
   unfolding IsSpot

@@ -6,7 +6,7 @@ use Rattle.fb_schema.specs.declared.kinds.Kind.{Kind}
 use Rattle.fb_schema.specs.declared.kinds.Kind.TheVariants.{Scalar as AScalar, Text as AText, Table as ATable}
 use Rattle.fb_schema.specs.Rows.{Rows}
 use Rattle.fb_access.specs.declared.spot.Spot.{Spot}
-use Rattle.fb_access.specs.declared.spot.Spot.TheVariants.{AtTable, AtInline, AtText, AtScalars, AtStructs, AtTexts, AtTables, AtUnions, AtDefault}
+use Rattle.fb_access.specs.declared.spot.Spot.TheVariants.{AtTable, AtInline, AtText, AtScalars, AtStructs, AtScalarArray, AtStructArray, AtTexts, AtTables, AtUnions, AtDefault}
 use Rattle.fb_access.specs.declared.answer.Answer.{Answer}
 use Rattle.fb_access.specs.declared.answer.Answer.TheVariants as answer
 use Rattle.fb_access.specs.Fitting.{element_kind}
@@ -41,6 +41,8 @@ module _ (b : List ℕ) (S : Rows) where
   unfolding value
   vector_value (AtScalars s c) kind onward h e = (_, refl)
   vector_value (AtStructs k c) kind onward h e = (_, refl)
+  vector_value (AtScalarArray s n p) kind onward h e = (_, refl)
+  vector_value (AtStructArray k n p) kind onward h e = (_, refl)
   vector_value (AtTexts c) kind onward h e = (_, refl)
   vector_value (AtTables k c) kind onward h e = (_, refl)
   vector_value (AtUnions u q c) kind onward h e = (_, refl)

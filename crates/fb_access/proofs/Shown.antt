@@ -4,14 +4,15 @@ use Rattle.fb_bytes.specs.Word.{word}
 use Rattle.fb_schema.specs.Live.{live_fields}
 use Rattle.fb_schema.specs.Kinds.{shape_of, kind_of, base_types}
 use Rattle.fb_schema.specs.Members.{member_of}
+use Rattle.fb_schema.specs.Parts.{part_at}
 use Rattle.fb_verify.specs.Places.{has_vtable, vtable, field_place}
-use Rattle.fb_access.specs.Spots.{present_spot, default_spot, absent_spot, spot_of_element, member_spot}
+use Rattle.fb_access.specs.Spots.{present_spot, default_spot, absent_spot, spot_of_part, spot_of_element, member_spot}
 use Rattle.fb_access.specs.Denotes.{next_spot, number, inline_value, default_value, value}
-use Rattle.fb_access.specs.Examples.{FieldValues, ElementValues, MemberValues, ScalarValues, DefaultValues, StayingValues, LackingFields, PrefixedValues, InsideValues}
+use Rattle.fb_access.specs.Examples.{FieldValues, ElementValues, PartValues, MemberValues, ScalarValues, DefaultValues, StayingValues, LackingFields, PrefixedValues, InsideValues}
 
 -- all that is computed
 computing : ℕ
-unfolding word live_fields shape_of kind_of base_types member_of has_vtable vtable field_place present_spot default_spot absent_spot spot_of_element member_spot next_spot number inline_value default_value value
+unfolding word live_fields shape_of kind_of base_types member_of part_at has_vtable vtable field_place present_spot default_spot absent_spot spot_of_part spot_of_element member_spot next_spot number inline_value default_value value
 computing = 0
 
 pub field_values : FieldValues
@@ -47,6 +48,18 @@ element_values = record {
   a_type = (_, (_, refl, (_, refl, refl)), refl);
   a_union = (_, (_, refl, (_, refl, refl)), refl);
   a_union_of_an_unknown_type = (_, (_, refl, (_, refl, refl)), refl);
+}
+
+pub part_values : PartValues
+unfolding computing
+part_values = record {
+  a_scalar = (_, (_, refl, (_, refl, refl)), refl);
+  an_array = (_, (_, refl, (_, refl, refl)), refl);
+  of_an_array = (_, (_, refl, (_, refl, (_, refl, refl))), refl);
+  past_an_array = (_, (_, refl, (_, refl, (_, refl, refl))), refl);
+  of_an_element = (_, (_, refl, (_, refl, (_, refl, refl))), refl);
+  of_a_member = (_, (_, refl, (_, refl, (_, refl, (_, refl, refl)))), refl);
+  no_such_field = refl;
 }
 
 pub member_values : MemberValues

@@ -7,6 +7,7 @@ use Rattle.fb_schema.specs.declared.kinds.Kind.TheVariants.{Table}
 use Rattle.fb_schema.specs.Live.{live_fields}
 use Rattle.fb_schema.specs.Kinds.{shape_of, kind_of, base_types}
 use Rattle.fb_schema.specs.Members.{member_of, member_named}
+use Rattle.fb_schema.specs.Parts.{part_at, part_named}
 use Rattle.fb_access.specs.declared.step.Step.{Step}
 use Rattle.fb_access.specs.declared.misfit.Misfit.{Misfit}
 use Rattle.fb_access.specs.Grammar.{Part, field, element, member, spelling, IsName, IsPart, IsNumber, IsReading}
@@ -16,7 +17,7 @@ use Rattle.fb_access.specs.PathTests.{Words, Spellings, LeadsBy, IsUnfit, Resolv
 
 -- all that is computed
 computing : ℕ
-unfolding live_fields shape_of kind_of base_types member_of member_named
+unfolding live_fields shape_of kind_of base_types member_of member_named part_at part_named
 computing = 0
 
 begins_with_zero : IsNumber (codes "07") → ⊥
@@ -65,6 +66,8 @@ resolved_shown = record {
   a_field = leads _ (reads (codes "text") [] (refl, (refl, (refl, (refl, tt)))) tt) (_, refl, _, refl, (refl, refl));
   behind_a_deprecated_field = leads _ (reads (codes "longs") (element (codes "7") ∷ []) (refl, (refl, (refl, (refl, (refl, tt))))) (inr (λ e. absurd (omega (arith, e)), (refl, tt), omega arith), tt)) (_, refl, _, refl, (_, refl, _, refl, (refl, refl)));
   of_a_table = leads _ (reads (codes "table") (field (codes "ubyte") ∷ []) (refl, (refl, (refl, (refl, (refl, tt))))) ((refl, (refl, (refl, (refl, (refl, tt))))), tt)) (_, refl, _, refl, (_, refl, _, refl, (refl, refl)));
+  of_a_struct = leads _ (reads (codes "struct") (field (codes "y") ∷ []) (refl, (refl, (refl, (refl, (refl, (refl, tt)))))) ((refl, tt), tt)) (_, refl, _, refl, (_, refl, _, refl, (refl, refl)));
+  of_an_array = leads _ (reads (codes "struct") (field (codes "z") ∷ element (codes "3") ∷ []) (refl, (refl, (refl, (refl, (refl, (refl, tt)))))) ((refl, tt), (inr (λ e. absurd (omega (arith, e)), (refl, tt), omega arith), tt))) (_, refl, _, refl, (_, refl, _, refl, (_, refl, _, refl, (refl, refl))));
   of_a_member = leads _ (reads (codes "us") (element (codes "1") ∷ member (codes "A") ∷ field (codes "byte") ∷ []) (refl, (refl, tt)) (inr (λ e. absurd (omega (arith, e)), (refl, tt), omega arith), ((refl, tt), ((refl, (refl, (refl, (refl, tt)))), tt)))) (_, refl, _, refl, (_, refl, _, refl, (_, refl, _, refl, (_, refl, _, refl, (refl, refl)))));
 }
 
@@ -76,5 +79,6 @@ unfit_shown = record {
   no_vector = misfits _ _ (field (codes "table") ∷ []) (element (codes "0")) [] (reads (codes "table") (element (codes "0") ∷ []) (refl, (refl, (refl, (refl, (refl, tt))))) (inl (refl, refl), tt)) refl (_, refl, _, refl, (refl, refl)) refl;
   no_union = misfits _ _ (field (codes "tables") ∷ element (codes "0") ∷ []) (member (codes "A")) [] (reads (codes "tables") (element (codes "0") ∷ member (codes "A") ∷ []) (refl, (refl, (refl, (refl, (refl, (refl, tt)))))) (inl (refl, refl), ((refl, tt), tt))) refl (_, refl, _, refl, (_, refl, _, refl, (refl, refl))) refl;
   no_member = misfits _ _ (field (codes "us") ∷ element (codes "0") ∷ []) (member (codes "B")) [] (reads (codes "us") (element (codes "0") ∷ member (codes "B") ∷ []) (refl, (refl, tt)) (inl (refl, refl), ((refl, tt), tt))) refl (_, refl, _, refl, (_, refl, _, refl, (refl, refl))) refl;
-  no_table = misfits _ _ (field (codes "us") ∷ element (codes "0") ∷ member (codes "W") ∷ []) (field (codes "x")) [] (reads (codes "us") (element (codes "0") ∷ member (codes "W") ∷ field (codes "x") ∷ []) (refl, (refl, tt)) (inl (refl, refl), ((refl, tt), ((refl, tt), tt)))) refl (_, refl, _, refl, (_, refl, _, refl, (_, refl, _, refl, (refl, refl)))) refl;
+  no_part = misfits _ _ (field (codes "us") ∷ element (codes "0") ∷ member (codes "W") ∷ []) (field (codes "w")) [] (reads (codes "us") (element (codes "0") ∷ member (codes "W") ∷ field (codes "w") ∷ []) (refl, (refl, tt)) (inl (refl, refl), ((refl, tt), ((refl, tt), tt)))) refl (_, refl, _, refl, (_, refl, _, refl, (_, refl, _, refl, (refl, refl)))) refl;
+  no_table = misfits _ _ (field (codes "n") ∷ []) (field (codes "x")) [] (reads (codes "n") (field (codes "x") ∷ []) (refl, tt) ((refl, tt), tt)) refl (_, refl, _, refl, (refl, refl)) refl;
 }

@@ -5,11 +5,13 @@ use Rattle.std.proofs.Math.Nat.{mul-le-mul_right, suc-mul, mul_comm}
 use Rattle.std.proofs.lemmas.Bool.Decides.{nat_tests}
 use Rattle.fb_bytes.specs.Word.{word}
 use Rattle.fb_schema.specs.declared.kinds.Kind.{Kind}
-use Rattle.fb_schema.specs.declared.kinds.Kind.TheVariants.{Text, Struct, Table}
+use Rattle.fb_schema.specs.declared.kinds.Kind.TheVariants.{Scalar, Text, Struct, Table, Scalars, Structs}
 use Rattle.fb_schema.specs.Rows.{Rows}
 use Rattle.fb_schema.specs.Kinds.{scalar_size, struct_size, struct_align}
 use Rattle.fb_schema.specs.Live.{Live}
+use Rattle.fb_schema.specs.declared.views.PartView.{PartView}
 use Rattle.fb_schema.specs.Members.{member_of}
+use Rattle.fb_schema.specs.Parts.{PartFits, part_at}
 use Rattle.fb_schema.specs.Served.{MemberHolds, IsServed}
 use Rattle.fb_verify.specs.declared.checks.Checks.{Checks}
 use Rattle.fb_verify.specs.Places.{target}
@@ -20,11 +22,11 @@ use Rattle.fb_verify.specs.WellFormed.{base}
 use Rattle.fb_access.specs.declared.step.Step.{Step}
 use Rattle.fb_access.specs.declared.step.Step.TheVariants.{Field, Element, Member}
 use Rattle.fb_access.specs.declared.spot.Spot.{Spot}
-use Rattle.fb_access.specs.declared.spot.Spot.TheVariants.{AtTable, AtInline, AtStruct, AtText, AtScalars, AtStructs, AtTexts, AtTables, AtUnions, AtUnion, AtAbsent, AtNoElement, AtOtherMember}
+use Rattle.fb_access.specs.declared.spot.Spot.TheVariants.{AtTable, AtInline, AtStruct, AtText, AtScalars, AtStructs, AtScalarArray, AtStructArray, AtTexts, AtTables, AtUnions, AtUnion, AtAbsent, AtNoElement, AtOtherMember}
 use Rattle.fb_access.specs.Fitting.{numbered}
-use Rattle.fb_access.specs.Spots.{field_spot, spot_of_field, if_element, spot_of_element, member_spot, spot_of_member}
+use Rattle.fb_access.specs.Spots.{field_spot, part_spot, spot_of_part, spot_of_field, if_element, if_of_array, spot_of_element, member_spot, spot_of_member}
 use Rattle.fb_access.specs.Denotes.{next_spot, Reaches, root_spot}
-use Rattle.fb_access.specs.Held.{IsTableAt, IsLed, IsUnionAt, IsSpot}
+use Rattle.fb_access.specs.Held.{IsTableAt, IsStructAt, IsLed, IsUnionAt, IsSpot}
 use Rattle.fb_access.specs.Inside.{OffsetLies, LiesInside, ValuesLieInside}
 use Rattle.fb_access.proofs.FieldSpots.{field_spot_holds}
 use Rattle.fb_access.proofs.Leading.{led_to_table, led_to_string, led_to_struct}
@@ -51,9 +53,30 @@ module _ (b : List ℕ) (S : Rows) where
   field_of k t n None q served h e l = absurd cc
   field_of k t n (Some f) q served h e l = subst (IsSpot b S) (some_same l) (field_spot_holds b S k t n f served h e)
 
+  -- a field of a struct
+  pub part_stays : (k p : ℕ) (part : PartView) (kind : Kind) → IsStructAt b S k p → PartFits S (struct_size S k) part kind → IsSpot b S (spot_of_part (p + part.place) part.count kind)
+  unfolding IsSpot spot_of_part
+  part_stays k p part (Scalar s) h f = omega (arith, h.within, f)
+  part_stays k p part (Struct j) h f = record { object = f.0; within = omega (arith, h.within, f.1) }
+  part_stays k p part (Scalars s) h f = omega (arith, h.within, f)
+  part_stays k p part (Structs j) h f = record { object = f.0; within = omega (arith, h.within, f.1) }
+  part_stays k p part kind h f = absurd f
+
+  pub part_begins : (bytes : ℕ) (part : PartView) (kind : Kind) → PartFits S bytes part kind → part.place ≤ bytes
+  part_begins bytes part (Scalar s) f = omega (arith, f)
+  part_begins bytes part (Struct j) f = omega (arith, f.1)
+  part_begins bytes part (Scalars s) f = omega (arith, f)
+  part_begins bytes part (Structs j) f = omega (arith, f.1)
+  part_begins bytes part kind f = absurd f
+
+  part_of_struct : (k p n : ℕ) (o : Option PartView) (q : Spot) → IsServed S → IsStructAt b S k p → part_at S k n ≡ o → option_map (part_spot p) o ≡ Some q → IsSpot b S q
+  part_of_struct k p n None q served h e l = absurd cc
+  part_of_struct k p n (Some part) q served h e l = subst (IsSpot b S) (some_same l) (part_stays k p part part.kind h (served.parts k n part e))
+
   from_field : (p : Spot) (n : ℕ) (q : Spot) → IsServed S → IsSpot b S p → spot_of_field b S p n ≡ Some q → IsSpot b S q
   unfolding IsSpot
   from_field (AtTable k t) n q served h l = field_of k t n (numbered S k n) q served h refl l
+  from_field (AtStruct k p) n q served h l = part_of_struct k p n (part_at S k n) q served h refl l
   from_field p n q served h l = absurd cc
 
   -- an element of a vector, or nothing past its count
@@ -65,10 +88,20 @@ module _ (b : List ℕ) (S : Rows) where
   in_place : (c size j : ℕ) → c + 4 + word b c 4 * size ≤ length b → j < word b c 4 → c + 4 + size * j + size ≤ length b
   in_place c size j h lt = let e = element_ends size j (word b c 4) lt in omega (arith, h, e)
 
+  -- an element of an array
+  in_array : (n p size j : ℕ) → p + n * size ≤ length b → j < n → p + size * j + size ≤ length b
+  in_array n p size j h lt = let e = element_ends size j n lt in omega (arith, h, e)
+
+  of_array : (n j : ℕ) (p q : Spot) → (j < n → IsSpot b S p) → Some (if_of_array n j p) ≡ Some q → IsSpot b S q
+  unfolding IsSpot
+  of_array n j p q h l = subst (IsSpot b S) (some_same l) (one_of (nat_lt j n) p AtNoElement (λ t. h (if_less j n t)) tt)
+
   from_element : (p : Spot) (j : ℕ) (q : Spot) → IsSpot b S p → spot_of_element b S p j ≡ Some q → IsSpot b S q
   unfolding IsSpot spot_of_element
   from_element (AtScalars s c) j q h l = if_below c j (AtInline s (c + 4 + scalar_size s * j)) q (λ lt. in_place c (scalar_size s) j h.within lt) l
   from_element (AtStructs k c) j q h l = if_below c j (AtStruct k (c + 4 + struct_size S k * j)) q (λ lt. record { object = h.object; within = in_place c (struct_size S k) j h.counted.within lt }) l
+  from_element (AtScalarArray s n p) j q h l = of_array n j (AtInline s (p + scalar_size s * j)) q (λ lt. in_array n p (scalar_size s) j h lt) l
+  from_element (AtStructArray k n p) j q h l = of_array n j (AtStruct k (p + struct_size S k * j)) q (λ lt. record { object = h.object; within = in_array n p (struct_size S k) j h.within lt }) l
   from_element (AtTexts c) j q h l = if_below c j (AtText (target b (c + 4 + 4 * j))) q (λ lt. (led_to_string b S (c + 4 + 4 * j) (h.led.at j lt)).1) l
   from_element (AtTables k c) j q h l = if_below c j (AtTable k (target b (c + 4 + 4 * j))) q (λ lt. (led_to_table b S (c + 4 + 4 * j) k h.object (h.led.at j lt)).1) l
   from_element (AtUnions e y c) j q h l = if_below c j (AtUnion e (word b (y + j) 1) (c + 4 + 4 * j)) q (λ lt. record { union = h.union; led = h.led.at j lt }) l
@@ -128,6 +161,8 @@ module _ (b : List ℕ) (S : Rows) where
   lies (AtText c) h = h
   lies (AtScalars s c) h = h
   lies (AtStructs k c) h = h.counted
+  lies (AtScalarArray s n p) h = h
+  lies (AtStructArray k n p) h = h.within
   lies (AtTexts c) h = h.counted
   lies (AtTables k c) h = h.counted
   lies (AtUnions e y c) h = (h.types, h.counted)

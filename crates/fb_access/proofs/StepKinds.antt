@@ -8,15 +8,17 @@ use Rattle.fb_schema.specs.declared.kinds.Kind.{Kind}
 use Rattle.fb_schema.specs.declared.kinds.Kind.TheVariants.{Scalar as AScalar, Text, Struct, Table, Union, Scalars, Texts, Structs, Tables, Unions}
 use Rattle.fb_schema.specs.Rows.{Rows}
 use Rattle.fb_schema.specs.Kinds.{scalar_size, struct_size}
+use Rattle.fb_schema.specs.declared.views.PartView.{PartView}
 use Rattle.fb_schema.specs.Live.{Live}
 use Rattle.fb_schema.specs.Members.{member_of}
+use Rattle.fb_schema.specs.Parts.{part_at}
 use Rattle.fb_verify.specs.Places.{target, field_place}
 use Rattle.fb_access.specs.declared.step.Step.{Step}
 use Rattle.fb_access.specs.declared.step.Step.TheVariants.{Field, Element, Member}
 use Rattle.fb_access.specs.declared.spot.Spot.{Spot}
-use Rattle.fb_access.specs.declared.spot.Spot.TheVariants.{AtTable, AtInline, AtStruct, AtText, AtScalars, AtStructs, AtTexts, AtTables, AtUnions, AtUnion, AtAbsent, AtNoElement, AtOtherMember}
+use Rattle.fb_access.specs.declared.spot.Spot.TheVariants.{AtTable, AtInline, AtStruct, AtText, AtScalars, AtStructs, AtScalarArray, AtStructArray, AtTexts, AtTables, AtUnions, AtUnion, AtAbsent, AtNoElement, AtOtherMember}
 use Rattle.fb_access.specs.Fitting.{numbered, next_kind}
-use Rattle.fb_access.specs.Spots.{kind_at, present_spot, default_spot, absent_spot, spot_at, field_spot, spot_of_element, member_spot}
+use Rattle.fb_access.specs.Spots.{kind_at, present_spot, default_spot, absent_spot, spot_at, field_spot, part_spot, spot_of_part, spot_of_element, member_spot}
 use Rattle.fb_access.specs.Denotes.{next_spot, Leads, allows}
 use Rattle.fb_access.specs.Here.{IsHere, MayBeHere, IsOfKind, KindsGoOn}
 
@@ -32,6 +34,7 @@ map_some f (Some x) = refl
 pub leads_where_allowed : (b : List ℕ) (S : Rows) (p : Spot) (s : Step) → is_some (next_spot b S p s) ≡ allows S p s
 unfolding next_spot spot_of_element next_kind
 leads_where_allowed b S (AtTable k t) (Field n) = map_same (field_spot b t) (λ f. f.kind) (numbered S k n)
+leads_where_allowed b S (AtStruct k p) (Field n) = map_same (part_spot p) (λ (part : PartView). part.kind) (part_at S k n)
 leads_where_allowed b S (AtUnion e y p) (Member m) = map_some (λ kind. if y == m then member_spot b p kind else AtOtherMember) (member_of S e m)
 leads_where_allowed b S AtAbsent s = refl
 leads_where_allowed b S AtNoElement s = refl
@@ -69,6 +72,15 @@ place_kind b t f (Some p) = inl (present_kind b t f.slot p f.kind)
 pub field_kind : (b : List ℕ) (t : ℕ) (f : Live) → MayBeHere (field_spot b t f) f.kind
 field_kind b t f = place_kind b t f (field_place b t f.slot)
 
+-- a field of a struct is of its kind
+part_here : (p n : ℕ) (kind : Kind) → IsOfKind (spot_of_part p n kind) kind
+unfolding spot_of_part
+part_here p n (AScalar s) = inl refl
+part_here p n (Struct k) = inl refl
+part_here p n (Scalars s) = inl refl
+part_here p n (Structs k) = inl refl
+part_here p n kind = inr refl
+
 may_be_of : (q : Spot) (kind : Kind) → MayBeHere q kind → IsOfKind q kind
 may_be_of q kind (inl h) = inl h
 may_be_of q kind (inr e) = inr (rw e refl)
@@ -96,6 +108,10 @@ module _ (b : List ℕ) (S : Rows) where
   numbered_kind t None q onward e l = absurd cc
   numbered_kind t (Some f) q onward e l = along (field_spot b t f) q f.kind onward (may_be_of (field_spot b t f) f.kind (field_kind b t f)) l e
 
+  placed_kind : (p : ℕ) (o : Option PartView) (q : Spot) (onward : Kind) → option_map (λ (part : PartView). part.kind) o ≡ Some onward → option_map (part_spot p) o ≡ Some q → IsOfKind q onward
+  placed_kind p None q onward e l = absurd cc
+  placed_kind p (Some part) q onward e l = along (part_spot p part) q part.kind onward (part_here (p + part.place) part.count part.kind) l e
+
   valued_kind : (p y m : ℕ) (o : Option Kind) (q : Spot) (onward : Kind) → o ≡ Some onward → option_map (λ kind. if y == m then member_spot b p kind else AtOtherMember) o ≡ Some q → IsOfKind q onward
   valued_kind p y m None q onward e l = absurd cc
   valued_kind p y m (Some kind) q onward e l = along (if y == m then member_spot b p kind else AtOtherMember) q kind onward (if_member b p kind (y == m)) l e
@@ -104,6 +120,9 @@ module _ (b : List ℕ) (S : Rows) where
   own_kinds : (p : Spot) (s : Step) (q : Spot) (kind onward : Kind) → kind_at p ≡ Some kind → next_kind S kind s ≡ Some onward → Leads b S p s q → IsOfKind q onward
   unfolding next_spot spot_of_element next_kind
   own_kinds (AtTable k t) (Field n) q kind onward h e l = let i : kind ≡ Table k = cc in numbered_kind t (numbered S k n) q onward (rw i at e) l
+  own_kinds (AtStruct k p) (Field n) q kind onward h e l = let i : kind ≡ Struct k = cc in placed_kind p (part_at S k n) q onward (rw i at e) l
+  own_kinds (AtScalarArray s n p) (Element j) q kind onward h e l = let i : kind ≡ Scalars s = cc in along _ q (AScalar s) onward (if_kind (nat_lt j n) (AtInline s (p + scalar_size s * j)) (AScalar s) refl) l (rw i at e)
+  own_kinds (AtStructArray k n p) (Element j) q kind onward h e l = let i : kind ≡ Structs k = cc in along _ q (Struct k) onward (if_kind (nat_lt j n) (AtStruct k (p + struct_size S k * j)) (Struct k) refl) l (rw i at e)
   own_kinds (AtScalars s c) (Element j) q kind onward h e l = let i : kind ≡ Scalars s = cc in along _ q (AScalar s) onward (if_kind (nat_lt j (word b c 4)) (AtInline s (c + 4 + scalar_size s * j)) (AScalar s) refl) l (rw i at e)
   own_kinds (AtStructs k c) (Element j) q kind onward h e l = let i : kind ≡ Structs k = cc in along _ q (Struct k) onward (if_kind (nat_lt j (word b c 4)) (AtStruct k (c + 4 + struct_size S k * j)) (Struct k) refl) l (rw i at e)
   own_kinds (AtTexts c) (Element j) q kind onward h e l = let i : kind ≡ Texts = cc in along _ q Text onward (if_kind (nat_lt j (word b c 4)) (AtText (target b (c + 4 + 4 * j))) Text refl) l (rw i at e)

@@ -13,7 +13,7 @@ use Rattle.fb_verify.specs.WellFormed.{base}
 use Rattle.fb_access.specs.declared.step.Step.{Step}
 use Rattle.fb_access.specs.declared.step.Step.TheVariants.{Field, Element, Member}
 use Rattle.fb_access.specs.declared.spot.Spot.{Spot}
-use Rattle.fb_access.specs.declared.spot.Spot.TheVariants.{AtTable, AtInline, AtStruct, AtText, AtScalars, AtStructs, AtTexts, AtTables, AtUnions, AtUnion, AtDefault, AtAbsent, AtNoElement, AtOtherMember}
+use Rattle.fb_access.specs.declared.spot.Spot.TheVariants.{AtTable, AtInline, AtStruct, AtText, AtScalars, AtStructs, AtScalarArray, AtStructArray, AtTexts, AtTables, AtUnions, AtUnion, AtDefault, AtAbsent, AtNoElement, AtOtherMember}
 use Rattle.fb_access.specs.declared.answer.Answer.{Answer}
 use Rattle.fb_access.specs.declared.answer.Answer.TheVariants as answer
 use Rattle.fb_access.specs.Fitting.{next_kind}
@@ -113,6 +113,8 @@ value b S (AtStruct k p) = structure (bytes_at b p (struct_size S k))
 value b S (AtText c) = text (bytes_at b (c + 4) (word b c 4))
 value b S (AtScalars s c) = vector (word b c 4)
 value b S (AtStructs k c) = vector (word b c 4)
+value b S (AtScalarArray s n p) = vector n
+value b S (AtStructArray k n p) = vector n
 value b S (AtTexts c) = vector (word b c 4)
 value b S (AtTables k c) = vector (word b c 4)
 value b S (AtUnions e q c) = vector (word b c 4)

@@ -6,7 +6,7 @@ use Rattle.fb_verify.specs.Samples.{monsters, monster, open_name}
 use Rattle.fb_verify.specs.Examples.{Counts, one_table, one_leaf, kids_of}
 use Rattle.fb_access.specs.declared.step.Step.{Step}
 use Rattle.fb_access.specs.declared.step.Step.TheVariants.{Field, Element, Member}
-use Rattle.fb_access.specs.declared.spot.Spot.TheVariants.{AtTable, AtText, AtUnion}
+use Rattle.fb_access.specs.declared.spot.Spot.TheVariants.{AtTable, AtStruct, AtText, AtUnion}
 use Rattle.fb_access.specs.Denotes.{next_spot, Shown, nothing, no_element, other_member, truth, signed, unsigned, float, text, structure, vector, table, union, Denotes}
 use Rattle.fb_access.specs.Inside.{LiesInside}
 use Rattle.fb_access.specs.Samples.{rows, bytes, prefixed_monster}
@@ -45,6 +45,16 @@ pub record ElementValues : Type 0 where
   pub a_type : Holds (Field 10 ∷ Element 2 ∷ []) (unsigned 1)
   pub a_union : Holds (Field 11 ∷ Element 2 ∷ []) (union 1)
   pub a_union_of_an_unknown_type : Holds (Field 11 ∷ Element 1 ∷ []) (union 9)
+
+-- fields of its structs, and of the array in them
+pub record PartValues : Type 0 where
+  pub a_scalar : Holds (Field 2 ∷ Field 1 ∷ []) (signed (pos 134678021))
+  pub an_array : Holds (Field 2 ∷ Field 2 ∷ []) (vector 4)
+  pub of_an_array : Holds (Field 2 ∷ Field 2 ∷ Element 3 ∷ []) (unsigned 12)
+  pub past_an_array : Holds (Field 2 ∷ Field 2 ∷ Element 4 ∷ []) no_element
+  pub of_an_element : Holds (Field 7 ∷ Element 1 ∷ Field 0 ∷ []) (signed (pos 1077886525))
+  pub of_a_member : Holds (Field 5 ∷ Member 2 ∷ Field 2 ∷ Element 0 ∷ []) (unsigned 29)
+  pub no_such_field : next_spot bytes rows (AtStruct 1 0) (Field 3) ≡ None
 
 -- members of its unions
 pub record MemberValues : Type 0 where

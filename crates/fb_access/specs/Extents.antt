@@ -7,7 +7,7 @@ use Rattle.fb_schema.specs.Rows.{Rows}
 use Rattle.fb_schema.specs.Kinds.{scalar_size, struct_size}
 use Rattle.fb_access.specs.declared.extent.Extent.{Extent}
 use Rattle.fb_access.specs.declared.spot.Spot.{Spot}
-use Rattle.fb_access.specs.declared.spot.Spot.TheVariants.{AtTable, AtInline, AtStruct, AtText, AtScalars, AtStructs, AtTexts, AtTables, AtUnions, AtUnion, AtDefault, AtAbsent, AtNoElement, AtOtherMember}
+use Rattle.fb_access.specs.declared.spot.Spot.TheVariants.{AtTable, AtInline, AtStruct, AtText, AtScalars, AtStructs, AtScalarArray, AtStructArray, AtTexts, AtTables, AtUnions, AtUnion, AtDefault, AtAbsent, AtNoElement, AtOtherMember}
 
 -- so many bytes from p on
 abbrev pub bytes_from : ℕ → ℕ → Extent
@@ -23,8 +23,8 @@ scalar_extent Float p = Some (bytes_from p 4)
 scalar_extent Double p = Some (bytes_from p 8)
 scalar_extent _ p = None
 
--- the bytes of a float, a struct, a string without its terminator, and of the elements of a vector of scalars or
--- structs; nothing else has bytes of its own
+-- the bytes of a float, a struct, a string without its terminator, and of the elements of a vector or array of scalars
+-- or structs; nothing else has bytes of its own
 unfoldable pub extent : List ℕ → Rows → Spot → Option Extent
 extent b S (AtTable k t) = None
 extent b S (AtInline s p) = scalar_extent s p
@@ -32,6 +32,8 @@ extent b S (AtStruct k p) = Some (bytes_from p (struct_size S k))
 extent b S (AtText c) = Some (elements_at b c 1)
 extent b S (AtScalars s c) = Some (elements_at b c (scalar_size s))
 extent b S (AtStructs k c) = Some (elements_at b c (struct_size S k))
+extent b S (AtScalarArray s n p) = Some (bytes_from p (n * scalar_size s))
+extent b S (AtStructArray k n p) = Some (bytes_from p (n * struct_size S k))
 extent b S (AtTexts c) = None
 extent b S (AtTables k c) = None
 extent b S (AtUnions e q c) = None

@@ -3,8 +3,10 @@ use Rattle.std.specs.Prelude.{◌≡◌, ℕ, ◌==◌, List, [], ◌∷◌, fin
 use Rattle.fb_schema.specs.declared.kinds.Kind.{Kind}
 use Rattle.fb_schema.specs.declared.kinds.Kind.TheVariants.{Scalar, Text, Struct, Table, Union, Scalars, Texts, Structs, Tables, Unions}
 use Rattle.fb_schema.specs.Rows.{Rows}
+use Rattle.fb_schema.specs.declared.views.PartView.{PartView}
 use Rattle.fb_schema.specs.Live.{Live, live_fields}
 use Rattle.fb_schema.specs.Members.{member_of}
+use Rattle.fb_schema.specs.Parts.{part_at}
 use Rattle.fb_access.specs.declared.step.Step.{Step}
 use Rattle.fb_access.specs.declared.step.Step.TheVariants.{Field, Element, Member}
 
@@ -25,9 +27,10 @@ element_kind (Structs k) = Some (Struct k)
 element_kind (Tables k) = Some (Table k)
 element_kind (Unions e) = Some (Union e)
 
--- the kind of the field of a table with this number
+-- the kind of the field with this number of a table, or at this place of a struct, where an array is of a vector's
 abbrev pub field_kind : Rows → Kind → ℕ → Option Kind
 field_kind S (Table k) n = option_map (λ f. f.kind) (numbered S k n)
+field_kind S (Struct k) n = option_map (λ (part : PartView). part.kind) (part_at S k n)
 field_kind S _ n = None
 
 -- the kind of the member of a union with this value

@@ -15,7 +15,7 @@ use Rattle.fb_verify.specs.Unfolds.{Unfolds, ElementUnfolds}
 use Rattle.fb_verify.specs.OffsetRows.{TypeFits, TypesFit}
 use Rattle.fb_verify.specs.Sealed.{Sealed, IsUnfolded}
 use Rattle.fb_access.specs.declared.spot.Spot.{Spot}
-use Rattle.fb_access.specs.declared.spot.Spot.TheVariants.{AtTable, AtInline, AtStruct, AtText, AtScalars, AtStructs, AtTexts, AtTables, AtUnions, AtUnion, AtDefault, AtAbsent, AtNoElement, AtOtherMember}
+use Rattle.fb_access.specs.declared.spot.Spot.TheVariants.{AtTable, AtInline, AtStruct, AtText, AtScalars, AtStructs, AtScalarArray, AtStructArray, AtTexts, AtTables, AtUnions, AtUnion, AtDefault, AtAbsent, AtNoElement, AtOtherMember}
 
 -- a table of the object k stands at t and unfolds, whatever was checked
 pub record IsTableAt (b : List ℕ) (S : Rows) (k t : ℕ) : Type 0 where
@@ -38,6 +38,11 @@ pub record AreLed (b : List ℕ) (S : Rows) (p n : ℕ) (leads : ℕ → Lead) :
 pub record IsStructAt (b : List ℕ) (S : Rows) (k p : ℕ) : Type 0 where
   pub object : k < length S.objects
   pub within : p + struct_size S k ≤ length b
+
+-- n structs of the object k stand one behind another from p on
+pub record AreStructsFrom (b : List ℕ) (S : Rows) (k n p : ℕ) : Type 0 where
+  pub object : k < length S.objects
+  pub within : p + n * struct_size S k ≤ length b
 
 -- a count stands at v, and behind it so many times this many bytes
 pub record IsCounted (b : List ℕ) (v size : ℕ) : Type 0 where
@@ -84,6 +89,8 @@ IsSpot b S (AtStruct k p) = IsStructAt b S k p
 IsSpot b S (AtText c) = IsTextAt b c
 IsSpot b S (AtScalars s c) = IsCounted b c (scalar_size s)
 IsSpot b S (AtStructs k c) = AreStructsAt b S k c
+IsSpot b S (AtScalarArray s n p) = p + n * scalar_size s ≤ length b
+IsSpot b S (AtStructArray k n p) = AreStructsFrom b S k n p
 IsSpot b S (AtTexts c) = AreTextsAt b S c
 IsSpot b S (AtTables k c) = AreTablesAt b S k c
 IsSpot b S (AtUnions e q c) = AreUnionsAt b S e q c

@@ -1,6 +1,6 @@
 -- What a reader of a good buffer relies on: wherever steps lead from the root table, the bytes of what is there lie in
 -- the buffer.
-use Rattle.std.specs.Prelude.{ℕ, ◌+◌, ◌≤◌, List, length}
+use Rattle.std.specs.Prelude.{ℕ, ◌+◌, ◌*◌, ◌≤◌, List, length}
 use Rattle.fb_bytes.specs.Word.{word}
 use Rattle.fb_schema.specs.Rows.{Rows}
 use Rattle.fb_schema.specs.Kinds.{scalar_size, struct_size}
@@ -10,7 +10,7 @@ use Rattle.fb_verify.specs.Fields.{Lead, to_nothing, lead_of}
 use Rattle.fb_verify.specs.Sealed.{Sealed, IsUnfolded}
 use Rattle.fb_access.specs.declared.step.Step.{Step}
 use Rattle.fb_access.specs.declared.spot.Spot.{Spot}
-use Rattle.fb_access.specs.declared.spot.Spot.TheVariants.{AtTable, AtInline, AtStruct, AtText, AtScalars, AtStructs, AtTexts, AtTables, AtUnions, AtUnion, AtDefault, AtAbsent, AtNoElement, AtOtherMember}
+use Rattle.fb_access.specs.declared.spot.Spot.TheVariants.{AtTable, AtInline, AtStruct, AtText, AtScalars, AtStructs, AtScalarArray, AtStructArray, AtTexts, AtTables, AtUnions, AtUnion, AtDefault, AtAbsent, AtNoElement, AtOtherMember}
 use Rattle.fb_access.specs.Denotes.{Reaches, root_spot}
 use Rattle.fb_access.specs.Held.{IsCounted, IsTextAt, HasVtable}
 
@@ -19,7 +19,7 @@ abbrev pub OffsetLies : List ℕ → ℕ → Lead → Type 0
 OffsetLies b p to_nothing = Unit {0}
 OffsetLies b p _ = p + 4 ≤ length b
 
--- of a table its soffset and its vtable; of a value in place all its bytes; of a string or a vector its count and so
+-- of a table its soffset and its vtable; of a value in place, and of an array of these, all its bytes; of a string or a vector its count and so
 -- many bytes or elements behind it, an offset word being 4 bytes; behind a string's bytes a byte 0; of a vector of
 -- unions their types too; of a union whose type the schema knows its offset word; what stands behind an offset word is
 -- a spot of its own
@@ -30,6 +30,8 @@ LiesInside b S (AtStruct k p) = p + struct_size S k ≤ length b
 LiesInside b S (AtText c) = IsTextAt b c
 LiesInside b S (AtScalars s c) = IsCounted b c (scalar_size s)
 LiesInside b S (AtStructs k c) = IsCounted b c (struct_size S k)
+LiesInside b S (AtScalarArray s n p) = p + n * scalar_size s ≤ length b
+LiesInside b S (AtStructArray k n p) = p + n * struct_size S k ≤ length b
 LiesInside b S (AtTexts c) = IsCounted b c 4
 LiesInside b S (AtTables k c) = IsCounted b c 4
 LiesInside b S (AtUnions e q c) = (q + word b c 4 ≤ length b) × IsCounted b c 4

@@ -67,6 +67,10 @@ cut_to most text = if nat_lt most (length text) then take most text ++ codes "..
 unfoldable pub location_text : Rows → Fault → List Link → List ℕ
 location_text S f links = cut_to 4096 (whole_text S f links)
 
+-- and of the path alone
+unfoldable pub place_text : Rows → List Link → List ℕ
+place_text S links = cut_to 4096 (path_text S links)
+
 -- behind what was there, as much of a text as brings both to a byte more than is told
 unfoldable pub filled : List ℕ → List ℕ → List ℕ
 filled before text = before ++ take (4097 - length before) text

@@ -35,11 +35,13 @@ LeadsBy text steps = Resolves rows 0 text steps
 abbrev pub IsUnfit : List ℕ → Misfit → ℕ → Type 0
 IsUnfit text misfit step = Misfits rows 0 text misfit step
 
--- fields by their ids, which a deprecated field has too
+-- fields of tables by their ids, which a deprecated field has too, and those of structs by their order
 pub record Resolved : Type 0 where
   pub a_field : LeadsBy (codes "text") (Field 1 ∷ [])
   pub behind_a_deprecated_field : LeadsBy (codes "longs[7]") (Field 13 ∷ Element 7 ∷ [])
   pub of_a_table : LeadsBy (codes "table.ubyte") (Field 3 ∷ Field 2 ∷ [])
+  pub of_a_struct : LeadsBy (codes "struct.y") (Field 2 ∷ Field 1 ∷ [])
+  pub of_an_array : LeadsBy (codes "struct.z[3]") (Field 2 ∷ Field 2 ∷ Element 3 ∷ [])
   pub of_a_member : LeadsBy (codes "us[1]@A.byte") (Field 11 ∷ Element 1 ∷ Member 1 ∷ Field 1 ∷ [])
 
 -- each way not to fit, behind what does
@@ -49,4 +51,5 @@ pub record Unfit : Type 0 where
   pub no_vector : IsUnfit (codes "table[0]") NotIndexable 1
   pub no_union : IsUnfit (codes "tables[0]@A") NotAUnion 2
   pub no_member : IsUnfit (codes "us[0]@B") NoSuchMember 2
-  pub no_table : IsUnfit (codes "us[0]@W.x") NotATable 3
+  pub no_part : IsUnfit (codes "us[0]@W.w") NoSuchField 3
+  pub no_table : IsUnfit (codes "n.x") NotATable 1

@@ -1,11 +1,13 @@
 -- What the text of a path resolves to, against the rows of a schema.
-use Rattle.std.specs.Prelude.{◌≡◌, ℕ, ◌⊎◌, List, [], ◌∷◌, ◌++◌, length, find, Option, Some, None, Result, Ok, Err}
+use Rattle.std.specs.Prelude.{◌≡◌, ℕ, ◌^◌, nat_lt, if◌then◌else◌, ◌⊎◌, List, [], ◌∷◌, ◌++◌, length, find, Option, Some, None, Result, Ok, Err}
 use Rattle.std.specs.Str.{bytes_eq}
 use Rattle.fb_schema.specs.declared.kinds.Kind.{Kind}
-use Rattle.fb_schema.specs.declared.kinds.Kind.TheVariants.{Table, Union}
+use Rattle.fb_schema.specs.declared.kinds.Kind.TheVariants.{Struct, Table, Union}
 use Rattle.fb_schema.specs.Rows.{Rows}
+use Rattle.fb_schema.specs.declared.views.PartView.{PartView}
 use Rattle.fb_schema.specs.Live.{Live, live_fields}
 use Rattle.fb_schema.specs.Members.{member_of, member_named}
+use Rattle.fb_schema.specs.Parts.{part_at, part_named}
 use Rattle.fb_access.specs.declared.step.Step.{Step}
 use Rattle.fb_access.specs.declared.step.Step.TheVariants.{Field, Element, Member}
 use Rattle.fb_access.specs.declared.misfit.Misfit.{Misfit}
@@ -40,12 +42,23 @@ abbrev pub to_member : Rows → ℕ → Option ℕ → Result Fitted Misfit
 to_member S e None = Err NoSuchMember
 to_member S e (Some value) = to_kind value (member_of S e value)
 
--- `.name` is a step from a table that has this live field
+-- the step to the field of a struct at this place, if it has a kind there; a step tells places below 2 ^ 16
+abbrev pub to_part : ℕ → Option PartView → Result Fitted Misfit
+to_part i None = Err NoSuchField
+to_part i (Some part) = if nat_lt i (2 ^ 16) then Ok (record { step = Field i; kind = part.kind }) else Err NoSuchField
+
+-- the step to the field of a struct whose place was found, if there is one
+abbrev pub to_place : Rows → ℕ → Option ℕ → Result Fitted Misfit
+to_place S k None = Err NoSuchField
+to_place S k (Some i) = to_part i (part_at S k i)
+
+-- `.name` is a step from a table that has this live field, and from a struct that has this field
 abbrev pub field_step : Rows → Kind → List ℕ → Result Fitted Misfit
 field_step S (Table k) name = to_field (field_with_name S k name)
+field_step S (Struct k) name = to_place S k (part_named S k name)
 field_step S _ name = Err NotATable
 
--- `[j]` is a step from every vector
+-- `[j]` is a step from every vector and array
 abbrev pub element_step : Kind → ℕ → Result Fitted Misfit
 element_step kind j = to_element j (element_kind kind)
 

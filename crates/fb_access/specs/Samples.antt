@@ -43,13 +43,13 @@ scalar_fields =
     ∷ number (codes "double") 24 12 (pos 1)
     ∷ []
 
--- the root table, a struct of 12 bytes that is aligned to 4, the table of scalars, and a union of this table, this
+-- the root table, a struct of two ints and four ubytes, the table of scalars, and a union of this table, this
 -- struct and a text
 abbrev pub rows : Rows
 rows = record {
   objects =
       table (codes "T") root_fields
-      ∷ struct_of (codes "W") (pos 12) (pos 4) (field (codes "x") 0 int ∷ field (codes "y") 4 int ∷ field (codes "z") 8 int ∷ [])
+      ∷ struct_of (codes "W") (pos 12) (pos 4) (field (codes "x") 0 int ∷ field (codes "y") 4 int ∷ field (codes "z") 8 (record (type_of 17 4 0) { fixed_length = 4 }) ∷ [])
       ∷ table (codes "A") scalar_fields
       ∷ [];
   enums = union_of (codes "U") (plain_member (codes "A") (pos 1) (object 2) ∷ plain_member (codes "W") (pos 2) (object 1) ∷ plain_member (codes "T") (pos 3) text ∷ []) ∷ [];

@@ -7,12 +7,14 @@ use Rattle.fb_schema.specs.declared.kinds.Kind.{Kind}
 use Rattle.fb_schema.specs.declared.kinds.Kind.TheVariants.{Scalar as AScalar, Text, Struct, Table, Union, Scalars, Texts, Structs, Tables, Unions}
 use Rattle.fb_schema.specs.Rows.{Rows}
 use Rattle.fb_schema.specs.Kinds.{scalar_size, struct_size}
+use Rattle.fb_schema.specs.declared.views.PartView.{PartView}
 use Rattle.fb_schema.specs.Live.{Live}
 use Rattle.fb_schema.specs.Members.{member_of}
+use Rattle.fb_schema.specs.Parts.{part_at}
 use Rattle.fb_verify.specs.Places.{target, field_place}
 use Rattle.fb_verify.specs.Fields.{type_place, union_type, types_begin}
 use Rattle.fb_access.specs.declared.spot.Spot.{Spot}
-use Rattle.fb_access.specs.declared.spot.Spot.TheVariants.{AtTable, AtInline, AtStruct, AtText, AtScalars, AtStructs, AtTexts, AtTables, AtUnions, AtUnion, AtDefault, AtAbsent, AtNoElement, AtOtherMember}
+use Rattle.fb_access.specs.declared.spot.Spot.TheVariants.{AtTable, AtInline, AtStruct, AtText, AtScalars, AtStructs, AtScalarArray, AtStructArray, AtTexts, AtTables, AtUnions, AtUnion, AtDefault, AtAbsent, AtNoElement, AtOtherMember}
 use Rattle.fb_access.specs.Fitting.{numbered}
 
 -- the kind of what is here, none where nothing is
@@ -23,6 +25,8 @@ kind_at (AtStruct k p) = Some (Struct k)
 kind_at (AtText c) = Some Text
 kind_at (AtScalars s c) = Some (Scalars s)
 kind_at (AtStructs k c) = Some (Structs k)
+kind_at (AtScalarArray s n p) = Some (Scalars s)
+kind_at (AtStructArray k n p) = Some (Structs k)
 kind_at (AtTexts c) = Some Texts
 kind_at (AtTables k c) = Some (Tables k)
 kind_at (AtUnions e q c) = Some (Unions e)
@@ -67,19 +71,39 @@ spot_at b t f (Some p) = present_spot b t f.slot p f.kind
 abbrev pub field_spot : List ℕ → ℕ → Live → Spot
 field_spot b t f = spot_at b t f (field_place b t f.slot)
 
--- to the field with this number
+-- the field of a struct that stands at p, of n values if it is an array
+unfoldable pub spot_of_part : ℕ → ℕ → Kind → Spot
+spot_of_part p n (AScalar s) = AtInline s p
+spot_of_part p n (Struct k) = AtStruct k p
+spot_of_part p n (Scalars s) = AtScalarArray s n p
+spot_of_part p n (Structs k) = AtStructArray k n p
+spot_of_part p n _ = AtAbsent
+
+-- the field of the struct at p
+abbrev pub part_spot : ℕ → PartView → Spot
+part_spot p part = spot_of_part (p + part.place) part.count part.kind
+
+-- to the field with this number of a table, or at this place of a struct
 abbrev pub spot_of_field : List ℕ → Rows → Spot → ℕ → Option Spot
 spot_of_field b S (AtTable k t) n = option_map (field_spot b t) (numbered S k n)
+spot_of_field b S (AtStruct k p) n = option_map (part_spot p) (part_at S k n)
 spot_of_field b S _ n = None
 
 -- a spot, if the vector at c has an element j
 abbrev pub if_element : List ℕ → ℕ → ℕ → Spot → Spot
 if_element b c j spot = if nat_lt j (word b c 4) then spot else AtNoElement
 
--- to element j: the elements stand behind the count, in place or as offset words; a union has the j-th type
+-- a spot, if an array of n values has an element j
+abbrev pub if_of_array : ℕ → ℕ → Spot → Spot
+if_of_array n j spot = if nat_lt j n then spot else AtNoElement
+
+-- to element j: those of a vector stand behind its count, in place or as offset words, those of an array from its place
+-- on; a union has the j-th type
 unfoldable pub spot_of_element : List ℕ → Rows → Spot → ℕ → Option Spot
 spot_of_element b S (AtScalars s c) j = Some (if_element b c j (AtInline s (c + 4 + scalar_size s * j)))
 spot_of_element b S (AtStructs k c) j = Some (if_element b c j (AtStruct k (c + 4 + struct_size S k * j)))
+spot_of_element b S (AtScalarArray s n p) j = Some (if_of_array n j (AtInline s (p + scalar_size s * j)))
+spot_of_element b S (AtStructArray k n p) j = Some (if_of_array n j (AtStruct k (p + struct_size S k * j)))
 spot_of_element b S (AtTexts c) j = Some (if_element b c j (AtText (target b (c + 4 + 4 * j))))
 spot_of_element b S (AtTables k c) j = Some (if_element b c j (AtTable k (target b (c + 4 + 4 * j))))
 spot_of_element b S (AtUnions e q c) j = Some (if_element b c j (AtUnion e (word b (q + j) 1) (c + 4 + 4 * j)))

@@ -12,7 +12,7 @@ use Rattle.fb_verify.specs.Fields.{Lead, to_table, to_struct, to_string, to_noth
 use Rattle.fb_access.specs.declared.step.Step.{Step}
 use Rattle.fb_access.specs.declared.step.Step.TheVariants.{Field, Element, Member}
 use Rattle.fb_access.specs.declared.spot.Spot.{Spot}
-use Rattle.fb_access.specs.declared.spot.Spot.TheVariants.{AtTable, AtInline, AtStruct, AtText, AtScalars, AtStructs, AtTexts, AtTables, AtUnions, AtUnion, AtDefault, AtAbsent, AtNoElement, AtOtherMember}
+use Rattle.fb_access.specs.declared.spot.Spot.TheVariants.{AtTable, AtInline, AtStruct, AtText, AtScalars, AtStructs, AtScalarArray, AtStructArray, AtTexts, AtTables, AtUnions, AtUnion, AtDefault, AtAbsent, AtNoElement, AtOtherMember}
 use Rattle.fb_access.specs.Fitting.{numbered}
 use Rattle.fb_access.specs.Spots.{kind_at}
 use Rattle.fb_access.specs.Denotes.{Leads, Reaches}
@@ -25,6 +25,8 @@ position_of (AtStruct k p) = Some p
 position_of (AtText c) = Some c
 position_of (AtScalars s c) = Some c
 position_of (AtStructs k c) = Some c
+position_of (AtScalarArray s n p) = Some p
+position_of (AtStructArray k n p) = Some p
 position_of (AtTexts c) = Some c
 position_of (AtTables k c) = Some c
 position_of (AtUnions e q c) = Some c

@@ -2,14 +2,15 @@
 
 ghost use Rattle.fb_access.specs.PathTests.{Words, Spellings, Resolved, Unfit};
 ghost use Rattle.fb_access.specs.LocationTests.{Told, Nameless, Masked, Ways, Long};
-ghost use Rattle.fb_access.specs.Examples.{SampleUnfolds, FieldValues, ElementValues, MemberValues, ScalarValues, DefaultValues, StayingValues, LackingFields, PrefixedValues, InsideValues};
+ghost use Rattle.fb_access.specs.Examples.{SampleUnfolds, FieldValues, ElementValues, PartValues, MemberValues, ScalarValues, DefaultValues, StayingValues, LackingFields, PrefixedValues, InsideValues};
 
 /// A buffer with a field of each kind is good, and what paths denote in it.
-#[tactic(auto, using(crate::proofs::Shown::field_values, crate::proofs::Shown::element_values, crate::proofs::Shown::member_values, crate::proofs::Shown::scalar_values, crate::proofs::Shown::default_values, crate::proofs::Shown::staying_values, crate::proofs::Shown::lacking_fields, crate::proofs::ShownTree::sample_unfolds))]
+#[tactic(auto, using(crate::proofs::Shown::field_values, crate::proofs::Shown::element_values, crate::proofs::Shown::part_values, crate::proofs::Shown::member_values, crate::proofs::Shown::scalar_values, crate::proofs::Shown::default_values, crate::proofs::Shown::staying_values, crate::proofs::Shown::lacking_fields, crate::proofs::ShownTree::sample_unfolds))]
 pub fn values()
     ensures good { SampleUnfolds }
     ensures fields { FieldValues }
     ensures elements { ElementValues }
+    ensures parts { PartValues }
     ensures members { MemberValues }
     ensures scalars { ScalarValues }
     ensures defaults { DefaultValues }

@@ -61,6 +61,14 @@ pub fn extent_at(window: &Window<'_>, schema: &Schema<'_>, spot: Spot) -> Option
         Spot::AtText(at) => Some(elements_at(window, at, 1)),
         Spot::AtScalars(scalar, at) => Some(elements_at(window, at, u64::from(scalar.size()))),
         Spot::AtStructs(object, at) => Some(elements_at(window, at, struct_size(schema, object))),
+        Spot::AtScalarArray(scalar, n, at) => Some(Extent {
+            at,
+            size: u64::from(n) * u64::from(scalar.size()),
+        }),
+        Spot::AtStructArray(object, n, at) => Some(Extent {
+            at,
+            size: u64::from(n) * struct_size(schema, object),
+        }),
         _ => None,
     }
 }

@@ -23,7 +23,9 @@ mod value;
 
 pub use answer::Answer;
 pub use extent::Extent;
-pub use location::{LocationText, location_of, put_location};
+pub use location::{
+    LocationText, field_of, location_of, object_name, place_of, put_location, write_location,
+};
 pub use path::Path;
 pub use path_fault::PathFault;
 pub use place::{Place, at_root, get};

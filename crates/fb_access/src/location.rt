@@ -1,10 +1,10 @@
 // Where a fault is, in words.
 
-ghost use Rattle.std.specs.Prelude.{◌≡◌, ◌+◌, ◌≤◌, ◌++◌, [], length, take, slice_get, codes, option_map, option_and_then, OnOk};
+ghost use Rattle.std.specs.Prelude.{◌≡◌, ◌+◌, ◌≤◌, ◌++◌, ℕ, List, [], length, take, slice_get, codes, option_map, option_and_then, OnOk};
 ghost use Rattle.std.specs.List.{flat_map};
 ghost use Rattle.fb_schema.specs.Live.{live_of_view};
 ghost use Rattle.fb_access.specs.Fitting.{numbered};
-ghost use Rattle.fb_access.specs.Location.{name_byte, name_text, named, field_name, link_member, element_text, link_text, path_text, whole_text, location_text, filled};
+ghost use Rattle.fb_access.specs.Location.{name_byte, name_text, named, field_name, link_member, element_text, link_text, path_text, place_text, whole_text, location_text, cut_to, filled};
 
 use crate::field::field_numbered;
 use arrayvec::ArrayVec;
@@ -22,20 +22,48 @@ const FRONT: usize = 4_097;
 /// The place of a fault in words: as many bytes as are told, and `..`.
 pub type LocationText = ArrayVec<u8, 4_098>;
 
-/// Where a fault is, by the names of the schema: `in `, the path of what is under check, to which these links lead, and
-/// in brackets its table's full name with the field's. A byte of a name that no identifier has stands as `?`. Of more
-/// than 4,096 bytes the first 4,096 and `..` are told, and no more is copied than one byte beyond. It takes no memory.
-#[tactic(auto, using(crate::proofs::Filling::told_whole, crate::proofs::Filling::told_cut), unfolding(crate::specs::Location::location_text))]
+/// Writes where a fault is over a text, by the names of the schema: `in `, the path of what is under check, to which
+/// these links lead, and in brackets its table's full name with the field's. A byte of a name that no identifier has
+/// stands as `?`. Of more than 4,096 bytes the first 4,096 and `..` are told, and no more is copied than one byte
+/// beyond. It takes no memory.
+#[tactic(auto, unfolding(crate::specs::Location::location_text))]
+pub fn write_location(text: &mut LocationText, schema: &Schema<'_>, fault: &Fault, links: &[Link])
+    ensures { text.new.items ≡ location_text schema.now fault.now links.now }
+{
+    text.clear();
+    put_front(text, schema, fault, links);
+    cut(text);
+}
+
+/// Where a fault is, as [`write_location`] has it.
 pub fn location_of(schema: &Schema<'_>, fault: &Fault, links: &[Link]) -> LocationText
     ensures { result.items ≡ location_text schema.now fault.now links.now }
 {
     let mut text = ArrayVec::new();
-    put_front(&mut text, schema, fault, links);
+    write_location(&mut text, schema, fault, links);
+    text
+}
+
+/// That path alone, without its table's and field's names.
+#[tactic(auto, unfolding(crate::specs::Location::place_text))]
+pub fn place_of(schema: &Schema<'_>, links: &[Link]) -> LocationText
+    ensures { result.items ≡ place_text schema.now links.now }
+{
+    let mut text = ArrayVec::new();
+    put_path(&mut text, schema, links);
+    cut(&mut text);
+    text
+}
+
+/// Leaves of a text with a byte more than is told what is told.
+#[tactic(auto, using(crate::proofs::Filling::told_whole, crate::proofs::Filling::told_cut))]
+fn cut(text: &mut LocationText)
+    ensures { (whole : List ℕ) → text.old.items ≡ filled [] whole → text.new.items ≡ cut_to 4096 whole }
+{
     if text.len() > MOST {
         text.truncate(MOST);
-        put_all(&mut text, b"..");
+        put_all(text, b"..");
     }
-    text
 }
 
 /// Adds where a fault is to a text, as [`location_of`] has it.
@@ -175,7 +203,7 @@ fn name_byte(byte: u8) -> u8
 }
 
 /// The full name of the object with this number.
-fn object_name<'n>(schema: &Schema<'n>, object: u32) -> Option<&'n [u8]>
+pub fn object_name<'n>(schema: &Schema<'n>, object: u32) -> Option<&'n [u8]>
     ensures { option_map (λ n. n.now) result ≡ option_map (λ o. o.name) (slice_get schema.now.objects object) }
 {
     if object < schema.object_count() {
@@ -207,7 +235,7 @@ fn name_of<'n>(schema: &Schema<'n>, object: u32, number: u16) -> Option<&'n [u8]
 }
 
 /// The name of the field of a fault, where it has one.
-fn field_of<'n>(schema: &Schema<'n>, fault: &Fault) -> Option<&'n [u8]>
+pub fn field_of<'n>(schema: &Schema<'n>, fault: &Fault) -> Option<&'n [u8]>
     ensures { option_map (λ n. n.now) result ≡ option_and_then (field_name schema.now fault.now.object) fault.now.field }
 {
     name_of(schema, fault.object, fault.field?)

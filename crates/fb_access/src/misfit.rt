@@ -15,15 +15,15 @@ use fb_schema::{Kind, Schema};
 /// Why a part of a path is no step.
 #[derive(Clone, Copy)]
 pub enum Misfit {
-    /// The table has no live field of this name.
+    /// The table has no live field of this name, or the struct no field.
     NoSuchField,
-    /// An element of what is no vector.
+    /// An element of what is no vector and no array.
     NotIndexable,
     /// A member of what is no union.
     NotAUnion,
     /// The union has no member of this name.
     NoSuchMember,
-    /// A field of what is no table.
+    /// A field of what is no table and no struct.
     NotATable,
 }
 
@@ -46,6 +46,24 @@ fn field_step(schema: &Schema<'_>, table: u32, name: &[u8]) -> Result<Fitted, Mi
         step: Step::Field(field.number),
         kind: field.kind,
     })
+}
+
+fn part_step(schema: &Schema<'_>, object: u32, name: &[u8]) -> Result<Fitted, Misfit>
+    ensures { result ≡ field_step schema.now (Kind.Struct object) name.now }
+{
+    let Some(place) = schema.part_named(object, name) else {
+        return Err(Misfit::NoSuchField);
+    };
+    let Some(part) = schema.part_at(object, place) else {
+        return Err(Misfit::NoSuchField);
+    };
+    match u16::try_from(place) {
+        Ok(number) => Ok(Fitted {
+            step: Step::Field(number),
+            kind: part.kind,
+        }),
+        Err(_) => Err(Misfit::NoSuchField),
+    }
 }
 
 fn element_kind(kind: Kind) -> Option<Kind>
@@ -99,6 +117,7 @@ pub fn fit(schema: &Schema<'_>, kind: Kind, piece: Piece<'_>) -> Result<Fitted, 
     match piece {
         Piece::Field(name) => match kind {
             Kind::Table(table) => field_step(schema, table, name),
+            Kind::Struct(object) => part_step(schema, object, name),
             _ => Err(Misfit::NotATable),
         },
         Piece::Element(number) => element_step(kind, number),

@@ -4,7 +4,7 @@ ghost use Rattle.std.specs.Prelude.{◌≡◌, ◌+◌, ◌*◌, ◌^◌, ◌<�
 ghost use Rattle.fb_bytes.specs.Word.{word};
 ghost use Rattle.fb_schema.specs.Served.{MemberHolds};
 ghost use Rattle.fb_verify.specs.Fields.{lead_of};
-ghost use Rattle.fb_access.specs.Spots.{spot_of_field, spot_of_element, spot_of_member, member_spot};
+ghost use Rattle.fb_access.specs.Spots.{spot_of_field, spot_of_part, spot_of_element, spot_of_member, member_spot};
 ghost use Rattle.fb_access.specs.Denotes.{next_spot};
 ghost use Rattle.fb_access.specs.Held.{IsSpot, IsCounted, IsLed};
 
@@ -15,20 +15,38 @@ use crate::value::struct_size;
 use fb_bytes::Window;
 use fb_schema::{Kind, Schema};
 
-/// From a table to its live field with this number.
+/// From a table to its live field with this number, or from a struct to its field at this place.
 fn spot_of_field(window: &Window<'_>, schema: &Schema<'_>, spot: Spot, number: u16) -> Option<Spot>
     requires short { length window.now < 2 ^ 31 }
     requires spot { IsSpot window.now schema.now spot }
     ensures value { result ≡ spot_of_field window.now schema.now spot number }
     ensures spot { IfSome result (λ q. IsSpot window.now schema.now q) }
 {
-    let Spot::AtTable(object, at) = spot else {
-        return None;
-    };
     schema.lawful();
-    match field_numbered(schema, object, number) {
-        None => None,
-        Some(field) => Some(spot_of(window, at, field)),
+    match spot {
+        Spot::AtTable(object, at) => match field_numbered(schema, object, number) {
+            None => None,
+            Some(field) => Some(spot_of(window, at, field)),
+        },
+        Spot::AtStruct(object, at) => match schema.part_at(object, u32::from(number)) {
+            None => None,
+            Some(part) => Some(spot_of_part(at + u64::from(part.place), part.count, part.kind)),
+        },
+        _ => None,
+    }
+}
+
+/// The field of a struct that stands at a position, of `n` values if it is an array.
+#[tactic(auto, unfolding(crate::specs::Spots::spot_of_part))]
+fn spot_of_part(at: u64, n: u16, kind: Kind) -> Spot
+    ensures { result ≡ spot_of_part at n kind }
+{
+    match kind {
+        Kind::Scalar(scalar) => Spot::AtInline(scalar, at),
+        Kind::Struct(object) => Spot::AtStruct(object, at),
+        Kind::Scalars(scalar) => Spot::AtScalarArray(scalar, n, at),
+        Kind::Structs(object) => Spot::AtStructArray(object, n, at),
+        _ => Spot::AtAbsent,
     }
 }
 
@@ -47,7 +65,7 @@ fn place_of_element(window: &Window<'_>, at: u64, size: u64, j: u32) -> Option<u
     }
 }
 
-/// From a vector to its element `j`.
+/// From a vector or an array to its element `j`.
 #[tactic(auto, unfolding(crate::specs::Spots::spot_of_element, crate::specs::Held::IsSpot))]
 fn spot_of_element(window: &Window<'_>, schema: &Schema<'_>, spot: Spot, j: u32) -> Option<Spot>
     requires short { length window.now < 2 ^ 31 }
@@ -67,6 +85,18 @@ fn spot_of_element(window: &Window<'_>, schema: &Schema<'_>, spot: Spot, j: u32)
                 None => Some(Spot::AtNoElement),
                 Some(place) => Some(Spot::AtStruct(object, place)),
             }
+        }
+        Spot::AtScalarArray(scalar, n, at) => {
+            if j >= u32::from(n) {
+                return Some(Spot::AtNoElement);
+            }
+            Some(Spot::AtInline(scalar, at + u64::from(scalar.size()) * u64::from(j)))
+        }
+        Spot::AtStructArray(object, n, at) => {
+            if j >= u32::from(n) {
+                return Some(Spot::AtNoElement);
+            }
+            Some(Spot::AtStruct(object, at + struct_size(schema, object) * u64::from(j)))
         }
         Spot::AtTexts(at) => match place_of_element(window, at, 4, j) {
             None => Some(Spot::AtNoElement),

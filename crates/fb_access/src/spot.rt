@@ -18,6 +18,10 @@ pub enum Spot {
     AtScalars(Scalar, u64),
     /// A vector of structs: their object's number, and its position.
     AtStructs(u32, u64),
+    /// An array of scalars in a struct: how many, and the position of the first.
+    AtScalarArray(Scalar, u16, u64),
+    /// An array of structs in a struct: their object's number, how many, and the position of the first.
+    AtStructArray(u32, u16, u64),
     /// A vector of strings, and its position.
     AtTexts(u64),
     /// A vector of tables: their object's number, and its position.

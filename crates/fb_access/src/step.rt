@@ -1,9 +1,11 @@
 // One step of a path.
 
-/// One step of a path: to a field of a table, to an element of a vector, or to the member of a union.
+/// One step of a path: to a field of a table or struct, to an element of a vector or array, or to the member of a
+/// union.
 #[derive(Clone, Copy, Debug, PartialEq, Eq)]
 pub enum Step {
-    /// The live field with this number (its slot is twice that and four).
+    /// The live field of a table with this number (its slot is twice that and four), or the field of a struct with this
+    /// place among its fields, in the order of the schema file.
     Field(u16),
     /// The element with this number, from 0 on.
     Element(u32),

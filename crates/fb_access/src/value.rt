@@ -112,6 +112,7 @@ pub fn value_at<'b>(window: &Window<'b>, schema: &Schema<'_>, spot: Spot) -> Ans
         | Spot::AtTexts(at)
         | Spot::AtTables(_, at)
         | Spot::AtUnions(_, _, at) => Answer::Vector(window.u32_at(at)),
+        Spot::AtScalarArray(_, n, _) | Spot::AtStructArray(_, n, _) => Answer::Vector(u32::from(n)),
         Spot::AtUnion(_, value, _) => Answer::Union(value),
         Spot::AtDefault(scalar, default) => default_at(default, scalar),
         Spot::AtAbsent => Answer::Absent,

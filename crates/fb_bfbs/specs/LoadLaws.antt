@@ -1,8 +1,10 @@
 -- The laws of what a schema file describes, and of what is answered of it.
-use Rattle.std.specs.Prelude.{◌≡◌, ℕ, List, Option, option_map, Result, Ok, Err}
+use Rattle.std.specs.Prelude.{◌≡◌, ◌==◌, ℕ, List, length, Option, Some, None, if◌then◌else◌, option_map, Result, Ok, Err}
 use Rattle.std.specs.Borrow.{Bor}
 use Rattle.fb_schema.specs.Rows.{Rows}
 use Rattle.fb_verify.specs.Bounds.{Bounds}
+use Rattle.fb_verify.specs.declared.start.Ident.{Ident}
+use Rattle.fb_verify.specs.declared.start.Ident.TheVariants.{Any, Want}
 use Rattle.fb_bfbs.specs.declared.loading.Loaded.{Loaded}
 use Rattle.fb_bfbs.specs.declared.load_fault.LoadFault.{LoadFault}
 use Rattle.fb_bfbs.specs.declared.load_fault.LoadFault.TheVariants.{OutOfMemory}
@@ -16,6 +18,12 @@ DescribesOnce = (b : List ℕ) (rows others : Rows) → Describes (told b) rows 
 -- the bytes of an identifier, without where they lie in memory
 abbrev pub ident_bytes : Option (Bor (List ℕ)) → Option (List ℕ)
 ident_bytes = option_map (λ s. s.now)
+
+-- the identifier that a schema's own asks for: any where it declares none, which `flatc` writes as one of no bytes, and
+-- none where it hasn't four
+abbrev pub own_ident : Option (List ℕ) → Option Ident
+own_ident None = Some Any
+own_ident (Some bytes) = if length bytes == 0 then Some Any else (if length bytes == 4 then Some (Want bytes) else None)
 
 -- the same rows, root and identifier
 pub record IsSameLoad (x y : Loaded) : Type 0 where

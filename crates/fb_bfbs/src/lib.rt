@@ -17,4 +17,4 @@ mod values;
 
 pub use fixed::reflection;
 pub use load_fault::LoadFault;
-pub use loading::{Loaded, load};
+pub use loading::{Loaded, load, own_ident};

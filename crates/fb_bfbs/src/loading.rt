@@ -4,6 +4,7 @@ ghost use Rattle.std.specs.Prelude.{◌≡◌, ◌<◌, ◌≤◌, ◌^◌, leng
 ghost use Rattle.fb_bfbs.specs.Fixed.{fixed};
 ghost use Rattle.fb_schema.specs.Rows.{AreFew, rows_of};
 ghost use Rattle.fb_bfbs.specs.FileRows.{IsTold};
+ghost use Rattle.fb_bfbs.specs.LoadLaws.{ident_bytes, own_ident};
 ghost use Rattle.fb_bfbs.specs.Loads.{ArePaidFor, IsSchemaFile, HasTableForRoot, IsLoaded, IsLoadFault, told};
 
 use crate::file::{FileRows, file_rows};
@@ -27,6 +28,18 @@ pub struct Loaded<'b> {
     pub root: Option<u32>,
     /// The identifier of its buffers, none where the file has none. It may have any length.
     pub ident: Option<&'b [u8]>,
+}
+
+/// The identifier that a schema's own asks for: any where it declares none, which `flatc` writes as one of no bytes,
+/// and none where it hasn't four.
+pub fn own_ident(own: Option<&[u8]>) -> Option<Ident>
+    ensures { result ≡ own_ident (ident_bytes own.entry) }
+{
+    match own {
+        None | Some(&[]) => Some(Ident::Any),
+        Some(&[a, b, c, d]) => Some(Ident::Want([a, b, c, d])),
+        Some(_) => None,
+    }
 }
 
 /// Room for as many open tables as the limits allow.

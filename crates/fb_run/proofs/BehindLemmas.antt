@@ -75,21 +75,21 @@ front_more w a c s s' b n front =
       written_is = front.written_is;
     }
 
-module _ (f : ℕ → List ℕ) (bytes : List ℕ) (i : ℕ) (inside : i < length bytes) where
-  one_more : flat_map f (take (i + 1) bytes) ≡ flat_map f (take i bytes) ++ f (get_or bytes i 0)
+module _ {A : Type 0} (f : A → List ℕ) (bytes : List A) (i : ℕ) (d : A) (inside : i < length bytes) where
+  one_more : flat_map f (take (i + 1) bytes) ≡ flat_map f (take i bytes) ++ f (get_or bytes i d)
   one_more =
-      ap (flat_map f) (take_more bytes i 0 inside) ∙ flat_map-append f (take i bytes) (get_or bytes i 0 ∷ [])
-      ∙ ap (λ l. flat_map f (take i bytes) ++ l) (append-nil (f (get_or bytes i 0)))
+      ap (flat_map f) (take_more bytes i d inside) ∙ flat_map-append f (take i bytes) (get_or bytes i d ∷ [])
+      ∙ ap (λ l. flat_map f (take i bytes) ++ l) (append-nil (f (get_or bytes i d)))
 
   -- the next of many came behind the first ones
-  pub each_more : (w w' w'' x : List ℕ) (s s' s'' : Option (List ℕ)) (b b' b'' : ℕ) → x ≡ f (get_or bytes i 0)
+  pub each_more : (w w' w'' x : List ℕ) (s s' s'' : Option (List ℕ)) (b b' b'' : ℕ) → x ≡ f (get_or bytes i d)
       → ComesBehind w (flat_map f (take i bytes)) w' s s' b b' → ComesBehind w' x w'' s' s'' b' b'' → ComesBehind w (flat_map f (take (i + 1) bytes)) w'' s s'' b b''
   each_more w w' w'' x s s' s'' b b' b'' is first second =
       subst (λ l. ComesBehind w l w'' s s'' b b'') (ap (λ l. flat_map f (take i bytes) ++ l) is ∙ sym one_more)
       (behind_more w (flat_map f (take i bytes)) w' x w'' s s' s'' b b' b'' first second)
 
   -- a write came to rest in it
-  pub each_fails : (w w' x : List ℕ) (s s' s'' : Option (List ℕ)) (b b' n : ℕ) → x ≡ f (get_or bytes i 0)
+  pub each_fails : (w w' x : List ℕ) (s s' s'' : Option (List ℕ)) (b b' n : ℕ) → x ≡ f (get_or bytes i d)
       → ComesBehind w (flat_map f (take i bytes)) w' s s' b b' → WritesFront (w' ++ x) s' s'' b' n → WritesFront (w ++ flat_map f bytes) s s'' b n
   each_fails w w' x s s' s'' b b' n is first second =
       let rest = flat_map f (drop (i + 1) bytes) in

@@ -5,7 +5,7 @@ use Rattle.std.proofs.lemmas.List.Elements.{All-head, All-tail}
 use Rattle.fb_bytes.specs.Messages.{IsMessage, Splits}
 use Rattle.fb_run.specs.FilterLaws.{PassesAgain}
 use Rattle.fb_run.specs.Job.{Job}
-use Rattle.fb_run.specs.Line.{told_of}
+use Rattle.fb_run.specs.Line.{line_of, told_of}
 use Rattle.fb_run.specs.Lines.{AreTold}
 use Rattle.fb_run.specs.Sums.{no_tally, tally_with}
 use Rattle.fb_run.specs.declared.tally.Tally.{Tally}
@@ -26,7 +26,7 @@ again job limit k j [] text tally filter each (e, none) = (
 )
 again job limit k j (m ∷ ms) text tally filter each (Ok found, line, rest, others, is, e, told, sums) =
     let more = again job limit (k + 1) (j + 1) ms rest others filter (All-tail (IsMessage limit) m ms each) told in
-    let line_is : line ≡ to_out m = is.text ∙ ap (λ o. told_of o k m (Ok found)) filter in
+    let line_is : line ≡ to_out m = is.text ∙ ap (λ o. told_of o (line_of job k (Ok found)) m (Ok found)) filter in
     let out_is : text.out ≡ m ++ rest.out = ap (λ t. t.out) e ∙ ap (λ t. t.out ++ rest.out) line_is in (
       m ∷ more.0,
       tally_with m (Ok found) more.1,
@@ -37,7 +37,7 @@ again job limit k j (m ∷ ms) text tally filter each (Ok found, line, rest, oth
         to_out m,
         to_out rest.out,
         more.1,
-        record { verdict_is = is.verdict_is; text = ap (λ o. told_of o j m (Ok found)) (sym filter) },
+        record { verdict_is = is.verdict_is; text = ap (λ o. told_of o (line_of job j (Ok found)) m (Ok found)) (sym filter) },
         ap to_out out_is,
         more.3,
         refl,
@@ -47,7 +47,7 @@ again job limit k j (m ∷ ms) text tally filter each (Ok found, line, rest, oth
     )
 again job limit k j (m ∷ ms) text tally filter each (Err fault, line, rest, others, is, e, told, sums) =
     let more = again job limit (k + 1) j ms rest others filter (All-tail (IsMessage limit) m ms each) told in
-    let line_is = is.text ∙ ap (λ o. told_of o k m (Err fault)) filter in
+    let line_is = is.text ∙ ap (λ o. told_of o (line_of job k (Err fault)) m (Err fault)) filter in
     let out_is : text.out ≡ rest.out = ap (λ t. t.out) e ∙ ap (λ t. t.out ++ rest.out) line_is in (
       more.0,
       more.1,

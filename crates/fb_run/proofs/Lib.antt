@@ -3,13 +3,17 @@ pub mod PlaceLemmas
 pub mod BareLemmas
 pub mod BehindLemmas
 pub mod FilterLemmas
+pub mod FoundLemmas
 pub mod FrontLemmas
 pub mod LineLemmas
 pub mod LinesLemmas
+pub mod JsonLemmas
+pub mod JsonReads
 pub mod LongLemmas
 pub mod Pieces
 pub mod RunLemmas
 pub mod Shown
+pub mod ShownJson
 pub mod StreamLemmas
 pub mod SumsLemmas
 pub mod TakesLemmas

@@ -1,10 +1,9 @@
 -- A line that stands at the end of its room.
-use Rattle.std.proofs.Common.{suc, ◌∷◌, get_or, subst, ◌≡◌, ℕ, ◌+◌, ◌-◌, ◌<◌, ◌≤◌, ◌^◌, List, [], ◌++◌, Option, Some, None, length, drop, drop-cons, arith, ap, refl, append_assoc, length-append}
-use Rattle.std.specs.Prelude.{decimal, option_map, slice_index_or, slice_set}
+use Rattle.std.proofs.Common.{suc, ◌∷◌, get_or, subst, ◌≡◌, ℕ, ◌+◌, ◌-◌, ◌<◌, ◌≤◌, ◌^◌, List, [], ◌++◌, length, drop, drop-cons, arith, ap, append_assoc, length-append}
+use Rattle.std.specs.Prelude.{decimal, slice_index_or, slice_set}
 use Rattle.std.proofs.Math.ListN.{drop_of_length-le}
 use Rattle.std.proofs.lemmas.List.{drop-set}
 use Rattle.std.proofs.lemmas.Fmt.{decimal_digit, length-decimal-le}
-use Rattle.fb_run.specs.Line.{short_ending}
 
 -- nothing stands behind the end
 pub drop_whole : (room : List ℕ) (n : ℕ) → length room ≡ n → drop n room ≡ []
@@ -36,11 +35,5 @@ digits_more line line' rest number is same bits =
     omega (arith, ap length is, ap length same, length-append (decimal number) rest)
 
 -- what a line was put together from, one in front of the other, are the same parts one after another
-pub parts_joined : (a b c d e f g : List ℕ) → a ++ (b ++ (c ++ (d ++ (e ++ (f ++ g))))) ≡ a ++ b ++ c ++ d ++ e ++ f ++ g
-parts_joined a b c d e f g =
-    rw (append_assoc (a ++ b ++ c ++ d ++ e) f g, append_assoc (a ++ b ++ c ++ d) e (f ++ g), append_assoc (a ++ b ++ c) d (e ++ (f ++ g)), append_assoc (a ++ b) c (d ++ (e ++ (f ++ g))), append_assoc a b (c ++ (d ++ (e ++ (f ++ g)))))
-
--- a line ends the same whatever is said of what stands behind it
-pub ends_as : {A B : Type 0} (f : A → B) (behind : Option A) → short_ending (option_map f behind) ≡ short_ending behind
-ends_as f None = refl
-ends_as f (Some asked) = refl
+pub parts_joined : (k a b c d e f g : List ℕ) → k ++ (a ++ (b ++ (c ++ (d ++ (e ++ (f ++ g)))))) ≡ (k ++ (a ++ b ++ c ++ d ++ e ++ f)) ++ g
+parts_joined k a b c d e f g = simp append_assoc

@@ -1,9 +1,7 @@
 -- A run over a stream: what was read and written, and then one piece more.
-use Rattle.std.proofs.Common.{◌≡◌, ℕ, ◌+◌, ◌-◌, Bool, true, List, [], ◌++◌, take, drop, refl, sym, ap, subst, ◌∙◌, arith, append-nil, append_assoc, length-append, length-take-le, take-append-drop, Result, Ok, Err, IsErrAnd}
+use Rattle.std.proofs.Common.{◌≡◌, ℕ, ◌+◌, ◌-◌, Bool, true, false, List, [], ◌++◌, take, drop, refl, sym, ap, subst, ◌∙◌, arith, append-nil, append_assoc, length-append, length-take-le, take-append-drop, Result, Ok, Err, IsErrAnd}
 use Rattle.std.specs.Io.KnownBytes.{Consumes}
 use Rattle.std.proofs.KnownBytes.{Consumes-nil, Appends-kept, Appends-trans, Keeps-refl}
-use Rattle.fb_verify.specs.declared.start.Start.{Start}
-use Rattle.fb_verify.specs.declared.start.Start.TheVariants as start
 use Rattle.fb_run.specs.Ends.{Ends, Outs, Takes}
 use Rattle.fb_run.specs.Faults.{End, EndsBeside, EndsWith, IsCaused, IsCausedOut, IsUnfailedOut, end_of, failed}
 use Rattle.fb_run.specs.Job.{Job}
@@ -104,38 +102,34 @@ ends_told first now turns end same ended told =
     subst (λ (b : Bool). EndsWith (failed first.reader.failures first.outs) (failed now.reader.failures now.outs) left b end) (sym ended)
     (subst (λ (x : ℕ). EndsWith (failed first.reader.failures first.outs) (failed x now.outs) left true end) (sym same) (told first.reader.failures left))
 
--- what is so of a bare start, or of the other, is so of the start that a job says
-at_bare : (P : Start → Type 0) (from says : Start) → from ≡ says → from ≡ start.Bare → P start.Bare → P says
-at_bare P from says is bare p = subst P (sym bare ∙ is) p
+-- what is so of one bare buffer, or of a stream, is so of the input that a job says
+at_input : (P : Bool → Type 0) (from says which : Bool) → from ≡ says → from ≡ which → P which → P says
+at_input P from says which is one p = subst P (sym one ∙ is) p
 
-at_stream : (P : Start → Type 0) (from says : Start) → from ≡ says → (from ≡ start.Bare → ⊥) → P start.Prefixed → P says
-at_stream P start.Bare says is other p = absurd (other refl)
-at_stream P start.Prefixed says is other p = subst P is p
-
-module _ (job : Job) (from : Start) (first now : Ends) (is : from ≡ job.start) where
+module _ (job : Job) (from : Bool) (first now : Ends) (is : from ≡ job.bare) where
   module _ (tally : Tally) (end : End) where
     -- a run over one bare input is the run of a job that says so, and so is one over a stream
-    pub runs_bare : from ≡ start.Bare → IsBareRun job first now tally end → IsRunBeside job first now tally end
-    runs_bare = at_bare (λ x. IsRunFrom x job first now tally end) from job.start is
+    pub runs_bare : from ≡ true → IsBareRun job first now tally end → IsRunBeside job first now tally end
+    runs_bare = at_input (λ x. IsRunFrom x job first now tally end) from job.bare true is
 
-    pub runs_stream : (from ≡ start.Bare → ⊥) → IsStreamRun job first now tally end → IsRunBeside job first now tally end
-    runs_stream = at_stream (λ x. IsRunFrom x job first now tally end) from job.start is
+    pub runs_stream : from ≡ false → IsStreamRun job first now tally end → IsRunBeside job first now tally end
+    runs_stream = at_input (λ x. IsRunFrom x job first now tally end) from job.bare false is
 
   -- it is prompt where that run is
-  pub prompt_bare : from ≡ start.Bare → IsBarePrompt job.limit first now → IsPrompt job first now
-  prompt_bare = at_bare (λ x. IsPromptFrom x job first now) from job.start is
+  pub prompt_bare : from ≡ true → IsBarePrompt job.limit first now → IsPrompt job first now
+  prompt_bare = at_input (λ x. IsPromptFrom x job first now) from job.bare true is
 
-  pub prompt_stream : (from ≡ start.Bare → ⊥) → IsStreamPrompt job first now → IsPrompt job first now
-  prompt_stream = at_stream (λ x. IsPromptFrom x job first now) from job.start is
+  pub prompt_stream : from ≡ false → IsStreamPrompt job first now → IsPrompt job first now
+  prompt_stream = at_input (λ x. IsPromptFrom x job first now) from job.bare false is
 
--- without memory nothing is read or written, however the input starts
-none_from : (from : Start) (job : Job) (ends : Ends) → IsRunFrom from job ends ends no_tally (Err run.OutOfMemory)
-none_from start.Bare job ends =
+-- without memory nothing is read or written, whatever the input is
+none_from : (from : Bool) (job : Job) (ends : Ends) → IsRunFrom from job ends ends no_tally (Err run.OutOfMemory)
+none_from true job ends =
     ([], Consumes-nil ends.reader.left, (omega arith, ((Keeps-refl ends.outs.writer.bytes, Keeps-refl ends.outs.notes.bytes), refl)))
-none_from start.Prefixed job ends = fails_empty job ends
+none_from false job ends = fails_empty job ends
 
 pub runs_none : (job : Job) (ends : Ends) (ran : Ran) → ran ≡ record { tally = no_tally; end = Err run.OutOfMemory } → IsRunBeside job ends ends ran.tally ran.end
-runs_none job ends ran is = subst (λ (t : Ran). IsRunBeside job ends ends t.tally t.end) (sym is) (none_from job.start job ends)
+runs_none job ends ran is = subst (λ (t : Ran). IsRunBeside job ends ends t.tally t.end) (sym is) (none_from job.bare job ends)
 
 pub ends_none : (ends : Ends) (turns : ℕ) (ran : Ran) → ran ≡ record { tally = no_tally; end = Err run.OutOfMemory } → EndsBeside ends ends turns ran.end
 ends_none ends turns ran is = subst (λ (t : Ran). EndsBeside ends ends turns t.end) (sym is) (refl, refl, refl)

@@ -1,11 +1,13 @@
--- How the value at the end of a path is written.
-use Rattle.std.specs.Prelude.{ℕ, List, [], ◌∷◌, ◌++◌, ◌==◌, ◌||◌, nat_lt, true, false, if◌then◌else◌, codes, decimal}
+-- How the values at the ends of paths are written, and the name of an input.
+use Rattle.std.specs.Prelude.{ℕ, List, [], ◌∷◌, ◌++◌, Option, Some, None, ◌==◌, ◌||◌, nat_lt, true, false, if◌then◌else◌, codes, decimal}
 use Rattle.std.specs.Fmt.{signed_decimal}
 use Rattle.std.specs.List.{flat_map}
 use Rattle.hex.specs.Hex.{encode_lower}
 use Rattle.fb_run.specs.declared.value_text.Spelling.{Spelling}
 use Rattle.fb_run.specs.declared.value_text.Spelling.TheVariants.{Quoted, Digits}
-use Rattle.fb_access.specs.Denotes.{Shown, nothing, no_element, other_member, truth, signed, unsigned, float, text, structure, vector, table, union}
+use Rattle.fb_access.specs.declared.answer.Answer.{Answer}
+use Rattle.fb_access.specs.declared.answer.Answer.TheVariants.{Text, Struct, Float}
+use Rattle.fb_access.specs.Denotes.{Shown, shown, nothing, no_element, other_member, truth, signed, unsigned, float, text, structure, vector, table, union}
 
 -- a byte of a text: a quote and a backslash stand behind a backslash, and what isn't printable ASCII as two hexadecimal
 -- digits
@@ -24,6 +26,11 @@ spelled Digits b = encode_lower (b ∷ [])
 abbrev pub quoted : List ℕ → List ℕ
 quoted bytes = codes "\"" ++ flat_map byte_text bytes ++ codes "\""
 
+-- what each line begins with, where the input has a name: no byte of it breaks a line
+abbrev pub label_text : Option (List ℕ) → List ℕ
+label_text None = []
+label_text (Some name) = flat_map byte_text name ++ codes ": "
+
 -- a value
 abbrev pub answer_text : Shown → List ℕ
 answer_text nothing = codes "absent"
@@ -39,3 +46,22 @@ answer_text (structure bytes) = codes "struct:" ++ encode_lower bytes
 answer_text (vector count) = codes "vector:" ++ decimal count
 answer_text table = codes "table"
 answer_text (union number) = codes "union:" ++ decimal number
+
+-- a value behind a space
+abbrev pub spaced : Shown → List ℕ
+spaced value = codes " " ++ answer_text value
+
+-- values, one behind another
+abbrev pub answers_text : List Shown → List ℕ
+answers_text = flat_map spaced
+
+-- an answer in the buffer behind a space
+abbrev pub spaced_answer : Answer → List ℕ
+spaced_answer answer = spaced (shown answer)
+
+-- the bytes that it lends
+abbrev pub lent : Answer → List ℕ
+lent (Text bytes) = bytes.now
+lent (Struct bytes) = bytes.now
+lent (Float bytes) = bytes.now
+lent _ = []

@@ -1,6 +1,7 @@
 -- What the buffers of a run are checked by, and what a verdict on one of them says.
-use Rattle.std.specs.Prelude.{◌≡◌, ℕ, ◌<◌, ◌≤◌, ◌^◌, IsTrue, Bool, true, false, List, length, Option, Some, None, Result, Ok, Err, option_map}
+use Rattle.std.specs.Prelude.{◌≡◌, ℕ, ◌<◌, ◌≤◌, ◌^◌, All, IsTrue, Bool, true, false, List, [], drop, length, map, Option, Some, None, Result, Ok, Err, option_map}
 use Rattle.std.specs.Borrow.{Bor}
+use Rattle.std.specs.List.{AllZip}
 use Rattle.fb_schema.specs.Rows.{Rows, is_table}
 use Rattle.fb_verify.specs.Bounds.{Bounds, limits_of_length}
 use Rattle.fb_verify.specs.Stops.{Stops}
@@ -15,41 +16,55 @@ use Rattle.fb_verify.specs.declared.start.Ident.{Ident}
 use Rattle.fb_verify.specs.declared.start.Start.{Start}
 use Rattle.fb_verify.specs.declared.start.Start.TheVariants.{Bare, Prefixed}
 use Rattle.fb_schema.specs.declared.kinds.Kind.TheVariants.{Table}
-use Rattle.fb_access.specs.declared.step.Step.{Step}
 use Rattle.fb_access.specs.Denotes.{Denotes, Shown, shown}
 use Rattle.fb_access.specs.Fitting.{StepsFit}
-use Rattle.fb_access.specs.Location.{location_text}
+use Rattle.fb_access.specs.Location.{location_text, place_text}
+use Rattle.fb_run.specs.AnswerText.{label_text}
+use Rattle.fb_run.specs.Wanted.{Wanted}
 use Rattle.fb_run.specs.declared.checker.Found.{Found}
 use Rattle.fb_run.specs.declared.checker.Wrong.{Wrong}
+use Rattle.fb_run.specs.declared.options.Form.{Form}
+use Rattle.fb_run.specs.declared.options.Form.TheVariants.{Plain, Json}
 use Rattle.fb_run.specs.declared.options.Mode.{Mode}
 use Rattle.fb_run.specs.declared.options.Places.{Places}
 use Rattle.fb_run.specs.declared.options.Places.TheVariants.{Numbers, Words}
+use Rattle.fb_run.specs.declared.options.Prefix.{Prefix}
+use Rattle.fb_run.specs.declared.options.Prefix.TheVariants.{Part, Apart}
 use Rattle.fb_run.specs.declared.options.Options.{Options}
 
--- a schema with its root, how a buffer starts, the identifier, the limits, the reads that each byte of a buffer allows,
--- the checks, the steps to the value that is asked for, the most bytes that a message may have, what is told of
--- messages, and how of the places of faults
+-- a schema with its root, whether the input is one bare buffer, how many bytes of a message stand before the buffer, how
+-- the buffer starts, the identifier, the limits, the reads that each byte of a buffer allows, the checks, the values
+-- that are asked for, the most bytes that a message may have, what is told of messages, how of the places of faults,
+-- the name of the input, where lines tell it, and how they are written
 pub record Job : Type 0 where
   pub rows : Rows
   pub root : ℕ
+  pub bare : Bool
+  pub skip : ℕ
   pub start : Start
   pub ident : Ident
   pub limits : Bounds
   pub per_byte : ℕ
   pub checks : Checks
-  pub steps : Option (List Step)
+  pub paths : List Wanted
   pub limit : ℕ
   pub mode : Mode
   pub names : Places
+  pub label : Option (List ℕ)
+  pub form : Form
+
+-- the buffer in a message
+abbrev pub buffer_in : Job → List ℕ → List ℕ
+buffer_in job message = drop job.skip message
 
 -- the limits of a buffer, by its length
 abbrev pub limits_for : Job → List ℕ → Bounds
 limits_for job bytes = limits_of_length job.limits job.per_byte (length bytes)
 
--- a yes: what was counted, and the value that was asked for
+-- a yes: what was counted, and the values that were asked for
 pub record Yes : Type 0 where
   pub report : Report
-  pub answer : Option Shown
+  pub answers : List Shown
 
 -- a no: the fault, and where it is in words, if these were asked for
 pub record No : Type 0 where
@@ -60,28 +75,31 @@ pub record No : Type 0 where
 abbrev pub Verdict : Type 0
 Verdict = Result Yes No
 
--- where steps are asked for, the value is the one to which they lead in these bytes; where none are, there is none
-abbrev pub IsAnswer : List ℕ → Rows → Start → ℕ → Option (List Step) → Option Shown → Type 0
-IsAnswer bytes rows start root None None = Unit {0}
-IsAnswer bytes rows start root (Some steps) (Some value) = Denotes bytes rows start root steps value
-IsAnswer bytes rows start root _ _ = ⊥
+-- each value is the one to which the path in its place leads in these bytes, and there are no others
+abbrev pub AreAnswers : List ℕ → Rows → Start → ℕ → List Wanted → List Shown → Type 0
+AreAnswers bytes rows start root = AllZip (λ (wanted : Wanted) value. Denotes bytes rows start root wanted.steps value)
+
+-- the place of a fault in words: in a line of JSON, which tells the names of its object and field itself, its path alone
+abbrev pub place_told : Form → Rows → Fault → List Link → List ℕ
+place_told Plain rows fault links = location_text rows fault links
+place_told Json rows fault links = place_text rows links
 
 -- where words are asked for, they tell the place to which links lead, the links of the trail at whose end the fault is;
 -- where none are, there are none
 abbrev pub IsPlace : Job → List ℕ → Fault → Option (List ℕ) → Type 0
 IsPlace job bytes fault None = job.names ≡ Numbers
 IsPlace job bytes fault (Some text) =
-    (job.names ≡ Words) × (links : List Link) × StopsAlong job.checks bytes job.rows job.root job.start job.ident (limits_for job bytes) fault links × (text ≡ location_text job.rows fault links)
+    (job.names ≡ Words) × (links : List Link) × StopsAlong job.checks bytes job.rows job.root job.start job.ident (limits_for job bytes) fault links × (text ≡ place_told job.form job.rows fault links)
 
--- what a verdict on these bytes says: a yes counts a tree that is well formed and within the limits, and has the value
--- that is asked for; a no is the one fault that stops, with its place
+-- what a verdict on these bytes says: a yes counts a tree that is well formed and within the limits, and has the values
+-- that are asked for; a no is the one fault that stops, with its place
 abbrev pub IsVerdict : Job → List ℕ → Verdict → Type 0
-IsVerdict job bytes (Ok found) = Reports job.checks bytes job.rows job.root job.start job.ident (limits_for job bytes) found.report × IsAnswer bytes job.rows job.start job.root job.steps found.answer
+IsVerdict job bytes (Ok found) = Reports job.checks bytes job.rows job.root job.start job.ident (limits_for job bytes) found.report × AreAnswers bytes job.rows job.start job.root job.paths found.answers
 IsVerdict job bytes (Err bad) = Stops job.checks bytes job.rows job.root job.start job.ident (limits_for job bytes) bad.fault × IsPlace job bytes bad.fault bad.place
 
--- a verdict without where the bytes of its value or place lie in memory
+-- a verdict without where the bytes of its values or place lie in memory
 abbrev pub verdict_of : Result Found Wrong → Verdict
-verdict_of (Ok found) = Ok (record { report = found.report; answer = option_map shown found.answer })
+verdict_of (Ok found) = Ok (record { report = found.report; answers = map shown found.answers })
 verdict_of (Err wrong) = Err (record { fault = wrong.fault; place = option_map (λ (text : Bor (List ℕ)). text.now) wrong.place })
 
 -- the words of a place, where they are asked for
@@ -91,20 +109,21 @@ place_beside Words text = Some text
 
 -- a verdict, where these are the words of a fault's place
 abbrev pub verdict_beside : Job → List ℕ → Result Found Fault → Verdict
-verdict_beside job text (Ok found) = Ok (record { report = found.report; answer = option_map shown found.answer })
+verdict_beside job text (Ok found) = Ok (record { report = found.report; answers = map shown found.answers })
 verdict_beside job text (Err fault) = Err (record { fault = fault; place = place_beside job.names text })
 
--- whether no more is asked of a buffer than what was counted, or its fault by numbers: neither a value nor words
-abbrev pub asks_little : Option (List Step) → Places → Bool
-asks_little None Numbers = true
-asks_little _ _ = false
+-- whether no more is asked of a buffer than what was counted, or its fault by numbers: neither a value, nor words, nor a
+-- name, nor JSON
+abbrev pub asks_little : List Wanted → Places → Option (List ℕ) → Form → Bool
+asks_little [] Numbers None Plain = true
+asks_little _ _ _ _ = false
 
 abbrev pub is_brief : Job → Bool
-is_brief job = asks_little job.steps job.names
+is_brief job = asks_little job.paths job.names job.label job.form
 
 -- a verdict where no more is asked
 abbrev pub brief_verdict : Result Report Fault → Verdict
-brief_verdict (Ok report) = Ok (record { report = report; answer = None })
+brief_verdict (Ok report) = Ok (record { report = report; answers = [] })
 brief_verdict (Err fault) = Err (record { fault = fault; place = None })
 
 -- a buffer that is well formed by a job, or its fault with these words
@@ -114,46 +133,59 @@ IsVerified job bytes text (Ok v) =
     × (v ≡ record { bytes = bytes; schema = job.rows; root = job.root; start = job.start; checks = job.checks; report = v.report })
 IsVerified job bytes text (Err fault) = IsVerdict job bytes (Err (record { fault = fault; place = place_beside job.names text }))
 
--- whether a buffer begins bare or with its size
-abbrev pub start_of : Bool → Start
-start_of true = Bare
-start_of false = Prefixed
+-- whether a buffer begins bare or with its size: by whether the input is one bare buffer, and what a prefix is
+abbrev pub start_of : Bool → Prefix → Start
+start_of false Part = Prefixed
+start_of _ _ = Bare
+
+-- how many bytes of a message stand before the buffer
+abbrev pub skip_of : Bool → Prefix → ℕ
+skip_of false Apart = 4
+skip_of _ _ = 0
 
 -- what the options of a run ask of each buffer
 abbrev pub job_of : Rows → Options → Job
 job_of rows options = record {
   rows = rows;
   root = options.root;
-  start = start_of options.bare;
+  bare = options.bare;
+  skip = skip_of options.bare options.prefix;
+  start = start_of options.bare options.prefix;
   ident = options.ident;
   limits = options.limits;
   per_byte = options.reads_per_byte;
   checks = options.checks;
-  steps = options.path;
+  paths = options.paths.items;
   limit = options.max_bytes;
   mode = options.mode;
   names = options.names;
+  label = option_map (λ name. name.items) options.label;
+  form = options.form;
 }
 
--- the steps, where there are any, fit from this table on
-abbrev pub PathFits : Rows → ℕ → Option (List Step) → Type 0
-PathFits rows root None = Unit {0}
-PathFits rows root (Some steps) = StepsFit rows (Table root) steps
+-- the steps of each path fit from this table on
+abbrev pub PathsFit : Rows → ℕ → List Wanted → Type 0
+PathsFit rows root = All (λ (wanted : Wanted). StepsFit rows (Table root) wanted.steps)
 
--- the options serve the schema: the root is a table of it, the path fits from there, and a framer may have the limit
+-- the options serve the schema: the root is a table of it, at most 16 paths fit from there, and a framer may have the
+-- limit
 pub record Serves (rows : Rows) (options : Options) : Type 0 where
   pub table : IsTrue (is_table rows options.root)
-  pub fits : PathFits rows options.root options.path
+  pub fits : PathsFit rows options.root options.paths.items
+  pub few : length options.paths.items ≤ 16
   pub least : 8 ≤ options.max_bytes
   pub most : options.max_bytes < 2 ^ 31
 
--- what a checker needs beside a buffer: so many levels for open tables, so many links, and the words of the last place
+-- what a checker needs beside a buffer: so many levels for open tables, so many links, the words of the last place, and
+-- what lines begin with
 pub record Beside : Type 0 where
   pub levels : ℕ
   pub links : ℕ
   pub text : List ℕ
+  pub label : List ℕ
 
--- the levels suffice for a job, and where it asks for words the links do
+-- the levels suffice for a job, where it asks for words the links do, and lines begin with the name that it gives
 pub record HasRoom (job : Job) (room : Beside) : Type 0 where
   pub deep : job.limits.depth ≤ room.levels
   pub long : job.names ≡ Words → job.limits.depth ≤ room.links
+  pub label_is : room.label ≡ label_text job.label

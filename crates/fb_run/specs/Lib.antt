@@ -1,12 +1,17 @@
 -- What public contracts say, in reading order.
+pub mod Wanted
 pub mod Job
+pub mod JobTests
 pub mod AnswerText
 pub mod Texts
 pub mod Ends
-pub mod Line
 pub mod Sums
+pub mod Json
+pub mod Line
 pub mod Lines
 pub mod LineTests
+pub mod JsonTests
+pub mod JsonLaws
 pub mod Stream
 pub mod Bare
 pub mod Run

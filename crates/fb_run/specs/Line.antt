@@ -1,7 +1,11 @@
 -- The lines that tell verdicts.
-use Rattle.std.specs.Prelude.{◌≡◌, ℕ, List, ◌++◌, Option, Some, None, Ok, Err, codes, decimal, option_map}
-use Rattle.fb_run.specs.AnswerText.{answer_text}
-use Rattle.fb_run.specs.Job.{Job, Verdict, IsVerdict}
+use Rattle.std.specs.Prelude.{◌≡◌, ℕ, List, [], ◌++◌, map, Option, Some, None, Ok, Err, codes, decimal}
+use Rattle.fb_run.specs.AnswerText.{answers_text, label_text}
+use Rattle.fb_run.specs.Job.{Job, Verdict, IsVerdict, buffer_in}
+use Rattle.fb_run.specs.Json.{json_no, json_yes}
+use Rattle.fb_run.specs.Wanted.{Wanted}
+use Rattle.fb_run.specs.declared.options.Form.{Form}
+use Rattle.fb_run.specs.declared.options.Form.TheVariants.{Plain, Json}
 use Rattle.fb_run.specs.Texts.{Texts, silent, to_notes, to_out}
 use Rattle.fb_run.specs.declared.options.Mode.{Mode}
 use Rattle.fb_run.specs.declared.options.Mode.TheVariants.{Lines, BadLines, Filter}
@@ -14,57 +18,64 @@ abbrev pub field_text : Option ℕ → List ℕ
 field_text None = codes "-"
 field_text (Some number) = decimal number
 
--- the end of a line: with what was asked for behind it, where there is some
-abbrev pub ending : Option (List ℕ) → List ℕ
-ending None = codes "\n"
-ending (Some text) = codes " " ++ text ++ codes "\n"
-
--- the same without that and what is behind it
-abbrev pub short_ending : {A : Type 0} → Option A → List ℕ
-short_ending None = codes "\n"
-short_ending (Some asked) = codes " "
-
 -- what the line of a yes has behind the message's number
-abbrev pub yes_end : Report → List ℕ → List ℕ
-yes_end report end =
+abbrev pub yes_text : Report → List ℕ
+yes_text report =
     codes " ok tables=" ++ decimal report.tables ++ codes " depth=" ++ decimal report.depth
-    ++ codes " reads=" ++ decimal report.reads ++ end
+    ++ codes " reads=" ++ decimal report.reads
 
 -- where in the schema a fault is, and the reads by then
-abbrev pub place_end : Fault → List ℕ → List ℕ
-place_end fault end =
+abbrev pub place_text : Fault → List ℕ
+place_text fault =
     codes " object=" ++ decimal fault.object ++ codes " field=" ++ field_text fault.field
-    ++ codes " reads=" ++ decimal fault.reads ++ end
+    ++ codes " reads=" ++ decimal fault.reads
 
 -- what the line of a no has behind the message's number
-abbrev pub no_end : Fault → List ℕ → List ℕ
-no_end fault end = codes " bad " ++ reason_text fault.reason ++ codes " at=" ++ decimal fault.at ++ place_end fault end
+abbrev pub no_text : Fault → List ℕ
+no_text fault = codes " bad " ++ reason_text fault.reason ++ codes " at=" ++ decimal fault.at ++ place_text fault
+
+-- the line of the verdict on message number k but for what was asked for
+abbrev pub short_line : ℕ → Verdict → List ℕ
+short_line k (Ok found) = decimal k ++ yes_text found.report
+short_line k (Err bad) = decimal k ++ no_text bad.fault
+
+-- a place in words behind a space, where there is one
+abbrev pub words_text : Option (List ℕ) → List ℕ
+words_text None = []
+words_text (Some words) = codes " " ++ words
+
+-- what was asked for: the values of a yes, the place of a no in words
+abbrev pub asked_text : Verdict → List ℕ
+asked_text (Ok found) = answers_text found.answers
+asked_text (Err bad) = words_text bad.place
 
 -- the line of the verdict on message number k
 abbrev pub verdict_line : ℕ → Verdict → List ℕ
-verdict_line k (Ok found) = decimal k ++ yes_end found.report (ending (option_map answer_text found.answer))
-verdict_line k (Err bad) = decimal k ++ no_end bad.fault (ending bad.place)
+verdict_line k verdict = short_line k verdict ++ (asked_text verdict ++ codes "\n")
 
--- all of that line but a value or a place: a space stands where one follows
-abbrev pub short_line : ℕ → Verdict → List ℕ
-short_line k (Ok found) = decimal k ++ yes_end found.report (short_ending found.answer)
-short_line k (Err bad) = decimal k ++ no_end bad.fault (short_ending bad.place)
+-- the same as JSON
+abbrev pub json_line : Job → ℕ → Verdict → List ℕ
+json_line job k (Ok found) = json_yes job.label k found.report (map (λ (wanted : Wanted). wanted.text) job.paths) found.answers
+json_line job k (Err bad) = json_no job.label k job.rows bad.fault bad.place
 
--- a line, and behind it a place in words, where there is one
-abbrev pub with_place : List ℕ → Option (List ℕ) → List ℕ
-with_place line None = line
-with_place line (Some place) = line ++ (place ++ codes "\n")
+-- the line of the verdict on message number k, with the input's name where it has one: before it, or as JSON has it
+abbrev pub line_in : Form → Job → ℕ → Verdict → List ℕ
+line_in Plain job k verdict = label_text job.label ++ verdict_line k verdict
+line_in Json job k verdict = json_line job k verdict
 
--- what is told of message number k by its verdict: a line of each, one of each bad message alone, or the good message
--- itself and, in the notes, the line of a bad one
-abbrev pub told_of : Mode → ℕ → List ℕ → Verdict → Texts
-told_of Lines k message verdict = to_out (verdict_line k verdict)
-told_of BadLines k message (Ok found) = silent
-told_of BadLines k message (Err bad) = to_out (verdict_line k (Err bad))
-told_of Filter k message (Ok found) = to_out message
-told_of Filter k message (Err bad) = to_notes (verdict_line k (Err bad))
+abbrev pub line_of : Job → ℕ → Verdict → List ℕ
+line_of job k verdict = line_in job.form job k verdict
 
--- what is told of the message with number k, by this verdict
+-- what is told of a message by its verdict: the line of each, that of each bad message alone, or the good message itself
+-- and, in the notes, the line of a bad one
+abbrev pub told_of : Mode → List ℕ → List ℕ → Verdict → Texts
+told_of Lines line message verdict = to_out line
+told_of BadLines line message (Ok found) = silent
+told_of BadLines line message (Err bad) = to_out line
+told_of Filter line message (Ok found) = to_out message
+told_of Filter line message (Err bad) = to_notes line
+
+-- what is told of the message with number k, by the verdict on the buffer in it
 pub record IsTold (job : Job) (k : ℕ) (bytes : List ℕ) (verdict : Verdict) (line : Texts) : Type 0 where
-  pub verdict_is : IsVerdict job bytes verdict
-  pub text : line ≡ told_of job.mode k bytes verdict
+  pub verdict_is : IsVerdict job (buffer_in job bytes) verdict
+  pub text : line ≡ told_of job.mode (line_of job k verdict) bytes verdict

@@ -4,7 +4,7 @@ use Rattle.fb_access.specs.Denotes.{nothing, no_element, other_member, truth, si
 use Rattle.fb_verify.specs.declared.fault.Fault.{Fault}
 use Rattle.fb_verify.specs.declared.fault.Reason.TheVariants.{Misaligned, NoTerminator}
 use Rattle.fb_verify.specs.declared.fault.Report.{Report}
-use Rattle.fb_run.specs.AnswerText.{answer_text}
+use Rattle.fb_run.specs.AnswerText.{answer_text, label_text}
 use Rattle.fb_run.specs.Line.{verdict_line}
 
 -- three tables, two open at once, ten reads
@@ -16,8 +16,9 @@ abbrev pub unended : Fault
 unended = record { at = 314; object = 1; field = Some 6; reads = 63; reason = NoTerminator }
 
 pub record Lines : Type 0 where
-  pub yes : verdict_line 7 (Ok (record { report = counts; answer = None })) ≡ codes "7 ok tables=3 depth=2 reads=10\n"
-  pub value : verdict_line 12 (Ok (record { report = counts; answer = Some (text (codes "Ada")) })) ≡ codes "12 ok tables=3 depth=2 reads=10 \"Ada\"\n"
+  pub yes : verdict_line 7 (Ok (record { report = counts; answers = [] })) ≡ codes "7 ok tables=3 depth=2 reads=10\n"
+  pub value : verdict_line 12 (Ok (record { report = counts; answers = text (codes "Ada") ∷ [] })) ≡ codes "12 ok tables=3 depth=2 reads=10 \"Ada\"\n"
+  pub values : verdict_line 12 (Ok (record { report = counts; answers = signed (negsuc 6) ∷ text [] ∷ nothing ∷ [] })) ≡ codes "12 ok tables=3 depth=2 reads=10 -7 \"\" absent\n"
   pub no : verdict_line 5 (Err (record { fault = unended; place = None })) ≡ codes "5 bad V10 NoTerminator at=314 object=1 field=6 reads=63\n"
   pub no_field : verdict_line 100 (Err (record { fault = record unended { field = None; reason = Misaligned }; place = None })) ≡ codes "100 bad V3 Misaligned at=314 object=1 field=- reads=63\n"
   pub place : verdict_line 5 (Err (record { fault = unended; place = Some (codes "in tags[0] [Parcel.tags]") })) ≡ codes "5 bad V10 NoTerminator at=314 object=1 field=6 reads=63 in tags[0] [Parcel.tags]\n"
@@ -36,6 +37,12 @@ pub record Values : Type 0 where
   pub elements : answer_text (vector 3) ≡ codes "vector:3"
   pub a_table : answer_text table ≡ codes "table"
   pub a_union : answer_text (union 2) ≡ codes "union:2"
+
+-- the name of an input, with a byte that would break the line
+pub record Names : Type 0 where
+  pub none : label_text None ≡ []
+  pub plain : label_text (Some (codes "a.bin")) ≡ codes "a.bin: "
+  pub broken : label_text (Some (97 ∷ 10 ∷ 98 ∷ [])) ≡ codes "a\\x0ab: "
 
 -- at both ends of printable ASCII, and where a backslash stands before
 pub record Texts : Type 0 where

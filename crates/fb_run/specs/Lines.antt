@@ -32,10 +32,10 @@ pub record AddsTold (job : Job) (k : ℕ) (message : List ℕ) (text : Texts) (t
   pub notes_are : text'.notes ≡ text.notes ++ line.notes
   pub tally_is : tally' ≡ tally_with message verdict tally
 
--- behind this text came what the mode tells of message number k by this verdict, which was counted
-pub record Adds (mode : Mode) (k : ℕ) (message : List ℕ) (verdict : Verdict) (text : Texts) (tally : Tally) (text' : Texts) (tally' : Tally) : Type 0 where
-  pub out_is : text'.out ≡ text.out ++ (told_of mode k message verdict).out
-  pub notes_are : text'.notes ≡ text.notes ++ (told_of mode k message verdict).notes
+-- behind this text came what the mode tells of a message by this verdict, of which this is the line; it was counted
+pub record Adds (mode : Mode) (line : List ℕ) (message : List ℕ) (verdict : Verdict) (text : Texts) (tally : Tally) (text' : Texts) (tally' : Tally) : Type 0 where
+  pub out_is : text'.out ≡ text.out ++ (told_of mode line message verdict).out
+  pub notes_are : text'.notes ≡ text.notes ++ (told_of mode line message verdict).notes
   pub tally_is : tally' ≡ tally_with message verdict tally
 
 -- a write came to rest within this text: its first bytes are written, with which so many were in all

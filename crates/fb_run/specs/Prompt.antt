@@ -1,9 +1,7 @@
 -- What stands written wherever a run asks its input for more: all that is told of what it has read, and no more.
-use Rattle.std.specs.Prelude.{ℕ, ◌≤◌, List, length}
+use Rattle.std.specs.Prelude.{ℕ, ◌≤◌, Bool, true, false, List, length}
 use Rattle.std.specs.Io.KnownBytes.{Consumes}
 use Rattle.fb_bytes.specs.Messages.{IsPartial, Splits}
-use Rattle.fb_verify.specs.declared.start.Start.{Start}
-use Rattle.fb_verify.specs.declared.start.Start.TheVariants as start
 use Rattle.fb_run.specs.Ends.{Ends, Takes, Unwritten}
 use Rattle.fb_run.specs.Job.{Job}
 use Rattle.fb_run.specs.Lines.{TextsOf}
@@ -26,10 +24,10 @@ abbrev pub IsBarePrompt : ℕ → Ends → Ends → Type 0
 IsBarePrompt limit before now =
     (bytes : List ℕ) × Consumes before.reader.left now.reader.left bytes × (length bytes ≤ limit) × Unwritten before.outs now.outs
 
-abbrev pub IsPromptFrom : Start → Job → Ends → Ends → Type 0
-IsPromptFrom start.Bare job = IsBarePrompt job.limit
-IsPromptFrom start.Prefixed job = IsStreamPrompt job
+abbrev pub IsPromptFrom : Bool → Job → Ends → Ends → Type 0
+IsPromptFrom true job = IsBarePrompt job.limit
+IsPromptFrom false job = IsStreamPrompt job
 
 -- the one of both that the job says
 abbrev pub IsPrompt : Job → Ends → Ends → Type 0
-IsPrompt job = IsPromptFrom job.start job
+IsPrompt job = IsPromptFrom job.bare job

@@ -1,7 +1,5 @@
 -- A run, over a stream or over one bare input.
-use Rattle.std.specs.Prelude.{◌≡◌, Result, Ok, Err}
-use Rattle.fb_verify.specs.declared.start.Start.{Start}
-use Rattle.fb_verify.specs.declared.start.Start.TheVariants as start
+use Rattle.std.specs.Prelude.{◌≡◌, Bool, true, false, Result, Ok, Err}
 use Rattle.fb_run.specs.Ends.{Ends}
 use Rattle.fb_run.specs.Job.{Job}
 use Rattle.fb_run.specs.Bare.{PassesBare, FailsBare}
@@ -20,14 +18,14 @@ abbrev pub IsStreamRun : Job → Ends → Ends → Tally → End → Type 0
 IsStreamRun job before after tally (Ok done) = PassesStream job before after tally
 IsStreamRun job before after tally (Err fault) = FailsStream job before after tally fault
 
--- the input is one bare buffer, or a stream of buffers with their sizes
-abbrev pub IsRunFrom : Start → Job → Ends → Ends → Tally → End → Type 0
-IsRunFrom start.Bare = IsBareRun
-IsRunFrom start.Prefixed = IsStreamRun
+-- the input is one bare buffer, or a stream of messages with their lengths
+abbrev pub IsRunFrom : Bool → Job → Ends → Ends → Tally → End → Type 0
+IsRunFrom true = IsBareRun
+IsRunFrom false = IsStreamRun
 
 -- what was read, written and noted by a run that ended so, and came to these numbers by then
 abbrev pub IsRunBeside : Job → Ends → Ends → Tally → End → Type 0
-IsRunBeside job = IsRunFrom job.start job
+IsRunBeside job = IsRunFrom job.bare job
 
 -- the answer of a run that ended so and came to these numbers
 abbrev pub answer_by : Tally → End → Result Tally RunFault

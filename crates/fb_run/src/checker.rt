@@ -1,26 +1,34 @@
 //! The verifier, with what a run hands it for every buffer.
 
-ghost use Rattle.std.specs.Prelude.{IfOk, IfErr, IsTrue, ◌≡◌, ◌<◌, ◌≤◌, ◌^◌, length, option_map};
+ghost use Rattle.std.specs.Prelude.{IfOk, IfErr, OnOk, IsTrue, ◌≡◌, ◌++◌, ◌<◌, ◌≤◌, ◌^◌, length, map};
 ghost use Rattle.fb_access.specs.Denotes.{shown};
 ghost use Rattle.fb_run.specs.declared.options.Places.TheVariants.{Words};
-ghost use Rattle.fb_run.specs.Job.{HasRoom, IsAnswer, IsVerdict, IsVerified, PathFits, Serves, Verdict, brief_verdict, is_brief, job_of, limits_for, verdict_beside, verdict_of};
+ghost use Rattle.fb_run.specs.Job.{AreAnswers, HasRoom, IsVerdict, IsVerified, PathsFit, Serves, Verdict, brief_verdict, buffer_in, is_brief, job_of, limits_for, place_told, verdict_beside, verdict_of};
+ghost use Rattle.fb_run.specs.Line.{json_line};
 
-use crate::options::{Mode, Options, Places};
+use crate::answers::{Answers, MOST_PATHS};
+use crate::json_line::{put_no, put_yes};
+use crate::options::{AskedPath, Form, Mode, Options, Places, Prefix};
 use crate::room::Room;
-use fb_access::{Answer, Path, get, put_location};
+use fb_access::{get, place_of, put_location};
 use fb_bytes::Meter;
 use fb_schema::Schema;
-use fb_verify::{Fault, Limits, Located, Report, Start, Verified, verify, verify_and_locate, walk};
+use fb_verify::{
+    Fault, Limits, Link, Located, Report, Start, Verified, verify, verify_and_locate, walk,
+};
 use std::alloc::{AllocError, Allocator};
 use std::marker::Model;
 
+/// How many bytes a message's prefix has.
+const PREFIX: usize = 4;
+
 /// What is found in a buffer that is well formed.
-#[derive(Clone, Copy)]
+#[derive(Drop)]
 pub struct Found<'b> {
     /// What was counted.
     pub report: Report,
-    /// The value at the end of the path, where the options have one.
-    pub answer: Option<Answer<'b>>,
+    /// The values at the ends of the paths of the options.
+    pub answers: Answers<'b>,
 }
 
 /// What is wrong in a buffer.
@@ -32,7 +40,7 @@ pub struct Wrong<'t> {
     pub place: Option<&'t [u8]>,
 }
 
-/// A schema and the options by which a run checks its buffers: the root is a table, and the path fits from there. A
+/// A schema and the options by which a run checks its buffers: the root is a table, and the paths fit from there. A
 /// clause sees the job that they make.
 #[derive(Drop)]
 pub struct Checker<'s, 'n, 'o> {
@@ -75,15 +83,50 @@ impl<'s, 'n, 'o> Checker<'s, 'n, 'o> {
         self.options.mode
     }
 
+    /// How lines are written.
+    pub fn form(&self) -> Form
+        ensures { result ≡ self.now.form }
+    {
+        self.options.form
+    }
+
+    /// Adds the line of this verdict on message number `number` as JSON.
+    pub fn put_json<A: Allocator>(
+        &self,
+        text: &mut Vec<u8, A>,
+        number: u64,
+        verdict: &Result<Found<'_>, Wrong<'_>>,
+    ) -> Result<(), AllocError>
+        ensures { OnOk result (text.new.items ≡ text.old.items ++ json_line self.now number (verdict_of verdict.now)) }
+    {
+        let Options { label, paths, .. } = self.options;
+        match verdict {
+            Ok(found) => put_yes(
+                text,
+                label,
+                number,
+                &found.report,
+                paths.as_slice(),
+                found.answers.as_slice(),
+            ),
+            Err(wrong) => put_no(text, label, number, self.schema, &wrong.fault, wrong.place),
+        }
+    }
+
     /// Room for as many open tables as the limits allow, and for as many links where words are asked for.
     pub fn room<'a, A: Allocator>(&self, alloc: &'a A) -> Result<Room<&'a A>, AllocError>
         ensures { IfOk result (HasRoom self.now) }
     {
-        Room::new(alloc, self.options.limits.depth(), self.options.names)
+        let Options {
+            names,
+            ref label,
+            ..
+        } = *self.options;
+        Room::new(alloc, self.options.limits.depth(), names, label)
     }
 
-    /// The verdict on one buffer: what is found in it, with the value at the end of the path, or the fault, whose place
-    /// in words is left in the room where the options ask for it.
+    /// The verdict on the buffer in a message: what is found in it, with the values at the ends of the paths, or the
+    /// fault, whose place in words is left in the room where the options ask for it.
     ///
     /// # Errors
     ///
@@ -91,42 +134,51 @@ impl<'s, 'n, 'o> Checker<'s, 'n, 'o> {
     pub fn verdict<'b, A: Allocator>(
         &self,
         room: &mut Room<A>,
-        bytes: &'b [u8],
+        message: &'b [u8],
     ) -> Result<Result<Found<'b>, Fault>, AllocError>
         requires room { HasRoom self.now room.old }
-        requires short { length bytes.now < 2 ^ 31 }
-        ensures verdict { IfOk result (λ verdict. IsVerdict self.now bytes.now (verdict_beside self.now room.new.text verdict)) }
-        ensures refused { IfErr result (λ _. (verdict : Verdict) × IsVerdict self.now bytes.now verdict) }
+        requires short { length message.now < 2 ^ 31 }
+        ensures verdict { IfOk result (λ verdict. IsVerdict self.now (buffer_in self.now message.now) (verdict_beside self.now room.new.text verdict)) }
+        ensures refused { IfErr result (λ _. (verdict : Verdict) × IsVerdict self.now (buffer_in self.now message.now) verdict) }
         ensures asked { IfErr result (λ _. self.now.names ≡ Words) }
         ensures room { HasRoom self.now room.new }
     {
-        match self.verified(room, bytes)? {
+        match self.verified(room, self.buffer(message))? {
             Ok(verified) => {
                 let report = verified.report();
-                let answer = answer_in(&verified, &self.options.path);
-                Ok(Ok(Found { report, answer }))
+                let answers = answers_in(&verified, self.options.paths.as_slice());
+                Ok(Ok(Found { report, answers }))
             }
             Err(fault) => Ok(Err(fault)),
         }
     }
 
-    /// Whether no more is asked of a buffer than a report, or a fault by its numbers: neither a value nor words.
+    /// Whether no more is asked of a buffer than a report, or a fault by its numbers: neither values, nor words, nor a
+    /// name.
     #[inline(always)]
     pub fn is_brief(&self) -> bool
         ensures { result ≡ is_brief self.now }
     {
-        self.options.path.is_none() && self.options.names == Places::Numbers
+        let Options {
+            paths,
+            names,
+            label,
+            form,
+            ..
+        } = self.options;
+        paths.is_empty() && *names == Places::Numbers && label.is_none() && *form == Form::Plain
     }
 
-    /// The verdict on one buffer, where no more is asked: the report, or the fault.
+    /// The verdict on the buffer in a message, where no more is asked: the report, or the fault.
     #[inline(always)]
-    pub fn report<A: Allocator>(&self, room: &mut Room<A>, bytes: &[u8]) -> Result<Report, Fault>
+    pub fn report<A: Allocator>(&self, room: &mut Room<A>, message: &[u8]) -> Result<Report, Fault>
         requires brief { IsTrue (is_brief self.now) }
         requires room { HasRoom self.now room.old }
-        requires short { length bytes.now < 2 ^ 31 }
-        ensures verdict { IsVerdict self.now bytes.now (brief_verdict result) }
+        requires short { length message.now < 2 ^ 31 }
+        ensures verdict { IsVerdict self.now (buffer_in self.now message.now) (brief_verdict result) }
         ensures room { HasRoom self.now room.new }
     {
+        let bytes = self.buffer(message);
         let Ok(mut meter) = Meter::new(bytes) else {
             unreachable!()
         };
@@ -143,14 +195,44 @@ impl<'s, 'n, 'o> Checker<'s, 'n, 'o> {
         )
     }
 
+    /// Whether the input is one bare buffer.
+    pub fn is_bare(&self) -> bool
+        ensures { result ≡ self.now.bare }
+    {
+        self.options.bare
+    }
+
     /// How each buffer begins.
-    pub fn start(&self) -> Start
+    fn start(&self) -> Start
         ensures { result ≡ self.now.start }
     {
-        if self.options.bare {
-            Start::Bare
+        match self.options.prefix {
+            Prefix::Part if !self.options.bare => Start::Prefixed,
+            _ => Start::Bare,
+        }
+    }
+
+    /// How many bytes of a message stand before the buffer.
+    fn skip(&self) -> usize
+        ensures { result ≡ self.now.skip }
+    {
+        match self.options.prefix {
+            Prefix::Apart if !self.options.bare => PREFIX,
+            _ => 0,
+        }
+    }
+
+    /// The buffer in a message: all of it, or what stands behind a prefix that is no part of it.
+    #[inline(always)]
+    fn buffer<'b>(&self, message: &'b [u8]) -> &'b [u8]
+        ensures buffer { result.now ≡ buffer_in self.now message.now }
+        ensures within { length result.now ≤ length message.now }
+    {
+        let skip = self.skip();
+        if skip <= message.len() {
+            &message[skip..]
         } else {
-            Start::Prefixed
+            &[]
         }
     }
 
@@ -201,7 +283,7 @@ impl<'s, 'n, 'o> Checker<'s, 'n, 'o> {
                 Err(Located { fault, links }) => {
                     room.text.clear();
                     let links = &room.links[..links as usize];
-                    match put_location(&mut room.text, schema, &fault, links) {
+                    match put_place(&mut room.text, self.options.form, schema, &fault, links) {
                         Ok(()) => Ok(Err(fault)),
                         Err(refused) => Err(refused),
                     }
@@ -210,34 +292,55 @@ impl<'s, 'n, 'o> Checker<'s, 'n, 'o> {
         }
     }
 
-    /// The verdict, where a fault has its place in words from the room if the options ask for them.
+    /// The verdict, where a fault has its place in words from the room if the options ask for them, and what its line
+    /// begins with.
     pub fn told<'b, 't, A: Allocator>(
         &self,
         room: &'t Room<A>,
         verdict: Result<Found<'b>, Fault>,
-    ) -> Result<Found<'b>, Wrong<'t>>
-        ensures { verdict_of result ≡ verdict_beside self.now room.now.text verdict.entry }
+    ) -> (Result<Found<'b>, Wrong<'t>>, &'t [u8])
+        ensures verdict { verdict_of result.0 ≡ verdict_beside self.now room.now.text verdict.entry }
+        ensures begin { result.1.now ≡ room.now.label }
     {
+        let begin = room.label.as_slice();
         match verdict {
-            Ok(found) => Ok(found),
+            Ok(found) => (Ok(found), begin),
             Err(fault) => {
                 let place = match self.options.names {
                     Places::Numbers => None,
                     Places::Words => Some(room.text.as_slice()),
                 };
-                Err(Wrong { fault, place })
+                (Err(Wrong { fault, place }), begin)
             }
         }
     }
 }
 
-/// The value at the end of the path, where there is one.
-fn answer_in<'b>(verified: &Verified<'b, '_, '_>, path: &Option<Path>) -> Option<Answer<'b>>
-    requires { PathFits (verified.now).schema (verified.now).root path.now }
-    ensures { IsAnswer (verified.now).bytes (verified.now).schema (verified.now).start (verified.now).root path.now (option_map shown result) }
+/// Adds the place of a fault in words.
+fn put_place<A: Allocator>(
+    text: &mut Vec<u8, A>,
+    form: Form,
+    schema: &Schema<'_>,
+    fault: &Fault,
+    links: &[Link],
+) -> Result<(), AllocError>
+    ensures ok { OnOk result (text.new.items ≡ text.old.items ++ place_told form schema.now fault.now links.now) }
 {
-    match path {
-        Some(path) => Some(get(verified, path)),
-        None => None,
+    match form {
+        Form::Plain => put_location(text, schema, fault, links),
+        Form::Json => text.extend_from_slice(place_of(schema, links).as_slice()),
     }
+}
+
+/// The values at the ends of the paths.
+fn answers_in<'b>(verified: &Verified<'b, '_, '_>, paths: &[AskedPath]) -> Answers<'b>
+    requires fit { PathsFit (verified.now).schema (verified.now).root paths.now }
+    requires few { length paths.now ≤ MOST_PATHS }
+    ensures { AreAnswers (verified.now).bytes (verified.now).schema (verified.now).start (verified.now).root paths.now (map shown result) }
+{
+    let mut answers = Answers::new();
+    for asked in paths {
+        answers.push(get(verified, asked.path()));
+    }
+    answers
 }

@@ -2,7 +2,7 @@
 
 ghost use Rattle.std.specs.Prelude.{Ok, ◌≡◌, ◌+◌, ◌≤◌, ◌++◌, [], drop, length, decimal};
 ghost use Rattle.fb_run.specs.Job.{brief_verdict, verdict_of};
-ghost use Rattle.fb_run.specs.Line.{field_text, no_end, place_end, short_ending, short_line, yes_end};
+ghost use Rattle.fb_run.specs.Line.{field_text, no_text, place_text, short_line, verdict_line, yes_text};
 
 use crate::checker::{Found, Wrong};
 use fb_verify::{Fault, Report};
@@ -12,7 +12,7 @@ use std::marker::Model;
 /// More bytes than the longest line has, but for a value, and more than the summary.
 const ROOM: usize = 640;
 
-/// The line of one verdict but for a value or a place in words, or of a summary, written from its end to its front. It
+/// The line of one verdict but for values or a place in words, or of a summary, written from its end to its front. It
 /// takes no memory.
 #[derive(Drop)]
 pub struct Line {
@@ -48,24 +48,22 @@ impl Line {
         &self.room[self.start..]
     }
 
-    /// Makes it the line of message number `number`, whatever it was before. It ends with a newline, and before a value
-    /// or a place with a space.
-    #[tactic(auto, using(crate::proofs::LineLemmas::ends_as))]
+    /// Makes it the line of message number `number` but for what was asked for, whatever it was before.
     pub fn set(&mut self, number: u64, verdict: &Result<Found<'_>, Wrong<'_>>)
         ensures { self.new ≡ short_line number (verdict_of verdict.now) }
     {
         self.clear();
         match verdict {
-            Ok(found) => self.put_yes(&found.report, short_end(&found.answer)),
-            Err(wrong) => self.put_no(&wrong.fault, short_end(&wrong.place)),
+            Ok(found) => self.put_yes(&found.report),
+            Err(wrong) => self.put_no(&wrong.fault),
         }
         self.put_number(number);
     }
 
-    /// Makes it the line of message number `number` with this report and no value, whatever it was before.
+    /// Makes it the whole line of message number `number` with this report and no value, whatever it was before.
     #[inline(always)]
     pub fn set_yes(&mut self, number: u64, report: &Report)
-        ensures { self.new ≡ short_line number (brief_verdict (Ok report.now)) }
+        ensures { self.new ≡ verdict_line number (brief_verdict (Ok report.now)) }
     {
         let room = &mut self.room;
         let mut start = put_bytes(room, ROOM, b"\n");
@@ -85,13 +83,11 @@ impl Line {
     }
 
     /// What a yes has behind its number.
-    fn put_yes(&mut self, report: &Report, end: &str)
+    fn put_yes(&mut self, report: &Report)
         requires empty { self.old ≡ [] }
-        requires end { length end.now ≤ 1 }
-        ensures text { self.new ≡ yes_end report.now end.now }
+        ensures text { self.new ≡ yes_text report.now }
         ensures short { length self.new ≤ 150 }
     {
-        self.put_text(end);
         self.put_wide(report.reads);
         self.put_text(" reads=");
         self.put_number(u64::from(report.depth));
@@ -101,13 +97,12 @@ impl Line {
     }
 
     /// What a no has behind its number.
-    fn put_no(&mut self, fault: &Fault, end: &str)
+    fn put_no(&mut self, fault: &Fault)
         requires empty { self.old ≡ [] }
-        requires end { length end.now ≤ 1 }
-        ensures text { self.new ≡ no_end fault.now end.now }
+        ensures text { self.new ≡ no_text fault.now }
         ensures short { length self.new ≤ 150 }
     {
-        self.put_place(fault, end);
+        self.put_place(fault);
         self.put_number(fault.at);
         self.put_text(" at=");
         self.put_text(fault.reason.text());
@@ -115,13 +110,11 @@ impl Line {
     }
 
     /// Where in the schema a no is, and its reads.
-    fn put_place(&mut self, fault: &Fault, end: &str)
+    fn put_place(&mut self, fault: &Fault)
         requires empty { self.old ≡ [] }
-        requires end { length end.now ≤ 1 }
-        ensures text { self.new ≡ place_end fault.now end.now }
+        ensures text { self.new ≡ place_text fault.now }
         ensures short { length self.new ≤ 103 }
     {
-        self.put_text(end);
         self.put_wide(fault.reads);
         self.put_text(" reads=");
         self.put_field(fault.field);
@@ -265,15 +258,4 @@ fn put_wide_digits(room: &mut [u8; ROOM], end: usize, number: u128) -> usize
     ensures text { drop result room.new ≡ decimal number ++ drop end room.old }
 {
     put(room, end, Buffer::new().format(number))
-}
-
-/// What ends a line but for the value or the place in words behind it, where there is one.
-fn short_end<T>(behind: &Option<T>) -> &'static str
-    ensures end { result.now ≡ short_ending behind.now }
-    ensures short { length result.now ≤ 1 }
-{
-    match behind {
-        Some(_) => " ",
-        None => "\n",
-    }
 }

@@ -1,13 +1,11 @@
 //! What a run tells: gathered, counted, and written together.
 
-ghost use Rattle.std.specs.Prelude.{Err, IfErr, Ok, OnOk, OnErr, ◌≡◌, ◌⊎◌, ◌+◌, ◌<◌, ◌≤◌, ◌^◌, ◌++◌, length, true, false, codes, take, ℕ, List, option_map};
-ghost use Rattle.std.specs.Borrow.{Bor};
-ghost use Rattle.fb_access.specs.Denotes.{shown};
-ghost use Rattle.fb_run.specs.AnswerText.{answer_text};
+ghost use Rattle.std.specs.Prelude.{Err, IfErr, Ok, OnOk, OnErr, ◌≡◌, ◌⊎◌, ◌+◌, ◌<◌, ◌≤◌, ◌^◌, ◌++◌, length, true, false, codes, take};
 ghost use Rattle.fb_run.specs.Ends.{GrowsBy, IsBelow, Takes, load_of, outs_of, writer_of};
 ghost use Rattle.fb_run.specs.Faults.{IsCausedOut, IsCausedWriting, IsUnfailedOut};
 ghost use Rattle.fb_run.specs.Job.{HasRoom, brief_verdict, verdict_of};
-ghost use Rattle.fb_run.specs.Line.{told_of, verdict_line, with_place};
+ghost use Rattle.fb_run.specs.AnswerText.{label_text};
+ghost use Rattle.fb_run.specs.Line.{asked_text, json_line, line_of, short_line, told_of, verdict_line};
 ghost use Rattle.fb_run.specs.Lines.{Adds, AddsThrough, AddsTold, ComesBehind, StopsBehind, StopsIn, WritesFronts};
 ghost use Rattle.fb_run.specs.Sums.{count_of, no_tally};
 ghost use Rattle.fb_run.specs.Texts.{silent, size, waiting, written_by};
@@ -16,13 +14,12 @@ use crate::checker::{Checker, Found, Wrong};
 use crate::counter::Counter;
 use crate::fault::RunFault;
 use crate::line::Line;
-use crate::long_end::long_end;
-use crate::options::Mode;
+use crate::long_line::{long_answers, put_line};
+use crate::options::{Form, Mode};
 use crate::room::Room;
 use crate::tally::Tally;
-use crate::value_text::put_answer;
+use crate::value_text::put_asked;
 use crate::writing::{MOST_WAITING, Pending, Unwritten};
-use fb_access::Answer;
 use fb_bytes::Sink;
 use fb_verify::{Fault, Report};
 use std::alloc::{AllocError, Allocator};
@@ -35,10 +32,10 @@ pub struct Output<A: Allocator> {
     pub out: Pending<A>,
     /// Whole lines.
     pub notes: Pending<A>,
-    /// The line that is being made, but for a value or a place in words.
+    /// The line that is being made, but for values or a place in words.
     line: Line,
-    /// The end of that line: a value and a newline.
-    value: Vec<u8, A>,
+    /// These.
+    asked: Vec<u8, A>,
 }
 
 impl<'a, A: Allocator> Output<&'a A> {
@@ -54,7 +51,7 @@ impl<'a, A: Allocator> Output<&'a A> {
             out: Pending::new(alloc),
             notes: Pending::new(alloc),
             line: Line::new(),
-            value: Vec::new(alloc),
+            asked: Vec::new(alloc),
         }
     }
 }
@@ -93,7 +90,7 @@ impl<A: Allocator> Output<A> {
     fn add_yes(&mut self, mode: Mode, message: &[u8], report: &Report) -> Result<(), AllocError>
         requires few { count_of self.old.counter < 2 ^ 63 }
         requires short { length message.now < 2 ^ 31 }
-        ensures ok { OnOk result (Adds mode (1 + count_of self.old.counter) message.now (brief_verdict (Ok report.now))
+        ensures ok { OnOk result (Adds mode (verdict_line (1 + count_of self.old.counter) (brief_verdict (Ok report.now))) message.now (brief_verdict (Ok report.now))
             (waiting self.old) self.old.counter (waiting self.new) self.new.counter) }
         ensures err_text { OnErr result (waiting self.new ≡ waiting self.old) }
         ensures err_counted { OnErr result (self.new.counter ≡ self.old.counter) }
@@ -117,7 +114,7 @@ impl<A: Allocator> Output<A> {
     fn add_no(&mut self, mode: Mode, message: &[u8], fault: Fault) -> Result<(), AllocError>
         requires few { count_of self.old.counter < 2 ^ 63 }
         requires short { length message.now < 2 ^ 31 }
-        ensures ok { OnOk result (Adds mode (1 + count_of self.old.counter) message.now (brief_verdict (Err fault))
+        ensures ok { OnOk result (Adds mode (verdict_line (1 + count_of self.old.counter) (brief_verdict (Err fault))) message.now (brief_verdict (Err fault))
             (waiting self.old) self.old.counter (waiting self.new) self.new.counter) }
         ensures err_text { OnErr result (waiting self.new ≡ waiting self.old) }
         ensures err_counted { OnErr result (self.new.counter ≡ self.old.counter) }
@@ -126,7 +123,7 @@ impl<A: Allocator> Output<A> {
     {
         let verdict = Err(Wrong { fault, place: None });
         let number = 1 + self.counter.messages();
-        self.tell(mode, number, message, &verdict)?;
+        self.tell(mode, b"", number, message, &verdict)?;
         self.counter.count(message, &verdict);
         Ok(())
     }
@@ -152,9 +149,9 @@ impl<A: Allocator> Output<A> {
         ensures room { HasRoom checker.now room.new }
     {
         let verdict = checker.verdict(room, message)?;
-        let verdict = checker.told(room, verdict);
+        let (verdict, begin) = checker.told(room, verdict);
         let number = 1 + self.counter.messages();
-        self.tell(checker.mode(), number, message, &verdict)?;
+        self.tell_in_form(checker, begin, number, message, &verdict)?;
         self.counter.count(message, &verdict);
         Ok(())
     }
@@ -188,9 +185,9 @@ impl<A: Allocator> Output<A> {
         ensures room { HasRoom checker.now room.new }
     {
         let verdict = checker.verdict(room, message)?;
-        let verdict = checker.told(room, verdict);
+        let (verdict, begin) = checker.told(room, verdict);
         let number = 1 + self.counter.messages();
-        let told = self.tell_through(checker.mode(), number, message, &verdict, writer);
+        let told = self.tell_formed(checker, begin, number, message, &verdict, writer);
         if let Err(RunFault::OutOfMemory) = told {
             return told;
         }
@@ -198,22 +195,24 @@ impl<A: Allocator> Output<A> {
         told
     }
 
-    /// Adds what the mode tells of message number `number` with this verdict. A line with a long value at its end is
-    /// written while it is made.
-    fn tell_through<K: Sink>(
+    /// Adds what is told of message number `number` by this verdict, where plain lines begin so. A plain line with a long
+    /// value is written while it is made.
+    fn tell_formed<K: Sink>(
         &mut self,
-        mode: Mode,
+        checker: &Checker<'_, '_, '_>,
+        begin: &[u8],
         number: u64,
         message: &[u8],
         verdict: &Result<Found<'_>, Wrong<'_>>,
         writer: &mut K,
     ) -> Result<(), RunFault>
+        requires begin { begin.now ≡ label_text checker.now.label }
         requires writes { K.calls writer.old < 2 ^ 99 + 2 ^ 97 }
         requires written { self.old.out.written < 2 ^ 99 + 2 ^ 97 }
-        ensures ok { OnOk result (ComesBehind (waiting self.old).out (told_of mode number message.now (verdict_of verdict.now)).out
+        ensures ok { OnOk result (ComesBehind (waiting self.old).out (told_of checker.now.mode (line_of checker.now number (verdict_of verdict.now)) message.now (verdict_of verdict.now)).out
             (waiting self.new).out (K.contents writer.old) (K.contents writer.new) self.old.out.written self.new.out.written) }
-        ensures notes { OnOk result ((waiting self.new).notes ≡ (waiting self.old).notes ++ (told_of mode number message.now (verdict_of verdict.now)).notes) }
-        ensures err { IfErr result (λ fault. StopsIn ((waiting self.old).out ++ (told_of mode number message.now (verdict_of verdict.now)).out)
+        ensures notes { OnOk result ((waiting self.new).notes ≡ (waiting self.old).notes ++ (told_of checker.now.mode (line_of checker.now number (verdict_of verdict.now)) message.now (verdict_of verdict.now)).notes) }
+        ensures err { IfErr result (λ fault. StopsIn ((waiting self.old).out ++ (told_of checker.now.mode (line_of checker.now number (verdict_of verdict.now)) message.now (verdict_of verdict.now)).out)
             (K.contents writer.old) (K.contents writer.new) self.old.out.written fault) }
         ensures failed { IfErr result (IsCausedWriting (writer_of K.Sink writer.old) (writer_of K.Sink writer.new)) }
         ensures unfailed { OnOk result (K.failures writer.new ≡ K.failures writer.old) }
@@ -222,88 +221,216 @@ impl<A: Allocator> Output<A> {
         ensures counted { self.new.counter ≡ self.old.counter }
         ensures noted { self.new.notes.written ≡ self.old.notes.written }
     {
-        let Some(end) = long_end(mode, verdict) else {
-            return Ok(self.tell(mode, number, message, verdict)?);
+        match checker.form() {
+            Form::Plain => self.tell_through(
+                checker.mode(),
+                begin,
+                number,
+                message,
+                verdict,
+                writer,
+            ),
+            Form::Json => Ok(self.tell_json(checker, number, message, verdict)?),
+        }
+    }
+
+    /// The same in memory.
+    fn tell_in_form(
+        &mut self,
+        checker: &Checker<'_, '_, '_>,
+        begin: &[u8],
+        number: u64,
+        message: &[u8],
+        verdict: &Result<Found<'_>, Wrong<'_>>,
+    ) -> Result<(), AllocError>
+        requires begin { begin.now ≡ label_text checker.now.label }
+        ensures out { OnOk result ((waiting self.new).out ≡ (waiting self.old).out ++ (told_of checker.now.mode (line_of checker.now number (verdict_of verdict.now)) message.now (verdict_of verdict.now)).out) }
+        ensures notes { OnOk result ((waiting self.new).notes ≡ (waiting self.old).notes ++ (told_of checker.now.mode (line_of checker.now number (verdict_of verdict.now)) message.now (verdict_of verdict.now)).notes) }
+        ensures err_text { OnErr result (waiting self.new ≡ waiting self.old) }
+        ensures counted { self.new.counter ≡ self.old.counter }
+        ensures written { self.new.out.written ≡ self.old.out.written }
+        ensures noted { self.new.notes.written ≡ self.old.notes.written }
+    {
+        match checker.form() {
+            Form::Plain => self.tell(checker.mode(), begin, number, message, verdict),
+            Form::Json => self.tell_json(checker, number, message, verdict),
+        }
+    }
+
+    /// Adds what is told of message number `number` by this verdict, where lines are JSON.
+    fn tell_json(
+        &mut self,
+        checker: &Checker<'_, '_, '_>,
+        number: u64,
+        bytes: &[u8],
+        verdict: &Result<Found<'_>, Wrong<'_>>,
+    ) -> Result<(), AllocError>
+        ensures out { OnOk result ((waiting self.new).out ≡ (waiting self.old).out ++ (told_of checker.now.mode (json_line checker.now number (verdict_of verdict.now)) bytes.now (verdict_of verdict.now)).out) }
+        ensures notes { OnOk result ((waiting self.new).notes ≡ (waiting self.old).notes ++ (told_of checker.now.mode (json_line checker.now number (verdict_of verdict.now)) bytes.now (verdict_of verdict.now)).notes) }
+        ensures err_text { OnErr result (waiting self.new ≡ waiting self.old) }
+        ensures counted { self.new.counter ≡ self.old.counter }
+        ensures written { self.new.out.written ≡ self.old.out.written }
+        ensures noted { self.new.notes.written ≡ self.old.notes.written }
+    {
+        match checker.mode() {
+            Mode::Lines => self.put_json(checker, number, verdict),
+            Mode::BadLines => match verdict {
+                Ok(_) => Ok(()),
+                Err(_) => self.put_json(checker, number, verdict),
+            },
+            Mode::Filter => match verdict {
+                Ok(_) => self.out.bytes.extend_from_slice(bytes),
+                Err(_) => self.note_json(checker, number, verdict),
+            },
+        }
+    }
+
+    /// Adds the line of this verdict on message number `number` as JSON to what waits for the writer.
+    fn put_json(
+        &mut self,
+        checker: &Checker<'_, '_, '_>,
+        number: u64,
+        verdict: &Result<Found<'_>, Wrong<'_>>,
+    ) -> Result<(), AllocError>
+        ensures ok { OnOk result (self.new.out.bytes.items ≡ self.old.out.bytes.items ++ json_line checker.now number (verdict_of verdict.now)) }
+        ensures err_text { OnErr result (self.new.out.bytes.items ≡ self.old.out.bytes.items) }
+        ensures notes { self.new.notes ≡ self.old.notes }
+        ensures counted { self.new.counter ≡ self.old.counter }
+        ensures written { self.new.out.written ≡ self.old.out.written }
+    {
+        self.asked.clear();
+        checker.put_json(&mut self.asked, number, verdict)?;
+        self.out.bytes.extend_from_slice(self.asked.as_slice())
+    }
+
+    /// The same for the notes.
+    fn note_json(
+        &mut self,
+        checker: &Checker<'_, '_, '_>,
+        number: u64,
+        verdict: &Result<Found<'_>, Wrong<'_>>,
+    ) -> Result<(), AllocError>
+        ensures ok { OnOk result (self.new.notes.bytes.items ≡ self.old.notes.bytes.items ++ json_line checker.now number (verdict_of verdict.now)) }
+        ensures err_text { OnErr result (self.new.notes.bytes.items ≡ self.old.notes.bytes.items) }
+        ensures out { self.new.out ≡ self.old.out }
+        ensures counted { self.new.counter ≡ self.old.counter }
+        ensures noted { self.new.notes.written ≡ self.old.notes.written }
+    {
+        self.asked.clear();
+        checker.put_json(&mut self.asked, number, verdict)?;
+        self.notes.bytes.extend_from_slice(self.asked.as_slice())
+    }
+
+    /// Adds what the mode tells of message number `number` with this verdict, where lines begin so. A line with a long
+    /// value is written while it is made.
+    fn tell_through<K: Sink>(
+        &mut self,
+        mode: Mode,
+        begin: &[u8],
+        number: u64,
+        message: &[u8],
+        verdict: &Result<Found<'_>, Wrong<'_>>,
+        writer: &mut K,
+    ) -> Result<(), RunFault>
+        requires writes { K.calls writer.old < 2 ^ 99 + 2 ^ 97 }
+        requires written { self.old.out.written < 2 ^ 99 + 2 ^ 97 }
+        ensures ok { OnOk result (ComesBehind (waiting self.old).out (told_of mode (begin.now ++ verdict_line number (verdict_of verdict.now)) message.now (verdict_of verdict.now)).out
+            (waiting self.new).out (K.contents writer.old) (K.contents writer.new) self.old.out.written self.new.out.written) }
+        ensures notes { OnOk result ((waiting self.new).notes ≡ (waiting self.old).notes ++ (told_of mode (begin.now ++ verdict_line number (verdict_of verdict.now)) message.now (verdict_of verdict.now)).notes) }
+        ensures err { IfErr result (λ fault. StopsIn ((waiting self.old).out ++ (told_of mode (begin.now ++ verdict_line number (verdict_of verdict.now)) message.now (verdict_of verdict.now)).out)
+            (K.contents writer.old) (K.contents writer.new) self.old.out.written fault) }
+        ensures failed { IfErr result (IsCausedWriting (writer_of K.Sink writer.old) (writer_of K.Sink writer.new)) }
+        ensures unfailed { OnOk result (K.failures writer.new ≡ K.failures writer.old) }
+        ensures little { OnOk result (self.new.out.written ≤ self.old.out.written + 2 ^ 67) }
+        ensures calls { OnOk result (K.calls writer.new ≤ K.calls writer.old + 2 ^ 67) }
+        ensures counted { self.new.counter ≡ self.old.counter }
+        ensures noted { self.new.notes.written ≡ self.old.notes.written }
+    {
+        let Some(answers) = long_answers(mode, verdict) else {
+            return Ok(self.tell(mode, begin, number, message, verdict)?);
         };
         self.line.set(number, verdict);
         let line = self.line.bytes();
-        if let Err(Unwritten { written }) = end.put_behind(line, &mut self.out, writer) {
+        if let Err(Unwritten { written }) = put_line(&mut self.out, writer, begin, line, answers) {
             return Err(RunFault::WriteFault { written });
         }
         Ok(())
     }
 
-    /// Adds what the mode tells of message number `number` with this verdict.
+    /// Adds what the mode tells of message number `number` with this verdict, where lines begin so.
     fn tell(
         &mut self,
         mode: Mode,
+        begin: &[u8],
         number: u64,
         message: &[u8],
         verdict: &Result<Found<'_>, Wrong<'_>>,
     ) -> Result<(), AllocError>
-        ensures out { OnOk result ((waiting self.new).out ≡ (waiting self.old).out ++ (told_of mode number message.now (verdict_of verdict.now)).out) }
-        ensures notes { OnOk result ((waiting self.new).notes ≡ (waiting self.old).notes ++ (told_of mode number message.now (verdict_of verdict.now)).notes) }
+        ensures out { OnOk result ((waiting self.new).out ≡ (waiting self.old).out ++ (told_of mode (begin.now ++ verdict_line number (verdict_of verdict.now)) message.now (verdict_of verdict.now)).out) }
+        ensures notes { OnOk result ((waiting self.new).notes ≡ (waiting self.old).notes ++ (told_of mode (begin.now ++ verdict_line number (verdict_of verdict.now)) message.now (verdict_of verdict.now)).notes) }
         ensures err_text { OnErr result (waiting self.new ≡ waiting self.old) }
         ensures counted { self.new.counter ≡ self.old.counter }
         ensures written { self.new.out.written ≡ self.old.out.written }
         ensures noted { self.new.notes.written ≡ self.old.notes.written }
     {
         match mode {
-            Mode::Lines => self.put_line(number, verdict),
+            Mode::Lines => self.put_line(begin, number, verdict),
             Mode::BadLines => match verdict {
                 Ok(_) => Ok(()),
-                Err(_) => self.put_line(number, verdict),
+                Err(_) => self.put_line(begin, number, verdict),
             },
             Mode::Filter => match verdict {
                 Ok(_) => self.out.bytes.extend_from_slice(message),
-                Err(wrong) => {
-                    self.line.set(number, verdict);
-                    add_line(&mut self.notes.bytes, self.line.bytes(), wrong.place)
+                Err(_) => {
+                    self.set_line(number, verdict)?;
+                    add_line(
+                        &mut self.notes.bytes,
+                        begin,
+                        self.line.bytes(),
+                        self.asked.as_slice(),
+                    )
                 }
             },
         }
     }
 
-    /// Adds the line of this verdict on message number `number` to what waits for the writer.
+    /// Adds the line of this verdict on message number `number` to what waits for the writer. It begins so.
     fn put_line(
+        &mut self,
+        begin: &[u8],
+        number: u64,
+        verdict: &Result<Found<'_>, Wrong<'_>>,
+    ) -> Result<(), AllocError>
+        ensures ok { OnOk result (self.new.out.bytes.items ≡ self.old.out.bytes.items ++ (begin.now ++ verdict_line number (verdict_of verdict.now))) }
+        ensures err_text { OnErr result (self.new.out.bytes.items ≡ self.old.out.bytes.items) }
+        ensures notes { self.new.notes ≡ self.old.notes }
+        ensures counted { self.new.counter ≡ self.old.counter }
+        ensures written { self.new.out.written ≡ self.old.out.written }
+    {
+        self.set_line(number, verdict)?;
+        add_line(
+            &mut self.out.bytes,
+            begin,
+            self.line.bytes(),
+            self.asked.as_slice(),
+        )
+    }
+
+    /// Makes the line of this verdict on message number `number`, and what was asked for at its end.
+    fn set_line(
         &mut self,
         number: u64,
         verdict: &Result<Found<'_>, Wrong<'_>>,
     ) -> Result<(), AllocError>
-        ensures ok { OnOk result (self.new.out.bytes.items ≡ self.old.out.bytes.items ++ verdict_line number (verdict_of verdict.now)) }
-        ensures err_text { OnErr result (self.new.out.bytes.items ≡ self.old.out.bytes.items) }
+        ensures line { OnOk result (self.new.line ≡ short_line number (verdict_of verdict.now)) }
+        ensures asked { OnOk result (self.new.asked.items ≡ asked_text (verdict_of verdict.now)) }
+        ensures out { self.new.out ≡ self.old.out }
         ensures notes { self.new.notes ≡ self.old.notes }
         ensures counted { self.new.counter ≡ self.old.counter }
-        ensures written { self.new.out.written ≡ self.old.out.written }
     {
         self.line.set(number, verdict);
-        match verdict {
-            Ok(found) => match &found.answer {
-                Some(value) => self.add_value(value),
-                None => self.out.bytes.extend_from_slice(self.line.bytes()),
-            },
-            Err(wrong) => add_line(&mut self.out.bytes, self.line.bytes(), wrong.place),
-        }
-    }
-
-    /// Adds the line that was made, with a value at its end.
-    fn add_value(&mut self, answer: &Answer<'_>) -> Result<(), AllocError>
-        ensures ok { OnOk result (self.new.out.bytes.items ≡ self.old.out.bytes.items ++ (self.old.line ++ (answer_text (shown answer.now) ++ codes "\n"))) }
-        ensures err_text { OnErr result (self.new.out.bytes.items ≡ self.old.out.bytes.items) }
-        ensures notes { self.new.notes ≡ self.old.notes }
-        ensures counted { self.new.counter ≡ self.old.counter }
-        ensures written { self.new.out.written ≡ self.old.out.written }
-    {
-        self.value.clear();
-        put_answer(&mut self.value, answer)?;
-        self.value.extend_from_slice(b"\n")?;
-        let before = self.out.bytes.len();
-        self.out.bytes.extend_from_slice(self.line.bytes())?;
-        let whole = self.out.bytes.extend_from_slice(self.value.as_slice());
-        if whole.is_err() {
-            self.out.bytes.truncate(before);
-        }
-        whole
+        self.asked.clear();
+        put_asked(&mut self.asked, verdict)
     }
 
     /// Whether so much waits that it is written before the next message is checked. (Where it were 2^40 bytes, they would
@@ -348,32 +475,37 @@ impl<A: Allocator> Output<A> {
     }
 }
 
-/// Adds a line to a text, with a place in words at its end where there is one. Where memory is refused, the text stays.
+/// Adds a line to a text: what it begins with, the line, what was asked for, and a newline. Where memory is refused, the
+/// text stays.
 fn add_line<A: Allocator>(
     text: &mut Vec<u8, A>,
+    begin: &[u8],
     line: &[u8],
-    place: Option<&[u8]>,
+    asked: &[u8],
 ) -> Result<(), AllocError>
-    ensures ok { OnOk result (text.new.items ≡ text.old.items ++ with_place line.now (option_map (λ (p : Bor (List ℕ)). p.now) place.entry)) }
+    ensures ok { OnOk result (text.new.items ≡ text.old.items ++ (begin.now ++ (line.now ++ (asked.now ++ codes "\n")))) }
     ensures err_text { OnErr result (text.new.items ≡ text.old.items) }
 {
-    let Some(place) = place else {
-        return text.extend_from_slice(line);
-    };
     let before = text.len();
-    let whole = add_all(text, line, place);
+    let whole = add_all(text, begin, line, asked);
     if whole.is_err() {
         text.truncate(before);
     }
     whole
 }
 
-/// Adds a line, a place and a newline behind a text, or a front of them where memory is refused.
-fn add_all<A: Allocator>(text: &mut Vec<u8, A>, line: &[u8], place: &[u8]) -> Result<(), AllocError>
-    ensures ok { OnOk result (text.new.items ≡ text.old.items ++ (line.now ++ (place.now ++ codes "\n"))) }
+/// The same, but for a front of it where memory is refused.
+fn add_all<A: Allocator>(
+    text: &mut Vec<u8, A>,
+    begin: &[u8],
+    line: &[u8],
+    asked: &[u8],
+) -> Result<(), AllocError>
+    ensures ok { OnOk result (text.new.items ≡ text.old.items ++ (begin.now ++ (line.now ++ (asked.now ++ codes "\n")))) }
     ensures err_text { OnErr result (take (length text.old.items) text.new.items ≡ text.old.items) }
 {
+    text.extend_from_slice(begin)?;
     text.extend_from_slice(line)?;
-    text.extend_from_slice(place)?;
+    text.extend_from_slice(asked)?;
     text.extend_from_slice(b"\n")
 }

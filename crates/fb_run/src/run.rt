@@ -50,11 +50,12 @@ impl Ran {
 }
 
 /// Checks the buffers of an input by a schema, and writes what the mode of the options tells of each, with at most
-/// `turns` reads. Where the options have a path, the line of a yes ends with the value there.
+/// `turns` reads. Where the options have paths, the line of a yes ends with the values there.
 ///
-/// The input is a stream of size-prefixed buffers (FlatBuffers Internals), or with `bare` of the options one bare
-/// buffer. What is told of all messages that are whole is written before the next read, and before any answer: first to
-/// the writer, then to the notes. A reader that may be asked for more only where this is so can be run over (`leave`).
+/// The input is a stream of size-prefixed buffers (FlatBuffers Internals), or of bare ones behind their lengths by
+/// `prefix` of the options, or with `bare` one bare buffer. What is told of all messages that are whole is written before
+/// the next read, and before any answer: first to the writer, then to the notes. A reader that may be asked for more only
+/// where this is so can be run over (`leave`).
 ///
 /// # Ends
 ///

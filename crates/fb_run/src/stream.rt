@@ -18,7 +18,6 @@ use crate::output::Output;
 use crate::reading::{MOST_TURNS, PIECE, pull_piece, read_whole};
 use crate::room::Room;
 use fb_bytes::{Framer, Sink};
-use fb_verify::Start;
 use std::alloc::{AllocError, Allocator};
 
 /// What a run carries: over a stream from piece to piece, over one bare input from its start to its end.
@@ -79,7 +78,7 @@ impl<A: Allocator> Carried<A> {
         ensures pushes { N.calls notes.new ≤ N.calls notes.old + 2 ^ 96 }
         ensures turns { S.calls reader.new ≤ S.calls reader.old + turns }
     {
-        if let Start::Bare = checker.start() {
+        if checker.is_bare() {
             let limit = checker.limit();
             let whole = read_whole(alloc, reader, piece, writer, notes, limit, turns)?;
             return tell_whole(

@@ -1,20 +1,60 @@
-//! The text of a value at the end of a path.
+//! The text of a value at the end of a path, and of an input's name.
 
-ghost use Rattle.std.specs.Prelude.{OnOk, ◌≡◌, ◌≤◌, ◌++◌, ◌∷◌, [], length, take};
+ghost use Rattle.std.specs.Prelude.{OnOk, ◌≡◌, ◌≤◌, ◌++◌, ◌∷◌, [], ℕ, List, length, option_map, take};
 ghost use Rattle.std.specs.List.{flat_map};
 ghost use Rattle.hex.specs.Hex.{encode_lower};
+ghost use Rattle.std.specs.Borrow.{Bor};
 ghost use Rattle.fb_access.specs.Denotes.{shown};
-ghost use Rattle.fb_run.specs.AnswerText.{answer_text, byte_text, quoted, spelled};
+ghost use Rattle.fb_run.specs.Job.{verdict_of};
+ghost use Rattle.fb_run.specs.Line.{asked_text, words_text};
+ghost use Rattle.fb_run.specs.AnswerText.{answer_text, byte_text, label_text, quoted, spaced_answer, spelled};
 
+use crate::checker::{Found, Wrong};
 use fb_access::Answer;
 use itoa::{Buffer, Integer};
 use std::alloc::{AllocError, Allocator};
 
-/// Adds the text of a value.
-pub fn put_answer<A: Allocator>(
+/// Adds what was asked for: the values of a yes or the place of a no in words, each behind a space.
+#[tactic(auto, using(crate::proofs::AnswerLemmas::answers_each))]
+pub fn put_asked<A: Allocator>(
     text: &mut Vec<u8, A>,
-    answer: &Answer<'_>,
+    verdict: &Result<Found<'_>, Wrong<'_>>,
 ) -> Result<(), AllocError>
+    ensures { OnOk result (text.new.items ≡ text.old.items ++ asked_text (verdict_of verdict.now)) }
+{
+    match verdict {
+        Ok(found) => put_answers(text, found.answers.as_slice()),
+        Err(wrong) => put_words(text, wrong.place),
+    }
+}
+
+/// Adds a place in words behind a space, where there is one.
+fn put_words<A: Allocator>(text: &mut Vec<u8, A>, place: Option<&[u8]>) -> Result<(), AllocError>
+    ensures { OnOk result (text.new.items ≡ text.old.items ++ words_text (option_map (λ (words : Bor (List ℕ)). words.now) place.entry)) }
+{
+    let Some(words) = place else {
+        return Ok(());
+    };
+    text.extend_from_slice(b" ")?;
+    text.extend_from_slice(words)
+}
+
+/// Adds values, each behind a space.
+fn put_answers<A: Allocator>(
+    text: &mut Vec<u8, A>,
+    answers: &[Answer<'_>],
+) -> Result<(), AllocError>
+    ensures { OnOk result (text.new.items ≡ text.old.items ++ flat_map spaced_answer answers.now) }
+{
+    for answer in answers {
+        text.extend_from_slice(b" ")?;
+        put_answer(text, answer)?;
+    }
+    Ok(())
+}
+
+/// Adds the text of a value.
+fn put_answer<A: Allocator>(text: &mut Vec<u8, A>, answer: &Answer<'_>) -> Result<(), AllocError>
     ensures { OnOk result (text.new.items ≡ text.old.items ++ answer_text (shown answer.now)) }
 {
     match answer {
@@ -35,7 +75,7 @@ pub fn put_answer<A: Allocator>(
 }
 
 /// Adds a label and a number.
-fn put_number<A: Allocator, I: Integer>(
+pub fn put_number<A: Allocator, I: Integer>(
     text: &mut Vec<u8, A>,
     label: &[u8],
     number: I,
@@ -48,7 +88,7 @@ fn put_number<A: Allocator, I: Integer>(
 }
 
 /// Adds a label and bytes as hexadecimal digits.
-fn put_hex<A: Allocator>(
+pub fn put_hex<A: Allocator>(
     text: &mut Vec<u8, A>,
     label: &[u8],
     bytes: &[u8],
@@ -77,6 +117,20 @@ fn put_quoted<A: Allocator>(text: &mut Vec<u8, A>, bytes: &[u8]) -> Result<(), A
     text.extend_from_slice(b"\"")?;
     put_bytes(text, bytes)?;
     text.extend_from_slice(b"\"")
+}
+
+/// Adds what each line begins with, where the input has a name.
+pub fn put_label<A: Allocator>(
+    text: &mut Vec<u8, A>,
+    label: &Option<Vec<u8>>,
+) -> Result<(), AllocError>
+    ensures { OnOk result (text.new.items ≡ text.old.items ++ label_text (option_map (λ name. name.items) label.now)) }
+{
+    let Some(name) = label else {
+        return Ok(());
+    };
+    put_bytes(text, name)?;
+    text.extend_from_slice(b": ")
 }
 
 /// Adds the bytes of a text, escaped where they aren't printable.

@@ -25,6 +25,7 @@ pub mod MemberNames
 pub mod NamedValues
 pub mod KindLemmas
 pub mod ToldKinds
+pub mod PartLemmas
 pub mod Kept
 pub mod RowLemmas
 pub mod Kinded

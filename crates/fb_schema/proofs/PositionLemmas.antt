@@ -1,5 +1,6 @@
 -- The place of the one item that passes a test.
-use Rattle.std.proofs.Common.{◌≡◌, ℕ, ◌<◌, ◌≤◌, ◌⊎◌, inl, inr, Bool, true, false, List, length, get_or, Option, Some, None, refl, sym, ◌∙◌, ap, arith, position}
+use Rattle.std.proofs.Common.{◌≡◌, ℕ, ◌<◌, ◌≤◌, ◌⊎◌, inl, inr, Bool, true, false, not, cond, ◌+◌, List, [], ◌∷◌, length, get_or, map, Option, Some, None, refl, sym, ◌∙◌, ap, arith, position}
+use Rattle.std.proofs.lemmas.List.{length-map}
 use Rattle.std.proofs.lemmas.List.Quantifiers.{position-Some}
 use Rattle.std.proofs.lemmas.List.Sums.{fails_before_first}
 use Rattle.std.specs.List.{position_or_len}
@@ -22,3 +23,11 @@ no_position p xs never = go (position p xs) refl where
     missing : (length xs ≤ i) ⊎ (i < length xs) → ⊥
     missing (inl past) = let inside : i < length xs = grind (arith, common_steps) in omega arith
     missing (inr lt) = let x = slice_get_some xs i lt in let w = position-Some p xs i x.0 e in never i x.0 w.0 w.1
+
+-- the first of a mapped list that passes stands where the first does whose image passes
+len_mapped : {X Y : Type 0} (f : X → Y) (p : Y → Bool) (xs : List X) → position_or_len p (map f xs) ≡ position_or_len (λ x. p (f x)) xs
+len_mapped f p [] = refl
+len_mapped f p (x ∷ xs) = ap (λ n. cond (not (p (f x))) (1 + n) 0) (len_mapped f p xs)
+
+pub position_mapped : {X Y : Type 0} (f : X → Y) (p : Y → Bool) (xs : List X) → position p (map f xs) ≡ position (λ x. p (f x)) xs
+position_mapped f p xs = rw (len_mapped f p xs) (rw length-map refl)

@@ -21,6 +21,7 @@ use Rattle.fb_schema.proofs.Kinded.{listed, row_of, field_sized}
 use Rattle.fb_schema.proofs.LiveLemmas.{Rises, sorted_members}
 use Rattle.fb_schema.proofs.LookLemmas.{within_widest}
 use Rattle.fb_schema.proofs.Numbers.{le_or_lt, lt_or_eq}
+use Rattle.fb_schema.proofs.PartLemmas.{parts_fit}
 use Rattle.fb_schema.proofs.RowLemmas.{contains_at, place_in, rises_at, IsRowOf, row_in, asked, live_line, rows_rise}
 
 -- Places of lists.
@@ -274,4 +275,5 @@ served_by rows legal few = record {
   even = slots_even rows legal;
   numbers = numbers_apart rows legal;
   members = member_holds rows legal;
+  parts = parts_fit rows legal;
 }

@@ -4,6 +4,7 @@ pub mod Kinds
 pub mod Demands
 pub mod Live
 pub mod Members
+pub mod Parts
 pub mod Served
 pub mod Steps
 pub mod Targets

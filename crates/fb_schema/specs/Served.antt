@@ -4,9 +4,11 @@ use Rattle.fb_schema.specs.declared.kinds.Kind.{Kind}
 use Rattle.fb_schema.specs.declared.kinds.Kind.TheVariants.{Scalar, Text, Struct, Table, Union, Scalars, Texts, Structs, Tables, Unions}
 use Rattle.fb_schema.specs.declared.kinds.Scalar.TheVariants.{UType}
 use Rattle.fb_schema.specs.Rows.{Rows, Field, Object, is_table, is_union}
-use Rattle.fb_schema.specs.Kinds.{kind_of, kind_size, kind_align, struct_align}
+use Rattle.fb_schema.specs.declared.views.PartView.{PartView}
+use Rattle.fb_schema.specs.Kinds.{kind_of, kind_size, kind_align, struct_align, struct_size}
 use Rattle.fb_schema.specs.Live.{Live, live_fields, live_rows, live_as}
 use Rattle.fb_schema.specs.Members.{member_of}
+use Rattle.fb_schema.specs.Parts.{PartFits, part_at}
 
 -- what a field's kind names is there, and what stands in place has an alignment
 abbrev pub KindHolds : Rows → Live → Kind → Type 0
@@ -58,6 +60,7 @@ pub record IsServed (rows : Rows) : Type 0 where
   pub even : (k i : ℕ) (f : Live) → slice_get (live_fields rows k) i ≡ Some f → f.slot % 2 ≡ 0
   pub numbers : (k i j : ℕ) (f g : Live) → slice_get (live_fields rows k) i ≡ Some f → slice_get (live_fields rows k) j ≡ Some g → f.number ≡ g.number → i ≡ j
   pub members : (e value : ℕ) → MemberHolds rows (member_of rows e value)
+  pub parts : (k i : ℕ) (part : PartView) → part_at rows k i ≡ Some part → PartFits rows (struct_size rows k) part part.kind
 
 -- the live field at place i is that of the i-th live row, of the kind that its type has
 pub record HasKind (rows : Rows) (k i : ℕ) (live : List Field) (f : Field) : Type 0 where

@@ -2,7 +2,8 @@
 
 ghost use Rattle.std.specs.Prelude.{◌≡◌, ◌<◌, ◌^◌, map, length, IfOk, All, vec_len, slice_get, Some};
 ghost use Rattle.fb_schema.specs.declared.flat.EnumPart.{EnumPart};
-ghost use Rattle.fb_schema.specs.Rows.{AreFew, object_of, enum_of, rows_of};
+ghost use Rattle.fb_schema.specs.Parts.{parts_of};
+ghost use Rattle.fb_schema.specs.Rows.{AreFew, field_of, object_of, enum_of, rows_of};
 ghost use Rattle.fb_schema.specs.Flat.{part, IsPart};
 ghost use Rattle.fb_schema.specs.FlatRows.{object_with, object_in, enum_in, flat_rows, AreParts};
 
@@ -168,6 +169,19 @@ impl<'n, A: Allocator + Copy> FlatRows<'n, A> {
             enums,
             members,
         })
+    }
+
+    /// The fields of the struct with this number, none where it is no struct.
+    pub fn parts_of(&self, k: usize) -> &[FieldRow<'n>]
+        requires parts { All (λ o. IsPart (length self.now.fields.items) o.fields) self.now.objects.items }
+        ensures value { map field_of result.now ≡ parts_of (flat_rows self.now) k }
+        ensures few { length result.now < 2 ^ 31 }
+    {
+        let range = match self.objects.get(k) {
+            Some(object) if object.is_struct => object.fields,
+            _ => (0, 0),
+        };
+        part(&self.fields, range)
     }
 
     /// The members of the enum with this number.

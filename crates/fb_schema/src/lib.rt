@@ -32,4 +32,4 @@ pub use kinds::{Kind, Scalar};
 pub use rows::{EnumRow, FieldRow, MemberRow, ObjectRow, TypeRow};
 pub use schema::Schema;
 pub use targets::Targets;
-pub use views::{Act, FieldView, Goal, ObjectView, Step, Target};
+pub use views::{Act, FieldView, Goal, ObjectView, PartView, Step, Target};

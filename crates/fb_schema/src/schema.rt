@@ -4,11 +4,13 @@ ghost use Rattle.std.specs.Prelude.{◌≡◌, ◌<◌, map, length, IfOk, OnOk,
 ghost use Rattle.std.specs.Prelude.{position, ℕ, ◌≤◌, ◌^◌, find, pos};
 ghost use Rattle.std.specs.Ordering.{int_eq};
 ghost use Rattle.std.specs.Str.{bytes_eq};
-ghost use Rattle.fb_schema.specs.Rows.{AreFew, rows_of, is_table, is_union, table_named, member_of_row};
+ghost use Rattle.fb_schema.specs.declared.rows.FieldRow.{FieldRow};
+ghost use Rattle.fb_schema.specs.Rows.{AreFew, rows_of, is_table, is_union, table_named, field_of, member_of_row};
 ghost use Rattle.fb_schema.specs.Heads.{head_of, head_of_view};
 ghost use Rattle.fb_schema.specs.Live.{live_fields, live_of_view, field_named, required_end, next_required, widest};
 ghost use Rattle.fb_schema.specs.Members.{member_of, member_named, member_name};
 ghost use Rattle.fb_schema.specs.Demands.{IsLegal, Refuses};
+ghost use Rattle.fb_schema.specs.Parts.{part_at, part_named, parts_of};
 ghost use Rattle.fb_schema.specs.Served.{IsServed, HaveKinds};
 ghost use Rattle.fb_schema.specs.Steps.{is_plain, step_of};
 ghost use Rattle.fb_schema.specs.Targets.{target_at, target_of};
@@ -20,10 +22,10 @@ use crate::indexing::{live_index, member_index};
 use crate::keys::in_order;
 use crate::kinds::Kind;
 use crate::legal::legal;
-use crate::rows::{EnumRow, MemberRow, ObjectRow};
+use crate::rows::{EnumRow, FieldRow, MemberRow, ObjectRow};
 use crate::sorting::place_of;
 use crate::targets::Targets;
-use crate::views::{FieldView, ObjectView, Step};
+use crate::views::{FieldView, ObjectView, PartView, Step};
 use std::alloc::{Allocator, Global};
 use std::marker::Model;
 
@@ -78,7 +80,8 @@ impl<'n, A: Allocator + Copy> Schema<'n, A> {
     }
 
     /// The rows of a schema are legal, and serve a reader of buffers: each live field has a kind, what kinds name is
-    /// there, and a union's type field stands before it. The call does nothing: its contract is what it is for.
+    /// there, a union's type field stands before it, and the fields of a struct lie in it. The call does nothing: its
+    /// contract is what it is for.
     pub fn lawful(&self)
         ensures legal { IsLegal self.now }
         ensures served { IsServed self.now }
@@ -173,6 +176,28 @@ impl<'n, A: Allocator + Copy> Schema<'n, A> {
         ensures { result ≡ field_named self.now n name.now }
     {
         place_of(self.live.names.get(n as usize), &name)
+    }
+
+    /// The fields of a struct in the order of the rows, none where the object is no struct.
+    fn parts_of(&self, n: u32) -> &[FieldRow<'n>]
+        ensures value { map field_of result.now ≡ parts_of self.now n }
+        ensures few { length result.now < 2 ^ 31 }
+    {
+        self.rows.parts_of(n as usize)
+    }
+
+    /// The place of the field of this name among the fields of a struct, in the order of the rows.
+    pub fn part_named(&self, n: u32, name: &[u8]) -> Option<u32>
+        ensures { result ≡ part_named self.now n name.now }
+    {
+        named(self.parts_of(n), name)
+    }
+
+    /// The i-th field of a struct, in the order of the rows.
+    pub fn part_at(&self, n: u32, i: u32) -> Option<PartView>
+        ensures { result ≡ part_at self.now n i }
+    {
+        self.rows.lists().part_at(self.parts_of(n), i as usize)
     }
 
     /// How many live fields a table has.
@@ -277,6 +302,15 @@ impl<'n, A: Allocator + Copy> Schema<'n, A> {
     {
         self.live.widest
     }
+}
+
+/// The place of the field of this name.
+fn named(fields: &[FieldRow], name: &[u8]) -> Option<u32>
+    requires { length fields.now < 2 ^ 31 }
+    ensures { result ≡ position (λ (f : FieldRow). bytes_eq f.name.now name.now) fields.now }
+{
+    let place = fields.iter().position(|field| field.name == name)?;
+    Some(place as u32)
 }
 
 /// The name of the member with this value.

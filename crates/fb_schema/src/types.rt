@@ -1,7 +1,8 @@
 // What types are and what they name, read off the rows.
 
-ghost use Rattle.std.specs.Prelude.{◌≡◌, Some, option_map, ◌^◌, pos, neg_ℤ, ◌*ℤ◌, ◌<ℤ◌};
-ghost use Rattle.fb_schema.specs.Rows.{entry_at, is_some_table, is_some_union};
+ghost use Rattle.std.specs.Prelude.{◌≡◌, Some, map, slice_get, option_and_then, option_map, ◌^◌, pos, neg_ℤ, ◌*ℤ◌, ◌<ℤ◌};
+ghost use Rattle.fb_schema.specs.Rows.{entry_at, field_of, is_some_table, is_some_union};
+ghost use Rattle.fb_schema.specs.Parts.{part_count, part_kind, part_of};
 ghost use Rattle.fb_schema.specs.FlatRows.{borrowed_rows, found_object, found_enum};
 ghost use Rattle.fb_schema.specs.Kinds.{element_of, shape_of, scalar_size, kind_of, object_kind, union_kind, shape_kind, struct_size, struct_align, kind_size, kind_align};
 ghost use Rattle.fb_schema.specs.Vectors.{vector_of};
@@ -12,7 +13,8 @@ ghost use Rattle.fb_schema.specs.declared.kinds.Shape.{Shape};
 use crate::base_type;
 use crate::flat::{EnumPart, ObjectPart, RowLists};
 use crate::kinds::{Element, Kind, Scalar, Shape, TypeField};
-use crate::rows::TypeRow;
+use crate::rows::{FieldRow, TypeRow};
+use crate::views::PartView;
 
 /// The size and alignment of a value, in bytes.
 #[derive(Clone, Copy)]
@@ -150,6 +152,16 @@ fn vector_of(kind: Kind) -> Kind
     }
 }
 
+/// How many values a struct's field of this shape has: an array its length, and all else one.
+fn part_count(length: u16, shape: Option<Shape>) -> u16
+    ensures { result ≡ part_count length shape }
+{
+    match shape {
+        Some(Shape::Array(_)) => length,
+        _ => 1,
+    }
+}
+
 /// The bytes of an array of values of so many bytes each.
 fn array_bytes(length: u16, each: i32) -> i64
     ensures value { result ≡ pos length *ℤ each }
@@ -274,6 +286,42 @@ impl<'r, 'n> RowLists<'r, 'n> {
             Shape::One(element) => self.element_kind(element, ty.index),
             Shape::Vector(element) => self.element_kind(element, ty.index).map(vector_of),
             Shape::Array(_) => None,
+        }
+    }
+
+    /// The i-th of a struct's fields.
+    pub fn part_at(&self, fields: &[FieldRow<'n>], i: usize) -> Option<PartView>
+        ensures { result ≡ option_and_then (part_of (borrowed_rows self.now)) (slice_get (map field_of fields.now) i) }
+    {
+        match fields.get(i) {
+            Some(field) => self.part_of(field),
+            None => None,
+        }
+    }
+
+    /// A field of a struct, none where no value of its type could stand there.
+    fn part_of(&self, field: &FieldRow<'n>) -> Option<PartView>
+        ensures { result ≡ part_of (borrowed_rows self.now) (field_of field.now) }
+    {
+        let ty = field.ty;
+        let shape = shape_of(ty);
+        let kind = self.part_kind(shape, ty.index)?;
+        Some(PartView {
+            place: field.slot,
+            kind,
+            count: part_count(ty.fixed_length, shape),
+        })
+    }
+
+    /// The kind of what a struct's field of this shape holds: an array has that of a vector of its elements.
+    #[tactic(auto, using(crate::proofs::KindLemmas::vector_kind))]
+    fn part_kind(&self, shape: Option<Shape>, index: i32) -> Option<Kind>
+        ensures { result ≡ part_kind (borrowed_rows self.now) index shape }
+    {
+        match shape {
+            Some(Shape::One(element)) => self.element_kind(element, index),
+            Some(Shape::Array(element)) => self.element_kind(element, index).map(vector_of),
+            _ => None,
         }
     }
 

@@ -30,6 +30,17 @@ pub struct FieldView<'n> {
     pub companion: Option<u32>,
 }
 
+/// A field of a struct, with what a reader of the struct's bytes needs.
+///
+/// `place` is its place in the struct, in bytes. `kind` is that of a scalar or struct, or of an array of these, for which
+/// it is the kind of a vector of its elements. `count` is how many an array has, and 1 of all else.
+#[derive(Clone, Copy, Debug, PartialEq, Eq)]
+pub struct PartView {
+    pub place: u16,
+    pub kind: Kind,
+    pub count: u16,
+}
+
 /// What a reader of buffers does at a field that is there.
 ///
 /// A scalar or struct of one, two, four or eight bytes that is aligned to as many has an act of its own, so that

@@ -75,13 +75,17 @@ module _ (c : Checks) (b : List ℕ) (S : Rows) (root : ℕ) (start : Start) (id
       }
 
 module _ {c : Checks} {b : List ℕ} {S : Rows} {root : ℕ} {start : Start} {ident : Ident} {L : Bounds} where
-  -- where frames lead to a fault, there is no tree
+  -- where frames lead to a fault, there is one
+  pub fault_along : {frames : List Frame} {last : LastLink} {f : Fault} → HaltsAlong c b S root start ident L frames last f → Stops c b S root start ident L f
+  fault_along {frames} {last} {f} h = stops_along c b S root start ident L f _ h.along
+
+  -- and no tree
   pub none_along : {frames : List Frame} {last : LastLink} {f : Fault} → HaltsAlong c b S root start ident L frames last f → HasNone c b S root start ident L
-  none_along {frames} {last} {f} h y i j = stops_nowhere c b S L root start ident y f i j (stops_along c b S root start ident L f _ h.along)
+  none_along {frames} {last} {f} h y i j = stops_nowhere c b S L root start ident y f i j (fault_along h)
 
   -- the price
   pub price_of_no : {frames : List Frame} {last : LastLink} {f : Fault} → HaltsAlong c b S root start ident L frames last f → f.reads ≤ most_reads S L (length b)
-  price_of_no {frames} {last} {f} h = reads_are_bounded c b S L root start ident f (stops_along c b S root start ident L f _ h.along)
+  price_of_no {frames} {last} {f} h = reads_are_bounded c b S L root start ident f (fault_along h)
 
   pub price_of_yes : {r : Report} → Reports c b S root start ident L r → r.reads ≤ most_reads S L (length b)
   price_of_yes {r} h = omega (arith, h.reads, cost_is_bounded c b S L root start ident h.found h.well_formed h.within)

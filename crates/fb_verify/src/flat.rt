@@ -1,6 +1,6 @@
 // Tables whose fields lead to no table, passed whole by reads that are counted in a register.
 
-ghost use Rattle.std.specs.Prelude.{slice_index_or, ◌≡◌, ◌+◌, ◌*◌, ◌^◌, ◌<◌, ◌≤◌, length, map, MatchOption, IfOk, IfErr, IfSome, IsTrue, None, true, false};
+ghost use Rattle.std.specs.Prelude.{slice_index_or, ◌≡◌, ◌+◌, ◌*◌, ◌^◌, ◌<◌, ◌≤◌, length, map, min, MatchOption, IfOk, IfErr, IfSome, IsTrue, None, true, false};
 ghost use Rattle.fb_schema.specs.Rows.{is_table};
 ghost use Rattle.fb_schema.specs.Live.{live_fields};
 ghost use Rattle.fb_schema.specs.Steps.{is_plain, step_of};
@@ -521,7 +521,7 @@ impl<'s, 'n> Walk<'s, 'n> {
         requires waiting { waiting ≡ length under.frames }
         requires walking { IsWalking self.old meter.old under.start under.frames top.old }
         requires leads { 0 < (top.old.row).left }
-        requires room { (self.old.limits).depth ≤ waiting + 1 + length room.old }
+        requires room { min (self.old.limits).depth (waiting + 2) ≤ waiting + 1 + length room.old }
         ensures passes { PassesMembers self.old self.new meter.old meter.new under top.old top.new (slice_index_or room.new 0 blank) result }
         ensures length { length room.new ≡ length room.old }
     {

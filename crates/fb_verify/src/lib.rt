@@ -5,6 +5,7 @@
 mod begin;
 mod budget;
 pub mod checks;
+mod deeper;
 mod element;
 pub mod examples;
 pub mod fault;

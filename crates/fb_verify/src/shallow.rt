@@ -42,7 +42,7 @@ pub fn walk_shallow(
     ensures bytes { meter.new.bytes ≡ meter.old.bytes }
     ensures settled { meter.new.count < while_lent }
 {
-    let mut frames = [BLANK; 64];
+    let mut frames = [BLANK; 3];
     let mut tally = meter.lend();
     let answer = trace(
         &mut tally,

@@ -1,6 +1,6 @@
 // The walk: a loop over the frames of the open tables.
 
-ghost use Rattle.std.specs.Prelude.{◌≡◌, ◌+◌, ◌-◌, ◌*◌, ◌^◌, ◌<◌, ◌≤◌, max, length, List, take, slice_get, slice_index_or, [], ◌∷◌, ◌++◌, IfOk, IfErr, IfSome, MatchOption, IsTrue, Some, None, true, false};
+ghost use Rattle.std.specs.Prelude.{◌≡◌, ◌+◌, ◌-◌, ◌*◌, ◌^◌, ◌<◌, ◌≤◌, max, min, length, List, take, slice_get, slice_index_or, [], ◌∷◌, ◌++◌, IfOk, IfErr, IfSome, MatchOption, IsTrue, Some, None, true, false};
 ghost use Rattle.fb_schema.specs.Rows.{is_table};
 ghost use Rattle.fb_schema.specs.Live.{Live, live_fields, live_of_view};
 ghost use Rattle.fb_schema.specs.Served.{IsServed};
@@ -413,7 +413,7 @@ impl<'s, 'n> Walk<'s, 'n> {
         requires waiting { waiting ≡ length under.frames }
         requires walking { IsWalking self.old meter.old under.start under.frames top.old }
         requires leads { 0 < (top.old.row).left }
-        requires room { (self.old.limits).depth ≤ waiting + 1 + length room.old }
+        requires room { min (self.old.limits).depth (waiting + 2) ≤ waiting + 1 + length room.old }
         requires few { meter.old.count + work self.old.schema.now self.old.limits under.frames top.old self.old.tables ≤ 2 ^ 95 }
         ensures same { IfOk result (λ _. self.new ≡ record self.old { tables = self.new.tables; deepest = self.new.deepest }) }
         ensures over { IfOk result (λ more. more ≡ false → IsWalking self.new meter.new under.start under.frames top.new) }
@@ -465,7 +465,7 @@ impl<'s, 'n> Walk<'s, 'n> {
         requires waiting { waiting ≡ length under.frames }
         requires walking { IsWalking self.old meter.old under.start under.frames top.old }
         requires leads { 0 < (top.old.row).left }
-        requires room { (self.old.limits).depth ≤ waiting + 1 + length room.old }
+        requires room { min (self.old.limits).depth (waiting + 2) ≤ waiting + 1 + length room.old }
         requires few { meter.old.count + work self.old.schema.now self.old.limits under.frames top.old self.old.tables ≤ 2 ^ 95 }
         ensures same { IfOk result (λ _. self.new ≡ record self.old { tables = self.new.tables; deepest = self.new.deepest }) }
         ensures over { IfOk result (λ more. more ≡ false → IsWalking self.new meter.new under.start under.frames top.new) }
@@ -496,7 +496,7 @@ impl<'s, 'n> Walk<'s, 'n> {
     /// One step of the walk: goes on in the top table to a table below it, which becomes the top, or to its end, where
     /// the table above it becomes the top. So many frames wait below the top, and the answer says how many do after;
     /// none where the first table is closed.
-    fn turn(
+    pub fn turn(
         &mut self,
         meter: &mut Tally<'_>,
         frames: &mut [Frame],
@@ -505,7 +505,7 @@ impl<'s, 'n> Walk<'s, 'n> {
         ghost under: { Waiting }
         requires under { under.frames ≡ take waiting frames.old }
         requires walking { IsWalking self.old meter.old under.start under.frames (slice_index_or frames.old waiting blank) }
-        requires room { (self.old.limits).depth ≤ length frames.old }
+        requires room { min (self.old.limits).depth (waiting + 2) ≤ length frames.old }
         requires few { meter.old.count + work self.old.schema.now self.old.limits under.frames (slice_index_or frames.old waiting blank) self.old.tables ≤ 2 ^ 95 }
         ensures same { IfOk result (λ _. self.new ≡ record self.old { tables = self.new.tables; deepest = self.new.deepest }) }
         ensures walking { IfOk result (λ o. MatchOption o
@@ -515,6 +515,7 @@ impl<'s, 'n> Walk<'s, 'n> {
         ensures shallow { IfOk result (λ _. self.new.deepest ≤ (self.old.limits).depth) }
         ensures reads { IfOk result (λ _. AreAllowed (self.old.limits).reads meter.new.count) }
         ensures falls { IfOk result (λ o. IfSome o (λ after. meter.new.count + work self.old.schema.now self.old.limits (take after frames.new) (slice_index_or frames.new after blank) self.new.tables < meter.old.count + work self.old.schema.now self.old.limits under.frames (slice_index_or frames.old waiting blank) self.old.tables)) }
+        ensures near { IfOk result (λ o. IfSome o (λ after. after ≤ waiting + 1)) }
         ensures grows { IfOk result (λ _. meter.old.count ≤ meter.new.count) }
         ensures bytes { meter.new.bytes ≡ meter.old.bytes }
         ensures deep { IfErr result (λ h. h.links + links_left h.last ≤ (self.old.limits).depth) }
@@ -542,7 +543,7 @@ impl<'s, 'n> Walk<'s, 'n> {
         Ok(Some(waiting))
     }
 
-    /// Walks a table and all below it, over these frames.
+    /// Walks a table and all below it, over these frames, and over 64 of its own where it needs more than these.
     pub fn run(
         &mut self,
         meter: &mut Tally<'_>,
@@ -555,7 +556,8 @@ impl<'s, 'n> Walk<'s, 'n> {
         requires served { IsServed self.old.schema.now }
         requires table { IsTrue (is_table self.old.schema.now root.object) }
         requires near { root.at < 2 ^ 33 }
-        requires room { (self.old.limits).depth ≤ length frames.old }
+        requires some { min (self.old.limits).depth 1 ≤ length frames.old }
+        requires room { (self.old.limits).depth ≤ max 64 (length frames.old) }
         requires within { self.old.tables ≤ (self.old.limits).tables }
         requires shallow { self.old.deepest ≤ (self.old.limits).depth }
         requires reads { AreAllowed (self.old.limits).reads meter.old.count }
@@ -565,7 +567,8 @@ impl<'s, 'n> Walk<'s, 'n> {
         ensures shallow { IfOk result (λ _. self.new.deepest ≤ (self.old.limits).depth) }
         ensures reads { IfOk result (λ _. AreAllowed (self.old.limits).reads meter.new.count) }
         ensures deep { IfErr result (λ h. h.links + links_left h.last ≤ (self.old.limits).depth) }
-        ensures err { IfErr result (λ h. HaltsIn self.old meter.old start (take h.links frames.new) h meter.new.count) }
+        ensures err { IfErr result (λ h. (way : List Frame) × HaltsIn self.old meter.old start way h meter.new.count) }
+        ensures along { IfErr result (λ h. (self.old.limits).depth ≤ length frames.new → HaltsIn self.old meter.old start (take h.links frames.new) h meter.new.count) }
         ensures bytes { meter.new.bytes ≡ meter.old.bytes }
     {
         let table = match self.open_table(meter, 0, site, root) {
@@ -573,10 +576,9 @@ impl<'s, 'n> Walk<'s, 'n> {
             Err(stop) => return Err(stop.halt(0, LastLink::Behind)),
         };
         frames[0] = Frame::opened(table);
-        let mut waiting = 0;
-        while let Some(after) = self.turn(meter, frames, waiting)? {
-            waiting = after;
+        match self.go_on(meter, frames, 0)? {
+            Some(waiting) => self.go_deeper(meter, frames, waiting),
+            None => Ok(()),
         }
-        Ok(())
     }
 }

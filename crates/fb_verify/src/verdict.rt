@@ -1,6 +1,6 @@
 // The verdict on a buffer.
 
-ghost use Rattle.std.specs.Prelude.{◌≡◌, ◌+◌, ◌<◌, ◌≤◌, length, take, IfOk, IfErr, IsTrue};
+ghost use Rattle.std.specs.Prelude.{◌≡◌, ◌+◌, ◌<◌, ◌≤◌, max, min, length, take, IfOk, IfErr, IsTrue};
 ghost use Rattle.fb_bytes.specs.Word.{while_lent};
 ghost use Rattle.fb_schema.specs.Rows.{is_table};
 ghost use Rattle.fb_verify.specs.MostReads.{most_reads};
@@ -76,8 +76,9 @@ pub fn walk<A: Allocator>(
     }
 }
 
-/// The same over these frames, by a tally, which can only read and count: from here on nothing seals the bytes. Where
-/// there is a fault, the frames are left whose links lead to it.
+/// The same over these frames, and where it needs more than these over 64 of its own, by a tally, which can only read
+/// and count: from here on nothing seals the bytes. Where there is a fault, and these were enough for the depth limit,
+/// those are left whose links lead to it.
 pub(crate) fn trace(
     meter: &mut Tally<'_>,
     schema: &Schema<'_>,
@@ -90,11 +91,13 @@ pub(crate) fn trace(
 ) -> Result<Report, Halt>
     requires fresh { meter.old.count ≡ 0 }
     requires table { IsTrue (is_table schema.now root) }
-    requires room { limits.depth ≤ length frames.old }
+    requires some { min limits.depth 1 ≤ length frames.old }
+    requires room { limits.depth ≤ max 64 (length frames.old) }
     ensures yes { IfOk result (λ r. Reports checks meter.old.bytes schema.now root start ident limits r) }
     ensures none { IfErr result (λ _. HasNone checks meter.old.bytes schema.now root start ident limits) }
     ensures deep { IfErr result (λ h. h.links + links_left h.last ≤ limits.depth) }
-    ensures along { IfErr result (λ h. HaltsAlong checks meter.old.bytes schema.now root start ident limits (take h.links frames.new) h.last (stopped h.stop meter.new.count)) }
+    ensures no { IfErr result (λ h. Stops checks meter.old.bytes schema.now root start ident limits (stopped h.stop meter.new.count)) }
+    ensures along { IfErr result (λ h. limits.depth ≤ length frames.new → HaltsAlong checks meter.old.bytes schema.now root start ident limits (take h.links frames.new) h.last (stopped h.stop meter.new.count)) }
     ensures price { meter.new.count ≤ most_reads schema.now limits (length meter.old.bytes) }
     ensures read { IfOk result (λ r. meter.new.count ≡ r.reads) }
     ensures bytes { meter.new.bytes ≡ meter.old.bytes }

@@ -1,6 +1,6 @@
-//! Tests of `fb_verify`. What no contract says: that the definitions give worked buffers the verdicts, places and reads
-//! that were worked out by hand. Tests of a library stand in a crate of their own, since a check of tests proves all of
-//! the crate that they stand in once more.
+//! Tests of the calls of `fb_verify`: what is told of each, and many visits of few tables. Worked buffers and their
+//! verdicts are asked from outside (`tests/test_worked_cases.py`). Tests of a library stand in a crate of their own,
+//! since a check of tests proves all of the crate that they stand in once more.
 #![tactic(auto)]
 
 #[cfg(test)]

@@ -1,16 +1,6 @@
-mod absent;
-mod alignments;
-mod budgets;
 mod calls;
-mod heads;
 mod limits;
 mod question;
-mod ranges;
 mod reasons;
-mod samples;
 mod schemas;
-mod starts;
-mod switches;
 mod trees;
-mod unions;
-mod values;

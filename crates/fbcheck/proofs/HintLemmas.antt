@@ -1,5 +1,5 @@
 -- Names in a row.
-use Rattle.std.proofs.Common.{◌≡◌, ◌∙◌, ℕ, zero, suc, ◌+◌, Bool, true, false, List, [], ◌∷◌, ◌++◌, Option, Some, None, refl, sym, ap, drop, option_map, slice_get, add-one, append_assoc, arith, codes, ◌-◌, ◌<◌, ◌≤◌, append-nil, drop-cons, length, map, slice_index_or}
+use Rattle.std.proofs.Common.{◌≡◌, ◌∙◌, ℕ, zero, suc, ◌+◌, Bool, true, false, List, [], ◌∷◌, ◌++◌, Some, refl, sym, ap, drop, option_map, slice_get, add-one, append_assoc, arith, codes, ◌-◌, ◌<◌, ◌≤◌, append-nil, drop-cons, length, map, slice_index_or}
 use Rattle.std.proofs.Math.ListN.{drop_of_length-le}
 use Rattle.fb_schema.specs.Heads.{Head, head_of, head_of_view}
 use Rattle.fb_schema.specs.Live.{live_of_view}

@@ -1,40 +1,59 @@
 -- A schema file and the settings ask at most one thing.
-use Rattle.std.proofs.Common.{◌≡◌, ℕ, List, refl, sym, ◌∙◌, ap, subst, Option, Some, None, option_map, string_bytes, Result, Ok, Err, length}
+use Rattle.std.proofs.Common.{◌≡◌, ℕ, List, [], ◌∷◌, refl, sym, ◌∙◌, ap, subst, Option, Some, None, Result, Ok, Err, length}
+use mathlib.Core.Logic.{inl, inr}
 use Rattle.std.specs.Borrow.{Bor}
+use Rattle.std.specs.Global.{Global}
+use Rattle.std.specs.Prelude.{Vec}
 use Rattle.fb_schema.specs.Rows.{Rows}
 use Rattle.fb_access.specs.declared.step.Step.{Step}
 use Rattle.fb_access.specs.declared.path_fault.PathFault.{PathFault}
+use Rattle.fb_access.specs.Resolving.{IsFault, Resolves}
 use Rattle.fb_access.proofs.OneAnswer.{one_answer}
+use Rattle.fb_verify.specs.declared.start.Ident.{Ident}
+use Rattle.fb_run.specs.Wanted.{Wanted}
 use Rattle.fb_bfbs.proofs.OneLoad.{one_answer as one_load}
 use Rattle.fb_bfbs.specs.declared.load_fault.LoadFault.{LoadFault}
 use Rattle.fb_bfbs.specs.declared.load_fault.LoadFault.TheVariants as load
 use Rattle.fb_bfbs.specs.LoadLaws.{Applies, IsSameLoad, ident_bytes}
 use Rattle.fb_bfbs.specs.declared.loading.Loaded.{Loaded}
 use Rattle.fb_run.specs.Job.{Job, job_of}
-use Rattle.fbcheck.specs.Asked.{AsksBy, IsAsked, IsPath, IsPathFault, HasPathFault, LacksIdent, Own, asked_root, options_of}
+use Rattle.fbcheck.specs.Asked.{ArePaths, AsksBy, IsAsked, IsPath, IsPathFault, HasPathFault, LacksIdent, Own, asked_root, options_of, path_texts}
 use Rattle.fbcheck.specs.Checking.{Asks, IsSchema, IsNoSchema, own_of, schema_limits}
 use Rattle.fbcheck_words.specs.declared.choices.Settings.{Settings}
 use Rattle.fbcheck.specs.declared.fault.AskFault.{AskFault}
 use Rattle.fbcheck.specs.declared.fault.AskFault.TheVariants.{Load, Path, NoRoot, NoIdent}
 
 module _ (rows : Rows) (root : ℕ) where
-  one_path : (text : Option (List ℕ)) (x y : Option (List Step)) → IsPath rows root text x → IsPath rows root text y → x ≡ y
-  one_path None None None h i = refl
-  one_path (Some t) (Some x) (Some y) h i = let e : Ok x ≡ Ok y = one_answer rows root t (Ok x) (Ok y) h i in cc
-  one_path None None (Some y) h i = absurd i
-  one_path None (Some x) y h i = absurd h
-  one_path (Some t) None y h i = absurd h
-  one_path (Some t) (Some x) None h i = absurd i
+  one_path : (text : List ℕ) (x y : Wanted) → IsPath rows root text x → IsPath rows root text y → x ≡ y
+  one_path text x y h i =
+      let e : Ok x.steps ≡ Ok y.steps = one_answer rows root text (Ok x.steps) (Ok y.steps) h.1 i.1 in
+      let same : x.steps ≡ y.steps = cc in
+      ap (λ t. record { text = t; steps = x.steps }) (h.0 ∙ sym i.0) ∙ ap (λ s. record { text = y.text; steps = s }) same
 
-  -- a text that gives steps has no fault
-  steps_or_fault : (text : Option (List ℕ)) (x : Option (List Step)) (f : PathFault) → IsPath rows root text x → IsPathFault rows root text f → ⊥
-  steps_or_fault (Some t) (Some x) f h i = let e : Ok x ≡ Err f = one_answer rows root t (Ok x) (Err f) h i in cc
-  steps_or_fault (Some t) None f h i = h
-  steps_or_fault None x f h i = i
+  one_paths : (texts : List (List ℕ)) (xs ys : List Wanted) → ArePaths rows root texts xs → ArePaths rows root texts ys → xs ≡ ys
+  one_paths [] [] [] h i = refl
+  one_paths [] [] (y ∷ ys) h i = absurd i
+  one_paths [] (x ∷ xs) ys h i = absurd h
+  one_paths (t ∷ texts) [] ys h i = absurd h
+  one_paths (t ∷ texts) (x ∷ xs) [] h i = absurd i
+  one_paths (t ∷ texts) (x ∷ xs) (y ∷ ys) h i = ap (λ w. w ∷ xs) (one_path t x y h.0 i.0) ∙ ap (λ l. y ∷ l) (one_paths texts xs ys h.1 i.1)
 
-  one_path_fault : (text : Option (List ℕ)) (f g : PathFault) → IsPathFault rows root text f → IsPathFault rows root text g → f ≡ g
-  one_path_fault (Some t) f g h i = let e : Err f ≡ Err g = one_answer rows root t (Err f) (Err g) h i in cc
-  one_path_fault None f g h i = absurd h
+  -- a text that names a path has no fault
+  steps_or_fault : (text : List ℕ) (x : List Step) (f : PathFault) → Resolves rows root text x → IsFault rows root text f → ⊥
+  steps_or_fault text x f h i = let e : Ok x ≡ Err f = one_answer rows root text (Ok x) (Err f) h i in cc
+
+  paths_or_fault : (texts : List (List ℕ)) (xs : List Wanted) (f : PathFault) → ArePaths rows root texts xs → IsPathFault rows root texts f → ⊥
+  paths_or_fault [] xs f h i = i
+  paths_or_fault (t ∷ texts) [] f h i = h
+  paths_or_fault (t ∷ texts) (x ∷ xs) f h (inl fault) = steps_or_fault t x.steps f h.0.1 fault
+  paths_or_fault (t ∷ texts) (x ∷ xs) f h (inr (steps, resolves, rest)) = paths_or_fault texts xs f h.1 rest
+
+  one_path_fault : (texts : List (List ℕ)) (f g : PathFault) → IsPathFault rows root texts f → IsPathFault rows root texts g → f ≡ g
+  one_path_fault [] f g h i = absurd h
+  one_path_fault (t ∷ texts) f g (inl h) (inl i) = let e : Err f ≡ Err g = one_answer rows root t (Err f) (Err g) h i in cc
+  one_path_fault (t ∷ texts) f g (inl h) (inr (steps, resolves, rest)) = absurd (steps_or_fault t steps f resolves h)
+  one_path_fault (t ∷ texts) f g (inr (steps, resolves, rest)) (inl i) = absurd (steps_or_fault t steps g resolves i)
+  one_path_fault (t ∷ texts) f g (inr (steps, resolves, rest)) (inr (others, leads, more)) = one_path_fault texts f g rest more
 
 same_root : (r : Option ℕ) (n m : ℕ) → r ≡ Some n → r ≡ Some m → n ≡ m
 same_root r n m e f = let w : Some n ≡ Some m = sym e ∙ f in cc
@@ -43,17 +62,21 @@ no_root_or_one : (r : Option ℕ) (n : ℕ) → r ≡ Some n → r ≡ None → 
 no_root_or_one r n e f = let w : Some n ≡ None = sym e ∙ f in cc
 
 module _ (rows : Rows) (own : Own) (settings : Settings) where
-  abbrev path_text : Option (List ℕ)
-  path_text = option_map string_bytes settings.path
+  abbrev texts : List (List ℕ)
+  texts = path_texts settings
+
+  -- a job is the same by the same paths
+  same_job : (root : ℕ) (ident : Ident) (x y : Vec Wanted Global) → x.items ≡ y.items → job_of rows (options_of settings root x ident) ≡ job_of rows (options_of settings root y ident)
+  same_job root ident x y same = ap (λ (paths : List Wanted). record (job_of rows (options_of settings root x ident)) { paths = paths }) same
 
   one_job : (x y : Job) → IsAsked rows own settings x → IsAsked rows own settings y → x ≡ y
   one_job x y h i =
       let r = same_root (asked_root rows own settings) h.root i.root h.root_is i.root_is in
-      let s = one_path rows i.root path_text h.steps i.steps (subst (λ n. IsPath rows n path_text h.steps) r h.steps_are) i.steps_are in
+      let s = one_paths rows i.root texts h.paths.items i.paths.items (subst (λ n. ArePaths rows n texts h.paths.items) r h.paths_are) i.paths_are in
       let w : Some h.ident ≡ Some i.ident = sym h.ident_is ∙ i.ident_is in
       let a : h.ident ≡ i.ident = cc in
-      h.job_is ∙ ap (λ n. job_of rows (options_of settings n h.steps h.ident)) r ∙ ap (λ t. job_of rows (options_of settings i.root t h.ident)) s
-      ∙ ap (λ d. job_of rows (options_of settings i.root i.steps d)) a ∙ sym i.job_is
+      h.job_is ∙ ap (λ n. job_of rows (options_of settings n h.paths h.ident)) r ∙ same_job i.root h.ident h.paths i.paths s
+      ∙ ap (λ d. job_of rows (options_of settings i.root i.paths d)) a ∙ sym i.job_is
 
   job_or_no_ident : (x : Job) → IsAsked rows own settings x → LacksIdent rows own settings → ⊥
   job_or_no_ident x h i = let w : Some h.ident ≡ None = sym h.ident_is ∙ i.none in cc
@@ -61,17 +84,17 @@ module _ (rows : Rows) (own : Own) (settings : Settings) where
   no_ident_or_path_fault : (f : PathFault) → LacksIdent rows own settings → HasPathFault rows own settings f → ⊥
   no_ident_or_path_fault f h i =
       let r = same_root (asked_root rows own settings) h.root i.0 h.root_is i.1 in
-      steps_or_fault rows i.0 path_text h.steps f (subst (λ n. IsPath rows n path_text h.steps) r h.steps_are) i.2
+      paths_or_fault rows i.0 texts h.paths f (subst (λ n. ArePaths rows n texts h.paths) r h.paths_are) i.2
 
   job_or_path_fault : (x : Job) (f : PathFault) → IsAsked rows own settings x → HasPathFault rows own settings f → ⊥
   job_or_path_fault x f h i =
       let r = same_root (asked_root rows own settings) h.root i.0 h.root_is i.1 in
-      steps_or_fault rows i.0 path_text h.steps f (subst (λ n. IsPath rows n path_text h.steps) r h.steps_are) i.2
+      paths_or_fault rows i.0 texts h.paths.items f (subst (λ n. ArePaths rows n texts h.paths.items) r h.paths_are) i.2
 
   one_fault_of_path : (f g : PathFault) → HasPathFault rows own settings f → HasPathFault rows own settings g → f ≡ g
   one_fault_of_path f g h i =
       let r = same_root (asked_root rows own settings) h.0 i.0 h.1 i.1 in
-      one_path_fault rows i.0 path_text f g (subst (λ n. IsPathFault rows n path_text f) r h.2) i.2
+      one_path_fault rows i.0 texts f g (subst (λ n. IsPathFault rows n texts f) r h.2) i.2
 
   asks_by_once : (x y : Result Job AskFault) → AsksBy rows own settings x → AsksBy rows own settings y → x ≡ y
   asks_by_once (Ok x) (Ok y) h i = ap Ok (one_job x y h i)

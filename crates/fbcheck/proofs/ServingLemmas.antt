@@ -1,25 +1,30 @@
 -- What the program comes to.
-use Rattle.std.proofs.Common.{◌≡◌, ◌∙◌, ℕ, List, Option, Some, None, Result, Ok, Err, ap, length, refl, take, sym, subst}
+use Rattle.std.proofs.Common.{◌≡◌, ◌≢◌, ◌==◌, ◌∙◌, ℕ, Bool, true, false, true≢false, List, [], ◌∷◌, Option, Some, None, Result, Ok, Err, ap, length, refl, take, sym, subst}
 use mathlib.Core.Logic.{inl}
 use Rattle.std.specs.Borrow.{Bor}
 use Rattle.std.specs.Io.KnownBytes.{Appends}
 use Rattle.std.specs.Prelude.{String, Vec, map, option_map, string_bytes, vec_items}
 use Rattle.std.proofs.KnownBytes.{Keeps-refl}
+use Rattle.std.proofs.lemmas.Bool.{eq-eqb, eqb-true}
+use Rattle.std.proofs.lemmas.List.{length-map, nil_from_length}
 use Rattle.std.proofs.Math.Seq.{take-length}
 use Rattle.clap.specs.Walk.{Text}
 use Rattle.fbcheck_words.specs.Refusal.{Refuses}
-use Rattle.fbcheck.specs.Checking.{RunsAsAsked}
+use Rattle.fbcheck.specs.Checking.{IsPromptAmongAsked, IsPromptAsAsked, IsPromptOverAsked, RunsAsAsked, ServesAsAsked, names_in}
+use Rattle.fbcheck.specs.Inputs.{IsPromptAmong, IsPromptOver}
+use Rattle.fb_run.specs.Job.{Job}
 use Rattle.fb_run.specs.Ends.{Ends, Reader, Writer, beside}
-use Rattle.fb_run.specs.Faults.{End}
+use Rattle.fb_run.specs.Faults.{End, EndsBeside}
 use Rattle.fb_run.specs.Sums.{summary_line}
-use Rattle.fbcheck.specs.Serving.{ChecksAsGiven, ComesBy, ComesTo, HoldsAsGiven, IsFile, IsPromptAsGiven, SumsUp, Unserved, lent_bytes, summed, words_of}
+use Rattle.fbcheck.specs.Serving.{ChecksAsGiven, ComesBy, ComesTo, HoldsAsGiven, IsFile, IsPromptAsGiven, EndsSo, PassesAsGiven, SumsUp, Unserved, files_ending, lent_bytes, run_ending, summed, words_of}
 use Rattle.fbcheck_words.specs.Given.{AreGiven}
 use Rattle.fbcheck_words.specs.declared.choices.Settings.{Settings}
 use Rattle.fbcheck_words.specs.declared.choices.SettingsFault.{SettingsFault}
 use Rattle.fbcheck.specs.declared.files.FileFault.{FileFault}
 use Rattle.fb_run.specs.declared.tally.Tally.{Tally}
 use Rattle.fbcheck.specs.declared.stop.Ending.{Ending}
-use Rattle.fbcheck.specs.declared.stop.Ending.TheVariants.{Checked}
+use Rattle.fbcheck.specs.declared.inputs.Course.{Course}
+use Rattle.fbcheck.specs.declared.stop.Ending.TheVariants.{Checked, Passed}
 use Rattle.fbcheck.specs.declared.stop.Stop.{Stop}
 use Rattle.fbcheck.specs.declared.stop.Stop.TheVariants as stop
 use Rattle.fbcheck.specs.declared.stop.WordsFault.{WordsFault}
@@ -29,7 +34,9 @@ module _ (gives : Text → Result (List ℕ) FileFault → Type 0) where
   pub comes_unserved : (given : List Text) (reader : Reader) (writer writer' notes : Writer) (fault : SettingsFault) (outcome : Result Ending Stop) → Refuses given fault → Unserved fault writer writer' outcome
       → ComesBy gives given (beside reader (record { writer = writer; notes = notes })) (beside reader (record { writer = writer'; notes = notes })) None outcome
   comes_unserved given reader writer writer' notes fault (Ok (Checked tally)) refuses never = absurd never
+  comes_unserved given reader writer writer' notes fault (Ok (Passed course)) refuses never = absurd never
   comes_unserved given reader writer writer' notes fault (Err (stop.Run cause)) refuses never = absurd never
+  comes_unserved given reader writer writer' notes fault (Err (stop.Halted cause)) refuses never = absurd never
   comes_unserved given reader writer writer' notes fault (Err (stop.Ask cause)) refuses never = absurd never
   comes_unserved given reader writer writer' notes fault (Err (stop.File cause hint)) refuses never = absurd never
   comes_unserved given reader writer writer' notes fault (Err (stop.Unsummed written)) refuses never = absurd never
@@ -42,7 +49,7 @@ module _ (gives : Text → Result (List ℕ) FileFault → Type 0) where
     settings = settings;
     file = file;
     are_given = are;
-    is_file = subst (λ (t : Option Text). IsFile gives t (lent_bytes file)) are.schema
+    is_file = subst (λ (t : Option Text). IsFile gives t (lent_bytes file)) are.said.schema
         (subst (λ (b : Option (List ℕ)). IsFile gives (option_map string_bytes settings.schema) b) (sym lent) is);
     holds = holds;
   }
@@ -50,9 +57,51 @@ module _ (gives : Text → Result (List ℕ) FileFault → Type 0) where
   -- the buffers were checked by these settings
   pub checks_given : (given : List Text) (settings : Settings) (file : Option (Bor (List ℕ))) (bytes : Option (List ℕ)) (before after : Ends) (tally : Tally) (sums : Option Tally)
       (end end' : End) → end ≡ end' → AreGiven given settings → lent_bytes file ≡ bytes → IsFile gives (option_map string_bytes settings.schema) bytes
-      → RunsAsAsked file settings before after tally end → sums ≡ summed settings.summary tally → ChecksAsGiven gives given before after sums tally end'
-  checks_given given settings file bytes before after tally sums end end' same are lent is ran counted =
-      holds_given given settings file bytes _ are lent is (subst (λ (e : End). RunsAsAsked file settings before after tally e) same ran, counted)
+      → names_in settings ≡ [] → RunsAsAsked file settings before after tally end → sums ≡ summed settings.summary tally → ChecksAsGiven gives given before after sums tally end'
+  checks_given given settings file bytes before after tally sums end end' same are lent is none ran counted =
+      holds_given given settings file bytes _ are lent is (none, subst (λ (e : End). RunsAsAsked file settings before after tally e) same ran, counted)
+
+  -- files were gone through by these settings
+  pub passes_given : (given : List Text) (settings : Settings) (file : Option (Bor (List ℕ))) (bytes : Option (List ℕ)) (before after : Ends) (course : Course) (sums : Option Tally)
+      (end end' : End) → end ≡ end' → AreGiven given settings → lent_bytes file ≡ bytes → IsFile gives (option_map string_bytes settings.schema) bytes
+      → names_in settings ≢ [] → ServesAsAsked gives file settings before after course end → sums ≡ summed settings.summary course.tally → PassesAsGiven gives given before after sums course end'
+  passes_given given settings file bytes before after course sums end end' same are lent is some served counted =
+      holds_given given settings file bytes _ are lent is (some, subst (λ (e : End). ServesAsAsked gives file settings before after course e) same served, counted)
+
+  -- the program ends by the end of the run, or of the files
+  pub comes_run : (given : List Text) (before after : Ends) (sums : Option Tally) (tally : Tally) (end : End) (outcome : Result Ending Stop) → outcome ≡ run_ending tally end
+      → ChecksAsGiven gives given before after sums tally end → ComesBy gives given before after sums outcome
+  comes_run given before after sums tally (Ok done) outcome is checks = subst (λ (o : Result Ending Stop). ComesBy gives given before after sums o) (sym is) checks
+  comes_run given before after sums tally (Err fault) outcome is checks = subst (λ (o : Result Ending Stop). ComesBy gives given before after sums o) (sym is) (tally, checks)
+
+  pub comes_files : (given : List Text) (before after : Ends) (sums : Option Tally) (course : Course) (end : End) (outcome : Result Ending Stop) → outcome ≡ files_ending course end
+      → PassesAsGiven gives given before after sums course end → ComesBy gives given before after sums outcome
+  comes_files given before after sums course (Ok done) outcome is passes = subst (λ (o : Result Ending Stop). ComesBy gives given before after sums o) (sym is) passes
+  comes_files given before after sums course (Err fault) outcome is passes = subst (λ (o : Result Ending Stop). ComesBy gives given before after sums o) (sym is) (course, passes)
+
+  -- the end of files says nothing of the counts
+  pub files_end_so : (before after : Ends) (turns : ℕ) (course : Course) (end : End) (outcome : Result Ending Stop) → outcome ≡ files_ending course end → EndsSo before after turns outcome
+  files_end_so before after turns course (Ok done) outcome is = subst (λ (o : Result Ending Stop). EndsSo before after turns o) (sym is) tt
+  files_end_so before after turns course (Err fault) outcome is = subst (λ (o : Result Ending Stop). EndsSo before after turns o) (sym is) tt
+
+  -- and that of a run what the run does
+  pub run_ends_so : (before after : Ends) (turns : ℕ) (tally : Tally) (end : End) (outcome : Result Ending Stop) → outcome ≡ run_ending tally end → EndsBeside before after turns end
+      → EndsSo before after turns outcome
+  run_ends_so before after turns tally (Ok done) outcome is ends = subst (λ (o : Result Ending Stop). EndsSo before after turns o) (sym is) ends
+  run_ends_so before after turns tally (Err fault) outcome is ends = subst (λ (o : Result Ending Stop). EndsSo before after turns o) (sym is) ends
+
+  -- all that was read is told, where no file is named, and among files
+  pub prompt_alone : (file : Option (Bor (List ℕ))) (settings : Settings) (before now : Ends) → names_in settings ≡ [] → IsPromptAsAsked file settings before now
+      → IsPromptOverAsked gives file settings before now
+  prompt_alone file settings before now none (job, asks, prompt) = (job, asks, subst (λ (names : List Text). IsPromptOver gives job names before now) (sym none) prompt)
+
+  over_some : (job : Job) (names : List Text) (before now : Ends) → names ≢ [] → IsPromptAmong gives job names before now → IsPromptOver gives job names before now
+  over_some job [] before now some among = absurd (some refl)
+  over_some job (name ∷ names) before now some among = among
+
+  pub prompt_among : (file : Option (Bor (List ℕ))) (settings : Settings) (before now : Ends) → names_in settings ≢ [] → IsPromptAmongAsked gives file settings before now
+      → IsPromptOverAsked gives file settings before now
+  prompt_among file settings before now some (job, asks, among) = (job, asks, over_some job (names_in settings) before now some among)
 
   -- the words could be read
   pub comes_read : {A B : Type 0} (given : Result (Vec (String A) B) WordsFault) (words : Vec (String A) B) (slice : List (String A)) (before after : Ends) (sums : Option Tally) (outcome : Result Ending Stop)
@@ -66,6 +115,16 @@ module _ (gives : Text → Result (List ℕ) FileFault → Type 0) where
   prompt_read {A} {B} given words slice before now is same prompt =
       subst (λ (g : Result (Vec (String A) B) WordsFault). IsPromptAsGiven gives (words_of g) before now) (sym is)
       (subst (λ (l : List (String A)). IsPromptAsGiven gives (Ok (map string_bytes l)) before now) same prompt)
+
+-- whether files are named, by how many there are
+pub none_named : {Z : Type 0} (files slice : List (String Z)) (empty : Bool) → slice ≡ files → empty ≡ (length slice == 0) → empty ≡ true → map string_bytes files ≡ []
+none_named files slice empty same is named =
+    ap (λ l. map string_bytes l) (sym same ∙ nil_from_length slice (eqb-true (length slice) 0 (sym is ∙ named)))
+
+pub some_named : {Z : Type 0} (files slice : List (String Z)) (empty : Bool) → slice ≡ files → empty ≡ (length slice == 0) → empty ≡ false → map string_bytes files ≢ []
+some_named files slice empty same is named none =
+    let zero : length slice ≡ 0 = ap length same ∙ sym (length-map files string_bytes) ∙ ap length none in
+    true≢false (sym (eq-eqb (length slice) 0 zero) ∙ sym is ∙ named)
 
 -- a summary was noted whole, or in part
 pub sums_noted : (sums : Option Tally) (tally : Tally) (before after : Writer) (outcome : Result Ending Stop) (line : List ℕ) (written : ℕ)

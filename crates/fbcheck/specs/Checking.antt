@@ -1,5 +1,5 @@
 -- A run by the schema of a file, or without one by the fixed table of schema files.
-use Rattle.std.specs.Prelude.{◌≡◌, ℕ, Bool, List, Option, Some, None, Result, Ok, Err, min, length, codes, option_map, string_bytes}
+use Rattle.std.specs.Prelude.{◌≡◌, ℕ, List, Option, Some, None, Result, Ok, Err, min, length, codes, map, option_map, string_bytes}
 use Rattle.std.specs.Borrow.{Bor}
 use Rattle.std.specs.Io.KnownBytes.{Keeps}
 use Rattle.fb_schema.specs.Rows.{Rows}
@@ -12,6 +12,7 @@ use Rattle.fb_bfbs.specs.declared.load_fault.LoadFault.TheVariants as load
 use Rattle.fb_bfbs.specs.LoadLaws.{ident_bytes}
 use Rattle.fbcheck.specs.Asked.{AsksBy, Own, asked_root}
 use Rattle.fbcheck.specs.Hints.{hint_text, path_hint, root_hint, schema_hint}
+use Rattle.fbcheck.specs.Inputs.{IsPromptAmong, IsPromptOver, ServesEach, at_first, stand}
 use Rattle.fb_run.specs.Ends.{Ends, Unwritten}
 use Rattle.fb_run.specs.Job.{Job}
 use Rattle.fb_run.specs.Prompt.{IsPrompt}
@@ -20,6 +21,9 @@ use Rattle.fbcheck_words.specs.declared.choices.Settings.{Settings}
 use Rattle.fbcheck.specs.declared.fault.AskFault.{AskFault}
 use Rattle.fbcheck.specs.declared.fault.AskFault.TheVariants.{Load, NoRoot, Path, OutOfMemory}
 use Rattle.fbcheck.specs.declared.hint.Unasked.{Unasked}
+use Rattle.fbcheck.specs.declared.files.FileFault.{FileFault}
+use Rattle.fbcheck.specs.declared.inputs.Course.{Course}
+use Rattle.fbcheck.specs.declared.inputs.Passed.{Passed}
 use Rattle.fbcheck.specs.declared.fault.CheckFault.{CheckFault}
 use Rattle.fbcheck.specs.declared.fault.CheckFault.TheVariants as check
 use Rattle.fb_run.specs.Faults.{End, EndsBeside, IsUnfailed, failures_of}
@@ -98,6 +102,20 @@ IsChecked file settings before after (Ok tally) = RunsAsAsked file settings befo
 IsChecked file settings before after (Err (check.Run fault)) = (tally : Tally) × RunsAsAsked file settings before after tally (Err fault)
 IsChecked file settings before after (Err (check.Ask fault)) = LacksJob file settings fault × IsIdle before after
 
+-- the names of the files that the settings ask for
+abbrev pub names_in : Settings → List (List ℕ)
+names_in settings = map string_bytes settings.files.items
+
+-- what came of these files, gone through as was asked for, and what was read, written and noted
+abbrev pub ServesAsAsked : (List ℕ → Result (List ℕ) FileFault → Type 0) → Option (Bor (List ℕ)) → Settings → Ends → Ends → Course → End → Type 0
+ServesAsAsked gives file settings before after course end =
+    (job : Job) × Asks file settings (Ok job) × ServesEach gives job (names_in settings) (at_first before) (stand after course) end
+
+-- the same where it may be that none was begun
+abbrev pub IsServedEach : (List ℕ → Result (List ℕ) FileFault → Type 0) → Option (Bor (List ℕ)) → Settings → Ends → Ends → Result Passed Unasked → Type 0
+IsServedEach gives file settings before after (Ok passed) = ServesAsAsked gives file settings before after passed.course passed.end
+IsServedEach gives file settings before after (Err unasked) = IsUntold file settings unasked × IsIdle before after
+
 -- there was nothing to check by
 abbrev pub IsUnasked : CheckFault → Type 0
 IsUnasked (check.Ask fault) = Unit {0}
@@ -112,3 +130,11 @@ EndsChecked before after turns (Err (check.Ask fault)) = IsUnfailed (failures_of
 -- all that was read by now is told, of a run that was asked for
 abbrev pub IsPromptAsAsked : Option (Bor (List ℕ)) → Settings → Ends → Ends → Type 0
 IsPromptAsAsked file settings before now = (job : Job) × Asks file settings (Ok job) × IsPrompt job before now
+
+-- the same where files are gone through
+abbrev pub IsPromptAmongAsked : (List ℕ → Result (List ℕ) FileFault → Type 0) → Option (Bor (List ℕ)) → Settings → Ends → Ends → Type 0
+IsPromptAmongAsked gives file settings before now = (job : Job) × Asks file settings (Ok job) × IsPromptAmong gives job (names_in settings) before now
+
+-- and whether or not they are
+abbrev pub IsPromptOverAsked : (List ℕ → Result (List ℕ) FileFault → Type 0) → Option (Bor (List ℕ)) → Settings → Ends → Ends → Type 0
+IsPromptOverAsked gives file settings before now = (job : Job) × Asks file settings (Ok job) × IsPromptOver gives job (names_in settings) before now

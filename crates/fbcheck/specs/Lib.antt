@@ -2,6 +2,8 @@
 pub mod Faults
 pub mod Asked
 pub mod Hints
+pub mod Inputs
 pub mod Checking
 pub mod Serving
 pub mod CheckLaws
+pub mod InputTests

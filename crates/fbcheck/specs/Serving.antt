@@ -1,10 +1,10 @@
 -- What the program does, from its words to its exit status.
-use Rattle.std.specs.Prelude.{◌≡◌, ℕ, ◌+◌, ◌<◌, ◌⊎◌, ◌++◌, length, Bool, true, false, List, [], Option, Some, None, Result, Ok, Err, Vec, String, codes, map, option_map, string_bytes, string_len, vec_items}
+use Rattle.std.specs.Prelude.{◌≡◌, ◌≢◌, ℕ, ◌+◌, ◌<◌, ◌⊎◌, ◌++◌, length, Bool, true, false, List, [], Option, Some, None, Result, Ok, Err, Vec, String, codes, map, option_map, string_bytes, string_len, vec_items}
 use Rattle.std.specs.Borrow.{Bor}
 use Rattle.std.specs.Io.KnownBytes.{Appends, Keeps}
 use Rattle.clap.specs.Walk.{Text}
 use Rattle.clap.specs.Faults.{fault_of}
-use Rattle.fbcheck.specs.Checking.{IsIdle, IsPromptAsAsked, IsUntold, RunsAsAsked}
+use Rattle.fbcheck.specs.Checking.{IsIdle, IsPromptOverAsked, IsUntold, RunsAsAsked, ServesAsAsked, names_in}
 use Rattle.fbcheck.specs.Hints.{file_hint, hint_text}
 use Rattle.fbcheck.specs.Faults.{ask_status}
 use Rattle.fbcheck_words.specs.CommandLine.{program}
@@ -20,10 +20,11 @@ use Rattle.fbcheck_words.specs.declared.choices.SettingsFault.{SettingsFault}
 use Rattle.fbcheck_words.specs.declared.choices.SettingsFault.TheVariants as refusal
 use Rattle.fbcheck.specs.declared.files.FileFault.{FileFault}
 use Rattle.fbcheck.specs.declared.files.FileFault.TheVariants as file_fault
+use Rattle.fbcheck.specs.declared.inputs.Course.{Course}
 use Rattle.fb_run.specs.declared.fault.RunFault.TheVariants.{WriteFault}
 use Rattle.fb_run.specs.declared.tally.Tally.{Tally}
 use Rattle.fbcheck.specs.declared.stop.Ending.{Ending}
-use Rattle.fbcheck.specs.declared.stop.Ending.TheVariants.{Helped, Checked}
+use Rattle.fbcheck.specs.declared.stop.Ending.TheVariants.{Helped, Checked, Passed}
 use Rattle.fbcheck.specs.declared.stop.Stop.{Stop}
 use Rattle.fbcheck.specs.declared.stop.Stop.TheVariants as stop
 use Rattle.fbcheck.specs.declared.stop.WordsFault.{WordsFault}
@@ -66,14 +67,29 @@ abbrev pub summed : Bool → Tally → Option Tally
 summed false tally = None
 summed true tally = Some tally
 
--- the buffers were checked as the words ask, this was counted, and these numbers are to be told
+-- the buffers of standard input were checked as the words ask, which name no files, this was counted, and these numbers
+-- are to be told
 abbrev pub ChecksAsGiven : (Text → Result (List ℕ) FileFault → Type 0) → List Text → Ends → Ends → Option Tally → Tally → End → Type 0
 ChecksAsGiven gives given before after sums tally end =
-    HoldsAsGiven gives given (λ file settings. RunsAsAsked file settings before after tally end × (sums ≡ summed settings.summary tally))
+    HoldsAsGiven gives given (λ file settings. (names_in settings ≡ []) × RunsAsAsked file settings before after tally end × (sums ≡ summed settings.summary tally))
+
+-- files were gone through as the words ask, they came to this, and these numbers are to be told
+abbrev pub PassesAsGiven : (Text → Result (List ℕ) FileFault → Type 0) → List Text → Ends → Ends → Option Tally → Course → End → Type 0
+PassesAsGiven gives given before after sums course end =
+    HoldsAsGiven gives given (λ file settings. (names_in settings ≢ []) × ServesAsAsked gives file settings before after course end × (sums ≡ summed settings.summary course.tally))
+
+-- how the program ends by the end of a run, and of files
+abbrev pub run_ending : Tally → End → Result Ending Stop
+run_ending tally (Ok done) = Ok (Checked tally)
+run_ending tally (Err fault) = Err (stop.Run fault)
+
+abbrev pub files_ending : Course → End → Result Ending Stop
+files_ending course (Ok done) = Ok (Passed course)
+files_ending course (Err fault) = Err (stop.Halted fault)
 
 -- all that was read by now is told, of a run that the words ask for; they could be read
 abbrev pub IsPromptAsGiven : (Text → Result (List ℕ) FileFault → Type 0) → Result (List Text) WordsFault → Ends → Ends → Type 0
-IsPromptAsGiven gives (Ok given) before now = HoldsAsGiven gives given (λ file settings. IsPromptAsAsked file settings before now)
+IsPromptAsGiven gives (Ok given) before now = HoldsAsGiven gives given (λ file settings. IsPromptOverAsked gives file settings before now)
 IsPromptAsGiven gives (Err fault) before now = ⊥
 
 -- an error of `clap`
@@ -103,6 +119,8 @@ IsUnserved given before after outcome =
 abbrev pub ComesBy : (Text → Result (List ℕ) FileFault → Type 0) → List Text → Ends → Ends → Option Tally → Result Ending Stop → Type 0
 ComesBy gives given before after sums (Ok (Checked tally)) = ChecksAsGiven gives given before after sums tally (Ok tt)
 ComesBy gives given before after sums (Err (stop.Run fault)) = (tally : Tally) × ChecksAsGiven gives given before after sums tally (Err fault)
+ComesBy gives given before after sums (Ok (Passed course)) = PassesAsGiven gives given before after sums course (Ok tt)
+ComesBy gives given before after sums (Err (stop.Halted fault)) = (course : Course) × PassesAsGiven gives given before after sums course (Err fault)
 ComesBy gives given before after sums (Err (stop.Ask unasked)) =
     HoldsAsGiven gives given (λ file settings. IsUntold file settings unasked) × IsIdle before after × (sums ≡ None)
 ComesBy gives given before after sums (Err (stop.File fault hint)) =
@@ -115,10 +133,13 @@ ComesTo gives (Ok given) before after sums outcome = ComesBy gives given before 
 ComesTo gives (Err fault) before after sums (Err (stop.Words told)) = (told ≡ fault) × IsIdle before after × (sums ≡ None)
 ComesTo gives (Err fault) before after sums _ = ⊥
 
--- how it ended, with so many reads at most: a run by its end or its cause, help by whether a write failed
+-- how it ended, with so many reads at most: a run by its end or its cause, help by whether a write failed; of files that
+-- stands with each of them
 abbrev pub EndsSo : Ends → Ends → ℕ → Result Ending Stop → Type 0
 EndsSo before after turns (Ok (Checked tally)) = EndsBeside before after turns (Ok tt)
 EndsSo before after turns (Err (stop.Run fault)) = EndsBeside before after turns (Err fault)
+EndsSo before after turns (Ok (Passed course)) = Unit {0}
+EndsSo before after turns (Err (stop.Halted fault)) = Unit {0}
 EndsSo before after turns (Err (stop.CutOff written)) = EndsBeside before after turns (Err (WriteFault written))
 EndsSo before after turns _ = IsUnfailed (failures_of before) (failures_of after)
 
@@ -131,6 +152,7 @@ IsNoted text before after =
 -- a run that came to its end stops for want of its summary; all else ends as it would without
 abbrev pub unsummed : Result Ending Stop → ℕ → Result Ending Stop
 unsummed (Ok (Checked tally)) written = Err (stop.Unsummed written)
+unsummed (Ok (Passed course)) written = Err (stop.Unsummed written)
 unsummed outcome written = outcome
 
 -- where numbers are to be told, their line is noted, or a front of it in a write that failed
@@ -164,11 +186,13 @@ stop_status (stop.File (file_fault.Unreadable cause) hint) = 2
 stop_status (stop.File file_fault.OutOfMemory hint) = 3
 stop_status (stop.Ask unasked) = ask_status unasked.fault
 stop_status (stop.Run fault) = status_of (Err fault)
+stop_status (stop.Halted fault) = status_of (Err fault)
 
 -- the exit status
 abbrev pub exit_status : Result Ending Stop → ℕ
 exit_status (Ok Helped) = 0
 exit_status (Ok (Checked tally)) = status_of (Ok tally)
+exit_status (Ok (Passed course)) = course.status
 exit_status (Err cause) = stop_status cause
 
 -- The program did what its words ask with at most so many reads, told behind its notes the numbers that they ask for and

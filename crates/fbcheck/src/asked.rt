@@ -1,22 +1,24 @@
 //! What a schema file, or none, and the settings of the command line ask of a run.
 
-ghost use Rattle.std.specs.Prelude.{ℕ, Option, IfOk, IfErr, IfSome, IsTrue, Ok, ◌≡◌, ◌≤◌, option_map, string_bytes};
+ghost use Rattle.std.specs.Prelude.{ℕ, Option, IfOk, IfErr, IfSome, IsTrue, Ok, ◌≡◌, ◌≤◌, length, map, option_map, string_bytes};
 ghost use Rattle.fb_schema.specs.Rows.{is_table};
 ghost use Rattle.fb_bfbs.specs.LoadLaws.{ident_bytes};
-ghost use Rattle.fbcheck.specs.Asked.{IsPath, PathFails, asked_ident, ident_of, mode_of, options_of, own_ident, places_of, root_of};
+ghost use Rattle.fbcheck.specs.Asked.{ArePaths, IsPath, PathFails, PathsFail, asked_ident, form_of, ident_of, mode_of, options_of, places_of, prefix_of, root_of};
 ghost use Rattle.fbcheck.specs.Checking.{Asks, IsSchema, IsUntold, LacksSchema, own_of, schema_limits};
 ghost use Rattle.fbcheck_words.specs.Ranges.{AreInRange};
 ghost use Rattle.fbcheck_words.specs.declared.choices.Settings.{Settings};
-ghost use Rattle.fb_run.specs.Job.{PathFits, Serves, job_of};
+ghost use Rattle.fb_run.specs.Job.{PathsFit, Serves, job_of};
+ghost use Rattle.fb_access.specs.Fitting.{StepsFit};
+ghost use Rattle.fb_schema.specs.declared.kinds.Kind.TheVariants.{Table};
 
 use crate::fault::AskFault;
 use crate::hint::{Unasked, path_hint, root_hint, schema_hint};
 use fb_access::Path;
-use fb_bfbs::{Loaded, load, reflection};
-use fb_run::{Mode, Options, Places};
+use fb_bfbs::{Loaded, load, own_ident, reflection};
+use fb_run::{AskedPath, Form, Mode, Options, Places, Prefix};
 use fb_schema::Schema;
-use fb_verify::{Checks, Ident, Limits};
-use fbcheck_words::Settings;
+use fb_verify::{Ident, Limits};
+use fbcheck_words::{Form as AskedForm, Settings};
 use std::alloc::Global;
 
 /// The number of the table `reflection.Schema` in the fixed table (reflection.fbs).
@@ -64,22 +66,44 @@ fn find_root(schema: &Schema<'_>, name: &Option<String>, own: Option<u32>) -> Op
     }
 }
 
-/// The path that a text names from the root, where there is a text.
+/// The path that a text names from the root.
 fn find_path(
     alloc: Global,
     schema: &Schema<'_>,
     root: u32,
-    text: &Option<String>,
-) -> Result<Option<Path>, AskFault>
+    text: &String,
+) -> Result<AskedPath, AskFault>
     requires { IsTrue (is_table schema.now root) }
-    ensures path { IfOk result (λ path. IsPath schema.now root (option_map string_bytes text.now) path) }
-    ensures fits { IfOk result (λ path. PathFits schema.now root path) }
-    ensures fault { IfErr result (PathFails schema.now root (option_map string_bytes text.now)) }
+    ensures path { IfOk result (IsPath schema.now root (string_bytes text.now)) }
+    ensures fits { IfOk result (λ path. StepsFit schema.now (Table root) path.steps) }
+    ensures fault { IfErr result (PathFails schema.now root (string_bytes text.now)) }
 {
-    match text {
-        Some(text) => Ok(Some(Path::resolve(alloc, schema, root, text.as_bytes())?)),
-        None => Ok(None),
+    let path = Path::resolve(alloc, schema, root, text.as_bytes())?;
+    let text = text.as_bytes().to_vec(alloc)?;
+    Ok(AskedPath::new(path, text))
+}
+
+/// The paths that texts name from the root, in their order, or why the first that names none does not.
+fn find_paths(
+    alloc: Global,
+    schema: &Schema<'_>,
+    root: u32,
+    texts: &[String],
+) -> Result<Vec<AskedPath>, AskFault>
+    requires { IsTrue (is_table schema.now root) }
+    ensures paths { IfOk result (λ paths. ArePaths schema.now root (map string_bytes texts.now) paths.items) }
+    ensures fits { IfOk result (λ paths. PathsFit schema.now root paths.items) }
+    ensures count { IfOk result (λ paths. length paths.items ≡ length texts.now) }
+    ensures fault { IfErr result (PathsFail schema.now root (map string_bytes texts.now)) }
+{
+    let mut paths = Vec::new(alloc);
+    for text in texts {
+        let path = find_path(alloc, schema, root, text)?;
+        let Ok(()) = paths.push(path) else {
+            return Err(AskFault::OutOfMemory);
+        };
     }
+    Ok(paths)
 }
 
 /// The identifier that is asked for.
@@ -89,18 +113,6 @@ fn wanted(ident: Option<[u8; 4]>) -> Ident
     match ident {
         Some(bytes) => Ident::Want(bytes),
         None => Ident::Any,
-    }
-}
-
-/// The identifier that a schema's own asks for: any where it declares none, which `flatc` writes as one of no bytes,
-/// and none where it hasn't four.
-fn own_ident(own: Option<&[u8]>) -> Option<Ident>
-    ensures { result ≡ own_ident (ident_bytes own.entry) }
-{
-    match own {
-        None | Some(&[]) => Some(Ident::Any),
-        Some(&[a, b, c, d]) => Some(Ident::Want([a, b, c, d])),
-        Some(_) => None,
     }
 }
 
@@ -128,39 +140,55 @@ fn mode(settings: &Settings) -> Mode
     }
 }
 
-/// How the places of faults are told.
-fn places(settings: &Settings) -> Places
-    ensures { result ≡ places_of settings.now.names }
+/// How lines are written.
+fn form(settings: &Settings) -> Form
+    ensures { result ≡ form_of settings.now.form }
 {
-    if settings.names {
-        Places::Words
-    } else {
-        Places::Numbers
+    match settings.form {
+        AskedForm::Plain => Form::Plain,
+        AskedForm::Json => Form::Json,
     }
 }
 
-/// What the settings ask of each buffer, from this root, with this path and this identifier.
-fn options(settings: &Settings, root: u32, path: Option<Path>, ident: Ident) -> Options
-    requires { AreInRange settings.now }
-    ensures { result ≡ options_of settings.now root path ident }
+/// How the places of faults are told: lines of JSON always tell them in words.
+fn places(settings: &Settings) -> Places
+    ensures { result ≡ places_of settings.now.names settings.now.form }
 {
-    let Ok(limits) = Limits::new(settings.depth, settings.tables) else {
-        unreachable!()
-    };
+    match settings.form {
+        AskedForm::Plain if !settings.names => Places::Numbers,
+        _ => Places::Words,
+    }
+}
+
+/// What a message's prefix is.
+fn prefix(settings: &Settings) -> Prefix
+    ensures { result ≡ prefix_of settings.now.delimited }
+{
+    if settings.delimited {
+        Prefix::Apart
+    } else {
+        Prefix::Part
+    }
+}
+
+/// What the settings ask of each buffer, from this root, with these paths and this identifier.
+fn options(settings: &Settings, root: u32, paths: Vec<AskedPath>, ident: Ident) -> Options
+    ensures { result ≡ options_of settings.now root paths ident }
+{
     Options {
         root,
         ident,
-        path,
-        limits: limits.with_reads(settings.reads),
+        paths,
+        limits: settings.limits,
         reads_per_byte: settings.reads_per_byte,
         max_bytes: settings.max_bytes,
         bare: settings.bare,
-        checks: Checks {
-            alignment: settings.alignment,
-            inline_size: settings.inline_size,
-        },
+        prefix: prefix(settings),
+        checks: settings.checks,
         mode: mode(settings),
         names: places(settings),
+        label: None,
+        form: form(settings),
     }
 }
 
@@ -187,7 +215,7 @@ pub struct Asked<'b> {
 ///
 /// # Errors
 ///
-/// `Load` where the schema file gives no schema, then `NoRoot` where there is no root table, then `Path` where the path
+/// `Load` where the schema file gives no schema, then `NoRoot` where there is no root table, then `Path` where a path
 /// isn't one from there, and then `NoIdent` where the schema's own identifier is asked for and has neither no bytes nor
 /// four;
 /// `OutOfMemory` in place of any where memory was refused. Each with what is told behind it.
@@ -213,13 +241,13 @@ pub fn asked_of<'b>(
         let hint = root_hint(alloc, &schema, &settings.root);
         return Err(Unasked::new(AskFault::NoRoot, hint));
     };
-    let path = match find_path(alloc, &schema, root, &settings.path) {
-        Ok(path) => path,
+    let paths = match find_paths(alloc, &schema, root, settings.paths.as_slice()) {
+        Ok(paths) => paths,
         Err(fault) => return Err(Unasked::new(fault, path_hint(alloc, &schema, root, fault))),
     };
     let Some(ident) = find_ident(settings, ident) else {
         return Err(Unasked::plain(AskFault::NoIdent));
     };
-    let options = options(settings, root, path, ident);
+    let options = options(settings, root, paths, ident);
     Ok(Asked { schema, options })
 }

@@ -1,14 +1,17 @@
 //! A run by a schema file, as the settings of the command line ask.
 
-ghost use Rattle.std.specs.Prelude.{IfErr, IfOk, OnErr, length, ◌≡◌, ◌+◌, ◌<◌, ◌≤◌, ◌^◌};
+ghost use Rattle.std.specs.Prelude.{Err, IfErr, IfOk, OnErr, length, ◌≡◌, ◌⊎◌, ◌+◌, ◌<◌, ◌≤◌, ◌^◌};
 ghost use Rattle.fbcheck_words.specs.Ranges.{AreInRange};
-ghost use Rattle.fbcheck.specs.Checking.{EndsChecked, IsChecked, IsCheckedBeside, IsPromptAsAsked, IsUnasked};
+ghost use Rattle.fbcheck.specs.Checking.{EndsChecked, IsChecked, IsCheckedBeside, IsPromptAmongAsked, IsPromptAsAsked, IsServedEach, IsUnasked};
 ghost use Rattle.fb_run.specs.Faults.{EndsBeside};
+ghost use Rattle.fb_run.specs.declared.fault.RunFault.TheVariants.{TooManyTurns};
 ghost use Rattle.fb_run.specs.Ends.{HasCallsLeft, HasLeave, ends_of, noteless};
 
-use crate::asked::asked_of;
+use crate::asked::{Asked, asked_of};
 use crate::fault::CheckFault;
+use crate::files::Files;
 use crate::hint::Unasked;
+use crate::inputs::{Passed, pass_files};
 use fb_bytes::Sink;
 use fb_run::{Input, MOST_TURNS, Nowhere, Ran, Tally, run_beside};
 use fbcheck_words::Settings;
@@ -17,8 +20,8 @@ use std::alloc::Global;
 /// Checks the buffers of an input by the schema of a schema file (`.bfbs`), as the settings ask; without a file they
 /// are checked as schema files themselves, by the fixed table.
 ///
-/// The schema file is verified under the published limits and checks, and within 100,000,000 counted reads, and 64 a byte and 4,096 beside, whatever
-/// the settings say; these are for the buffers. The root is the table of the settings' name, or else that of the schema
+/// The schema file is verified under the published limits and checks, and within 100,000,000 counted reads, and 64 a byte
+/// and 4,096 beside, whatever the settings say; these are for the buffers. The root is the table of the settings' name, or else that of the schema
 /// file, or `reflection.Schema` without one.
 ///
 /// # Errors
@@ -59,6 +62,47 @@ pub fn check_beside<S: Input<K, N>, K: Sink, N: Sink>(
         &asked.schema,
         &asked.options,
         MOST_TURNS,
+    ))
+}
+
+/// The same of the files that the settings name, one behind another, as [`pass_files`] says.
+pub fn check_files<F: Files, S: Input<K, N>, K: Sink, N: Sink>(
+    alloc: Global,
+    files: &F,
+    schema_bytes: Option<&[u8]>,
+    settings: &Settings,
+    reader: &mut S,
+    writer: &mut K,
+    notes: &mut N,
+) -> Result<Passed, Unasked>
+    requires ranges { AreInRange settings.now }
+    requires few { HasCallsLeft S.Input K.Sink N.Sink reader.old writer.old notes.old }
+    requires leave { HasLeave S.Input (ends_of S.Input K.Sink N.Sink reader.old writer.old notes.old) (IsPromptAmongAsked (F.gives files.now) schema_bytes settings.now) }
+
+    ensures served { IsServedEach (F.gives files.now) schema_bytes.entry settings.now (ends_of S.Input K.Sink N.Sink reader.old writer.old notes.old)
+        (ends_of S.Input K.Sink N.Sink reader.new writer.new notes.new) result }
+    ensures places { IfOk result (λ passed. length passed.course.tally.reasons ≡ 13) }
+    ensures unread { OnErr result (reader.new ≡ reader.old) }
+    ensures unwritten { OnErr result (writer.new ≡ writer.old) }
+    ensures unnoted { OnErr result (notes.new ≡ notes.old) }
+    ensures noted { N.calls notes.new < 2 ^ 98 }
+    ensures turns { S.calls reader.new ≤ S.calls reader.old + MOST_TURNS }
+    ensures crowded { IfOk result (λ passed. passed.end ≡ Err TooManyTurns → (2 ^ 64 ≤ K.calls writer.new) ⊎ (2 ^ 64 ≤ N.calls notes.new)) }
+{
+    let asked = asked_of(alloc, schema_bytes, settings)?;
+    let Asked {
+        schema,
+        mut options,
+    } = asked;
+    Ok(pass_files(
+        alloc,
+        files,
+        settings.files.as_slice(),
+        &schema,
+        &mut options,
+        reader,
+        writer,
+        notes,
     ))
 }
 

@@ -1,7 +1,8 @@
-//! What follows from the definitions of what is asked alone. These functions have no body: their contracts are the
-//! theorems.
+//! What follows from the definitions of what is asked, and of files one behind another, alone. These functions have no
+//! body: their contracts are the theorems.
 
 ghost use Rattle.fbcheck.specs.CheckLaws.{AsksOnce};
+ghost use Rattle.fbcheck.specs.InputTests.{Courses, Labels};
 
 /// A schema file, or none, and the settings ask at most one thing: that the buffers are checked by one job, or that
 /// nothing is checked, for one cause: the file gives no schema, there is no root table, the path isn't one from
@@ -9,4 +10,11 @@ ghost use Rattle.fbcheck.specs.CheckLaws.{AsksOnce};
 /// [`check`](crate::check::check) tells each of these exactly where it is so, or want of memory in its place.
 pub fn settings_ask_once()
     ensures { AsksOnce }
+{}
+
+/// What two files come to, by example, and which name stands in a line.
+#[tactic(auto, using(crate::proofs::ShownInputs::courses_shown, crate::proofs::ShownInputs::labels_shown))]
+pub fn files()
+    ensures courses { Courses }
+    ensures labels { Labels }
 {}

@@ -1,16 +1,17 @@
-//! Where the bytes of a schema file come from.
+//! Where the bytes of a schema file come from, and those of files that are inputs.
 
-ghost use Rattle.std.specs.Prelude.{◌≡◌, IfOk, IfErr, Ok, Err, ℕ, List, Option, Result, option_map, string_bytes, vec_items};
+ghost use Rattle.std.specs.Prelude.{◌≡◌, IfOk, IfErr, IfSome, Ok, Err, ℕ, List, Option, Result, option_map, string_bytes, vec_items};
 ghost use Rattle.std.specs.IoError.{error_kind};
 ghost use Rattle.fbcheck.specs.Faults.{file_fault};
 ghost use Rattle.fbcheck.specs.Serving.{HasFileFault, IsFile};
 ghost use Rattle.fbcheck.specs.declared.files.FileFault.{FileFault};
 
+use fb_bytes::Source;
 use std::io;
 use std::io::ErrorKind;
 use thiserror::Error;
 
-/// Why a schema file can't be read.
+/// Why a file can't be read.
 #[derive(Clone, Copy, Debug, PartialEq, Eq, Error)]
 pub enum FileFault {
     /// It isn't there, or a read of it failed, for this cause.
@@ -35,12 +36,21 @@ impl FileFault {
 
 /// Files that are read by their names.
 pub trait Files {
+    /// A file that is open.
+    type Opened: Source + Drop;
+
     /// What a read of the file of this name may answer: its bytes, or a fault.
     ghost gives: { Self → List ℕ → Result (List ℕ) FileFault → Type 0 };
 
     /// The bytes of the file of this name, at most 2^31 of them: one that has as many is too long for a buffer.
     fn read(&self, name: &str) -> Result<Vec<u8>, FileFault>
         ensures bytes { IfOk result (λ bytes. gives self.now name.now (Ok bytes.items)) }
+        ensures fault { IfErr result (λ fault. gives self.now name.now (Err fault)) };
+
+    /// The file of this name, to be read from its start.
+    fn open(&self, name: &str) -> Result<Self::Opened, FileFault>
+        ensures fresh { IfOk result (λ file. Self.Opened.calls file ≡ 0) }
+        ensures bytes { IfOk result (λ file. IfSome (Self.Opened.remaining file) (λ bytes. gives self.now name.now (Ok bytes))) }
         ensures fault { IfErr result (λ fault. gives self.now name.now (Err fault)) };
 }
 

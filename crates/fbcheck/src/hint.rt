@@ -107,7 +107,7 @@ fn put_fields(text: &mut Vec<u8>, schema: &Schema<'_>, table: u32) -> Result<(),
 }
 
 /// Why the system gives no file.
-fn reason(cause: ErrorKind) -> &'static [u8]
+pub fn reason(cause: ErrorKind) -> &'static [u8]
     ensures { result.now ≡ reason_text cause }
 {
     match cause {

@@ -1,10 +1,10 @@
-//! `fbcheck` checks FlatBuffers by a binary schema: it reads a stream of size-prefixed buffers, or one bare buffer,
-//! from standard input and writes a line for each to standard output. Without a schema file it checks schema files.
+//! `fbcheck` checks FlatBuffers by a binary schema: it reads streams of size-prefixed buffers, or bare buffers, from files
+//! or standard input and writes a line for each to standard output. Without a schema file it checks schema files.
 //!
 //! The words of the command line are read first, then the schema file, then the input; help goes to standard output.
-//! Faults go to standard error, and the first ends the program. The exit status is 0 where every buffer had a yes or
-//! help was given, 1 where a buffer had a no, 2 where the words, the schema file, the root, the path or the schema's own
-//! identifier are wrong, and 3 for every other fault.
+//! Faults go to standard error, and the first ends the program, but for one of a file among files. The exit status is 0
+//! where every buffer had a yes or help was given, 1 where a buffer had a no, 2 where the words, the schema file, the
+//! root, the path or the schema's own identifier are wrong, and 3 for every other fault.
 #![tactic(auto)]
 
 ghost use Rattle.std.specs.Prelude.{⊤};
@@ -15,6 +15,7 @@ mod check_laws;
 mod fault;
 mod files;
 mod hint;
+mod inputs;
 mod serve;
 mod stop;
 
@@ -23,7 +24,7 @@ use files::{FileFault, Files};
 use serve::serve;
 use std::fs::File;
 use std::io;
-use std::io::Read;
+use std::io::{ErrorKind, Read};
 use std::process::ExitCode;
 use stop::WordsFault;
 
@@ -44,6 +45,15 @@ fn read_file(rt: &HostRuntime, name: &str) -> io::Result<Vec<u8>> {
     Ok(bytes)
 }
 
+/// A file to be read. A folder is refused here, since a read of it fails without telling why.
+fn open_file(rt: &HostRuntime, name: &str) -> io::Result<File> {
+    let file = File::open(rt, name)?;
+    if file.metadata()?.is_dir() {
+        return Err(io::Error::from(ErrorKind::IsADirectory));
+    }
+    Ok(file)
+}
+
 /// The files of the system: what they have isn't known.
 #[derive(Drop)]
 struct Disk<'a> {
@@ -51,10 +61,19 @@ struct Disk<'a> {
 }
 
 impl Files for Disk<'_> {
+    type Opened = Counted<File>;
+
     ghost gives = { λ _ _ _. ⊤ };
 
     fn read(&self, name: &str) -> Result<Vec<u8>, FileFault> {
         read_file(self.rt, name).map_err(FileFault::of)
+    }
+
+    fn open(&self, name: &str) -> Result<Counted<File>, FileFault> {
+        match open_file(self.rt, name) {
+            Ok(file) => Ok(Counted::new(file)),
+            Err(error) => Err(FileFault::of(error)),
+        }
     }
 }
 

@@ -2,15 +2,16 @@
 
 ghost use Rattle.std.specs.Prelude.{IfOk, IfSome, ◌≡◌, ◌+◌, ◌<◌, ◌≤◌, ◌^◌, ℕ, length, string_len};
 ghost use Rattle.fb_run.specs.Ends.{HasCallsLeft, HasLeave, Reader, Writer, beside, ends_of, writer_of};
-ghost use Rattle.fbcheck.specs.Serving.{ComesTo, EndsSo, IsPromptAsGiven, IsServed, Unserved, summed, words_of};
+ghost use Rattle.fbcheck.specs.Serving.{ComesTo, EndsSo, IsPromptAsGiven, IsServed, Unserved, files_ending, run_ending, summed, words_of};
 
-use crate::check::check_beside;
+use crate::check::{check_beside, check_files};
 use crate::files::{Files, read_schema};
 use crate::hint::file_hint;
+use crate::inputs::Passed;
 use crate::stop::{Ending, Stop, WordsFault, exit_status, sum_up, tell};
 use clap::Error;
 use fb_bytes::Sink;
-use fb_run::{Input, MOST_TURNS, Tally, push_all};
+use fb_run::{Input, MOST_TURNS, Ran, Tally, push_all};
 use fbcheck_words::{SettingsFault, settings};
 use std::alloc::{AllocError, Global};
 
@@ -73,11 +74,41 @@ fn come_to<F: Files, S: Input<K, N>, K: Sink, N: Sink>(
         Ok(file) => file,
         Err(fault) => return Err(Stop::File(fault, file_hint(alloc, fault, &settings.schema)?)),
     };
-    let ran = check_beside(alloc, file.as_deref(), &settings, reader, writer, notes)?;
-    *sums = summed(settings.summary, ran.tally);
+    if settings.files.as_slice().is_empty() {
+        let ran = check_beside(alloc, file.as_deref(), &settings, reader, writer, notes)?;
+        *sums = summed(settings.summary, ran.tally);
+        return run_ending(&ran);
+    }
+    let passed = check_files(
+        alloc,
+        files,
+        file.as_deref(),
+        &settings,
+        reader,
+        writer,
+        notes,
+    )?;
+    *sums = summed(settings.summary, passed.course.tally);
+    files_ending(&passed)
+}
+
+/// How the program ends by what a run came to.
+fn run_ending(ran: &Ran) -> Result<Ending, Stop>
+    ensures { result ≡ run_ending ran.now.tally ran.now.end }
+{
     match ran.end {
         Ok(()) => Ok(Ending::Checked(ran.tally)),
         Err(fault) => Err(Stop::Run(fault)),
+    }
+}
+
+/// The same by what files came to.
+fn files_ending(passed: &Passed) -> Result<Ending, Stop>
+    ensures { result ≡ files_ending passed.now.course passed.now.end }
+{
+    match passed.end {
+        Ok(()) => Ok(Ending::Passed(passed.course)),
+        Err(fault) => Err(Stop::Halted(fault)),
     }
 }
 

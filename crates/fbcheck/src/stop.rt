@@ -10,6 +10,7 @@ ghost use Rattle.fbcheck.specs.declared.stop.Stop.TheVariants as stop;
 
 use crate::files::FileFault;
 use crate::hint::Unasked;
+use crate::inputs::Course;
 use arrayvec::ArrayString;
 use fb_bytes::Sink;
 use fb_run::summary::summary;
@@ -60,6 +61,8 @@ pub enum Ending {
     Helped,
     /// The buffers of the input were checked.
     Checked(Tally),
+    /// The files were gone through, and the faults of those that have any are told.
+    Passed(Course),
 }
 
 /// Why the program comes to rest before that.
@@ -89,6 +92,9 @@ pub enum Stop {
     /// The run came to rest.
     #[error("{0}")]
     Run(RunFault),
+    /// The run over a file came to rest for what ends the whole call, or wasn't begun.
+    #[error("{0}")]
+    Halted(RunFault),
 }
 
 impl From<AllocError> for Stop {
@@ -121,7 +127,7 @@ impl Stop {
             Stop::CutOff { .. } | Stop::Unsummed { .. } => 3,
             Stop::Settings(fault) => fault.status(),
             Stop::Ask(unasked) => unasked.fault.status(),
-            Stop::Run(fault) => status(&Err(*fault)),
+            Stop::Run(fault) | Stop::Halted(fault) => status(&Err(*fault)),
         }
     }
 
@@ -193,7 +199,7 @@ pub fn sum_up<N: Sink>(
         return outcome;
     }
     match outcome {
-        Ok(Ending::Checked(_)) => Err(Stop::Unsummed { written }),
+        Ok(Ending::Checked(_) | Ending::Passed(_)) => Err(Stop::Unsummed { written }),
         _ => outcome,
     }
 }
@@ -216,6 +222,7 @@ pub fn exit_status(outcome: &Result<Ending, Stop>) -> u8
     match outcome {
         Ok(Ending::Helped) => 0,
         Ok(Ending::Checked(tally)) => status(&Ok(*tally)),
+        Ok(Ending::Passed(course)) => course.status,
         Err(stop) => stop.status(),
     }
 }

@@ -5,7 +5,7 @@ use Rattle.fb_schema.specs.Rows.{Rows}
 use Rattle.fb_schema.specs.declared.kinds.Scalar.{Scalar}
 use Rattle.fb_schema.specs.declared.kinds.Scalar.TheVariants.{UType, Bool as AsBool, Byte, UByte, Short, UShort, Int as AsInt, UInt as AsUInt, Long, ULong, Float as AsFloat, Double}
 use Rattle.fb_access.specs.declared.spot.Spot.{Spot}
-use Rattle.fb_access.specs.declared.spot.Spot.TheVariants.{AtTable, AtInline, AtStruct, AtText, AtScalars, AtStructs, AtTexts, AtTables, AtUnions, AtUnion, AtDefault, AtAbsent, AtNoElement, AtOtherMember}
+use Rattle.fb_access.specs.declared.spot.Spot.TheVariants.{AtTable, AtInline, AtStruct, AtText, AtScalars, AtStructs, AtScalarArray, AtStructArray, AtTexts, AtTables, AtUnions, AtUnion, AtDefault, AtAbsent, AtNoElement, AtOtherMember}
 use Rattle.fb_access.specs.Denotes.{bytes_at, default_value, inline_value, number, value}
 use Rattle.fb_access.specs.Extents.{extent, scalar_extent}
 use Rattle.fbcheck_c.specs.AnswerLaws.{Stands}
@@ -56,6 +56,8 @@ module _ (b : List ℕ) where
   stands S (AtText c) = ap (bytes_at b (c + 4)) (once (word b c 4))
   stands S (AtScalars s c) = tt
   stands S (AtStructs k c) = tt
+  stands S (AtScalarArray s n p) = tt
+  stands S (AtStructArray k n p) = tt
   stands S (AtTexts c) = tt
   stands S (AtTables k c) = tt
   stands S (AtUnions e q c) = tt

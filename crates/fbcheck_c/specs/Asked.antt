@@ -1,6 +1,6 @@
 -- What options ask.
-use Rattle.std.specs.Prelude.{◌≡◌, ℕ, ◌<◌, ◌≤◌, ◌==◌, min, Bool, true, false, not, List, length, replicate, Option, Some, None, if◌then◌else◌}
-use Rattle.std.specs.Borrow.{Bor}
+use Rattle.std.specs.Prelude.{◌≡◌, ℕ, ◌<◌, ◌≤◌, ◌==◌, min, Bool, true, false, not, List, replicate, Option, Some, None, if◌then◌else◌}
+use Rattle.fb_bfbs.specs.LoadLaws.{ident_bytes, own_ident}
 use Rattle.fb_bfbs.specs.declared.loading.Loaded.{Loaded}
 use Rattle.fb_schema.specs.Rows.{Rows, is_table}
 use Rattle.fb_verify.specs.Bounds.{Bounds, limits_of_length}
@@ -60,17 +60,11 @@ root_asked l o =
     if o.root == 4294967295 then if_table l.schema l.root
     else (if o.root == 4294967294 then None else if_table l.schema (Some o.root))
 
--- the identifier that a schema's own asks for: any where it has none or an empty one, and none where it hasn't four
--- bytes
-abbrev pub own_ident : Option (Bor (List ℕ)) → Option Ident
-own_ident None = Some Any
-own_ident (Some name) = if length name.now == 0 then Some Any else (if length name.now == 4 then Some (Want name.now) else None)
-
 -- the identifier that is asked of a buffer: any, that of the options, or the schema's own
 abbrev pub ident_asked : Loaded → Options → Option Ident
 ident_asked l o =
     if o.ident_from == 0 then Some Any
-    else (if o.ident_from == 1 then Some (Want o.ident) else own_ident l.ident)
+    else (if o.ident_from == 1 then Some (Want o.ident) else own_ident (ident_bytes l.ident))
 
 -- the published limits and checks with a budget of 100,000,000 reads, and of 64 a byte, for a bare buffer with any
 -- identifier, from the schema's own root table

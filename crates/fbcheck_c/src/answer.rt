@@ -224,4 +224,15 @@ impl Answer {
             Answer::BadStream(fault) => blank(stream_number(fault)),
         }
     }
+
+    /// Writes the answer in numbers, and answers the first of these.
+    #[inline(always)]
+    pub fn tell(self, verdict: &mut Verdict) -> u32
+        ensures told { verdict.new ≡ told self }
+        ensures status { result ≡ verdict.new.status }
+    {
+        let told = self.told();
+        *verdict = told;
+        told.status
+    }
 }

@@ -1,10 +1,12 @@
 //! Loading a schema, and the checks of buffers by it.
 
-ghost use Rattle.std.specs.Prelude.{◌≡◌, MatchResult};
+ghost use Rattle.std.specs.Prelude.{◌≡◌, MatchResult, Some};
 ghost use Rattle.fbcheck_c.specs.Answered.{Begins, IfSchema, IsChecked, IsNotOpened, IsOpened, IsPriced, IsUnserved, levels};
+ghost use Rattle.fbcheck_c.specs.Told.{told};
+ghost use Rattle.fbcheck_c.specs.declared.answer.Answer.{Answer};
 ghost use Rattle.fbcheck_c.specs.Reached.{IsPath, IsRead, IsReadBy, IsResolved, IsUnresolved};
 
-use crate::answer::{Answer, low};
+use crate::answer::{Answer, Verdict, low};
 use crate::fits::paths_fit;
 use crate::handle::Handle;
 use crate::held::{Held, Room};
@@ -78,16 +80,23 @@ pub fn begin(
     }
 }
 
-/// Checks a buffer as the options ask, in room on the call's own stack.
-fn check_shallow(loaded: &Loaded<'static>, options: &Options, buffer: &[u8]) -> Answer
-    ensures { IsChecked loaded.now 64 options.now buffer.now result }
+/// Checks a buffer as the options ask, in room on the call's own stack, writes the verdict and answers its status.
+#[inline(always)]
+fn check_shallow(
+    loaded: &Loaded<'static>,
+    options: &Options,
+    buffer: &[u8],
+    verdict: &mut Verdict,
+) -> u32
+    ensures told { (a : Answer) × (verdict.new ≡ told a) × IsChecked loaded.now 64 options.now buffer.now a }
+    ensures status { result ≡ verdict.new.status }
 {
     let begun = match begin(loaded, SHALLOW, options, buffer.len() as u64) {
         Ok(begun) => begun,
-        Err(answer) => return answer,
+        Err(answer) => return answer.tell(verdict),
     };
     let Ok(mut meter) = Meter::new(buffer) else {
-        return Answer::TooLong;
+        return Answer::TooLong.tell(verdict);
     };
     match walk_shallow(
         &mut meter,
@@ -98,23 +107,29 @@ fn check_shallow(loaded: &Loaded<'static>, options: &Options, buffer: &[u8]) -> 
         begun.limits,
         options.checks(),
     ) {
-        Ok(report) => Answer::Good(report),
-        Err(fault) => Answer::Bad(fault),
+        Ok(report) => Answer::Good(report).tell(verdict),
+        Err(fault) => Answer::Bad(fault).tell(verdict),
     }
 }
 
 /// The same in the room that is given.
-#[inline(always)]
-fn check_in(loaded: &Loaded<'static>, room: &mut Room, options: &Options, buffer: &[u8]) -> Answer
-    ensures answer { IsChecked loaded.now room.old options.now buffer.now result }
+fn check_in(
+    loaded: &Loaded<'static>,
+    room: &mut Room,
+    options: &Options,
+    buffer: &[u8],
+    verdict: &mut Verdict,
+) -> u32
+    ensures told { (a : Answer) × (verdict.new ≡ told a) × IsChecked loaded.now room.old options.now buffer.now a }
+    ensures status { result ≡ verdict.new.status }
     ensures kept { room.new ≡ room.old }
 {
     let begun = match begin(loaded, room.levels(), options, buffer.len() as u64) {
         Ok(begun) => begun,
-        Err(answer) => return answer,
+        Err(answer) => return answer.tell(verdict),
     };
     let Ok(mut meter) = Meter::new(buffer) else {
-        return Answer::TooLong;
+        return Answer::TooLong.tell(verdict);
     };
     match walk(
         &mut meter,
@@ -126,12 +141,32 @@ fn check_in(loaded: &Loaded<'static>, room: &mut Room, options: &Options, buffer
         options.checks(),
         &mut room.scratch,
     ) {
-        Ok(counts) => Answer::Good(counts),
-        Err(first) => Answer::Bad(first),
+        Ok(counts) => Answer::Good(counts).tell(verdict),
+        Err(first) => Answer::Bad(first).tell(verdict),
     }
 }
 
-/// Checks a buffer by a schema: in the room of a handle, or on the call's own stack where it holds none.
+/// The same in what a handle holds: the call's own stack is taken where that is no room.
+#[inline(never)]
+fn check_held(
+    loaded: &Loaded<'static>,
+    inside: &mut Held,
+    options: &Options,
+    buffer: &[u8],
+    verdict: &mut Verdict,
+) -> u32
+    ensures told { (a : Answer) × (verdict.new ≡ told a) × IsChecked loaded.now (levels (Some inside.old)) options.now buffer.now a }
+    ensures status { result ≡ verdict.new.status }
+    ensures kept { inside.new ≡ inside.old }
+{
+    match inside {
+        Held::Room(room) => check_in(loaded, room, options, buffer, verdict),
+        Held::Schema(_) => check_shallow(loaded, options, buffer, verdict),
+    }
+}
+
+/// Checks a buffer by a schema: in the room of a handle, or on the call's own stack where it holds none. Writes the
+/// verdict, and answers its status.
 #[inline(always)]
 pub fn check(
     alloc: Global,
@@ -139,23 +174,21 @@ pub fn check(
     handle: &mut Handle,
     options: &Options,
     buffer: &[u8],
-) -> Answer
-    ensures answer { IfSchema held.now result (λ l. IsChecked l (levels handle.old.inside) options.now buffer.now result) }
+    verdict: &mut Verdict,
+) -> u32
+    ensures told { (a : Answer) × (verdict.new ≡ told a) × IfSchema held.now a (λ l. IsChecked l (levels handle.old.inside) options.now buffer.now a) }
+    ensures status { result ≡ verdict.new.status }
     ensures kept { handle.new.inside ≡ handle.old.inside }
 {
     let Held::Schema(loaded) = held else {
-        return Answer::NoRoot;
+        return Answer::NoRoot.tell(verdict);
     };
     let Some(mut taken) = handle.take(alloc) else {
-        return check_shallow(loaded, options, buffer);
+        return check_shallow(loaded, options, buffer, verdict);
     };
-    let inside = &mut *taken;
-    let answer = match inside {
-        Held::Room(room) => check_in(loaded, room, options, buffer),
-        Held::Schema(_) => check_shallow(loaded, options, buffer),
-    };
+    let status = check_held(loaded, &mut *taken, options, buffer, verdict);
     handle.put(taken);
-    answer
+    status
 }
 
 /// Checks a buffer as [`check_shallow`] does, and tells of a good one the values at the ends of these paths. `Misfit`

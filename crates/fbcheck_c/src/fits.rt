@@ -2,7 +2,9 @@
 
 ghost use Rattle.std.specs.Prelude.{◌≡◌, ◌↔◌, IsTrue, option_map};
 ghost use Rattle.fb_access.specs.Fitting.{element_kind, next_kind, numbered};
+ghost use Rattle.fb_schema.specs.declared.views.PartView.{PartView};
 ghost use Rattle.fb_schema.specs.Members.{member_of};
+ghost use Rattle.fb_schema.specs.Parts.{part_at};
 ghost use Rattle.fb_schema.specs.declared.kinds.Kind.TheVariants.{Table};
 ghost use Rattle.fbcheck_c.specs.Steps.{AllFit, FitFrom, FitsFrom};
 
@@ -23,6 +25,13 @@ fn field_kind(schema: &Schema<'_>, table: u32, number: u16) -> Option<Kind>
         }
     }
     None
+}
+
+/// The kind of a struct's field at this place.
+fn part_kind(schema: &Schema<'_>, object: u32, number: u16) -> Option<Kind>
+    ensures { result ≡ option_map (λ (part : PartView). part.kind) (part_at schema.now object number) }
+{
+    Some(schema.part_at(object, u32::from(number))?.kind)
 }
 
 /// The kind of a vector's elements.
@@ -58,6 +67,7 @@ fn next_kind(schema: &Schema<'_>, kind: Kind, step: Step) -> Option<Kind>
     match step {
         Step::Field(number) => match kind {
             Kind::Table(table) => field_kind(schema, table, number),
+            Kind::Struct(object) => part_kind(schema, object, number),
             _ => None,
         },
         Step::Element(_) => element_kind(kind),

@@ -153,9 +153,7 @@ pub extern "C" fn fbcheck_verify_proved(
     ensures status { result ≡ verdict.new.status }
     ensures kept { room.new.inside ≡ room.old.inside }
 {
-    let told = check(alloc, schema.held(), room, options, buffer).told();
-    *verdict = told;
-    told.status
+    check(alloc, schema.held(), room, options, buffer, verdict)
 }
 
 /// Checks the buffers that spans name in a block of bytes, each as [`fbcheck_verify_proved`] does, and tells each

@@ -3,10 +3,10 @@
 ghost use Rattle.std.specs.Prelude.{◌≡◌, IsTrue, ◌↔◌, MatchResult};
 ghost use Rattle.fb_schema.specs.Rows.{is_table};
 ghost use Rattle.std.specs.Prelude.{IfSome};
-ghost use Rattle.fbcheck_c.specs.Asked.{AreKnown, HasLimits, LimitsFail, checks_asked, ident_asked, if_table, limits_of, own_ident, published, root_asked, start_asked, start_of};
+ghost use Rattle.fbcheck_c.specs.Asked.{AreKnown, HasLimits, LimitsFail, checks_asked, ident_asked, if_table, limits_of, published, root_asked, start_asked, start_of};
 
 use crate::answer::Answer;
-use fb_bfbs::Loaded;
+use fb_bfbs::{Loaded, own_ident};
 use fb_schema::Schema;
 use fb_verify::{Checks, Ident, Limits, Start};
 
@@ -73,18 +73,6 @@ fn if_table(schema: &Schema<'_>, number: Option<u32>) -> Option<u32>
     match number {
         Some(n) if schema.is_table(n) => Some(n),
         _ => None,
-    }
-}
-
-/// The identifier that a schema's own asks for: any where it declares none, which `flatc` writes as one of no bytes,
-/// and none where it hasn't four.
-fn own_ident(own: Option<&[u8]>) -> Option<Ident>
-    ensures { result ≡ own_ident own.entry }
-{
-    match own {
-        None | Some(&[]) => Some(Ident::Any),
-        Some(&[a, b, c, d]) => Some(Ident::Want([a, b, c, d])),
-        Some(_) => None,
     }
 }
 

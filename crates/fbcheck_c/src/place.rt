@@ -10,7 +10,7 @@ use crate::checking::{SHALLOW, begin};
 use crate::handle::Handle;
 use crate::held::{Held, NO_LINK, Room};
 use crate::options::Options;
-use fb_access::location_of;
+use fb_access::{LocationText, write_location};
 use fb_bfbs::Loaded;
 use fb_bytes::Meter;
 use fb_schema::Schema;
@@ -27,11 +27,15 @@ fn cut_into(text: &[u8], room: &mut [u8]) -> usize
     text.len()
 }
 
-/// Writes where a fault is, to which these links lead, as much of it as there is room for. How long the whole is.
+/// Writes where a fault is, to which these links lead, as much of it as there is room for. How long the whole is. It
+/// stands apart, so that a good buffer pays nothing for the text.
+#[inline(never)]
 fn write_place(schema: &Schema<'_>, fault: &Fault, links: &[Link], text: &mut [u8]) -> usize
     ensures { IsTextTold (location_text schema.now fault.now links.now) text.old text.new result }
 {
-    cut_into(location_of(schema, fault, links).as_slice(), text)
+    let mut place = LocationText::new();
+    write_location(&mut place, schema, fault, links);
+    cut_into(place.as_slice(), text)
 }
 
 /// Checks a buffer as the options ask, in room on the call's own stack, and writes where the fault of a bad one is.

@@ -3,7 +3,7 @@
 ghost use Rattle.std.specs.Prelude.{◌≡◌, ◌==◌, option_map, take};
 ghost use Rattle.std.specs.List.{list_all};
 ghost use Rattle.fbcheck_c.specs.Answered.{levels};
-ghost use Rattle.fbcheck_c.specs.Spans.{AreTold, IsSpanChecked, all_good, cut};
+ghost use Rattle.fbcheck_c.specs.Spans.{AreTold, IsSpanTold, all_good, cut};
 
 use crate::answer::{Answer, Verdict};
 use crate::checking::check;
@@ -35,7 +35,7 @@ impl Span {
     }
 }
 
-/// Checks the buffer that a span names in a block of bytes, as [`check`] does.
+/// Checks the buffer that a span names in a block of bytes, as [`check`] does, and writes the verdict.
 fn check_span(
     alloc: Global,
     held: &Held,
@@ -43,14 +43,15 @@ fn check_span(
     options: &Options,
     block: &[u8],
     span: &Span,
-) -> Answer
-    ensures answer { IsSpanChecked held.now (levels handle.old.inside) options.now block.now span.now result }
+    verdict: &mut Verdict,
+)
+    ensures told { IsSpanTold held.now (levels handle.old.inside) options.now block.now span.now verdict.new }
     ensures kept { handle.new.inside ≡ handle.old.inside }
 {
-    match span.cut(block) {
-        Some(buffer) => check(alloc, held, handle, options, buffer),
-        None => Answer::NoSpan,
-    }
+    let _status = match span.cut(block) {
+        Some(buffer) => check(alloc, held, handle, options, buffer, verdict),
+        None => Answer::NoSpan.tell(verdict),
+    };
 }
 
 /// Checks the buffers that spans name in a block of bytes, each as [`check`] does, and tells each verdict at the place
@@ -69,8 +70,8 @@ pub fn check_each(
 {
     let count = spans.len().min(verdicts.len());
     for place in 0..count {
-        let answer = check_span(alloc, held, handle, options, block, &spans[place]);
-        verdicts[place] = answer.told();
+        let verdict = &mut verdicts[place];
+        check_span(alloc, held, handle, options, block, &spans[place], verdict);
     }
 }
 

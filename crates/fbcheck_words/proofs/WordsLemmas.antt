@@ -1,7 +1,7 @@
 -- What a parse of the program's words gives.
-use Rattle.std.proofs.Common.{◌≡◌, ◌≤◌, ◌↔◌, ℕ, Bool, true, false, not, IsTrue, List, [], ◌∷◌, codes, Option, Some, None, refl, sym, ap, subst, ◌∙◌}
-use Rattle.std.specs.Prelude.{IfSome, String, is_some, length, option_map, string_bytes}
-use Rattle.clap.specs.Walk.{Text, first_of, one_of}
+use Rattle.std.proofs.Common.{◌≡◌, ◌≤◌, ◌↔◌, ℕ, Bool, true, false, not, IsTrue, List, [], ◌∷◌, codes, Option, Some, None, refl, sym, ap, subst, ◌∙◌, arith}
+use Rattle.std.specs.Prelude.{IsSomeAnd, if◌then◌else◌, length, nat_lt, unwrap_or}
+use Rattle.clap.specs.Walk.{Text, all_of, first_of, one_of}
 use Rattle.clap.specs.Built.{IsParsedFrom}
 use Rattle.clap.specs.Simple.{App, HasMatchesOf, app_of, is_simple, matches_of}
 use Rattle.clap.specs.Matches.{first_value, found_of, one_text}
@@ -11,11 +11,15 @@ use Rattle.clap.specs.declared.error.Error.{Error}
 use Rattle.clap.specs.Faults.{fault_of, is_simple_and_free}
 use Rattle.clap.specs.declared.parser.matches.ArgMatches.{ArgMatches}
 use Rattle.clap.proofs.OnLiterals.{clap_on_literals}
-use Rattle.clap.proofs.WalkLemmas.{first_value-rows, one_text-rows}
+use Rattle.clap.proofs.WalkLemmas.{first_value-rows, one_text-rows, raw_values-rows}
 use Rattle.fbcheck_words.specs.CommandLine.{program}
-use Rattle.fbcheck_words.specs.Matched.{IsReadOf}
-use Rattle.fbcheck_words.specs.Refusal.{IsPathless}
-use Rattle.fbcheck_words.specs.Values.{IsGiven, IsNumberOf, IsWrittenIn, text_of}
+use Rattle.fbcheck_words.specs.Given.{Say, contradiction}
+use Rattle.fbcheck_words.specs.Matched.{IsReadOf, all_values}
+use Rattle.fbcheck_words.specs.Refusal.{Refuses}
+use Rattle.fbcheck_words.specs.Values.{IsGiven, IsNumberIn, IsNumberOf, text_of, texts_of}
+use Rattle.fbcheck_words.specs.declared.choices.Settings.{Settings}
+use Rattle.fbcheck_words.specs.declared.choices.SettingsFault.{SettingsFault}
+use Rattle.fbcheck_words.specs.declared.choices.SettingsFault.TheVariants.{Usage, BadIdent, PathInFilter, TwoIdents, TooManyPaths, BareDelimited, OutOfMemory}
 
 simple : is_simple program ≡ true
 unfolding clap_on_literals
@@ -26,7 +30,7 @@ unfolding clap_on_literals
 simple_and_free = refl
 
 -- words that are read have no fault
-pub no_fault : (app : App) (words : List Text) → app ≡ program → (is_simple_and_free app ≡ true → fault_of app words ≡ []) → fault_of program words ≡ []
+no_fault : (app : App) (words : List Text) → app ≡ program → (is_simple_and_free app ≡ true → fault_of app words ≡ []) → fault_of program words ≡ []
 no_fault app words is read = ap (λ (a : App). fault_of a words) (sym is) ∙ read (ap is_simple_and_free is ∙ simple_and_free)
 
 -- words that are refused have a fault of that kind
@@ -34,48 +38,69 @@ pub refused_by : (app : App) (words : List Text) (error : Error) → app ≡ pro
 refused_by app words error is refused = subst (λ (a : App). HasKind (fault_of a words) error) is (refused (ap is_simple_and_free is ∙ simple_and_free))
 
 -- what the program's command reads is what clap reads of the words
-pub is_read : (c : Command) (words : List Text) (m : ArgMatches) → IsParsedFrom c m → app_of c ≡ program → HasMatchesOf (app_of c) words m → IsReadOf words m
-is_read c words m parsed is has = record { matches = subst (λ (a : App). HasMatchesOf a words m) is has; command = c; is = is; parsed = parsed }
+pub is_read : (c : Command) (words : List Text) (m : ArgMatches) → (is_simple_and_free (app_of c) ≡ true → fault_of (app_of c) words ≡ []) → IsParsedFrom c m → app_of c ≡ program → HasMatchesOf (app_of c) words m
+    → IsReadOf words m
+is_read c words m faultless parsed is has = record {
+  faultless = no_fault _ _ is faultless;
+  matches = subst (λ (a : App). HasMatchesOf a words m) is has;
+  command = c;
+  is = is;
+  parsed = parsed;
+}
 
 -- an option's text in the matches is that of the words
 pub text_of_words : (words : List Text) (m : ArgMatches) (id : Text) → IsReadOf words m → first_value (found_of m) id ≡ text_of id words
 text_of_words words m id read = first_value-rows (found_of m) id ∙ ap (first_of id) (read.matches simple).0
 
--- a flag that is set where its text is "true" is set where the words give it
-pub given_by_words : (words : List Text) (m : ArgMatches) (id : Text) (set : Bool) → IsReadOf words m
-    → IsTrue set ↔ (first_value (found_of m) id ≡ Some (codes "true")) → IsTrue set ↔ IsGiven id words
-given_by_words words m id set read told =
-    subst (λ (o : Option Text). IsTrue set ↔ (o ≡ Some (codes "true"))) (text_of_words words m id read) told
+-- the same of all its texts
+pub texts_of_words : (words : List Text) (m : ArgMatches) (id : Text) → IsReadOf words m → all_values (found_of m) id ≡ texts_of id words
+texts_of_words words m id read = ap (λ (o : Option (List Text)). unwrap_or o []) (raw_values-rows (found_of m) id ∙ ap (all_of id) (read.matches simple).0)
+
+-- what holds where an option's text is "true" holds where the words give it
+pub given_by_words : (words : List Text) (m : ArgMatches) (id : Text) (P : Type 0) → IsReadOf words m
+    → P ↔ (first_value (found_of m) id ≡ Some (codes "true")) → P ↔ IsGiven id words
+given_by_words words m id P read told =
+    subst (λ (o : Option Text). P ↔ (o ≡ Some (codes "true"))) (text_of_words words m id read) told
 
 -- a number that its text in the matches spells is the one that the words give
 pub number_by_words : (words : List Text) (m : ArgMatches) (id : Text) (least most n : ℕ) → IsReadOf words m
-    → IsWrittenIn (one_text (found_of m) id) n × (least ≤ n) × (n ≤ most) → IsNumberOf id least most words n
+    → IsNumberIn (one_text (found_of m) id) least most n → IsNumberOf id least most words n
 number_by_words words m id least most n read told =
-    let same = one_text-rows (found_of m) id ∙ ap (one_of id) (read.matches simple).0 in
-    (subst (λ (o : Option Text). IsWrittenIn o n) same told.0, told.1, told.2)
+    subst (λ (o : Option Text). IsNumberIn o least most n) (one_text-rows (found_of m) id ∙ ap (one_of id) (read.matches simple).0) told
 
--- an identifier that was read is four bytes long
-pub four_bytes : (ident text : Option Text) → ident ≡ text → IfSome ident (λ bytes. length bytes ≡ 4) → (t : Text) → text ≡ Some t → length t ≡ 4
-four_bytes ident text same four t is = let h : ident ≡ Some t = same ∙ is in subst (λ (o : Option Text). IfSome o (λ bytes. length bytes ≡ 4)) h four
+-- the same of a number that may be left out
+pub reads_by_words : (words : List Text) (m : ArgMatches) (reads : Option ℕ) → IsReadOf words m
+    → IsSomeAnd reads (IsNumberIn (one_text (found_of m) (codes "max-reads")) 0 18446744073709551615) → IsSomeAnd reads (IsNumberOf (codes "max-reads") 0 18446744073709551615 words)
+reads_by_words words m (Some n) read told = number_by_words words m (codes "max-reads") 0 18446744073709551615 n read told
+reads_by_words words m None read told = absurd told
 
--- a text that is there
-pub some_text : {A : Type 0} (found : Option (String A)) (text : Option Text) → is_some found ≡ true → option_map string_bytes found ≡ text → (t : Text) × (text ≡ Some t)
-some_text (Some found) text is same = (string_bytes found, sym same)
-some_text None text is same =
-    let bad : false ≡ true = is in
-    absurd cc
+-- the rule that settings break, by whether they break each
+abbrev broken : Bool → Bool → Bool → Bool → Option SettingsFault
+broken a b c d = if a then Some PathInFilter else if b then Some TwoIdents else if c then Some TooManyPaths else if d then Some BareDelimited else None
 
--- the same of an identifier
-pub some_ident : (ident text : Option Text) → is_some ident ≡ true → ident ≡ text → (t : Text) × (text ≡ Some t)
-some_ident (Some ident) text is same = (ident, sym same)
-some_ident None text is same =
-    let bad : false ≡ true = is in
-    absurd cc
+not_usage : (a b c d : Bool) (error : Error) → broken a b c d ≡ Some (Usage error) → ⊥
+not_usage true b c d error is = cc
+not_usage false true c d error is = cc
+not_usage false false true d error is = cc
+not_usage false false false true error is = cc
+not_usage false false false false error is = cc
 
--- a filter without a path is one by the words too
-pub pathless : {A : Type 0} (words : List Text) (filter : Bool) (path : Option (String A)) → IsTrue filter ↔ IsGiven (codes "filter") words
-    → option_map string_bytes path ≡ text_of (codes "path") words → (IsTrue filter → path ≡ None) → IsPathless words
-pathless words filter path told same apart given = sym same ∙ ap (option_map string_bytes) (apart (told.1 given))
+not_ident : (a b c d : Bool) → broken a b c d ≡ Some BadIdent → ⊥
+not_ident true b c d is = cc
+not_ident false true c d is = cc
+not_ident false false true d is = cc
+not_ident false false false true is = cc
+not_ident false false false false is = cc
+
+-- what is refused of settings that the words say
+pub contradicted : (words : List Text) (settings : Settings) (fault : SettingsFault) → Say words settings → contradiction settings ≡ Some fault → Refuses words fault
+contradicted words settings (Usage error) said is = absurd (not_usage _ _ _ _ error is)
+contradicted words settings BadIdent said is = absurd (not_ident _ _ _ _ is)
+contradicted words settings OutOfMemory said is = tt
+contradicted words settings PathInFilter said is = (settings, said, is)
+contradicted words settings TwoIdents said is = (settings, said, is)
+contradicted words settings TooManyPaths said is = (settings, said, is)
+contradicted words settings BareDelimited said is = (settings, said, is)
 
 -- a flag that is turned round
 pub turned : (b : Bool) (P : Type 0) → IsTrue b ↔ P → (not b ≡ false) ↔ P
@@ -94,3 +119,12 @@ given_depth = refl
 given_flag : (first_of (codes "bare") (matches_of program (codes "fbcheck" ∷ codes "--bare" ∷ [])) ≡ Some (codes "true")) × (first_of (codes "bare") (matches_of program (codes "fbcheck" ∷ [])) ≡ Some (codes "false"))
 unfolding clap_on_literals
 given_flag = (refl, refl)
+
+given_paths : texts_of (codes "path") (codes "fbcheck" ∷ codes "--path" ∷ codes "b" ∷ codes "--path=a" ∷ []) ≡ codes "b" ∷ codes "a" ∷ []
+unfolding clap_on_literals
+given_paths = refl
+
+given_files : (texts_of (codes "files") (codes "fbcheck" ∷ codes "a.bin" ∷ codes "-" ∷ codes "--json" ∷ codes "b.bin" ∷ []) ≡ codes "a.bin" ∷ codes "-" ∷ codes "b.bin" ∷ [])
+    × (texts_of (codes "files") (codes "fbcheck" ∷ codes "--json" ∷ []) ≡ [])
+unfolding clap_on_literals
+given_files = (refl, refl)

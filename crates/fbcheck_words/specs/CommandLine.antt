@@ -2,13 +2,21 @@
 use Rattle.std.specs.Prelude.{ℕ, true, [], ◌∷◌, Some, codes, pos}
 use Rattle.clap.specs.Walk.{Rule, Text}
 use Rattle.clap.specs.Simple.{App, new_app, new_rule, on_top, with_rule}
-use Rattle.clap.specs.declared.builder.action.ArgAction.TheVariants.{Set, SetTrue}
+use Rattle.clap.specs.declared.builder.action.ArgAction.TheVariants.{Set, SetTrue, Append}
 use Rattle.clap.specs.declared.builder.value_parser.ValueParser.{ValueParser}
 use Rattle.clap.specs.declared.builder.value_parser.ValueParser.TheVariants as parser
 
 -- an option that takes a text
 abbrev pub text_rule : Text → Rule
 text_rule name = record (new_rule name) { long = Some name; value_names = 1 }
+
+-- an option that takes a text each time that it is given
+abbrev pub texts_rule : Text → Rule
+texts_rule name = record (text_rule name) { action = Some Append }
+
+-- words that stand by themselves
+abbrev pub words_rule : Text → Rule
+words_rule name = record (new_rule name) { value_names = 1; action = Some Append }
 
 -- an option that takes a value of this parser, with a default
 abbrev pub value_rule : Text → ValueParser → Text → Rule
@@ -55,13 +63,17 @@ abbrev pub sources : App
 sources = with_rule (with_rule named (text_rule (codes "schema"))) (text_rule (codes "root"))
 
 abbrev pub texts : App
-texts = with_rule (with_rule (with_rule sources (text_rule (codes "ident"))) (flag_rule (codes "schema-ident"))) (text_rule (codes "path"))
+texts = with_rule (with_rule (with_rule sources (text_rule (codes "ident"))) (flag_rule (codes "schema-ident"))) (texts_rule (codes "path"))
 
 abbrev pub numbers : App
 numbers = with_rule (with_rule (with_rule (with_rule (with_rule texts depth_rule) tables_rule) reads_rule) by_length_rule) bytes_rule
 
-abbrev pub switches : App
-switches = with_rule (with_rule (with_rule numbers (flag_rule (codes "bare"))) (flag_rule (codes "no-alignment"))) (flag_rule (codes "inline-size"))
+abbrev pub inputs : App
+inputs = with_rule (with_rule (with_rule (with_rule numbers (flag_rule (codes "bare"))) (flag_rule (codes "delimited"))) (flag_rule (codes "no-alignment"))) (flag_rule (codes "inline-size"))
+
+abbrev pub outputs : App
+outputs = with_rule (with_rule (with_rule (with_rule (with_rule inputs (flag_rule (codes "quiet"))) (flag_rule (codes "filter"))) (flag_rule (codes "summary"))) (flag_rule (codes "names")))
+    (flag_rule (codes "json"))
 
 abbrev pub program : App
-program = with_rule (with_rule (with_rule (with_rule switches (flag_rule (codes "quiet"))) (flag_rule (codes "filter"))) (flag_rule (codes "summary"))) (flag_rule (codes "names"))
+program = with_rule outputs (words_rule (codes "files"))

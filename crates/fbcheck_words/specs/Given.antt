@@ -1,31 +1,49 @@
 -- What words ask for.
-use Rattle.std.specs.Prelude.{◌≡◌, ◌↔◌, false, IsTrue, IfSome, List, [], None, codes, length, option_map, string_bytes}
+use Rattle.std.specs.Prelude.{◌≡◌, ◌↔◌, ◌&&◌, false, IsTrue, IfSome, IsSomeAnd, List, [], Option, Some, None, codes, if◌then◌else◌, is_some, length, map, nat_lt, option_map, string_bytes}
 use Rattle.clap.specs.Walk.{Text}
 use Rattle.clap.specs.Faults.{fault_of}
 use Rattle.fbcheck_words.specs.CommandLine.{program}
-use Rattle.fbcheck_words.specs.Values.{IsGiven, IsNumberOf, text_of}
+use Rattle.fbcheck_words.specs.Values.{IsGiven, IsNumberOf, text_of, texts_of}
+use Rattle.fbcheck_words.specs.declared.choices.Form.TheVariants.{Json}
 use Rattle.fbcheck_words.specs.declared.choices.Settings.{Settings}
+use Rattle.fbcheck_words.specs.declared.choices.SettingsFault.{SettingsFault}
+use Rattle.fbcheck_words.specs.declared.choices.SettingsFault.TheVariants.{PathInFilter, TwoIdents, TooManyPaths, BareDelimited}
 
--- the words give these settings
-pub record AreGiven (given : List Text) (settings : Settings) : Type 0 where
+-- the words say these settings
+pub record Say (given : List Text) (settings : Settings) : Type 0 where
   pub read : fault_of program given ≡ []
   pub schema : option_map string_bytes settings.schema ≡ text_of (codes "schema") given
   pub root : option_map string_bytes settings.root ≡ text_of (codes "root") given
   pub ident : settings.ident ≡ text_of (codes "ident") given
   pub four : IfSome settings.ident (λ bytes. length bytes ≡ 4)
   pub schema_ident : IsTrue settings.schema_ident ↔ IsGiven (codes "schema-ident") given
-  pub one_ident : IsTrue settings.schema_ident → settings.ident ≡ None
-  pub path : option_map string_bytes settings.path ≡ text_of (codes "path") given
-  pub depth : IsNumberOf (codes "max-depth") 0 4096 given settings.depth
-  pub tables : IsNumberOf (codes "max-tables") 0 4294967295 given settings.tables
-  pub reads : IsNumberOf (codes "max-reads") 0 18446744073709551615 given settings.reads
+  pub paths : map string_bytes settings.paths.items ≡ texts_of (codes "path") given
+  pub depth : IsNumberOf (codes "max-depth") 0 4096 given settings.limits.depth
+  pub tables : IsNumberOf (codes "max-tables") 0 4294967295 given settings.limits.tables
+  pub reads : IsSomeAnd settings.limits.reads (IsNumberOf (codes "max-reads") 0 18446744073709551615 given)
   pub by_length : IsNumberOf (codes "reads-per-byte") 0 4294967295 given settings.reads_per_byte
   pub bytes : IsNumberOf (codes "max-bytes") 8 2147483647 given settings.max_bytes
   pub bare : IsTrue settings.bare ↔ IsGiven (codes "bare") given
-  pub alignment : (settings.alignment ≡ false) ↔ IsGiven (codes "no-alignment") given
-  pub inline_size : IsTrue settings.inline_size ↔ IsGiven (codes "inline-size") given
-  pub filter : IsTrue settings.filter ↔ IsGiven (codes "filter") given
-  pub apart : IsTrue settings.filter → settings.path ≡ None
+  pub delimited : IsTrue settings.delimited ↔ IsGiven (codes "delimited") given
+  pub alignment : (settings.checks.alignment ≡ false) ↔ IsGiven (codes "no-alignment") given
+  pub inline_size : IsTrue settings.checks.inline_size ↔ IsGiven (codes "inline-size") given
   pub quiet : IsTrue settings.quiet ↔ IsGiven (codes "quiet") given
+  pub filter : IsTrue settings.filter ↔ IsGiven (codes "filter") given
   pub summary : IsTrue settings.summary ↔ IsGiven (codes "summary") given
   pub names : IsTrue settings.names ↔ IsGiven (codes "names") given
+  pub json : (settings.form ≡ Json) ↔ IsGiven (codes "json") given
+  pub files : map string_bytes settings.files.items ≡ texts_of (codes "files") given
+
+-- what is refused of settings that don't agree with one another, the first of these
+abbrev pub contradiction : Settings → Option SettingsFault
+contradiction settings =
+    if settings.filter && nat_lt 0 (length settings.paths.items) then Some PathInFilter
+    else if settings.schema_ident && is_some settings.ident then Some TwoIdents
+    else if nat_lt 16 (length settings.paths.items) then Some TooManyPaths
+    else if settings.bare && settings.delimited then Some BareDelimited
+    else None
+
+-- the words give these settings, which agree
+pub record AreGiven (given : List Text) (settings : Settings) : Type 0 where
+  pub said : Say given settings
+  pub agree : contradiction settings ≡ None

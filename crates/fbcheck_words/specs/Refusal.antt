@@ -1,5 +1,5 @@
 -- What the words are where they give no settings, and the exit status then.
-use Rattle.std.specs.Prelude.{◌≡◌, ◌≢◌, ℕ, List, [], Some, None, length, codes}
+use Rattle.std.specs.Prelude.{◌≡◌, ◌≢◌, ℕ, List, [], Some, length, codes}
 use Rattle.clap.specs.Walk.{Text}
 use Rattle.clap.specs.Values.{kind_of}
 use Rattle.clap.specs.Kinds.{HasKind}
@@ -7,28 +7,19 @@ use Rattle.clap.specs.Faults.{fault_of}
 use Rattle.clap.specs.declared.error.kind.ErrorKind.{ErrorKind}
 use Rattle.clap.specs.declared.error.kind.ErrorKind.TheVariants as kind
 use Rattle.fbcheck_words.specs.CommandLine.{program}
-use Rattle.fbcheck_words.specs.Values.{IsGiven, text_of}
+use Rattle.fbcheck_words.specs.Given.{Say, contradiction}
+use Rattle.fbcheck_words.specs.Values.{text_of}
+use Rattle.fbcheck_words.specs.declared.choices.Settings.{Settings}
 use Rattle.fbcheck_words.specs.declared.choices.SettingsFault.{SettingsFault}
-use Rattle.fbcheck_words.specs.declared.choices.SettingsFault.TheVariants.{Usage, BadIdent, PathInFilter, TwoIdents, OutOfMemory}
+use Rattle.fbcheck_words.specs.declared.choices.SettingsFault.TheVariants.{Usage, BadIdent, OutOfMemory}
 
--- an identifier that the words give is four bytes long
-abbrev pub IsFourBytes : List Text → Type 0
-IsFourBytes words = (t : Text) → text_of (codes "ident") words ≡ Some t → length t ≡ 4
-
--- a filter that the words ask for has no path
-abbrev pub IsPathless : List Text → Type 0
-IsPathless words = IsGiven (codes "filter") words → text_of (codes "path") words ≡ None
-
--- `clap` refuses the words by an error of that kind; or it reads them, and the identifier isn't four bytes long, or else
--- a filter is asked for together with a path, or else an identifier together with the schema's own; or there was no
--- memory
+-- `clap` refuses the words by an error of that kind; or it reads them, and the identifier isn't four bytes long; or they
+-- say settings that don't agree; or there was no memory
 abbrev pub Refuses : List Text → SettingsFault → Type 0
 Refuses words (Usage error) = (kind_of error ≢ kind.OutOfMemory) × HasKind (fault_of program words) error
 Refuses words BadIdent = (fault_of program words ≡ []) × ((t : Text) × (text_of (codes "ident") words ≡ Some t) × (length t ≢ 4))
-Refuses words PathInFilter = (fault_of program words ≡ []) × IsFourBytes words × IsGiven (codes "filter") words × ((t : Text) × (text_of (codes "path") words ≡ Some t))
-Refuses words TwoIdents =
-    (fault_of program words ≡ []) × IsFourBytes words × IsPathless words × IsGiven (codes "schema-ident") words × ((t : Text) × (text_of (codes "ident") words ≡ Some t))
 Refuses words OutOfMemory = Unit {0}
+Refuses words fault = (settings : Settings) × Say words settings × (contradiction settings ≡ Some fault)
 
 -- texts that are asked for are no mistake
 abbrev pub usage_status : ErrorKind → ℕ
@@ -39,7 +30,5 @@ usage_status _ = 2
 -- the exit status: 0 for help, 2 for wrong words, 3 for want of memory
 abbrev pub refusal_status : SettingsFault → ℕ
 refusal_status (Usage error) = usage_status (kind_of error)
-refusal_status BadIdent = 2
-refusal_status PathInFilter = 2
-refusal_status TwoIdents = 2
 refusal_status OutOfMemory = 3
+refusal_status _ = 2

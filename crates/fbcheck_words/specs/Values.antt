@@ -1,7 +1,7 @@
 -- The values that words give.
-use Rattle.std.specs.Prelude.{◌≡◌, ◌≤◌, ℕ, List, Option, Some, None, codes, pos}
+use Rattle.std.specs.Prelude.{◌≡◌, ◌≤◌, ℕ, List, [], Option, Some, None, codes, pos, unwrap_or}
 use Rattle.std.specs.Str.Parse.{IsNumeral, digits_value, without_leading_plus}
-use Rattle.clap.specs.Walk.{Text, first_of, one_of}
+use Rattle.clap.specs.Walk.{Text, all_of, first_of, one_of}
 use Rattle.clap.specs.Simple.{matches_of}
 use Rattle.clap.specs.Words.{IsSignedIn, IsUnsignedIn, without_minus}
 use Rattle.fbcheck_words.specs.CommandLine.{program}
@@ -10,14 +10,22 @@ use Rattle.fbcheck_words.specs.CommandLine.{program}
 abbrev pub text_of : Text → List Text → Option Text
 text_of name words = first_of name (matches_of program words)
 
+-- the texts that the words give to this option, in their order
+abbrev pub texts_of : Text → List Text → List Text
+texts_of name words = unwrap_or (all_of name (matches_of program words)) []
+
 -- n is the number that this text spells in decimal digits
 abbrev pub IsWrittenIn : Option Text → ℕ → Type 0
 IsWrittenIn None n = ⊥
 IsWrittenIn (Some t) n = IsNumeral 10 (without_leading_plus t) × (n ≡ digits_value 10 (without_leading_plus t))
 
+-- the same, and n is in the range
+abbrev pub IsNumberIn : Option Text → ℕ → ℕ → ℕ → Type 0
+IsNumberIn text least most n = IsWrittenIn text n × (least ≤ n) × (n ≤ most)
+
 -- n is the number that the words give to this option, or else its default, and it is in the range
 abbrev pub IsNumberOf : Text → ℕ → ℕ → List Text → ℕ → Type 0
-IsNumberOf name least most words n = IsWrittenIn (one_of name (matches_of program words)) n × (least ≤ n) × (n ≤ most)
+IsNumberOf name least most words n = IsNumberIn (one_of name (matches_of program words)) least most n
 
 -- the words give this flag
 abbrev pub IsGiven : Text → List Text → Type 0

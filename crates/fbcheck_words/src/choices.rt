@@ -2,9 +2,24 @@
 
 ghost use Rattle.std.specs.Prelude.{◌≡◌};
 ghost use Rattle.fbcheck_words.specs.Refusal.{refusal_status};
+ghost use Rattle.fbcheck_words.specs.declared.choices.SettingsFault.TheVariants.{OutOfMemory};
 
 use clap::Error;
+use fb_verify::{Checks, Limits};
+use std::alloc::AllocError;
 use thiserror::Error as DeriveError;
+
+/// How many paths may be asked for.
+pub const MOST_PATHS: usize = 16;
+
+/// How a line tells of a buffer.
+#[derive(Clone, Copy, Debug, PartialEq, Eq)]
+pub enum Form {
+    /// By words and numbers.
+    Plain,
+    /// By a JSON object.
+    Json,
+}
 
 /// What the words of the command line ask for.
 #[derive(Drop)]
@@ -17,33 +32,36 @@ pub struct Settings {
     pub ident: Option<[u8; 4]>,
     /// Whether it must have the schema's own (`--schema-ident`); `ident` is none then.
     pub schema_ident: bool,
-    /// The path whose value each yes line ends with (`--path`).
-    pub path: Option<String>,
-    /// How many tables may stand one inside another, 0 to 4,096 (`--max-depth`, 64).
-    pub depth: u32,
-    /// How many tables may be visited in one buffer (`--max-tables`, 1,000,000).
-    pub tables: u32,
-    /// How many counted reads one buffer may take, 0 to 18,446,744,073,709,551,615 (`--max-reads`, 100,000,000).
-    pub reads: u64,
-    /// How many of them each byte of a buffer allows, beside 4,096 (`--reads-per-byte`, 64).
+    /// The paths whose values each yes line ends with, in this order, 16 at most (`--path`).
+    pub paths: Vec<String>,
+    /// How many tables may stand one inside another, 0 to 4,096 (`--max-depth`, 64), how many may be visited in one
+    /// buffer (`--max-tables`, 1,000,000), and how many counted reads it may take, 0 to 18,446,744,073,709,551,615
+    /// (`--max-reads`, 100,000,000).
+    pub limits: Limits,
+    /// How many of these reads each byte of a buffer allows, beside 4,096 (`--reads-per-byte`, 64).
     pub reads_per_byte: u32,
     /// How many bytes a message may have, prefix included, 8 to 2,147,483,647 (`--max-bytes`,
     /// 67,108,864).
     pub max_bytes: u32,
-    /// Whether the input is one bare buffer, and no stream (`--bare`).
+    /// Whether an input is one bare buffer, and no stream (`--bare`).
     pub bare: bool,
-    /// Whether alignment is checked (not with `--no-alignment`).
-    pub alignment: bool,
-    /// Whether fields are held against their table's inline size (`--inline-size`).
-    pub inline_size: bool,
+    /// Whether the prefix with a message's length is no part of the buffer (`--delimited`); `bare` is false then.
+    pub delimited: bool,
+    /// Whether alignment is checked (not with `--no-alignment`), and whether fields are held against their table's
+    /// inline size (`--inline-size`).
+    pub checks: Checks,
     /// Whether good buffers have no lines (`--quiet`).
     pub quiet: bool,
-    /// Whether the good buffers themselves are written (`--filter`); there is no path then.
+    /// Whether the good buffers themselves are written (`--filter`); there are no paths then.
     pub filter: bool,
     /// Whether the notes get a line of what the run came to (`--summary`).
     pub summary: bool,
     /// Whether lines of bad buffers end with the place in words (`--names`).
     pub names: bool,
+    /// How lines are written (`--json`).
+    pub form: Form,
+    /// The files to be read, one behind another, of which `-` is standard input (`FILE`); none stands for that alone.
+    pub files: Vec<String>,
 }
 
 /// Why words give no settings.
@@ -61,6 +79,12 @@ pub enum SettingsFault {
     /// The words are read, and ask for an identifier and for the schema's own.
     #[error("ident and schema-ident exclude each other")]
     TwoIdents,
+    /// The words are read, and ask for more than 16 paths.
+    #[error("more than 16 paths")]
+    TooManyPaths,
+    /// The words are read, and ask for a bare buffer and for messages behind their lengths.
+    #[error("bare and delimited exclude each other")]
+    BareDelimited,
     /// No memory was to be had.
     #[error("out of memory")]
     OutOfMemory,
@@ -75,8 +99,20 @@ impl SettingsFault {
         match self {
             SettingsFault::Usage(error) if error.use_stderr() => 2,
             SettingsFault::Usage(_) => 0,
-            SettingsFault::BadIdent | SettingsFault::PathInFilter | SettingsFault::TwoIdents => 2,
+            SettingsFault::BadIdent
+            | SettingsFault::PathInFilter
+            | SettingsFault::TwoIdents
+            | SettingsFault::TooManyPaths
+            | SettingsFault::BareDelimited => 2,
             SettingsFault::OutOfMemory => 3,
         }
+    }
+}
+
+impl From<AllocError> for SettingsFault {
+    ghost from_gives = { λ _ fault. fault ≡ OutOfMemory };
+
+    fn from(_: AllocError) -> Self {
+        Self::OutOfMemory
     }
 }

@@ -18,10 +18,14 @@ const LONG_VERSION: &str = "1\nproved in Rattle, logic dac8208d650f15bf";
 enum Takes<'a> {
     /// A text, which help calls by this name.
     Text(&'a str),
+    /// A text each time that the option is given.
+    Texts(&'a str),
     /// A number that this parser passes, with a default.
     Number(ValueParser<'a>, &'a str),
     /// Nothing: the option is given or not.
     Nothing,
+    /// Words that stand by themselves, with no option's name before them.
+    Words(&'a str),
 }
 
 /// An option of the command line: its long name, what it takes, and what help says of it.
@@ -34,7 +38,7 @@ struct Choice<'a> {
 
 /// All options, in the order of help. As a constant they would be built anew in the loop's function, text by text,
 /// which is dear to prove.
-static CHOICES: [Choice<'static>; 17] = [
+static CHOICES: [Choice<'static>; 20] = [
     Choice {
         name: "schema",
         takes: Takes::Text("FILE"),
@@ -57,8 +61,8 @@ static CHOICES: [Choice<'static>; 17] = [
     },
     Choice {
         name: "path",
-        takes: Takes::Text("P"),
-        help: "Append the value at this path to the line of each good buffer",
+        takes: Takes::Texts("P"),
+        help: "Append the value at this path to the line of each good buffer; may be given up to 16 times",
     },
     Choice {
         name: "max-depth",
@@ -88,7 +92,12 @@ static CHOICES: [Choice<'static>; 17] = [
     Choice {
         name: "bare",
         takes: Takes::Nothing,
-        help: "Standard input is one bare buffer, not a stream",
+        help: "Each input is one bare buffer, not a stream",
+    },
+    Choice {
+        name: "delimited",
+        takes: Takes::Nothing,
+        help: "The four bytes with a message's length are no part of the buffer, which is a bare one",
     },
     Choice {
         name: "no-alignment",
@@ -120,23 +129,37 @@ static CHOICES: [Choice<'static>; 17] = [
         takes: Takes::Nothing,
         help: "End lines of bad buffers with the place in words",
     },
+    Choice {
+        name: "json",
+        takes: Takes::Nothing,
+        help: "Write each line as a JSON object",
+    },
+    Choice {
+        name: "files",
+        takes: Takes::Words("FILE"),
+        help: "The files to be read, - for standard input; without any, standard input",
+    },
 ];
 
 fn choice_arg<'a>(alloc: Global, choice: Choice<'a>) -> Arg<'a>
     ensures rule { rule_of result ≡ choice_rule choice.entry }
     ensures local { result.global ≡ false }
 {
-    let arg = Arg::new(alloc, choice.name)
-        .long(choice.name)
-        .help(choice.help);
+    let arg = Arg::new(alloc, choice.name).help(choice.help);
     match choice.takes {
-        Takes::Text(value) => arg.value_name(value),
+        Takes::Text(value) => arg.long(choice.name).value_name(value),
+        Takes::Texts(value) => arg
+            .long(choice.name)
+            .value_name(value)
+            .action(ArgAction::Append),
         Takes::Number(parser, default) => arg
+            .long(choice.name)
             .value_name("N")
             .value_parser(parser)
             .default_value(default)
             .action(ArgAction::Set),
-        Takes::Nothing => arg.action(ArgAction::SetTrue),
+        Takes::Nothing => arg.long(choice.name).action(ArgAction::SetTrue),
+        Takes::Words(value) => arg.value_name(value).action(ArgAction::Append),
     }
 }
 
@@ -145,8 +168,8 @@ fn named<'a>(alloc: Global) -> Command<'a>
     ensures app { app_of result ≡ named }
 {
     Command::new(alloc, "fbcheck")
-        .about("Checks size-prefixed FlatBuffers on standard input against a binary schema")
-        .override_usage("fbcheck [OPTIONS] < INPUT")
+        .about("Checks FlatBuffers in files or on standard input against a binary schema")
+        .override_usage("fbcheck [OPTIONS] [FILE]... < INPUT")
         .version(VERSION)
         .long_version(LONG_VERSION)
 }

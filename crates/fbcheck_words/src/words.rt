@@ -1,87 +1,96 @@
-ghost use Rattle.std.specs.Prelude.{IfOk, IfErr, IfSome, OnOk, OnErr, ℕ, ◌≢◌, length, option_map, IsTrue, ◌≡◌, ◌≤◌, ◌↔◌, List, map, string_bytes, [], Some, codes};
-ghost use Rattle.clap.specs.Faults.{fault_of};
-ghost use Rattle.clap.specs.Words.{first_value, found_of, one_text};
+ghost use Rattle.std.specs.Prelude.{IfOk, IfErr, IfSome, IsSomeAnd, OnErr, ℕ, ◌≢◌, length, option_map, IsTrue, ◌≡◌, ◌↔◌, List, map, string_bytes, Some, codes};
+ghost use Rattle.clap.specs.Words.{Text, first_value, found_of, one_text};
 ghost use Rattle.fbcheck_words.specs.Ranges.{AreInRange};
-ghost use Rattle.fbcheck_words.specs.CommandLine.{program};
-ghost use Rattle.fbcheck_words.specs.Given.{AreGiven};
-ghost use Rattle.fbcheck_words.specs.Values.{HoldsNumber, HoldsWideNumber, IsWrittenIn};
+ghost use Rattle.fbcheck_words.specs.Given.{AreGiven, Say, contradiction};
+ghost use Rattle.fbcheck_words.specs.Values.{HoldsNumber, HoldsWideNumber, IsNumberIn};
 ghost use Rattle.fbcheck_words.specs.Refusal.{Refuses};
-ghost use Rattle.fbcheck_words.specs.Matched.{IsReadOf};
+ghost use Rattle.fbcheck_words.specs.Matched.{IsReadOf, all_values};
+ghost use Rattle.fbcheck_words.specs.declared.choices.Form.TheVariants.{Json};
 
-use crate::choices::{Settings, SettingsFault};
+use crate::choices::{Form, MOST_PATHS, Settings, SettingsFault};
 use crate::command::command;
 use clap::ArgMatches;
 use clap::error::ErrorKind;
+use fb_verify::{Checks, Limits};
 use std::alloc::{AllocError, Global};
 
 /// What the words ask for, the program's name first.
 ///
 /// # Errors
 ///
-/// `Usage` where `clap` refuses them, help included, `BadIdent` where it reads them and the identifier isn't four bytes
-/// long, then `PathInFilter` where they ask for a filter and a path, then `TwoIdents` where they ask for an identifier
-/// and for the schema's own, and `OutOfMemory` for want of memory.
+/// `Usage` where `clap` refuses them, help included, and `BadIdent` where it reads them and the identifier isn't four
+/// bytes long. Then, where they say what doesn't agree, `PathInFilter` for a filter with a path, then `TwoIdents` for an
+/// identifier beside the schema's own, then `TooManyPaths` for more than 16, and then `BareDelimited` for a bare buffer
+/// behind its length. `OutOfMemory` for want of memory.
 pub fn settings(alloc: Global, words: &[String]) -> Result<Settings, SettingsFault>
     ensures given { IfOk result (AreGiven (map string_bytes words.now)) }
     ensures ranges { IfOk result AreInRange }
     ensures refused { IfErr result (Refuses (map string_bytes words.now)) }
 {
     let matches = matched(alloc, words)?;
-    let Ok(ident) = identifier(&matches) else {
+    let settings = said(alloc, &matches)?;
+    match contradiction(&settings) {
+        Some(fault) => Err(fault),
+        None => Ok(settings),
+    }
+}
+
+/// What the matches say, agreeing or not.
+fn said(alloc: Global, matches: &ArgMatches<'_>) -> Result<Settings, SettingsFault>
+    requires { (words : List Text) × IsReadOf words matches.now }
+    ensures says { (words : List Text) → IsReadOf words matches.now → IfOk result (Say words) }
+    ensures refused { (words : List Text) → IsReadOf words matches.now → IfErr result (Refuses words) }
+{
+    let Ok(ident) = identifier(matches) else {
         return Err(SettingsFault::BadIdent);
     };
-    let schema_ident = flag(&matches, "schema-ident");
-    let Ok(schema) = copied(alloc, &matches, "schema") else {
-        return Err(SettingsFault::OutOfMemory);
-    };
-    let Ok(root) = copied(alloc, &matches, "root") else {
-        return Err(SettingsFault::OutOfMemory);
-    };
-    let Ok(path) = copied(alloc, &matches, "path") else {
-        return Err(SettingsFault::OutOfMemory);
-    };
-    let depth = number(&matches, "max-depth", 0, 4096);
-    let tables = number(&matches, "max-tables", 0, u32::MAX);
-    let reads = wide_number(&matches, "max-reads");
-    let reads_per_byte = number(&matches, "reads-per-byte", 0, u32::MAX);
-    let max_bytes = number(&matches, "max-bytes", 8, 2_147_483_647);
-    let bare = flag(&matches, "bare");
-    let alignment = !flag(&matches, "no-alignment");
-    let inline_size = flag(&matches, "inline-size");
-    let quiet = flag(&matches, "quiet");
-    let filter = flag(&matches, "filter");
-    let summary = flag(&matches, "summary");
-    let names = flag(&matches, "names");
-    if filter && path.is_some() {
-        return Err(SettingsFault::PathInFilter);
-    }
-    if schema_ident && ident.is_some() {
-        return Err(SettingsFault::TwoIdents);
-    }
+    let schema = copied(alloc, matches, "schema")?;
+    let root = copied(alloc, matches, "root")?;
+    let paths = all_copied(alloc, matches, "path")?;
+    let files = all_copied(alloc, matches, "files")?;
     Ok(Settings {
         schema,
         root,
         ident,
-        schema_ident,
-        path,
-        depth,
-        tables,
-        reads,
-        reads_per_byte,
-        max_bytes,
-        bare,
-        alignment,
-        inline_size,
-        quiet,
-        filter,
-        summary,
-        names,
+        schema_ident: flag(matches, "schema-ident"),
+        paths,
+        limits: limits(matches),
+        reads_per_byte: number(matches, "reads-per-byte", 0, u32::MAX),
+        max_bytes: number(matches, "max-bytes", 8, 2_147_483_647),
+        bare: flag(matches, "bare"),
+        delimited: flag(matches, "delimited"),
+        checks: Checks {
+            alignment: !flag(matches, "no-alignment"),
+            inline_size: flag(matches, "inline-size"),
+        },
+        quiet: flag(matches, "quiet"),
+        filter: flag(matches, "filter"),
+        summary: flag(matches, "summary"),
+        names: flag(matches, "names"),
+        form: form(matches),
+        files,
     })
+}
+
+/// What is refused of settings that don't agree with one another.
+fn contradiction(settings: &Settings) -> Option<SettingsFault>
+    ensures { result ≡ contradiction settings.now }
+{
+    if settings.filter && !settings.paths.is_empty() {
+        Some(SettingsFault::PathInFilter)
+    } else if settings.schema_ident && settings.ident.is_some() {
+        Some(SettingsFault::TwoIdents)
+    } else if settings.paths.len() > MOST_PATHS {
+        Some(SettingsFault::TooManyPaths)
+    } else if settings.bare && settings.delimited {
+        Some(SettingsFault::BareDelimited)
+    } else {
+        None
+    }
 }
 
 /// What `clap` reads of the words.
 fn matched<'a>(alloc: Global, words: &'a [String]) -> Result<ArgMatches<'a>, SettingsFault>
-    ensures read { OnOk result (fault_of program (map string_bytes words.now) ≡ []) }
     ensures refused { IfErr result (Refuses (map string_bytes words.now)) }
     ensures matches { IfOk result (IsReadOf (map string_bytes words.now)) }
 {
@@ -129,10 +138,48 @@ fn copied(alloc: Global, matches: &ArgMatches<'_>, id: &str) -> Result<Option<St
     }
 }
 
+/// Copies of the texts that the matches hold for an option, in their order.
+fn all_copied(alloc: Global, matches: &ArgMatches<'_>, id: &str) -> Result<Vec<String>, AllocError>
+    ensures { IfOk result (λ v. map string_bytes v.items ≡ all_values (found_of matches.now) id.now) }
+{
+    match matches.get_strs(id) {
+        Some(texts) => copies(alloc, texts),
+        None => Ok(Vec::new(alloc)),
+    }
+}
+
+/// Copies of these texts.
+fn copies(alloc: Global, texts: &[&str]) -> Result<Vec<String>, AllocError>
+    ensures { IfOk result (λ v. map string_bytes v.items ≡ map (λ s. s.now) texts.now) }
+{
+    let mut copies = Vec::new(alloc);
+    for text in texts {
+        copies.push(String::from_str(alloc, text)?)?;
+    }
+    Ok(copies)
+}
+
+/// The limits that the matches hold.
+fn limits(matches: &ArgMatches<'_>) -> Limits
+    requires depth { HoldsNumber (one_text (found_of matches.now) (codes "max-depth")) 0 4096 }
+    requires tables { HoldsNumber (one_text (found_of matches.now) (codes "max-tables")) 0 4294967295 }
+    requires reads { HoldsWideNumber (one_text (found_of matches.now) (codes "max-reads")) }
+    ensures depth { IsNumberIn (one_text (found_of matches.now) (codes "max-depth")) 0 4096 result.depth }
+    ensures tables { IsNumberIn (one_text (found_of matches.now) (codes "max-tables")) 0 4294967295 result.tables }
+    ensures reads { IsSomeAnd result.reads (IsNumberIn (one_text (found_of matches.now) (codes "max-reads")) 0 18446744073709551615) }
+{
+    let depth = number(matches, "max-depth", 0, 4096);
+    let tables = number(matches, "max-tables", 0, u32::MAX);
+    let Ok(limits) = Limits::new(depth, tables) else {
+        unreachable!()
+    };
+    limits.with_reads(wide_number(matches, "max-reads"))
+}
+
 /// The number that the matches hold for an option.
 fn number(matches: &ArgMatches<'_>, id: &str, least: u32, most: u32) -> u32
     requires { HoldsNumber (one_text (found_of matches.now) id.now) least most }
-    ensures { IsWrittenIn (one_text (found_of matches.now) id.now) result × (least ≤ result) × (result ≤ most) }
+    ensures { IsNumberIn (one_text (found_of matches.now) id.now) least most result }
 {
     match matches.get_one::<u32>(id) {
         Some(number) => number,
@@ -143,7 +190,7 @@ fn number(matches: &ArgMatches<'_>, id: &str, least: u32, most: u32) -> u32
 /// The same of an option that may be any number of `u64`.
 fn wide_number(matches: &ArgMatches<'_>, id: &str) -> u64
     requires { HoldsWideNumber (one_text (found_of matches.now) id.now) }
-    ensures { IsWrittenIn (one_text (found_of matches.now) id.now) result × (result ≤ 18446744073709551615) }
+    ensures { IsNumberIn (one_text (found_of matches.now) id.now) 0 18446744073709551615 result }
 {
     match matches.get_one::<u64>(id) {
         Some(number) => number,
@@ -158,5 +205,16 @@ fn flag(matches: &ArgMatches<'_>, id: &str) -> bool
     match matches.get_str(id) {
         Some(text) => text == "true",
         None => false,
+    }
+}
+
+/// The form of lines that is asked for.
+fn form(matches: &ArgMatches<'_>) -> Form
+    ensures { (result ≡ Json) ↔ (first_value (found_of matches.now) (codes "json") ≡ Some (codes "true")) }
+{
+    if flag(matches, "json") {
+        Form::Json
+    } else {
+        Form::Plain
     }
 }

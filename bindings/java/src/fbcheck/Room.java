@@ -5,7 +5,8 @@ import java.lang.foreign.MemorySegment;
 
 /**
  * Room for the open tables of one check, which a thread keeps for the next one. A check would do with its own stack,
- * but then it clears 16 KB each time; a virtual thread has it do so, since there may be millions of them.
+ * but then it clears 5 KB where more than three tables are open; a virtual thread has it do so, since there may be
+ * millions of them.
  */
 final class Room implements AutoCloseable {
     private static final ThreadLocal<Room> KEPT = new ThreadLocal<>();

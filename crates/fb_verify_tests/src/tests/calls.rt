@@ -1,14 +1,15 @@
 //! Each public call once, where it succeeds and where it refuses.
 
-use super::question::Question;
-use super::samples::SAMPLES;
+use super::question::{answer, limits};
 use super::schemas::{MEMBERS, MONSTERS};
 use case_text::buffer::bytes_of;
 use case_text::rows::schema_of;
 use fb_bytes::Meter;
+use fb_schema::Schema;
 use fb_verify::{
     Checks, Ident, Limits, Reason, Report, Scratch, ScratchFault, Start, most_reads, verify,
 };
+use std::alloc::Global;
 use std::fmt::Debug;
 use std::process::Abort;
 use std::test::Fail;
@@ -32,86 +33,129 @@ fn a_scratch_has_up_to_4096_levels(rt: HostRuntime) {
     same(&rt, refused, Some(ScratchFault::LimitOutOfRange));
 }
 
-#[test]
-fn the_price_is_known_in_advance(rt: HostRuntime) -> Result<(), Fail> {
-    let alloc = rt.alloc();
-    let schema = schema_of(alloc, MONSTERS)?;
-    same(
-        &rt,
-        most_reads(&schema, Limits::published(), 32),
-        84_000_004,
-    );
-    same(&rt, most_reads(&schema, Limits::new(64, 0)?, 32), 4);
+/// Asserts the prices of buffers of 32 bytes by the schema of monsters.
+fn prices_of_monsters(rt: &impl Abort, schema: &Schema<'_>) {
+    let published = Limits::published();
+    same(rt, most_reads(schema, published, 32), 84_000_004);
+    same(rt, most_reads(schema, limits(rt, 64, 0), 32), 4);
     for (budget, most) in [
         (0, 7),
         (10, 17),
         (83_999_996, 84_000_003),
         (u64::MAX, 84_000_004),
     ] {
-        let limits = Limits::published().with_reads(budget);
-        same(&rt, most_reads(&schema, limits, 32), most);
+        let limits = published.with_reads(budget);
+        same(rt, most_reads(schema, limits, 32), most);
     }
-    let nothing = schema_of(alloc, "")?;
+}
+
+/// Asserts that buffers of every length have one price by a schema without tables.
+fn prices_of_nothing(rt: &impl Abort, schema: &Schema<'_>) {
     for len in [0, 32, 0x7fff_ffff] {
-        same(&rt, most_reads(&nothing, Limits::new(64, 7)?, len), 32);
+        same(rt, most_reads(schema, limits(rt, 64, 7), len), 32);
     }
+}
+
+#[test]
+fn the_price_is_known_in_advance(rt: HostRuntime) -> Result<(), Fail> {
+    let schema = schema_of(rt.alloc(), MONSTERS)?;
+    prices_of_monsters(&rt, &schema);
     Ok(())
 }
 
 #[test]
-fn what_was_verified_is_told(rt: HostRuntime) -> Result<(), Fail> {
-    let alloc = rt.alloc();
-    let bytes = bytes_of(alloc, &SAMPLES, "28000000 PICKED")?;
-    let schema = schema_of(alloc, MEMBERS)?;
+fn a_schema_without_tables_has_one_price(rt: HostRuntime) -> Result<(), Fail> {
+    let schema = schema_of(rt.alloc(), "")?;
+    prices_of_nothing(&rt, &schema);
+    Ok(())
+}
+
+/// Asserts that what was verified of a union behind a prefix is told.
+fn is_told(
+    rt: &impl Abort,
+    schema: &Schema<'_>,
+    bytes: &[u8],
+    scratch: &mut Scratch,
+) -> Result<(), Fail> {
     let checks = Checks {
         alignment: true,
         inline_size: true,
     };
     let limits = Limits::published();
-    let mut scratch = Scratch::new(alloc, 64)?;
     assert!(rt; schema.is_table(ONE) && limits.depth() <= scratch.depth());
     let verified = verify(
-        Meter::new(&bytes)?,
-        &schema,
+        Meter::new(bytes)?,
+        schema,
         ONE,
         Start::Prefixed,
         Ident::Any,
         limits,
         checks,
-        &mut scratch,
+        scratch,
     )?;
     let report = Report {
         tables: 2,
         depth: 2,
         reads: 14,
     };
-    same(&rt, verified.report(), report);
-    same(&rt, verified.window().len(), 44);
-    same(&rt, verified.schema().object_count(), 4);
-    same(&rt, verified.root(), ONE);
-    same(&rt, verified.start(), Start::Prefixed);
-    same(&rt, verified.checks(), checks);
+    same(rt, verified.report(), report);
+    same(rt, verified.window().len(), 44);
+    same(rt, verified.schema().object_count(), 4);
+    same(rt, verified.root(), ONE);
+    same(rt, verified.start(), Start::Prefixed);
+    same(rt, verified.checks(), checks);
+    Ok(())
+}
+
+/// The same by the schema of these unions.
+fn is_told_by(rt: &impl Abort, alloc: Global, schema: &Schema<'_>) -> Result<(), Fail> {
+    let bytes = bytes_of(alloc, &[], "28000000 PICKED")?;
+    let mut scratch = Scratch::new(alloc, 64)?;
+    is_told(rt, schema, &bytes, &mut scratch)
+}
+
+#[test]
+fn what_was_verified_is_told(rt: HostRuntime) -> Result<(), Fail> {
+    let schema = schema_of(rt.alloc(), MEMBERS)?;
+    is_told_by(&rt, rt.alloc(), &schema)
+}
+
+/// Why a sample is refused by a schema within one level, if it is.
+fn refusal(
+    rt: &impl Abort,
+    alloc: Global,
+    schema: &Schema<'_>,
+    root: u32,
+    sample: &str,
+    scratch: &mut Scratch,
+) -> Result<Option<Reason>, Fail> {
+    let bytes = bytes_of(alloc, &[], sample)?;
+    let answer = answer(rt, schema, root, limits(rt, 1, 7), &bytes, scratch);
+    Ok(answer.err().map(|fault| fault.reason))
+}
+
+/// Asserts why a sample is refused by the schema of these rows.
+fn is_refused(
+    rt: &impl Abort,
+    alloc: Global,
+    rows: &str,
+    root: u32,
+    sample: &str,
+    want: Option<Reason>,
+    scratch: &mut Scratch,
+) -> Result<(), Fail> {
+    let schema = schema_of(alloc, rows)?;
+    let refusal = refusal(rt, alloc, &schema, root, sample, scratch)?;
+    same(rt, refusal, want);
+    same(rt, scratch.depth(), 1);
     Ok(())
 }
 
 #[test]
 fn a_scratch_serves_another_schema_after_a_fault(rt: HostRuntime) -> Result<(), Fail> {
     let alloc = rt.alloc();
-    let (unions, monster) = (schema_of(alloc, MEMBERS)?, schema_of(alloc, MONSTERS)?);
     let mut scratch = Scratch::new(alloc, 1)?;
-    let (picked, orc) = (
-        bytes_of(alloc, &SAMPLES, "PICKED")?,
-        bytes_of(alloc, &SAMPLES, "ORC")?,
-    );
-    let question = Question::read(&unions, "root=One depth=1").ok_or("no question")?;
-    let refused = question.answer(&rt, &unions, &picked, &mut scratch)?;
-    same(
-        &rt,
-        refused.err().map(|fault| fault.reason),
-        Some(Reason::TooDeep),
-    );
-    same(&rt, scratch.depth(), 1);
-    let question = Question::read(&monster, "depth=1").ok_or("no question")?;
-    assert!(rt; question.answer(&rt, &monster, &orc, &mut scratch)?.is_ok());
-    Ok(())
+    let too_deep = Some(Reason::TooDeep);
+    is_refused(&rt, alloc, MEMBERS, ONE, "PICKED", too_deep, &mut scratch)?;
+    is_refused(&rt, alloc, MONSTERS, 0, "ORC", None, &mut scratch)
 }

@@ -1,11 +1,12 @@
-use Rattle.std.proofs.Common.{ap, [], take, arith}
+use Rattle.std.proofs.Common.{List, None, ap, [], arith}
 use Rattle.std.proofs.lemmas.List.Elements.{All-nil}
-use Rattle.fb_verify.specs.Stack.{HaltsAlong, IsLinked}
-use Rattle.fb_verify.specs.Told.{stopped}
+use Rattle.fb_verify.specs.Stack.{HaltsAlong, IsLinked, StopsIn, last_link}
+use Rattle.fb_verify.specs.Told.{stopped, way_at}
 use Rattle.fb_verify.specs.Verdict.{Reports}
+use Rattle.fb_verify.specs.declared.scratch.Frame.{Frame}
 use Rattle.fb_verify.specs.declared.site.LastLink.TheVariants.{Behind}
 use Rattle.fb_verify.proofs.Frames.{if_err_exit}
-use Rattle.fb_verify.proofs.Verdicts.{stops_at_start, stops_below_start, none_along, price_of_no, reports, price_of_yes}
+use Rattle.fb_verify.proofs.Verdicts.{stops_at_start, stops_below_start, fault_along, none_along, price_of_no, reports, price_of_yes}
 use Rattle.fb_verify.proofs.verdict.trace.Goals as goal
 use Rattle.fb_verify.proofs.verdict.trace.Goals.{In-Err, In_err-run, After-reads}
 
@@ -18,15 +19,20 @@ fails_at_start c =
       linked = All-nil (IsLinked a.checks a.meter.now.bytes a.schema.now);
     }
 
--- where the walk fails, the frames lead there
-halts : (c : In_err-run) → HaltsAlong c.args.checks c.args.meter.now.bytes c.args.schema.now c.args.root c.args.start c.args.ident c.args.limits (take c.in_err-run.field-0.0.links c.run.new.frames) c.in_err-run.field-0.0.last (stopped c.in_err-run.field-0.0.stop c.run.new.meter.count)
-halts c =
+-- where the walk fails, and frames lead there from its root table
+halts : (c : In_err-run) (way : List Frame)
+    → StopsIn c.args.checks c.args.meter.now.bytes c.args.schema.now c.args.limits (record { object = c.args.root; position = c.in-Ok.at; way = way_at 0 0 0 c.read_start.new.meter.count (record { object = c.args.root; field = None }) }) way (last_link c.in_err-run.field-0.0.last (stopped c.in_err-run.field-0.0.stop c.run.new.meter.count)) (stopped c.in_err-run.field-0.0.stop c.run.new.meter.count)
+    → HaltsAlong c.args.checks c.args.meter.now.bytes c.args.schema.now c.args.root c.args.start c.args.ident c.args.limits way c.in_err-run.field-0.0.last (stopped c.in_err-run.field-0.0.stop c.run.new.meter.count)
+halts c way h =
     let a = c.args in
-    let h = rw (ap (λ m. m.bytes) c.in-Ok.ensures.counted) at c.in_err-run.ensures.err in
     record {
       along = stops_below_start a.checks a.meter.now.bytes a.schema.now a.root a.start a.ident a.limits c.in-Ok.at c.read_start.new.meter.count _ _ c.in-Ok.ensures.ok c.in-Ok.ensures.value (omega (arith, c.requires.fresh, ap (λ m. m.count) c.in-Ok.ensures.counted)) h.along;
       linked = h.linked;
     }
+
+-- some frames do
+halts_somehow : (c : In_err-run) → (way : List Frame) × HaltsAlong c.args.checks c.args.meter.now.bytes c.args.schema.now c.args.root c.args.start c.args.ident c.args.limits way c.in_err-run.field-0.0.last (stopped c.in_err-run.field-0.0.stop c.run.new.meter.count)
+halts_somehow c = let e = c.in_err-run.ensures.err in (e.0, halts c e.0 (rw (ap (λ m. m.bytes) c.in-Ok.ensures.counted) at e.1))
 
 -- else the report tells what it came to
 tells : (c : After-reads) → Reports c.args.checks c.args.meter.now.bytes c.args.schema.now c.args.root c.args.start c.args.ident c.args.limits (record { tables = c.run.new.self.tables; depth = c.run.new.self.deepest; reads = c.reads.result })
@@ -37,7 +43,10 @@ tells c =
     c.reads.result c.in-Ok.ensures.ok c.in-Ok.ensures.value (omega (arith, c.requires.fresh, ap (λ m. m.count) c.in-Ok.ensures.counted)) (rw (ap (λ m. m.bytes) c.in-Ok.ensures.counted) at ran.ok) ran.within ran.shallow ran.reads c.reads.ensures.count
 
 pub returns-in-Err-clause-along : goal.returns-in-Err-clause-along
-returns-in-Err-clause-along c = rw c.halt.ensures (fails_at_start (goal.at.returns-in-Err-clause-along c).In-Err)
+returns-in-Err-clause-along c _ = rw c.halt.ensures (fails_at_start (goal.at.returns-in-Err-clause-along c).In-Err)
+
+pub returns-in-Err-clause-no : goal.returns-in-Err-clause-no
+returns-in-Err-clause-no c = rw c.halt.ensures (fault_along (fails_at_start (goal.at.returns-in-Err-clause-no c).In-Err))
 
 pub returns-in-Err-clause-none : goal.returns-in-Err-clause-none
 returns-in-Err-clause-none c = none_along (fails_at_start (goal.at.returns-in-Err-clause-none c).In-Err)
@@ -46,13 +55,18 @@ pub returns-in-Err-clause-price : goal.returns-in-Err-clause-price
 returns-in-Err-clause-price c = price_of_no (fails_at_start (goal.at.returns-in-Err-clause-price c).In-Err)
 
 pub returns-in_err-run-clause-along : goal.returns-in_err-run-clause-along
-returns-in_err-run-clause-along c = if_err_exit _ _ _ c.from_residual.ensures.1 (halts (goal.at.returns-in_err-run-clause-along c).In_err-run)
+returns-in_err-run-clause-along c =
+    let d = (goal.at.returns-in_err-run-clause-along c).In_err-run in
+    if_err_exit _ _ _ c.from_residual.ensures.1 (λ enough. halts d _ (rw (ap (λ m. m.bytes) d.in-Ok.ensures.counted) at (d.in_err-run.ensures.along enough)))
+
+pub returns-in_err-run-clause-no : goal.returns-in_err-run-clause-no
+returns-in_err-run-clause-no c = if_err_exit _ _ _ c.from_residual.ensures.1 (fault_along ((halts_somehow (goal.at.returns-in_err-run-clause-no c).In_err-run).1))
 
 pub returns-in_err-run-clause-none : goal.returns-in_err-run-clause-none
-returns-in_err-run-clause-none c = if_err_exit _ _ _ c.from_residual.ensures.1 (none_along (halts (goal.at.returns-in_err-run-clause-none c).In_err-run))
+returns-in_err-run-clause-none c = if_err_exit _ _ _ c.from_residual.ensures.1 (none_along ((halts_somehow (goal.at.returns-in_err-run-clause-none c).In_err-run).1))
 
 pub returns-in_err-run-clause-price : goal.returns-in_err-run-clause-price
-returns-in_err-run-clause-price c = price_of_no (halts (goal.at.returns-in_err-run-clause-price c).In_err-run)
+returns-in_err-run-clause-price c = price_of_no ((halts_somehow (goal.at.returns-in_err-run-clause-price c).In_err-run).1)
 
 pub returns-clause-yes : goal.returns-clause-yes
 returns-clause-yes c = tells (goal.at.returns-clause-yes c).After-reads

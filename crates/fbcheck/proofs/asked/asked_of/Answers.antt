@@ -12,8 +12,8 @@ returns-clause-job c =
       record {
         root = c.in-Some.root;
         root_is = sym c.find_root.ensures.number ∙ c.in-Some.is;
-        steps = c.in-Ok-find_path.path;
-        steps_are = search rules;
+        paths = c.in-Ok-find_paths.paths;
+        paths_are = rw c.as_slice.ensures.value at c.in-Ok-find_paths.ensures.paths;
         ident = c.in-Some-find_ident.ident;
         ident_is = sym (c.find_ident.ensures loaded.root) ∙ c.in-Some-find_ident.is;
         job_is = search rules;
@@ -26,8 +26,8 @@ returns-in_default-find_ident-clause-none c =
     let lacks : LacksIdent loaded.schema (own_of loaded) c.args.settings.now = record {
       root = c.in-Some.root;
       root_is = sym c.find_root.ensures.number ∙ c.in-Some.is;
-      steps = c.in-Ok-find_path.path;
-      steps_are = search rules;
+      paths = c.in-Ok-find_paths.paths.items;
+      paths_are = rw c.as_slice.ensures.value at c.in-Ok-find_paths.ensures.paths;
       none = sym (c.find_ident.ensures loaded.root) ∙ search rules;
     } in
     subst (IsUntold c.args.schema_bytes c.args.settings.now) (sym c.plain.ensures)

@@ -1,4 +1,4 @@
-use Rattle.std.proofs.Common.{◌≡◌, ◌++◌, ◌≤◌, drop}
+use Rattle.std.proofs.Common.{◌≡◌, ◌++◌, drop}
 use Rattle.fbcheck.specs.Hints.{listed, tables_in}
 use Rattle.fbcheck.proofs.hint.put_tables.Given as goal
 

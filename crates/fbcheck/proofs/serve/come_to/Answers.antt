@@ -2,12 +2,12 @@ use Rattle.std.proofs.Common.{Err, None, Option, refl, subst}
 use Rattle.std.specs.Prelude.{map, string_bytes}
 use Rattle.std.proofs.KnownBytes.{Keeps-refl}
 use Rattle.clap.specs.Walk.{Text}
-use Rattle.fb_run.specs.Ends.{reader_of, writer_of}
+use Rattle.fb_run.specs.Ends.{ends_of, reader_of, writer_of}
 use Rattle.fbcheck.specs.Serving.{ComesTo, IsFileFault, words_of}
 use Rattle.fbcheck_words.specs.declared.choices.SettingsFault.TheVariants as refusal
 use Rattle.fbcheck.specs.declared.stop.Stop.TheVariants as stop
 use Rattle.fb_run.proofs.RunLemmas.{err_exit}
-use Rattle.fbcheck.proofs.ServingLemmas.{checks_given, comes_read, comes_unserved, holds_given, prompt_read}
+use Rattle.fbcheck.proofs.ServingLemmas.{checks_given, comes_files, comes_read, comes_run, comes_unserved, files_end_so, holds_given, none_named, passes_given, prompt_alone, prompt_among, prompt_read, run_ends_so, some_named}
 use Rattle.fbcheck.proofs.serve.come_to.Goals as goal
 
 pub returns-in-Err-settings-clause-comes : goal.returns-in-Err-settings-clause-comes
@@ -23,8 +23,8 @@ pub returns-in-Err-read_schema-clause-comes : goal.returns-in-Err-read_schema-cl
 returns-in-Err-read_schema-clause-comes g c =
     let set = c.in-Ok-settings.ensures in
     comes_read _ c.args.words c.in-Ok.words c.as_slice.result.now _ _ _ _ c.in-Ok.is c.as_slice.ensures.value (
-      set.given.read,
-      subst (λ (t : Option Text). IsFileFault (g.F.Files.gives c.args.files.now) t c.in-Err-read_schema.fault c.in_ok-file_hint-in-Err-read_schema.field-0.items) set.given.schema
+      set.given.said.read,
+      subst (λ (t : Option Text). IsFileFault (g.F.Files.gives c.args.files.now) t c.in-Err-read_schema.fault c.in_ok-file_hint-in-Err-read_schema.field-0.items) set.given.said.schema
           (c.in-Err-read_schema.ensures.fault, c.in_ok-file_hint-in-Err-read_schema.ensures),
       (Keeps-refl _, (Keeps-refl _, Keeps-refl _)),
       refl,
@@ -47,21 +47,43 @@ returns-in_err-ran-clause-comes g c =
       refl,
     ))
 
-pub returns-in-Ok-end-clause-comes : goal.returns-in-Ok-end-clause-comes
-returns-in-Ok-end-clause-comes g c =
+pub returns-in_err-passed-clause-comes : goal.returns-in_err-passed-clause-comes
+returns-in_err-passed-clause-comes g c =
+    let set = c.in-Ok-settings.ensures in
+    err_exit c.from_residual-in_err-passed.result _ (ComesTo (g.F.Files.gives c.args.files.now) (words_of c.args.words) _ _ None) c.from_residual-in_err-passed.ensures.1
+    (comes_read _ c.args.words c.in-Ok.words c.as_slice.result.now _ _ _ _ c.in-Ok.is c.as_slice.ensures.value (
+      holds_given _ _ c.in-Ok-settings.settings c.as_deref-2.result _ _ set.given c.as_deref-2.ensures.value c.in-Ok-read_schema.ensures.bytes c.in_err-passed.ensures.served.0,
+      c.in_err-passed.ensures.served.1,
+      refl,
+    ))
+
+pub returns-then-is_empty-clause-comes : goal.returns-then-is_empty-clause-comes
+returns-then-is_empty-clause-comes g c =
     let set = c.in-Ok-settings.ensures in
     comes_read _ c.args.words c.in-Ok.words c.as_slice.result.now _ _ _ _ c.in-Ok.is c.as_slice.ensures.value
-    (checks_given _ _ c.in-Ok-settings.settings c.as_deref.result _ _ _ _ _ _ _ c.in-Ok-end.is
-    set.given c.as_deref.ensures.value c.in-Ok-read_schema.ensures.bytes c.in_ok-ran.ensures.run c.summed.ensures)
+    (comes_run (g.F.Files.gives c.args.files.now) _ _ _ _ _ _ c.run_ending.result c.run_ending.ensures
+    (checks_given _ _ c.in-Ok-settings.settings c.as_deref.result _ _ _ _ _ _ _ refl set.given c.as_deref.ensures.value c.in-Ok-read_schema.ensures.bytes
+    (none_named c.in-Ok-settings.settings.files.items c.as_slice-2.result.now c.is_empty.result c.as_slice-2.ensures.value c.is_empty.ensures c.if-is_empty.true) c.in_ok-ran.ensures.run c.summed.ensures))
+
+pub returns-then-is_empty-clause-ends : goal.returns-then-is_empty-clause-ends
+returns-then-is_empty-clause-ends g c =
+    run_ends_so (g.F.Files.gives c.args.files.now) (ends_of g.S.Input g.K.Sink g.N.Sink c.args.reader.now c.args.writer.now c.args.notes.now)
+    (ends_of g.S.Input g.K.Sink g.N.Sink c.check_beside.new.reader c.check_beside.new.writer c.check_beside.new.notes) 4294967296 c.in_ok-ran.ran.tally c.in_ok-ran.ran.end c.run_ending.result
+    c.run_ending.ensures c.in_ok-ran.ensures.end
 
 pub returns-clause-comes : goal.returns-clause-comes
 returns-clause-comes g c =
     let set = c.in-Ok-settings.ensures in
-    comes_read _ c.args.words c.in-Ok.words c.as_slice.result.now _ _ _ _ c.in-Ok.is c.as_slice.ensures.value (
-      _,
-      checks_given _ _ c.in-Ok-settings.settings c.as_deref.result _ _ _ _ _ _ _ c.in-Err-end.is
-          set.given c.as_deref.ensures.value c.in-Ok-read_schema.ensures.bytes c.in_ok-ran.ensures.run c.summed.ensures,
-    )
+    comes_read _ c.args.words c.in-Ok.words c.as_slice.result.now _ _ _ _ c.in-Ok.is c.as_slice.ensures.value
+    (comes_files (g.F.Files.gives c.args.files.now) _ _ _ _ _ _ c.files_ending.result c.files_ending.ensures
+    (passes_given _ _ c.in-Ok-settings.settings c.as_deref-2.result _ _ _ _ _ _ _ refl set.given c.as_deref-2.ensures.value c.in-Ok-read_schema.ensures.bytes
+    (some_named c.in-Ok-settings.settings.files.items c.as_slice-2.result.now c.is_empty.result c.as_slice-2.ensures.value c.is_empty.ensures c.if-is_empty.false) c.in_ok-passed.ensures.served c.summed-2.ensures))
+
+pub returns-clause-ends : goal.returns-clause-ends
+returns-clause-ends g c =
+    files_end_so (g.F.Files.gives c.args.files.now) (ends_of g.S.Input g.K.Sink g.N.Sink c.args.reader.now c.args.writer.now c.args.notes.now)
+    (ends_of g.S.Input g.K.Sink g.N.Sink c.check_files.new.reader c.check_files.new.writer c.check_files.new.notes) 4294967296 c.in_ok-passed.passed.course c.in_ok-passed.passed.end
+    c.files_ending.result c.files_ending.ensures
 
 pub check_beside-requires-clause-leave : goal.check_beside-requires-clause-leave
 check_beside-requires-clause-leave g c now prompt unended =
@@ -69,4 +91,16 @@ check_beside-requires-clause-leave g c now prompt unended =
     c.requires.leave now
     (prompt_read _ c.args.words c.in-Ok.words c.as_slice.result.now _ _ c.in-Ok.is c.as_slice.ensures.value
     (holds_given _ _ c.in-Ok-settings.settings c.as_deref.result _ _
-    set.given c.as_deref.ensures.value c.in-Ok-read_schema.ensures.bytes prompt)) unended
+    set.given c.as_deref.ensures.value c.in-Ok-read_schema.ensures.bytes
+    (prompt_alone (g.F.Files.gives c.args.files.now) c.as_deref.result c.in-Ok-settings.settings _ _
+    (none_named c.in-Ok-settings.settings.files.items c.as_slice-2.result.now c.is_empty.result c.as_slice-2.ensures.value c.is_empty.ensures c.if-is_empty.true) prompt))) unended
+
+pub check_files-requires-clause-leave : goal.check_files-requires-clause-leave
+check_files-requires-clause-leave g c now prompt unended =
+    let set = c.in-Ok-settings.ensures in
+    c.requires.leave now
+    (prompt_read _ c.args.words c.in-Ok.words c.as_slice.result.now _ _ c.in-Ok.is c.as_slice.ensures.value
+    (holds_given _ _ c.in-Ok-settings.settings c.as_deref-2.result _ _
+    set.given c.as_deref-2.ensures.value c.in-Ok-read_schema.ensures.bytes
+    (prompt_among (g.F.Files.gives c.args.files.now) c.as_deref-2.result c.in-Ok-settings.settings _ _
+    (some_named c.in-Ok-settings.settings.files.items c.as_slice-2.result.now c.is_empty.result c.as_slice-2.ensures.value c.is_empty.ensures c.if-is_empty.false) prompt))) unended

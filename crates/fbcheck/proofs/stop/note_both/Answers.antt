@@ -1,5 +1,3 @@
-use Rattle.std.proofs.Common.{◌+◌, ◌∙◌, arith, sym}
-use Rattle.std.specs.Prelude.{length}
 use Rattle.fbcheck.proofs.NoteLemmas.{second_noted}
 use Rattle.fbcheck.proofs.stop.note_both.Goals as goal
 

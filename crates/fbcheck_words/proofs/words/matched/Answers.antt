@@ -1,13 +1,10 @@
 use Rattle.std.proofs.Common.{rules}
-use Rattle.fbcheck_words.proofs.WordsLemmas.{is_read, no_fault, refused_by}
+use Rattle.fbcheck_words.proofs.WordsLemmas.{is_read, refused_by}
 use Rattle.fbcheck_words.proofs.words.matched.Goals.{in-OutOfMemory, in_default-kind}
 use Rattle.fbcheck_words.proofs.words.matched.Goals as goal
 
-pub returns-clause-read : goal.returns-clause-read
-returns-clause-read c = no_fault _ _ c.in-Ok.ensures.app c.in-Ok-try_get_matches_from.ensures.kinds
-
 pub returns-clause-matches : goal.returns-clause-matches
-returns-clause-matches c = is_read _ _ _ c.in-Ok-try_get_matches_from.ensures.parsed c.in-Ok.ensures.app c.in-Ok-try_get_matches_from.ensures.matches
+returns-clause-matches c = is_read _ _ _ c.in-Ok-try_get_matches_from.ensures.kinds c.in-Ok-try_get_matches_from.ensures.parsed c.in-Ok.ensures.app c.in-Ok-try_get_matches_from.ensures.matches
 
 pub returns-in-Err-clause-refused : goal.returns-in-Err-clause-refused
 returns-in-Err-clause-refused c = elim c.match-kind.branch [

@@ -5,11 +5,11 @@ use Rattle.fb_verify.specs.Links.{StopsAlong}
 use Rattle.std.specs.Prelude.{take}
 use Rattle.fb_run.specs.Job.{limits_for}
 use Rattle.fb_run.proofs.PlaceLemmas.{has_place}
-use Rattle.fb_run.proofs.checker.Checker.verified.Goals.{in-Ok-put_location, in-Err-put_location}
+use Rattle.fb_run.proofs.checker.Checker.verified.Goals.{in-Ok-put_place, in-Err-put_place}
 use Rattle.fb_run.proofs.checker.Checker.verified.Goals as goal
 
-pub returns-after-put_location-clause-refused : goal.returns-after-put_location-clause-refused
-returns-after-put_location-clause-refused g c =
+pub returns-after-put_place-clause-refused : goal.returns-after-put_place-clause-refused
+returns-after-put_place-clause-refused g c =
     let job = c.args.self.now in
     let bytes = c.args.bytes.now in
     let fault = c.in-Err.field-0.fault in
@@ -17,13 +17,13 @@ returns-after-put_location-clause-refused g c =
     let meter = ap (λ m. m.bytes) c.in-Ok.ensures.meter in
     let stops : Stops job.checks bytes job.rows job.root job.start job.ident (limits_for job bytes) fault = rw (sym c.limits_for-limits.ensures, sym c.start-start.ensures, sym c.self.view_is) (rw meter at c.in-Err.ensures.no) in
     let along : StopsAlong job.checks bytes job.rows job.root job.start job.ident (limits_for job bytes) fault links = rw (sym c.limits_for-limits.ensures, sym c.start-start.ensures, sym c.self.view_is) (rw meter at c.in-Err.ensures.along) in
-    elim c.match-put_location.branch [
-      | in-Ok-put_location w ↦ rw w.result-is tt
-      | in-Err-put_location w ↦ rw w.result-is (has_place job bytes fault links (rw (sym c.self.view_is) c.in-Words.is) stops along)
+    elim c.match-put_place.branch [
+      | in-Ok-put_place w ↦ rw w.result-is tt
+      | in-Err-put_place w ↦ rw w.result-is (has_place job bytes fault links (rw (sym c.self.view_is) c.in-Words.is) stops along)
     ]
 
 pub returns-in-Ok-verify_and_locate-clause-room : goal.returns-in-Ok-verify_and_locate-clause-room
 returns-in-Ok-verify_and_locate-clause-room g c = grind (arith, common_steps)
 
-pub returns-after-put_location-clause-verdict : goal.returns-after-put_location-clause-verdict
-returns-after-put_location-clause-verdict g c = grind (arith, common_steps)
+pub returns-after-put_place-clause-verdict : goal.returns-after-put_place-clause-verdict
+returns-after-put_place-clause-verdict g c = grind (arith, common_steps)

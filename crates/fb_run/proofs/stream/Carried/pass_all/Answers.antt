@@ -14,14 +14,14 @@ use Rattle.fb_run.proofs.stream.Carried.pass_all.Goals as goal
 pub read_whole-requires-clause-leave : goal.read_whole-requires-clause-leave
 read_whole-requires-clause-leave g c now prompt unended =
     let first = ends_of g.S.Input g.K.Sink g.N.Sink c.args.reader.now c.args.writer.now c.args.notes.now in
-    c.requires.leave now (prompt_bare _ _ first now c.start.ensures c.in-Bare.is (subst (λ limit. IsBarePrompt limit first now) c.limit-limit.ensures.value prompt)) unended
+    c.requires.leave now (prompt_bare _ _ first now c.is_bare.ensures c.if-is_bare.true (subst (λ limit. IsBarePrompt limit first now) c.limit-limit.ensures.value prompt)) unended
 
 pub returns-in_err-whole-clause-run : goal.returns-in_err-whole-clause-run
 returns-in_err-whole-clause-run g c =
     let first = ends_of g.S.Input g.K.Sink g.N.Sink c.args.reader.now c.args.writer.now c.args.notes.now in
     let now = ends_of g.S.Input g.K.Sink g.N.Sink c.read_whole.new.source c.args.writer.now c.args.notes.now in
     err_exit c.from_residual.result _ (IsRunBeside c.args.checker.now first now c.args.self.now.output.counter) c.from_residual.ensures.1
-    (runs_bare _ _ first now c.start.ensures _ _ c.in-Bare.is
+    (runs_bare _ _ first now c.is_bare.ensures _ _ c.if-is_bare.true
     (fails_untold _ first now _ _ (ap (λ (s : Standing). s.tally) c.requires.start) (c.in_err-whole.ensures.fault c.args.checker.now (sym c.limit-limit.ensures.value))))
 
 pub returns-in_err-whole-clause-end : goal.returns-in_err-whole-clause-end
@@ -30,15 +30,15 @@ returns-in_err-whole-clause-end g c =
     let now = ends_of g.S.Input g.K.Sink g.N.Sink c.read_whole.new.source c.args.writer.now c.args.notes.now in
     err_exit c.from_residual.result _ (EndsBeside first now c.args.turns) c.from_residual.ensures.1 c.in_err-whole.ensures.cause
 
-pub returns-in-Bare-clause-run : goal.returns-in-Bare-clause-run
-returns-in-Bare-clause-run g c =
+pub returns-then-is_bare-clause-run : goal.returns-then-is_bare-clause-run
+returns-then-is_bare-clause-run g c =
     let first = ends_of g.S.Input g.K.Sink g.N.Sink c.args.reader.now c.args.writer.now c.args.notes.now in
     let now = ends_of g.S.Input g.K.Sink g.N.Sink c.read_whole.new.source c.tell_whole.new.writer c.tell_whole.new.notes in
-    runs_bare _ _ first now c.start.ensures _ _ c.in-Bare.is
+    runs_bare _ _ first now c.is_bare.ensures _ _ c.if-is_bare.true
     (c.tell_whole.ensures.run first.reader now.reader (subst (Consumes first.reader.left now.reader.left) (sym c.as_slice.ensures.value) c.in_ok-whole.ensures.ok))
 
-pub returns-in-Bare-clause-end : goal.returns-in-Bare-clause-end
-returns-in-Bare-clause-end g c =
+pub returns-then-is_bare-clause-end : goal.returns-then-is_bare-clause-end
+returns-then-is_bare-clause-end g c =
     let first = ends_of g.S.Input g.K.Sink g.N.Sink c.args.reader.now c.args.writer.now c.args.notes.now in
     let now = ends_of g.S.Input g.K.Sink g.N.Sink c.read_whole.new.source c.tell_whole.new.writer c.tell_whole.new.notes in
     ends_told first now c.args.turns c.tell_whole.result c.in_ok-whole.ensures.unfailed c.in_ok-whole.ensures.end c.tell_whole.ensures.end
@@ -47,7 +47,7 @@ pub pull_piece-requires-clause-leave : goal.pull_piece-requires-clause-leave
 pull_piece-requires-clause-leave g c =
     let before = c.loop-left.invariant in
     let now = ends_of g.S.Input g.K.Sink g.N.Sink c.loop-left.reader c.loop-left.writer c.loop-left.notes in
-    c.requires.leave now (prompt_stream _ _ (ends_of g.S.Input g.K.Sink g.N.Sink c.args.reader.now c.args.writer.now c.args.notes.now) now c.start.ensures c.in_default.not-Bare (search rules)) before.asks
+    c.requires.leave now (prompt_stream _ _ (ends_of g.S.Input g.K.Sink g.N.Sink c.args.reader.now c.args.writer.now c.args.notes.now) now c.is_bare.ensures c.if-is_bare.false (search rules)) before.asks
 
 pub loop-left-init : goal.loop-left-init
 loop-left-init g c = record {
@@ -93,7 +93,7 @@ returns-in_err-pass_piece-clause-run g c =
     let now = ends_of g.S.Input g.K.Sink g.N.Sink c.pull_piece.new.source c.pass_piece.new.writer c.pass_piece.new.notes in
     err_exit c.from_residual-in_err-pass_piece.result _ (IsRunBeside c.args.checker.now first now c.pass_piece.new.self.output.counter)
     c.from_residual-in_err-pass_piece.ensures.1
-    (runs_stream _ _ first now c.start.ensures _ _ c.in_default.not-Bare
+    (runs_stream _ _ first now c.is_bare.ensures _ _ c.if-is_bare.false
     (fails_piece _ (standing c.loop-left.self) _ _ _ first between now.reader now.outs c.as_slice-in-loop-left.ensures.value before.empty before.told c.in-Ok.ensures.ok _ _ c.in_err-pass_piece.ensures.stops))
 
 pub returns-in_err-pass_piece-clause-end : goal.returns-in_err-pass_piece-clause-end

@@ -7,21 +7,29 @@ use Rattle.fb_verify.specs.Told.{stopped, way_at}
 use Rattle.fb_verify.specs.Stack.{blank, opened, IsFrame, IsLinked, Origin, StopsIn, work}
 use Rattle.fb_verify.proofs.Frames.{head_few, frame_opened, work_opened}
 use Rattle.fb_verify.proofs.Standings.{begin, stop_at_root}
+use Rattle.fb_verify.proofs.stack.Walk.run.Goals.{In-Err}
 use Rattle.fb_verify.proofs.stack.Walk.run.Goals as goal
 
-pub returns-in-Err-clause-err : goal.returns-in-Err-clause-err
-returns-in-Err-clause-err g c =
+-- where the root table can't be opened, no frame leads there
+fails_at_root : (g : _) (c : In-Err g) → StopsIn c.args.self.now.checks c.args.meter.now.bytes c.args.self.now.schema.now c.args.self.now.limits g.start [] [] (stopped c.in-Err.stop c.open_table.new.meter.count)
+fails_at_root g c =
     let ch = c.args.self.now.checks in
     let b = c.args.meter.now.bytes in
     let S = c.args.self.now.schema.now in
     let s : Origin = record { object = c.args.root.object; position = c.args.root.at; way = way_at 0 c.args.self.now.tables c.args.self.now.deepest c.args.meter.now.count c.args.site } in
-    let stops = stop_at_root ch b S c.args.self.now.limits s c.args.root.at c.args.site c.args.self.now.tables c.args.self.now.deepest c.args.meter.now.count _ refl refl c.requires.1.1.1.1.1.0 c.requires.1.1.1.1.1.1.0 c.requires.1.1.1.1.1.1.1.0 c.in-Err.ensures.err in
+    let stops = stop_at_root ch b S c.args.self.now.limits s c.args.root.at c.args.site c.args.self.now.tables c.args.self.now.deepest c.args.meter.now.count _ refl refl c.requires.1.1.1.1.1.1.0 c.requires.1.1.1.1.1.1.1.0 c.requires.1.1.1.1.1.1.1.1.0 c.in-Err.ensures.err in
     let none : StopsIn ch b S c.args.self.now.limits s [] [] (stopped c.in-Err.stop c.open_table.new.meter.count) = record { along = stops; linked = All-nil (IsLinked ch b S) } in
-    rw (c.halt.ensures, c.requires.0) none
+    rw c.requires.0 none
 
-pub loop-after-init : goal.loop-after-init
+pub returns-in-Err-clause-err : goal.returns-in-Err-clause-err
+returns-in-Err-clause-err g c = ([], rw c.halt.ensures (fails_at_root g (goal.at.returns-in-Err-clause-err g c).In-Err))
+
+pub returns-in-Err-clause-along : goal.returns-in-Err-clause-along
+returns-in-Err-clause-along g c _ = rw c.halt.ensures (fails_at_root g (goal.at.returns-in-Err-clause-along g c).In-Err)
+
+pub go_on-requires : goal.go_on-requires
 unfolding work
-loop-after-init g c =
+go_on-requires g c =
     let b = c.args.meter.now.bytes in
     let S = c.args.self.now.schema.now in
     let L = c.args.self.now.limits in
@@ -37,22 +45,17 @@ loop-after-init g c =
     let new = work_opened ch b S table c.requires.1.0 in
     let some : 0 < length xs = omega (arith, c.in-Ok.ensures.shallow, c.requires.1.1.1.1.0) in
     let top = get_or-set_same xs 0 c.opened.result blank some in
-    rw (c.in-Ok.ensures.opened, c.in-Ok.ensures.counted, top, c.opened.ensures) (record {
-      schema = refl;
-      limits = refl;
-      checks = refl;
-      bytes = refl;
-      room = omega (arith, length-set xs 0 (opened table), c.requires.1.1.1.1.0);
-      walking = record {
+    rw (c.in-Ok.ensures.opened, c.in-Ok.ensures.counted, top, c.opened.ensures) (
+      record {
         served = c.requires.1.0;
         tables = omega (arith, c.in-Ok.ensures.fewer);
-        deepest = omega (arith, c.in-Ok.ensures.shallow, c.requires.1.1.1.1.1.1.0);
+        deepest = omega (arith, c.in-Ok.ensures.shallow, c.requires.1.1.1.1.1.1.1.0);
         reads = rw c.in-Ok.ensures.counted at c.in-Ok.ensures.reads;
         links = c.in-Ok.ensures.shallow;
         low = omega arith;
         frames = All-nil (IsFrame ch b S);
         frame = frame;
         standing = rw c.requires.0 h;
-      };
-      budget = omega (arith, new, head_few ch, c.requires.1.1.1.1.1.1.1.1, c.in-Ok.ensures.fewer, c.in-Ok.ensures.few_tables);
-    })
+      },
+      (omega (arith, length-set xs 0 (opened table), some), omega (arith, new, head_few ch, c.requires.1.1.1.1.1.1.1.1.1, c.in-Ok.ensures.fewer, c.in-Ok.ensures.few_tables)),
+    )

@@ -1,0 +1,312 @@
+-- The text of JSON by its parts.
+use Rattle.std.proofs.Common.{◌≡◌, ℕ, zero, suc, ◌+◌, ◌<◌, ◌≤◌, ◌/◌, ◌%◌, ◌^◌, Bool, true, false, cond, List, [], ◌∷◌, ◌++◌, Option}
+use Rattle.std.proofs.Common.{Some, None, codes, decimal, length, fold, get_or, drop, Fits, w8, refl, sym, ap, ◌∙◌, arith, append_assoc, append-nil, ◌⊎◌, inl, inr}
+use Rattle.std.specs.Prelude.{nat_lt}
+use Rattle.std.specs.Str.{is_utf8, IsUtf8}
+use Rattle.std.proofs.lemmas.Bool.Decides.{nat_tests}
+use Rattle.std.proofs.lemmas.List.{drop_more, drop_all}
+use Rattle.std.proofs.lemmas.Str.{IsUtf8-from_is_utf8, is_utf8-from_IsUtf8}
+use Rattle.std.proofs.lemmas.List.Sums.{fold-append}
+use Rattle.std.proofs.lemmas.Grind.{flat_map-append}
+use Rattle.hex.specs.Hex.{encode_lower, encode_with, lower_digits}
+use Rattle.std.proofs.Math.Facts.{Fits-lt-pow}
+use Rattle.json.specs.Token.{Token}
+use Rattle.json.specs.Json.{Json, null, boolean, number, string, array, object, Items, no_items, item, Members, no_members, member}
+use Rattle.json.specs.Print.{print_from, ends, escape, escape_byte, quoted}
+use Rattle.json.specs.Tree.{json_tokens, items_tokens, members_tokens}
+use Rattle.json.proofs.Printed.Tokens.{print_from-append}
+use Rattle.fb_schema.specs.Rows.{Rows}
+use Rattle.fb_verify.specs.declared.fault.Fault.{Fault}
+use Rattle.fb_verify.specs.declared.fault.Report.{Report}
+use Rattle.fb_access.specs.Denotes.{Shown, nothing, no_element, other_member, table}
+use Rattle.fb_run.specs.Json.{json_text, text_json, value_json, labelled, digits_json, line_json, values_member, yes_members, no_members_of}
+use Rattle.fb_run.specs.Json.{place_member, values_members, members_text, member_part, following, begin_part, counts_part, reason_part, names_part, end_part, json_yes, json_no}
+
+-- a comma, behind a value
+abbrev comma : Bool → List ℕ
+comma after = cond after (44 ∷ []) []
+
+-- whether a value ended behind these tokens
+abbrev ended : Bool → List Token → Bool
+ended after ts = fold (λ _ t. ends t) after ts
+
+mutual
+  ends_json : (j : Json) (after : Bool) → ended after (json_tokens j) ≡ true
+  ends_json null after = refl
+  ends_json (boolean b) after = refl
+  ends_json (number s) after = refl
+  ends_json (string s) after = refl
+  ends_json (array js) after = ends_items js false
+  ends_json (object ms) after = ends_members ms false
+
+  ends_items : (js : Items) (after : Bool) → ended after (items_tokens js) ≡ true
+  ends_items no_items after = refl
+  ends_items (item j js) after = fold-append (λ _ t. ends t) after (json_tokens j) (items_tokens js) ∙ ends_items js (ended after (json_tokens j))
+
+  ends_members : (ms : Members) (after : Bool) → ended after (members_tokens ms) ≡ true
+  ends_members no_members after = refl
+  ends_members (member k j ms) after = fold-append (λ _ t. ends t) false (json_tokens j) (members_tokens ms) ∙ ends_members ms (ended false (json_tokens j))
+
+-- a value behind another has a comma before it
+begins_json : (after : Bool) (j : Json) → print_from after (json_tokens j) ≡ comma after ++ json_text j
+unfolding print_from json_text
+begins_json true null = refl
+begins_json true (boolean b) = refl
+begins_json true (number s) = refl
+begins_json true (string s) = refl
+begins_json true (array js) = refl
+begins_json true (object ms) = refl
+begins_json false j = refl
+
+-- a value, and what stands behind it
+value_then : (after : Bool) (j : Json) (ts : List Token) → print_from after (json_tokens j ++ ts) ≡ comma after ++ (json_text j ++ print_from true ts)
+value_then after j ts =
+    print_from-append after (json_tokens j) ts
+    ∙ ap (λ a. print_from after (json_tokens j) ++ print_from a ts) (ends_json j after)
+    ∙ ap (λ l. l ++ print_from true ts) (begins_json after j)
+    ∙ append_assoc (comma after) (json_text j) (print_from true ts)
+
+-- the text of a number, and of a string
+pub number_text : (s : List ℕ) → json_text (number s) ≡ s
+unfolding print_from json_text
+number_text s = append-nil s
+
+pub string_text : (s : List ℕ) → json_text (string s) ≡ quoted s
+unfolding print_from json_text
+string_text s = append-nil (quoted s)
+
+-- a member, and what stands behind it
+member_then : (behind : Bool) (key : List ℕ) (j : Json) (ms : Members)
+    → members_text behind (member key j ms) ≡ comma behind ++ (quoted key ++ (58 ∷ (json_text j ++ following ms)))
+unfolding members_text print_from
+member_then true key j ms = ap (λ l. 44 ∷ ((quoted key ++ 58 ∷ []) ++ l)) (value_then false j (members_tokens ms)) ∙ ap (λ l. 44 ∷ l) (append_assoc (quoted key) (58 ∷ []) _)
+member_then false key j ms = ap (λ l. (quoted key ++ 58 ∷ []) ++ l) (value_then false j (members_tokens ms)) ∙ append_assoc (quoted key) (58 ∷ []) _
+
+pub next_member : (key : List ℕ) (j : Json) (ms : Members) → following (member key j ms) ≡ 44 ∷ (quoted key ++ (58 ∷ (json_text j ++ following ms)))
+next_member key j ms = member_then true key j ms
+
+-- the same by what is written
+part_then : (behind : Bool) (key : List ℕ) (j : Json) (ms : Members) → members_text behind (member key j ms) ≡ member_part behind key j ++ following ms
+part_then true key j ms =
+    member_then true key j ms ∙ ap (λ l. 44 ∷ (l ++ (58 ∷ (json_text j ++ following ms)))) (sym (string_text key))
+    ∙ ap (λ l. 44 ∷ l) (sym (append_assoc (json_text (string key)) (58 ∷ json_text j) (following ms)))
+part_then false key j ms =
+    member_then false key j ms ∙ ap (λ l. l ++ (58 ∷ (json_text j ++ following ms))) (sym (string_text key))
+    ∙ sym (append_assoc (json_text (string key)) (58 ∷ json_text j) (following ms))
+
+-- the end of an object
+none_left : (behind : Bool) → members_text behind no_members ≡ codes "}"
+unfolding members_text print_from
+none_left true = refl
+none_left false = refl
+
+pub no_more : following no_members ≡ codes "}"
+no_more = none_left true
+
+-- an object
+pub object_text : (ms : Members) → json_text (object ms) ≡ codes "{" ++ members_text false ms
+unfolding members_text print_from json_text
+object_text ms = refl
+
+first_member : (key : List ℕ) (j : Json) (ms : Members) → json_text (object (member key j ms)) ≡ 123 ∷ (quoted key ++ (58 ∷ (json_text j ++ following ms)))
+first_member key j ms = object_text (member key j ms) ∙ ap (λ l. 123 ∷ l) (member_then false key j ms)
+
+pub true_text : json_text (boolean true) ≡ codes "true"
+unfolding print_from json_text
+true_text = refl
+
+pub false_text : json_text (boolean false) ≡ codes "false"
+unfolding print_from json_text
+false_text = refl
+
+pub null_text : json_text null ≡ codes "null"
+unfolding print_from json_text
+null_text = refl
+
+-- an object of one member
+pub labelled_text : (key : List ℕ) (j : Json) → json_text (labelled key j) ≡ 123 ∷ (quoted key ++ (58 ∷ (json_text j ++ codes "}")))
+labelled_text key j = first_member key j no_members ∙ ap (λ l. 123 ∷ (quoted key ++ (58 ∷ (json_text j ++ l)))) no_more
+
+-- hexadecimal digits stand in a string as they are
+abbrev StaysAs : ℕ → Type 0
+StaysAs b = escape_byte b ≡ b ∷ []
+
+abbrev Each : List ℕ → Type 0
+Each [] = Unit {0}
+Each (b ∷ bytes) = StaysAs b × Each bytes
+
+each_at : (bytes : List ℕ) (k : ℕ) → Each bytes → k < length bytes → StaysAs (get_or bytes k 0)
+each_at [] k each h = absurd (omega arith)
+each_at (b ∷ bytes) zero each h = each.0
+each_at (b ∷ bytes) (suc k) each h = each_at bytes k each.1 (omega arith)
+
+sixteen : Each lower_digits
+unfolding escape_byte
+sixteen = (refl, (refl, (refl, (refl, (refl, (refl, (refl, (refl, (refl, (refl, (refl, (refl, (refl, (refl, (refl, (refl, tt))))))))))))))))
+
+digits_stay : (bytes : List ℕ) → ((k : ℕ) → Fits w8 (get_or bytes k 0)) → escape (encode_lower bytes) ≡ encode_lower bytes
+unfolding encode_with
+digits_stay [] h = refl
+digits_stay (b ∷ bytes) h =
+    let small : b < 2 ^ 8 = Fits-lt-pow (h 0) in
+    let high = each_at lower_digits (b / 16) sixteen (omega arith) in
+    let low = each_at lower_digits (b % 16) sixteen (omega arith) in
+    λ i. high i ++ (low i ++ digits_stay bytes (λ k. h (suc k)) i)
+
+-- an object of one member whose value is digits
+labelled_digits : (key bytes : List ℕ) → ((k : ℕ) → Fits w8 (get_or bytes k 0))
+    → json_text (labelled key (digits_json bytes)) ≡ 123 ∷ (quoted key ++ (58 ∷ 34 ∷ (encode_lower bytes ++ codes "\"}")))
+labelled_digits key bytes h =
+    labelled_text key (digits_json bytes)
+    ∙ ap (λ l. 123 ∷ (quoted key ++ (58 ∷ (l ++ codes "}")))) (string_text (encode_lower bytes))
+    ∙ ap (λ l. 123 ∷ (quoted key ++ (58 ∷ 34 ∷ ((l ++ codes "\"") ++ codes "}")))) (digits_stay bytes h)
+    ∙ ap (λ l. 123 ∷ (quoted key ++ (58 ∷ 34 ∷ l))) (append_assoc (encode_lower bytes) (codes "\"") (codes "}"))
+
+not_true : (b : Bool) → (b ≡ true → ⊥) → b ≡ false
+not_true true h = absurd (h refl)
+not_true false h = refl
+
+-- and by its key's text
+pub labelled_parts : (key bytes text text' : List ℕ) → ((k : ℕ) → Fits w8 (get_or bytes k 0))
+    → text' ≡ text ++ (codes "{" ++ (json_text (string key) ++ ((codes ":\"" ++ encode_lower bytes) ++ codes "\"}"))) → text' ≡ text ++ json_text (labelled key (digits_json bytes))
+labelled_parts key bytes text text' h is =
+    is ∙ ap (λ l. text ++ l) (ap (λ l. 123 ∷ (l ++ (58 ∷ 34 ∷ (encode_lower bytes ++ codes "\"}")))) (string_text key) ∙ sym (labelled_digits key bytes h))
+
+-- and one whose value is a number
+pub labelled_number : (key s text text' : List ℕ)
+    → text' ≡ text ++ (codes "{" ++ (json_text (string key) ++ ((codes ":" ++ s) ++ codes "}"))) → text' ≡ text ++ json_text (labelled key (number s))
+labelled_number key s text text' is =
+    is ∙ ap (λ l. text ++ l) (
+    ap (λ l. 123 ∷ (l ++ (58 ∷ (s ++ codes "}")))) (string_text key)
+    ∙ sym (labelled_text key (number s) ∙ ap (λ l. 123 ∷ (quoted key ++ (58 ∷ (l ++ codes "}")))) (number_text s))
+    )
+
+-- those of absent values and of tables
+pub absent_texts : (json_text (value_json no_element) ≡ codes "{\"absent\":\"no-element\"}") × (json_text (value_json other_member) ≡ codes "{\"absent\":\"other-member\"}")
+unfolding print_from json_text escape_byte
+absent_texts = (refl, refl)
+
+pub table_text : json_text (value_json table) ≡ codes "{\"table\":true}"
+unfolding print_from json_text escape_byte
+table_text = refl
+
+-- a text that is UTF-8, and one that isn't
+pub text_is_string : (bytes : List ℕ) → IsUtf8 bytes → text_json bytes ≡ string bytes
+text_is_string bytes h = rw (is_utf8-from_IsUtf8 bytes h)
+
+pub text_is_bytes : (bytes : List ℕ) → (IsUtf8 bytes → ⊥) → text_json bytes ≡ labelled (codes "bytes") (digits_json bytes)
+text_is_bytes bytes h = rw (not_true (is_utf8 bytes) (λ e. h (IsUtf8-from_is_utf8 bytes e)))
+
+-- one byte more of a string
+pub escape_more : (xs : List ℕ) (b : ℕ) → escape (xs ++ b ∷ []) ≡ escape xs ++ escape_byte b
+escape_more xs b = flat_map-append escape_byte xs (b ∷ []) ∙ ap (λ l. escape xs ++ l) (append-nil (escape_byte b))
+
+-- a line by its beginning and the rest
+pub begun : (file : Option (List ℕ)) (k : ℕ) (rest : Members) → json_text (line_json file k rest) ≡ begin_part file k ++ following rest
+unfolding escape_byte
+begun None k rest = first_member (codes "message") (number (decimal k)) rest ∙ ap (λ l. codes "{\"message\":" ++ (l ++ following rest)) (number_text (decimal k))
+begun (Some file) k rest =
+    first_member (codes "file") (text_json file) (member (codes "message") (number (decimal k)) rest)
+    ∙ ap (λ l. codes "{\"file\":" ++ (json_text (text_json file) ++ l)) (next_member (codes "message") (number (decimal k)) rest ∙ ap (λ l. codes ",\"message\":" ++ (l ++ following rest)) (number_text (decimal k)))
+    ∙ simp append_assoc
+
+-- the place in words, where there is one
+pub place_parts : (place : List ℕ) → following (place_member (Some place)) ≡ codes ",\"place\":" ++ (json_text (text_json place) ++ codes "}")
+unfolding escape_byte
+place_parts place = next_member (codes "place") (text_json place) no_members ∙ ap (λ l. codes ",\"place\":" ++ (json_text (text_json place) ++ l)) no_more
+
+-- the values of some paths up to the one with this number, and then one more
+nat_lt_next : (i : ℕ) → nat_lt 0 (i + 1) ≡ true
+nat_lt_next i = grind (arith, nat_tests)
+
+pub one_value_more : (paths : List (List ℕ)) (values : List Shown) (i : ℕ) (text text' whole : List ℕ) → i < length paths → i < length values
+    → text ++ members_text (nat_lt 0 i) (values_members (drop i paths) (drop i values)) ≡ whole
+    → text' ≡ text ++ member_part (nat_lt 0 i) (get_or paths i []) (value_json (get_or values i nothing))
+    → text' ++ members_text (nat_lt 0 (i + 1)) (values_members (drop (i + 1) paths) (drop (i + 1) values)) ≡ whole
+one_value_more paths values i text text' whole few enough before more =
+    let path = get_or paths i [] in
+    let value = value_json (get_or values i nothing) in
+    let rest = values_members (drop (i + 1) paths) (drop (i + 1) values) in
+    ap (λ b. text' ++ members_text b rest) (nat_lt_next i)
+    ∙ ap (λ l. l ++ following rest) more
+    ∙ append_assoc text (member_part (nat_lt 0 i) path value) (following rest)
+    ∙ ap (λ l. text ++ l) (sym (part_then (nat_lt 0 i) path value rest))
+    ∙ ap (λ l. text ++ members_text (nat_lt 0 i) l)
+    (sym (ap (λ l. values_members l (drop i values)) (drop_more paths i [] few) ∙ ap (λ l. values_members (path ∷ drop (i + 1) paths) l) (drop_more values i nothing enough)))
+    ∙ before
+
+-- where paths or values end, so do members
+none_over : (paths : List (List ℕ)) (values : List Shown) → (paths ≡ []) ⊎ (values ≡ []) → values_members paths values ≡ no_members
+none_over paths values (inl e) = ap (λ l. values_members l values) e
+none_over [] values (inr e) = refl
+none_over (path ∷ paths) values (inr e) = ap (λ l. values_members (path ∷ paths) l) e
+
+all_over : (paths : List (List ℕ)) (values : List Shown) (i : ℕ) → (length paths ≤ i) ⊎ (length values ≤ i) → values_members (drop i paths) (drop i values) ≡ no_members
+all_over paths values i (inl h) = none_over (drop i paths) (drop i values) (inl (drop_all i paths h))
+all_over paths values i (inr h) = none_over (drop i paths) (drop i values) (inr (drop_all i values h))
+
+-- and the object is closed
+pub values_end : (paths : List (List ℕ)) (values : List Shown) (i : ℕ) (text text' whole : List ℕ) → (length paths ≤ i) ⊎ (length values ≤ i)
+    → text ++ members_text (nat_lt 0 i) (values_members (drop i paths) (drop i values)) ≡ whole → text' ≡ text ++ codes "}" → text' ≡ whole
+values_end paths values i text text' whole over before more =
+    more ∙ ap (λ l. text ++ l) (sym (ap (λ l. members_text (nat_lt 0 i) l) (all_over paths values i over) ∙ none_left (nat_lt 0 i))) ∙ before
+
+-- what a line has of values, where paths are asked for
+values_parts : (path : List ℕ) (paths : List (List ℕ)) (values : List Shown)
+    → following (values_member (path ∷ paths) values) ≡ codes ",\"values\":" ++ (json_text (object (values_members (path ∷ paths) values)) ++ codes "}")
+unfolding escape_byte
+values_parts path paths values =
+    next_member (codes "values") (object (values_members (path ∷ paths) values)) no_members
+    ∙ ap (λ l. codes ",\"values\":" ++ (json_text (object (values_members (path ∷ paths) values)) ++ l)) no_more
+
+pub asked_parts : (paths : List (List ℕ)) (values : List Shown) (text text' : List ℕ) → 0 < length paths
+    → text' ≡ text ++ (codes ",\"values\":{" ++ (members_text false (values_members paths values) ++ codes "}")) → text' ≡ text ++ following (values_member paths values)
+asked_parts [] values text text' some is = absurd (omega arith)
+asked_parts (path ∷ paths) values text text' some is =
+    is ∙ ap (λ l. text ++ l) (
+    ap (λ l. codes ",\"values\":" ++ (l ++ codes "}")) (sym (object_text (values_members (path ∷ paths) values)))
+    ∙ sym (values_parts path paths values)
+    )
+
+-- and where none are
+pub none_asked : (paths : List (List ℕ)) (values : List Shown) (text text' : List ℕ) → length paths ≡ 0 → text' ≡ text ++ codes "}" → text' ≡ text ++ following (values_member paths values)
+none_asked [] values text text' none is = is ∙ ap (λ l. text ++ l) (sym no_more)
+none_asked (path ∷ paths) values text text' none is = absurd (omega arith)
+
+-- what a yes has behind that
+pub yes_parts : (report : Report) (paths : List (List ℕ)) (values : List Shown)
+    → following (yes_members report paths values) ≡ counts_part report ++ following (values_member paths values)
+unfolding escape_byte
+yes_parts report paths values = simp (next_member, true_text, number_text, append_assoc)
+
+-- what a no has behind that
+pub no_parts : (rows : Rows) (fault : Fault) (place : Option (List ℕ))
+    → following (no_members_of rows fault place)
+    ≡ reason_part fault.reason ++ ((codes ",\"at\":" ++ decimal fault.at) ++ (names_part rows fault ++ end_part fault.reads place))
+unfolding escape_byte
+no_parts rows fault place = simp (next_member, false_text, number_text, append_assoc)
+
+-- the lines by what is written
+three : (a b c d : List ℕ) → (a ++ (b ++ c)) ++ d ≡ a ++ (b ++ (c ++ d))
+three a b c d = simp append_assoc
+
+pub yes_line : (file : Option (List ℕ)) (k : ℕ) (report : Report) (paths : List (List ℕ)) (values : List Shown) (text text' : List ℕ)
+    → text' ≡ text ++ (begin_part file k ++ (counts_part report ++ (following (values_member paths values) ++ codes "\n")))
+    → text' ≡ text ++ json_yes file k report paths values
+yes_line file k report paths values text text' is =
+    is ∙ ap (λ l. text ++ l) (sym (
+    ap (λ l. l ++ codes "\n") (begun file k (yes_members report paths values) ∙ ap (λ l. begin_part file k ++ l) (yes_parts report paths values))
+    ∙ three (begin_part file k) (counts_part report) (following (values_member paths values)) (codes "\n")
+    ))
+
+six : (a b c d e f : List ℕ) → (a ++ (b ++ (c ++ (d ++ e)))) ++ f ≡ a ++ (b ++ (c ++ (d ++ (e ++ f))))
+six a b c d e f = simp append_assoc
+
+pub no_line : (file : Option (List ℕ)) (k : ℕ) (rows : Rows) (fault : Fault) (place : Option (List ℕ)) (text text' : List ℕ)
+    → text' ≡ text ++ (begin_part file k ++ (reason_part fault.reason ++ ((codes ",\"at\":" ++ decimal fault.at) ++ (names_part rows fault ++ (end_part fault.reads place ++ codes "\n")))))
+    → text' ≡ text ++ json_no file k rows fault place
+no_line file k rows fault place text text' is =
+    is ∙ ap (λ l. text ++ l) (sym (
+    ap (λ l. l ++ codes "\n") (begun file k (no_members_of rows fault place) ∙ ap (λ l. begin_part file k ++ l) (no_parts rows fault place))
+    ∙ six (begin_part file k) (reason_part fault.reason) (codes ",\"at\":" ++ decimal fault.at) (names_part rows fault) (end_part fault.reads place) (codes "\n")
+    ))

@@ -1,0 +1,14 @@
+use Rattle.std.proofs.Common.{◌≡◌, ◌+◌, ◌*◌, ◌≤◌, length, take}
+use Rattle.std.specs.List.{flat_map}
+use Rattle.fb_run.specs.AnswerText.{spelled}
+use Rattle.fb_run.specs.Lines.{ComesBehind}
+use Rattle.fb_run.proofs.long_line.put_bytes.Given as goal
+
+abbrev pub invariant-loop-byte : goal.invariant-loop-byte
+invariant-loop-byte g l = record {
+  told : ComesBehind l.initial.out.bytes.items (flat_map (spelled l.spelling) (take l.byte-index l.bytes)) l.out.bytes.items
+      (g.K.Sink.contents l.initial.sink) (g.K.Sink.contents l.sink) l.initial.out.written l.out.written;
+  calls : g.K.Sink.calls l.sink + length l.out.bytes.items ≤ g.K.Sink.calls l.initial.sink + length l.initial.out.bytes.items + 4 * l.byte-index;
+  count : l.out.written + length l.out.bytes.items ≤ l.initial.out.written + length l.initial.out.bytes.items + 4 * l.byte-index;
+  failures : g.K.Sink.failures l.sink ≡ g.K.Sink.failures l.initial.sink;
+}

@@ -1,0 +1,155 @@
+-- Lines of JSON (RFC 8259): each is one value, as the kit's definition of such reads it, and a newline.
+use Rattle.std.specs.Prelude.{ℕ, ◌+◌, nat_lt, Bool, true, false, if◌then◌else◌, List, [], ◌∷◌, ◌++◌, Option, Some, None, codes, decimal, drop, take, option_map, option_and_then, slice_get}
+use Rattle.std.specs.Fmt.{signed_decimal}
+use Rattle.std.specs.Str.{is_utf8}
+use Rattle.hex.specs.Hex.{encode_lower}
+use Rattle.json.specs.Json.{Json, null, boolean, number, string, object, Members, no_members, member}
+use Rattle.json.specs.Print.{print, print_from}
+use Rattle.json.specs.Tree.{json_tokens, members_tokens}
+use Rattle.fb_schema.specs.Rows.{Rows}
+use Rattle.fb_verify.specs.Reasons.{reason_number, reason_text}
+use Rattle.fb_verify.specs.declared.fault.Fault.{Fault}
+use Rattle.fb_verify.specs.declared.fault.Reason.{Reason}
+use Rattle.fb_verify.specs.declared.fault.Report.{Report}
+use Rattle.fb_access.specs.Denotes.{Shown, nothing, no_element, other_member, truth, signed, unsigned, float, text, structure, vector, table, union}
+use Rattle.fb_access.specs.Location.{field_name}
+
+-- the text of a value, without a space
+unfoldable pub json_text : Json → List ℕ
+json_text value = print (json_tokens value)
+
+-- an object of one member
+abbrev pub labelled : List ℕ → Json → Json
+labelled key value = object (member key value no_members)
+
+-- bytes as hexadecimal digits
+abbrev pub digits_json : List ℕ → Json
+digits_json bytes = string (encode_lower bytes)
+
+-- a text: as it is where it is UTF-8, and by its bytes where it isn't
+abbrev pub text_json : List ℕ → Json
+text_json bytes = if is_utf8 bytes then string bytes else labelled (codes "bytes") (digits_json bytes)
+
+-- the same of a name, where there is one
+abbrev pub name_json : Option (List ℕ) → Json
+name_json None = null
+name_json (Some name) = text_json name
+
+-- a whole number
+abbrev pub count_json : ℕ → Json
+count_json n = number (decimal n)
+
+-- the value at the end of a path
+abbrev pub value_json : Shown → Json
+value_json nothing = null
+value_json no_element = labelled (codes "absent") (string (codes "no-element"))
+value_json other_member = labelled (codes "absent") (string (codes "other-member"))
+value_json (truth holds) = boolean holds
+value_json (signed z) = number (signed_decimal z)
+value_json (unsigned n) = count_json n
+value_json (float bytes) = labelled (codes "float") (digits_json bytes)
+value_json (text bytes) = text_json bytes
+value_json (structure bytes) = labelled (codes "struct") (digits_json bytes)
+value_json (vector count) = labelled (codes "vector") (count_json count)
+value_json table = labelled (codes "table") (boolean true)
+value_json (union n) = labelled (codes "union") (count_json n)
+
+-- the values of some paths, each by the text of its path
+abbrev pub values_members : List (List ℕ) → List Shown → Members
+values_members (path ∷ paths) (value ∷ values) = member path (value_json value) (values_members paths values)
+values_members _ _ = no_members
+
+-- what a line has of values: nothing where no path is asked for
+abbrev pub values_member : List (List ℕ) → List Shown → Members
+values_member [] values = no_members
+values_member (path ∷ paths) values = member (codes "values") (object (values_members (path ∷ paths) values)) no_members
+
+-- what every line begins with: the input's name, where it has one, and the message's number
+abbrev pub line_json : Option (List ℕ) → ℕ → Members → Json
+line_json None k rest = object (member (codes "message") (count_json k) rest)
+line_json (Some file) k rest = object (member (codes "file") (text_json file) (member (codes "message") (count_json k) rest))
+
+-- what the line of a yes has behind that
+abbrev pub yes_members : Report → List (List ℕ) → List Shown → Members
+yes_members report paths values =
+    member (codes "ok") (boolean true)
+    (member (codes "tables") (count_json report.tables)
+    (member (codes "depth") (count_json report.depth)
+    (member (codes "reads") (count_json report.reads)
+    (values_member paths values))))
+
+-- the code of a reason, and its name
+abbrev pub code_length : Reason → ℕ
+code_length reason = if nat_lt (reason_number reason) 10 then 2 else 3
+
+abbrev pub code_of : Reason → List ℕ
+code_of reason = take (code_length reason) (reason_text reason)
+
+abbrev pub name_of : Reason → List ℕ
+name_of reason = drop (code_length reason + 1) (reason_text reason)
+
+-- the names of a fault's object and field
+abbrev pub object_of : Rows → Fault → Option (List ℕ)
+object_of rows fault = option_map (λ o. o.name) (slice_get rows.objects fault.object)
+
+abbrev pub field_of : Rows → Fault → Option (List ℕ)
+field_of rows fault = option_and_then (field_name rows fault.object) fault.field
+
+-- where the fault is in words, if these are asked for
+abbrev pub place_member : Option (List ℕ) → Members
+place_member None = no_members
+place_member (Some place) = member (codes "place") (text_json place) no_members
+
+-- what the line of a no has behind the message's number
+abbrev pub no_members_of : Rows → Fault → Option (List ℕ) → Members
+no_members_of rows fault place =
+    member (codes "ok") (boolean false)
+    (member (codes "code") (string (code_of fault.reason))
+    (member (codes "reason") (string (name_of fault.reason))
+    (member (codes "at") (count_json fault.at)
+    (member (codes "object") (name_json (object_of rows fault))
+    (member (codes "field") (name_json (field_of rows fault))
+    (member (codes "reads") (count_json fault.reads)
+    (place_member place)))))))
+
+-- the lines of a yes and of a no on message number k
+abbrev pub json_yes : Option (List ℕ) → ℕ → Report → List (List ℕ) → List Shown → List ℕ
+json_yes file k report paths values = json_text (line_json file k (yes_members report paths values)) ++ codes "\n"
+
+abbrev pub json_no : Option (List ℕ) → ℕ → Rows → Fault → Option (List ℕ) → List ℕ
+json_no file k rows fault place = json_text (line_json file k (no_members_of rows fault place)) ++ codes "\n"
+
+-- ---- by the parts that are written
+
+-- members up to the brace that closes their object: behind another one, or as its first
+unfoldable pub members_text : Bool → Members → List ℕ
+members_text behind members = print_from behind (members_tokens members)
+
+abbrev pub following : Members → List ℕ
+following members = members_text true members
+
+-- one member
+abbrev pub member_part : Bool → List ℕ → Json → List ℕ
+member_part behind key value = (if behind then codes "," else []) ++ (json_text (string key) ++ (codes ":" ++ json_text value))
+
+-- what every line begins with
+abbrev pub begin_part : Option (List ℕ) → ℕ → List ℕ
+begin_part None k = codes "{\"message\":" ++ decimal k
+begin_part (Some file) k = codes "{\"file\":" ++ (json_text (text_json file) ++ (codes ",\"message\":" ++ decimal k))
+
+-- what a yes counted
+abbrev pub counts_part : Report → List ℕ
+counts_part report =
+    codes ",\"ok\":true,\"tables\":" ++ (decimal report.tables ++ (codes ",\"depth\":" ++ (decimal report.depth ++ (codes ",\"reads\":" ++ decimal report.reads))))
+
+-- the reason of a no
+abbrev pub reason_part : Reason → List ℕ
+reason_part reason = codes ",\"ok\":false,\"code\":" ++ (json_text (string (code_of reason)) ++ (codes ",\"reason\":" ++ json_text (string (name_of reason))))
+
+-- the names of its object and field
+abbrev pub names_part : Rows → Fault → List ℕ
+names_part rows fault = codes ",\"object\":" ++ (json_text (name_json (object_of rows fault)) ++ (codes ",\"field\":" ++ json_text (name_json (field_of rows fault))))
+
+-- its reads, and its place in words, where there is one
+abbrev pub end_part : ℕ → Option (List ℕ) → List ℕ
+end_part reads place = (codes ",\"reads\":" ++ decimal reads) ++ following (place_member place)

@@ -1,0 +1,16 @@
+use Rattle.std.proofs.Common.{◌≡◌, List, map, slice_get, ◌∙◌, ap}
+use Rattle.std.specs.Option.{option_and_then}
+use Rattle.fb_schema.specs.FlatRows.{object_in, enum_in, borrowed_rows, flat_rows}
+use Rattle.fb_schema.specs.Parts.{part_at, part_of}
+use Rattle.fb_schema.specs.Rows.{Field, Rows, field_of}
+use Rattle.fb_schema.proofs.schema.Schema.part_at.Goals as goal
+
+pub returns : goal.returns
+unfolding part_at
+returns g c =
+    let flat = c.self.inside.rows in
+    let lent = c.lists.result in
+    let same : borrowed_rows lent ≡ flat_rows flat = λ i. record { objects = map (object_in (c.lists.ensures.fields i)) (c.lists.ensures.objects i); enums = map (enum_in (c.lists.ensures.members i)) (c.lists.ensures.enums i) } in
+    c.part_at.ensures
+    ∙ ap (λ (r : Rows). option_and_then (part_of r) (slice_get (map field_of c.parts_of.result.now) c.args.i)) (same ∙ c.self.view_is)
+    ∙ ap (λ (fs : List Field). option_and_then (part_of c.args.self.now) (slice_get fs c.args.i)) c.parts_of.ensures.value

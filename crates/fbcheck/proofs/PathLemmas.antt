@@ -1,0 +1,49 @@
+-- Texts that name paths, one after another.
+use Rattle.std.proofs.Common.{◌≡◌, ℕ, ◌+◌, ◌<◌, suc, List, [], ◌∷◌, ◌++◌, length, take, drop, drop-cons, get_or, map, sym, ap, subst, ◌∙◌, take-append-drop}
+use mathlib.Core.Logic.{inl, inr}
+use Rattle.std.specs.Prelude.{String, string_bytes}
+use Rattle.std.specs.Global.{Global}
+use Rattle.std.proofs.lemmas.List.{map-append, take_more}
+use Rattle.fb_access.specs.Resolving.{IsFault}
+use Rattle.fb_access.specs.declared.path_fault.PathFault.{PathFault}
+use Rattle.fb_schema.specs.Rows.{Rows}
+use Rattle.fb_run.specs.Wanted.{Wanted}
+use Rattle.fb_run.proofs.FoundLemmas.{both_more}
+use Rattle.fbcheck.specs.Asked.{ArePaths, IsPath, IsPathFault, PathFails, PathsFail}
+use Rattle.fbcheck.specs.declared.fault.AskFault.{AskFault}
+use Rattle.fbcheck.specs.declared.fault.AskFault.TheVariants.{OutOfMemory, Path}
+
+module _ (rows : Rows) (root : ℕ) where
+  -- the next text fails, behind those that name paths
+  fails_at : (before : List (List ℕ)) (paths : List Wanted) (text : List ℕ) (after : List (List ℕ)) (fault : PathFault)
+      → ArePaths rows root before paths → IsFault rows root text fault → IsPathFault rows root (before ++ text ∷ after) fault
+  fails_at [] paths text after fault h is = inl is
+  fails_at (t ∷ before) [] text after fault h is = absurd h
+  fails_at (t ∷ before) (p ∷ paths) text after fault h is = inr (p.steps, h.0.1, fails_at before paths text after fault h.1 is)
+
+  fail_at : (before : List (List ℕ)) (paths : List Wanted) (text : List ℕ) (after : List (List ℕ)) (fault : AskFault)
+      → ArePaths rows root before paths → PathFails rows root text fault → PathsFail rows root (before ++ text ∷ after) fault
+  fail_at before paths text after (Path fault) h is = fails_at before paths text after fault h is
+  fail_at before paths text after OutOfMemory h is = tt
+  fail_at before paths text after _ h is = absurd is
+
+  module _ (texts : List (String Global)) (i : ℕ) (text : String Global) (inside : i < length texts) (is : text ≡ get_or texts i text) where
+    pub paths_fail : (paths : List Wanted) (fault : AskFault) → ArePaths rows root (map string_bytes (take i texts)) paths → PathFails rows root (string_bytes text) fault
+        → PathsFail rows root (map string_bytes texts) fault
+    paths_fail paths fault h fails =
+        let here : drop i texts ≡ text ∷ drop (suc i) texts = drop-cons texts i text inside ∙ ap (λ s. s ∷ drop (suc i) texts) (sym is) in
+        let whole : map string_bytes texts ≡ map string_bytes (take i texts) ++ string_bytes text ∷ map string_bytes (drop (suc i) texts) =
+        ap (map string_bytes) (sym (take-append-drop i texts)) ∙ map-append string_bytes (take i texts) (drop i texts)
+        ∙ ap (λ l. map string_bytes (take i texts) ++ map string_bytes l) here in
+        subst (λ (l : List (List ℕ)). PathsFail rows root l fault) (sym whole)
+        (fail_at (map string_bytes (take i texts)) paths (string_bytes text) (map string_bytes (drop (suc i) texts)) fault h fails)
+
+    -- or names the next path
+    pub paths_more : (paths paths' : List Wanted) (path : Wanted) → ArePaths rows root (map string_bytes (take i texts)) paths → IsPath rows root (string_bytes text) path
+        → paths' ≡ paths ++ path ∷ [] → ArePaths rows root (map string_bytes (take (i + 1) texts)) paths'
+    paths_more paths paths' path h leads added =
+        let more : map string_bytes (take (i + 1) texts) ≡ map string_bytes (take i texts) ++ string_bytes text ∷ [] =
+        ap (map string_bytes) (take_more texts i text inside ∙ ap (λ s. take i texts ++ s ∷ []) (sym is)) ∙ map-append string_bytes (take i texts) (text ∷ []) in
+        subst (λ (l : List (List ℕ)). ArePaths rows root l paths') (sym more)
+        (subst (λ (l : List Wanted). ArePaths rows root (map string_bytes (take i texts) ++ string_bytes text ∷ []) l) (sym added)
+        (both_more (IsPath rows root) (map string_bytes (take i texts)) paths (string_bytes text) path h leads))

@@ -1,0 +1,214 @@
+-- Files as inputs, one behind another.
+use Rattle.std.specs.Prelude.{◌≡◌, ℕ, ◌+◌, ◌⊎◌, Bool, true, false, if◌then◌else◌, min, max, nat_lt, length, List, [], ◌∷◌, ◌++◌, IfSome, Option, Some, None, Result, Ok, Err, bytes_eq, codes}
+use Rattle.std.specs.List.{flat_map}
+use Rattle.std.specs.Io.KnownBytes.{Appends}
+use Rattle.fb_run.specs.AnswerText.{byte_text}
+use Rattle.fb_run.specs.Ends.{Ends, Reader, Writer, beside, with_notes}
+use Rattle.fb_run.specs.Faults.{End, EndsBeside, status_of}
+use Rattle.fb_run.specs.Job.{Job}
+use Rattle.fb_run.specs.Lines.{WritesFront}
+use Rattle.fb_run.specs.Prompt.{IsPrompt}
+use Rattle.fb_run.specs.Run.{IsRunBeside, answer_by}
+use Rattle.fb_run.specs.Sums.{no_tally}
+use Rattle.fb_run.specs.declared.fault.RunFault.{RunFault}
+use Rattle.fb_run.specs.declared.fault.RunFault.TheVariants.{WriteFault, NoteFault, TooManyTurns, OutOfMemory}
+use Rattle.fb_run.specs.declared.run.Ran.{Ran}
+use Rattle.fb_run.specs.declared.tally.Tally.{Tally}
+use Rattle.fbcheck.specs.Hints.{reason_text}
+use Rattle.fbcheck.specs.declared.files.FileFault.{FileFault}
+use Rattle.fbcheck.specs.declared.files.FileFault.TheVariants as file
+use Rattle.fbcheck.specs.declared.inputs.Course.{Course}
+use Rattle.fbcheck.specs.declared.inputs.Standard.{Standard}
+use Rattle.fbcheck.specs.declared.inputs.Standard.TheVariants.{Unread, Spent}
+use Rattle.fbcheck.specs.declared.inputs.Missed.{Missed}
+use Rattle.fbcheck.specs.declared.inputs.Missed.TheVariants as missed
+
+-- the sum of two counts of messages, or the most that is told
+abbrev pub sum_of_counts : ℕ → ℕ → ℕ
+sum_of_counts some more = min (some + more) 18446744073709551615
+
+-- of two wider ones
+abbrev pub sum_of_bytes : ℕ → ℕ → ℕ
+sum_of_bytes some more = min (some + more) 340282366920938463463374607431768211455
+
+-- the sums of how often each reason was given
+abbrev pub sums : List ℕ → List ℕ → List ℕ
+sums [] more = []
+sums (count ∷ counts) [] = count ∷ counts
+sums (count ∷ counts) (more ∷ mores) = sum_of_counts count more ∷ sums counts mores
+
+-- what two inputs come to
+abbrev pub sum_of : Tally → Tally → Tally
+sum_of some more = record {
+  yes = sum_of_counts some.yes more.yes;
+  no = sum_of_counts some.no more.no;
+  reasons = sums some.reasons more.reasons;
+  bytes = sum_of_bytes some.bytes more.bytes;
+  tables = sum_of_bytes some.tables more.tables;
+  reads = sum_of_bytes some.reads more.reads;
+}
+
+-- standard input, by its name
+abbrev pub is_standard : List ℕ → Bool
+is_standard name = bytes_eq name (codes "-")
+
+-- whether lines tell of which file they are: where there are several
+abbrev pub are_several : {A : Type 0} → List A → Bool
+are_several names = nat_lt 1 (length names)
+
+-- the name that each line begins with
+abbrev pub label_of : Bool → List ℕ → Option (List ℕ)
+label_of false name = None
+label_of true name = Some name
+
+-- what is asked of each buffer, with the label of its lines
+abbrev pub labelled : Option (List ℕ) → Job → Job
+labelled label job = record job { label = label }
+
+-- where a file is read from: standard input from the reader that is there, the first time; another from its start, from
+-- what a read of a file of its name may give
+abbrev pub IsReadFrom : (List ℕ → Result (List ℕ) FileFault → Type 0) → Bool → List ℕ → Standard → Reader → Reader → Type 0
+IsReadFrom gives true name standard reader from = (standard ≡ Unread) × (from ≡ reader)
+IsReadFrom gives false name standard reader from = IfSome from.left (λ bytes. gives name (Ok bytes))
+
+-- a run over a file, and how it ended
+pub record RunsOver (gives : List ℕ → Result (List ℕ) FileFault → Type 0) (job : Job) (name : List ℕ) (standard : Standard) (before after : Ends) (ran : Ran) : Type 0 where
+  pub from : Reader
+  pub to : Reader
+  pub source : IsReadFrom gives (is_standard name) name standard before.reader from
+  pub run : IsRunBeside job (beside from before.outs) (beside to after.outs) ran.tally ran.end
+  pub end : EndsBeside (beside from before.outs) (beside to after.outs) 4294967296 ran.end
+  pub reader : after.reader ≡ (if is_standard name then to else before.reader)
+
+-- why there is no run over a file: it can't be opened, or it is standard input, which was read before
+abbrev pub IsMissed : (List ℕ → Result (List ℕ) FileFault → Type 0) → List ℕ → Standard → Missed → Type 0
+IsMissed gives name standard (missed.File fault) = (is_standard name ≡ false) × gives name (Err fault)
+IsMissed gives name standard missed.Again = (is_standard name ≡ true) × (standard ≡ Spent)
+
+-- what a file came to, and what was read, written and noted by then
+abbrev pub ComesOf : (List ℕ → Result (List ℕ) FileFault → Type 0) → Job → List ℕ → Standard → Ends → Ends → Result Ran Missed → Type 0
+ComesOf gives job name standard before after (Ok ran) = RunsOver gives job name standard before after ran
+ComesOf gives job name standard before after (Err cause) = IsMissed gives name standard cause × (after ≡ before)
+
+-- the line that tells why a file wasn't checked to its end
+abbrev pub fault_line : List ℕ → List ℕ → List ℕ
+fault_line name why = codes "fbcheck: " ++ flat_map byte_text name ++ codes ": " ++ why ++ codes "\n"
+
+-- this line was noted; or in a write that failed a front of it, or nothing for want of memory, and that ends it all
+abbrev pub IsNotedOf : List ℕ → Writer → Writer → End → Type 0
+IsNotedOf line before after (Ok done) = Appends before.bytes after.bytes line × (after.failures ≡ before.failures)
+IsNotedOf line before after (Err (NoteFault written)) = WritesFront line before.bytes after.bytes 0 written × (after.failures ≡ before.failures + 1)
+IsNotedOf line before after (Err OutOfMemory) = after ≡ before
+IsNotedOf line before after (Err _) = ⊥
+
+-- whether this ends it all: a failed write or note, or want of memory
+abbrev pub is_final : RunFault → Bool
+is_final (WriteFault written) = true
+is_final (NoteFault written) = true
+is_final OutOfMemory = true
+is_final fault = false
+
+-- behind a fault of a run: nothing, where that ends it all; else it is noted
+abbrev pub IsBehindFault : Bool → List ℕ → RunFault → Writer → Writer → End → Type 0
+IsBehindFault true name fault before after end = (end ≡ Err fault) × (after ≡ before)
+IsBehindFault false name fault before after end = (why : List ℕ) × IsNotedOf (fault_line name why) before after end
+
+-- behind a run
+abbrev pub IsBehindRun : List ℕ → End → Writer → Writer → End → Type 0
+IsBehindRun name (Ok done) before after end = (end ≡ Ok tt) × (after ≡ before)
+IsBehindRun name (Err fault) before after end = IsBehindFault (is_final fault) name fault before after end
+
+-- the same where there may have been no run
+abbrev pub IsBehind : List ℕ → Result Ran Missed → Writer → Writer → End → Type 0
+IsBehind name (Ok ran) before after end = IsBehindRun name ran.end before after end
+IsBehind name (Err (missed.File file.OutOfMemory)) before after end = (end ≡ Err OutOfMemory) × (after ≡ before)
+IsBehind name (Err (missed.File (file.Unreadable cause))) before after end = IsNotedOf (fault_line name (reason_text cause)) before after end
+IsBehind name (Err missed.Again) before after end = IsNotedOf (fault_line name (codes "standard input was read before")) before after end
+
+-- standard input once this file was gone through
+abbrev pub standard_after : Bool → Standard → Standard
+standard_after true standard = Spent
+standard_after false standard = standard
+
+-- what the files came to with this one: the sum of the numbers, and the greatest status
+abbrev pub course_with : List ℕ → Result Ran Missed → Course → Course
+course_with name (Ok ran) course = record {
+  tally = sum_of course.tally ran.tally;
+  status = max course.status (status_of (answer_by ran.tally ran.end));
+  standard = standard_after (is_standard name) course.standard;
+}
+course_with name (Err cause) course = record {
+  tally = course.tally;
+  status = max course.status 3;
+  standard = standard_after (is_standard name) course.standard;
+}
+
+-- what files came to so far, and what was read, written and noted by then
+pub record Stand : Type 0 where
+  pub ends : Ends
+  pub course : Course
+
+-- no file
+abbrev pub at_first : Ends → Stand
+at_first ends = record { ends = ends; course = record { tally = no_tally; status = 0; standard = Unread } }
+
+abbrev pub stand : Ends → Course → Stand
+stand ends course = record { ends = ends; course = course }
+
+-- a file was gone through: it goes on behind it, or that ended it all
+pub record Passes (gives : List ℕ → Result (List ℕ) FileFault → Type 0) (job : Job) (name : List ℕ) (before after : Stand) (end : End) : Type 0 where
+  pub came : Result Ran Missed
+  pub between : Ends
+  pub comes : ComesOf gives job name before.course.standard before.ends between came
+  pub told : IsBehind name came between.outs.notes after.ends.outs.notes end
+  pub others : after.ends ≡ with_notes between after.ends.outs.notes
+  pub course_is : after.course ≡ course_with name came before.course
+
+-- a file isn't begun, for want of memory, or where the writer or the notes have had all the calls that they may
+abbrev pub IsUnbegun : RunFault → Type 0
+IsUnbegun OutOfMemory = Unit {0}
+IsUnbegun TooManyTurns = Unit {0}
+IsUnbegun _ = ⊥
+
+-- a file was gone through, or wasn't begun
+abbrev pub Tries : (List ℕ → Result (List ℕ) FileFault → Type 0) → Job → List ℕ → Stand → Stand → End → Type 0
+Tries gives job name before after (Ok done) = Passes gives job name before after (Ok tt)
+Tries gives job name before after (Err fault) = Passes gives job name before after (Err fault) ⊎ (IsUnbegun fault × (after ≡ before))
+
+-- all these files were gone through, in their order
+abbrev pub PassesAll : (List ℕ → Result (List ℕ) FileFault → Type 0) → Job → Bool → List (List ℕ) → Stand → Stand → Type 0
+PassesAll gives job several [] before after = after ≡ before
+PassesAll gives job several (name ∷ names) before after =
+    (mid : Stand) × Tries gives (labelled (label_of several name) job) name before mid (Ok tt) × PassesAll gives job several names mid after
+
+-- one of the files ended it all, behind those before it
+pub record HaltsAmong (gives : List ℕ → Result (List ℕ) FileFault → Type 0) (job : Job) (names : List (List ℕ)) (before after : Stand) (fault : RunFault) : Type 0 where
+  pub front : List (List ℕ)
+  pub name : List ℕ
+  pub rest : List (List ℕ)
+  pub names_are : names ≡ front ++ (name ∷ rest)
+  pub mid : Stand
+  pub passes : PassesAll gives job (are_several names) front before mid
+  pub halts : Tries gives (labelled (label_of (are_several names) name) job) name mid after (Err fault)
+
+-- the files were gone through, all of them or up to one that ended it all
+abbrev pub ServesEach : (List ℕ → Result (List ℕ) FileFault → Type 0) → Job → List (List ℕ) → Stand → Stand → End → Type 0
+ServesEach gives job names before after (Ok done) = PassesAll gives job (are_several names) names before after
+ServesEach gives job names before after (Err fault) = HaltsAmong gives job names before after fault
+
+-- all that was read by now is told, where standard input is read among these files: of those before it, and then of it
+pub record IsPromptAmong (gives : List ℕ → Result (List ℕ) FileFault → Type 0) (job : Job) (names : List (List ℕ)) (before now : Ends) : Type 0 where
+  pub front : List (List ℕ)
+  pub name : List ℕ
+  pub rest : List (List ℕ)
+  pub names_are : names ≡ front ++ (name ∷ rest)
+  pub standard : is_standard name ≡ true
+  pub mid : Stand
+  pub passes : PassesAll gives job (are_several names) front (at_first before) mid
+  pub unread : mid.course.standard ≡ Unread
+  pub prompt : IsPrompt (labelled (label_of (are_several names) name) job) mid.ends now
+
+-- the same where none may be named, and standard input is all
+abbrev pub IsPromptOver : (List ℕ → Result (List ℕ) FileFault → Type 0) → Job → List (List ℕ) → Ends → Ends → Type 0
+IsPromptOver gives job [] before now = IsPrompt job before now
+IsPromptOver gives job (name ∷ names) before now = IsPromptAmong gives job (name ∷ names) before now

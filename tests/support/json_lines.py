@@ -1,0 +1,55 @@
+"""What a line of JSON says, by the plain line of the same message."""
+
+import re
+
+WORDS = re.compile(rb'"(?:[^"\\]|\\.)*"|\S+')
+ESCAPE = re.compile(rb'\\(?:x([0-9a-f]{2})|(.))')
+
+
+def words_of(line):
+    """The words of a plain line; a text between quotes is one, whatever stands in it."""
+    return WORDS.findall(line)
+
+
+def text_of(data):
+    """A text of these bytes: itself where it is UTF-8, and else its bytes."""
+    try:
+        return data.decode()
+    except UnicodeDecodeError:
+        return {"bytes": data.hex()}
+
+
+def value_of(word):
+    """A value, by its plain word."""
+    if word.startswith(b'"'):
+        return text_of(ESCAPE.sub(lambda found: bytes.fromhex(found[1].decode()) if found[1] else found[2], word[1:-1]))
+    word = word.decode()
+    kind, colon, rest = word.partition(":")
+    if colon:
+        return {kind: rest if kind in ("float", "struct") else int(rest)}
+    if word in ("no-element", "other-member"):
+        return {"absent": word}
+    named = {"absent": None, "true": True, "false": False, "table": {"table": True}}
+    return named[word] if word in named else int(word)
+
+
+def counts_of(words):
+    """The numbers of words with a name, as they are told in JSON."""
+    return {name: int(number) for name, number in (word.decode().split("=") for word in words)}
+
+
+def said(line, names, paths=()):
+    """What the line of JSON says where this is the plain one, with the place in words: names has the name of each object
+    and those of its fields by their numbers."""
+    number, verdict, *words = words_of(line)
+    if verdict == b"ok":
+        values = {path: value_of(word) for path, word in zip(paths, words[3:])}
+        told = {"message": int(number), "ok": True, **counts_of(words[:3])}
+        return {**told, "values": values} if paths else told
+    code, reason, at, place, field, reads, _, way, _ = (word.decode() for word in words)
+    name, fields = names[int(place.removeprefix("object="))]
+    field = field.removeprefix("field=")
+    return {
+        "message": int(number), "ok": False, "code": code, "reason": reason, **counts_of([at.encode()]), "object": name,
+        "field": None if field == "-" else fields.get(int(field)), **counts_of([reads.encode()]), "place": way,
+    }

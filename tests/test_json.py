@@ -1,0 +1,102 @@
+"""Lines of JSON: `--json`. Each is one object, and says what the plain line of the same message says."""
+
+import json
+import struct
+
+from tests.support import schemas
+from tests.support.buffers import NOTHING, ODD, ORC, PLAIN, SEVEN
+from tests.support.builder import Plain, buffer, changed, prefixed
+from tests.support.cases import Case
+from tests.support.every_kind import FILE, LITTLE, OBJECTS, UNION, WHOLE, variants
+from tests.support.json_lines import said
+from tests.support.naive import Schema
+from tests.support.program import Ran, file_of, lines, run
+from tests.test_beside_naive import PATHS
+
+FILES = schemas.files()
+BY_N = ("--schema", FILES["N"])
+BY_M = ("--schema", FILES["M"], "--bare", "--json")
+BY_ALL = ("--schema", file_of("all.bfbs", FILE))
+ALL = Schema(OBJECTS, [UNION])
+NAMES = [
+    (name, {(field.slot - 4) // 2: field.name for field in fields or []}) for name, fields in zip(ALL.names, ALL.tables)
+]
+
+GOOD = '{"message":%d,"ok":true,"tables":1,"depth":1,"reads":5}'
+BAD = '{"message":2,"ok":false,"code":"V3","reason":"Misaligned","at":7,"object":"N","field":null,"reads":3,"place":"."}'
+
+
+def pairs(members):
+    """An object's members, where no key comes twice."""
+    found = dict(members)
+    assert len(found) == len(members)
+    return found
+
+
+def read(line):
+    """What a line says to a reader of JSON."""
+    return json.loads(line, object_pairs_hook=pairs)
+
+
+class Json(Case):
+    def test_lines(self):
+        stream = SEVEN + ODD + SEVEN
+        for name, words, want in [
+            ("each", [], Ran(1, lines(GOOD % 1, BAD, GOOD % 3), b"")),
+            ("bad ones", ["--quiet"], Ran(1, lines(BAD), b"")),
+            ("places in words are told in any case", ["--names"], Ran(1, lines(GOOD % 1, BAD, GOOD % 3), b"")),
+            ("a filter", ["--filter"], Ran(1, SEVEN * 2, lines(BAD))),
+            ("a value", ["--path", "v"],
+             Ran(1, lines(GOOD[:-1] % 1 + ',"values":{"v":7}}', BAD, GOOD[:-1] % 3 + ',"values":{"v":7}}'), b"")),
+            ("a summary stays a plain line", ["--quiet", "--summary"], Ran(1, lines(BAD), lines(
+                "summary: messages=3 yes=2 no=1 V3=1 bytes=96 tables=2 reads=13"))),
+        ]:
+            self.same(name, run(*BY_N, "--json", *words, given=stream), want)
+        self.same("of nothing", run(*BY_N, "--json", given=b""), Ran(0, b"", b""))
+        self.same("past the end", run(*BY_N, "--json", given=NOTHING), Ran(1, lines(
+            '{"message":1,"ok":false,"code":"V2","reason":"OutOfBuffer","at":4,"object":"N","field":null,"reads":1,'
+            '"place":"."}'), b""))
+        self.same("a text", run(*BY_M, "--path", "name", given=ORC), Ran(0, lines(
+            '{"message":1,"ok":true,"tables":1,"depth":1,"reads":8,"values":{"name":"Orc"}}'), b""))
+        self.same("none", run(*BY_M, "--path", "name", given=PLAIN).out.rpartition(b'"values":')[2], b'{"name":null}}\n')
+
+    def test_texts(self):
+        """A text of each byte, of letters of up to four bytes, and of what isn't UTF-8."""
+        texts = [bytes([byte]) for byte in range(256)] + [
+            b"", b'a "b" \\c\\', "Jürg ☃ \U0001f600".encode(), b"\0\x1f\x7f", b"\xc3", b"\xc3\xbc\xff", b"\xc0\x80",
+            b"\xed\xa0\x80", b"\xf4\x90\x80\x80", b"\xef\xbf\xbf", b"\xf4\x8f\xbf\xbf", "ü".encode() * 50_000, b"\xff" * 70_000,
+        ]
+        named = [buffer({1: Plain(text + b"\0", 1, len(text))}) for text in texts]
+        stream = b"".join(map(prefixed, named))
+        by = "--schema", FILES["M"], "--path", "name"
+        plain = run(*by, given=stream).out.splitlines()
+        told = run(*by, "--json", given=stream).out.split(b"\n")[:-1]
+        self.same("as many", (len(told), len(plain)), (len(texts), len(texts)))
+        for text, line, beside in zip(texts, told, plain):
+            self.same(f"{text[:20]} is read", read(line), said(beside, NAMES, ["name"]))
+
+    def test_lines_beside_plain_ones(self):
+        """Buffers of every kind, cut off and changed: a reader of JSON gets what the plain lines say."""
+        for which, root in [("all fields", WHOLE), ("few fields", LITTLE)]:
+            data = buffer(root, b"KIND", prefix=True)[4:]
+            stream = b"".join(map(prefixed, variants(data, [1, 252])))
+            for path in [None, *PATHS]:
+                words = [] if path is None else ["--path", path]
+                plain = run(*BY_ALL, "--names", *words, given=stream)
+                told = run(*BY_ALL, "--json", *words, given=stream)
+                wants = [said(line, NAMES, words[1:]) for line in plain.out.splitlines()]
+                got = [read(line) for line in told.out.split(b"\n")[:-1]]
+                differing = [pair for pair in zip(got, wants) if pair[0] != pair[1]]
+                self.same(f"{which}, {path}: lines that differ", differing[:3], [])
+                self.same(f"{which}, {path}: their number and the end", (len(got), told.status, told.err),
+                          (len(wants), plain.status, plain.err))
+
+    def test_numbers_of_64_bits(self):
+        """Whole numbers stand as they are."""
+        for kind, form, numbers in [
+            (schemas.LONG, "q", [-(2**63), -1, 0, 2**53 + 1, 2**63 - 1]), (schemas.U_LONG, "Q", [0, 2**64 - 1]),
+        ]:
+            by = file_of("long.bfbs", schemas.schema([schemas.table("L", schemas.field("v", kind, 4))], root="L"))
+            for number in numbers:
+                ran = run("--schema", by, "--bare", "--json", "--path", "v", given=buffer({0: (form, number)}))
+                self.same(str(number), ran.out.rpartition(b'"values":')[2], b'{"v":%d}}\n' % number)
