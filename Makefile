@@ -5,7 +5,7 @@
 #   make check      every proof and every test
 #   make install    into PREFIX (/usr/local), below DESTDIR
 #   make package    a tarball and Debian packages of these, in dist/
-#   make bench      times the walk, how schemas are built, and the program beside the two verifiers for C++
+#   make bench      times the program on what costs it the most, and beside the two verifiers for C++
 #   make clean      removes all that was built, and what was proved with it
 
 .PHONY: all check install package bench clean
@@ -24,8 +24,7 @@ package:
 	./package
 
 bench:
-	bench/walk
-	bench/schema
+	bench/hostile
 	bench/compare
 
 clean:

@@ -6,7 +6,7 @@ import unittest
 from tests.support.cases import Case
 from tests.support.scripts import Scripts
 
-SCRIPTS = ["build", "build_c", "test", "install", "package", "bench/walk", "bench/schema", "bench/compare"]
+SCRIPTS = ["build", "build_c", "test", "install", "package", "bench/hostile", "bench/compare"]
 
 
 @unittest.skipIf(shutil.which("make") is None, "make isn't there")
@@ -23,7 +23,7 @@ class Make(Case):
             (["check"], ["test  "]),
             (["install", "PREFIX=/a", "DESTDIR=b"], ["install /a b"]),
             (["package"], ["package  "]),
-            (["bench"], ["bench/walk  ", "bench/schema  ", "bench/compare  "]),
+            (["bench"], ["bench/hostile  ", "bench/compare  "]),
             (["clean"], []),
         ]:
             ran = folder.call("bin/here", *words)
