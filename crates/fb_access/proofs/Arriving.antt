@@ -317,18 +317,18 @@ module _ (b : List ℕ) (S : Rows) where
           (subst (λ k. ArrivesFrom (Table h.0) (AtTable h.0 t) (links_of s b S k t)) (sym (ap object_led_to h.1)) (trail_arrives s h.0 t (way_to_table x w) h.3))
 
 pub links_arrive : LinksArrive
-links_arrive c b S root start ident L f links legal served short (inl h) =
-    subst (Arrives c b S L (Table root) (AtTable root (target b (base start))) f) (sym h.1) (record {
+links_arrive q b f links legal served short (inl h) =
+    subst (Arrives q.checks b q.rows q.limits (Table q.root) (AtTable q.root (target b (base q.start))) f) (sym h.1) (record {
       steps = [];
-      last = Table root;
+      last = Table q.root;
       follows = (refl, refl);
-      end = AtTable root (target b (base start));
+      end = AtTable q.root (target b (base q.start));
       reaches = refl;
-      place = in_start start ident;
-      way = way_to_start root;
+      place = in_start q.start q.ident;
+      way = way_to_start q.root;
       fails = h.0;
       is_there = tt;
     })
-links_arrive c b S root start ident L f links legal served short (inr h) =
-    let t = target b (base start) in
-    subst (Arrives c b S L (Table root) (AtTable root t) f) h.1.2 (trail_arrives b S legal served short c L f h.1.0 root t (way_to_root root start ident) h.1.1)
+links_arrive q b f links legal served short (inr h) =
+    let t = target b (base q.start) in
+    subst (Arrives q.checks b q.rows q.limits (Table q.root) (AtTable q.root t) f) h.1.2 (trail_arrives b q.rows legal served short q.checks q.limits f h.1.0 q.root t (way_to_root q.root q.start q.ident) h.1.1)

@@ -11,6 +11,7 @@ use Rattle.fb_verify.specs.declared.start.Ident.{Ident}
 use Rattle.fb_verify.specs.declared.fault.Fault.{Fault}
 use Rattle.fb_verify.specs.declared.links.Link.{Link}
 use Rattle.fb_verify.specs.Bounds.{Bounds}
+use Rattle.fb_verify.specs.Question.{Question}
 use Rattle.fb_verify.specs.Fields.{Lead, to_nothing}
 use Rattle.fb_verify.specs.Way.{Way}
 use Rattle.fb_verify.specs.Stops.{Place, in_start, in_head, in_field, in_element, IsFalseAt}
@@ -103,5 +104,5 @@ pub record Arrives (c : Checks) (b : List ℕ) (S : Rows) (L : Bounds) (kind : K
 -- the links to a fault do so from the root
 abbrev pub LinksArrive : Type 0
 LinksArrive =
-    (c : Checks) (b : List ℕ) (S : Rows) (root : ℕ) (start : Start) (ident : Ident) (L : Bounds) (f : Fault) (links : List Link) → IsLegal S → IsServed S → length b < 2 ^ 31 → StopsAlong c b S root start ident L f links
-    → Arrives c b S L (Table root) (root_spot b start root) f links
+    (q : Question) (b : List ℕ) (f : Fault) (links : List Link) → IsLegal q.rows → IsServed q.rows → length b < 2 ^ 31 → StopsAlong q b f links
+    → Arrives q.checks b q.rows q.limits (Table q.root) (root_spot b q.start q.root) f links

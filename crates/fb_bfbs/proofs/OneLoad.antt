@@ -22,7 +22,7 @@ use Rattle.fb_bfbs.specs.declared.load_fault.LoadFault.TheVariants.{NotWellForme
 use Rattle.fb_bfbs.specs.Fixed.{fixed}
 use Rattle.fb_bfbs.specs.Says.{text_or_nothing}
 use Rattle.fb_bfbs.specs.Describes.{Describes, NamesRoot, IsRoot, HasStrayRoot}
-use Rattle.fb_bfbs.specs.Loads.{ArePaidFor, SharesTooMuch, IsSchemaFile, IsBadSchema, IsLoaded, told, published, schema_number, schema_ident}
+use Rattle.fb_bfbs.specs.Loads.{asked_within, ArePaidFor, SharesTooMuch, IsSchemaFile, IsBadSchema, IsLoaded, told, schema_number}
 use Rattle.fb_bfbs.specs.LoadLaws.{ident_bytes, IsSameLoad, IsSameAnswer, Applies}
 use Rattle.fb_bfbs.specs.Sums.{IsOver, names_length}
 use Rattle.fb_bfbs.proofs.Counts.{counted}
@@ -83,8 +83,8 @@ module _ (b : List ℕ) (L : Bounds) where
   too_long_and_short : 2 ^ 31 ≤ length b → length b < 2 ^ 31 → ⊥
   too_long_and_short long short = omega (arith, long, short)
 
-  file_and_stop : (f : Fault) → IsSchemaFile b L → Stops published b fixed schema_number Bare schema_ident L f → ⊥
-  file_and_stop f file stops = stops_nowhere published b fixed L schema_number Bare schema_ident file.found f file.well_formed file.within stops
+  file_and_stop : (f : Fault) → IsSchemaFile b L → Stops (asked_within L) b f → ⊥
+  file_and_stop f file stops = stops_nowhere (asked_within L) b file.found f file.well_formed file.within stops
 
   legal_and_bad : (rows : Rows) (f : SchemaFault) → Describes (told b) rows → IsLegal rows → IsBadSchema b L f → ⊥
   legal_and_bad rows f described legal bad =
@@ -122,7 +122,7 @@ module _ (b : List ℕ) (L : Bounds) where
   one_fault TooLong (BadSchema g) h i = absurd (too_long_and_short h i.file.short)
   one_fault TooLong RootNotListed h i = absurd (too_long_and_short h i.file.short)
   one_fault (NotWellFormed f) TooLong h i = absurd (too_long_and_short i h.0)
-  one_fault (NotWellFormed f) (NotWellFormed g) h i = ap NotWellFormed (stops_once published b fixed L schema_number Bare schema_ident f g h.1 i.1)
+  one_fault (NotWellFormed f) (NotWellFormed g) h i = ap NotWellFormed (stops_once (asked_within L) b f g h.1 i.1)
   one_fault (NotWellFormed f) (BadSchema g) h i = absurd (file_and_stop f i.file h.1)
   one_fault (NotWellFormed f) RootNotListed h i = absurd (file_and_stop f i.file h.1)
   one_fault (BadSchema f) TooLong h i = absurd (too_long_and_short i h.file.short)

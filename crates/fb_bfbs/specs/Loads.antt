@@ -10,6 +10,7 @@ use Rattle.fb_verify.specs.declared.start.Start.TheVariants.{Bare}
 use Rattle.fb_verify.specs.declared.start.Ident.{Ident}
 use Rattle.fb_verify.specs.declared.start.Ident.TheVariants.{Want}
 use Rattle.fb_verify.specs.Bounds.{Bounds}
+use Rattle.fb_verify.specs.Question.{Question, question}
 use Rattle.fb_verify.specs.Tree.{Tree}
 use Rattle.fb_verify.specs.WellFormed.{IsWellFormed, IsWithin}
 use Rattle.fb_verify.specs.Stops.{Stops}
@@ -35,12 +36,16 @@ schema_ident = Want (66 ∷ 70 ∷ 66 ∷ 83 ∷ [])
 abbrev pub published : Checks
 published = record { alignment = true; inline_size = false }
 
+-- what is asked of a schema file, within these limits: whether it unfolds by the fixed table
+abbrev pub asked_within : Bounds → Question
+asked_within L = question fixed schema_number Bare schema_ident L published
+
 -- the bytes are a schema file: short enough for a buffer, and well formed within the limits by the fixed table
 pub record IsSchemaFile (b : List ℕ) (L : Bounds) : Type 0 where
   pub short : length b < 2 ^ 31
   pub found : Tree
-  pub well_formed : IsWellFormed published b fixed schema_number Bare schema_ident found
-  pub within : IsWithin found published b fixed Bare schema_ident L
+  pub well_formed : IsWellFormed (asked_within L) b found
+  pub within : IsWithin (asked_within L) b found
 
 -- what a schema file says
 abbrev pub told : List ℕ → Says
@@ -90,7 +95,7 @@ pub record SharesTooMuch (b : List ℕ) (L : Bounds) : Type 0 where
 -- why nothing is loaded; memory may be refused wherever the bytes aren't too many
 abbrev pub IsLoadFault : List ℕ → Bounds → LoadFault → Type 0
 IsLoadFault b L TooLong = 2 ^ 31 ≤ length b
-IsLoadFault b L (NotWellFormed fault) = (length b < 2 ^ 31) × Stops published b fixed schema_number Bare schema_ident L fault
+IsLoadFault b L (NotWellFormed fault) = (length b < 2 ^ 31) × Stops (asked_within L) b fault
 IsLoadFault b L (BadSchema fault) = IsBadSchema b L fault
 IsLoadFault b L RootNotListed = LacksRoot b L
 IsLoadFault b L OutOfMemory = length b < 2 ^ 31

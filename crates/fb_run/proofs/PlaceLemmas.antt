@@ -4,11 +4,11 @@ use Rattle.fb_verify.specs.Links.{StopsAlong}
 use Rattle.fb_verify.specs.Stops.{Stops}
 use Rattle.fb_verify.specs.declared.fault.Fault.{Fault}
 use Rattle.fb_verify.specs.declared.links.Link.{Link}
-use Rattle.fb_run.specs.Job.{IsVerdict, Job, Verdict, limits_for, place_told}
+use Rattle.fb_run.specs.Job.{IsVerdict, Job, Verdict, asked_of, place_told}
 use Rattle.fb_run.specs.declared.options.Places.TheVariants.{Words}
 
 -- where words are asked for, there is a verdict with them
-pub has_place : (job : Job) (bytes : List ℕ) (fault : Fault) (links : List Link) → job.names ≡ Words → Stops job.checks bytes job.rows job.root job.start job.ident (limits_for job bytes) fault
-    → StopsAlong job.checks bytes job.rows job.root job.start job.ident (limits_for job bytes) fault links → (verdict : Verdict) × IsVerdict job bytes verdict
+pub has_place : (job : Job) (bytes : List ℕ) (fault : Fault) (links : List Link) → job.names ≡ Words → Stops (asked_of job bytes) bytes fault
+    → StopsAlong (asked_of job bytes) bytes fault links → (verdict : Verdict) × IsVerdict job bytes verdict
 has_place job bytes fault links words stops along =
     (Err (record { fault = fault; place = Some (place_told job.form job.rows fault links) }), (stops, (words, links, along, refl)))

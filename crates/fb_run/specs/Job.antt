@@ -4,6 +4,7 @@ use Rattle.std.specs.Borrow.{Bor}
 use Rattle.std.specs.List.{AllZip}
 use Rattle.fb_schema.specs.Rows.{Rows, is_table}
 use Rattle.fb_verify.specs.Bounds.{Bounds, limits_of_length}
+use Rattle.fb_verify.specs.Question.{Question, question}
 use Rattle.fb_verify.specs.Stops.{Stops}
 use Rattle.fb_verify.specs.Links.{StopsAlong}
 use Rattle.fb_verify.specs.declared.links.Link.{Link}
@@ -61,6 +62,10 @@ buffer_in job message = drop job.skip message
 abbrev pub limits_for : Job → List ℕ → Bounds
 limits_for job bytes = limits_of_length job.limits job.per_byte (length bytes)
 
+-- what is asked of a buffer
+abbrev pub asked_of : Job → List ℕ → Question
+asked_of job bytes = question job.rows job.root job.start job.ident (limits_for job bytes) job.checks
+
 -- a yes: what was counted, and the values that were asked for
 pub record Yes : Type 0 where
   pub report : Report
@@ -89,13 +94,13 @@ place_told Json rows fault links = place_text rows links
 abbrev pub IsPlace : Job → List ℕ → Fault → Option (List ℕ) → Type 0
 IsPlace job bytes fault None = job.names ≡ Numbers
 IsPlace job bytes fault (Some text) =
-    (job.names ≡ Words) × (links : List Link) × StopsAlong job.checks bytes job.rows job.root job.start job.ident (limits_for job bytes) fault links × (text ≡ place_told job.form job.rows fault links)
+    (job.names ≡ Words) × (links : List Link) × StopsAlong (asked_of job bytes) bytes fault links × (text ≡ place_told job.form job.rows fault links)
 
 -- what a verdict on these bytes says: a yes counts a tree that is well formed and within the limits, and has the values
 -- that are asked for; a no is the one fault that stops, with its place
 abbrev pub IsVerdict : Job → List ℕ → Verdict → Type 0
-IsVerdict job bytes (Ok found) = Reports job.checks bytes job.rows job.root job.start job.ident (limits_for job bytes) found.report × AreAnswers bytes job.rows job.start job.root job.paths found.answers
-IsVerdict job bytes (Err bad) = Stops job.checks bytes job.rows job.root job.start job.ident (limits_for job bytes) bad.fault × IsPlace job bytes bad.fault bad.place
+IsVerdict job bytes (Ok found) = Reports (asked_of job bytes) bytes found.report × AreAnswers bytes job.rows job.start job.root job.paths found.answers
+IsVerdict job bytes (Err bad) = Stops (asked_of job bytes) bytes bad.fault × IsPlace job bytes bad.fault bad.place
 
 -- a verdict without where the bytes of its values or place lie in memory
 abbrev pub verdict_of : Result Found Wrong → Verdict
@@ -129,7 +134,7 @@ brief_verdict (Err fault) = Err (record { fault = fault; place = None })
 -- a buffer that is well formed by a job, or its fault with these words
 abbrev pub IsVerified : Job → List ℕ → List ℕ → Result Sealed Fault → Type 0
 IsVerified job bytes text (Ok v) =
-    Reports job.checks bytes job.rows job.root job.start job.ident (limits_for job bytes) v.report
+    Reports (asked_of job bytes) bytes v.report
     × (v ≡ record { bytes = bytes; schema = job.rows; root = job.root; start = job.start; checks = job.checks; report = v.report })
 IsVerified job bytes text (Err fault) = IsVerdict job bytes (Err (record { fault = fault; place = place_beside job.names text }))
 

@@ -79,11 +79,11 @@ module _ (c : Checks) (b : List ℕ) (S : Rows) (L : Bounds) (f : Fault) (n : �
 
 pub links_end_in_field : LinksEndInField
 unfolding fault_at
-links_end_in_field c b S root start ident L f links n (inl h) field_is =
-    let r = of_way (way_to_start root) _ f h.0.first in absurd (let w : None ≡ Some n = r.1 ∙ field_is in cc)
-links_end_in_field c b S root start ident L f links n (inr h) field_is =
-    let t = target b (base start) in
-    elim (trail_ends c b S L f n field_is h.1.0 root t (way_to_root root start ident) h.1.1) [
+links_end_in_field q b f links n (inl h) field_is =
+    let r = of_way (way_to_start q.root) _ f h.0.first in absurd (let w : None ≡ Some n = r.1 ∙ field_is in cc)
+links_end_in_field q b f links n (inr h) field_is =
+    let t = target b (base q.start) in
+    elim (trail_ends q.checks b q.rows q.limits f n field_is h.1.0 q.root t (way_to_root q.root q.start q.ident) h.1.1) [
       | inl e ↦ absurd (let w : None ≡ Some n = e.2 in cc)
       | inr e ↦ subst (EndIn f.object n) h.1.2 e
     ]

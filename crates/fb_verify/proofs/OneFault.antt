@@ -10,6 +10,7 @@ use Rattle.fb_verify.specs.declared.start.Ident.{Ident}
 use Rattle.fb_verify.specs.declared.fault.Fault.{Fault}
 use Rattle.fb_verify.specs.declared.links.Link.{Link}
 use Rattle.fb_verify.specs.Bounds.{Bounds}
+use Rattle.fb_verify.specs.Question.{Question}
 use Rattle.fb_verify.specs.Places.{target}
 use Rattle.fb_verify.specs.Facts.{IsTable}
 use Rattle.fb_verify.specs.Fields.{IsField, to_table, Entry, entries}
@@ -166,18 +167,18 @@ module _ (c : Checks) (b : List ℕ) (S : Rows) (L : Bounds) where
       let r = trail_within s root t (way_to_root root start ident) g i in
       not_both L.reads (w.paid + start_reads start ident) _ (omega arith) r.reads p.1
 
-  -- of a whole buffer
-  pub stops_once : (root : ℕ) (start : Start) (ident : Ident) (f g : Fault) → Stops c b S root start ident L f → Stops c b S root start ident L g → f ≡ g
-  stops_once root start ident f g (inl h) (inl i) = same_fault (in_start start ident) (way_to_start root) f g h i
-  stops_once root start ident f g (inl h) (inr i) = absurd (passed_start root (target b (base start)) start ident i.1.0 f g i.0 i.1.1 h)
-  stops_once root start ident f g (inr h) (inl i) = absurd (passed_start root (target b (base start)) start ident h.1.0 g f h.0 h.1.1 i)
-  stops_once root start ident f g (inr h) (inr i) = (one_fault h.1.0 i.1.0 root (target b (base start)) (way_to_root root start ident) f g h.1.1 i.1.1).1
+-- of a whole buffer
+pub stops_once : (q : Question) (b : List ℕ) (f g : Fault) → Stops q b f → Stops q b g → f ≡ g
+stops_once q b f g (inl h) (inl i) = same_fault q.checks b q.rows q.limits (in_start q.start q.ident) (way_to_start q.root) f g h i
+stops_once q b f g (inl h) (inr i) = absurd (passed_start q.checks b q.rows q.limits q.root (target b (base q.start)) q.start q.ident i.1.0 f g i.0 i.1.1 h)
+stops_once q b f g (inr h) (inl i) = absurd (passed_start q.checks b q.rows q.limits q.root (target b (base q.start)) q.start q.ident h.1.0 g f h.0 h.1.1 i)
+stops_once q b f g (inr h) (inr i) = (one_fault q.checks b q.rows q.limits h.1.0 i.1.0 q.root (target b (base q.start)) (way_to_root q.root q.start q.ident) f g h.1.1 i.1.1).1
 
-  -- nor has it two rows of links
-  pub leads_one_way : (root : ℕ) (start : Start) (ident : Ident) (f g : Fault) (xs ys : List Link) → StopsAlong c b S root start ident L f xs → StopsAlong c b S root start ident L g ys → xs ≡ ys
-  leads_one_way root start ident f g xs ys (inl h) (inl i) = h.1 ∙ sym i.1
-  leads_one_way root start ident f g xs ys (inl h) (inr i) = absurd (passed_start root (target b (base start)) start ident i.1.0 f g i.0 i.1.1 h.0)
-  leads_one_way root start ident f g xs ys (inr h) (inl i) = absurd (passed_start root (target b (base start)) start ident h.1.0 g f h.0 h.1.1 i.0)
-  leads_one_way root start ident f g xs ys (inr h) (inr i) =
-      let same = (one_fault h.1.0 i.1.0 root (target b (base start)) (way_to_root root start ident) f g h.1.1 i.1.1).0 in
-      sym h.1.2 ∙ ap (λ s. links_of s b S root (target b (base start))) same ∙ i.1.2
+-- nor has it two rows of links
+pub leads_one_way : (q : Question) (b : List ℕ) (f g : Fault) (xs ys : List Link) → StopsAlong q b f xs → StopsAlong q b g ys → xs ≡ ys
+leads_one_way q b f g xs ys (inl h) (inl i) = h.1 ∙ sym i.1
+leads_one_way q b f g xs ys (inl h) (inr i) = absurd (passed_start q.checks b q.rows q.limits q.root (target b (base q.start)) q.start q.ident i.1.0 f g i.0 i.1.1 h.0)
+leads_one_way q b f g xs ys (inr h) (inl i) = absurd (passed_start q.checks b q.rows q.limits q.root (target b (base q.start)) q.start q.ident h.1.0 g f h.0 h.1.1 i.0)
+leads_one_way q b f g xs ys (inr h) (inr i) =
+    let same = (one_fault q.checks b q.rows q.limits h.1.0 i.1.0 q.root (target b (base q.start)) (way_to_root q.root q.start q.ident) f g h.1.1 i.1.1).0 in
+    sym h.1.2 ∙ ap (λ s. links_of s b q.rows q.root (target b (base q.start))) same ∙ i.1.2

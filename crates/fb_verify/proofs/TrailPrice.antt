@@ -6,10 +6,9 @@ use Rattle.fb_schema.specs.Rows.{Rows}
 use Rattle.fb_schema.specs.Live.{Live, live_fields, widest}
 use Rattle.fb_schema.proofs.LookLemmas.{within_widest}
 use Rattle.fb_verify.specs.declared.checks.Checks.{Checks}
-use Rattle.fb_verify.specs.declared.start.Start.{Start}
-use Rattle.fb_verify.specs.declared.start.Ident.{Ident}
 use Rattle.fb_verify.specs.declared.fault.Fault.{Fault}
 use Rattle.fb_verify.specs.Bounds.{Bounds}
+use Rattle.fb_verify.specs.Question.{Question}
 use Rattle.fb_verify.specs.Places.{target}
 use Rattle.fb_verify.specs.Fields.{IsField, Entry, entries}
 use Rattle.fb_verify.specs.Tree.{Tree, kids_length, elements_length}
@@ -120,22 +119,22 @@ module _ (c : Checks) (b : List ℕ) (S : Rows) (L : Bounds) where
   lesser None n m h i = h
   lesser (Some most) n m h i = omega (arith, i)
 
-  pub cost_is_bounded : (root : ℕ) (start : Start) (ident : Ident) (y : Tree) → IsWellFormed c b S root start ident y → IsWithin y c b S start ident L → cost y c b S start ident ≤ most_reads S L (length b)
-  unfolding most_reads
-  cost_is_bounded root start ident y h r =
-      let p = tree_price c b S (6 + length b) table_most (field_price c b S) all_tables y root (target b (base start)) h.unfolds in
-      lesser L.reads _ _ (omega (arith, p, start_price start ident, mul-le-mul_left table_most r.tables, below_bound)) (near L.reads (cost y c b S start ident) _ (omega arith) r.reads)
+pub cost_is_bounded : (q : Question) (b : List ℕ) (y : Tree) → IsWellFormed q b y → IsWithin q b y → cost q b y ≤ most_reads q.rows q.limits (length b)
+unfolding most_reads
+cost_is_bounded q b y h r =
+    let p = tree_price q.checks b q.rows (6 + length b) (table_most q.checks b q.rows q.limits) (field_price q.checks b q.rows) (all_tables q.checks b q.rows q.limits) y q.root (target b (base q.start)) h.unfolds in
+    lesser q.checks b q.rows q.limits q.limits.reads _ _ (omega (arith, p, start_price q.start q.ident, mul-le-mul_left (table_most q.checks b q.rows q.limits) r.tables, below_bound q.checks b q.rows q.limits)) (near q.limits.reads (cost q b y) _ (omega arith) r.reads)
 
-  pub reads_are_bounded : (root : ℕ) (start : Start) (ident : Ident) (f : Fault) → Stops c b S root start ident L f → f.reads ≤ most_reads S L (length b)
-  unfolding fault_at most_reads
-  reads_are_bounded root start ident f (inl h) =
-      let w = way_to_start root in
-      let n = start_reads start ident in
-      let r = fault_reads n w (start_failure c b start ident ▷ reads_failure L w.paid n (base start)) f (either n _ _ (start_most c b start ident) (reads_most L w.paid n (base start))) h.first in
-      lesser L.reads _ _ (omega (arith, r, start_price start ident, below_bound)) (near L.reads 0 f.reads (omega (arith, r, start_price start ident)) (no_reads L.reads))
-  reads_are_bounded root start ident f (inr h) =
-      let few : 6 ≤ 6 + length b = omega arith in
-      let w = way_to_root root start ident in
-      let r = trail_price c b S L (6 + length b) table_most (field_price c b S) all_tables few h.1.0 root (target b (base start)) w f h.1.1 in
-      let q = trail_near c b S L h.1.0 root (target b (base start)) w f (omega arith) h.1.1 in
-      lesser L.reads _ _ (omega (arith, r, start_price start ident, below_bound)) q
+pub reads_are_bounded : (q : Question) (b : List ℕ) (f : Fault) → Stops q b f → f.reads ≤ most_reads q.rows q.limits (length b)
+unfolding fault_at most_reads
+reads_are_bounded q b f (inl h) =
+    let w = way_to_start q.root in
+    let n = start_reads q.start q.ident in
+    let r = fault_reads n w (start_failure q.checks b q.start q.ident ▷ reads_failure q.limits w.paid n (base q.start)) f (either n _ _ (start_most q.checks b q.start q.ident) (reads_most q.limits w.paid n (base q.start))) h.first in
+    lesser q.checks b q.rows q.limits q.limits.reads _ _ (omega (arith, r, start_price q.start q.ident, below_bound q.checks b q.rows q.limits)) (near q.limits.reads 0 f.reads (omega (arith, r, start_price q.start q.ident)) (no_reads q.limits.reads))
+reads_are_bounded q b f (inr h) =
+    let few : 6 ≤ 6 + length b = omega arith in
+    let w = way_to_root q.root q.start q.ident in
+    let r = trail_price q.checks b q.rows q.limits (6 + length b) (table_most q.checks b q.rows q.limits) (field_price q.checks b q.rows) (all_tables q.checks b q.rows q.limits) few h.1.0 q.root (target b (base q.start)) w f h.1.1 in
+    let near_is = trail_near q.checks b q.rows q.limits h.1.0 q.root (target b (base q.start)) w f (omega arith) h.1.1 in
+    lesser q.checks b q.rows q.limits q.limits.reads _ _ (omega (arith, r, start_price q.start q.ident, below_bound q.checks b q.rows q.limits)) near_is

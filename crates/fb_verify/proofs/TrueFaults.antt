@@ -7,12 +7,11 @@ use Rattle.fb_schema.specs.declared.kinds.Kind.TheVariants.{Scalar, Text, Struct
 use Rattle.fb_schema.specs.Rows.{Rows}
 use Rattle.fb_schema.specs.Live.{Live, live_fields}
 use Rattle.fb_verify.specs.declared.checks.Checks.{Checks}
-use Rattle.fb_verify.specs.declared.start.Start.{Start}
-use Rattle.fb_verify.specs.declared.start.Ident.{Ident}
 use Rattle.fb_verify.specs.declared.fault.Fault.{Fault}
 use Rattle.fb_verify.specs.declared.fault.Reason.{Reason}
 use Rattle.fb_verify.specs.declared.fault.Reason.TheVariants.{TooDeep, TooManyTables, TooManyReads}
 use Rattle.fb_verify.specs.Bounds.{Bounds, allowed}
+use Rattle.fb_verify.specs.Question.{Question}
 use Rattle.fb_verify.specs.Places.{target, field_place}
 use Rattle.fb_verify.specs.Facts.{IsTable}
 use Rattle.fb_verify.specs.Fields.{Lead, to_table, to_struct, to_string, to_nothing, Entry}
@@ -129,22 +128,22 @@ module _ (c : Checks) (b : List ℕ) (S : Rows) (L : Bounds) where
           let on : LeadsOn c b S k t h.0 (target b x.place) = record { by = by; lead = h.1; offset = h.2; is_target = refl } in
           trail_fails s h.0 (target b x.place) (suc above) k (Some (by.field).number) (way_to_table x w) f (from_above k t above object field h.0 (target b x.place) reached on) object_is field_is links h.3
 
-  start_fails : (root : ℕ) (start : Start) (ident : Ident) (f : Fault) → IsFalseAt c b S L (in_start start ident) (way_to_start root) f → FailsAtStart c b root start ident L f
-  unfolding fault_at
-  start_fails root start ident f h =
-      let P : Reason → ℕ → Type 0 = λ reason at. PrefixIsFalse b start reason at ⊎ (IdentIsFalse b (base start + 4) ident reason at ⊎ OffsetIsFalse c b (base start) reason at) in
-      let r = place_fault L (way_to_start root) P (start_failure c b start ident) (start_reads start ident) (base start) f (start_false c b start ident) h.first in
-      record { object = r.0; field = r.1; because = grouped _ _ _ _ r.2 } where
-        grouped : (A B C D : Type 0) → (A ⊎ (B ⊎ C)) ⊎ D → A ⊎ (B ⊎ (C ⊎ D))
-        grouped A B C D (inl (inl a)) = inl a
-        grouped A B C D (inl (inr (inl x))) = inr (inl x)
-        grouped A B C D (inl (inr (inr x))) = inr (inr (inl x))
-        grouped A B C D (inr x) = inr (inr (inr x))
+start_fails : (q : Question) (b : List ℕ) (f : Fault) → IsFalseAt q.checks b q.rows q.limits (in_start q.start q.ident) (way_to_start q.root) f → FailsAtStart q b f
+unfolding fault_at
+start_fails q b f h =
+    let P : Reason → ℕ → Type 0 = λ reason at. PrefixIsFalse b q.start reason at ⊎ (IdentIsFalse b (base q.start + 4) q.ident reason at ⊎ OffsetIsFalse q.checks b (base q.start) reason at) in
+    let r = place_fault q.limits (way_to_start q.root) P (start_failure q.checks b q.start q.ident) (start_reads q.start q.ident) (base q.start) f (start_false q.checks b q.start q.ident) h.first in
+    record { object = r.0; field = r.1; because = grouped _ _ _ _ r.2 } where
+      grouped : (A B C D : Type 0) → (A ⊎ (B ⊎ C)) ⊎ D → A ⊎ (B ⊎ (C ⊎ D))
+      grouped A B C D (inl (inl a)) = inl a
+      grouped A B C D (inl (inr (inl x))) = inr (inl x)
+      grouped A B C D (inl (inr (inr x))) = inr (inr (inl x))
+      grouped A B C D (inr x) = inr (inr (inr x))
 
 pub stops_truly : StopsTruly
-stops_truly c b S root start ident L f (inl h) = inl (start_fails c b S L root start ident f h)
-stops_truly c b S root start ident L f (inr h) =
-    inr (h.0, trail_fails c b S L root (target b (base start)) h.1.0 root (target b (base start)) 0 root None (way_to_root root start ident) f as_root refl refl refl h.1.1)
+stops_truly q b f (inl h) = inl (start_fails q b f h)
+stops_truly q b f (inr h) =
+    inr (h.0, trail_fails q.checks b q.rows q.limits q.root (target b (base q.start)) h.1.0 q.root (target b (base q.start)) 0 q.root None (way_to_root q.root q.start q.ident) f as_root refl refl refl h.1.1)
 
 -- The limit of tables.
 
@@ -233,4 +232,4 @@ module _ (c : Checks) (b : List ℕ) (S : Rows) (L : Bounds) where
     element_runs_out (through s) x w f h is = trail_runs_out s h.0 (target b x.place) (way_to_table x w) f h.3 is
 
 pub tables_run_out : TablesRunOut
-tables_run_out c b S root start ident L s f h is = let r = trail_runs_out c b S L s root (target b (base start)) (way_to_root root start ident) f h is in omega (arith, r)
+tables_run_out q b s f h is = let r = trail_runs_out q.checks b q.rows q.limits s q.root (target b (base q.start)) (way_to_root q.root q.start q.ident) f h is in omega (arith, r)

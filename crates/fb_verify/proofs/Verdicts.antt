@@ -1,15 +1,12 @@
 -- From the walk of the root table to the verdict.
 use Rattle.std.proofs.Common.{◌≡◌, ℕ, ◌+◌, ◌≤◌, inl, inr, List, [], length, refl, sym, ◌∙◌, ap, arith, Some, None}
-use Rattle.fb_schema.specs.Rows.{Rows}
-use Rattle.fb_verify.specs.declared.checks.Checks.{Checks}
 use Rattle.fb_verify.specs.declared.fault.Fault.{Fault}
 use Rattle.fb_verify.specs.declared.fault.Report.{Report}
 use Rattle.fb_verify.specs.declared.scratch.Frame.{Frame}
 use Rattle.fb_verify.specs.declared.site.LastLink.{LastLink}
 use Rattle.fb_verify.specs.declared.site.Site.{Site}
-use Rattle.fb_verify.specs.declared.start.Start.{Start}
-use Rattle.fb_verify.specs.declared.start.Ident.{Ident}
-use Rattle.fb_verify.specs.Bounds.{Bounds, AreAllowed}
+use Rattle.fb_verify.specs.Bounds.{AreAllowed}
+use Rattle.fb_verify.specs.Question.{Question}
 use Rattle.fb_verify.specs.Places.{target}
 use Rattle.fb_verify.specs.Tree.{size, depth}
 use Rattle.fb_verify.specs.Cost.{tree_cost}
@@ -31,61 +28,61 @@ use Rattle.fb_verify.proofs.TrailPrice.{cost_is_bounded, reads_are_bounded}
 use Rattle.fb_verify.proofs.Steps.{same_way}
 use Rattle.fb_verify.proofs.Standings.{told_is}
 
-module _ (c : Checks) (b : List ℕ) (S : Rows) (root : ℕ) (start : Start) (ident : Ident) (L : Bounds) where
+module _ (q : Question) (b : List ℕ) where
   abbrev root_site : Site
-  root_site = record { object = root; field = None }
+  root_site = record { object = q.root; field = None }
 
   -- the root's way, as the walk has it
-  pub root_way : (r : ℕ) → r ≡ start_reads start ident → way_at 0 0 0 r root_site ≡ way_to_root root start ident
+  pub root_way : (r : ℕ) → r ≡ start_reads q.start q.ident → way_at 0 0 0 r root_site ≡ way_to_root q.root q.start q.ident
   root_way r e = same_way _ _ refl refl refl (omega (arith, e)) refl refl refl
 
   -- a fault before the root table, to which no link leads
-  pub stops_at_start : (f : Fault) → told root_site 0 (start_failure c b start ident ▷ reads_failure L 0 (start_reads start ident) (base start)) ≡ Some f → StopsAlong c b S root start ident L f []
+  pub stops_at_start : (f : Fault) → told root_site 0 (start_failure q.checks b q.start q.ident ▷ reads_failure q.limits 0 (start_reads q.start q.ident) (base q.start)) ≡ Some f → StopsAlong q b f []
   unfolding fault_at
   stops_at_start f h =
-      let w = way_to_start root in
-      let g : fault_at c b S L (in_start start ident) w ≡ Some f = sym (told_is w root_site (start_failure c b start ident ▷ reads_failure L 0 (start_reads start ident) (base start)) refl refl) ∙ h in
-      inl (record { within = record { tables = omega arith; depth = omega arith; reads = no_reads L.reads }; first = g }, refl)
+      let w = way_to_start q.root in
+      let g : fault_at q.checks b q.rows q.limits (in_start q.start q.ident) w ≡ Some f = sym (told_is w root_site (start_failure q.checks b q.start q.ident ▷ reads_failure q.limits 0 (start_reads q.start q.ident) (base q.start)) refl refl) ∙ h in
+      inl (record { within = record { tables = omega arith; depth = omega arith; reads = no_reads q.limits.reads }; first = g }, refl)
 
   -- a fault at the root table or below
-  pub stops_below_start : (t r : ℕ) (f : Fault) (links : List Link) → start_failure c b start ident ≡ None → t ≡ target b (base start) → r ≡ start_reads start ident → LeadsAlong c b S L root t (way_at 0 0 0 r root_site) f links → StopsAlong c b S root start ident L f links
-  stops_below_start t r f links o p e h = inr ((start_none c b start ident).0 o, rw (p, root_way r e) at h)
+  pub stops_below_start : (t r : ℕ) (f : Fault) (links : List Link) → start_failure q.checks b q.start q.ident ≡ None → t ≡ target b (base q.start) → r ≡ start_reads q.start q.ident → LeadsAlong q.checks b q.rows q.limits q.root t (way_at 0 0 0 r root_site) f links → StopsAlong q b f links
+  stops_below_start t r f links o p e h = inr ((start_none q.checks b q.start q.ident).0 o, rw (p, root_way r e) at h)
 
   -- where links lead to a fault, there is one
-  stops_along : (f : Fault) (links : List Link) → StopsAlong c b S root start ident L f links → Stops c b S root start ident L f
+  stops_along : (f : Fault) (links : List Link) → StopsAlong q b f links → Stops q b f
   stops_along f links (inl h) = inl h.0
   stops_along f links (inr h) = let s = h.1 in inr (h.0, (s.0, s.1))
 
   -- the root table was walked
-  pub reports : (t r n d q count : ℕ) → start_failure c b start ident ≡ None → t ≡ target b (base start) → r ≡ start_reads start ident
-      → TableWalked c b S root t (way_at 0 0 0 r root_site) (ended (way_at 0 0 0 r root_site) n d q) → n ≤ L.tables → d ≤ L.depth → AreAllowed L.reads q
-      → count ≡ q → Reports c b S root start ident L (record { tables = n; depth = d; reads = count })
-  reports t r n d q count o p e h a x w z =
+  pub reports : (t r n d paid count : ℕ) → start_failure q.checks b q.start q.ident ≡ None → t ≡ target b (base q.start) → r ≡ start_reads q.start q.ident
+      → TableWalked q.checks b q.rows q.root t (way_at 0 0 0 r root_site) (ended (way_at 0 0 0 r root_site) n d paid) → n ≤ q.limits.tables → d ≤ q.limits.depth → AreAllowed q.limits.reads paid
+      → count ≡ paid → Reports q b (record { tables = n; depth = d; reads = count })
+  reports t r n d paid count o p e h a x w z =
       let y = h.found in
       let s : n ≡ size y = omega (arith, ap (λ v. v.passed) h.after) in
       let i : d ≡ depth y = omega (arith, ap (λ v. v.deepest) h.after) in
-      let m : q ≡ start_reads start ident + tree_cost y c b S = omega (arith, e, ap (λ v. v.paid) h.after) in
+      let m : paid ≡ start_reads q.start q.ident + tree_cost y q.checks b q.rows = omega (arith, e, ap (λ v. v.paid) h.after) in
       record {
         found = y;
-        well_formed = record { starts = (start_none c b start ident).0 o; unfolds = rw p at h.unfolds };
-        within = record { tables = omega (arith, s); depth = omega (arith, i); reads = fewer_reads L.reads _ q (omega (arith, m)) w };
+        well_formed = record { starts = (start_none q.checks b q.start q.ident).0 o; unfolds = rw p at h.unfolds };
+        within = record { tables = omega (arith, s); depth = omega (arith, i); reads = fewer_reads q.limits.reads _ paid (omega (arith, m)) w };
         tables = s;
         depth = i;
         reads = z ∙ m;
       }
 
-module _ {c : Checks} {b : List ℕ} {S : Rows} {root : ℕ} {start : Start} {ident : Ident} {L : Bounds} where
+module _ {q : Question} {b : List ℕ} where
   -- where frames lead to a fault, there is one
-  pub fault_along : {frames : List Frame} {last : LastLink} {f : Fault} → HaltsAlong c b S root start ident L frames last f → Stops c b S root start ident L f
-  fault_along {frames} {last} {f} h = stops_along c b S root start ident L f _ h.along
+  pub fault_along : {frames : List Frame} {last : LastLink} {f : Fault} → HaltsAlong q b frames last f → Stops q b f
+  fault_along {frames} {last} {f} h = stops_along q b f _ h.along
 
   -- and no tree
-  pub none_along : {frames : List Frame} {last : LastLink} {f : Fault} → HaltsAlong c b S root start ident L frames last f → HasNone c b S root start ident L
-  none_along {frames} {last} {f} h y i j = stops_nowhere c b S L root start ident y f i j (fault_along h)
+  pub none_along : {frames : List Frame} {last : LastLink} {f : Fault} → HaltsAlong q b frames last f → HasNone q b
+  none_along {frames} {last} {f} h y i j = stops_nowhere q b y f i j (fault_along h)
 
   -- the price
-  pub price_of_no : {frames : List Frame} {last : LastLink} {f : Fault} → HaltsAlong c b S root start ident L frames last f → f.reads ≤ most_reads S L (length b)
-  price_of_no {frames} {last} {f} h = reads_are_bounded c b S L root start ident f (fault_along h)
+  pub price_of_no : {frames : List Frame} {last : LastLink} {f : Fault} → HaltsAlong q b frames last f → f.reads ≤ most_reads q.rows q.limits (length b)
+  price_of_no {frames} {last} {f} h = reads_are_bounded q b f (fault_along h)
 
-  pub price_of_yes : {r : Report} → Reports c b S root start ident L r → r.reads ≤ most_reads S L (length b)
-  price_of_yes {r} h = omega (arith, h.reads, cost_is_bounded c b S L root start ident h.found h.well_formed h.within)
+  pub price_of_yes : {r : Report} → Reports q b r → r.reads ≤ most_reads q.rows q.limits (length b)
+  price_of_yes {r} h = omega (arith, h.reads, cost_is_bounded q b h.found h.well_formed h.within)

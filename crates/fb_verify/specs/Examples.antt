@@ -8,6 +8,7 @@ use Rattle.fb_verify.specs.declared.fault.Fault.{Fault}
 use Rattle.fb_verify.specs.declared.fault.Reason.{Reason}
 use Rattle.fb_verify.specs.declared.fault.Reason.TheVariants.{Misaligned, ZeroOffset, TooDeep, TooManyTables, BadVtable, NoTerminator, LengthsDiffer, PastTable, TooManyReads}
 use Rattle.fb_verify.specs.Bounds.{Bounds, AreAllowed, AreTooMany, limits_of_length}
+use Rattle.fb_verify.specs.Question.{question}
 use Rattle.fb_verify.specs.Places.{target}
 use Rattle.fb_verify.specs.Tree.{Tree, node, Kids, no_kids, kid, Elements, no_elements, element, leaf, table, size, depth}
 use Rattle.fb_verify.specs.WellFormed.{IsStart, IsWellFormed, cost}
@@ -18,7 +19,8 @@ use Rattle.fb_verify.specs.Samples.{published_checks, published_limits, monsters
 -- under the published checks the buffer unfolds into this tree, with so many tables, so deep, for so many reads
 abbrev pub Counts : List ℕ → Rows → ℕ → Tree → ℕ → ℕ → ℕ → Type 0
 Counts b S root y tables deep reads =
-    IsWellFormed published_checks b S root Bare Any y × (size y ≡ tables) × (depth y ≡ deep) × (cost y published_checks b S Bare Any ≡ reads)
+    let q = question S root Bare Any published_limits published_checks in
+    IsWellFormed q b y × (size y ≡ tables) × (depth y ≡ deep) × (cost q b y ≡ reads)
 
 -- the buffer begins as it should, and this trail leads from its root to this fault
 abbrev pub StopsBy : Checks → List ℕ → Rows → ℕ → Bounds → Trail → Fault → Type 0

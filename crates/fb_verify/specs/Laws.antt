@@ -10,6 +10,7 @@ use Rattle.fb_verify.specs.declared.fault.Reason.TheVariants.{TooDeep, TooManyTa
 use Rattle.fb_verify.specs.declared.fault.Fault.{Fault}
 use Rattle.fb_verify.specs.declared.links.Link.{Link}
 use Rattle.fb_verify.specs.Bounds.{Bounds, AreAllowed, AreTooMany, limits_of_length}
+use Rattle.fb_verify.specs.Question.{Question}
 use Rattle.fb_verify.specs.Places.{target}
 use Rattle.fb_verify.specs.Facts.{IsTable, IsOffset, IsString, IsVector, IsInline}
 use Rattle.fb_verify.specs.Fields.{IsField, Lead, to_table, to_struct, to_string, to_nothing, Entry}
@@ -78,28 +79,23 @@ StopsOnlyAtLimits =
 
 -- at most one fault is the first
 abbrev pub StopsOnce : Type 0
-StopsOnce =
-    (c : Checks) (b : List ℕ) (S : Rows) (root : ℕ) (start : Start) (ident : Ident) (L : Bounds) (f g : Fault) → Stops c b S root start ident L f → Stops c b S root start ident L g → f ≡ g
+StopsOnce = (q : Question) (b : List ℕ) (f g : Fault) → Stops q b f → Stops q b g → f ≡ g
 
 -- at most one row of links leads to it
 abbrev pub LeadsOneWay : Type 0
-LeadsOneWay =
-    (c : Checks) (b : List ℕ) (S : Rows) (root : ℕ) (start : Start) (ident : Ident) (L : Bounds) (f g : Fault) (xs ys : List Link) → StopsAlong c b S root start ident L f xs → StopsAlong c b S root start ident L g ys → xs ≡ ys
+LeadsOneWay = (q : Question) (b : List ℕ) (f g : Fault) (xs ys : List Link) → StopsAlong q b f xs → StopsAlong q b g ys → xs ≡ ys
 
 -- none is, where a tree is well formed and within the limits
 abbrev pub StopsNowhereWithin : Type 0
-StopsNowhereWithin =
-    (c : Checks) (b : List ℕ) (S : Rows) (root : ℕ) (start : Start) (ident : Ident) (L : Bounds) (y : Tree) (f : Fault) → IsWellFormed c b S root start ident y → IsWithin y c b S start ident L → Stops c b S root start ident L f → ⊥
+StopsNowhereWithin = (q : Question) (b : List ℕ) (y : Tree) (f : Fault) → IsWellFormed q b y → IsWithin q b y → Stops q b f → ⊥
 
 -- a well formed tree within the limits costs at most that many reads
 abbrev pub CostIsBounded : Type 0
-CostIsBounded =
-    (c : Checks) (b : List ℕ) (S : Rows) (root : ℕ) (start : Start) (ident : Ident) (L : Bounds) (y : Tree) → IsWellFormed c b S root start ident y → IsWithin y c b S start ident L → cost y c b S start ident ≤ most_reads S L (length b)
+CostIsBounded = (q : Question) (b : List ℕ) (y : Tree) → IsWellFormed q b y → IsWithin q b y → cost q b y ≤ most_reads q.rows q.limits (length b)
 
 -- so does a fault: within a budget of reads it comes after at most 7 more than these
 abbrev pub ReadsAreBounded : Type 0
-ReadsAreBounded =
-    (c : Checks) (b : List ℕ) (S : Rows) (root : ℕ) (start : Start) (ident : Ident) (L : Bounds) (f : Fault) → Stops c b S root start ident L f → f.reads ≤ most_reads S L (length b)
+ReadsAreBounded = (q : Question) (b : List ℕ) (f : Fault) → Stops q b f → f.reads ≤ most_reads q.rows q.limits (length b)
 
 -- by the limits of a length so many reads are allowed exactly where the limits allow them, and the length does
 abbrev pub LengthAllows : Type 0

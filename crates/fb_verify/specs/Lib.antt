@@ -1,5 +1,6 @@
 -- What public contracts say, in reading order.
 pub mod Bounds
+pub mod Question
 pub mod Places
 pub mod Facts
 pub mod Fields

@@ -8,6 +8,7 @@ use Rattle.fb_verify.specs.declared.fault.Reason.{Reason}
 use Rattle.fb_verify.specs.declared.fault.Reason.TheVariants.{OutOfBuffer, ZeroOffset, TooManyTables}
 use Rattle.fb_verify.specs.declared.links.Link.{Link}
 use Rattle.fb_verify.specs.Bounds.{Bounds}
+use Rattle.fb_verify.specs.Question.{question}
 use Rattle.fb_verify.specs.Links.{StopsAlong}
 use Rattle.fb_verify.specs.Samples.{published_checks, published_limits, union_type, text, object, union, vector, field, table}
 
@@ -51,7 +52,7 @@ link object field element member = record { object = object; field = field; elem
 
 -- these links lead to this fault from the root, a table of this object
 abbrev pub IsFoundBy : List ℕ → ℕ → Bounds → Fault → List Link → Type 0
-IsFoundBy b root L f links = StopsAlong published_checks b herds root Bare Any L f links
+IsFoundBy b root L f links = StopsAlong (question herds root Bare Any L published_checks) b f links
 
 abbrev pub fault : Reason → ℕ → ℕ → Option ℕ → ℕ → Fault
 fault reason at object field reads = record { at = at; object = object; field = field; reason = reason; reads = reads }

@@ -1,12 +1,8 @@
 -- The law of the links that lead to a fault.
 use Rattle.std.specs.Prelude.{◌≡◌, ℕ, List, [], ◌∷◌, ◌++◌, Some}
-use Rattle.fb_schema.specs.Rows.{Rows}
-use Rattle.fb_verify.specs.declared.checks.Checks.{Checks}
-use Rattle.fb_verify.specs.declared.start.Start.{Start}
-use Rattle.fb_verify.specs.declared.start.Ident.{Ident}
 use Rattle.fb_verify.specs.declared.fault.Fault.{Fault}
 use Rattle.fb_verify.specs.declared.links.Link.{Link}
-use Rattle.fb_verify.specs.Bounds.{Bounds}
+use Rattle.fb_verify.specs.Question.{Question}
 use Rattle.fb_verify.specs.Links.{StopsAlong}
 
 -- the last of these links is to this field of a table of this object
@@ -19,5 +15,4 @@ pub record EndIn (object field : ℕ) (links : List Link) : Type 0 where
 
 -- where a fault names a field, the last link to it is to that field
 abbrev pub LinksEndInField : Type 0
-LinksEndInField =
-    (c : Checks) (b : List ℕ) (S : Rows) (root : ℕ) (start : Start) (ident : Ident) (L : Bounds) (f : Fault) (links : List Link) (n : ℕ) → StopsAlong c b S root start ident L f links → f.field ≡ Some n → EndIn f.object n links
+LinksEndInField = (q : Question) (b : List ℕ) (f : Fault) (links : List Link) (n : ℕ) → StopsAlong q b f links → f.field ≡ Some n → EndIn f.object n links

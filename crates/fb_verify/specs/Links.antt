@@ -6,11 +6,10 @@ use Rattle.fb_schema.specs.declared.kinds.Kind.TheVariants.{Union, Texts, Tables
 use Rattle.fb_schema.specs.Rows.{Rows}
 use Rattle.fb_schema.specs.Live.{Live, live_fields}
 use Rattle.fb_verify.specs.declared.checks.Checks.{Checks}
-use Rattle.fb_verify.specs.declared.start.Start.{Start}
-use Rattle.fb_verify.specs.declared.start.Ident.{Ident}
 use Rattle.fb_verify.specs.declared.fault.Fault.{Fault}
 use Rattle.fb_verify.specs.declared.links.Link.{Link}
 use Rattle.fb_verify.specs.Bounds.{Bounds}
+use Rattle.fb_verify.specs.Question.{Question}
 use Rattle.fb_verify.specs.Places.{target}
 use Rattle.fb_verify.specs.Fields.{type_place, union_type, types_begin, Lead, to_table, Entry, entries}
 use Rattle.fb_verify.specs.Tree.{kids_length, elements_length}
@@ -67,7 +66,7 @@ LeadsAlong c b S L k t w f links = (s : Trail) × IsTrail s c b S L k t w f × (
 
 -- the fault is the one at the start, to which no link leads, or the one at the end of a trail with these links from the
 -- root
-abbrev pub StopsAlong : Checks → List ℕ → Rows → ℕ → Start → Ident → Bounds → Fault → List Link → Type 0
-StopsAlong c b S root start ident L f links =
-    (IsFalseAt c b S L (in_start start ident) (way_to_start root) f × (links ≡ []))
-    ⊎ (IsStart c b start ident × LeadsAlong c b S L root (target b (base start)) (way_to_root root start ident) f links)
+abbrev pub StopsAlong : Question → List ℕ → Fault → List Link → Type 0
+StopsAlong q b f links =
+    (IsFalseAt q.checks b q.rows q.limits (in_start q.start q.ident) (way_to_start q.root) f × (links ≡ []))
+    ⊎ (IsStart q.checks b q.start q.ident × LeadsAlong q.checks b q.rows q.limits q.root (target b (base q.start)) (way_to_root q.root q.start q.ident) f links)

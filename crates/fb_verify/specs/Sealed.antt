@@ -5,6 +5,8 @@ use Rattle.fb_verify.specs.declared.checks.Checks.{Checks}
 use Rattle.fb_verify.specs.declared.start.Start.{Start}
 use Rattle.fb_verify.specs.declared.start.Ident.{Ident}
 use Rattle.fb_verify.specs.declared.fault.Report.{Report}
+use Rattle.fb_verify.specs.Bounds.{Bounds}
+use Rattle.fb_verify.specs.Question.{Question, question}
 use Rattle.fb_verify.specs.Tree.{Tree, size, depth}
 use Rattle.fb_verify.specs.WellFormed.{IsWellFormed, cost}
 
@@ -17,6 +19,10 @@ pub record Sealed : Type 0 where
   pub checks : Checks
   pub report : Report
 
+-- what was asked, with an identifier and limits
+abbrev pub asked_of : Sealed → Ident → Bounds → Question
+asked_of v ident L = question v.schema v.root v.start ident L v.checks
+
 -- the bytes, of which there are fewer than 2^31, unfold by the schema from the root, which is a table, into a tree that
 -- the report counts: its tables, its depth, and its reads with those of the start, of which an identifier that was
 -- asked for is one
@@ -24,8 +30,9 @@ pub record IsUnfolded (v : Sealed) : Type 0 where
   pub short : length v.bytes < 2 ^ 31
   pub root_is_table : IsTrue (is_table v.schema v.root)
   pub ident : Ident
+  pub limits : Bounds
   pub found : Tree
-  pub well_formed : IsWellFormed v.checks v.bytes v.schema v.root v.start ident found
+  pub well_formed : IsWellFormed (asked_of v ident limits) v.bytes found
   pub tables : (v.report).tables ≡ size found
   pub depth : (v.report).depth ≡ depth found
-  pub reads : (v.report).reads ≡ cost found v.checks v.bytes v.schema v.start ident
+  pub reads : (v.report).reads ≡ cost (asked_of v ident limits) v.bytes found

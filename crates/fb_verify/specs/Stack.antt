@@ -19,9 +19,8 @@ use Rattle.fb_verify.specs.declared.element.Child.{Child}
 use Rattle.fb_verify.specs.declared.field.Table.{Table}
 use Rattle.fb_verify.specs.declared.links.Link.{Link}
 use Rattle.fb_verify.specs.declared.stack.Walk.{Walk}
-use Rattle.fb_verify.specs.declared.start.Start.{Start}
-use Rattle.fb_verify.specs.declared.start.Ident.{Ident}
 use Rattle.fb_verify.specs.Bounds.{Bounds, AreAllowed}
+use Rattle.fb_verify.specs.Question.{Question}
 use Rattle.fb_verify.specs.Places.{target, has_slot, field_place}
 use Rattle.fb_verify.specs.Fields.{IsField, to_table, entries, type_place, type_count}
 use Rattle.fb_verify.specs.Cost.{lead_reads}
@@ -222,9 +221,9 @@ abbrev pub HaltsIn : Walk → Metered → Origin → List Frame → Halt → ℕ
 HaltsIn w m s frames h reads = StopsIn w.checks m.bytes w.schema.now w.limits s frames (last_link h.last (stopped h.stop reads)) (stopped h.stop reads)
 
 -- a whole walk came to this fault by the links of these frames
-pub record HaltsAlong (c : Checks) (b : List ℕ) (S : Rows) (root : ℕ) (start : Start) (ident : Ident) (L : Bounds) (frames : List Frame) (last : LastLink) (f : Fault) : Type 0 where
-  pub along : StopsAlong c b S root start ident L f (map (frame_link b S) frames ++ last_link last f)
-  pub linked : All (IsLinked c b S) frames
+pub record HaltsAlong (q : Question) (b : List ℕ) (frames : List Frame) (last : LastLink) (f : Fault) : Type 0 where
+  pub along : StopsAlong q b f (map (frame_link b q.rows) frames ++ last_link last f)
+  pub linked : All (IsLinked q.checks b q.rows) frames
 
 -- the frame of a table that was opened
 abbrev pub opened : Table → Frame

@@ -8,6 +8,7 @@ use Rattle.fb_verify.specs.declared.start.Ident.{Ident}
 use Rattle.fb_verify.specs.declared.fault.Reason.TheVariants.{TooDeep, TooManyTables, TooManyReads}
 use Rattle.fb_verify.specs.declared.fault.Fault.{Fault}
 use Rattle.fb_verify.specs.Bounds.{Bounds, allowed}
+use Rattle.fb_verify.specs.Question.{Question}
 use Rattle.fb_verify.specs.Places.{target}
 use Rattle.fb_verify.specs.Facts.{IsTable, IsOffset}
 use Rattle.fb_verify.specs.Fields.{IsField, Lead, to_table, Entry, entries}
@@ -108,7 +109,7 @@ abbrev pub StopsFrom : Checks → List ℕ → Rows → Bounds → ℕ → ℕ �
 StopsFrom c b S L k t w f = (s : Trail) × IsTrail s c b S L k t w f
 
 -- the fault is the one at the start, or the one at the end of a trail from the root
-abbrev pub Stops : Checks → List ℕ → Rows → ℕ → Start → Ident → Bounds → Fault → Type 0
-Stops c b S root start ident L f =
-    IsFalseAt c b S L (in_start start ident) (way_to_start root) f
-    ⊎ (IsStart c b start ident × StopsFrom c b S L root (target b (base start)) (way_to_root root start ident) f)
+abbrev pub Stops : Question → List ℕ → Fault → Type 0
+Stops q b f =
+    IsFalseAt q.checks b q.rows q.limits (in_start q.start q.ident) (way_to_start q.root) f
+    ⊎ (IsStart q.checks b q.start q.ident × StopsFrom q.checks b q.rows q.limits q.root (target b (base q.start)) (way_to_root q.root q.start q.ident) f)

@@ -14,6 +14,7 @@ use Rattle.fb_verify.specs.declared.fault.Fault.{Fault}
 use Rattle.fb_verify.specs.declared.fault.Reason.{Reason}
 use Rattle.fb_verify.specs.declared.fault.Reason.TheVariants.{WrongPrefix, OutOfBuffer, Misaligned, ZeroOffset, WrongIdentifier, TooDeep, TooManyTables, BadVtable, MissingRequired, NoTerminator, LengthsDiffer, PastTable, TooManyReads}
 use Rattle.fb_verify.specs.Bounds.{Bounds, AreTooMany}
+use Rattle.fb_verify.specs.Question.{Question}
 use Rattle.fb_verify.specs.Places.{target, has_vtable, vtable, vtable_size, inline_size, field_place}
 use Rattle.fb_verify.specs.Facts.{IsTable, IsOffset}
 use Rattle.fb_verify.specs.Fields.{IsField, type_place, type_count, Lead, to_table, to_struct, to_string, to_nothing, Entry, entries}
@@ -168,10 +169,10 @@ pub data IsReached (c : Checks) (b : List ℕ) (S : Rows) (root begin : ℕ) : �
   from_above : (k t above object : ℕ) (field : Option ℕ) (j u : ℕ) → IsReached c b S root begin k t above object field → (on : LeadsOn c b S k t j u) → IsReached c b S root begin j u (suc above) k (Some ((on.by).field).number)
 
 -- at the start
-pub record FailsAtStart (c : Checks) (b : List ℕ) (root : ℕ) (start : Start) (ident : Ident) (L : Bounds) (f : Fault) : Type 0 where
-  pub object : f.object ≡ root
+pub record FailsAtStart (q : Question) (b : List ℕ) (f : Fault) : Type 0 where
+  pub object : f.object ≡ q.root
   pub field : f.field ≡ None
-  pub because : PrefixIsFalse b start f.reason f.at ⊎ (IdentIsFalse b (base start + 4) ident f.reason f.at ⊎ (OffsetIsFalse c b (base start) f.reason f.at ⊎ IsOverBudget L (base start) f))
+  pub because : PrefixIsFalse b q.start f.reason f.at ⊎ (IdentIsFalse b (base q.start + 4) q.ident f.reason f.at ⊎ (OffsetIsFalse q.checks b (base q.start) f.reason f.at ⊎ IsOverBudget q.limits (base q.start) f))
 
 -- with so many tables above the one at t: as many are open, or were opened, as is allowed
 abbrev pub LimitIsReached : Bounds → ℕ → ℕ → Reason → ℕ → Type 0
@@ -221,7 +222,7 @@ pub record FailsAtTable (c : Checks) (b : List ℕ) (S : Rows) (root begin : ℕ
 -- where a buffer stops, the reason is true: at the start, or past it at a table that is reached
 abbrev pub StopsTruly : Type 0
 StopsTruly =
-    (c : Checks) (b : List ℕ) (S : Rows) (root : ℕ) (start : Start) (ident : Ident) (L : Bounds) (f : Fault) → Stops c b S root start ident L f → FailsAtStart c b root start ident L f ⊎ (IsStart c b start ident × FailsAtTable c b S root (target b (base start)) L f)
+    (q : Question) (b : List ℕ) (f : Fault) → Stops q b f → FailsAtStart q b f ⊎ (IsStart q.checks b q.start q.ident × FailsAtTable q.checks b q.rows q.root (target b (base q.start)) q.limits f)
 
 -- how many tables a trail opens: those that are open at its end, and the nodes of all trees that it passes
 unfoldable mutual
@@ -240,4 +241,4 @@ unfoldable mutual
 -- where a trail stops since too many tables were opened, it opens as many as are allowed
 abbrev pub TablesRunOut : Type 0
 TablesRunOut =
-    (c : Checks) (b : List ℕ) (S : Rows) (root : ℕ) (start : Start) (ident : Ident) (L : Bounds) (s : Trail) (f : Fault) → IsTrail s c b S L root (target b (base start)) (way_to_root root start ident) f → f.reason ≡ TooManyTables → L.tables ≤ opened_on s
+    (q : Question) (b : List ℕ) (s : Trail) (f : Fault) → IsTrail s q.checks b q.rows q.limits q.root (target b (base q.start)) (way_to_root q.root q.start q.ident) f → f.reason ≡ TooManyTables → (q.limits).tables ≤ opened_on s

@@ -1,13 +1,13 @@
 -- A whole buffer: its start and its tree.
 use Rattle.std.specs.Prelude.{◌≡◌, ℕ, ◌+◌, ◌≤◌, List, length}
 use Rattle.fb_bytes.specs.Word.{word}
-use Rattle.fb_schema.specs.Rows.{Rows}
 use Rattle.fb_verify.specs.declared.checks.Checks.{Checks}
 use Rattle.fb_verify.specs.declared.start.Start.{Start}
 use Rattle.fb_verify.specs.declared.start.Start.TheVariants.{Bare, Prefixed}
 use Rattle.fb_verify.specs.declared.start.Ident.{Ident}
 use Rattle.fb_verify.specs.declared.start.Ident.TheVariants.{Any, Want}
-use Rattle.fb_verify.specs.Bounds.{Bounds, AreAllowed}
+use Rattle.fb_verify.specs.Bounds.{AreAllowed}
+use Rattle.fb_verify.specs.Question.{Question}
 use Rattle.fb_verify.specs.Places.{target}
 use Rattle.fb_verify.specs.Facts.{IsOffset}
 use Rattle.fb_verify.specs.Tree.{Tree, size, depth}
@@ -36,9 +36,9 @@ pub record IsStart (c : Checks) (b : List ℕ) (start : Start) (ident : Ident) :
   pub offset : IsOffset c b (base start)
 
 -- the buffer begins as it should, and unfolds into this tree from its root offset
-pub record IsWellFormed (c : Checks) (b : List ℕ) (S : Rows) (root : ℕ) (start : Start) (ident : Ident) (y : Tree) : Type 0 where
-  pub starts : IsStart c b start ident
-  pub unfolds : Unfolds y c b S root (target b (base start))
+pub record IsWellFormed (q : Question) (b : List ℕ) (y : Tree) : Type 0 where
+  pub starts : IsStart q.checks b q.start q.ident
+  pub unfolds : Unfolds y q.checks b q.rows q.root (target b (base q.start))
 
 abbrev pub prefix_reads : Start → ℕ
 prefix_reads Bare = 0
@@ -53,11 +53,11 @@ abbrev pub start_reads : Start → Ident → ℕ
 start_reads start ident = prefix_reads start + ident_reads ident + 1
 
 -- all counted reads of a buffer that unfolds into this tree
-abbrev pub cost : Tree → Checks → List ℕ → Rows → Start → Ident → ℕ
-cost y c b S start ident = start_reads start ident + tree_cost y c b S
+abbrev pub cost : Question → List ℕ → Tree → ℕ
+cost q b y = start_reads q.start q.ident + tree_cost y q.checks b q.rows
 
--- the tree has no more tables and no longer chains than these, and costs no more reads
-pub record IsWithin (y : Tree) (c : Checks) (b : List ℕ) (S : Rows) (start : Start) (ident : Ident) (L : Bounds) : Type 0 where
-  pub tables : size y ≤ L.tables
-  pub depth : depth y ≤ L.depth
-  pub reads : AreAllowed L.reads (cost y c b S start ident)
+-- the tree has no more tables and no longer chains than the limits say, and costs no more reads
+pub record IsWithin (q : Question) (b : List ℕ) (y : Tree) : Type 0 where
+  pub tables : size y ≤ (q.limits).tables
+  pub depth : depth y ≤ (q.limits).depth
+  pub reads : AreAllowed (q.limits).reads (cost q b y)

@@ -4,6 +4,7 @@ ghost use Rattle.std.specs.Prelude.{◌≡◌, ◌<◌, ◌≤◌, length, IfOk,
 ghost use Rattle.fb_bytes.specs.Word.{while_lent};
 ghost use Rattle.fb_schema.specs.Rows.{is_table};
 ghost use Rattle.fb_verify.specs.MostReads.{most_reads};
+ghost use Rattle.fb_verify.specs.Question.{question};
 ghost use Rattle.fb_verify.specs.Stops.{Stops};
 ghost use Rattle.fb_verify.specs.Verdict.{Reports, HasNone};
 
@@ -33,9 +34,9 @@ pub fn walk_shallow(
     requires fresh { meter.old.count ≡ 0 }
     requires table { IsTrue (is_table schema.now root) }
     requires room { limits.depth ≤ 64 }
-    ensures yes { IfOk result (λ r. Reports checks meter.old.bytes schema.now root start ident limits r) }
-    ensures none { IfErr result (λ _. HasNone checks meter.old.bytes schema.now root start ident limits) }
-    ensures no { IfErr result (λ f. Stops checks meter.old.bytes schema.now root start ident limits f) }
+    ensures yes { IfOk result (λ r. Reports (question schema.now root start ident limits checks) meter.old.bytes r) }
+    ensures none { IfErr result (λ _. HasNone (question schema.now root start ident limits checks) meter.old.bytes) }
+    ensures no { IfErr result (λ f. Stops (question schema.now root start ident limits checks) meter.old.bytes f) }
     ensures price { meter.new.count ≤ most_reads schema.now limits (length meter.old.bytes) }
     ensures read { IfOk result (λ r. meter.new.count ≡ r.reads) }
     ensures stopped { IfErr result (λ f. meter.new.count ≡ f.reads) }

@@ -4,6 +4,7 @@ ghost use Rattle.std.specs.Prelude.{◌≡◌, ◌+◌, ◌<◌, ◌≤◌, max,
 ghost use Rattle.fb_bytes.specs.Word.{while_lent};
 ghost use Rattle.fb_schema.specs.Rows.{is_table};
 ghost use Rattle.fb_verify.specs.MostReads.{most_reads};
+ghost use Rattle.fb_verify.specs.Question.{question};
 ghost use Rattle.fb_verify.specs.Stops.{Stops};
 ghost use Rattle.fb_verify.specs.Stack.{HaltsAlong, links_left};
 ghost use Rattle.fb_verify.specs.Told.{stopped};
@@ -46,10 +47,10 @@ pub fn walk<A: Allocator>(
     requires table { IsTrue (is_table schema.now root) }
     requires room { limits.depth ≤ scratch.old }
     // A yes: a tree is well formed and within the limits, and the report counts it.
-    ensures yes { IfOk result (λ r. Reports checks meter.old.bytes schema.now root start ident limits r) }
+    ensures yes { IfOk result (λ r. Reports (question schema.now root start ident limits checks) meter.old.bytes r) }
     // A no: no tree is, and the fault is the first condition that fails.
-    ensures none { IfErr result (λ _. HasNone checks meter.old.bytes schema.now root start ident limits) }
-    ensures no { IfErr result (λ f. Stops checks meter.old.bytes schema.now root start ident limits f) }
+    ensures none { IfErr result (λ _. HasNone (question schema.now root start ident limits checks) meter.old.bytes) }
+    ensures no { IfErr result (λ f. Stops (question schema.now root start ident limits checks) meter.old.bytes f) }
     // The price.
     ensures price { meter.new.count ≤ most_reads schema.now limits (length meter.old.bytes) }
     ensures read { IfOk result (λ r. meter.new.count ≡ r.reads) }
@@ -93,11 +94,11 @@ pub(crate) fn trace(
     requires table { IsTrue (is_table schema.now root) }
     requires some { min limits.depth 1 ≤ length frames.old }
     requires room { limits.depth ≤ max 64 (length frames.old) }
-    ensures yes { IfOk result (λ r. Reports checks meter.old.bytes schema.now root start ident limits r) }
-    ensures none { IfErr result (λ _. HasNone checks meter.old.bytes schema.now root start ident limits) }
+    ensures yes { IfOk result (λ r. Reports (question schema.now root start ident limits checks) meter.old.bytes r) }
+    ensures none { IfErr result (λ _. HasNone (question schema.now root start ident limits checks) meter.old.bytes) }
     ensures deep { IfErr result (λ h. h.links + links_left h.last ≤ limits.depth) }
-    ensures no { IfErr result (λ h. Stops checks meter.old.bytes schema.now root start ident limits (stopped h.stop meter.new.count)) }
-    ensures along { IfErr result (λ h. limits.depth ≤ length frames.new → HaltsAlong checks meter.old.bytes schema.now root start ident limits (take h.links frames.new) h.last (stopped h.stop meter.new.count)) }
+    ensures no { IfErr result (λ h. Stops (question schema.now root start ident limits checks) meter.old.bytes (stopped h.stop meter.new.count)) }
+    ensures along { IfErr result (λ h. limits.depth ≤ length frames.new → HaltsAlong (question schema.now root start ident limits checks) meter.old.bytes (take h.links frames.new) h.last (stopped h.stop meter.new.count)) }
     ensures price { meter.new.count ≤ most_reads schema.now limits (length meter.old.bytes) }
     ensures read { IfOk result (λ r. meter.new.count ≡ r.reads) }
     ensures bytes { meter.new.bytes ≡ meter.old.bytes }

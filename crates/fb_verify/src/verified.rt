@@ -4,6 +4,7 @@ ghost use Rattle.std.specs.Prelude.{◌≡◌, ◌+◌, ◌*◌, ◌^◌, ◌<�
 ghost use Rattle.fb_schema.specs.Rows.{is_table};
 ghost use Rattle.fb_verify.specs.Links.{StopsAlong};
 ghost use Rattle.fb_verify.specs.MostReads.{most_reads};
+ghost use Rattle.fb_verify.specs.Question.{question};
 ghost use Rattle.fb_verify.specs.Stops.{Stops};
 ghost use Rattle.fb_verify.specs.Verdict.{Reports, HasNone};
 ghost use Rattle.fb_verify.specs.Sealed.{IsUnfolded};
@@ -111,11 +112,11 @@ pub fn verify<'b, 's, 'n, A: Allocator>(
     requires table { IsTrue (is_table schema.now root) }
     requires room { limits.depth ≤ scratch.old }
     // A yes: a tree is well formed and within the limits, and the report counts it.
-    ensures yes { IfOk result (λ v. Reports checks meter.entry.bytes schema.now root start ident limits v.report) }
+    ensures yes { IfOk result (λ v. Reports (question schema.now root start ident limits checks) meter.entry.bytes v.report) }
     ensures kept { IfOk result (λ v. v ≡ record { bytes = meter.entry.bytes; schema = schema.now; root = root; start = start; checks = checks; report = v.report }) }
     // A no: no tree is, and the fault is the first condition that fails.
-    ensures none { IfErr result (λ _. HasNone checks meter.entry.bytes schema.now root start ident limits) }
-    ensures no { IfErr result (λ f. Stops checks meter.entry.bytes schema.now root start ident limits f) }
+    ensures none { IfErr result (λ _. HasNone (question schema.now root start ident limits checks) meter.entry.bytes) }
+    ensures no { IfErr result (λ f. Stops (question schema.now root start ident limits checks) meter.entry.bytes f) }
     // The price.
     ensures price_of_yes { IfOk result (λ v. (v.report).reads ≤ most_reads schema.now limits (length meter.entry.bytes)) }
     ensures price_of_no { IfErr result (λ f. f.reads ≤ most_reads schema.now limits (length meter.entry.bytes)) }
@@ -152,10 +153,10 @@ pub fn verify_shallow<'b, 's, 'n>(
     requires fresh { meter.count ≡ 0 }
     requires table { IsTrue (is_table schema.now root) }
     requires room { limits.depth ≤ 64 }
-    ensures yes { IfOk result (λ v. Reports checks meter.entry.bytes schema.now root start ident limits v.report) }
+    ensures yes { IfOk result (λ v. Reports (question schema.now root start ident limits checks) meter.entry.bytes v.report) }
     ensures kept { IfOk result (λ v. v ≡ record { bytes = meter.entry.bytes; schema = schema.now; root = root; start = start; checks = checks; report = v.report }) }
-    ensures none { IfErr result (λ _. HasNone checks meter.entry.bytes schema.now root start ident limits) }
-    ensures no { IfErr result (λ f. Stops checks meter.entry.bytes schema.now root start ident limits f) }
+    ensures none { IfErr result (λ _. HasNone (question schema.now root start ident limits checks) meter.entry.bytes) }
+    ensures no { IfErr result (λ f. Stops (question schema.now root start ident limits checks) meter.entry.bytes f) }
     ensures price_of_yes { IfOk result (λ v. (v.report).reads ≤ most_reads schema.now limits (length meter.entry.bytes)) }
     ensures price_of_no { IfErr result (λ f. f.reads ≤ most_reads schema.now limits (length meter.entry.bytes)) }
 {
@@ -195,11 +196,11 @@ pub fn verify_and_locate<'b, 's, 'n, A: Allocator>(
     requires table { IsTrue (is_table schema.now root) }
     requires room { limits.depth ≤ scratch.old }
     requires links { limits.depth ≤ length links.old }
-    ensures yes { IfOk result (λ v. Reports checks meter.entry.bytes schema.now root start ident limits v.report) }
+    ensures yes { IfOk result (λ v. Reports (question schema.now root start ident limits checks) meter.entry.bytes v.report) }
     ensures kept { IfOk result (λ v. v ≡ record { bytes = meter.entry.bytes; schema = schema.now; root = root; start = start; checks = checks; report = v.report }) }
-    ensures none { IfErr result (λ _. HasNone checks meter.entry.bytes schema.now root start ident limits) }
-    ensures no { IfErr result (λ l. Stops checks meter.entry.bytes schema.now root start ident limits l.fault) }
-    ensures along { IfErr result (λ l. StopsAlong checks meter.entry.bytes schema.now root start ident limits l.fault (take l.links links.new)) }
+    ensures none { IfErr result (λ _. HasNone (question schema.now root start ident limits checks) meter.entry.bytes) }
+    ensures no { IfErr result (λ l. Stops (question schema.now root start ident limits checks) meter.entry.bytes l.fault) }
+    ensures along { IfErr result (λ l. StopsAlong (question schema.now root start ident limits checks) meter.entry.bytes l.fault (take l.links links.new)) }
     ensures few { IfErr result (λ l. l.links ≤ length links.new) }
     ensures price_of_yes { IfOk result (λ v. (v.report).reads ≤ most_reads schema.now limits (length meter.entry.bytes)) }
     ensures price_of_no { IfErr result (λ l. (l.fault).reads ≤ most_reads schema.now limits (length meter.entry.bytes)) }
@@ -231,11 +232,11 @@ pub fn verify_and_locate_shallow<'b, 's, 'n>(
     requires table { IsTrue (is_table schema.now root) }
     requires room { limits.depth ≤ 64 }
     requires links { limits.depth ≤ length links.old }
-    ensures yes { IfOk result (λ v. Reports checks meter.entry.bytes schema.now root start ident limits v.report) }
+    ensures yes { IfOk result (λ v. Reports (question schema.now root start ident limits checks) meter.entry.bytes v.report) }
     ensures kept { IfOk result (λ v. v ≡ record { bytes = meter.entry.bytes; schema = schema.now; root = root; start = start; checks = checks; report = v.report }) }
-    ensures none { IfErr result (λ _. HasNone checks meter.entry.bytes schema.now root start ident limits) }
-    ensures no { IfErr result (λ l. Stops checks meter.entry.bytes schema.now root start ident limits l.fault) }
-    ensures along { IfErr result (λ l. StopsAlong checks meter.entry.bytes schema.now root start ident limits l.fault (take l.links links.new)) }
+    ensures none { IfErr result (λ _. HasNone (question schema.now root start ident limits checks) meter.entry.bytes) }
+    ensures no { IfErr result (λ l. Stops (question schema.now root start ident limits checks) meter.entry.bytes l.fault) }
+    ensures along { IfErr result (λ l. StopsAlong (question schema.now root start ident limits checks) meter.entry.bytes l.fault (take l.links links.new)) }
     ensures few { IfErr result (λ l. l.links ≤ length links.new) }
     ensures price_of_yes { IfOk result (λ v. (v.report).reads ≤ most_reads schema.now limits (length meter.entry.bytes)) }
     ensures price_of_no { IfErr result (λ l. (l.fault).reads ≤ most_reads schema.now limits (length meter.entry.bytes)) }
@@ -264,11 +265,11 @@ fn locate_in<'b, 's, 'n>(
     requires table { IsTrue (is_table schema.now root) }
     requires room { limits.depth ≤ length frames.old }
     requires links { limits.depth ≤ length links.old }
-    ensures yes { IfOk result (λ v. Reports checks meter.entry.bytes schema.now root start ident limits v.report) }
+    ensures yes { IfOk result (λ v. Reports (question schema.now root start ident limits checks) meter.entry.bytes v.report) }
     ensures kept { IfOk result (λ v. v ≡ record { bytes = meter.entry.bytes; schema = schema.now; root = root; start = start; checks = checks; report = v.report }) }
-    ensures none { IfErr result (λ _. HasNone checks meter.entry.bytes schema.now root start ident limits) }
-    ensures no { IfErr result (λ l. Stops checks meter.entry.bytes schema.now root start ident limits l.fault) }
-    ensures along { IfErr result (λ l. StopsAlong checks meter.entry.bytes schema.now root start ident limits l.fault (take l.links links.new)) }
+    ensures none { IfErr result (λ _. HasNone (question schema.now root start ident limits checks) meter.entry.bytes) }
+    ensures no { IfErr result (λ l. Stops (question schema.now root start ident limits checks) meter.entry.bytes l.fault) }
+    ensures along { IfErr result (λ l. StopsAlong (question schema.now root start ident limits checks) meter.entry.bytes l.fault (take l.links links.new)) }
     ensures few { IfErr result (λ l. l.links ≤ length links.new) }
     ensures price_of_yes { IfOk result (λ v. (v.report).reads ≤ most_reads schema.now limits (length meter.entry.bytes)) }
     ensures price_of_no { IfErr result (λ l. (l.fault).reads ≤ most_reads schema.now limits (length meter.entry.bytes)) }

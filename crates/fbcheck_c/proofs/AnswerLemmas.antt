@@ -10,7 +10,7 @@ use Rattle.fbcheck_c.specs.declared.answer.Answer.TheVariants.{Done, Good, Bad, 
 use Rattle.fbcheck_c.specs.declared.options.Options.{Options}
 use Rattle.fbcheck_c.specs.Answered.{IsBadFrom, IsChecked, IsGoodFrom, Serves}
 use Rattle.fbcheck_c.specs.AnswerLaws.{CanServe}
-use Rattle.fbcheck_c.specs.Asked.{checks_asked, ident_asked, limits_of, root_asked, start_asked}
+use Rattle.fbcheck_c.specs.Asked.{ident_asked, question_of, root_asked}
 use Rattle.fbcheck_c.specs.Told.{told}
 
 -- what holds of the value that there is
@@ -21,8 +21,8 @@ module _ (l : Loaded) (n : ℕ) (o : Options) (b : List ℕ) (root : ℕ) (ident
   served : (P : ℕ → Ident → Type 0) → Serves l n o P → P root ident
   served P h = at_value (ident_asked l o) ident (P root) c.ident_is (at_value (root_asked l o) root (λ r. IsSomeAnd (ident_asked l o) (P r)) c.root_is h.1)
 
-  pub good_gets_yes : (y : Tree) (a : Answer) → IsWellFormed (checks_asked o) b l.schema root (start_asked o) ident y
-      → IsWithin y (checks_asked o) b l.schema (start_asked o) ident (limits_of o (length b)) → length b < 2 ^ 31 → IsChecked l n o b a → (told a).status ≡ 0
+  pub good_gets_yes : (y : Tree) (a : Answer) → IsWellFormed (question_of l o b root ident) b y
+      → IsWithin (question_of l o b root ident) b y → length b < 2 ^ 31 → IsChecked l n o b a → (told a).status ≡ 0
   good_gets_yes y (Good r) w i short h = refl
   good_gets_yes y (Bad f) w i short h = let bad = served (IsBadFrom l o b f) h.1 in absurd (bad.none y w i)
   good_gets_yes y Done w i short h = absurd h
@@ -38,7 +38,7 @@ module _ (l : Loaded) (n : ℕ) (o : Options) (b : List ℕ) (root : ℕ) (ident
   good_gets_yes y NoRoom w i short h = absurd h
   good_gets_yes y Misfit w i short h = absurd h
 
-  pub bad_gets_no : (a : Answer) → HasNone (checks_asked o) b l.schema root (start_asked o) ident (limits_of o (length b)) → length b < 2 ^ 31 → IsChecked l n o b a → (told a).status ≡ 1
+  pub bad_gets_no : (a : Answer) → HasNone (question_of l o b root ident) b → length b < 2 ^ 31 → IsChecked l n o b a → (told a).status ≡ 1
   bad_gets_no (Good r) none short h = let good = served (IsGoodFrom l o b r) h.1 in absurd (none good.found good.well_formed good.within)
   bad_gets_no (Bad f) none short h = refl
   bad_gets_no Done none short h = absurd h

@@ -1,6 +1,7 @@
 -- The place of a fault is written where its way was found.
 use Rattle.std.proofs.Common.{ℕ, ◌<◌, ◌^◌, List, length, sym, subst, IsSomeAnd}
 use Rattle.fb_verify.specs.Links.{StopsAlong}
+use Rattle.fb_verify.specs.Question.{Question, question}
 use Rattle.fb_verify.specs.Stops.{Stops}
 use Rattle.fb_verify.specs.Verdict.{HasNone}
 use Rattle.fb_verify.specs.declared.fault.Fault.{Fault}
@@ -15,6 +16,10 @@ use Rattle.fbcheck_c.specs.Answered.{Begins, IsBadFrom, Serves}
 use Rattle.fbcheck_c.specs.Asked.{checks_asked, ident_asked, start_asked}
 use Rattle.fbcheck_c.specs.Placed.{IsLocated, IsPlaceTold, IsTextTold}
 
+-- what a check asks once it has begun
+abbrev pub question_begun : Loaded → Options → Begun → Question
+question_begun l o begun = question l.schema begun.root (start_asked o) begun.ident begun.limits (checks_asked o)
+
 module _ (l : Loaded) (n : ℕ) (o : Options) (b : List ℕ) (begun : Begun) (begins : Begins l n o (length b) begun) where
   -- what holds of the root and the identifier with which a check begins
   serve : (P : ℕ → Ident → Type 0) → P begun.root begun.ident → Serves l n o P
@@ -23,9 +28,9 @@ module _ (l : Loaded) (n : ℕ) (o : Options) (b : List ℕ) (begun : Begun) (be
       (begins.has, subst (λ v. IsSomeAnd v (λ r. IsSomeAnd (ident_asked l o) (P r))) (sym begins.root_is) inner)
 
   module _ (f : Fault) (links : List Link)
-      (none : HasNone (checks_asked o) b l.schema begun.root (start_asked o) begun.ident begun.limits)
-      (stops : Stops (checks_asked o) b l.schema begun.root (start_asked o) begun.ident begun.limits f)
-      (along : StopsAlong (checks_asked o) b l.schema begun.root (start_asked o) begun.ident begun.limits f links)
+      (none : HasNone (question_begun l o begun) b)
+      (stops : Stops (question_begun l o begun) b f)
+      (along : StopsAlong (question_begun l o begun) b f links)
       (room room' : List ℕ) (told told' : ℕ) where
     is_bad : Serves l n o (IsBadFrom l o b f)
     is_bad = serve (IsBadFrom l o b f) (record { none = rw begins.limits_are at none; stops = rw begins.limits_are at stops })

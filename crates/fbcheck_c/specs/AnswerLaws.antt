@@ -14,7 +14,7 @@ use Rattle.fb_bfbs.specs.declared.loading.Loaded.{Loaded}
 use Rattle.fbcheck_c.specs.declared.answer.Answer.{Answer}
 use Rattle.fbcheck_c.specs.declared.options.Options.{Options}
 use Rattle.fbcheck_c.specs.Answered.{IsChecked}
-use Rattle.fbcheck_c.specs.Asked.{HasLimits, checks_asked, ident_asked, limits_of, root_asked, start_asked}
+use Rattle.fbcheck_c.specs.Asked.{HasLimits, ident_asked, question_of, root_asked}
 use Rattle.fbcheck_c.specs.Told.{told}
 
 -- the schema has the root and the identifier that the options ask, and there is room for their depth
@@ -28,8 +28,8 @@ abbrev pub GoodGetsYes : Type 0
 GoodGetsYes = (l : Loaded) (n : ℕ) (o : Options) (b : List ℕ) (root : ℕ) (ident : Ident) (y : Tree) (a : Answer)
     → CanServe l n o root ident
     → length b < 2 ^ 31
-    → IsWellFormed (checks_asked o) b l.schema root (start_asked o) ident y
-    → IsWithin y (checks_asked o) b l.schema (start_asked o) ident (limits_of o (length b))
+    → IsWellFormed (question_of l o b root ident) b y
+    → IsWithin (question_of l o b root ident) b y
     → IsChecked l n o b a → (told a).status ≡ 0
 
 -- where none is, every answer is the number of a no
@@ -37,7 +37,7 @@ abbrev pub BadGetsNo : Type 0
 BadGetsNo = (l : Loaded) (n : ℕ) (o : Options) (b : List ℕ) (root : ℕ) (ident : Ident) (a : Answer)
     → CanServe l n o root ident
     → length b < 2 ^ 31
-    → HasNone (checks_asked o) b l.schema root (start_asked o) ident (limits_of o (length b))
+    → HasNone (question_of l o b root ident) b
     → IsChecked l n o b a → (told a).status ≡ 1
 
 -- where it is too long, whatever is in it, every answer is that number

@@ -16,7 +16,7 @@ use Rattle.fbcheck_c.specs.declared.checking.Begun.{Begun}
 use Rattle.fbcheck_c.specs.declared.held.Held.{Held}
 use Rattle.fbcheck_c.specs.declared.held.Held.TheVariants.{Schema, Room}
 use Rattle.fbcheck_c.specs.declared.options.Options.{Options}
-use Rattle.fbcheck_c.specs.Asked.{HasLimits, LimitsFail, checks_asked, ident_asked, limits_of, root_asked, start_asked}
+use Rattle.fbcheck_c.specs.Asked.{HasLimits, LimitsFail, ident_asked, limits_of, question_of, root_asked}
 use Rattle.fbcheck_c.specs.Told.{low, told}
 
 -- ---- to load a schema
@@ -87,12 +87,12 @@ Serves l n o P = HasLimits o n × IsSomeAnd (root_asked l o) (λ root. IsSomeAnd
 
 -- some tree of the buffer is well formed by the schema from this root, within the limits, and the report counts it
 abbrev pub IsGoodFrom : Loaded → Options → List ℕ → Report → ℕ → Ident → Type 0
-IsGoodFrom l o b r root ident = Reports (checks_asked o) b l.schema root (start_asked o) ident (limits_of o (length b)) r
+IsGoodFrom l o b r root ident = Reports (question_of l o b root ident) b r
 
 -- none is, and this is the first condition that fails
 pub record IsBadFrom (l : Loaded) (o : Options) (b : List ℕ) (f : Fault) (root : ℕ) (ident : Ident) : Type 0 where
-  pub none : HasNone (checks_asked o) b l.schema root (start_asked o) ident (limits_of o (length b))
-  pub stops : Stops (checks_asked o) b l.schema root (start_asked o) ident (limits_of o (length b)) f
+  pub none : HasNone (question_of l o b root ident) b
+  pub stops : Stops (question_of l o b root ident) b f
 
 -- what a check of a buffer answers
 abbrev pub IsChecked : Loaded → ℕ → Options → List ℕ → Answer → Type 0

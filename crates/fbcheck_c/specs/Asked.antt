@@ -1,9 +1,10 @@
 -- What options ask.
-use Rattle.std.specs.Prelude.{◌≡◌, ℕ, ◌<◌, ◌≤◌, ◌==◌, min, Bool, true, false, not, List, replicate, Option, Some, None, if◌then◌else◌}
+use Rattle.std.specs.Prelude.{◌≡◌, ℕ, ◌<◌, ◌≤◌, ◌==◌, min, Bool, true, false, not, List, length, replicate, Option, Some, None, if◌then◌else◌}
 use Rattle.fb_bfbs.specs.LoadLaws.{ident_bytes, own_ident}
 use Rattle.fb_bfbs.specs.declared.loading.Loaded.{Loaded}
 use Rattle.fb_schema.specs.Rows.{Rows, is_table}
 use Rattle.fb_verify.specs.Bounds.{Bounds, limits_of_length}
+use Rattle.fb_verify.specs.Question.{Question, question}
 use Rattle.fb_verify.specs.declared.checks.Checks.{Checks}
 use Rattle.fb_verify.specs.declared.start.Ident.{Ident}
 use Rattle.fb_verify.specs.declared.start.Ident.TheVariants.{Any, Want}
@@ -65,6 +66,10 @@ abbrev pub ident_asked : Loaded → Options → Option Ident
 ident_asked l o =
     if o.ident_from == 0 then Some Any
     else (if o.ident_from == 1 then Some (Want o.ident) else own_ident (ident_bytes l.ident))
+
+-- what is asked of a buffer, from this root and with this identifier
+abbrev pub question_of : Loaded → Options → List ℕ → ℕ → Ident → Question
+question_of l o b root ident = question l.schema root (start_asked o) ident (limits_of o (length b)) (checks_asked o)
 
 -- the published limits and checks with a budget of 100,000,000 reads, and of 64 a byte, for a bare buffer with any
 -- identifier, from the schema's own root table

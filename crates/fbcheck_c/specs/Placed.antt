@@ -12,7 +12,7 @@ use Rattle.fbcheck_c.specs.declared.held.Held.{Held}
 use Rattle.fbcheck_c.specs.declared.held.Held.TheVariants.{Schema, Room}
 use Rattle.fbcheck_c.specs.declared.options.Options.{Options}
 use Rattle.fbcheck_c.specs.Answered.{IsChecked, Serves}
-use Rattle.fbcheck_c.specs.Asked.{checks_asked, limits_of, start_asked}
+use Rattle.fbcheck_c.specs.Asked.{question_of}
 
 -- room after as much of a text was copied to its front as there is place for
 abbrev pub cut_to : List ℕ → List ℕ → List ℕ
@@ -31,7 +31,7 @@ pub record IsUntold (room room' : List ℕ) (told told' : ℕ) : Type 0 where
 -- the place of this fault is told, by the links that lead to it from the root
 abbrev pub IsPlaceTold : Loaded → Options → List ℕ → Fault → List ℕ → List ℕ → ℕ → ℕ → Ident → Type 0
 IsPlaceTold l o b f room room' told root ident = (links : List Link)
-    × StopsAlong (checks_asked o) b l.schema root (start_asked o) ident (limits_of o (length b)) f links
+    × StopsAlong (question_of l o b root ident) b f links
     × IsTextTold (location_text l.schema f links) room room' told
 
 -- what is answered where the place of a fault is asked for: what a check answers, with the place of a bad buffer's

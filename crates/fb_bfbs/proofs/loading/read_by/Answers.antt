@@ -1,11 +1,10 @@
 use Rattle.std.proofs.Common.{◌<◌, ◌^◌, length, refl, ◌∙◌, ap}
-use Rattle.fb_verify.specs.declared.start.Start.TheVariants.{Bare}
 use Rattle.fb_schema.specs.Rows.{rows_of}
 use Rattle.fb_verify.specs.Sealed.{Sealed}
 use Rattle.fb_verify.specs.Stops.{Stops}
 use Rattle.fb_verify.proofs.Frames.{if_err_exit}
 use Rattle.fb_bfbs.specs.Fixed.{fixed}
-use Rattle.fb_bfbs.specs.Loads.{IsLoadFault, published, schema_number, schema_ident}
+use Rattle.fb_bfbs.specs.Loads.{IsLoadFault, asked_within}
 use Rattle.fb_bfbs.proofs.Outcomes.{paid_for}
 use Rattle.fb_bfbs.proofs.loading.read_by.Goals as goal
 
@@ -17,7 +16,7 @@ pub returns-in_err-verified-clause-no : goal.returns-in_err-verified-clause-no
 returns-in_err-verified-clause-no c =
     let b = c.args.meter.bytes in
     let short : length b < 2 ^ 31 = c.requires.short in
-    let no : Stops published b fixed schema_number Bare schema_ident c.args.limits c.in_err-verified.field-0.0 =
+    let no : Stops (asked_within c.args.limits) b c.in_err-verified.field-0.0 =
     rw (c.requires.table, c.published-checks.ensures) at c.in_err-verified.ensures.no in
     if_err_exit c.from_residual-in_err-verified.result _ (IsLoadFault b c.args.limits) c.from_residual-in_err-verified.ensures.1 (short, no)
 

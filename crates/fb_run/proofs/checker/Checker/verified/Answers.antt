@@ -3,7 +3,7 @@ use Rattle.std.proofs.lemmas.Grind.{common_steps}
 use Rattle.fb_verify.specs.Stops.{Stops}
 use Rattle.fb_verify.specs.Links.{StopsAlong}
 use Rattle.std.specs.Prelude.{take}
-use Rattle.fb_run.specs.Job.{limits_for}
+use Rattle.fb_run.specs.Job.{asked_of}
 use Rattle.fb_run.proofs.PlaceLemmas.{has_place}
 use Rattle.fb_run.proofs.checker.Checker.verified.Goals.{in-Ok-put_place, in-Err-put_place}
 use Rattle.fb_run.proofs.checker.Checker.verified.Goals as goal
@@ -15,8 +15,8 @@ returns-after-put_place-clause-refused g c =
     let fault = c.in-Err.field-0.fault in
     let links = take c.in-Err.field-0.links c.verify_and_locate.new.links in
     let meter = ap (λ m. m.bytes) c.in-Ok.ensures.meter in
-    let stops : Stops job.checks bytes job.rows job.root job.start job.ident (limits_for job bytes) fault = rw (sym c.limits_for-limits.ensures, sym c.start-start.ensures, sym c.self.view_is) (rw meter at c.in-Err.ensures.no) in
-    let along : StopsAlong job.checks bytes job.rows job.root job.start job.ident (limits_for job bytes) fault links = rw (sym c.limits_for-limits.ensures, sym c.start-start.ensures, sym c.self.view_is) (rw meter at c.in-Err.ensures.along) in
+    let stops : Stops (asked_of job bytes) bytes fault = rw (sym c.limits_for-limits.ensures, sym c.start-start.ensures, sym c.self.view_is) (rw meter at c.in-Err.ensures.no) in
+    let along : StopsAlong (asked_of job bytes) bytes fault links = rw (sym c.limits_for-limits.ensures, sym c.start-start.ensures, sym c.self.view_is) (rw meter at c.in-Err.ensures.along) in
     elim c.match-put_place.branch [
       | in-Ok-put_place w ↦ rw w.result-is tt
       | in-Err-put_place w ↦ rw w.result-is (has_place job bytes fault links (rw (sym c.self.view_is) c.in-Words.is) stops along)
