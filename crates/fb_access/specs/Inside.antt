@@ -19,10 +19,10 @@ abbrev pub OffsetLies : List ℕ → ℕ → Lead → Type 0
 OffsetLies b p to_nothing = Unit {0}
 OffsetLies b p _ = p + 4 ≤ length b
 
--- of a table its soffset and its vtable; of a value in place, and of an array of these, all its bytes; of a string or a vector its count and so
--- many bytes or elements behind it, an offset word being 4 bytes; behind a string's bytes a byte 0; of a vector of
--- unions their types too; of a union whose type the schema knows its offset word; what stands behind an offset word is
--- a spot of its own
+-- of a table its soffset and its vtable; of a value in place, and of an array of these, all its bytes; of a string or
+-- a vector its count and so many bytes or elements behind it, an offset word being 4 bytes; behind a string's bytes a
+-- byte 0; of a vector of unions their types too; of a union whose type the schema knows its offset word; what stands
+-- behind an offset word is a spot of its own
 abbrev pub LiesInside : List ℕ → Rows → Spot → Type 0
 LiesInside b S (AtTable k t) = HasVtable b t
 LiesInside b S (AtInline s p) = p + scalar_size s ≤ length b

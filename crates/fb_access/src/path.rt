@@ -34,10 +34,10 @@ impl<A: Allocator> Model for Path<A> {
 impl<A: Allocator> Path<A> {
     /// The path that a text names from the table `root`.
     ///
-    /// The text is the name of a field, and then any number of `.name` (a field), `[n]` (an element) and `@Name` (the
-    /// member of a union). A name is a letter or `_` and then letters, digits and `_`, all ASCII. n is `0`, or digits
-    /// of which the first isn't `0`, and at most 4294967295. Only live fields can be named, and only members with
-    /// values from 1 to 255.
+    /// The text is the name of a field, and then any number of `.name` (a field of a table or struct), `[n]` (an
+    /// element of a vector or array) and `@Name` (the member of a union). A name is a letter or `_` and then letters,
+    /// digits and `_`, all ASCII. n is `0`, or digits of which the first isn't `0`, and at most 4294967295. Only live
+    /// fields can be named, and only members with values from 1 to 255.
     ///
     /// # Errors
     ///

@@ -11,15 +11,15 @@ use std::fmt;
 pub enum PathFault {
     /// P1: the text is no path. No path begins with more than its first `at` bytes.
     BadText { at: u64 },
-    /// P2: the table has no live field of this name.
+    /// P2: the table or struct has no live field of this name.
     NoSuchField { step: u64 },
-    /// P3: `[n]` of what is no vector.
+    /// P3: `[n]` of what is no vector or array.
     NotIndexable { step: u64 },
     /// P4: `@name` of what is no union.
     NotAUnion { step: u64 },
     /// P5: the union has no member of this name.
     NoSuchMember { step: u64 },
-    /// P6: `.name` of what is no table.
+    /// P6: `.name` of what is no table or struct.
     NotATable { step: u64 },
     /// P7: memory was refused.
     OutOfMemory,
