@@ -6,9 +6,11 @@ use Rattle.fb_schema.specs.declared.kinds.Kind.TheVariants.{Scalar, Text, Struct
 use Rattle.fb_schema.specs.declared.views.Goal.{Goal}
 use Rattle.fb_schema.specs.declared.views.Goal.TheVariants.{Nothing as NoGoal, Text as TextGoal, Table as TableGoal, Struct as StructGoal}
 use Rattle.fb_schema.specs.declared.views.Target.{Target}
+use Rattle.fb_schema.specs.declared.targets.Targets.{Targets}
 use Rattle.fb_schema.specs.Rows.{Rows, is_table, is_union}
 use Rattle.fb_schema.specs.Members.{member_of}
 use Rattle.fb_schema.specs.Live.{Live}
+use Rattle.fb_schema.specs.Targets.{target_at, target_of}
 use Rattle.fb_schema.specs.Served.{IsServed, KindHolds}
 use Rattle.fb_verify.specs.declared.offset_row.Referent.{Referent}
 use Rattle.fb_verify.specs.declared.offset_row.Referent.TheVariants.{Text as AText, Table as ATable, Struct as AStruct, Nothing}
@@ -67,6 +69,20 @@ past_first r = record { leads = leads_after r.leads; place = r.place + 4; left =
 abbrev pub AreTypesNear : Leads → Type 0
 AreTypesNear (All referent) = Unit {0}
 AreTypesNear (ByType e q) = q < 2 ^ 36
+
+-- what the words of the union e lead to stands here by their types
+abbrev pub AreUnionTargets : Rows → Targets → ℕ → Type 0
+AreUnionTargets S targets e = (value : ℕ) → value < 256 → target_at targets.places.now targets.targets.now value ≡ target_of S (member_of S e value)
+
+-- and that of those of a row, where their types tell it
+abbrev pub AreTargetsOf : Rows → Targets → Leads → Type 0
+AreTargetsOf S targets (All referent) = Unit {0}
+AreTargetsOf S targets (ByType e q) = AreUnionTargets S targets e
+
+-- the words of a row whose types tell that are those of a union
+abbrev pub AreOfUnion : Rows → Leads → Type 0
+AreOfUnion S (All referent) = Unit {0}
+AreOfUnion S (ByType e q) = IsTrue (is_union S e)
 
 -- what is referred to can be asked of the schema
 abbrev pub IsReferent : Rows → Referent → Type 0

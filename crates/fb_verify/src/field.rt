@@ -12,7 +12,7 @@ ghost use Rattle.fb_verify.specs.Order.{after, vector_field_failure, unions_fiel
 ghost use Rattle.fb_verify.specs.declared.offset_row.Leads.TheVariants.{All, ByType};
 ghost use Rattle.fb_verify.specs.Told.{IsVtable, IsPlaced, IsAsked};
 ghost use Rattle.fb_schema.specs.Served.{IsServed, MemberHolds};
-ghost use Rattle.fb_verify.specs.OffsetRows.{words_of, IsAskable, lead_to, lead_to_goal, GoalHolds, IsReferent, IsRow, LeavesRow, TypeFits, TypesFit, IsVectorOrUnion};
+ghost use Rattle.fb_verify.specs.OffsetRows.{words_of, IsAskable, lead_to, lead_to_goal, AreUnionTargets, GoalHolds, IsReferent, IsRow, LeavesRow, TypeFits, TypesFit, IsVectorOrUnion};
 
 use crate::checks::Checks;
 use crate::fault::Reason;
@@ -21,7 +21,7 @@ use crate::offset_row::{Leads, NO_ROW, Referent, Row};
 use crate::site::{Refusal, refuse};
 use crate::values::{check_inline, read_offset, read_vector};
 use fb_bytes::Tally;
-use fb_schema::{FieldView, Goal, Kind, Schema, Target};
+use fb_schema::{FieldView, Goal, Kind, Schema, Target, Targets};
 
 /// An open table: its head, its object's number and its position, in the order that [`Stop`] asks for.
 #[derive(Clone, Copy)]
@@ -166,7 +166,22 @@ fn referent_to(target: Target) -> Referent
     }
 }
 
-/// What an offset word of a union refers to whose type has this value.
+/// What an offset word of a union refers to whose type has this value, and whose targets are these. Only the contract
+/// speaks of the schema and of the union.
+#[inline(always)]
+pub fn referent_among(targets: Targets<'_>, schema: &Schema<'_>, union: u32, value: u8) -> Referent
+    requires served { IsServed schema.now }
+    requires union { IsTrue (is_union schema.now union) }
+    requires targets { AreUnionTargets schema.now targets union }
+    ensures lead { lead_to result ≡ lead_of schema.now (member_of schema.now union value) }
+    ensures referent { IsReferent schema.now result }
+{
+    let _schema = schema;
+    let _union = union;
+    referent_to(targets.get(value))
+}
+
+/// The same, where the targets are looked up for this word alone.
 #[inline(always)]
 pub fn referent_at(schema: &Schema<'_>, union: u32, value: u8) -> Referent
     requires served { IsServed schema.now }
@@ -174,8 +189,7 @@ pub fn referent_at(schema: &Schema<'_>, union: u32, value: u8) -> Referent
     ensures lead { lead_to result ≡ lead_of schema.now (member_of schema.now union value) }
     ensures referent { IsReferent schema.now result }
 {
-    let targets = schema.targets_of(union);
-    referent_to(targets.get(value))
+    referent_among(schema.targets_of(union), schema, union, value)
 }
 
 /// Checks a present union field with this slot, and answers its offset word where its type has a member.

@@ -20,7 +20,7 @@ use crate::checks::Checks;
 use crate::fault::Reason;
 use crate::field::Table;
 use crate::head::Head;
-use crate::leaves::stop_at_word;
+use crate::leaves::{stop_at_word, targets_of};
 use crate::offset_row::{Leads, Referent, Row};
 use crate::plain::{fails, slot_at, test_at, test_inline, test_lead};
 use crate::scratch::Frame;
@@ -407,12 +407,14 @@ impl<'s, 'n> Walk<'s, 'n> {
         requires low { waiting + 1 < 4096 }
         requires few { reads.old.count ≤ 2 ^ 56 }
         requires same { checks ≡ self.old.checks }
+        requires leads { 0 < (top.old.row).left }
         ensures { PassesMembers self.old self.new reads.old reads.new under top.old top.new below.new result }
     {
         let schema = self.schema;
         let room = self.limits.short();
+        let targets = targets_of(schema, top.row.leads);
         while self.has_member(reads, top.row, room) {
-            let child = match self.pass_words_of(checks, reads, top, top.row) {
+            let child = match self.pass_words_of(checks, reads, targets, top, top.row) {
                 Ok(child) => child,
                 Err(stop) => return Err(stop.halt(waiting + 1, LastLink::Behind)),
             };
@@ -465,6 +467,7 @@ impl<'s, 'n> Walk<'s, 'n> {
         requires deep { waiting + 1 < (self.old.limits).depth }
         requires low { waiting + 1 < 4096 }
         requires few { meter.old.count ≤ 2 ^ 56 }
+        requires leads { 0 < (top.old.row).left }
         ensures { PassesMembers self.old self.new meter.old meter.new under top.old top.new below.new result }
     {
         let checks = self.checks;
@@ -489,6 +492,7 @@ impl<'s, 'n> Walk<'s, 'n> {
         requires deep { waiting + 1 < (self.old.limits).depth }
         requires low { waiting + 1 < 4096 }
         requires few { meter.old.count ≤ 2 ^ 56 }
+        requires leads { 0 < (top.old.row).left }
         ensures { PassesMembers self.old self.new meter.old meter.new under top.old top.new below.new result }
     {
         let checks = self.checks;

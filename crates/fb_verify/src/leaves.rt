@@ -3,25 +3,50 @@
 ghost use Rattle.std.specs.Prelude.{◌≡◌, ◌+◌, ◌*◌, ◌^◌, ◌<◌, ◌≤◌, [], ◌∷◌, ◌++◌, IfOk, IfErr, IfSome, Some, None, true};
 ghost use Rattle.fb_schema.specs.Served.{IsServed};
 ghost use Rattle.fb_verify.specs.Bounds.{AreAllowed};
-ghost use Rattle.fb_verify.specs.OffsetRows.{lead_to, first_word, past_first, IsReferent, IsRow, AreTypesNear};
+ghost use Rattle.fb_verify.specs.OffsetRows.{lead_to, first_word, past_first, AreOfUnion, AreTargetsOf, IsReferent, IsRow, AreTypesNear};
 ghost use Rattle.fb_verify.specs.Stack.{Waiting, IsWalking, IsAtTable, IsStoppedBehind};
 ghost use Rattle.fb_verify.specs.Told.{stopped};
 
 use crate::checks::Checks;
 use crate::element::Child;
 use crate::fault::Reason;
-use crate::field::referent_at;
+use crate::field::referent_among;
 use crate::offset_row::{Leads, Referent, Row};
 use crate::plain::test_lead;
 use crate::scratch::Frame;
 use crate::site::{Refusal, Stop};
 use crate::stack::Walk;
 use fb_bytes::{Reads, Tally};
-use fb_schema::Schema;
+use fb_schema::{Schema, Targets};
 
-/// What the first offset word of a row refers to. Where the types of a union tell that, its type is read.
+/// No targets.
+const NO_TARGETS: Targets<'static> = Targets {
+    places: &[],
+    targets: &[],
+};
+
+/// What the offset words of a row refer to by their types, where these tell it.
 #[inline(always)]
-fn first_referent(reads: &mut Reads<'_>, schema: &Schema<'_>, row: Row) -> Referent
+pub fn targets_of<'s>(schema: &'s Schema<'_>, leads: Leads) -> Targets<'s>
+    requires union { AreOfUnion schema.now leads }
+    ensures { AreTargetsOf schema.now result leads }
+{
+    match leads {
+        Leads::All(_) => NO_TARGETS,
+        Leads::ByType(union, _) => schema.targets_of(union),
+    }
+}
+
+/// What the first offset word of a row refers to. Where the types of a union tell that, its type is read, and the target
+/// of it is looked up among these.
+#[inline(always)]
+fn first_referent(
+    reads: &mut Reads<'_>,
+    targets: Targets<'_>,
+    schema: &Schema<'_>,
+    row: Row,
+) -> Referent
+    requires targets { AreTargetsOf schema.now targets row.leads }
     requires served { IsServed schema.now }
     requires more { 0 < row.left }
     requires row { IsRow reads.old.bytes schema.now row }
@@ -34,7 +59,7 @@ fn first_referent(reads: &mut Reads<'_>, schema: &Schema<'_>, row: Row) -> Refer
         Leads::All(referent) => referent,
         Leads::ByType(union, types) => {
             let value = reads.u8_at(types);
-            referent_at(schema, union, value)
+            referent_among(targets, schema, union, value)
         }
     }
 }
@@ -83,6 +108,7 @@ impl Walk<'_, '_> {
         &self,
         checks: Checks,
         reads: &mut Reads<'_>,
+        targets: Targets<'_>,
         top: &mut Frame,
         words: Row,
     ) -> Result<Option<Child>, Stop>
@@ -92,6 +118,7 @@ impl Walk<'_, '_> {
         requires few { reads.old.count + 4 * (top.old.row).left < 2 ^ 56 }
         requires same { words ≡ top.old.row }
         requires checks { checks ≡ self.now.checks }
+        requires targets { AreTargetsOf self.now.schema.now targets words.leads }
         ensures walking { IfOk result (λ o. o ≡ None → IsWalking self.now reads.new under.start under.frames top.new) }
         ensures table { IfOk result (λ o. IfSome o (λ child. IsAtTable self.now reads.new.bytes reads.new.count under.start under.frames top.new (reads.old.count + 4 * (top.old.row).left) child)) }
         ensures top { IfOk result (λ _. top.new ≡ record top.old { row = top.new.row }) }
@@ -100,11 +127,12 @@ impl Walk<'_, '_> {
         ensures paid { IfOk result (λ o. o ≡ None → reads.new.count ≤ reads.old.count + 4 * (top.old.row).left) }
         ensures grows { IfOk result (λ _. reads.old.count ≤ reads.new.count) }
         ensures bytes { reads.new.bytes ≡ reads.old.bytes }
+        ensures targets { IfOk result (λ _. AreTargetsOf self.now.schema.now targets.entry (top.new.row).leads) }
         ensures err { IfErr result (λ s. IsStoppedBehind self.now reads.old under.start (under.frames ++ top.new ∷ []) (stopped s reads.new.count)) }
     {
         let mut row = words;
         while row.left > 0 {
-            let referent = first_referent(reads, self.schema, row);
+            let referent = first_referent(reads, targets, self.schema, row);
             let mut at = row.place;
             let failed = test_lead(reads, checks, &mut at, referent);
             if let Some(reason) = failed {
@@ -127,6 +155,7 @@ impl Walk<'_, '_> {
         requires walking { IsWalking self.now reads.old under.start under.frames top.old }
         requires room { AreAllowed (self.now.limits).reads (reads.old.count + 4 * (top.old.row).left) }
         requires few { reads.old.count + 4 * (top.old.row).left < 2 ^ 56 }
+        requires leads { 0 < (top.old.row).left }
         ensures walking { IfOk result (λ o. o ≡ None → IsWalking self.now reads.new under.start under.frames top.new) }
         ensures table { IfOk result (λ o. IfSome o (λ child. IsAtTable self.now reads.new.bytes reads.new.count under.start under.frames top.new (reads.old.count + 4 * (top.old.row).left) child)) }
         ensures top { IfOk result (λ _. top.new ≡ record top.old { row = top.new.row }) }
@@ -142,9 +171,10 @@ impl Walk<'_, '_> {
                 leads: Leads::All(Referent::Text),
                 ..top.row
             };
-            return self.pass_words_of(self.checks, reads, top, texts);
+            return self.pass_words_of(self.checks, reads, NO_TARGETS, top, texts);
         }
-        self.pass_words_of(self.checks, reads, top, top.row)
+        let targets = targets_of(self.schema, top.row.leads);
+        self.pass_words_of(self.checks, reads, targets, top, top.row)
     }
 
     /// Passes one or more offset words that are left of the top table's field, with the strings and structs that they

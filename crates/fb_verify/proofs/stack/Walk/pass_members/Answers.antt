@@ -16,12 +16,13 @@ use Rattle.fb_verify.proofs.Chains.{after_none}
 use Rattle.fb_verify.proofs.Children.{same_work, words_work, words_fall, child_opened, child_stops, leading_falls}
 use Rattle.fb_verify.proofs.Flats.{flat_work, head_fails}
 use Rattle.fb_verify.proofs.Frames.{first_few, head_few, length_map}
+use Rattle.fb_verify.proofs.Members.{row_of_union, targets_after}
 use Rattle.fb_verify.proofs.stack.Walk.pass_members.Goals as goal
 use Rattle.fb_verify.proofs.stack.Walk.pass_members.Goals.{After-max-self, After-open_frame-failed}
 
 -- the walk's checks are those that are made
 checks : (g : _) (c : After-max-self g) → c.args.checks ≡ c.loop-schema.self.checks
-checks g c = c.requires.1.1.1.1.1 ∙ sym (ap (λ (x : Walk). x.checks) (c.loop-schema.invariant).same)
+checks g c = c.requires.1.1.1.1.1.0 ∙ sym (ap (λ (x : Walk). x.checks) (c.loop-schema.invariant).same)
 
 limits : (g : _) (c : After-max-self g) → c.loop-schema.self.limits ≡ c.args.self.now.limits
 limits g c = ap (λ (x : Walk). x.limits) (c.loop-schema.invariant).same
@@ -263,6 +264,11 @@ loop-schema-preserved g c =
       walking = p.walking none (g.under).frames _ refl;
       falls = omega (arith, less, passed g d, i.falls);
       began = λ _. omega (arith, less, passed g d, i.falls);
+      targets = rw c.advance.ensures (targets_after c.args.self.now.schema.now c.targets_of-targets.result (c.pass_words_of.new.top.row).leads (rw (schema g d) at e.targets));
       grows = omega (arith, i.grows, e.grows, p.grows);
       few = omega (arith, most, width, long, ap length c.steps_of-steps.ensures.value, room, c.count.ensures, c.short-room.ensures.short);
     }
+
+pub targets_of-targets-requires : goal.targets_of-targets-requires
+targets_of-targets-requires g c =
+    record { union = row_of_union c.args.reads.now.bytes c.args.self.now.schema.now c.args.top.now.row c.requires.1.1.1.1.1.1 (((c.requires.1.0).frame).row) }

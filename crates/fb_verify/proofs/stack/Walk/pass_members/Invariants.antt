@@ -1,4 +1,5 @@
 use Rattle.std.proofs.Common.{◌≡◌, ◌+◌, ◌<◌, ◌≤◌, [], ◌∷◌, ◌++◌}
+use Rattle.fb_verify.specs.OffsetRows.{AreTargetsOf}
 use Rattle.fb_verify.specs.Stack.{IsWalking, work}
 use Rattle.fb_verify.proofs.stack.Walk.pass_members.Given as goal
 
@@ -11,6 +12,7 @@ invariant-loop-schema g l = record {
   walking : IsWalking l.self l.reads (g.under).start (g.under).frames l.top;
   falls : l.reads.count + work l.fn.self.schema.now l.fn.self.limits (g.under).frames l.top l.self.tables ≤ l.fn.reads.count + work l.fn.self.schema.now l.fn.self.limits (g.under).frames l.fn.top l.fn.self.tables;
   began : (l.top.row).left < (l.fn.top.row).left → l.reads.count + work l.fn.self.schema.now l.fn.self.limits (g.under).frames l.top l.self.tables < l.fn.reads.count + work l.fn.self.schema.now l.fn.self.limits (g.under).frames l.fn.top l.fn.self.tables;
+  targets : AreTargetsOf l.fn.self.schema.now l.targets (l.top.row).leads;
   grows : l.fn.reads.count ≤ l.reads.count;
   few : l.reads.count ≤ 72057594037927936;
 }

@@ -9,6 +9,7 @@ use Rattle.fb_verify.proofs.Budgets.{fewer_reads}
 use Rattle.fb_verify.proofs.Chains.{after_none}
 use Rattle.fb_verify.proofs.Frames.{first_few, row_types_near}
 use Rattle.fb_verify.proofs.LeafRows.{word_told, word_fails, is_leaf, is_sized}
+use Rattle.fb_verify.proofs.Members.{targets_after}
 use Rattle.fb_verify.proofs.Walking.{leaf_passed}
 use Rattle.fb_verify.proofs.stack.Walk.pass_words_of.Goals as goal
 use Rattle.fb_verify.proofs.stack.Walk.pass_words_of.Goals.{After-test_lead-failed}
@@ -32,7 +33,7 @@ told g c =
     let w = c.args.self.now in
     let first = c.first_referent-referent.ensures in
     word_told w.checks c.loop-row.reads.bytes w.schema.now w.limits (g.under).start (g.under).frames (top_at g c) w.tables w.deepest c.loop-row.reads.count (c.loop-row.invariant).walking (lead_to c.first_referent-referent.result) first.lead
-    c.loop-row.reads.count c.first_referent-referent.new.reads.count (ap (λ x. x.count) first.counted) _ (rw (ap (λ x. x.bytes) first.counted, c.requires.1.1.1.1) at c.test_lead-failed.ensures.told)
+    c.loop-row.reads.count c.first_referent-referent.new.reads.count (ap (λ x. x.count) first.counted) _ (rw (ap (λ x. x.bytes) first.counted, c.requires.1.1.1.1.0) at c.test_lead-failed.ensures.told)
 
 -- where it tells nothing, the word holds
 holds : (g : _) (c : After-test_lead-failed g) → c.test_lead-failed.result ≡ None → element_failure c.args.self.now.checks c.loop-row.reads.bytes (first_word c.loop-row.reads.bytes c.args.self.now.schema.now c.loop-row.row) ≡ None
@@ -102,5 +103,6 @@ loop-row-preserved g c =
       walking =
           rw (kept g d)
           (leaf_passed w.checks b w.schema.now w.limits (g.under).start (g.under).frames (top_at g d) w.tables w.deepest c.loop-row.reads.count i.walking c.advance.new.self q c.advance.ensures more (holds g d none) (omega (arith, cost)) leaf cheap);
+      targets = rw c.advance.ensures (targets_after w.schema.now c.args.targets (c.loop-row.row).leads i.targets);
       paid = omega (arith, cost, few, i.paid, more, left);
     }

@@ -1,4 +1,5 @@
 use Rattle.std.proofs.Common.{◌≡◌, ◌+◌, ◌*◌, ◌≤◌}
+use Rattle.fb_verify.specs.OffsetRows.{AreTargetsOf}
 use Rattle.fb_verify.specs.Stack.{IsWalking}
 use Rattle.fb_verify.proofs.stack.Walk.pass_words_of.Given as goal
 
@@ -10,6 +11,7 @@ invariant-loop-row g l = record {
   grows : l.fn.reads.count ≤ l.reads.count;
   fewer : (l.row).left ≤ (l.fn.top.row).left;
   walking : IsWalking l.self l.reads (g.under).start (g.under).frames (record { table = l.fn.top.table; next = l.fn.top.next; number = l.fn.top.number; row = l.row });
+  targets : AreTargetsOf l.self.schema.now l.targets (l.row).leads;
   paid : l.reads.count + 4 * (l.row).left ≤ l.fn.reads.count + 4 * (l.fn.top.row).left;
 }
 

@@ -1,0 +1,14 @@
+use Rattle.std.proofs.Common.{◌∙◌, arith}
+use Rattle.fb_schema.specs.Members.{member_of}
+use Rattle.fb_verify.proofs.Members.{goal_leads, goal_holds}
+use Rattle.fb_verify.proofs.field.referent_among.Goals as goal
+
+pub returns-clause-lead : goal.returns-clause-lead
+returns-clause-lead c =
+    c.referent_to.ensures.lead ∙ goal_leads c.args.schema.now (member_of c.args.schema.now c.args.union c.args.value) c.get.result (c.get.ensures ∙ c.requires.targets c.args.value (omega (arith, c.ranges.value.fits)))
+
+pub returns-clause-referent : goal.returns-clause-referent
+returns-clause-referent c =
+    let S = c.args.schema.now in
+    let member = member_of S c.args.union c.args.value in
+    c.referent_to.ensures.referent S (goal_holds S member c.get.result (c.get.ensures ∙ c.requires.targets c.args.value (omega (arith, c.ranges.value.fits))) (c.requires.served.members c.args.union c.args.value))
