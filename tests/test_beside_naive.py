@@ -46,6 +46,9 @@ A_SCHEMA = {
     7: [{0: "//t.fbs", 1: ["//a.fbs", "//b.fbs"]}],
 }
 
+# A row of each table of reflection.fbs.
+ROWS = [TYPE, ATTRIBUTES[0], A_VALUE, AN_ENUM, A_FIELD, AN_OBJECT, A_CALL, A_SERVICE, A_SCHEMA[7][0], A_SCHEMA]
+
 
 class BesideNaive(Case):
     def told_alike(self, name, by, schema_and_root, given, options):
@@ -175,3 +178,18 @@ class BesideNaive(Case):
         for number, name in enumerate(schemas.REFLECTION):
             given = [data, *variants(buffer({}, prefix=True)[4:], [4])]
             self.told_alike(f"{name} as the root", ("--root", f"reflection.{name}"), (rows, number), given, {})
+
+    def test_values_of_schema_files(self):
+        """By the table that is built in, of each of its tables as the root: the values of all fields."""
+        rows = Schema(schemas.reflection())
+        for number, (name, row) in enumerate(zip(schemas.REFLECTION, ROWS)):
+            walk = lambda given: Walk(rows, number, given).verdict()
+            given = [bent for data in (row, {}) for bent in variants(buffer(data, prefix=True)[4:], [1])]
+            given = [bent for bent in map(prefixed, given) if walk(bent).startswith("ok")]
+            paths = [field.name for field in rows.tables[number]]
+            words = [word for path in paths for word in ("--path", path)]
+            got = run("--root", f"reflection.{name}", *words, given=b"".join(given)).out.decode().splitlines()
+            wants = [" ".join(map(Reader(rows, number, bent).value, paths)) for bent in given]
+            differing = [pair for pair in zip([text.split(" ", 5)[-1] for text in got], wants) if pair[0] != pair[1]]
+            self.same(f"{name}: values that differ, with what is expected", (len(got), differing[:2]), (len(given), []))
+            self.holds(f"{name}: many are good", len(given) > 30, len(given))

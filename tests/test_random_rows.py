@@ -6,20 +6,17 @@ steps from each table, and by the most reads of a check.
 """
 
 import collections
-import subprocess
 
 from tests.support import schemas
 from tests.support.judge import first_broken
 from tests.support.library import LibraryCase, module
-from tests.support.listing import Listing, described
+from tests.support.look_ups import look_ups
 from tests.support.many import each
-from tests.support.naive import Schema
-from tests.support.paths import names_in, ways
 from tests.support.program import built
 from tests.support.random_rows import Maker, Random
 
 SEEDS, SCHEMAS = range(40), 500
-NO_ROOT, BAD_SCHEMA = 6, 9
+BAD_SCHEMA = 9
 PYTHON = None
 
 
@@ -32,59 +29,6 @@ def told_fault(file):
         return (told.reason, told.object, told.field) if told.status == BAD_SCHEMA else error
 
 
-def told_widest(verifier):
-    """How many live fields the widest table has, by the most reads in a buffer of 992 bytes with one table."""
-    options = PYTHON.Options(max_tables=1, max_reads=2**63, reads_per_byte=2**32 - 1)
-    return (verifier.most_reads(992, options) - 8) / 1000
-
-
-def is_root(verifier, name):
-    """Whether the library takes a name for that of a table."""
-    try:
-        verifier.choose_root(name)
-        return True
-    except PYTHON.Error as error:
-        return error if error.verdict.status != NO_ROOT else False
-
-
-def of_names(verifier, objects, schema):
-    """Pairs of what the library tells of names and numbers, and what the rows say."""
-    yield [verifier.object_name(number) for number in range(len(objects) + 1)], [*schema.names, None]
-    for name in {*schema.names, *(field[0] for row in objects for field in row[1]), "nothing"} - {""}:
-        yield (name, is_root(verifier, name)), (name, name in schema.names and is_table(schema, name))
-    for number, fields in enumerate(schema.tables):
-        by_number = {(field.slot - 4) // 2: field.name or None for field in fields or []}
-        for field in [*by_number, len(by_number), 2**16]:
-            yield verifier.field_name(number, field), by_number.get(field)
-    yield told_widest(verifier), max([len(fields) for fields in schema.tables if fields is not None], default=0)
-
-
-def is_table(schema, name):
-    return schema.tables[schema.names.index(name)] is not None
-
-
-def listed(probe, file):
-    """The listing of a schema file, but for its first lines of root and identifier."""
-    ran = subprocess.run([probe, "list"], input=file, capture_output=True, timeout=60)
-    return ran.stdout.decode().splitlines()[2:]
-
-
-def look_ups(probe, verifier, file, objects, enums):
-    """The look-ups of a loaded schema that answer otherwise than they should, and how many paths were asked."""
-    schema, paths = Schema(objects, enums), 0
-    wrong = [pair for pair in of_names(verifier, objects, schema) if pair[0] != pair[1]]
-    want = list(Listing(described(objects, enums)).lines())[2:]
-    got = listed(probe, file)
-    wrong += [] if got == want else [(got, want)]
-    names = [*names_in(objects, enums), "nothing"]
-    for number, name in enumerate(schema.names):
-        if is_table(schema, name):
-            verifier.choose_root(name)
-            found, differing = ways(PYTHON, verifier, schema, number, names, 2)
-            wrong, paths = wrong + differing, paths + len(found)
-    return wrong, paths
-
-
 def of_seed(seed):
     """Some schemas from this seed on; two in five have nothing wrong on purpose."""
     dice, probe = Random(seed), built("probe")
@@ -94,7 +38,7 @@ def of_seed(seed):
         file, want = schemas.schema(objects, enums), first_broken(objects, enums)
         got = told_fault(file)
         if isinstance(got, PYTHON.Verifier):
-            differing, paths = look_ups(probe, got, file, objects, enums)
+            differing, paths = look_ups(PYTHON, probe, got, file, {0: objects, 1: enums})
             wrong += differing + ([("loaded", want, objects, enums)] if want else [])
             counts.update(legal=1, paths=paths)
             got.close()

@@ -12,6 +12,7 @@ VERSION = 1
 NONE, NO_TABLE = 0xFFFFFFFF, 0xFFFFFFFE
 DEEP = 64
 STEPS = 31
+PLACE = 4096
 _U8, _U32, _U64, _SIZE = ctypes.c_uint8, ctypes.c_uint32, ctypes.c_uint64, ctypes.c_size_t
 
 
@@ -218,12 +219,20 @@ def _done(status: int, declared: int | None = None) -> int:
     return status
 
 
+def _shown(value: _Value, data: bytes):
+    """The kind of a value, and the value: a number or bytes."""
+    kind = Kind(value.kind)
+    if kind in (Kind.FLOAT, Kind.TEXT, Kind.STRUCT):
+        return kind, data[value.at : value.at + value.size]
+    return kind, value.integer if kind == Kind.INT else value.number
+
+
 def _name(call, *words) -> str | None:
     """The name that a call tells."""
     length = call(*words, None, 0)
     text = ctypes.create_string_buffer(length)
     call(*words, text, length)
-    return text.raw.decode() if length else None
+    return text.raw.decode(errors="surrogateescape") if length else None
 
 
 class Verifier:
@@ -241,7 +250,7 @@ class Verifier:
 
     def choose_root(self, name: str):
         """Has later checks begin at the table of this name."""
-        text = name.encode()
+        text = name.encode(errors="surrogateescape")
         number = self._calls.fbcheck_table(self._schema, text, len(text))
         _done(Status.NO_ROOT if number == NO_TABLE else Status.OK)
         self._root = number
@@ -281,14 +290,24 @@ class Verifier:
 
     def read(self, buffer, path: _Path, options: Options | None = None):
         """The kind of the value at the end of a path in a good buffer, and the value: a number or bytes."""
-        data, value, verdict = _bytes(buffer), _Value(), _Verdict()
-        words = (self._schema, None, self._asked(options), data, len(data), path, value, 1, verdict)
+        return self.read_each(buffer, [path], options)[0]
+
+    def read_each(self, buffer, paths: list[_Path], options: Options | None = None) -> list:
+        """The kind of the value at the end of each of these paths, and the value."""
+        data, values, verdict = _bytes(buffer), (_Value * len(paths))(), _Verdict()
+        given = (_Path * len(paths))(*paths)
+        words = (self._schema, None, self._asked(options), data, len(data), given, values, len(paths), verdict)
         if self._calls.fbcheck_read(*words) != Status.OK:
             raise Error(_told(verdict))
-        kind = Kind(value.kind)
-        if kind in (Kind.FLOAT, Kind.TEXT, Kind.STRUCT):
-            return kind, data[value.at : value.at + value.size]
-        return kind, value.integer if kind == Kind.INT else value.number
+        return [_shown(value, data) for value in values]
+
+    def locate(self, buffer, options: Options | None = None):
+        """The verdict on a buffer, and where the fault of a bad one is, in words."""
+        data, verdict, room, length = _bytes(buffer), _Verdict(), ctypes.create_string_buffer(PLACE), _SIZE()
+        words = (self._schema, None, self._asked(options), data, len(data), room, PLACE, length, verdict)
+        if self._calls.fbcheck_locate(*words) > Status.BAD:
+            raise Error(_told(verdict))
+        return _told(verdict), room.raw[: length.value].decode()
 
     def most_reads(self, length: int, options: Options | None = None) -> int:
         """How many reads a check of so many bytes makes at most."""

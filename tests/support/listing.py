@@ -89,6 +89,12 @@ def written(table, name):
     return "true" if table.get(name) else "false"
 
 
+def escaped(name):
+    """A name as `probe list` writes it: printable ASCII as it is but for a backslash, each other byte by two digits."""
+    data = name.encode(errors="surrogateescape")
+    return "".join(chr(byte) if 32 <= byte < 127 and byte != 92 else f"\\x{byte:02x}" for byte in data)
+
+
 def described_type(row):
     """A type's row in the words of that JSON."""
     words = ["base_type", "element", "index", "fixed_length"]
@@ -96,18 +102,22 @@ def described_type(row):
 
 
 def described_field(row):
-    words = {2: "id", 3: "offset", 4: "default_integer", 6: "deprecated", 7: "required", 11: "optional"}
-    return {"name": row[0], "type": described_type(row[1]), **{words[at]: number_at(row, at) for at in words}}
+    """A field, whose number is that of its slot, whatever the row has as its id."""
+    words = {3: "offset", 4: "default_integer", 6: "deprecated", 7: "required", 11: "optional"}
+    told = {words[at]: number_at(row, at) for at in words}
+    return {"name": escaped(row[0]), "type": described_type(row[1]), "id": (told["offset"] - 4) // 2, **told}
 
 
 def described_object(row):
     words = {2: "is_struct", 3: "minalign", 4: "bytesize"}
-    return {"name": row[0], "fields": [described_field(field) for field in row[1]],
+    return {"name": escaped(row[0]), "fields": [described_field(field) for field in row[1]],
             **{words[at]: number_at(row, at) for at in words}}
 
 
-def described(objects, enums):
-    """The description of rows as schemas.py has them."""
-    values = [[{"value": number_at(member, 1), "union_type": described_type(member[3])} for member in row[1]]
-              for row in enums]
-    return {"objects": [described_object(row) for row in objects], "enums": [{"values": each} for each in values]}
+def described(row):
+    """The description of a row of the table Schema, as schemas.py has rows."""
+    values = [[{"value": number_at(member, 1), "union_type": described_type(member.get(3))} for member in row[1]]
+              for row in row[1]]
+    told = {"objects": [described_object(row) for row in row[0]], "enums": [{"values": each} for each in values]}
+    told |= {"file_ident": escaped(row[2])} if 2 in row else {}
+    return told | ({"root_table": {"name": escaped(row[4][0])}} if 4 in row else {})

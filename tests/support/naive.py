@@ -3,6 +3,7 @@
 Its schemas are the rows that schemas.py makes schema files of.
 """
 
+import functools
 import re
 import struct
 
@@ -10,6 +11,8 @@ SIZES = [0, 1, 1, 1, 1, 2, 2, 4, 4, 8, 8, 4, 8]
 LETTERS = " BBbBhHiIqQfd"
 BOOL, FLOAT = 2, 11
 TEXT, VECTOR, OBJECT, UNION, ARRAY = 13, 14, 15, 16, 17
+# What a piece of a path is: a field or a union's member by its name, an element by its number.
+FIELD, ELEMENT, MEMBER = 1, 2, 3
 NAMES = {
     "V1": "WrongPrefix", "V2": "OutOfBuffer", "V3": "Misaligned", "V4": "ZeroOffset", "V5": "WrongIdentifier",
     "V6": "TooDeep", "V7": "TooManyTables", "V8": "BadVtable", "V9": "MissingRequired", "V10": "NoTerminator",
@@ -37,6 +40,7 @@ class Field:
         self.length = number_at(kind, 3)
 
 
+@functools.cache
 def kind_of(base, index):
     """A field that has only a type."""
     return Field({0: "", 1: {0: ("b", base), 2: ("i", index)}})
@@ -57,8 +61,8 @@ class Schema:
         self.structs = [(number_at(row, 4), number_at(row, 3)) if number_at(row, 2) else None for row in objects]
         self.parts = [[Field(field) for field in row[1]] if number_at(row, 2) else None for row in objects]
         self.unions = [
-            {number_at(member, 1): Field({0: member[0], 1: member[3]}) for member in row[1] if number_at(member, 1)}
-            for row in enums
+            {number_at(row, 1): Field({0: row[0], 1: row.get(3, {})}) for row in union[1] if number_at(row, 1)}
+            for union in enums
         ]
 
     def is_inline(self, kind):
@@ -266,6 +270,12 @@ class Walk:
                 self.passed(at + 4 + 4 * number)
 
 
+def pieces_in(path):
+    """The pieces of which a path is made."""
+    for name, number, member in re.findall(r"(?:^|\.)(\w+)|\[(\d+)\]|@(\w+)", path):
+        yield (FIELD, name) if name else (ELEMENT, int(number)) if number else (MEMBER, member)
+
+
 class End(Exception):
     """Nothing more is there, on a path: why, or the default that stands for it."""
 
@@ -285,18 +295,30 @@ class Reader:
     def behind(self, at):
         return at + self.read("I", at)
 
-    def value(self, path):
-        """The text of the value at a path."""
-        place = kind_of(OBJECT, self.root), self.behind(self.base), None
+    def start(self):
+        """The place of the root table."""
+        return kind_of(OBJECT, self.root), self.behind(self.base), None
+
+    def step(self, place, piece):
+        """Where a piece of a path leads from a place, or the text of what stands there where nothing more does."""
+        what, word = piece
         try:
-            for name, number, member in re.findall(r"(?:^|\.)(\w+)|\[(\d+)\]|@(\w+)", path):
-                if name:
-                    place = self.field(place, name)
-                else:
-                    place = self.element(place, int(number)) if number else self.member(place, member)
+            return {FIELD: self.field, ELEMENT: self.element, MEMBER: self.member}[what](place, word)
         except End as end:
             return end.args[0]
-        return self.shown(*place)
+
+    def values(self, ways):
+        """The texts of the values at the ends of paths. A path is told by the number of the one that it goes on from,
+        from 1 on, and its last piece; 0 is the number of the root table."""
+        places = [self.start()]
+        for before, piece in ways:
+            place = places[before]
+            places.append(place if isinstance(place, str) else self.step(place, piece))
+        return [place if isinstance(place, str) else self.shown(*place) for place in places[1:]]
+
+    def value(self, path):
+        """The text of the value at a path."""
+        return self.values(list(enumerate(pieces_in(path))))[-1]
 
     def slot(self, at, slot):
         """The place of what has this slot in the table there, None where it's absent."""

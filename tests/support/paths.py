@@ -1,8 +1,7 @@
 """Paths by the rows alone: the pieces of which they are written, and the steps that they are or the fault in them."""
 
-from tests.support.naive import ARRAY, OBJECT, UNION, VECTOR, kind_of
+from tests.support.naive import ARRAY, ELEMENT, FIELD, MEMBER, OBJECT, UNION, VECTOR, kind_of
 
-FIELD, ELEMENT, MEMBER = 1, 2, 3
 NO_FIELD, NO_VECTOR, NO_UNION, NO_MEMBER, NO_TABLE = range(2, 7)
 NUMBERS = [0, 1, 2**32 - 1]
 

@@ -121,9 +121,10 @@ def files():
     return {name: file_of(f"{name}.bfbs", data) for name, data in named.items()}
 
 # The tables of reflection.fbs as far as they are asked of schema files, each with its fields in order of their
-# numbers. A `!` stands behind the type of a required field, and brackets stand round a deprecated one.
+# numbers. A `!` stands behind the type of a required field, a default behind a `=`, and brackets stand round a
+# deprecated one.
 REFLECTION = {
-    "Type": "base_type Byte, element Byte, index Int, fixed_length UShort",
+    "Type": "base_type Byte, element Byte, index Int=-1, fixed_length UShort",
     "KeyValue": "key Text, value Text",
     "EnumVal": "name Text!, value Long, [object Object], union_type Type, documentation Texts, attributes KeyValues",
     "Enum": "name Text!, values EnumVals!, is_union Bool, underlying_type Type, attributes KeyValues, "
@@ -154,8 +155,8 @@ def reflection():
     for name, text in REFLECTION.items():
         fields = [part.split() for part in text.split(", ")]
         rows.append(table(f"reflection.{name}", *[
-            field(words[0].strip("["), types[words[1].strip("]!")], 4 + 2 * number,
-                  required=words[1].endswith("!"), deprecated=words[0].startswith("["))
-            for number, words in enumerate(fields)
+            field(words[0].strip("["), types[kind.strip("]!")], 4 + 2 * number, int(default or 0),
+                  required=kind.endswith("!"), deprecated=words[0].startswith("["))
+            for number, words in enumerate(fields) for kind, _, default in [words[1].partition("=")]
         ]))
     return rows

@@ -1,0 +1,61 @@
+"""One swept buffer after another, asked of the library and of the naive checker and reader."""
+
+import functools
+
+from tests.support import schemas
+from tests.support.naive import Reader, Schema, Walk
+from tests.support.paths import names_in, text_of, told, ways
+from tests.support.swept import SCHEMAS
+from tests.support.told import line
+from tests.support.told import text_of as value_text
+
+PAST_BUDGET = 7
+
+
+class Beside:
+    """A schema in both. What the library tells otherwise than it should is kept in `wrong`."""
+
+    def __init__(self, python, swept):
+        rows = SCHEMAS[swept.schema]
+        self.python, self.prefixed = python, swept.prefixed
+        self.schema = Schema(rows.objects, rows.enums)
+        self.root = self.schema.names.index(rows.root)
+        self.verifier = python.Verifier(schemas.schema(rows.objects, rows.enums), rows.root)
+        names = names_in(rows.objects, rows.enums)
+        found, self.wrong = ways(python, self.verifier, self.schema, self.root, names, len(rows.paths))
+        self.paths = [self.verifier.resolve(text_of(path)) for path, _ in found]
+        numbers = {tuple(path): number for number, (path, _) in enumerate([([], None), *found])}
+        self.ways = [(numbers[tuple(path[:-1])], path[-1]) for path, _ in found]
+        self.is_path = functools.cache(lambda text: isinstance(told(python, self.verifier, text), list))
+
+    @functools.cache
+    def options(self, ident, limits):
+        """The library's options for what the naive checker is asked."""
+        asked = dict(limits)
+        words = {f"max_{name}": asked[name] for name in ("depth", "tables", "reads") if name in asked}
+        return self.python.Options(ident, prefixed=int(self.prefixed), reads_per_byte=2**32 - 1,
+                                   no_alignment=int(not asked.get("alignment", True)),
+                                   inline_size=int(asked.get("inline_size", False)), **words)
+
+    def ask(self, data, ident=None, **limits):
+        """Asks of one buffer, and answers its verdict."""
+        options = self.options(ident, tuple(limits.items()))
+        verdict = self.verifier.verify(data, options)
+        walk = Walk(self.schema, self.root, data, **limits)
+        pairs = [(line(verdict), walk.verdict(ident, self.prefixed))]
+        pairs += self.of_values(data, options) if verdict.ok else self.of_place(data, options, verdict, walk)
+        most = min(self.verifier.most_reads(len(data), options), limits.get("reads", 2**64) + PAST_BUDGET)
+        pairs.append((verdict.reads <= most, True))
+        self.wrong += [(got, want, data.hex(), ident, limits) for got, want in pairs if got != want]
+        return verdict
+
+    def of_values(self, data, options):
+        """Pairs of the values at the ends of all paths in a good buffer: what the library tells, and what it should."""
+        told = [value_text(*value) for value in self.verifier.read_each(data, self.paths, options)]
+        return zip(told, Reader(self.schema, self.root, data, self.prefixed).values(self.ways))
+
+    def of_place(self, data, options, verdict, walk):
+        """The same of the place of a fault in words, which is the walk's way, and a path or a dot."""
+        again, place = self.verifier.locate(data, options)
+        path = place.split(" ")[1]
+        return [(again, verdict), (place, walk.place()[1:]), (path == "." or self.is_path(path), True)]
