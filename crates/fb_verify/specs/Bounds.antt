@@ -1,5 +1,5 @@
 -- What limits are, as contracts see them.
-use Rattle.std.specs.Prelude.{ℕ, ◌+◌, ◌*◌, ◌≤◌, ◌<◌, min, Bool, true, nat_le, Option, Some, None}
+use Rattle.std.specs.Prelude.{ℕ, ◌+◌, ◌*◌, ◌≤◌, ◌<◌, min, Bool, true, nat_le, nat_lt, Option, Some, None, if◌then◌else◌}
 
 -- how many tables may be open at once, how many may be opened, and, if these are bounded, how many reads may be made
 pub record Bounds : Type 0 where
@@ -26,6 +26,10 @@ AreTooMany (Some most) n = most < n
 abbrev pub most_of : Option ℕ → ℕ
 most_of None = 340282366920938463463374607431768211455
 most_of (Some most) = most
+
+-- the budget that such a number stands for
+abbrev pub budget_of : ℕ → Option ℕ
+budget_of most = if nat_lt most 18446744073709551616 then Some most else None
 
 -- how many reads a buffer of so many bytes may take: so many a byte, and 4,096 beside
 abbrev pub reads_of_length : ℕ → ℕ → ℕ

@@ -1,12 +1,12 @@
 // The start of a buffer: its prefix, its identifier and its root offset.
 
-ghost use Rattle.std.specs.Prelude.{◌≡◌, ◌+◌, ◌^◌, ◌<◌, ◌≤◌, IfOk, IfErr, Some, None};
+ghost use Rattle.std.specs.Prelude.{◌≡◌, ◌+◌, ◌^◌, ◌<◌, ◌≤◌, ◌%◌, IfOk, IfErr, Some, None};
 ghost use Rattle.fb_bytes.specs.Word.{word};
 ghost use Rattle.fb_verify.specs.Places.{target};
 ghost use Rattle.fb_verify.specs.WellFormed.{base, prefix_reads, ident_reads, start_reads};
 ghost use Rattle.fb_verify.specs.Bounds.{AreAllowed};
 ghost use Rattle.fb_verify.specs.Stops.{reads_failure};
-ghost use Rattle.fb_verify.specs.Order.{◌▷◌, prefix_failure, ident_failure, start_failure};
+ghost use Rattle.fb_verify.specs.Order.{◌▷◌, prefix_failure, ident_failure, offset_failure, start_failure};
 ghost use Rattle.fb_verify.specs.Told.{told, stopped, IsAsked};
 
 use crate::budget::ask_reads;
@@ -15,13 +15,13 @@ use crate::fault::Reason;
 use crate::limits::Limits;
 use crate::site::{Refusal, Site, Stop, refuse};
 use crate::start::{Ident, Start};
-use crate::values::read_offset;
 use fb_bytes::Tally;
 
 /// Where the root offset stands.
 fn base_of(start: Start) -> u64
     ensures value { result ≡ base start }
     ensures near { result ≤ 4 }
+    ensures aligned { result % 4 ≡ 0 }
 {
     match start {
         Start::Bare => 0,
@@ -78,7 +78,29 @@ fn read_ident(meter: &mut Tally<'_>, at: u64, ident: Ident) -> Result<(), Refusa
     }
 }
 
+/// Reads the root offset, and answers where it leads. It stands at a multiple of 4, whatever the checks ask of it.
+#[tactic(auto, unfolding(crate::specs::Order::offset_failure, crate::specs::Places::is_aligned))]
+fn read_root(meter: &mut Tally<'_>, checks: Checks, base: u64) -> Result<u64, Refusal>
+    requires few { meter.old.count < 2 ^ 99 }
+    requires near { base ≤ 4 }
+    requires aligned { base % 4 ≡ 0 }
+    ensures asked { IsAsked meter.old meter.new (offset_failure checks meter.old.bytes base) 1 result }
+    ensures value { IfOk result (λ t. t ≡ target meter.old.bytes base) }
+    ensures near { IfOk result (λ t. t < 2 ^ 33) }
+{
+    let _checks = checks;
+    if !meter.fits(base, 4) {
+        return Err(refuse(base, Reason::OutOfBuffer));
+    }
+    let offset = u64::from(meter.u32_at(base));
+    if offset == 0 {
+        return Err(refuse(base, Reason::ZeroOffset));
+    }
+    Ok(base + offset)
+}
+
 /// Checks all that stands before the root table, and answers where that stands.
+#[inline(always)]
 #[tactic(auto, unfolding(crate::specs::Order::start_failure))]
 fn check_start(
     meter: &mut Tally<'_>,
@@ -94,11 +116,12 @@ fn check_start(
     let base = base_of(start);
     read_prefix(meter, start)?;
     read_ident(meter, base + 4, ident)?;
-    read_offset(meter, checks, base)
+    read_root(meter, checks, base)
 }
 
 /// Reads all that stands before the root table, asks the budget, and answers where that table stands. What fails does
 /// so at this site.
+#[inline(always)]
 #[tactic(auto, using(crate::proofs::Refusals::told_after))]
 pub fn read_start(
     meter: &mut Tally<'_>,

@@ -14,6 +14,9 @@ const FREE_READS: u64 = 4096;
 /// More reads than any walk makes. In place of a budget, so that with and without one a walk makes the same test.
 const NO_BUDGET: u128 = u128::MAX;
 
+/// The greatest budget.
+const MOST: u128 = 0xFFFF_FFFF_FFFF_FFFF;
+
 /// Fewer reads than this may be counted in 64 bits: no field or row costs so many that they would be too few.
 const SHORT: u128 = 1 << 56;
 
@@ -23,24 +26,23 @@ const SHORT: u128 = 1 << 56;
 pub struct Limits {
     depth: u32,
     tables: u32,
-    reads: Option<u64>,
-    /// The budget of reads as a number, `NO_BUDGET` where there is none.
+    /// The budget of reads, `NO_BUDGET` where there is none.
     most: u128,
 }
 
 impl Model for Limits {
     ghost use Rattle.std.specs.Prelude.{◌≡◌, ◌≤◌};
-    ghost use Rattle.fb_verify.specs.Bounds.{Bounds, most_of};
+    ghost use Rattle.fb_verify.specs.Bounds.{Bounds, budget_of, most_of};
 
     ghost Value = { Bounds };
 
-    ghost view = { λ l. record { depth = l.depth; tables = l.tables; reads = l.reads } };
+    ghost view = { λ l. record { depth = l.depth; tables = l.tables; reads = budget_of l.most } };
 
-    ghost inverse = { λ v. record { depth = v.depth; tables = v.tables; reads = v.reads; most = most_of v.reads } };
+    ghost inverse = { λ v. record { depth = v.depth; tables = v.tables; most = most_of v.reads } };
 
-    ghost inverse_ok = { λ l h i. record { depth = l.depth; tables = l.tables; reads = l.reads; most = h.1 i } };
+    ghost inverse_ok = { λ l h i. record { depth = l.depth; tables = l.tables; most = h.1 i } };
 
-    ghost invariant = { λ l. (l.depth ≤ 4096) × (most_of l.reads ≡ l.most) };
+    ghost invariant = { λ l. (l.depth ≤ 4096) × (most_of (budget_of l.most) ≡ l.most) };
 }
 
 /// A depth limit above 4,096.
@@ -62,7 +64,6 @@ impl Limits {
             Ok(Limits {
                 depth,
                 tables,
-                reads: None,
                 most: NO_BUDGET,
             })
         } else {
@@ -77,7 +78,6 @@ impl Limits {
         Limits {
             depth: 64,
             tables: 1_000_000,
-            reads: None,
             most: NO_BUDGET,
         }
     }
@@ -88,7 +88,6 @@ impl Limits {
         ensures { result ≡ record self { reads = Some most } }
     {
         Limits {
-            reads: Some(most),
             most: u128::from(most),
             ..self
         }
@@ -102,11 +101,10 @@ impl Limits {
         ensures { result ≡ limits_of_length self reads_per_byte length }
     {
         let fair = u64::from(reads_per_byte) * length + FREE_READS;
-        let most = match self.reads {
-            Some(most) => most.min(fair),
-            None => fair,
-        };
-        self.with_reads(most)
+        Limits {
+            most: self.most.min(u128::from(fair)),
+            ..self
+        }
     }
 
     /// How many tables may be open at once.
@@ -128,7 +126,11 @@ impl Limits {
     pub fn reads(&self) -> Option<u64>
         ensures { result ≡ self.now.reads }
     {
-        self.reads
+        if self.most <= MOST {
+            Some(self.most as u64)
+        } else {
+            None
+        }
     }
 
     /// Whether so many reads may be made, and a count of 64 bits holds them with room to spare.
@@ -144,10 +146,7 @@ impl Limits {
         ensures allowed { AreAllowed self.now.reads result }
         ensures short { result ≤ 2 ^ 56 }
     {
-        match self.reads {
-            Some(most) if most < 1 << 56 => most,
-            _ => 1 << 56,
-        }
+        self.most.min(SHORT) as u64
     }
 
     /// Whether so many reads may be made.

@@ -22,6 +22,7 @@ use fb_schema::Schema;
 /// # Errors
 ///
 /// The fault that `walk` answers.
+#[inline(always)]
 pub fn walk_shallow(
     meter: &mut Meter<'_>,
     schema: &Schema<'_>,

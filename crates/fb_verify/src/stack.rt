@@ -544,6 +544,7 @@ impl<'s, 'n> Walk<'s, 'n> {
     }
 
     /// Walks a table and all below it, over these frames, and over 64 of its own where it needs more than these.
+    #[inline(always)]
     pub fn run(
         &mut self,
         meter: &mut Tally<'_>,

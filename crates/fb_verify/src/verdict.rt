@@ -33,6 +33,7 @@ use std::alloc::Allocator;
 ///
 /// The first condition that fails, with the reads made up to it. Afterwards the meter has the same bytes, and its count
 /// is the number of reads that the report or the fault tells.
+#[inline(always)]
 pub fn walk<A: Allocator>(
     meter: &mut Meter<'_>,
     schema: &Schema<'_>,
@@ -80,6 +81,7 @@ pub fn walk<A: Allocator>(
 /// The same over these frames, and where it needs more than these over 64 of its own, by a tally, which can only read
 /// and count: from here on nothing seals the bytes. Where there is a fault, and these were enough for the depth limit,
 /// those are left whose links lead to it.
+#[inline(always)]
 pub(crate) fn trace(
     meter: &mut Tally<'_>,
     schema: &Schema<'_>,
