@@ -6,8 +6,6 @@ use Rattle.fb_schema.specs.Demands.{IsLegal}
 use Rattle.fb_schema.specs.Rows.{Rows}
 use Rattle.fb_schema.specs.Served.{IsServed}
 use Rattle.fb_verify.specs.declared.checks.Checks.{Checks}
-use Rattle.fb_verify.specs.declared.start.Start.{Start}
-use Rattle.fb_verify.specs.declared.start.Ident.{Ident}
 use Rattle.fb_verify.specs.declared.fault.Fault.{Fault}
 use Rattle.fb_verify.specs.declared.links.Link.{Link}
 use Rattle.fb_verify.specs.Bounds.{Bounds}
