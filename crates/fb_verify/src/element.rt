@@ -64,7 +64,7 @@ fn pass_referent(
 
 impl<'s, 'n> Walk<'s, 'n> {
     /// Checks the first offset word of a row, and answers the table to which it leads, if it does; else the budget is
-    /// asked. What fails does so at this site.
+    /// asked. What fails does so at this site. A row of tables comes first, so that its words are passed without a jump.
     #[tactic(auto, using(crate::proofs::Refusals::told_after), unfolding(crate::specs::Order::element_failure))]
     pub fn pass_element(
         &self,
@@ -85,6 +85,13 @@ impl<'s, 'n> Walk<'s, 'n> {
         ensures err { IfErr result (λ s. told site meter.old.count (element_failure self.now.checks meter.old.bytes (first_word meter.old.bytes self.now.schema.now row) ▷ lead_reads_failure self.now.limits meter.old.count (first_word meter.old.bytes self.now.schema.now row) (first_word meter.old.bytes self.now.schema.now row).lead) ≡ Some (stopped s meter.new.count)) }
         ensures bytes { meter.new.bytes ≡ meter.old.bytes }
     {
+        if let Leads::All(Referent::Table(object)) = row.leads {
+            let at = match read_offset(meter, self.checks, row.place) {
+                Ok(at) => at,
+                Err(refusal) => return Err(Stop { site, refusal }),
+            };
+            return Ok(Some(Child { object, at }));
+        }
         let referent = match row.leads {
             Leads::All(referent) => referent,
             Leads::ByType(union, types) => {
