@@ -1,15 +1,3 @@
-mod answers;
-mod budgets;
 mod damage;
 mod engine;
-mod file_rows;
-mod fixed;
 mod fixtures;
-mod limits;
-mod loading;
-mod lookups;
-mod paths;
-mod random;
-mod rows;
-mod schemas;
-mod worked_rows;

@@ -772,12 +772,3 @@ pub fn check(
         way: walk.way,
     })
 }
-
-/// The verdict alone.
-pub fn verdict(
-    alloc: Global,
-    question: &Question<'_, '_>,
-    bytes: &[u8],
-) -> Result<Verdict, AllocError> {
-    check(alloc, question, bytes).map(|outcome| outcome.verdict)
-}

@@ -3,13 +3,13 @@
 use super::checker::Question;
 use fb_schema::TypeRow;
 
-pub const STRING: i8 = 13;
+const STRING: i8 = 13;
 
-pub const VECTOR: i8 = 14;
+const VECTOR: i8 = 14;
 
-pub const OBJ: i8 = 15;
+const OBJ: i8 = 15;
 
-pub const UNION: i8 = 16;
+const UNION: i8 = 16;
 
 /// What the type of a field or union member says of its bytes. Scalars keep their base type.
 #[derive(Clone, Copy)]

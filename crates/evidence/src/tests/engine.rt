@@ -1,42 +1,14 @@
 //! The engine, asked as the naive checker is, and its answers in that one's words.
 
 use crate::naive::checker::{Question, Step, Verdict, check};
-use fb_access::{Path, put_location};
 use fb_bytes::Meter;
 use fb_schema::Schema;
 use fb_verify::{
-    Checks, Fault, Ident, Limits, Link, Located, Reason, Report, Scratch, Start, Verified,
-    most_reads, verify, verify_and_locate,
+    Checks, Ident, Limits, Link, Located, Reason, Report, Scratch, Start, verify_and_locate,
 };
 use std::alloc::{AllocError, Global};
 use std::process::Abort;
 use std::test::Fail;
-
-/// Every choice of the checks.
-pub const ALL_CHECKS: [Checks; 4] = [
-    Checks {
-        alignment: true,
-        inline_size: false,
-    },
-    Checks {
-        alignment: true,
-        inline_size: true,
-    },
-    Checks {
-        alignment: false,
-        inline_size: false,
-    },
-    Checks {
-        alignment: false,
-        inline_size: true,
-    },
-];
-
-/// How many reads past its budget a walk may make.
-const PAST_BUDGET: u128 = 7;
-
-/// The number of the reason for which a budget is too small.
-pub const TOO_MANY_READS: u8 = 13;
 
 /// The number in a reason's code.
 fn number(reason: Reason) -> u8 {
@@ -53,35 +25,25 @@ fn number(reason: Reason) -> u8 {
         Reason::NoTerminator => 10,
         Reason::LengthsDiffer => 11,
         Reason::PastTable => 12,
-        Reason::TooManyReads => TOO_MANY_READS,
+        Reason::TooManyReads => 13,
     }
 }
 
-/// A fault in the naive checker's words.
-pub fn told(fault: Fault) -> Verdict {
-    Verdict::No {
-        reason: number(fault.reason),
-        at: fault.at,
-        object: fault.object,
-        field: fault.field,
-        reads: fault.reads,
-    }
-}
-
-/// What was counted, in the naive checker's words.
-fn counted(report: Report) -> Verdict {
-    Verdict::Yes {
-        tables: u64::from(report.tables),
-        depth: u64::from(report.depth),
-        reads: report.reads,
-    }
-}
-
-/// What the engine answered, in the naive checker's words.
-pub fn answered(answer: &Result<Verified<'_, '_, '_>, Fault>) -> Verdict {
+/// What was answered, in the naive checker's words.
+fn told(answer: Result<Report, Located>) -> Verdict {
     match answer {
-        Ok(verified) => counted(verified.report()),
-        Err(fault) => told(*fault),
+        Ok(report) => Verdict::Yes {
+            tables: u64::from(report.tables),
+            depth: u64::from(report.depth),
+            reads: report.reads,
+        },
+        Err(Located { fault, .. }) => Verdict::No {
+            reason: number(fault.reason),
+            at: fault.at,
+            object: fault.object,
+            field: fault.field,
+            reads: fault.reads,
+        },
     }
 }
 
@@ -95,19 +57,11 @@ fn step_of(link: Link) -> Step {
     }
 }
 
-/// The reads of a verdict.
-pub fn reads_of(verdict: Verdict) -> u128 {
-    match verdict {
-        Verdict::Yes { reads, .. } | Verdict::No { reads, .. } => reads,
-        Verdict::TooLarge => 0,
-    }
-}
-
 /// The engine with what it needs for one buffer after another.
 #[derive(Drop)]
-pub struct Engine<'s, 'n> {
-    pub schema: &'s Schema<'n>,
-    pub scratch: Scratch,
+pub struct Engine<'s> {
+    schema: &'s Schema<'static>,
+    scratch: Scratch,
     links: Vec<Link>,
 }
 
@@ -122,9 +76,9 @@ const BLANK: Link = Link {
     member: None,
 };
 
-impl<'s, 'n> Engine<'s, 'n> {
+impl<'s> Engine<'s> {
     /// An engine for depth limits up to the published one.
-    pub fn new(alloc: Global, schema: &'s Schema<'n>) -> Result<Self, Fail> {
+    pub fn new(alloc: Global, schema: &'s Schema<'static>) -> Result<Self, Fail> {
         let scratch = Scratch::new(alloc, DEPTH)?;
         let mut links = Vec::new(alloc);
         links.resize(DEPTH as usize, BLANK)?;
@@ -135,31 +89,20 @@ impl<'s, 'n> Engine<'s, 'n> {
         })
     }
 
-    /// What `verify` answers.
-    pub fn verified<'b>(
+    /// What `verify_and_locate` answers.
+    fn answer(
         &mut self,
         rt: &impl Abort,
         question: &Question<'_, '_>,
-        bytes: &'b [u8],
-    ) -> Result<Verified<'b, 's, 'n>, Fault> {
-        let meter = Meter::new(bytes).ok().expect(rt, "a short buffer");
-        let (schema, scratch) = (self.schema, &mut self.scratch);
-        let (root, limits) = (question.root, limits_of(rt, question));
-        assert!(rt; schema.is_table(root));
-        assert!(rt; limits.depth() <= scratch.depth());
-        let (start, ident, checks) = asked(question);
-        verify(meter, schema, root, start, ident, limits, checks, scratch)
-    }
-
-    /// What `verify_and_locate` answers of a buffer to which `verify` said no.
-    fn located(&mut self, rt: &impl Abort, question: &Question<'_, '_>, bytes: &[u8]) -> Located {
+        bytes: &[u8],
+    ) -> Result<Report, Located> {
         let meter = Meter::new(bytes).ok().expect(rt, "a short buffer");
         let limits = limits_of(rt, question);
         assert!(rt; self.schema.is_table(question.root));
         assert!(rt; limits.depth() <= self.scratch.depth());
         assert!(rt; limits.depth() as usize <= self.links.len());
         let (start, ident, checks) = asked(question);
-        verify_and_locate(
+        let answer = verify_and_locate(
             meter,
             self.schema,
             question.root,
@@ -169,67 +112,35 @@ impl<'s, 'n> Engine<'s, 'n> {
             checks,
             &mut self.scratch,
             &mut self.links,
-        )
-        .err()
-        .expect(rt, "a no again")
+        );
+        answer.map(|verified| verified.report())
     }
 
-    /// Asserts that the engine finds this fault again, by the naive checker's way, and that what is told of its place
-    /// is a path that resolves, or a dot.
-    fn locates(
-        &mut self,
-        rt: &impl Abort,
-        alloc: Global,
-        question: &Question<'_, '_>,
-        bytes: &[u8],
-        fault: Fault,
-        way: &[Step],
-    ) -> Result<(), AllocError> {
-        let located = self.located(rt, question, bytes);
-        assert_eq!(rt; located.fault, fault, "{bytes:?}");
+    /// Asserts that the links of a fault are the naive checker's way.
+    fn goes(&self, rt: &impl Abort, located: Located, way: &[Step], bytes: &[u8]) {
         let links = self.links.get(..located.links as usize).unwrap_or(&[]);
         let same = links
             .iter()
             .map(|link| step_of(*link))
             .eq(way.iter().copied());
         assert!(rt; same, "{links:?} {way:?} {bytes:?}");
-        let mut text = Vec::new(alloc);
-        put_location(&mut text, self.schema, &fault, links)?;
-        let path = path_of(&text);
-        assert!(rt; self.schema.is_table(question.root));
-        let resolves = Path::resolve(alloc, self.schema, question.root, path).is_ok();
-        assert_eq!(rt; resolves, !links.is_empty(), "{text:?}");
-        assert!(rt; resolves || path == b".".as_slice(), "{text:?}");
-        Ok(())
     }
 
-    /// Asserts that the engine and the naive checker agree in every number and in the way to a fault, and that the
-    /// reads are no more than was said in advance, and no more than the budget and 7; where the tree is too large for
-    /// the naive checker, these two alone. Answers what the engine does.
-    pub fn agrees<'b>(
+    /// Asserts that the engine and the naive checker agree in every number and in the way to a fault.
+    pub fn agrees(
         &mut self,
         rt: &impl Abort,
         alloc: Global,
         question: &Question<'_, '_>,
-        bytes: &'b [u8],
-    ) -> Result<Result<Verified<'b, 's, 'n>, Fault>, AllocError> {
-        let answer = self.verified(rt, question, bytes);
-        let of_engine = answered(&answer);
+        bytes: &[u8],
+    ) -> Result<(), AllocError> {
         let naive = check(alloc, question, bytes)?;
-        if naive.verdict != Verdict::TooLarge {
-            assert_same(rt, question, bytes, of_engine, naive.verdict);
-            if let Err(fault) = answer {
-                self.locates(rt, alloc, question, bytes, fault, &naive.way)?;
-            }
+        let answer = self.answer(rt, question, bytes);
+        assert_eq!(rt; told(answer), naive.verdict, "{bytes:?}");
+        if let Err(located) = answer {
+            self.goes(rt, located, &naive.way, bytes);
         }
-        let reads = reads_of(of_engine);
-        let most = most_reads(self.schema, limits_of(rt, question), bytes.len() as u64);
-        assert!(rt; reads <= most, "{most} {bytes:?}");
-        if let Some(budget) = question.reads {
-            let most = u128::from(budget).saturating_add(PAST_BUDGET);
-            assert!(rt; reads <= most, "{reads} {budget} {bytes:?}");
-        }
-        Ok(answer)
+        Ok(())
     }
 }
 
@@ -251,37 +162,12 @@ fn asked(question: &Question<'_, '_>) -> (Start, Ident, Checks) {
     (start, ident, checks)
 }
 
-/// The path in what is told of a place: what stands between `in ` and the brackets.
-fn path_of(text: &[u8]) -> &[u8] {
-    let rest = text.strip_prefix(b"in ").unwrap_or(&[]);
-    let end = rest.iter().position(|byte| *byte == b' ').unwrap_or(0);
-    rest.get(..end).unwrap_or(&[])
-}
-
 /// The limits that a question has.
-pub fn limits_of(rt: &impl Abort, question: &Question<'_, '_>) -> Limits {
+fn limits_of(rt: &impl Abort, question: &Question<'_, '_>) -> Limits {
     let limits = Limits::new(question.depth, question.tables);
     let limits = limits.ok().expect(rt, "a depth in range");
     match question.reads {
         Some(most) => limits.with_reads(most),
         None => limits,
     }
-}
-
-/// Asserts that both say the same; the message of a test that fails tells the question.
-fn assert_same(
-    rt: &impl Abort,
-    question: &Question<'_, '_>,
-    bytes: &[u8],
-    of_engine: Verdict,
-    naive: Verdict,
-) {
-    let (root, prefixed) = (question.root, question.prefixed);
-    let (depth, tables, reads) = (question.depth, question.tables, question.reads);
-    let (alignment, inline_size) = (question.alignment, question.inline_size);
-    assert_eq!(rt;
-        of_engine,
-        naive,
-        "{root} {prefixed} {depth} {tables} {reads:?} {alignment} {inline_size} {bytes:?}"
-    );
 }

@@ -1,122 +1,85 @@
 //! The swept buffers, each with its schema.
 
-use super::rows::built;
-use super::schemas::{LONGS, MONSTERS, NODES, UNIONS, VECTORS_OF_LONGS};
 use crate::naive::checker::Question;
-use case_text::buffer::bytes_of;
 use case_text::reflection::REFLECTION;
-use case_text::rows::Rows;
-use fb_bfbs::reflection;
+use case_text::rows::{Rows, schema_of};
 use fb_schema::Schema;
-use fb_verify::Checks;
 use std::alloc::Global;
 use std::test::Fail;
 
-/// Which of the swept buffers.
-#[derive(Clone, Copy, Debug, PartialEq, Eq)]
-pub enum Swept {
-    Orc,
-    SharedNodes,
-    SizedLong,
-    UnionOfTable,
-    UnionOfStruct,
-    UnionsOfOtherLength,
-    Unions,
-    SkewedLong,
-    SchemaFile,
-}
+/// A sample, the rows of its schema, and the number of its root.
+pub type Swept = (&'static str, &'static str, u32);
 
-/// All of the swept buffers.
-pub const ALL: [Swept; 9] = [
-    Swept::Orc,
-    Swept::SharedNodes,
-    Swept::SizedLong,
-    Swept::UnionOfTable,
-    Swept::UnionOfStruct,
-    Swept::UnionsOfOtherLength,
-    Swept::Unions,
-    Swept::SkewedLong,
-    Swept::SchemaFile,
+/// `table M { hp: short = 100; name: string; }`
+const MONSTERS: &str = "M table: hp@4 short default=100, name@6 string";
+
+/// `table Node { a: Node; b: Node; }`
+const NODES: &str = "Node table: a@4 obj#0, b@6 obj#0";
+
+/// `table N { v: long; }`
+const LONGS: &str = "N table: v@4 long";
+
+/// `table Z { l: [long]; }`
+const VECTORS_OF_LONGS: &str = "Z table: l@4 [long]";
+
+/// `table A { v: int; } struct W { x: long; } table R { u: U; } table Q { us: [U]; }
+/// union U { A = 1, W = 2, T: string = 3 }`
+const UNIONS: &str =
+    "A table: v@4 int; W struct 8/8: x@0 long; R table: u_type@4 utype, u@6 union#0; \
+    Q table: us_type@4 [utype], us@6 [union]#0; U union: A=1 obj#0, W=2 obj#1, T=3 string";
+
+/// The short ones: two fields, a table that is shared, a number behind a size, unions of a table and of a struct,
+/// vectors of unions of another length and of one, and a vector that is out of alignment.
+pub const SHORT: [Swept; 8] = [
+    ("ORC", MONSTERS, 0),
+    ("NODES", NODES, 0),
+    ("SEVEN", LONGS, 0),
+    ("PICKED", UNIONS, 2),
+    ("BOXED", UNIONS, 2),
+    ("THREE", UNIONS, 3),
+    ("HI", UNIONS, 3),
+    ("LONGS", VECTORS_OF_LONGS, 0),
 ];
 
-/// A buffer with its schema, as rows and as the engine has it.
+/// A schema file.
+pub const SCHEMA_FILE: Swept = ("FILE", REFLECTION, 9);
+
+/// A sample with its schema, as rows and as the engine has it.
 #[derive(Drop)]
-pub struct Fixture<'n> {
-    pub rows: Rows<'n>,
-    pub schema: Schema<'n>,
-    pub root: u32,
-    /// Whether the buffer begins with its size.
-    pub prefixed: bool,
-    pub bytes: Vec<u8>,
+pub struct Fixture {
+    pub sample: &'static str,
+    pub schema: Schema<'static>,
+    rows: Rows<'static>,
+    root: u32,
 }
 
-impl Swept {
-    /// Whether it is no schema file: the others are short.
-    pub fn is_short(self) -> bool {
-        self != Swept::SchemaFile
-    }
-
-    /// How many paths of one, two or three steps there are by its schema, from its root.
-    pub fn paths(self) -> usize {
-        match self {
-            Swept::Orc => 2,
-            Swept::SharedNodes => 14,
-            Swept::SizedLong => 1,
-            Swept::UnionOfTable | Swept::UnionOfStruct => 6,
-            Swept::UnionsOfOtherLength | Swept::Unions => 17,
-            Swept::SkewedLong => 4,
-            Swept::SchemaFile => 103,
-        }
-    }
-
-    /// The sample that it is, the rows of its schema, and the number of its root.
-    fn parts(self) -> (&'static str, &'static str, u32) {
-        match self {
-            Swept::Orc => ("ORC", MONSTERS, 0),
-            Swept::SharedNodes => ("NODES", NODES, 0),
-            Swept::SizedLong => ("SEVEN", LONGS, 0),
-            Swept::UnionOfTable => ("PICKED", UNIONS, 2),
-            Swept::UnionOfStruct => ("BOXED", UNIONS, 2),
-            Swept::UnionsOfOtherLength => ("THREE", UNIONS, 3),
-            Swept::Unions => ("HI", UNIONS, 3),
-            Swept::SkewedLong => ("LONGS", VECTORS_OF_LONGS, 0),
-            Swept::SchemaFile => ("FILE", REFLECTION, 9),
-        }
-    }
-
-    /// The buffer with its schema. That of a schema file is the engine's own.
-    pub fn fixture(self, alloc: Global) -> Result<Fixture<'static>, Fail> {
-        let (sample, rows, root) = self.parts();
-        let rows = Rows::read(alloc, rows)?;
-        let schema = match self {
-            Swept::SchemaFile => reflection(alloc)?,
-            _ => built(alloc, &rows)??,
-        };
+impl Fixture {
+    /// A sample with its schema.
+    pub fn of(alloc: Global, swept: Swept) -> Result<Fixture, Fail> {
+        let (sample, rows, root) = swept;
+        let schema = schema_of(alloc, rows)?;
         Ok(Fixture {
-            rows,
+            sample,
             schema,
+            rows: Rows::read(alloc, rows)?,
             root,
-            prefixed: self == Swept::SizedLong,
-            bytes: bytes_of(alloc, &[], sample)?,
         })
     }
-}
 
-impl<'n> Fixture<'n> {
-    /// Whether the buffer is well formed, with any identifier, under the published limits and these checks, whatever
-    /// it costs.
-    pub fn question(&self, checks: Checks) -> Question<'_, 'n> {
+    /// Whether the buffer is well formed, with any identifier, under the published limits and these checks. That of one
+    /// sample begins with its size.
+    pub fn question(&self, alignment: bool, inline_size: bool) -> Question<'_, 'static> {
         Question {
             objects: &self.rows.objects,
             enums: &self.rows.enums,
             root: self.root,
-            prefixed: self.prefixed,
+            prefixed: self.sample == "SEVEN",
             ident: None,
             depth: 64,
             tables: 1_000_000,
             reads: None,
-            alignment: checks.alignment,
-            inline_size: checks.inline_size,
+            alignment,
+            inline_size,
         }
     }
 }
