@@ -1,13 +1,14 @@
 """The program beside a plain walk by the rules.
 
 Buffers with every kind of field, cut off everywhere and with each byte changed to many others, go through the program
-as one stream, and each line is held against what the walk says of that buffer, under several options.
+as one stream, and each line, also as JSON, is held against what the walk says of that buffer, under several options.
 """
 
 from tests.support import buffers, schemas
 from tests.support.builder import buffer, prefixed
 from tests.support.cases import Case
 from tests.support.every_kind import FILE, LITTLE, OBJECTS, OPTIONS, UNION, WHOLE, variants, words_of
+from tests.support.json_lines import names_of, read, said
 from tests.support.naive import Reader, Schema, Walk
 from tests.support.program import Ran, file_of, run
 from tests.support.schemas import an_object, field, table
@@ -65,10 +66,20 @@ class BesideNaive(Case):
         self.same(f"{name}: their number", len(differing), 0)
         options = options if ident is None else {**options, "ident": ident}
         self.sorted_out(name, by, given, options, wants)
-        self.named(name, by, given, options, [
-            want + (walk.place() if want.startswith("bad") else "") for walk, want in zip(walks, wants)
-        ])
+        placed = [want + (walk.place() if want.startswith("bad") else "") for walk, want in zip(walks, wants)]
+        self.named(name, by, given, options, placed)
+        ran = run(*by, "--json", *words_of(options), given=b"".join(map(prefixed, given)))
+        self.as_json(name, schema_and_root[0], ran, placed)
         return wants
+
+    def as_json(self, name, schema, ran, wants, paths=()):
+        """Each line of JSON says to a reader of JSON what the walk says of its buffer."""
+        names = names_of(schema)
+        wanted = [said(f"{number} {want}".encode(), names, paths) for number, want in enumerate(wants, 1)]
+        got = [read(line) for line in ran.out.split(b"\n")[:-1]]
+        differing = [pair for pair in zip(got, wanted) if pair[0] != pair[1]]
+        self.same(f"{name}: lines of JSON that differ, with what is expected", differing[:3], [])
+        self.same(f"{name}: as many lines of JSON", (len(got), ran.err), (len(wanted), b""))
 
     def named(self, name, by, given, options, wants):
         """The same stream with the places in words: each bad line ends with the way that the walk went."""
@@ -135,6 +146,9 @@ class BesideNaive(Case):
             wants = [Reader(ALL, 0, prefixed(bent)).value(path) for bent in given]
             differing = [(bent.hex(), value, want) for bent, value, want in zip(given, got, wants) if value != want]
             self.same(f"{path} of each", (len(got), differing[:2]), (len(given), []))
+            ran = run(*by, "--json", "--path", path, given=b"".join(map(prefixed, given)))
+            told = [f"{walk(bent).verdict()} {want}" for bent, want in zip(given, wants)]
+            self.as_json(f"{path} of each", ALL, ran, told, [path])
 
     def test_values_by_many_paths(self):
         """Of some of them, the values at as many paths as may be, in the order in which these are asked for."""
@@ -154,7 +168,12 @@ class BesideNaive(Case):
         data = buffer(LITTLE, b"KIND")
         for given in variants(data, [1, 4]):
             want = f"1 {Walk(ALL, 0, given).verdict(b'KIND', prefix=False)}\n".encode()
-            self.same(f"bare, {given.hex()}", run(*BY_ALL, "--bare", "--ident", "KIND", given=given).out, want)
+            by = (*BY_ALL, "--bare", "--ident", "KIND")
+            self.same(f"bare, {given.hex()}", run(*by, given=given).out, want)
+            walk = Walk(ALL, 0, given)
+            told = walk.verdict(b"KIND", prefix=False)
+            told += walk.place() if told.startswith("bad") else ""
+            self.as_json(f"bare, {given.hex()}", ALL, run(*by, "--json", given=given), [told])
 
     def test_delimited_buffers(self):
         """Bare buffers in one stream, each behind its length."""
@@ -163,10 +182,15 @@ class BesideNaive(Case):
             asked = {"tables": 500, **options}
             ran = run(*BY_ALL, "--delimited", *words_of(asked), given=b"".join(map(prefixed, given)))
             ident = asked.pop("ident", None)
-            wants = [f"{number} {Walk(ALL, 0, data, **asked).verdict(ident, prefix=False)}"
-                     for number, data in enumerate(given, 1)]
+            walks = [Walk(ALL, 0, data, **asked) for data in given]
+            told = [walk.verdict(ident, prefix=False) for walk in walks]
+            wants = [f"{number} {want}" for number, want in enumerate(told, 1)]
             differing = [pair for pair in zip(ran.out.decode().splitlines(), wants) if pair[0] != pair[1]]
             self.same(f"delimited, {options}", (ran.out.count(b"\n"), differing[:5]), (len(given), []))
+            words = {"tables": 500, **options}
+            ran = run(*BY_ALL, "--delimited", "--json", *words_of(words), given=b"".join(map(prefixed, given)))
+            placed = [want + (walk.place() if want.startswith("bad") else "") for walk, want in zip(walks, told)]
+            self.as_json(f"delimited, {options}", ALL, ran, placed)
 
     def test_schema_files_without_a_schema(self):
         """By the table that is built in."""

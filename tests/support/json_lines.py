@@ -1,9 +1,30 @@
 """What a line of JSON says, by the plain line of the same message."""
 
+import json
 import re
 
 WORDS = re.compile(rb'"(?:[^"\\]|\\.)*"|\S+')
 ESCAPE = re.compile(rb'\\(?:x([0-9a-f]{2})|(.))')
+
+
+def pairs(members):
+    """An object's members, where no key comes twice."""
+    found = dict(members)
+    assert len(found) == len(members)
+    return found
+
+
+def read(line):
+    """What a line says to a reader of JSON."""
+    return json.loads(line, object_pairs_hook=pairs)
+
+
+def names_of(schema):
+    """The names of a schema's objects, each with those of its fields by their numbers."""
+    return [
+        (name, {(field.slot - 4) // 2: field.name for field in fields or []})
+        for name, fields in zip(schema.names, schema.tables)
+    ]
 
 
 def words_of(line):
