@@ -57,13 +57,16 @@ class Faults(Case):
             self.same(name, run(*words, given=given), want)
 
     def test_faults_of_words(self):
-        for name, words in [
-            ("in place of a name", [b"--root", b"\xff"]),
-            ("in place of an option", [b"\xc3\x28"]),
-            ("cut off", ["--path", b"\xe2\x82"]),
-            ("before help", [b"\x80", "--help"]),
+        for name, number, words in [
+            ("in place of a name", 2, [b"--root", b"\xff"]),
+            ("in place of an option", 1, [b"\xc3\x28"]),
+            ("cut off", 2, ["--path", b"\xe2\x82"]),
+            ("before help", 1, [b"\x80", "--help"]),
+            ("two of them", 3, ["--path", "a", b"--\x80", b"\xff"]),
+            ("a long one", 2, ["a" * 5_000, "ü".encode() * 40_000 + b"\xff"]),
         ]:
-            self.same(f"a word that isn't UTF-8, {name}", run(*words, given=SEVEN), refused("a word is not UTF-8"))
+            self.same(f"a word that isn't UTF-8, {name}", run(*words, given=SEVEN),
+                      refused(f"a word is not UTF-8: number {number}"))
         named = file_of("größe-表.bfbs", schemas.M)
         self.same("words that are UTF-8", run("--schema", named, "--bare", given=ORC),
                   good("1 ok tables=1 depth=1 reads=8"))
@@ -223,6 +226,15 @@ class Faults(Case):
         self.same("no such field", run("--schema", FILES["X"], "--root", "R", "--path", "x"), fieldless("u_type", "u"))
         self.same("nor one of a member", run("--schema", FILES["X"], "--root", "R", "--path", "u@A.x"),
                   refused("path: P2 NoSuchField step=2"))
+        for name, paths, text in [
+            ("the first of two", ["u[0]", "u"], "path: P3 NotIndexable step=1 in u[0]"),
+            ("the last of two", ["u", "x"], "path: P2 NoSuchField step=0 in x; fields: u_type u"),
+            ("the first wrong one of three", ["u@A", "u@Z", "x"], "path: P5 NoSuchMember step=1 in u@Z"),
+            ("one that would break the line", ["u", 'u\n"'], 'path: P1 BadText at=1 in u\\x0a\\"'),
+            ("an empty one", ["u", ""], "path: P1 BadText at=0 in "),
+        ]:
+            words = [f"--path={path}" for path in paths]
+            self.same(f"{name} paths", run("--schema", FILES["X"], "--root", "R", *words, given=MEMBER), refused(text))
         self.same("the root comes before the path", run(*BY_M, "--root", "Q", "--path", "x"), rootless("Q", "M"))
         self.same("the schema comes before the root", run("--schema", "/dev/null", "--root", "Q", "--path", "x"),
                   refused("schema: L1 V2 OutOfBuffer at=4 object=9 field=- reads=0"))

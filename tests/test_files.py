@@ -114,7 +114,7 @@ class Files(Case):
         self.same("an empty name", run(*BY_N, "", EMPTY), failed(": no such file"))
         self.same("one that begins as an option", run(*BY_N, "--", "-n", GOOD, cwd=FOLDER), Ran(1, lines(
             "-n: 1 bad V3 Misaligned at=7 object=0 field=- reads=3", f"{GOOD}: 1 ok tables=1 depth=1 reads=5"), b""))
-        self.same("one that isn't UTF-8", run(*BY_N, b"\xff", GOOD), refused("a word is not UTF-8"))
+        self.same("one that isn't UTF-8", run(*BY_N, b"\xff", GOOD), refused("a word is not UTF-8: number 3"))
 
     def test_files_that_cannot_be_read(self):
         loop = FOLDER / "loop"

@@ -1,6 +1,5 @@
 """Lines of JSON: `--json`. Each is one object, and says what the plain line of the same message says."""
 
-import json
 import struct
 
 from tests.support import schemas
@@ -8,7 +7,7 @@ from tests.support.buffers import NOTHING, ODD, ORC, PLAIN, SEVEN
 from tests.support.builder import Plain, buffer, changed, prefixed
 from tests.support.cases import Case
 from tests.support.every_kind import FILE, LITTLE, OBJECTS, UNION, WHOLE, variants
-from tests.support.json_lines import said
+from tests.support.json_lines import names_of, read, said
 from tests.support.naive import Schema
 from tests.support.program import Ran, file_of, lines, run
 from tests.test_beside_naive import PATHS
@@ -18,24 +17,10 @@ BY_N = ("--schema", FILES["N"])
 BY_M = ("--schema", FILES["M"], "--bare", "--json")
 BY_ALL = ("--schema", file_of("all.bfbs", FILE))
 ALL = Schema(OBJECTS, [UNION])
-NAMES = [
-    (name, {(field.slot - 4) // 2: field.name for field in fields or []}) for name, fields in zip(ALL.names, ALL.tables)
-]
+NAMES = names_of(ALL)
 
 GOOD = '{"message":%d,"ok":true,"tables":1,"depth":1,"reads":5}'
 BAD = '{"message":2,"ok":false,"code":"V3","reason":"Misaligned","at":7,"object":"N","field":null,"reads":3,"place":"."}'
-
-
-def pairs(members):
-    """An object's members, where no key comes twice."""
-    found = dict(members)
-    assert len(found) == len(members)
-    return found
-
-
-def read(line):
-    """What a line says to a reader of JSON."""
-    return json.loads(line, object_pairs_hook=pairs)
 
 
 class Json(Case):
@@ -48,8 +33,10 @@ class Json(Case):
             ("a filter", ["--filter"], Ran(1, SEVEN * 2, lines(BAD))),
             ("a value", ["--path", "v"],
              Ran(1, lines(GOOD[:-1] % 1 + ',"values":{"v":7}}', BAD, GOOD[:-1] % 3 + ',"values":{"v":7}}'), b"")),
-            ("a summary stays a plain line", ["--quiet", "--summary"], Ran(1, lines(BAD), lines(
-                "summary: messages=3 yes=2 no=1 V3=1 bytes=96 tables=2 reads=13"))),
+            ("a summary", ["--quiet", "--summary"], Ran(1, lines(BAD), lines(
+                '{"messages":3,"yes":2,"no":1,"V3":1,"bytes":96,"tables":2,"reads":13}'))),
+            ("a summary behind a filter's notes", ["--filter", "--summary"], Ran(1, SEVEN * 2, lines(
+                BAD, '{"messages":3,"yes":2,"no":1,"V3":1,"bytes":96,"tables":2,"reads":13}'))),
         ]:
             self.same(name, run(*BY_N, "--json", *words, given=stream), want)
         self.same("of nothing", run(*BY_N, "--json", given=b""), Ran(0, b"", b""))
@@ -90,6 +77,22 @@ class Json(Case):
                 self.same(f"{which}, {path}: lines that differ", differing[:3], [])
                 self.same(f"{which}, {path}: their number and the end", (len(got), told.status, told.err),
                           (len(wants), plain.status, plain.err))
+
+    def test_summaries_beside_plain_ones(self):
+        """Sums of buffers that are bent in many ways: the object has the plain line's names and numbers, in order."""
+        data = buffer(WHOLE, b"KIND", prefix=True)[4:]
+        stream = b"".join(map(prefixed, variants(data, [1, 252])))
+        halves = [file_of(f"{which}.bin", part) for which, part in [("good", SEVEN * 3), ("bad", ODD)]]
+        for name, words, given in [
+            ("of nothing", BY_N, b""), ("of one", BY_N, SEVEN), ("of many", BY_ALL, stream), ("cut off", BY_N, ODD + SEVEN[:5]),
+            ("within a depth", (*BY_ALL, "--max-depth", "1"), stream), ("of files", (*BY_N, *halves), b""),
+        ]:
+            plain = run(*words, "--quiet", "--summary", given=given)
+            told = run(*words, "--quiet", "--summary", "--json", given=given)
+            label, *numbers = plain.err.splitlines()[0].decode().split()
+            want = [(key, int(number)) for key, number in (number.split("=") for number in numbers)]
+            self.same(f"{name}: the numbers", (label, list(read(told.err.splitlines()[0]).items())), ("summary:", want))
+            self.same(f"{name}: the rest", (told.status, told.err.splitlines()[1:]), (plain.status, plain.err.splitlines()[1:]))
 
     def test_numbers_of_64_bits(self):
         """Whole numbers stand as they are."""

@@ -8,7 +8,7 @@ from tests.support import schemas
 from tests.support.buffers import ASKEW, HALVES, MEMBER, MEMBERS, ORC, PLACED, PLAIN, SEVEN, TWINS, UNEQUAL, lower_type
 from tests.support.builder import Plain, buffer, changed, prefixed, spelled
 from tests.support.cases import Case
-from tests.support.program import PROGRAM, SECONDS, TOP, bad, fieldless, file_of, good, run
+from tests.support.program import PROGRAM, SECONDS, TOP, bad, fieldless, file_of, good, refused, run
 from tests.support.schemas import (
     BOOL, BYTE, DOUBLE, FLOAT, INT, LONG, SHORT, TEXT, U_BYTE, U_INT, U_LONG, U_SHORT, U_TYPE, a_struct, an_object,
     array, field, schema, table, vector,
@@ -85,11 +85,11 @@ class Values(Case):
         self.same("a no has none", run(*both, given=ORC[:-1] + b"\x01"),
                   bad("1 bad V10 NoTerminator at=31 object=0 field=1 reads=8"))
         self.same("the first that fits not is told",
-                  run(*both[:3], "--path", "hp", "--path", "x", "--path", "name[0]", given=ORC).err,
-                  run(*both[:3], "--path", "x", given=ORC).err)
+                  run(*both[:3], "--path", "hp", "--path", "x", "--path", "name[0]", given=ORC),
+                  refused("path: P2 NoSuchField step=0 in x; fields: hp name"))
         self.same("and not the one behind it",
-                  run(*both[:3], "--path", "hp", "--path", "name[0]", "--path", "x", given=ORC).err,
-                  run(*both[:3], "--path", "name[0]", given=ORC).err)
+                  run(*both[:3], "--path", "hp", "--path", "name[0]", "--path", "x", given=ORC),
+                  refused("path: P3 NotIndexable step=1 in name[0]"))
 
     def test_values_of_a_schema_file(self):
         for path, want in [

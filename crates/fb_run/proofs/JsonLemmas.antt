@@ -108,7 +108,7 @@ pub object_text : (ms : Members) → json_text (object ms) ≡ codes "{" ++ memb
 unfolding members_text print_from json_text
 object_text ms = refl
 
-first_member : (key : List ℕ) (j : Json) (ms : Members) → json_text (object (member key j ms)) ≡ 123 ∷ (quoted key ++ (58 ∷ (json_text j ++ following ms)))
+pub first_member : (key : List ℕ) (j : Json) (ms : Members) → json_text (object (member key j ms)) ≡ 123 ∷ (quoted key ++ (58 ∷ (json_text j ++ following ms)))
 first_member key j ms = object_text (member key j ms) ∙ ap (λ l. 123 ∷ l) (member_then false key j ms)
 
 pub true_text : json_text (boolean true) ≡ codes "true"

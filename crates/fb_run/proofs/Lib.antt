@@ -9,6 +9,7 @@ pub mod LineLemmas
 pub mod LinesLemmas
 pub mod JsonLemmas
 pub mod JsonReads
+pub mod JsonSumsLemmas
 pub mod LongLemmas
 pub mod Pieces
 pub mod RunLemmas

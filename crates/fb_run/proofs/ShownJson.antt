@@ -8,6 +8,7 @@ use Rattle.json.specs.Print.{escape_byte, print_from}
 use Rattle.fb_schema.specs.Kinds.{base_types, kind_of, shape_of}
 use Rattle.fb_schema.specs.Live.{live_fields}
 use Rattle.fb_run.specs.Json.{json_text}
+use Rattle.fb_run.specs.JsonSums.{Summaries}
 use Rattle.fb_run.specs.JsonTests.{JsonLines, JsonTexts, JsonValues}
 
 -- all that is computed
@@ -52,3 +53,7 @@ texts_shown = record {
   too_long = refl;
   half_a_pair = refl;
 }
+
+pub summaries_shown : Summaries
+unfolding computing
+summaries_shown = record { none = refl; two = refl; plain = refl }

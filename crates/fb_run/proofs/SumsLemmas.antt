@@ -4,6 +4,7 @@ use Rattle.std.specs.Prelude.{decimal, slice_index}
 use Rattle.std.proofs.lemmas.Fmt.{length-decimal-le}
 use Rattle.std.proofs.lemmas.List.Elements.{All-cons, All-head, All-nil, All-tail}
 use Rattle.fb_run.specs.Job.{Verdict}
+use Rattle.fb_run.specs.declared.options.Form.{Form}
 use Rattle.fb_run.specs.Sums.{IsBounded, no_tally, one_more, reason_part, reasons_from, sum_of_reads, tally_with}
 use Rattle.fb_run.specs.declared.tally.Tally.{Tally}
 
@@ -67,18 +68,18 @@ pub in_front : (letter number sign count rest : List ℕ) → letter ++ (number 
 in_front letter number sign count rest = sym (append_assoc letter (number ++ (sign ++ count)) rest ∙ ap (λ l. letter ++ l) (append_assoc number (sign ++ count) rest ∙ ap (λ l. number ++ l) (append_assoc sign count rest)))
 
 -- a reason stands in front of those behind it
-pub one_reason_more : (counts rest line line' : List ℕ) (place next : ℕ) → next ≡ place + 1 → place < length counts → line ≡ reasons_from (next + 1) (drop next counts) rest
-    → line' ≡ reason_part (place + 1) (get_or counts place 0) line → line' ≡ reasons_from (place + 1) (drop place counts) rest
-one_reason_more counts rest line line' place next at inside is more =
+pub one_reason_more : (form : Form) (counts rest line line' : List ℕ) (place next : ℕ) → next ≡ place + 1 → place < length counts → line ≡ reasons_from form (next + 1) (drop next counts) rest
+    → line' ≡ reason_part form (place + 1) (get_or counts place 0) line → line' ≡ reasons_from form (place + 1) (drop place counts) rest
+one_reason_more form counts rest line line' place next at inside is more =
     let behind : next ≡ suc place = omega (arith, at) in
-    let rest_is : line ≡ reasons_from (place + 1 + 1) (drop (suc place) counts) rest = subst (λ (k : ℕ). line ≡ reasons_from (place + 1 + 1) (drop k counts) rest) behind
-    (subst (λ (k : ℕ). line ≡ reasons_from (k + 1) (drop next counts) rest) at is) in
-    more ∙ ap (λ (l : List ℕ). reason_part (place + 1) (get_or counts place 0) l) rest_is
-    ∙ sym (ap (λ (l : List ℕ). reasons_from (place + 1) l rest) (drop-cons counts place 0 inside))
+    let rest_is : line ≡ reasons_from form (place + 1 + 1) (drop (suc place) counts) rest = subst (λ (k : ℕ). line ≡ reasons_from form (place + 1 + 1) (drop k counts) rest) behind
+    (subst (λ (k : ℕ). line ≡ reasons_from form (k + 1) (drop next counts) rest) at is) in
+    more ∙ ap (λ (l : List ℕ). reason_part form (place + 1) (get_or counts place 0) l) rest_is
+    ∙ sym (ap (λ (l : List ℕ). reasons_from form (place + 1) l rest) (drop-cons counts place 0 inside))
 
 -- a reason's number and how often it was given are short
-pub reason_short : (line counted signed numbered lettered : List ℕ) (number : ℕ) → number < 100 → length counted ≤ length line + 20 → length signed ≡ 1 + length counted
-    → numbered ≡ decimal number ++ signed → length lettered ≡ 2 + length numbered → length lettered ≤ length line + 25
+pub reason_short : (line counted signed numbered lettered : List ℕ) (number : ℕ) → number < 100 → length counted ≤ length line + 20 → length signed ≤ 2 + length counted
+    → numbered ≡ decimal number ++ signed → length lettered ≤ 3 + length numbered → length lettered ≤ length line + 27
 reason_short line counted signed numbered lettered number few count sign is letter =
     let digits = length-decimal-le 2 number (omega arith) (omega arith) (omega arith) in
     omega (arith, ap length is, length-append (decimal number) signed)

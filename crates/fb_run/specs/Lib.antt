@@ -7,6 +7,7 @@ pub mod Texts
 pub mod Ends
 pub mod Sums
 pub mod Json
+pub mod JsonSums
 pub mod Line
 pub mod Lines
 pub mod LineTests

@@ -25,14 +25,14 @@ yes_text report =
     ++ codes " reads=" ++ decimal report.reads
 
 -- where in the schema a fault is, and the reads by then
-abbrev pub place_text : Fault → List ℕ
-place_text fault =
+abbrev pub numbers_text : Fault → List ℕ
+numbers_text fault =
     codes " object=" ++ decimal fault.object ++ codes " field=" ++ field_text fault.field
     ++ codes " reads=" ++ decimal fault.reads
 
 -- what the line of a no has behind the message's number
 abbrev pub no_text : Fault → List ℕ
-no_text fault = codes " bad " ++ reason_text fault.reason ++ codes " at=" ++ decimal fault.at ++ place_text fault
+no_text fault = codes " bad " ++ reason_text fault.reason ++ codes " at=" ++ decimal fault.at ++ numbers_text fault
 
 -- the line of the verdict on message number k but for what was asked for
 abbrev pub short_line : ℕ → Verdict → List ℕ

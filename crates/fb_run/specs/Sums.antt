@@ -3,11 +3,13 @@ use Rattle.std.specs.Prelude.{◌≡◌, ℕ, ◌+◌, ◌-◌, ◌*◌, ◌≤�
 use Rattle.fb_verify.specs.Reasons.{reason_number}
 use Rattle.fb_verify.specs.declared.fault.Reason.{Reason}
 use Rattle.fb_run.specs.Job.{Verdict}
+use Rattle.fb_run.specs.declared.options.Form.{Form}
+use Rattle.fb_run.specs.declared.options.Form.TheVariants.{Plain, Json}
 use Rattle.fb_run.specs.declared.tally.Tally.{Tally}
 
 -- the place of a reason among the counts of all reasons, that of V1 first
-abbrev pub place_of : Reason → ℕ
-place_of reason = reason_number reason - 1
+abbrev pub count_place : Reason → ℕ
+count_place reason = reason_number reason - 1
 
 -- what no messages come to
 abbrev pub no_tally : Tally
@@ -45,7 +47,7 @@ tally_with message (Ok found) others = record {
 tally_with message (Err bad) others = record {
   yes = others.yes;
   no = others.no + 1;
-  reasons = one_more (place_of bad.fault.reason) others.reasons;
+  reasons = one_more (count_place bad.fault.reason) others.reasons;
   bytes = others.bytes + length message;
   tables = others.tables;
   reads = sum_of_reads others.reads bad.fault.reads;
@@ -58,31 +60,43 @@ pub record IsBounded (tally : Tally) : Type 0 where
   pub bytes : tally.bytes ≤ 2147483648 * count_of tally
   pub tables : tally.tables ≤ 4294967296 * count_of tally
 
+-- one of two texts, by the form of the line
+abbrev pub in_form : Form → List ℕ → List ℕ → List ℕ
+in_form Plain plain json = plain
+in_form Json plain json = json
+
 -- how often the reason with this number was given, where it was, in front of the rest
-abbrev pub reason_part : ℕ → ℕ → List ℕ → List ℕ
-reason_part number count rest = (if count == 0 then [] else (codes " V" ++ decimal number ++ codes "=" ++ decimal count)) ++ rest
+abbrev pub reason_part : Form → ℕ → ℕ → List ℕ → List ℕ
+reason_part form number count rest =
+    (if count == 0 then [] else (in_form form (codes " V") (codes ",\"V") ++ decimal number ++ in_form form (codes "=") (codes "\":") ++ decimal count)) ++ rest
 
 -- the same of the reasons from this number on, in their order
-abbrev pub reasons_from : ℕ → List ℕ → List ℕ → List ℕ
-reasons_from number [] rest = rest
-reasons_from number (count ∷ counts) rest = reason_part number count (reasons_from (number + 1) counts rest)
+abbrev pub reasons_from : Form → ℕ → List ℕ → List ℕ → List ℕ
+reasons_from form number [] rest = rest
+reasons_from form number (count ∷ counts) rest = reason_part form number count (reasons_from form (number + 1) counts rest)
 
 -- the same of all reasons
-abbrev pub reasons_part : List ℕ → List ℕ → List ℕ
-reasons_part counts rest = reasons_from 1 counts rest
+abbrev pub reasons_part : Form → List ℕ → List ℕ → List ℕ
+reasons_part form counts rest = reasons_from form 1 counts rest
 
 -- what was counted beside the verdicts
-abbrev pub counts_part : Tally → List ℕ
-counts_part tally =
-    codes " bytes=" ++ decimal tally.bytes ++ codes " tables=" ++ decimal tally.tables ++ codes " reads=" ++ decimal tally.reads
-    ++ codes "\n"
+abbrev pub counts_part : Form → Tally → List ℕ
+counts_part form tally =
+    in_form form (codes " bytes=") (codes ",\"bytes\":") ++ decimal tally.bytes
+    ++ in_form form (codes " tables=") (codes ",\"tables\":") ++ decimal tally.tables
+    ++ in_form form (codes " reads=") (codes ",\"reads\":") ++ decimal tally.reads ++ in_form form (codes "\n") (codes "}\n")
 
 -- how many there are, and how many had a yes and a no, in front of the rest
-abbrev pub verdicts_part : Tally → List ℕ → List ℕ
-verdicts_part tally rest =
-    codes "summary: messages=" ++ decimal (count_of tally) ++ codes " yes=" ++ decimal tally.yes ++ codes " no=" ++ decimal tally.no
-    ++ rest
+abbrev pub verdicts_part : Form → Tally → List ℕ → List ℕ
+verdicts_part form tally rest =
+    in_form form (codes "summary: messages=") (codes "{\"messages\":") ++ decimal (count_of tally)
+    ++ in_form form (codes " yes=") (codes ",\"yes\":") ++ decimal tally.yes
+    ++ in_form form (codes " no=") (codes ",\"no\":") ++ decimal tally.no ++ rest
 
--- the line that tells all of it
+-- all of it
+abbrev pub summary_part : Form → Tally → List ℕ
+summary_part form tally = verdicts_part form tally (reasons_part form tally.reasons (counts_part form tally))
+
+-- the plain line that tells it
 abbrev pub summary_line : Tally → List ℕ
-summary_line tally = verdicts_part tally (reasons_part tally.reasons (counts_part tally))
+summary_line tally = summary_part Plain tally

@@ -3,7 +3,8 @@
 ghost use Rattle.std.specs.Prelude.{IfOk, IfErr, OnOk, IsTrue, ◌≡◌, ◌++◌, ◌<◌, ◌≤◌, ◌^◌, length, map};
 ghost use Rattle.fb_access.specs.Denotes.{shown};
 ghost use Rattle.fb_run.specs.declared.options.Places.TheVariants.{Words};
-ghost use Rattle.fb_run.specs.Job.{AreAnswers, HasRoom, IsVerdict, IsVerified, PathsFit, Serves, Verdict, brief_verdict, buffer_in, is_brief, job_of, limits_for, place_told, verdict_beside, verdict_of};
+ghost use Rattle.fb_run.specs.Job.{AreAnswers, HasRoom, IsVerdict, IsVerified, PathsFit, Serves, Verdict, brief_verdict, buffer_in, is_brief, job_of, limits_for, place_told, skip_of, start_of, verdict_beside, verdict_of};
+ghost use Rattle.fb_schema.specs.Rows.{Rows};
 ghost use Rattle.fb_run.specs.Line.{json_line};
 
 use crate::answers::{Answers, MOST_PATHS};
@@ -46,16 +47,23 @@ pub struct Wrong<'t> {
 pub struct Checker<'s, 'n, 'o> {
     schema: &'s Schema<'n>,
     options: &'o Options,
+    /// What the options say for every buffer, asked once: how it begins, how many bytes of its message stand before it,
+    /// and whether no more is asked of it than a report.
+    start: Start,
+    skip: usize,
+    brief: bool,
 }
 
 impl<'s, 'n, 'o> Model for Checker<'s, 'n, 'o> {
-    ghost use Rattle.fb_run.specs.Job.{Job, Serves, job_of};
+    ghost use Rattle.std.specs.Prelude.{◌≡◌};
+    ghost use Rattle.fb_run.specs.Job.{Job, Serves, is_brief, job_of, skip_of, start_of};
 
     ghost Value = { Job };
 
     ghost view = { λ c. job_of c.schema.now c.options.now };
 
-    ghost invariant = { λ c. Serves c.schema.now c.options.now };
+    ghost invariant = { λ c. Serves c.schema.now c.options.now × (c.start ≡ start_of c.options.now.bare c.options.now.prefix)
+        × (c.skip ≡ skip_of c.options.now.bare c.options.now.prefix) × (c.brief ≡ is_brief (job_of c.schema.now c.options.now)) };
 }
 
 impl<'s, 'n, 'o> Checker<'s, 'n, 'o> {
@@ -64,7 +72,13 @@ impl<'s, 'n, 'o> Checker<'s, 'n, 'o> {
         requires { Serves schema.now options.now }
         ensures { result ≡ job_of schema.now options.now }
     {
-        Checker { schema, options }
+        Checker {
+            schema,
+            options,
+            start: start(options),
+            skip: skip(options),
+            brief: is_brief(options),
+        }
     }
 
     /// The most bytes of a message, prefix included, or of a bare input.
@@ -153,20 +167,12 @@ impl<'s, 'n, 'o> Checker<'s, 'n, 'o> {
         }
     }
 
-    /// Whether no more is asked of a buffer than a report, or a fault by its numbers: neither values, nor words, nor a
-    /// name.
+    /// Whether no more is asked of a buffer than a report, or a fault by its numbers.
     #[inline(always)]
     pub fn is_brief(&self) -> bool
         ensures { result ≡ is_brief self.now }
     {
-        let Options {
-            paths,
-            names,
-            label,
-            form,
-            ..
-        } = self.options;
-        paths.is_empty() && *names == Places::Numbers && label.is_none() && *form == Form::Plain
+        self.brief
     }
 
     /// The verdict on the buffer in a message, where no more is asked: the report, or the fault.
@@ -187,7 +193,7 @@ impl<'s, 'n, 'o> Checker<'s, 'n, 'o> {
             &mut meter,
             self.schema,
             root,
-            self.start(),
+            self.start,
             ident,
             self.limits_for(bytes),
             self.options.checks,
@@ -206,20 +212,7 @@ impl<'s, 'n, 'o> Checker<'s, 'n, 'o> {
     fn start(&self) -> Start
         ensures { result ≡ self.now.start }
     {
-        match self.options.prefix {
-            Prefix::Part if !self.options.bare => Start::Prefixed,
-            _ => Start::Bare,
-        }
-    }
-
-    /// How many bytes of a message stand before the buffer.
-    fn skip(&self) -> usize
-        ensures { result ≡ self.now.skip }
-    {
-        match self.options.prefix {
-            Prefix::Apart if !self.options.bare => PREFIX,
-            _ => 0,
-        }
+        self.start
     }
 
     /// The buffer in a message: all of it, or what stands behind a prefix that is no part of it.
@@ -228,9 +221,8 @@ impl<'s, 'n, 'o> Checker<'s, 'n, 'o> {
         ensures buffer { result.now ≡ buffer_in self.now message.now }
         ensures within { length result.now ≤ length message.now }
     {
-        let skip = self.skip();
-        if skip <= message.len() {
-            &message[skip..]
+        if self.skip <= message.len() {
+            &message[self.skip..]
         } else {
             &[]
         }
@@ -314,6 +306,41 @@ impl<'s, 'n, 'o> Checker<'s, 'n, 'o> {
             }
         }
     }
+}
+
+/// How each buffer begins.
+fn start(options: &Options) -> Start
+    ensures { result ≡ start_of options.now.bare options.now.prefix }
+{
+    match options.prefix {
+        Prefix::Part if !options.bare => Start::Prefixed,
+        _ => Start::Bare,
+    }
+}
+
+/// How many bytes of a message stand before the buffer.
+fn skip(options: &Options) -> usize
+    ensures { result ≡ skip_of options.now.bare options.now.prefix }
+{
+    match options.prefix {
+        Prefix::Apart if !options.bare => PREFIX,
+        _ => 0,
+    }
+}
+
+/// Whether no more is asked of a buffer than a report, or a fault by its numbers: neither values, nor words, nor a name,
+/// nor JSON.
+fn is_brief(options: &Options) -> bool
+    ensures { (rows : Rows) → result ≡ is_brief (job_of rows options.now) }
+{
+    let Options {
+        paths,
+        names,
+        label,
+        form,
+        ..
+    } = options;
+    paths.is_empty() && *names == Places::Numbers && label.is_none() && *form == Form::Plain
 }
 
 /// Adds the place of a fault in words.

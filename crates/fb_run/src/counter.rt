@@ -5,7 +5,7 @@ ghost use Rattle.fb_run.specs.Job.{brief_verdict, verdict_of};
 ghost use Rattle.fb_run.specs.Sums.{no_tally, tally_with};
 
 use crate::checker::{Found, Wrong};
-use crate::tally::{Tally, place_of};
+use crate::tally::{Tally, count_place};
 use fb_verify::Report;
 use std::marker::Model;
 
@@ -83,7 +83,7 @@ impl Counter {
             }
             Err(Wrong { fault, .. }) => {
                 tally.no += 1;
-                tally.reasons[place_of(fault.reason)] += 1;
+                tally.reasons[count_place(fault.reason)] += 1;
                 tally.reads = tally.reads.saturating_add(fault.reads);
             }
         }

@@ -9,7 +9,7 @@ ghost use Rattle.fb_run.specs.Json.{begin_part, code_of, counts_part, digits_jso
 ghost use Rattle.fb_run.specs.Json.{member_part, members_text, name_json, name_of, names_part, place_member, reason_part, text_json, value_json, values_member, values_members};
 
 use crate::options::AskedPath;
-use crate::tally::place_of;
+use crate::tally::count_place;
 use crate::value_text::{put_hex, put_number};
 use fb_access::{Answer, field_of, object_name};
 use fb_schema::Schema;
@@ -174,7 +174,7 @@ fn code_and_name(reason: Reason) -> (&'static [u8], &'static [u8])
     ensures name { result.1.now ≡ name_of reason }
 {
     let text = reason.text().as_bytes();
-    let end = if place_of(reason) < 9 { 2 } else { 3 };
+    let end = if count_place(reason) < 9 { 2 } else { 3 };
     (&text[..end], &text[end + 1..])
 }
 

@@ -5,6 +5,7 @@ ghost use Rattle.fb_schema.specs.Rows.{Rows};
 ghost use Rattle.fb_run.specs.FilterLaws.{PassesAgain};
 ghost use Rattle.fb_run.specs.JobTests.{Buffers};
 ghost use Rattle.fb_run.specs.JsonLaws.{NoReadsBack, YesReadsBack};
+ghost use Rattle.fb_run.specs.JsonSums.{Summaries};
 ghost use Rattle.fb_run.specs.JsonTests.{JsonLines, JsonTexts, JsonValues};
 ghost use Rattle.fb_run.specs.LineTests.{Lines, Names, Values, Texts};
 ghost use Rattle.fb_run.specs.declared.options.Options.{Options};
@@ -19,12 +20,13 @@ pub fn lines_by_example()
     ensures texts { Texts }
 {}
 
-/// Lines of JSON, how values of each kind stand in them, and texts: what is escaped, and what is no UTF-8.
-#[tactic(auto, using(crate::proofs::ShownJson::lines_shown, crate::proofs::ShownJson::values_shown, crate::proofs::ShownJson::texts_shown))]
+/// Lines of JSON, how values of each kind stand in them, and texts: what is escaped, and what is no UTF-8. Lines of sums.
+#[tactic(auto, using(crate::proofs::ShownJson::lines_shown, crate::proofs::ShownJson::values_shown, crate::proofs::ShownJson::texts_shown, crate::proofs::ShownJson::summaries_shown))]
 pub fn json_by_example()
     ensures lines { JsonLines }
     ensures values { JsonValues }
     ensures texts { JsonTexts }
+    ensures sums { Summaries }
 {}
 
 /// Whoever reads a line of JSON without values by the grammar gets the object that it is.

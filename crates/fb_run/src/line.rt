@@ -2,7 +2,7 @@
 
 ghost use Rattle.std.specs.Prelude.{Ok, ◌≡◌, ◌+◌, ◌≤◌, ◌++◌, [], drop, length, decimal};
 ghost use Rattle.fb_run.specs.Job.{brief_verdict, verdict_of};
-ghost use Rattle.fb_run.specs.Line.{field_text, no_text, place_text, short_line, verdict_line, yes_text};
+ghost use Rattle.fb_run.specs.Line.{field_text, no_text, numbers_text, short_line, verdict_line, yes_text};
 
 use crate::checker::{Found, Wrong};
 use fb_verify::{Fault, Report};
@@ -112,7 +112,7 @@ impl Line {
     /// Where in the schema a no is, and its reads.
     fn put_place(&mut self, fault: &Fault)
         requires empty { self.old ≡ [] }
-        ensures text { self.new ≡ place_text fault.now }
+        ensures text { self.new ≡ numbers_text fault.now }
         ensures short { length self.new ≤ 103 }
     {
         self.put_wide(fault.reads);

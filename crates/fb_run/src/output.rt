@@ -58,6 +58,7 @@ impl<'a, A: Allocator> Output<&'a A> {
 
 impl<A: Allocator> Output<A> {
     /// Adds what is told of the next message, and counts its verdict. Where memory is refused, nothing is told of it.
+    #[inline(always)]
     pub fn add<B: Allocator>(
         &mut self,
         checker: &Checker<'_, '_, '_>,
@@ -273,52 +274,16 @@ impl<A: Allocator> Output<A> {
         ensures noted { self.new.notes.written ≡ self.old.notes.written }
     {
         match checker.mode() {
-            Mode::Lines => self.put_json(checker, number, verdict),
+            Mode::Lines => put_json(&mut self.out, &mut self.asked, checker, number, verdict),
             Mode::BadLines => match verdict {
                 Ok(_) => Ok(()),
-                Err(_) => self.put_json(checker, number, verdict),
+                Err(_) => put_json(&mut self.out, &mut self.asked, checker, number, verdict),
             },
             Mode::Filter => match verdict {
                 Ok(_) => self.out.bytes.extend_from_slice(bytes),
-                Err(_) => self.note_json(checker, number, verdict),
+                Err(_) => put_json(&mut self.notes, &mut self.asked, checker, number, verdict),
             },
         }
-    }
-
-    /// Adds the line of this verdict on message number `number` as JSON to what waits for the writer.
-    fn put_json(
-        &mut self,
-        checker: &Checker<'_, '_, '_>,
-        number: u64,
-        verdict: &Result<Found<'_>, Wrong<'_>>,
-    ) -> Result<(), AllocError>
-        ensures ok { OnOk result (self.new.out.bytes.items ≡ self.old.out.bytes.items ++ json_line checker.now number (verdict_of verdict.now)) }
-        ensures err_text { OnErr result (self.new.out.bytes.items ≡ self.old.out.bytes.items) }
-        ensures notes { self.new.notes ≡ self.old.notes }
-        ensures counted { self.new.counter ≡ self.old.counter }
-        ensures written { self.new.out.written ≡ self.old.out.written }
-    {
-        self.asked.clear();
-        checker.put_json(&mut self.asked, number, verdict)?;
-        self.out.bytes.extend_from_slice(self.asked.as_slice())
-    }
-
-    /// The same for the notes.
-    fn note_json(
-        &mut self,
-        checker: &Checker<'_, '_, '_>,
-        number: u64,
-        verdict: &Result<Found<'_>, Wrong<'_>>,
-    ) -> Result<(), AllocError>
-        ensures ok { OnOk result (self.new.notes.bytes.items ≡ self.old.notes.bytes.items ++ json_line checker.now number (verdict_of verdict.now)) }
-        ensures err_text { OnErr result (self.new.notes.bytes.items ≡ self.old.notes.bytes.items) }
-        ensures out { self.new.out ≡ self.old.out }
-        ensures counted { self.new.counter ≡ self.old.counter }
-        ensures noted { self.new.notes.written ≡ self.old.notes.written }
-    {
-        self.asked.clear();
-        checker.put_json(&mut self.asked, number, verdict)?;
-        self.notes.bytes.extend_from_slice(self.asked.as_slice())
     }
 
     /// Adds what the mode tells of message number `number` with this verdict, where lines begin so. A line with a long
@@ -473,6 +438,23 @@ impl<A: Allocator> Output<A> {
     {
         self.counter.tally()
     }
+}
+
+/// Adds the line of this verdict on message number `number` as JSON behind what waits. It is made in a room of its own.
+fn put_json<A: Allocator>(
+    pending: &mut Pending<A>,
+    line: &mut Vec<u8, A>,
+    checker: &Checker<'_, '_, '_>,
+    number: u64,
+    verdict: &Result<Found<'_>, Wrong<'_>>,
+) -> Result<(), AllocError>
+    ensures ok { OnOk result (pending.new.bytes.items ≡ pending.old.bytes.items ++ json_line checker.now number (verdict_of verdict.now)) }
+    ensures err_text { OnErr result (pending.new.bytes.items ≡ pending.old.bytes.items) }
+    ensures written { pending.new.written ≡ pending.old.written }
+{
+    line.clear();
+    checker.put_json(line, number, verdict)?;
+    pending.bytes.extend_from_slice(line.as_slice())
 }
 
 /// Adds a line to a text: what it begins with, the line, what was asked for, and a newline. Where memory is refused, the

@@ -1,7 +1,7 @@
 //! What a run comes to, in numbers.
 
 ghost use Rattle.std.specs.Prelude.{◌≡◌, ◌<◌};
-ghost use Rattle.fb_run.specs.Sums.{no_tally, place_of};
+ghost use Rattle.fb_run.specs.Sums.{no_tally, count_place};
 
 use fb_verify::Reason;
 
@@ -37,8 +37,8 @@ impl Tally {
 }
 
 /// Where a reason's count stands among those of all reasons.
-pub fn place_of(reason: Reason) -> usize
-    ensures place { result ≡ place_of reason }
+pub fn count_place(reason: Reason) -> usize
+    ensures place { result ≡ count_place reason }
     ensures within { result < 13 }
 {
     reason as usize

@@ -17,6 +17,7 @@ pub fn push_all<K: Sink>(sink: &mut K, text: &[u8]) -> usize
     ensures failed { result < length text.now → K.failures sink.new ≡ K.failures sink.old + 1 }
     ensures unfailed { result ≡ length text.now → K.failures sink.new ≡ K.failures sink.old }
     ensures calls { K.calls sink.new ≤ K.calls sink.old + length text.now }
+    ensures more { K.calls sink.old ≤ K.calls sink.new }
 {
     let mut rest = text;
     while !rest.is_empty() {

@@ -13,8 +13,7 @@ use Rattle.fb_run.specs.declared.options.Options.{Options}
 use Rattle.fb_run.specs.declared.fault.RunFault.{RunFault}
 use Rattle.fb_run.specs.declared.fault.RunFault.TheVariants as run
 use Rattle.fb_run.specs.declared.run.Ran.{Ran}
-use Rattle.fbcheck.specs.Inputs.{HaltsAmong, IsBehind, IsBehindFault, IsBehindRun, IsNotedOf, Passes, PassesAll, Stand, Tries, are_several, course_with, fault_line, is_final, is_standard, label_of, labelled, standard_after, sum_of_counts, sums}
-use Rattle.fbcheck.specs.declared.files.FileFault.{FileFault}
+use Rattle.fbcheck.specs.Inputs.{Folder, HaltsAmong, IsBehind, IsBehindFault, IsBehindRun, IsNotedOf, Passes, PassesAll, Stand, Tries, are_several, course_with, fault_line, is_final, is_standard, label_of, with_label, standard_after, sum_of_counts, sums}
 use Rattle.fbcheck.specs.declared.files.FileFault.TheVariants as file
 use Rattle.fbcheck.specs.declared.inputs.Course.{Course}
 use Rattle.fbcheck.specs.declared.inputs.Missed.{Missed}
@@ -52,36 +51,36 @@ sums_length [] more = refl
 sums_length (a ∷ some) [] = refl
 sums_length (a ∷ some) (b ∷ more) = ap (λ n. suc n) (sums_length some more)
 
-module _ (gives : List ℕ → Result (List ℕ) FileFault → Type 0) where
+module _ (folder : Folder) where
   -- what came behind a file is how it was gone through
-  pub tries_of : (job : Job) (name : List ℕ) (before after : Stand) (end : End) → Passes gives job name before after end → Tries gives job name before after end
+  pub tries_of : (job : Job) (name : List ℕ) (before after : Stand) (end : End) → Passes folder job name before after end → Tries folder job name before after end
   tries_of job name before after (Ok done) passes = passes
   tries_of job name before after (Err fault) passes = inl passes
 
   -- one file more behind those that were gone through
-  pub passes_more : (job : Job) (several : Bool) (names : List (List ℕ)) (name : List ℕ) (a b c : Stand) → PassesAll gives job several names a b
-      → Tries gives (labelled (label_of several name) job) name b c (Ok tt) → PassesAll gives job several (names ++ (name ∷ [])) a c
-  passes_more job several [] name a b c is tries = (c, subst (λ (s : Stand). Tries gives (labelled (label_of several name) job) name s c (Ok tt)) is tries, refl)
+  pub passes_more : (job : Job) (several : Bool) (names : List (List ℕ)) (name : List ℕ) (a b c : Stand) → PassesAll folder job several names a b
+      → Tries folder (with_label (label_of several name) job) name b c (Ok tt) → PassesAll folder job several (names ++ (name ∷ [])) a c
+  passes_more job several [] name a b c is tries = (c, subst (λ (s : Stand). Tries folder (with_label (label_of several name) job) name s c (Ok tt)) is tries, refl)
   passes_more job several (first ∷ names) name a b c (mid, one, rest) tries = (mid, one, passes_more job several names name mid b c rest tries)
 
   -- the same behind a front of the names
   pub front_more : (job : Job) (several : Bool) (names front left rest : List (List ℕ)) (name : List ℕ) (a b c : Stand) → names ≡ front ++ left → left ≡ name ∷ rest
-      → PassesAll gives job several front a b → Tries gives (labelled (label_of several name) job) name b c (Ok tt)
-      → (more : List (List ℕ)) × (names ≡ more ++ rest) × PassesAll gives job several more a c
+      → PassesAll folder job several front a b → Tries folder (with_label (label_of several name) job) name b c (Ok tt)
+      → (more : List (List ℕ)) × (names ≡ more ++ rest) × PassesAll folder job several more a c
   front_more job several names front left rest name a b c are next passes tries =
       let same : front ++ (name ∷ rest) ≡ (front ++ (name ∷ [])) ++ rest = rw append_assoc refl in
       (front ++ (name ∷ []), are ∙ ap (λ l. front ++ l) next ∙ same, passes_more job several front name a b c passes tries)
 
   -- all of them
-  pub front_all : (job : Job) (several : Bool) (names front left : List (List ℕ)) (a b : Stand) → names ≡ front ++ left → left ≡ [] → PassesAll gives job several front a b
-      → PassesAll gives job several names a b
+  pub front_all : (job : Job) (several : Bool) (names front left : List (List ℕ)) (a b : Stand) → names ≡ front ++ left → left ≡ [] → PassesAll folder job several front a b
+      → PassesAll folder job several names a b
   front_all job several names front left a b are none passes =
-      subst (λ (l : List (List ℕ)). PassesAll gives job several l a b) (sym (are ∙ ap (λ l. front ++ l) none ∙ append-nil front)) passes
+      subst (λ (l : List (List ℕ)). PassesAll folder job several l a b) (sym (are ∙ ap (λ l. front ++ l) none ∙ append-nil front)) passes
 
   -- one of them ended it all
   pub halts_among : (job : Job) (names front left rest : List (List ℕ)) (name : List ℕ) (a b c : Stand) (fault : RunFault) → names ≡ front ++ left → left ≡ name ∷ rest
-      → PassesAll gives job (are_several names) front a b → Tries gives (labelled (label_of (are_several names) name) job) name b c (Err fault)
-      → HaltsAmong gives job names a c fault
+      → PassesAll folder job (are_several names) front a b → Tries folder (with_label (label_of (are_several names) name) job) name b c (Err fault)
+      → HaltsAmong folder job names a c fault
   halts_among job names front left rest name a b c fault are next passes tries = record {
     front = front;
     name = name;
@@ -131,10 +130,10 @@ behind_noted name end fault before after answer why is isnt noted =
     (subst (λ (b : Bool). IsBehindFault b name fault before after answer) (sym isnt) (why, noted))
 
 -- what is asked, with another label
-pub relabelled : (rows : Rows) (options : Options) (job : Job) (label : Option (Vec ℕ Global)) (old text : Option (List ℕ)) → job_of rows options ≡ labelled old job
-    → option_map vec_items label ≡ text → job_of rows (record options { label = label }) ≡ labelled text job
+pub relabelled : (rows : Rows) (options : Options) (job : Job) (label : Option (Vec ℕ Global)) (old text : Option (List ℕ)) → job_of rows options ≡ with_label old job
+    → option_map vec_items label ≡ text → job_of rows (record options { label = label }) ≡ with_label text job
 relabelled rows options job label old text is same =
-    ap (λ (j : Job). labelled (option_map vec_items label) j) is ∙ ap (λ (t : Option (List ℕ)). labelled t job) same
+    ap (λ (j : Job). with_label (option_map vec_items label) j) is ∙ ap (λ (t : Option (List ℕ)). with_label t job) same
 
 -- an end for too many calls, which nothing behind a file is
 pub IsTurns : End → Type 0

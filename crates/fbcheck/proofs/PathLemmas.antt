@@ -1,7 +1,8 @@
 -- Texts that name paths, one after another.
-use Rattle.std.proofs.Common.{◌≡◌, ℕ, ◌+◌, ◌<◌, suc, List, [], ◌∷◌, ◌++◌, length, take, drop, drop-cons, get_or, map, sym, ap, subst, ◌∙◌, take-append-drop}
+use Rattle.std.proofs.Common.{◌≡◌, ℕ, ◌+◌, ◌<◌, suc, List, [], ◌∷◌, ◌++◌, length, take, drop, drop-cons, get_or, map, Result, Ok, Err, refl, sym, ap, subst, ◌∙◌, take-append-drop}
 use mathlib.Core.Logic.{inl, inr}
-use Rattle.std.specs.Prelude.{String, string_bytes}
+use Rattle.std.specs.Prelude.{IfOk, Vec, String, string_bytes}
+use Rattle.std.specs.declared.alloc.AllocError.{AllocError}
 use Rattle.std.specs.Global.{Global}
 use Rattle.std.proofs.lemmas.List.{map-append, take_more}
 use Rattle.fb_access.specs.Resolving.{IsFault}
@@ -10,8 +11,12 @@ use Rattle.fb_schema.specs.Rows.{Rows}
 use Rattle.fb_run.specs.Wanted.{Wanted}
 use Rattle.fb_run.proofs.FoundLemmas.{both_more}
 use Rattle.fbcheck.specs.Asked.{ArePaths, IsPath, IsPathFault, PathFails, PathsFail}
+use Rattle.fbcheck.specs.Checking.{IsPathHint}
+use Rattle.fbcheck.specs.Hints.{hint_text, path_hint, with_hint}
+use Rattle.fbcheck.specs.Inputs.{are_several, label_of}
 use Rattle.fbcheck.specs.declared.fault.AskFault.{AskFault}
 use Rattle.fbcheck.specs.declared.fault.AskFault.TheVariants.{OutOfMemory, Path}
+use Rattle.fbcheck.specs.declared.hint.Unasked.{Unasked}
 
 module _ (rows : Rows) (root : ℕ) where
   -- the next text fails, behind those that name paths
@@ -27,16 +32,45 @@ module _ (rows : Rows) (root : ℕ) where
   fail_at before paths text after OutOfMemory h is = tt
   fail_at before paths text after _ h is = absurd is
 
+  -- with a hint, or for want of memory without one
+  pub hinted_fails : (texts : List (List ℕ)) (fault : AskFault) (hint : Result (Vec ℕ Global) AllocError) (unasked : Unasked) → unasked ≡ with_hint fault hint
+      → PathsFail rows root texts fault → PathsFail rows root texts unasked.fault
+  hinted_fails texts fault (Ok hint) unasked is fails = subst (λ (u : Unasked). PathsFail rows root texts u.fault) (sym is) fails
+  hinted_fails texts fault (Err none) unasked is fails = subst (λ (u : Unasked). PathsFail rows root texts u.fault) (sym is) tt
+
+  pub hinted_told : (texts : List (List ℕ)) (fault : AskFault) (hint : Result (Vec ℕ Global) AllocError) (unasked : Unasked) → unasked ≡ with_hint fault hint
+      → IfOk hint (λ h. IsPathHint rows root texts fault h.items) → IsPathHint rows root texts unasked.fault (hint_text unasked.hint)
+  hinted_told texts fault (Ok hint) unasked is told = subst (λ (u : Unasked). IsPathHint rows root texts u.fault (hint_text u.hint)) (sym is) told
+  hinted_told texts fault (Err none) unasked is told = subst (λ (u : Unasked). IsPathHint rows root texts u.fault (hint_text u.hint)) (sym is) refl
+
   module _ (texts : List (String Global)) (i : ℕ) (text : String Global) (inside : i < length texts) (is : text ≡ get_or texts i text) where
+    all_texts : map string_bytes texts ≡ map string_bytes (take i texts) ++ string_bytes text ∷ map string_bytes (drop (suc i) texts)
+    all_texts =
+        let here : drop i texts ≡ text ∷ drop (suc i) texts = drop-cons texts i text inside ∙ ap (λ s. s ∷ drop (suc i) texts) (sym is) in
+        ap (map string_bytes) (sym (take-append-drop i texts)) ∙ map-append string_bytes (take i texts) (drop i texts)
+        ∙ ap (λ l. map string_bytes (take i texts) ++ map string_bytes l) here
+
     pub paths_fail : (paths : List Wanted) (fault : AskFault) → ArePaths rows root (map string_bytes (take i texts)) paths → PathFails rows root (string_bytes text) fault
         → PathsFail rows root (map string_bytes texts) fault
     paths_fail paths fault h fails =
-        let here : drop i texts ≡ text ∷ drop (suc i) texts = drop-cons texts i text inside ∙ ap (λ s. s ∷ drop (suc i) texts) (sym is) in
-        let whole : map string_bytes texts ≡ map string_bytes (take i texts) ++ string_bytes text ∷ map string_bytes (drop (suc i) texts) =
-        ap (map string_bytes) (sym (take-append-drop i texts)) ∙ map-append string_bytes (take i texts) (drop i texts)
-        ∙ ap (λ l. map string_bytes (take i texts) ++ map string_bytes l) here in
-        subst (λ (l : List (List ℕ)). PathsFail rows root l fault) (sym whole)
+        subst (λ (l : List (List ℕ)). PathsFail rows root l fault) (sym all_texts)
         (fail_at (map string_bytes (take i texts)) paths (string_bytes text) (map string_bytes (drop (suc i) texts)) fault h fails)
+
+    -- and what is told behind that
+    pub path_told : (paths : List Wanted) (fault : AskFault) (hint : List ℕ) → ArePaths rows root (map string_bytes (take i texts)) paths → PathFails rows root (string_bytes text) fault
+        → hint ≡ path_hint rows root (label_of (are_several (map string_bytes texts)) (string_bytes text)) fault → IsPathHint rows root (map string_bytes texts) fault hint
+    path_told paths (Path fault) hint h fails told = record {
+      front = map string_bytes (take i texts);
+      text = string_bytes text;
+      rest = map string_bytes (drop (suc i) texts);
+      texts_are = all_texts;
+      paths = paths;
+      paths_are = h;
+      fault_is = fails;
+      hint_is = told;
+    }
+    path_told paths OutOfMemory hint h fails told = told
+    path_told paths _ hint h fails told = absurd fails
 
     -- or names the next path
     pub paths_more : (paths paths' : List Wanted) (path : Wanted) → ArePaths rows root (map string_bytes (take i texts)) paths → IsPath rows root (string_bytes text) path

@@ -1,27 +1,29 @@
 -- A run by the schema of a file, or without one by the fixed table of schema files.
-use Rattle.std.specs.Prelude.{◌≡◌, ℕ, List, Option, Some, None, Result, Ok, Err, min, length, codes, map, option_map, string_bytes}
+use Rattle.std.specs.Prelude.{◌≡◌, ℕ, List, ◌∷◌, ◌++◌, Option, Some, None, Result, Ok, Err, min, length, codes, map, option_map, string_bytes}
 use Rattle.std.specs.Borrow.{Bor}
 use Rattle.std.specs.Io.KnownBytes.{Keeps}
 use Rattle.fb_schema.specs.Rows.{Rows}
 use Rattle.fb_verify.specs.Bounds.{Bounds, limits_of_length}
+use Rattle.fb_access.specs.Resolving.{IsFault}
+use Rattle.fb_access.specs.declared.path_fault.PathFault.{PathFault}
 use Rattle.fb_bfbs.specs.Fixed.{fixed}
 use Rattle.fb_bfbs.specs.Loads.{IsLoaded, IsLoadFault, schema_number}
 use Rattle.fb_bfbs.specs.declared.loading.Loaded.{Loaded}
 use Rattle.fb_bfbs.specs.declared.load_fault.LoadFault.{LoadFault}
 use Rattle.fb_bfbs.specs.declared.load_fault.LoadFault.TheVariants as load
 use Rattle.fb_bfbs.specs.LoadLaws.{ident_bytes}
-use Rattle.fbcheck.specs.Asked.{AsksBy, Own, asked_root}
+use Rattle.fbcheck.specs.Asked.{ArePaths, AsksBy, Own, asked_root, path_texts}
 use Rattle.fbcheck.specs.Hints.{hint_text, path_hint, root_hint, schema_hint}
-use Rattle.fbcheck.specs.Inputs.{IsPromptAmong, IsPromptOver, ServesEach, at_first, stand}
+use Rattle.fbcheck.specs.Inputs.{Folder, IsPromptAmong, IsPromptOver, ServesEach, are_several, at_first, label_of, stand}
 use Rattle.fb_run.specs.Ends.{Ends, Unwritten}
 use Rattle.fb_run.specs.Job.{Job}
 use Rattle.fb_run.specs.Prompt.{IsPrompt}
 use Rattle.fb_run.specs.Run.{IsRunBeside}
+use Rattle.fb_run.specs.Wanted.{Wanted}
 use Rattle.fbcheck_words.specs.declared.choices.Settings.{Settings}
 use Rattle.fbcheck.specs.declared.fault.AskFault.{AskFault}
 use Rattle.fbcheck.specs.declared.fault.AskFault.TheVariants.{Load, NoRoot, Path, OutOfMemory}
 use Rattle.fbcheck.specs.declared.hint.Unasked.{Unasked}
-use Rattle.fbcheck.specs.declared.files.FileFault.{FileFault}
 use Rattle.fbcheck.specs.declared.inputs.Course.{Course}
 use Rattle.fbcheck.specs.declared.inputs.Passed.{Passed}
 use Rattle.fbcheck.specs.declared.fault.CheckFault.{CheckFault}
@@ -71,11 +73,27 @@ abbrev pub LacksJob : Option (Bor (List ℕ)) → Settings → AskFault → Type
 LacksJob file settings OutOfMemory = Unit {0}
 LacksJob file settings fault = Asks file settings (Err fault)
 
+-- the first of these texts that names no path from the root has this fault, and this is told behind it: which it is,
+-- where they are several
+pub record TellsPath (rows : Rows) (root : ℕ) (texts : List (List ℕ)) (fault : PathFault) (hint : List ℕ) : Type 0 where
+  pub front : List (List ℕ)
+  pub text : List ℕ
+  pub rest : List (List ℕ)
+  pub texts_are : texts ≡ front ++ (text ∷ rest)
+  pub paths : List Wanted
+  pub paths_are : ArePaths rows root front paths
+  pub fault_is : IsFault rows root text fault
+  pub hint_is : hint ≡ path_hint rows root (label_of (are_several texts) text) (Path fault)
+
+abbrev pub IsPathHint : Rows → ℕ → List (List ℕ) → AskFault → List ℕ → Type 0
+IsPathHint rows root texts (Path fault) hint = TellsPath rows root texts fault hint
+IsPathHint rows root texts _ hint = hint ≡ codes "\n"
+
 -- this is told behind a fault of what a schema file, or none, and the settings ask
 abbrev pub IsHint : Option (Bor (List ℕ)) → Settings → AskFault → List ℕ → Type 0
 IsHint file settings (Load fault) text = text ≡ schema_hint file
 IsHint file settings NoRoot text = (rows : Rows) × (own : Own) × IsSchema file rows own × (text ≡ root_hint rows (option_map string_bytes settings.root))
-IsHint file settings (Path fault) text = (rows : Rows) × (own : Own) × (root : ℕ) × IsSchema file rows own × (asked_root rows own settings ≡ Some root) × (text ≡ path_hint rows root (Path fault))
+IsHint file settings (Path fault) text = (rows : Rows) × (own : Own) × (root : ℕ) × IsSchema file rows own × (asked_root rows own settings ≡ Some root) × TellsPath rows root (path_texts settings) fault text
 IsHint file settings _ text = text ≡ codes "\n"
 
 -- there is nothing to check by, for this fault, and this is told behind it
@@ -107,14 +125,14 @@ abbrev pub names_in : Settings → List (List ℕ)
 names_in settings = map string_bytes settings.files.items
 
 -- what came of these files, gone through as was asked for, and what was read, written and noted
-abbrev pub ServesAsAsked : (List ℕ → Result (List ℕ) FileFault → Type 0) → Option (Bor (List ℕ)) → Settings → Ends → Ends → Course → End → Type 0
-ServesAsAsked gives file settings before after course end =
-    (job : Job) × Asks file settings (Ok job) × ServesEach gives job (names_in settings) (at_first before) (stand after course) end
+abbrev pub ServesAsAsked : Folder → Option (Bor (List ℕ)) → Settings → Ends → Ends → Course → End → Type 0
+ServesAsAsked folder file settings before after course end =
+    (job : Job) × Asks file settings (Ok job) × ServesEach folder job (names_in settings) (at_first before) (stand after course) end
 
 -- the same where it may be that none was begun
-abbrev pub IsServedEach : (List ℕ → Result (List ℕ) FileFault → Type 0) → Option (Bor (List ℕ)) → Settings → Ends → Ends → Result Passed Unasked → Type 0
-IsServedEach gives file settings before after (Ok passed) = ServesAsAsked gives file settings before after passed.course passed.end
-IsServedEach gives file settings before after (Err unasked) = IsUntold file settings unasked × IsIdle before after
+abbrev pub IsServedEach : Folder → Option (Bor (List ℕ)) → Settings → Ends → Ends → Result Passed Unasked → Type 0
+IsServedEach folder file settings before after (Ok passed) = ServesAsAsked folder file settings before after passed.course passed.end
+IsServedEach folder file settings before after (Err unasked) = IsUntold file settings unasked × IsIdle before after
 
 -- there was nothing to check by
 abbrev pub IsUnasked : CheckFault → Type 0
@@ -132,9 +150,9 @@ abbrev pub IsPromptAsAsked : Option (Bor (List ℕ)) → Settings → Ends → E
 IsPromptAsAsked file settings before now = (job : Job) × Asks file settings (Ok job) × IsPrompt job before now
 
 -- the same where files are gone through
-abbrev pub IsPromptAmongAsked : (List ℕ → Result (List ℕ) FileFault → Type 0) → Option (Bor (List ℕ)) → Settings → Ends → Ends → Type 0
-IsPromptAmongAsked gives file settings before now = (job : Job) × Asks file settings (Ok job) × IsPromptAmong gives job (names_in settings) before now
+abbrev pub IsPromptAmongAsked : Folder → Option (Bor (List ℕ)) → Settings → Ends → Ends → Type 0
+IsPromptAmongAsked folder file settings before now = (job : Job) × Asks file settings (Ok job) × IsPromptAmong folder job (names_in settings) before now
 
 -- and whether or not they are
-abbrev pub IsPromptOverAsked : (List ℕ → Result (List ℕ) FileFault → Type 0) → Option (Bor (List ℕ)) → Settings → Ends → Ends → Type 0
-IsPromptOverAsked gives file settings before now = (job : Job) × Asks file settings (Ok job) × IsPromptOver gives job (names_in settings) before now
+abbrev pub IsPromptOverAsked : Folder → Option (Bor (List ℕ)) → Settings → Ends → Ends → Type 0
+IsPromptOverAsked folder file settings before now = (job : Job) × Asks file settings (Ok job) × IsPromptOver folder job (names_in settings) before now

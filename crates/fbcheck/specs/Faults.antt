@@ -1,5 +1,5 @@
--- What a fault of a part is told as, and the exit status.
-use Rattle.std.specs.Prelude.{ℕ}
+-- What a fault of a part is told as, the exit status, and what a read of a file gives.
+use Rattle.std.specs.Prelude.{ℕ, List, Option, Some, None, Result, Ok, Err}
 use Rattle.fb_access.specs.declared.path_fault.PathFault.{PathFault}
 use Rattle.fb_access.specs.declared.path_fault.PathFault.TheVariants as path
 use Rattle.fb_bfbs.specs.declared.load_fault.LoadFault.{LoadFault}
@@ -13,10 +13,11 @@ use Rattle.fbcheck.specs.declared.stop.WordsFault.TheVariants as words
 use Rattle.fbcheck.specs.declared.fault.AskFault.{AskFault}
 use Rattle.fbcheck.specs.declared.fault.AskFault.TheVariants.{Load, Path, OutOfMemory}
 
--- an error of this kind, where the words were read, and where a schema file was
-abbrev pub words_fault : ErrorKind → WordsFault
-words_fault kind.OutOfMemory = words.OutOfMemory
-words_fault _ = words.NotText
+-- an error of this kind, where the words were read, of which the first that is no text has this number, and where a
+-- schema file was
+abbrev pub words_fault : ErrorKind → ℕ → WordsFault
+words_fault kind.OutOfMemory number = words.OutOfMemory
+words_fault _ number = words.NotText number
 
 abbrev pub file_fault : ErrorKind → FileFault
 file_fault kind.OutOfMemory = file.OutOfMemory
@@ -36,3 +37,14 @@ path_fault cause = Path cause
 abbrev pub ask_status : AskFault → ℕ
 ask_status OutOfMemory = 3
 ask_status _ = 2
+
+-- where a file is named, a read of it gave these bytes; where none is, there are none
+abbrev pub IsFile : (List ℕ → Result (List ℕ) FileFault → Type 0) → Option (List ℕ) → Option (List ℕ) → Type 0
+IsFile gives None None = Unit {0}
+IsFile gives (Some name) (Some bytes) = gives name (Ok bytes)
+IsFile gives _ _ = ⊥
+
+-- a file is named, and a read of it had this fault
+abbrev pub HasFileFault : (List ℕ → Result (List ℕ) FileFault → Type 0) → Option (List ℕ) → FileFault → Type 0
+HasFileFault gives None fault = ⊥
+HasFileFault gives (Some name) fault = gives name (Err fault)

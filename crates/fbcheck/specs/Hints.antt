@@ -5,7 +5,7 @@ use Rattle.std.specs.Borrow.{Bor}
 use Rattle.std.specs.List.{flat_map, list_all}
 use Rattle.std.specs.declared.io.ErrorKind.{ErrorKind}
 use Rattle.std.specs.declared.io.ErrorKind.TheVariants as kind
-use Rattle.fb_access.specs.declared.path_fault.PathFault.TheVariants as path
+use Rattle.fb_access.specs.declared.path_fault.PathFault.TheVariants as fault_of
 use Rattle.fb_run.specs.AnswerText.{byte_text}
 use Rattle.fb_schema.specs.Live.{Live, live_fields}
 use Rattle.fb_schema.specs.Rows.{Object, Rows}
@@ -78,10 +78,17 @@ abbrev pub root_hint : Rows → Option (List ℕ) → List ℕ
 root_hint rows None = codes "; tables:" ++ listed 10 (tables_in rows.objects) ++ codes "\n"
 root_hint rows (Some name) = named name ++ codes "; tables:" ++ listed 10 (tables_in rows.objects) ++ codes "\n"
 
--- where a path's first name is no field of the root table, the fields that there are, up to ten
-abbrev pub path_hint : Rows → ℕ → AskFault → List ℕ
-path_hint rows root (Path (path.NoSuchField zero)) = codes "; fields:" ++ listed 10 (fields_in (live_fields rows root)) ++ codes "\n"
-path_hint rows root _ = codes "\n"
+-- which path it is, where that is told
+abbrev pub in_path : Option (List ℕ) → List ℕ
+in_path None = []
+in_path (Some path) = codes " in" ++ named path
+
+-- behind the fault of a path stands which it is, and where its first name is no field of the root table, the fields that
+-- there are, up to ten
+abbrev pub path_hint : Rows → ℕ → Option (List ℕ) → AskFault → List ℕ
+path_hint rows root path (Path (fault_of.NoSuchField zero)) = in_path path ++ codes "; fields:" ++ listed 10 (fields_in (live_fields rows root)) ++ codes "\n"
+path_hint rows root path (Path fault) = in_path path ++ codes "\n"
+path_hint rows root path _ = codes "\n"
 
 -- the text of a hint, where there is one, and else the end of the line
 abbrev pub hint_text : {A : Type 0} → Option (Vec ℕ A) → List ℕ

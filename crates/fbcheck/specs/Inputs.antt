@@ -1,10 +1,11 @@
 -- Files as inputs, one behind another.
-use Rattle.std.specs.Prelude.{◌≡◌, ℕ, ◌+◌, ◌⊎◌, Bool, true, false, if◌then◌else◌, min, max, nat_lt, length, List, [], ◌∷◌, ◌++◌, IfSome, Option, Some, None, Result, Ok, Err, bytes_eq, codes}
+use Rattle.std.specs.Prelude.{◌≡◌, ℕ, ◌+◌, ◌⊎◌, Bool, true, false, min, max, nat_lt, length, List, [], ◌∷◌, ◌++◌, IfSome, Option, Some, None, Result, Ok, Err, bytes_eq, codes}
 use Rattle.std.specs.List.{flat_map}
 use Rattle.std.specs.Io.KnownBytes.{Appends}
 use Rattle.fb_run.specs.AnswerText.{byte_text}
 use Rattle.fb_run.specs.Ends.{Ends, Reader, Writer, beside, with_notes}
 use Rattle.fb_run.specs.Faults.{End, EndsBeside, status_of}
+use Rattle.fb_bytes.specs.declared.ends.Source as source
 use Rattle.fb_run.specs.Job.{Job}
 use Rattle.fb_run.specs.Lines.{WritesFront}
 use Rattle.fb_run.specs.Prompt.{IsPrompt}
@@ -15,6 +16,7 @@ use Rattle.fb_run.specs.declared.fault.RunFault.TheVariants.{WriteFault, NoteFau
 use Rattle.fb_run.specs.declared.run.Ran.{Ran}
 use Rattle.fb_run.specs.declared.tally.Tally.{Tally}
 use Rattle.fbcheck.specs.Hints.{reason_text}
+use Rattle.fbcheck.specs.declared.files.Files as files
 use Rattle.fbcheck.specs.declared.files.FileFault.{FileFault}
 use Rattle.fbcheck.specs.declared.files.FileFault.TheVariants as file
 use Rattle.fbcheck.specs.declared.inputs.Course.{Course}
@@ -62,33 +64,61 @@ label_of false name = None
 label_of true name = Some name
 
 -- what is asked of each buffer, with the label of its lines
-abbrev pub labelled : Option (List ℕ) → Job → Job
-labelled label job = record job { label = label }
+abbrev pub with_label : Option (List ℕ) → Job → Job
+with_label label job = record job { label = label }
 
--- where a file is read from: standard input from the reader that is there, the first time; another from its start, from
--- what a read of a file of its name may give
-abbrev pub IsReadFrom : (List ℕ → Result (List ℕ) FileFault → Type 0) → Bool → List ℕ → Standard → Reader → Reader → Type 0
-IsReadFrom gives true name standard reader from = (standard ≡ Unread) × (from ≡ reader)
-IsReadFrom gives false name standard reader from = IfSome from.left (λ bytes. gives name (Ok bytes))
+-- what contracts see of files, by the ghosts of their trait: what a read of the file of a name may answer, what may be
+-- opened by a name, and what is told of that as a reader
+pub record Folder : Type 1 where
+  pub gives : List ℕ → Result (List ℕ) FileFault → Type 0
+  pub Opened : Type 0
+  pub opens : List ℕ → Opened → Type 0
+  pub reader : Opened → Reader
 
--- a run over a file, and how it ended
-pub record RunsOver (gives : List ℕ → Result (List ℕ) FileFault → Type 0) (job : Job) (name : List ℕ) (standard : Standard) (before after : Ends) (ran : Ran) : Type 0 where
-  pub from : Reader
-  pub to : Reader
-  pub source : IsReadFrom gives (is_standard name) name standard before.reader from
-  pub run : IsRunBeside job (beside from before.outs) (beside to after.outs) ran.tally ran.end
-  pub end : EndsBeside (beside from before.outs) (beside to after.outs) 4294967296 ran.end
-  pub reader : after.reader ≡ (if is_standard name then to else before.reader)
+abbrev pub folder_of : {F O : Type 0} → files.Ghosts F O → source.Ghosts O → F → Folder
+folder_of {F} {O} f o folder = record {
+  gives = f.gives folder;
+  Opened = O;
+  opens = f.opens folder;
+  reader = λ (file : O). record { left = o.remaining file; calls = o.calls file; failures = o.failures file; ended = o.ended file };
+}
+
+-- nothing was asked of a reader, which told no end
+abbrev pub IsFresh : Reader → Type 0
+IsFresh reader = (reader.calls ≡ 0) × (reader.ended ≡ false)
+
+-- a run over what was opened by a name, from its start, and how it ended; where its bytes are known, a read of the file
+-- of that name may give them
+pub record RunsOpened (folder : Folder) (job : Job) (name : List ℕ) (before after : Ends) (ran : Ran) : Type 0 where
+  pub from : folder.Opened
+  pub to : folder.Opened
+  pub opened : folder.opens name from
+  pub fresh : IsFresh (folder.reader from)
+  pub bytes : IfSome (folder.reader from).left (λ bytes. folder.gives name (Ok bytes))
+  pub run : IsRunBeside job (beside (folder.reader from) before.outs) (beside (folder.reader to) after.outs) ran.tally ran.end
+  pub end : EndsBeside (beside (folder.reader from) before.outs) (beside (folder.reader to) after.outs) 4294967296 ran.end
+  pub reader : after.reader ≡ before.reader
+
+-- a run over standard input, for the first time, and how it ended
+pub record RunsStandard (job : Job) (standard : Standard) (before after : Ends) (ran : Ran) : Type 0 where
+  pub unread : standard ≡ Unread
+  pub run : IsRunBeside job before after ran.tally ran.end
+  pub end : EndsBeside before after 4294967296 ran.end
+
+-- the one of both that the name says
+abbrev pub RunsOver : Bool → Folder → Job → List ℕ → Standard → Ends → Ends → Ran → Type 0
+RunsOver true folder job name standard before after ran = RunsStandard job standard before after ran
+RunsOver false folder job name standard before after ran = RunsOpened folder job name before after ran
 
 -- why there is no run over a file: it can't be opened, or it is standard input, which was read before
-abbrev pub IsMissed : (List ℕ → Result (List ℕ) FileFault → Type 0) → List ℕ → Standard → Missed → Type 0
-IsMissed gives name standard (missed.File fault) = (is_standard name ≡ false) × gives name (Err fault)
-IsMissed gives name standard missed.Again = (is_standard name ≡ true) × (standard ≡ Spent)
+abbrev pub IsMissed : Folder → List ℕ → Standard → Missed → Type 0
+IsMissed folder name standard (missed.File fault) = (is_standard name ≡ false) × folder.gives name (Err fault)
+IsMissed folder name standard missed.Again = (is_standard name ≡ true) × (standard ≡ Spent)
 
 -- what a file came to, and what was read, written and noted by then
-abbrev pub ComesOf : (List ℕ → Result (List ℕ) FileFault → Type 0) → Job → List ℕ → Standard → Ends → Ends → Result Ran Missed → Type 0
-ComesOf gives job name standard before after (Ok ran) = RunsOver gives job name standard before after ran
-ComesOf gives job name standard before after (Err cause) = IsMissed gives name standard cause × (after ≡ before)
+abbrev pub ComesOf : Folder → Job → List ℕ → Standard → Ends → Ends → Result Ran Missed → Type 0
+ComesOf folder job name standard before after (Ok ran) = RunsOver (is_standard name) folder job name standard before after ran
+ComesOf folder job name standard before after (Err cause) = IsMissed folder name standard cause × (after ≡ before)
 
 -- the line that tells why a file wasn't checked to its end
 abbrev pub fault_line : List ℕ → List ℕ → List ℕ
@@ -156,10 +186,10 @@ abbrev pub stand : Ends → Course → Stand
 stand ends course = record { ends = ends; course = course }
 
 -- a file was gone through: it goes on behind it, or that ended it all
-pub record Passes (gives : List ℕ → Result (List ℕ) FileFault → Type 0) (job : Job) (name : List ℕ) (before after : Stand) (end : End) : Type 0 where
+pub record Passes (folder : Folder) (job : Job) (name : List ℕ) (before after : Stand) (end : End) : Type 0 where
   pub came : Result Ran Missed
   pub between : Ends
-  pub comes : ComesOf gives job name before.course.standard before.ends between came
+  pub comes : ComesOf folder job name before.course.standard before.ends between came
   pub told : IsBehind name came between.outs.notes after.ends.outs.notes end
   pub others : after.ends ≡ with_notes between after.ends.outs.notes
   pub course_is : after.course ≡ course_with name came before.course
@@ -171,44 +201,44 @@ IsUnbegun TooManyTurns = Unit {0}
 IsUnbegun _ = ⊥
 
 -- a file was gone through, or wasn't begun
-abbrev pub Tries : (List ℕ → Result (List ℕ) FileFault → Type 0) → Job → List ℕ → Stand → Stand → End → Type 0
-Tries gives job name before after (Ok done) = Passes gives job name before after (Ok tt)
-Tries gives job name before after (Err fault) = Passes gives job name before after (Err fault) ⊎ (IsUnbegun fault × (after ≡ before))
+abbrev pub Tries : Folder → Job → List ℕ → Stand → Stand → End → Type 0
+Tries folder job name before after (Ok done) = Passes folder job name before after (Ok tt)
+Tries folder job name before after (Err fault) = Passes folder job name before after (Err fault) ⊎ (IsUnbegun fault × (after ≡ before))
 
 -- all these files were gone through, in their order
-abbrev pub PassesAll : (List ℕ → Result (List ℕ) FileFault → Type 0) → Job → Bool → List (List ℕ) → Stand → Stand → Type 0
-PassesAll gives job several [] before after = after ≡ before
-PassesAll gives job several (name ∷ names) before after =
-    (mid : Stand) × Tries gives (labelled (label_of several name) job) name before mid (Ok tt) × PassesAll gives job several names mid after
+abbrev pub PassesAll : Folder → Job → Bool → List (List ℕ) → Stand → Stand → Type 0
+PassesAll folder job several [] before after = after ≡ before
+PassesAll folder job several (name ∷ names) before after =
+    (mid : Stand) × Tries folder (with_label (label_of several name) job) name before mid (Ok tt) × PassesAll folder job several names mid after
 
 -- one of the files ended it all, behind those before it
-pub record HaltsAmong (gives : List ℕ → Result (List ℕ) FileFault → Type 0) (job : Job) (names : List (List ℕ)) (before after : Stand) (fault : RunFault) : Type 0 where
+pub record HaltsAmong (folder : Folder) (job : Job) (names : List (List ℕ)) (before after : Stand) (fault : RunFault) : Type 0 where
   pub front : List (List ℕ)
   pub name : List ℕ
   pub rest : List (List ℕ)
   pub names_are : names ≡ front ++ (name ∷ rest)
   pub mid : Stand
-  pub passes : PassesAll gives job (are_several names) front before mid
-  pub halts : Tries gives (labelled (label_of (are_several names) name) job) name mid after (Err fault)
+  pub passes : PassesAll folder job (are_several names) front before mid
+  pub halts : Tries folder (with_label (label_of (are_several names) name) job) name mid after (Err fault)
 
 -- the files were gone through, all of them or up to one that ended it all
-abbrev pub ServesEach : (List ℕ → Result (List ℕ) FileFault → Type 0) → Job → List (List ℕ) → Stand → Stand → End → Type 0
-ServesEach gives job names before after (Ok done) = PassesAll gives job (are_several names) names before after
-ServesEach gives job names before after (Err fault) = HaltsAmong gives job names before after fault
+abbrev pub ServesEach : Folder → Job → List (List ℕ) → Stand → Stand → End → Type 0
+ServesEach folder job names before after (Ok done) = PassesAll folder job (are_several names) names before after
+ServesEach folder job names before after (Err fault) = HaltsAmong folder job names before after fault
 
 -- all that was read by now is told, where standard input is read among these files: of those before it, and then of it
-pub record IsPromptAmong (gives : List ℕ → Result (List ℕ) FileFault → Type 0) (job : Job) (names : List (List ℕ)) (before now : Ends) : Type 0 where
+pub record IsPromptAmong (folder : Folder) (job : Job) (names : List (List ℕ)) (before now : Ends) : Type 0 where
   pub front : List (List ℕ)
   pub name : List ℕ
   pub rest : List (List ℕ)
   pub names_are : names ≡ front ++ (name ∷ rest)
   pub standard : is_standard name ≡ true
   pub mid : Stand
-  pub passes : PassesAll gives job (are_several names) front (at_first before) mid
+  pub passes : PassesAll folder job (are_several names) front (at_first before) mid
   pub unread : mid.course.standard ≡ Unread
-  pub prompt : IsPrompt (labelled (label_of (are_several names) name) job) mid.ends now
+  pub prompt : IsPrompt (with_label (label_of (are_several names) name) job) mid.ends now
 
 -- the same where none may be named, and standard input is all
-abbrev pub IsPromptOver : (List ℕ → Result (List ℕ) FileFault → Type 0) → Job → List (List ℕ) → Ends → Ends → Type 0
-IsPromptOver gives job [] before now = IsPrompt job before now
-IsPromptOver gives job (name ∷ names) before now = IsPromptAmong gives job (name ∷ names) before now
+abbrev pub IsPromptOver : Folder → Job → List (List ℕ) → Ends → Ends → Type 0
+IsPromptOver folder job [] before now = IsPrompt job before now
+IsPromptOver folder job (name ∷ names) before now = IsPromptAmong folder job (name ∷ names) before now

@@ -1,18 +1,20 @@
 -- What the program does, from its words to its exit status.
-use Rattle.std.specs.Prelude.{◌≡◌, ◌≢◌, ℕ, ◌+◌, ◌<◌, ◌⊎◌, ◌++◌, length, Bool, true, false, List, [], Option, Some, None, Result, Ok, Err, Vec, String, codes, map, option_map, string_bytes, string_len, vec_items}
+use Rattle.std.specs.Prelude.{◌≡◌, ◌≢◌, ℕ, ◌+◌, ◌<◌, ◌≤◌, ◌^◌, ◌⊎◌, ◌++◌, length, if◌then◌else◌, List, [], Option, Some, None, Result, Ok, Err, Vec, String, codes, map, option_map, string_bytes, string_len, vec_items}
 use Rattle.std.specs.Borrow.{Bor}
 use Rattle.std.specs.Io.KnownBytes.{Appends, Keeps}
 use Rattle.clap.specs.Walk.{Text}
 use Rattle.clap.specs.Faults.{fault_of}
+use Rattle.fbcheck.specs.Asked.{form_of}
 use Rattle.fbcheck.specs.Checking.{IsIdle, IsPromptOverAsked, IsUntold, RunsAsAsked, ServesAsAsked, names_in}
 use Rattle.fbcheck.specs.Hints.{file_hint, hint_text}
-use Rattle.fbcheck.specs.Faults.{ask_status}
+use Rattle.fbcheck.specs.Faults.{HasFileFault, IsFile, ask_status}
+use Rattle.fbcheck.specs.Inputs.{Folder}
 use Rattle.fbcheck_words.specs.CommandLine.{program}
 use Rattle.fb_run.specs.Ends.{Ends, Writer, with_notes}
 use Rattle.fb_run.specs.Faults.{End, EndsBeside, IsUnfailed, failures_of, status_of}
 use Rattle.fb_run.specs.Lines.{WritesFront}
 use Rattle.fbcheck_words.specs.Refusal.{Refuses, refusal_status}
-use Rattle.fb_run.specs.Sums.{summary_line}
+use Rattle.fb_run.specs.JsonSums.{summary_in}
 use Rattle.fbcheck_words.specs.Given.{AreGiven}
 use Rattle.fbcheck_words.specs.Values.{text_of}
 use Rattle.fbcheck_words.specs.declared.choices.Settings.{Settings}
@@ -21,11 +23,12 @@ use Rattle.fbcheck_words.specs.declared.choices.SettingsFault.TheVariants as ref
 use Rattle.fbcheck.specs.declared.files.FileFault.{FileFault}
 use Rattle.fbcheck.specs.declared.files.FileFault.TheVariants as file_fault
 use Rattle.fbcheck.specs.declared.inputs.Course.{Course}
-use Rattle.fb_run.specs.declared.fault.RunFault.TheVariants.{WriteFault}
+use Rattle.fb_run.specs.declared.fault.RunFault.TheVariants.{TooManyTurns, WriteFault}
 use Rattle.fb_run.specs.declared.tally.Tally.{Tally}
 use Rattle.fbcheck.specs.declared.stop.Ending.{Ending}
 use Rattle.fbcheck.specs.declared.stop.Ending.TheVariants.{Helped, Checked, Passed}
 use Rattle.fbcheck.specs.declared.stop.Stop.{Stop}
+use Rattle.fbcheck.specs.declared.stop.Sums.{Sums}
 use Rattle.fbcheck.specs.declared.stop.Stop.TheVariants as stop
 use Rattle.fbcheck.specs.declared.stop.WordsFault.{WordsFault}
 use Rattle.fbcheck.specs.declared.stop.WordsFault.TheVariants as words_fault
@@ -35,18 +38,7 @@ abbrev pub words_of : {A B : Type 0} → Result (Vec (String A) B) WordsFault �
 words_of (Ok given) = Ok (map string_bytes (vec_items given))
 words_of (Err fault) = Err fault
 
--- where a file is named, a read of it gave these bytes; where none is, there are none
-abbrev pub IsFile : (Text → Result (List ℕ) FileFault → Type 0) → Option Text → Option (List ℕ) → Type 0
-IsFile gives None None = Unit {0}
-IsFile gives (Some name) (Some bytes) = gives name (Ok bytes)
-IsFile gives _ _ = ⊥
-
--- a file is named, and a read of it had this fault
-abbrev pub HasFileFault : (Text → Result (List ℕ) FileFault → Type 0) → Option Text → FileFault → Type 0
-HasFileFault gives None fault = ⊥
-HasFileFault gives (Some name) fault = gives name (Err fault)
-
--- the same, and this is told behind it
+-- a file is named, and a read of it had this fault; this is told behind it
 abbrev pub IsFileFault : (Text → Result (List ℕ) FileFault → Type 0) → Option Text → FileFault → List ℕ → Type 0
 IsFileFault gives name fault hint = HasFileFault gives name fault × (hint ≡ file_hint fault name)
 
@@ -55,28 +47,27 @@ abbrev pub lent_bytes : Option (Bor (List ℕ)) → Option (List ℕ)
 lent_bytes file = option_map (λ (b : Bor (List ℕ)). b.now) file
 
 -- the words give settings, and the schema file that they name has bytes, or there is none, of which this holds
-pub record HoldsAsGiven (gives : Text → Result (List ℕ) FileFault → Type 0) (given : List Text) (Holds : Option (Bor (List ℕ)) → Settings → Type 0) : Type 0 where
+pub record HoldsAsGiven (folder : Folder) (given : List Text) (Holds : Option (Bor (List ℕ)) → Settings → Type 0) : Type 0 where
   pub settings : Settings
   pub file : Option (Bor (List ℕ))
   pub are_given : AreGiven given settings
-  pub is_file : IsFile gives (text_of (codes "schema") given) (lent_bytes file)
+  pub is_file : IsFile folder.gives (text_of (codes "schema") given) (lent_bytes file)
   pub holds : Holds file settings
 
--- the numbers that are told where the settings ask for them
-abbrev pub summed : Bool → Tally → Option Tally
-summed false tally = None
-summed true tally = Some tally
+-- the numbers that are told where the settings ask for them, and how
+abbrev pub summed : Settings → Tally → Option Sums
+summed settings tally = if settings.summary then Some (record { form = form_of settings.form; tally = tally }) else None
 
 -- the buffers of standard input were checked as the words ask, which name no files, this was counted, and these numbers
 -- are to be told
-abbrev pub ChecksAsGiven : (Text → Result (List ℕ) FileFault → Type 0) → List Text → Ends → Ends → Option Tally → Tally → End → Type 0
-ChecksAsGiven gives given before after sums tally end =
-    HoldsAsGiven gives given (λ file settings. (names_in settings ≡ []) × RunsAsAsked file settings before after tally end × (sums ≡ summed settings.summary tally))
+abbrev pub ChecksAsGiven : Folder → List Text → Ends → Ends → Option Sums → Tally → End → Type 0
+ChecksAsGiven folder given before after sums tally end =
+    HoldsAsGiven folder given (λ file settings. (names_in settings ≡ []) × RunsAsAsked file settings before after tally end × (sums ≡ summed settings tally))
 
 -- files were gone through as the words ask, they came to this, and these numbers are to be told
-abbrev pub PassesAsGiven : (Text → Result (List ℕ) FileFault → Type 0) → List Text → Ends → Ends → Option Tally → Course → End → Type 0
-PassesAsGiven gives given before after sums course end =
-    HoldsAsGiven gives given (λ file settings. (names_in settings ≢ []) × ServesAsAsked gives file settings before after course end × (sums ≡ summed settings.summary course.tally))
+abbrev pub PassesAsGiven : Folder → List Text → Ends → Ends → Option Sums → Course → End → Type 0
+PassesAsGiven folder given before after sums course end =
+    HoldsAsGiven folder given (λ file settings. (names_in settings ≢ []) × ServesAsAsked folder file settings before after course end × (sums ≡ summed settings course.tally))
 
 -- how the program ends by the end of a run, and of files
 abbrev pub run_ending : Tally → End → Result Ending Stop
@@ -88,9 +79,9 @@ files_ending course (Ok done) = Ok (Passed course)
 files_ending course (Err fault) = Err (stop.Halted fault)
 
 -- all that was read by now is told, of a run that the words ask for; they could be read
-abbrev pub IsPromptAsGiven : (Text → Result (List ℕ) FileFault → Type 0) → Result (List Text) WordsFault → Ends → Ends → Type 0
-IsPromptAsGiven gives (Ok given) before now = HoldsAsGiven gives given (λ file settings. IsPromptOverAsked gives file settings before now)
-IsPromptAsGiven gives (Err fault) before now = ⊥
+abbrev pub IsPromptAsGiven : Folder → Result (List Text) WordsFault → Ends → Ends → Type 0
+IsPromptAsGiven folder (Ok given) before now = HoldsAsGiven folder given (λ file settings. IsPromptOverAsked folder file settings before now)
+IsPromptAsGiven folder (Err fault) before now = ⊥
 
 -- an error of `clap`
 abbrev pub IsUsage : SettingsFault → Type 0
@@ -116,22 +107,22 @@ IsUnserved given before after outcome =
     × Unserved fault before.outs.writer after.outs.writer outcome × Keeps before.outs.notes.bytes after.outs.notes.bytes
 
 -- what the program came to by these words, what it read, wrote and noted by then, and the numbers that are to be told
-abbrev pub ComesBy : (Text → Result (List ℕ) FileFault → Type 0) → List Text → Ends → Ends → Option Tally → Result Ending Stop → Type 0
-ComesBy gives given before after sums (Ok (Checked tally)) = ChecksAsGiven gives given before after sums tally (Ok tt)
-ComesBy gives given before after sums (Err (stop.Run fault)) = (tally : Tally) × ChecksAsGiven gives given before after sums tally (Err fault)
-ComesBy gives given before after sums (Ok (Passed course)) = PassesAsGiven gives given before after sums course (Ok tt)
-ComesBy gives given before after sums (Err (stop.Halted fault)) = (course : Course) × PassesAsGiven gives given before after sums course (Err fault)
-ComesBy gives given before after sums (Err (stop.Ask unasked)) =
-    HoldsAsGiven gives given (λ file settings. IsUntold file settings unasked) × IsIdle before after × (sums ≡ None)
-ComesBy gives given before after sums (Err (stop.File fault hint)) =
-    (fault_of program given ≡ []) × IsFileFault gives (text_of (codes "schema") given) fault hint.items × IsIdle before after × (sums ≡ None)
-ComesBy gives given before after sums outcome = IsUnserved given before after outcome × (sums ≡ None)
+abbrev pub ComesBy : Folder → List Text → Ends → Ends → Option Sums → Result Ending Stop → Type 0
+ComesBy folder given before after sums (Ok (Checked tally)) = ChecksAsGiven folder given before after sums tally (Ok tt)
+ComesBy folder given before after sums (Err (stop.Run fault)) = (tally : Tally) × ChecksAsGiven folder given before after sums tally (Err fault)
+ComesBy folder given before after sums (Ok (Passed course)) = PassesAsGiven folder given before after sums course (Ok tt)
+ComesBy folder given before after sums (Err (stop.Halted fault)) = (course : Course) × PassesAsGiven folder given before after sums course (Err fault)
+ComesBy folder given before after sums (Err (stop.Ask unasked)) =
+    HoldsAsGiven folder given (λ file settings. IsUntold file settings unasked) × IsIdle before after × (sums ≡ None)
+ComesBy folder given before after sums (Err (stop.File fault hint)) =
+    (fault_of program given ≡ []) × IsFileFault folder.gives (text_of (codes "schema") given) fault hint.items × IsIdle before after × (sums ≡ None)
+ComesBy folder given before after sums outcome = IsUnserved given before after outcome × (sums ≡ None)
 
 -- the same where it may be that the words could not be read
-abbrev pub ComesTo : (Text → Result (List ℕ) FileFault → Type 0) → Result (List Text) WordsFault → Ends → Ends → Option Tally → Result Ending Stop → Type 0
-ComesTo gives (Ok given) before after sums outcome = ComesBy gives given before after sums outcome
-ComesTo gives (Err fault) before after sums (Err (stop.Words told)) = (told ≡ fault) × IsIdle before after × (sums ≡ None)
-ComesTo gives (Err fault) before after sums _ = ⊥
+abbrev pub ComesTo : Folder → Result (List Text) WordsFault → Ends → Ends → Option Sums → Result Ending Stop → Type 0
+ComesTo folder (Ok given) before after sums outcome = ComesBy folder given before after sums outcome
+ComesTo folder (Err fault) before after sums (Err (stop.Words told)) = (told ≡ fault) × IsIdle before after × (sums ≡ None)
+ComesTo folder (Err fault) before after sums _ = ⊥
 
 -- how it ended, with so many reads at most: a run by its end or its cause, help by whether a write failed; of files that
 -- stands with each of them
@@ -142,6 +133,11 @@ EndsSo before after turns (Ok (Passed course)) = Unit {0}
 EndsSo before after turns (Err (stop.Halted fault)) = Unit {0}
 EndsSo before after turns (Err (stop.CutOff written)) = EndsBeside before after turns (Err (WriteFault written))
 EndsSo before after turns _ = IsUnfailed (failures_of before) (failures_of after)
+
+-- a file isn't begun for too many calls only where the writer or the notes have had 2^64
+abbrev pub IsCrowded : ℕ → ℕ → Result Ending Stop → Type 0
+IsCrowded writes notes (Err (stop.Halted TooManyTurns)) = (2 ^ 64 ≤ writes) ⊎ (2 ^ 64 ≤ notes)
+IsCrowded writes notes outcome = Unit {0}
 
 -- this text was noted, or a front of it in a write that failed, as the count of such writes before and after tells
 abbrev pub IsNoted : List ℕ → Writer → Writer → Type 0
@@ -155,12 +151,13 @@ unsummed (Ok (Checked tally)) written = Err (stop.Unsummed written)
 unsummed (Ok (Passed course)) written = Err (stop.Unsummed written)
 unsummed outcome written = outcome
 
--- where numbers are to be told, their line is noted, or a front of it in a write that failed
-abbrev pub SumsUp : Option Tally → Writer → Writer → Result Ending Stop → Result Ending Stop → Type 0
+-- where numbers are to be told, their line is noted, in the form that is asked for, or a front of it in a write that
+-- failed
+abbrev pub SumsUp : Option Sums → Writer → Writer → Result Ending Stop → Result Ending Stop → Type 0
 SumsUp None before after outcome ending = Keeps before.bytes after.bytes × (after.failures ≡ before.failures) × (ending ≡ outcome)
-SumsUp (Some tally) before after outcome ending =
-    (Appends before.bytes after.bytes (summary_line tally) × (after.failures ≡ before.failures) × (ending ≡ outcome))
-    ⊎ ((written : ℕ) × WritesFront (summary_line tally) before.bytes after.bytes 0 written × (after.failures ≡ before.failures + 1) × (ending ≡ unsummed outcome written))
+SumsUp (Some sums) before after outcome ending =
+    (Appends before.bytes after.bytes (summary_in sums.form sums.tally) × (after.failures ≡ before.failures) × (ending ≡ outcome))
+    ⊎ ((written : ℕ) × WritesFront (summary_in sums.form sums.tally) before.bytes after.bytes 0 written × (after.failures ≡ before.failures + 1) × (ending ≡ unsummed outcome written))
 
 -- what stands behind the text of a stop, to the end of its line
 abbrev pub behind : Stop → List ℕ
@@ -176,7 +173,7 @@ Complains (Err cause) before after = (why : List ℕ) × IsNoted ((codes "fbchec
 
 -- the exit status of a stop
 abbrev pub stop_status : Stop → ℕ
-stop_status (stop.Words words_fault.NotText) = 2
+stop_status (stop.Words (words_fault.NotText number)) = 2
 stop_status (stop.Words words_fault.OutOfMemory) = 3
 stop_status (stop.Usage text) = 2
 stop_status (stop.Settings fault) = refusal_status fault
@@ -197,13 +194,14 @@ exit_status (Err cause) = stop_status cause
 
 -- The program did what its words ask with at most so many reads, told behind its notes the numbers that they ask for and
 -- why it came to rest if it did, and ended with the status of that. Behind what it came to the notes were `between`, and
--- behind the numbers `behind`.
-pub record IsServed (gives : Text → Result (List ℕ) FileFault → Type 0) (given : Result (List Text) WordsFault) (before after : Ends) (turns status : ℕ) : Type 0 where
+-- behind the numbers `behind`. So many calls were made of the writer and the notes in the end.
+pub record IsServed (folder : Folder) (given : Result (List Text) WordsFault) (before after : Ends) (turns writes notes status : ℕ) : Type 0 where
   pub outcome : Result Ending Stop
-  pub sums : Option Tally
+  pub sums : Option Sums
   pub between : Writer
-  pub comes : ComesTo gives given before (with_notes after between) sums outcome
+  pub comes : ComesTo folder given before (with_notes after between) sums outcome
   pub ends : EndsSo before (with_notes after between) turns outcome
+  pub crowded : IsCrowded writes notes outcome
   pub ending : Result Ending Stop
   pub behind : Writer
   pub summed : SumsUp sums between behind outcome ending

@@ -4,7 +4,9 @@ ghost use Rattle.std.specs.Prelude.{ℕ, Option, IfOk, IfErr, IfSome, IsTrue, Ok
 ghost use Rattle.fb_schema.specs.Rows.{is_table};
 ghost use Rattle.fb_bfbs.specs.LoadLaws.{ident_bytes};
 ghost use Rattle.fbcheck.specs.Asked.{ArePaths, IsPath, PathFails, PathsFail, asked_ident, form_of, ident_of, mode_of, options_of, places_of, prefix_of, root_of};
-ghost use Rattle.fbcheck.specs.Checking.{Asks, IsSchema, IsUntold, LacksSchema, own_of, schema_limits};
+ghost use Rattle.fbcheck.specs.Inputs.{label_of};
+ghost use Rattle.fbcheck.specs.Hints.{hint_text};
+ghost use Rattle.fbcheck.specs.Checking.{Asks, IsPathHint, IsSchema, IsUntold, LacksSchema, own_of, schema_limits};
 ghost use Rattle.fbcheck_words.specs.Ranges.{AreInRange};
 ghost use Rattle.fbcheck_words.specs.declared.choices.Settings.{Settings};
 ghost use Rattle.fb_run.specs.Job.{PathsFit, Serves, job_of};
@@ -83,27 +85,44 @@ fn find_path(
     Ok(AskedPath::new(path, text))
 }
 
-/// The paths that texts name from the root, in their order, or why the first that names none does not.
+/// The paths that texts name from the root, in their order, or why the first that names none does not, with what is told
+/// behind it.
 fn find_paths(
     alloc: Global,
     schema: &Schema<'_>,
     root: u32,
     texts: &[String],
-) -> Result<Vec<AskedPath>, AskFault>
+) -> Result<Vec<AskedPath>, Unasked>
     requires { IsTrue (is_table schema.now root) }
     ensures paths { IfOk result (λ paths. ArePaths schema.now root (map string_bytes texts.now) paths.items) }
     ensures fits { IfOk result (λ paths. PathsFit schema.now root paths.items) }
     ensures count { IfOk result (λ paths. length paths.items ≡ length texts.now) }
-    ensures fault { IfErr result (PathsFail schema.now root (map string_bytes texts.now)) }
+    ensures fault { IfErr result (λ unasked. PathsFail schema.now root (map string_bytes texts.now) unasked.fault) }
+    ensures hint { IfErr result (λ unasked. IsPathHint schema.now root (map string_bytes texts.now) unasked.fault (hint_text unasked.hint)) }
 {
+    let several = texts.len() > 1;
     let mut paths = Vec::new(alloc);
     for text in texts {
-        let path = find_path(alloc, schema, root, text)?;
+        let path = match find_path(alloc, schema, root, text) {
+            Ok(path) => path,
+            Err(fault) => {
+                let told = told_path(several, text);
+                let hint = path_hint(alloc, schema, root, told, fault);
+                return Err(Unasked::new(fault, hint));
+            }
+        };
         let Ok(()) = paths.push(path) else {
-            return Err(AskFault::OutOfMemory);
+            return Err(Unasked::plain(AskFault::OutOfMemory));
         };
     }
     Ok(paths)
+}
+
+/// The text of a path, where several are asked for.
+fn told_path(several: bool, text: &String) -> Option<&[u8]>
+    ensures { option_map (λ t. t.now) result ≡ label_of several (string_bytes text.now) }
+{
+    if several { Some(text.as_bytes()) } else { None }
 }
 
 /// The identifier that is asked for.
@@ -141,7 +160,7 @@ fn mode(settings: &Settings) -> Mode
 }
 
 /// How lines are written.
-fn form(settings: &Settings) -> Form
+pub fn form(settings: &Settings) -> Form
     ensures { result ≡ form_of settings.now.form }
 {
     match settings.form {
@@ -243,7 +262,7 @@ pub fn asked_of<'b>(
     };
     let paths = match find_paths(alloc, &schema, root, settings.paths.as_slice()) {
         Ok(paths) => paths,
-        Err(fault) => return Err(Unasked::new(fault, path_hint(alloc, &schema, root, fault))),
+        Err(unasked) => return Err(unasked),
     };
     let Some(ident) = find_ident(settings, ident) else {
         return Err(Unasked::plain(AskFault::NoIdent));

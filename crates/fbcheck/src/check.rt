@@ -3,6 +3,7 @@
 ghost use Rattle.std.specs.Prelude.{Err, IfErr, IfOk, OnErr, length, ◌≡◌, ◌⊎◌, ◌+◌, ◌<◌, ◌≤◌, ◌^◌};
 ghost use Rattle.fbcheck_words.specs.Ranges.{AreInRange};
 ghost use Rattle.fbcheck.specs.Checking.{EndsChecked, IsChecked, IsCheckedBeside, IsPromptAmongAsked, IsPromptAsAsked, IsServedEach, IsUnasked};
+ghost use Rattle.fbcheck.specs.Inputs.{folder_of};
 ghost use Rattle.fb_run.specs.Faults.{EndsBeside};
 ghost use Rattle.fb_run.specs.declared.fault.RunFault.TheVariants.{TooManyTurns};
 ghost use Rattle.fb_run.specs.Ends.{HasCallsLeft, HasLeave, ends_of, noteless};
@@ -77,9 +78,9 @@ pub fn check_files<F: Files, S: Input<K, N>, K: Sink, N: Sink>(
 ) -> Result<Passed, Unasked>
     requires ranges { AreInRange settings.now }
     requires few { HasCallsLeft S.Input K.Sink N.Sink reader.old writer.old notes.old }
-    requires leave { HasLeave S.Input (ends_of S.Input K.Sink N.Sink reader.old writer.old notes.old) (IsPromptAmongAsked (F.gives files.now) schema_bytes settings.now) }
+    requires leave { HasLeave S.Input (ends_of S.Input K.Sink N.Sink reader.old writer.old notes.old) (IsPromptAmongAsked (folder_of F.Files F.Opened.Source files.now) schema_bytes settings.now) }
 
-    ensures served { IsServedEach (F.gives files.now) schema_bytes.entry settings.now (ends_of S.Input K.Sink N.Sink reader.old writer.old notes.old)
+    ensures served { IsServedEach (folder_of F.Files F.Opened.Source files.now) schema_bytes.entry settings.now (ends_of S.Input K.Sink N.Sink reader.old writer.old notes.old)
         (ends_of S.Input K.Sink N.Sink reader.new writer.new notes.new) result }
     ensures places { IfOk result (λ passed. length passed.course.tally.reasons ≡ 13) }
     ensures unread { OnErr result (reader.new ≡ reader.old) }

@@ -1,9 +1,8 @@
 //! Where the bytes of a schema file come from, and those of files that are inputs.
 
-ghost use Rattle.std.specs.Prelude.{◌≡◌, IfOk, IfErr, IfSome, Ok, Err, ℕ, List, Option, Result, option_map, string_bytes, vec_items};
+ghost use Rattle.std.specs.Prelude.{◌≡◌, IfOk, IfErr, IfSome, Ok, Err, ℕ, List, Option, Result, false, option_map, string_bytes, vec_items};
 ghost use Rattle.std.specs.IoError.{error_kind};
-ghost use Rattle.fbcheck.specs.Faults.{file_fault};
-ghost use Rattle.fbcheck.specs.Serving.{HasFileFault, IsFile};
+ghost use Rattle.fbcheck.specs.Faults.{HasFileFault, IsFile, file_fault};
 ghost use Rattle.fbcheck.specs.declared.files.FileFault.{FileFault};
 
 use fb_bytes::Source;
@@ -42,6 +41,9 @@ pub trait Files {
     /// What a read of the file of this name may answer: its bytes, or a fault.
     ghost gives: { Self → List ℕ → Result (List ℕ) FileFault → Type 0 };
 
+    /// What may be opened by this name.
+    ghost opens: { Self → List ℕ → Self.Opened → Type 0 };
+
     /// The bytes of the file of this name, at most 2^31 of them: one that has as many is too long for a buffer.
     fn read(&self, name: &str) -> Result<Vec<u8>, FileFault>
         ensures bytes { IfOk result (λ bytes. gives self.now name.now (Ok bytes.items)) }
@@ -49,7 +51,9 @@ pub trait Files {
 
     /// The file of this name, to be read from its start.
     fn open(&self, name: &str) -> Result<Self::Opened, FileFault>
+        ensures opened { IfOk result (λ file. opens self.now name.now file) }
         ensures fresh { IfOk result (λ file. Self.Opened.calls file ≡ 0) }
+        ensures unended { IfOk result (λ file. Self.Opened.ended file ≡ false) }
         ensures bytes { IfOk result (λ file. IfSome (Self.Opened.remaining file) (λ bytes. gives self.now name.now (Ok bytes))) }
         ensures fault { IfErr result (λ fault. gives self.now name.now (Err fault)) };
 }

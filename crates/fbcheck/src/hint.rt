@@ -1,10 +1,10 @@
 //! What is told behind a fault of status 2, to the end of its line.
 
-ghost use Rattle.std.specs.Prelude.{IfOk, IsTrue, OnOk, ◌≡◌, ◌++◌, option_map, string_bytes};
+ghost use Rattle.std.specs.Prelude.{IfOk, IsTrue, OnOk, Some, ◌≡◌, ◌++◌, option_map, string_bytes};
 ghost use Rattle.std.specs.List.{list_all};
 ghost use Rattle.fb_schema.specs.Live.{live_fields};
 ghost use Rattle.fb_schema.specs.Rows.{is_table};
-ghost use Rattle.fbcheck.specs.Hints.{fields_in, file_hint, front_hint, hint_text, is_blank, is_plain, listed, named, opens, path_hint, reason_text, root_hint, schema_hint, tables_in, with_hint};
+ghost use Rattle.fbcheck.specs.Hints.{fields_in, file_hint, front_hint, hint_text, in_path, is_blank, is_plain, listed, named, opens, path_hint, reason_text, root_hint, schema_hint, tables_in, with_hint};
 
 use crate::fault::AskFault;
 use crate::files::FileFault;
@@ -157,24 +157,47 @@ pub fn root_hint(
     Ok(text)
 }
 
-/// What is told behind the fault of a path: where its first name is no field of the root table, the fields that there
-/// are.
+/// What is told behind the fault of a path: which it is, where that is to be told, and where its first name is no field
+/// of the root table, the fields that there are.
 pub fn path_hint(
     alloc: Global,
     schema: &Schema<'_>,
     root: u32,
+    path: Option<&[u8]>,
     fault: AskFault,
 ) -> Result<Vec<u8>, AllocError>
     requires { IsTrue (is_table schema.now root) }
-    ensures { IfOk result (λ hint. hint.items ≡ path_hint schema.now root fault) }
+    ensures { IfOk result (λ hint. hint.items ≡ path_hint schema.now root (option_map (λ p. p.now) path.entry) fault) }
 {
     let mut text = Vec::new(alloc);
-    if let AskFault::Path(PathFault::NoSuchField { step: 0 }) = fault {
-        text.extend_from_slice(b"; fields:")?;
-        put_fields(&mut text, schema, root)?;
+    if let AskFault::Path(fault) = fault {
+        put_path(&mut text, path)?;
+        if let PathFault::NoSuchField { step: 0 } = fault {
+            text.extend_from_slice(b"; fields:")?;
+            put_fields(&mut text, schema, root)?;
+        }
     }
     text.extend_from_slice(b"\n")?;
     Ok(text)
+}
+
+/// Adds which path it is, where that is told.
+fn put_path(text: &mut Vec<u8>, path: Option<&[u8]>) -> Result<(), AllocError>
+    ensures { OnOk result (text.new.items ≡ text.old.items ++ in_path (option_map (λ p. p.now) path.entry)) }
+{
+    match path {
+        Some(path) => put_in(text, path),
+        None => Ok(()),
+    }
+}
+
+/// The same, where there is one.
+fn put_in(text: &mut Vec<u8>, path: &[u8]) -> Result<(), AllocError>
+    ensures { OnOk result (text.new.items ≡ text.old.items ++ in_path (Some path.now)) }
+{
+    text.extend_from_slice(b" in")?;
+    put_name(text, path)?;
+    Ok(())
 }
 
 /// Whether a byte is a blank of a text.

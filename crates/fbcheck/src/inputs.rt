@@ -6,7 +6,7 @@ ghost use Rattle.fb_run.specs.Sums.{no_tally};
 ghost use Rattle.fb_run.specs.Job.{Serves, job_of};
 ghost use Rattle.fb_run.specs.Prompt.{IsPrompt};
 ghost use Rattle.fb_run.specs.declared.fault.RunFault.TheVariants.{TooManyTurns};
-ghost use Rattle.fbcheck.specs.Inputs.{ComesOf, IsBehind, IsBehindRun, IsNotedOf, IsPromptAmong, ServesEach, Tries, at_first, course_with, fault_line, is_final, is_standard, label_of, stand, standard_after, sum_of, sums};
+ghost use Rattle.fbcheck.specs.Inputs.{ComesOf, IsBehind, IsBehindRun, IsNotedOf, IsPromptAmong, ServesEach, Tries, at_first, course_with, fault_line, folder_of, is_final, is_standard, label_of, stand, standard_after, sum_of, sums};
 ghost use Rattle.fbcheck.specs.declared.inputs.Standard.TheVariants.{Unread, Spent};
 
 use crate::files::{FileFault, Files};
@@ -89,9 +89,9 @@ pub fn pass_files<F: Files, S: Input<K, N>, K: Sink, N: Sink>(
 ) -> Passed
     requires serves { Serves schema.now options.old }
     requires few { HasCallsLeft S.Input K.Sink N.Sink reader.old writer.old notes.old }
-    requires leave { HasLeave S.Input (ends_of S.Input K.Sink N.Sink reader.old writer.old notes.old) (IsPromptAmong (F.gives files.now) (job_of schema.now options.old) (map string_bytes names.now)) }
+    requires leave { HasLeave S.Input (ends_of S.Input K.Sink N.Sink reader.old writer.old notes.old) (IsPromptAmong (folder_of F.Files F.Opened.Source files.now) (job_of schema.now options.old) (map string_bytes names.now)) }
 
-    ensures serves { ServesEach (F.gives files.now) (job_of schema.now options.old) (map string_bytes names.now)
+    ensures serves { ServesEach (folder_of F.Files F.Opened.Source files.now) (job_of schema.now options.old) (map string_bytes names.now)
         (at_first (ends_of S.Input K.Sink N.Sink reader.old writer.old notes.old)) (stand (ends_of S.Input K.Sink N.Sink reader.new writer.new notes.new) result.course) result.end }
     ensures places { length result.course.tally.reasons ≡ 13 }
     ensures noted { N.calls notes.new < 2 ^ 98 }
@@ -163,7 +163,7 @@ fn pass_file<F: Files, S: Input<K, N>, K: Sink, N: Sink>(
     requires reads { course.old.standard ≡ Unread → S.calls reader.old < 2 ^ 64 }
     requires leave { is_standard name.now ≡ true → course.old.standard ≡ Unread → HasLeave S.Input (ends_of S.Input K.Sink N.Sink reader.old writer.old notes.old) (IsPrompt (job_of schema.now options.now)) }
 
-    ensures tries { Tries (F.gives files.now) (job_of schema.now options.now) name.now
+    ensures tries { Tries (folder_of F.Files F.Opened.Source files.now) (job_of schema.now options.now) name.now
         (stand (ends_of S.Input K.Sink N.Sink reader.old writer.old notes.old) course.old) (stand (ends_of S.Input K.Sink N.Sink reader.new writer.new notes.new) course.new) result }
     ensures places { length course.new.tally.reasons ≡ 13 }
     ensures noted { N.calls notes.new < 2 ^ 98 }
@@ -200,7 +200,7 @@ fn run_file<F: Files, S: Input<K, N>, K: Sink, N: Sink>(
     requires reads { standard ≡ Unread → S.calls reader.old < 2 ^ 64 }
     requires leave { is_standard name.now ≡ true → standard ≡ Unread → HasLeave S.Input (ends_of S.Input K.Sink N.Sink reader.old writer.old notes.old) (IsPrompt (job_of schema.now options.now)) }
 
-    ensures comes { ComesOf (F.gives files.now) (job_of schema.now options.now) name.now standard (ends_of S.Input K.Sink N.Sink reader.old writer.old notes.old) (ends_of S.Input K.Sink N.Sink reader.new writer.new notes.new) result }
+    ensures comes { ComesOf (folder_of F.Files F.Opened.Source files.now) (job_of schema.now options.now) name.now standard (ends_of S.Input K.Sink N.Sink reader.old writer.old notes.old) (ends_of S.Input K.Sink N.Sink reader.new writer.new notes.new) result }
     ensures places { IfOk result (λ ran. length ran.tally.reasons ≡ 13) }
     ensures pushes { N.calls notes.new ≤ N.calls notes.old + 2 ^ 96 }
     ensures turns { S.calls reader.new ≤ S.calls reader.old + MOST_TURNS }

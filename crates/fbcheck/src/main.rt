@@ -22,19 +22,36 @@ mod stop;
 use fb_bytes::Counted;
 use files::{FileFault, Files};
 use serve::serve;
+use std::env::Env;
 use std::fs::File;
 use std::io;
 use std::io::{ErrorKind, Read};
 use std::process::ExitCode;
+use std::str::from_utf8;
 use stop::WordsFault;
 
 /// The most bytes that are read of a schema file; a file that has as many is too long for a buffer.
 const SCHEMA_BYTES: u64 = 0x8000_0000;
 
+/// The most bytes of a word.
+const LONGEST_WORD: usize = 131_072;
+
 /// The words of the command line, the program's name first.
 fn read_words(rt: &HostRuntime) -> io::Result<Vec<String>> {
     let words = std::env::args(rt)?;
     Ok(words.collect::<Vec<String>>(rt.alloc())?)
+}
+
+/// The number of the first word that isn't a text, the program's name being 0. The system hands in no longer ones.
+fn wrong_word(rt: &HostRuntime) -> usize {
+    let mut word = [0; LONGEST_WORD];
+    for number in 0..usize::MAX {
+        match rt.arg(number, &mut word) {
+            Ok(length) if from_utf8(&word[..length]).is_ok() => {}
+            _ => return number,
+        }
+    }
+    0
 }
 
 /// The bytes of a file, at most [`SCHEMA_BYTES`] of them.
@@ -65,6 +82,8 @@ impl Files for Disk<'_> {
 
     ghost gives = { λ _ _ _. ⊤ };
 
+    ghost opens = { λ _ _ _. ⊤ };
+
     fn read(&self, name: &str) -> Result<Vec<u8>, FileFault> {
         read_file(self.rt, name).map_err(FileFault::of)
     }
@@ -78,7 +97,10 @@ impl Files for Disk<'_> {
 }
 
 fn main(rt: HostRuntime) -> io::Result<ExitCode> {
-    let words = read_words(&rt).map_err(WordsFault::of);
+    let words = match read_words(&rt) {
+        Ok(words) => Ok(words),
+        Err(error) => Err(WordsFault::of(error, wrong_word(&rt))),
+    };
     let mut reader = Counted::new(rt.stdin());
     let mut writer = Counted::new(rt.stdout());
     let mut notes = Counted::new(rt.stderr());

@@ -2,17 +2,19 @@
 
 ghost use Rattle.std.specs.Prelude.{IfOk, IfSome, ◌≡◌, ◌+◌, ◌<◌, ◌≤◌, ◌^◌, ℕ, length, string_len};
 ghost use Rattle.fb_run.specs.Ends.{HasCallsLeft, HasLeave, Reader, Writer, beside, ends_of, writer_of};
-ghost use Rattle.fbcheck.specs.Serving.{ComesTo, EndsSo, IsPromptAsGiven, IsServed, Unserved, files_ending, run_ending, summed, words_of};
+ghost use Rattle.fbcheck.specs.Inputs.{folder_of};
+ghost use Rattle.fbcheck.specs.Serving.{ComesTo, EndsSo, IsCrowded, IsPromptAsGiven, IsServed, Unserved, files_ending, run_ending, summed, words_of};
 
+use crate::asked::form;
 use crate::check::{check_beside, check_files};
 use crate::files::{Files, read_schema};
 use crate::hint::file_hint;
 use crate::inputs::Passed;
-use crate::stop::{Ending, Stop, WordsFault, exit_status, sum_up, tell};
+use crate::stop::{Ending, Stop, Sums, WordsFault, exit_status, sum_up, tell};
 use clap::Error;
 use fb_bytes::Sink;
 use fb_run::{Input, MOST_TURNS, Ran, Tally, push_all};
-use fbcheck_words::{SettingsFault, settings};
+use fbcheck_words::{Settings, SettingsFault, settings};
 use std::alloc::{AllocError, Global};
 
 /// Does what the words ask, the program's name first, and answers the exit status: reads the schema file that they
@@ -28,10 +30,10 @@ pub fn serve<F: Files, S: Input<K, N>, K: Sink, N: Sink>(
     notes: &mut N,
 ) -> u8
     requires few { HasCallsLeft S.Input K.Sink N.Sink reader.old writer.old notes.old }
-    requires leave { HasLeave S.Input (ends_of S.Input K.Sink N.Sink reader.old writer.old notes.old) (IsPromptAsGiven (F.gives files.now) (words_of words)) }
+    requires leave { HasLeave S.Input (ends_of S.Input K.Sink N.Sink reader.old writer.old notes.old) (IsPromptAsGiven (folder_of F.Files F.Opened.Source files.now) (words_of words)) }
 
-    ensures served { IsServed (F.gives files.now) (words_of words) (ends_of S.Input K.Sink N.Sink reader.old writer.old notes.old)
-        (ends_of S.Input K.Sink N.Sink reader.new writer.new notes.new) MOST_TURNS result }
+    ensures served { IsServed (folder_of F.Files F.Opened.Source files.now) (words_of words) (ends_of S.Input K.Sink N.Sink reader.old writer.old notes.old)
+        (ends_of S.Input K.Sink N.Sink reader.new writer.new notes.new) MOST_TURNS (K.calls writer.new) (N.calls notes.new) result }
     ensures turns { S.calls reader.new ≤ S.calls reader.old + MOST_TURNS }
 {
     let mut sums = None;
@@ -49,17 +51,18 @@ fn come_to<F: Files, S: Input<K, N>, K: Sink, N: Sink>(
     reader: &mut S,
     writer: &mut K,
     notes: &mut N,
-    sums: &mut Option<Tally>,
+    sums: &mut Option<Sums>,
 ) -> Result<Ending, Stop>
     requires few { HasCallsLeft S.Input K.Sink N.Sink reader.old writer.old notes.old }
-    requires leave { HasLeave S.Input (ends_of S.Input K.Sink N.Sink reader.old writer.old notes.old) (IsPromptAsGiven (F.gives files.now) (words_of words)) }
+    requires leave { HasLeave S.Input (ends_of S.Input K.Sink N.Sink reader.old writer.old notes.old) (IsPromptAsGiven (folder_of F.Files F.Opened.Source files.now) (words_of words)) }
 
-    ensures comes { ComesTo (F.gives files.now) (words_of words) (ends_of S.Input K.Sink N.Sink reader.old writer.old notes.old)
+    ensures comes { ComesTo (folder_of F.Files F.Opened.Source files.now) (words_of words) (ends_of S.Input K.Sink N.Sink reader.old writer.old notes.old)
         (ends_of S.Input K.Sink N.Sink reader.new writer.new notes.new) sums.new result }
-    ensures places { IfSome sums.new (λ tally. length tally.reasons ≡ 13) }
+    ensures places { IfSome sums.new (λ told. length told.tally.reasons ≡ 13) }
     ensures ends { EndsSo (ends_of S.Input K.Sink N.Sink reader.old writer.old notes.old) (ends_of S.Input K.Sink N.Sink reader.new writer.new notes.new) MOST_TURNS result }
     ensures turns { S.calls reader.new ≤ S.calls reader.old + MOST_TURNS }
     ensures noted { N.calls notes.new < 2 ^ 98 }
+    ensures crowded { IsCrowded (K.calls writer.new) (N.calls notes.new) result }
 {
     *sums = None;
     let words = match words {
@@ -76,7 +79,7 @@ fn come_to<F: Files, S: Input<K, N>, K: Sink, N: Sink>(
     };
     if settings.files.as_slice().is_empty() {
         let ran = check_beside(alloc, file.as_deref(), &settings, reader, writer, notes)?;
-        *sums = summed(settings.summary, ran.tally);
+        *sums = summed(&settings, ran.tally);
         return run_ending(&ran);
     }
     let passed = check_files(
@@ -88,7 +91,7 @@ fn come_to<F: Files, S: Input<K, N>, K: Sink, N: Sink>(
         writer,
         notes,
     )?;
-    *sums = summed(settings.summary, passed.course.tally);
+    *sums = summed(&settings, passed.course.tally);
     files_ending(&passed)
 }
 
@@ -112,11 +115,15 @@ fn files_ending(passed: &Passed) -> Result<Ending, Stop>
     }
 }
 
-/// The numbers that are told where the settings ask for them.
-fn summed(asked: bool, tally: Tally) -> Option<Tally>
-    ensures { result ≡ summed asked tally }
+/// The numbers that are told where the settings ask for them, and how.
+fn summed(settings: &Settings, tally: Tally) -> Option<Sums>
+    ensures { result ≡ summed settings.now tally }
 {
-    if asked { Some(tally) } else { None }
+    if !settings.summary {
+        return None;
+    }
+    let form = form(settings);
+    Some(Sums { form, tally })
 }
 
 /// The text of an error of `clap`. No contract says that there is one: the program's name stands for it where not.

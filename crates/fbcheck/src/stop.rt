@@ -1,6 +1,6 @@
 //! How the program comes to its end: well, or for a cause.
 
-ghost use Rattle.std.specs.Prelude.{IfSome, ◌≡◌, ◌++◌, ◌+◌, ◌<◌, ◌^◌, length};
+ghost use Rattle.std.specs.Prelude.{IfSome, ◌≡◌, ◌++◌, ◌+◌, ◌<◌, ◌≤◌, ◌^◌, length};
 ghost use Rattle.std.specs.IoError.{error_kind};
 ghost use Rattle.fb_run.specs.Ends.{writer_of};
 ghost use Rattle.fbcheck.specs.Faults.{words_fault};
@@ -14,7 +14,7 @@ use crate::inputs::Course;
 use arrayvec::ArrayString;
 use fb_bytes::Sink;
 use fb_run::summary::summary;
-use fb_run::{RunFault, Tally, push_all, status};
+use fb_run::{Form, RunFault, Tally, push_all, status};
 use fbcheck_words::SettingsFault;
 use std::alloc::AllocError;
 use std::fmt::Write;
@@ -34,24 +34,33 @@ const LINE: usize = ROOM + NAME.len();
 /// Why the words of the command line can't be read.
 #[derive(Clone, Copy, Debug, PartialEq, Eq, Error)]
 pub enum WordsFault {
-    /// A word isn't a text.
-    #[error("a word is not UTF-8")]
-    NotText,
+    /// A word isn't a text: the first such one by its number, the program's name being 0.
+    #[error("a word is not UTF-8: number {number}")]
+    NotText { number: usize },
     /// Memory was refused.
     #[error("out of memory")]
     OutOfMemory,
 }
 
 impl WordsFault {
-    /// What an error means that came while the words were read.
-    pub fn of(error: io::Error) -> WordsFault
-        ensures { result ≡ words_fault (error_kind error) }
+    /// What an error means that came while the words were read, where this is the first that isn't a text.
+    pub fn of(error: io::Error, number: usize) -> WordsFault
+        ensures { result ≡ words_fault (error_kind error) number }
     {
         match error.kind() {
             ErrorKind::OutOfMemory => WordsFault::OutOfMemory,
-            _ => WordsFault::NotText,
+            _ => WordsFault::NotText { number },
         }
     }
+}
+
+/// The numbers that are told at the end, and how their line is written.
+#[derive(Clone, Copy, Debug, PartialEq, Eq)]
+pub struct Sums {
+    /// How the line is written.
+    pub form: Form,
+    /// What the run came to.
+    pub tally: Tally,
 }
 
 /// How the program ends well.
@@ -120,7 +129,7 @@ impl Stop {
         ensures { result ≡ stop_status self.now }
     {
         match self {
-            Stop::Words(WordsFault::NotText) | Stop::Usage(_) => 2,
+            Stop::Words(WordsFault::NotText { .. }) | Stop::Usage(_) => 2,
             Stop::Words(WordsFault::OutOfMemory) => 3,
             Stop::File(FileFault::Unreadable(_), _) => 2,
             Stop::File(FileFault::OutOfMemory, _) => 3,
@@ -145,7 +154,8 @@ impl Stop {
     /// Writes the text of `clap`, or else a line that begins with the program's name. What can't be written is left.
     fn tell<N: Sink>(&self, notes: &mut N)
         requires { N.calls notes.old < 2 ^ 99 }
-        ensures { Complains (Err self.now) (writer_of N.Sink notes.old) (writer_of N.Sink notes.new) }
+        ensures told { Complains (Err self.now) (writer_of N.Sink notes.old) (writer_of N.Sink notes.new) }
+        ensures more { N.calls notes.old ≤ N.calls notes.new }
     {
         if let Stop::Usage(text) = self {
             note(notes, text.as_bytes());
@@ -163,7 +173,8 @@ impl Stop {
 /// Notes this text. What can't be written is left.
 fn note<N: Sink>(notes: &mut N, text: &[u8])
     requires { N.calls notes.old + length text.now < 2 ^ 100 }
-    ensures { IsNoted text.now (writer_of N.Sink notes.old) (writer_of N.Sink notes.new) }
+    ensures noted { IsNoted text.now (writer_of N.Sink notes.old) (writer_of N.Sink notes.new) }
+    ensures more { N.calls notes.old ≤ N.calls notes.new }
 {
     push_all(notes, text);
 }
@@ -171,7 +182,8 @@ fn note<N: Sink>(notes: &mut N, text: &[u8])
 /// The same of two texts, one behind the other.
 fn note_both<N: Sink>(notes: &mut N, text: &[u8], behind: &[u8])
     requires { N.calls notes.old + length text.now + length behind.now < 2 ^ 100 }
-    ensures { IsNoted (text.now ++ behind.now) (writer_of N.Sink notes.old) (writer_of N.Sink notes.new) }
+    ensures noted { IsNoted (text.now ++ behind.now) (writer_of N.Sink notes.old) (writer_of N.Sink notes.new) }
+    ensures more { N.calls notes.old ≤ N.calls notes.new }
 {
     if push_all(notes, text) == text.len() {
         push_all(notes, behind);
@@ -181,18 +193,19 @@ fn note_both<N: Sink>(notes: &mut N, text: &[u8], behind: &[u8])
 /// Notes a summary of these numbers, where there are some, and answers how the program ends with that.
 pub fn sum_up<N: Sink>(
     outcome: Result<Ending, Stop>,
-    sums: &Option<Tally>,
+    sums: &Option<Sums>,
     notes: &mut N,
 ) -> Result<Ending, Stop>
     requires calls { N.calls notes.old < 2 ^ 98 }
-    requires places { IfSome sums.now (λ tally. length tally.reasons ≡ 13) }
+    requires places { IfSome sums.now (λ sums. length sums.tally.reasons ≡ 13) }
     ensures summed { SumsUp sums.now (writer_of N.Sink notes.old) (writer_of N.Sink notes.new) outcome result }
     ensures calls { N.calls notes.new < 2 ^ 99 }
+    ensures more { N.calls notes.old ≤ N.calls notes.new }
 {
-    let Some(tally) = sums else {
+    let Some(told) = sums else {
         return outcome;
     };
-    let line = summary(tally);
+    let line = summary(told.form, &told.tally);
     let text = line.bytes();
     let written = push_all(notes, text);
     if written == text.len() {
@@ -207,7 +220,8 @@ pub fn sum_up<N: Sink>(
 /// Tells on standard error why the program came to rest, if it did, and nothing else.
 pub fn tell<N: Sink>(outcome: &Result<Ending, Stop>, notes: &mut N)
     requires { N.calls notes.old < 2 ^ 99 }
-    ensures { Complains outcome.now (writer_of N.Sink notes.old) (writer_of N.Sink notes.new) }
+    ensures told { Complains outcome.now (writer_of N.Sink notes.old) (writer_of N.Sink notes.new) }
+    ensures more { N.calls notes.old ≤ N.calls notes.new }
 {
     if let Err(stop) = outcome {
         stop.tell(notes);

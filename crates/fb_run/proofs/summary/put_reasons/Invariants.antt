@@ -5,8 +5,8 @@ use Rattle.fb_run.proofs.summary.put_reasons.Given as goal
 abbrev pub invariant-loop-place : goal.invariant-loop-place
 invariant-loop-place l = record {
   within : l.place ≤ 13;
-  text : l.line ≡ reasons_from (l.place + 1) (drop l.place l.counts) l.initial.line;
-  short : length l.line + 25 * l.place ≤ 468;
+  text : l.line ≡ reasons_from l.form (l.place + 1) (drop l.place l.counts) l.initial.line;
+  short : length l.line + 27 * l.place ≤ 501;
 }
 
 abbrev pub decreases-loop-place : goal.decreases-loop-place

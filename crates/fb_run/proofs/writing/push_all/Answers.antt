@@ -5,7 +5,7 @@ use Rattle.fb_run.proofs.Pieces.{front-more}
 use Rattle.fb_run.proofs.writing.push_all.Goals as goal
 
 pub loop-sink-init : goal.loop-sink-init
-loop-sink-init g c = record { bytes = ([], refl, Appends-nil _); failures = search rules; calls = search rules }
+loop-sink-init g c = record { bytes = ([], refl, Appends-nil _); failures = search rules; calls = search rules; more = search rules }
 
 pub loop-sink-preserved : goal.loop-sink-preserved
 loop-sink-preserved g c =
@@ -18,4 +18,5 @@ loop-sink-preserved g c =
       );
       failures = search rules;
       calls = search rules;
+      more = search rules;
     }

@@ -7,6 +7,7 @@ invariant-loop-sink g l = record {
   bytes : (front : List ℕ) × (l.text ≡ front ++ l.rest) × Appends (g.K.Sink.contents l.initial.sink) (g.K.Sink.contents l.sink) front;
   failures : g.K.Sink.failures l.sink ≡ g.K.Sink.failures l.initial.sink;
   calls : g.K.Sink.calls l.sink + length l.rest ≤ g.K.Sink.calls l.initial.sink + length l.text;
+  more : g.K.Sink.calls l.initial.sink ≤ g.K.Sink.calls l.sink;
 }
 
 abbrev pub decreases-loop-sink : goal.decreases-loop-sink

@@ -1,6 +1,7 @@
 use Rattle.std.proofs.Common.{refl, rules, subst, sym, ◌∙◌}
 use Rattle.fbcheck.specs.Asked.{LacksIdent}
 use Rattle.fbcheck.specs.Checking.{IsUntold, own_of}
+use Rattle.fbcheck.proofs.AskedLemmas.{untold_path}
 use Rattle.fbcheck.proofs.asked.asked_of.Goals as goal
 
 pub returns-clause-job : goal.returns-clause-job
@@ -35,3 +36,9 @@ returns-in_default-find_ident-clause-none c =
 
 pub returns-in-Err-clause-none : goal.returns-in-Err-clause-none
 returns-in-Err-clause-none c = c.schemaless.ensures c.args.settings.now
+
+pub returns-in-Err-find_paths-clause-none : goal.returns-in-Err-find_paths-clause-none
+returns-in-Err-find_paths-clause-none c =
+    let loaded = c.in-Ok.loaded in
+    untold_path c.args.schema_bytes c.args.settings.now loaded.schema (own_of loaded) c.in-Some.root c.in-Err-find_paths.unasked c.in-Ok.ensures.schema
+    (sym c.find_root.ensures.number ∙ c.in-Some.is) (rw c.as_slice.ensures.value at c.in-Err-find_paths.ensures.fault) (rw c.as_slice.ensures.value at c.in-Err-find_paths.ensures.hint)

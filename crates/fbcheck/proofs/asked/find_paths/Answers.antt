@@ -1,22 +1,23 @@
-use Rattle.std.proofs.Common.{◌+◌, List, ap, length, map, rules, subst, sym, ◌∙◌}
+use Rattle.std.proofs.Common.{◌≡◌, ◌+◌, List, ap, length, map, nat_lt, rules, subst, sym, ◌∙◌}
 use Rattle.std.specs.Prelude.{string_bytes}
-use Rattle.std.proofs.lemmas.List.{length_push}
+use Rattle.std.proofs.lemmas.List.{length-map, length_push}
 use Rattle.std.proofs.lemmas.List.Elements.{All-push}
+use Rattle.std.proofs.lemmas.Result.{IfOk-weaker}
 use Rattle.fb_access.specs.Fitting.{StepsFit}
 use Rattle.fb_schema.specs.declared.kinds.Kind.TheVariants.{Table}
-use Rattle.fb_verify.proofs.Frames.{if_err_exit}
 use Rattle.fb_run.specs.Job.{PathsFit}
 use Rattle.fb_run.specs.Wanted.{Wanted}
-use Rattle.fbcheck.specs.Asked.{PathsFail}
-use Rattle.fbcheck.proofs.PathLemmas.{paths_fail, paths_more}
+use Rattle.fbcheck.specs.Hints.{path_hint}
+use Rattle.fbcheck.specs.Inputs.{are_several, label_of}
+use Rattle.fbcheck.proofs.PathLemmas.{hinted_fails, hinted_told, path_told, paths_fail, paths_more}
 use Rattle.fbcheck.proofs.asked.find_paths.Goals as goal
 
 pub loop-text-preserved : goal.loop-text-preserved
 loop-text-preserved c =
-    let path = c.in_ok-path.path in
-    let found = c.in_ok-path.ensures in
+    let path = c.in-Ok.path in
+    let found = c.in-Ok.ensures in
     let before = c.loop-text.invariant in
-    let added = c.in-Ok.ensures.items in
+    let added = c.in-Ok-push.ensures.items in
     record {
       named = paths_more c.args.schema.now c.args.root c.args.texts.now c.loop-text.text-index c.text-item.result (search rules) c.text-item.is c.loop-text.paths.items _ path before.named found.path added;
       fit = subst (λ (l : List Wanted). PathsFit c.args.schema.now c.args.root l) (sym added)
@@ -24,8 +25,17 @@ loop-text-preserved c =
       count = ap length added ∙ length_push c.loop-text.paths.items path ∙ ap (λ n. n + 1) before.count;
     }
 
-pub returns-in_err-path-clause-fault : goal.returns-in_err-path-clause-fault
-returns-in_err-path-clause-fault c =
-    if_err_exit c.from_residual.result _ (PathsFail c.args.schema.now c.args.root (map string_bytes c.args.texts.now)) c.from_residual.ensures.1
+pub returns-in-Err-clause-fault : goal.returns-in-Err-clause-fault
+returns-in-Err-clause-fault c =
+    hinted_fails c.args.schema.now c.args.root (map string_bytes c.args.texts.now) c.in-Err.fault c.path_hint-hint.result c.new.result c.new.ensures
     (paths_fail c.args.schema.now c.args.root c.args.texts.now c.loop-text.text-index c.text-item.result (search rules) c.text-item.is c.loop-text.paths.items
-    c.in_err-path.field-0.0 c.loop-text.invariant.named c.in_err-path.ensures.fault)
+    c.in-Err.fault c.loop-text.invariant.named c.in-Err.ensures.fault)
+
+pub returns-in-Err-clause-hint : goal.returns-in-Err-clause-hint
+returns-in-Err-clause-hint c =
+    let text = string_bytes c.text-item.result in
+    let several : nat_lt 1 (length c.args.texts.now) ≡ are_several (map string_bytes c.args.texts.now) = ap (λ n. nat_lt 1 n) (sym (length-map c.args.texts.now string_bytes)) in
+    hinted_told c.args.schema.now c.args.root (map string_bytes c.args.texts.now) c.in-Err.fault c.path_hint-hint.result c.new.result c.new.ensures
+    (IfOk-weaker c.path_hint-hint.result _ _ (λ h is. path_told c.args.schema.now c.args.root c.args.texts.now c.loop-text.text-index c.text-item.result (search rules) c.text-item.is
+    c.loop-text.paths.items c.in-Err.fault h.items c.loop-text.invariant.named c.in-Err.ensures.fault
+    (is ∙ ap (λ p. path_hint c.args.schema.now c.args.root p c.in-Err.fault) (c.told_path-told.ensures ∙ ap (λ b. label_of b text) several))) c.path_hint-hint.ensures)

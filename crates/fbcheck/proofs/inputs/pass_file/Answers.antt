@@ -3,11 +3,12 @@ use Rattle.fb_run.specs.Ends.{ends_of, writer_of}
 use Rattle.fb_run.specs.Job.{job_of}
 use Rattle.fbcheck.specs.declared.inputs.Course.{Course}
 use Rattle.fbcheck.proofs.InputsLemmas.{after_spent, after_unread, behind_never, is_turns, standard_with, tries_of}
+use Rattle.fbcheck.specs.Inputs.{folder_of}
 use Rattle.fbcheck.proofs.inputs.pass_file.Goals as goal
 
 pub returns-clause-tries : goal.returns-clause-tries
 returns-clause-tries g c =
-    tries_of (g.F.Files.gives c.args.files.now) (job_of c.args.schema.now c.args.options.now) c.args.name.now _ _ c.tell_behind.result (record {
+    tries_of (folder_of g.F.Files g.F.Opened.Source c.args.files.now) (job_of c.args.schema.now c.args.options.now) c.args.name.now _ _ c.tell_behind.result (record {
       came = c.run_file-came.result;
       between = ends_of g.S.Input g.K.Sink g.N.Sink c.run_file-came.new.reader c.run_file-came.new.writer c.run_file-came.new.notes;
       comes = c.run_file-came.ensures.comes;

@@ -5,7 +5,7 @@ use Rattle.std.proofs.Math.ListN.{drop_of_length-le}
 use Rattle.fb_run.specs.Ends.{IsUnended, ends_of, reader_of}
 use Rattle.fb_run.specs.Job.{Job, job_of}
 use Rattle.fb_run.specs.Prompt.{IsPrompt}
-use Rattle.fbcheck.specs.Inputs.{Tries, are_several, label_of, stand}
+use Rattle.fbcheck.specs.Inputs.{Tries, are_several, folder_of, label_of, stand}
 use Rattle.fbcheck.specs.declared.inputs.Course.{Course}
 use Rattle.fbcheck.proofs.InputsLemmas.{front_all, front_more, halts_among, next_text, relabelled, turns_on}
 use Rattle.fbcheck.proofs.inputs.pass_files.Goals as goal
@@ -47,7 +47,7 @@ pass_file-passed-requires-clause-leave g c standard unread now prompt unended =
 
 pub loop-name-preserved : goal.loop-name-preserved
 loop-name-preserved g c =
-    let gives = g.F.Files.gives c.args.files.now in
+    let folder = folder_of g.F.Files g.F.Opened.Source c.args.files.now in
     let texts = map string_bytes c.args.names.now in
     let text = c.as_str-name.result.now in
     let job = job_of c.args.schema.now c.args.options.now in
@@ -59,9 +59,9 @@ loop-name-preserved g c =
     let several : nat_lt 1 (length c.args.names.now) ≡ are_several texts = ap (λ n. nat_lt 1 n) (sym (length-map c.args.names.now string_bytes)) in
     let asked = relabelled c.args.schema.now c.loop-name.options job c.in-Ok.label old (label_of (are_several texts) text) is (c.in-Ok.ensures ∙ ap (λ b. label_of b text) several) in
     record {
-      passes = front_more gives job (are_several texts) texts front _ _ text _ before after are
+      passes = front_more folder job (are_several texts) texts front _ _ text _ before after are
           (next_text c.args.names.now c.loop-name.name-index c.name-item.result text c.loop-name-test.true c.name-item.is c.as_str-name.ensures.value) passes
-          (subst (λ (j : Job). Tries gives j text before after (Ok tt)) asked c.in_default-passed.ensures.tries);
+          (subst (λ (j : Job). Tries folder j text before after (Ok tt)) asked c.in_default-passed.ensures.tries);
       job = (label_of (are_several texts) text, asked);
       serves = record { table = serves.table; fits = serves.fits; few = serves.few; least = serves.least; most = serves.most };
       places = c.pass_file-passed.ensures.places;
@@ -76,12 +76,12 @@ returns-in_default-clause-serves g c =
     let text = c.as_str-name.result.now in
     let now = stand (ends_of g.S.Input g.K.Sink g.N.Sink c.loop-name.reader c.loop-name.writer c.loop-name.notes) c.loop-name.course in
     let (front, are, passes) = c.loop-name.invariant.passes in
-    halts_among (g.F.Files.gives c.args.files.now) (job_of c.args.schema.now c.args.options.now) (map string_bytes c.args.names.now) front _ _ text _ now now _ are
+    halts_among (folder_of g.F.Files g.F.Opened.Source c.args.files.now) (job_of c.args.schema.now c.args.options.now) (map string_bytes c.args.names.now) front _ _ text _ now now _ are
     (next_text c.args.names.now c.loop-name.name-index c.name-item.result text c.loop-name-test.true c.name-item.is c.as_str-name.ensures.value) passes (inr (tt, refl))
 
 pub returns-in-Err-clause-serves : goal.returns-in-Err-clause-serves
 returns-in-Err-clause-serves g c =
-    let gives = g.F.Files.gives c.args.files.now in
+    let folder = folder_of g.F.Files g.F.Opened.Source c.args.files.now in
     let texts = map string_bytes c.args.names.now in
     let text = c.as_str-name.result.now in
     let job = job_of c.args.schema.now c.args.options.now in
@@ -91,12 +91,12 @@ returns-in-Err-clause-serves g c =
     let (old, is) = c.loop-name.invariant.job in
     let several : nat_lt 1 (length c.args.names.now) ≡ are_several texts = ap (λ n. nat_lt 1 n) (sym (length-map c.args.names.now string_bytes)) in
     let asked = relabelled c.args.schema.now c.loop-name.options job c.in-Ok.label old (label_of (are_several texts) text) is (c.in-Ok.ensures ∙ ap (λ b. label_of b text) several) in
-    halts_among gives job texts front _ _ text _ before after c.in-Err.fault are
+    halts_among folder job texts front _ _ text _ before after c.in-Err.fault are
     (next_text c.args.names.now c.loop-name.name-index c.name-item.result text c.loop-name-test.true c.name-item.is c.as_str-name.ensures.value) passes
-    (subst (λ (j : Job). Tries gives j text before after (Err c.in-Err.fault)) asked c.in-Err.ensures.tries)
+    (subst (λ (j : Job). Tries folder j text before after (Err c.in-Err.fault)) asked c.in-Err.ensures.tries)
 
 pub returns-clause-serves : goal.returns-clause-serves
 returns-clause-serves g c =
     let (front, are, passes) = c.loop-name.invariant.passes in
-    front_all (g.F.Files.gives c.args.files.now) (job_of c.args.schema.now c.args.options.now) _ (map string_bytes c.args.names.now) front _ _ _ are
+    front_all (folder_of g.F.Files g.F.Opened.Source c.args.files.now) (job_of c.args.schema.now c.args.options.now) _ (map string_bytes c.args.names.now) front _ _ _ are
     (ap (λ l. map string_bytes l) (drop_of_length-le c.args.names.now c.loop-name-test.false)) passes

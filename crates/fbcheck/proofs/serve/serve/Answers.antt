@@ -1,4 +1,6 @@
+use Rattle.std.proofs.Common.{arith}
 use Rattle.fb_run.specs.Ends.{writer_of}
+use Rattle.fbcheck.proofs.ServingLemmas.{crowded_on}
 use Rattle.fbcheck.proofs.serve.serve.Goals as goal
 
 pub returns-clause-served : goal.returns-clause-served
@@ -8,9 +10,10 @@ returns-clause-served g c = record {
   between = writer_of g.N.Sink c.come_to-outcome.new.notes;
   comes = c.come_to-outcome.ensures.comes;
   ends = c.come_to-outcome.ensures.ends;
+  crowded = crowded_on _ (g.N.Sink.calls c.come_to-outcome.new.notes) _ c.come_to-outcome.result (omega arith) c.come_to-outcome.ensures.crowded;
   ending = c.sum_up-ending.result;
   behind = writer_of g.N.Sink c.sum_up-ending.new.notes;
   summed = c.sum_up-ending.ensures.summed;
-  told = c.tell.ensures;
+  told = c.tell.ensures.told;
   status_is = c.exit_status.ensures;
 }
