@@ -33,6 +33,8 @@ void fbcheck_free_proved(handle *owner);
 uint32_t fbcheck_table_proved(handle schema, const uint8_t *name, size_t length);
 uint32_t fbcheck_verify_proved(handle schema, handle *room, const fbcheck_options *options, const uint8_t *buffer,
                                size_t length, fbcheck_verdict *verdict);
+uint32_t fbcheck_verify_alone_proved(handle schema, fbcheck_verdict *verdict, const fbcheck_options *options,
+                                     const uint8_t *buffer, size_t length);
 uint32_t fbcheck_verify_each_proved(handle schema, handle *room, const fbcheck_options *options, const uint8_t *block,
                                     size_t length, const fbcheck_span *spans, size_t span_count,
                                     fbcheck_verdict *verdicts, size_t verdict_count);
@@ -45,6 +47,7 @@ uint32_t fbcheck_read_proved(handle schema, handle *room, const fbcheck_options 
                              size_t value_count, fbcheck_verdict *verdict);
 uint32_t fbcheck_most_reads_proved(handle schema, const fbcheck_options *options, uint64_t length, uint64_t *reads);
 size_t fbcheck_reason_name_proved(uint32_t reason, uint8_t *text, size_t room);
+size_t fbcheck_fault_name_proved(uint32_t status, uint32_t number, uint8_t *text, size_t room);
 size_t fbcheck_object_name_proved(handle schema, uint32_t object, uint8_t *text, size_t room);
 size_t fbcheck_field_name_proved(handle schema, uint32_t object, uint32_t field, uint8_t *text, size_t room);
 uint32_t fbcheck_framer_feed_proved(fbcheck_framer *framer, uint8_t *room, size_t size, const uint8_t *piece,
@@ -125,16 +128,28 @@ uint32_t fbcheck_table(const fbcheck_schema *schema, const char *name, size_t le
     return fbcheck_table_proved(schema->owner, name != NULL ? (const uint8_t *)name : no_bytes, length);
 }
 
+/* The same without a verdict. It stands apart, so that a call with one needs no room for another. */
+static uint32_t verify_untold(const fbcheck_schema *schema, fbcheck_scratch *scratch, const fbcheck_options *options,
+                              const uint8_t *buffer, size_t length)
+{
+    fbcheck_verdict unseen;
+    return fbcheck_verify(schema, scratch, options, buffer, length, &unseen);
+}
+
 uint32_t fbcheck_verify(const fbcheck_schema *schema, fbcheck_scratch *scratch, const fbcheck_options *options,
                         const uint8_t *buffer, size_t length, fbcheck_verdict *verdict)
 {
-    handle none = { NULL };
-    fbcheck_verdict unseen;
     if (schema == NULL || (buffer == NULL && length != 0))
         return told(FBCHECK_NULL, verdict);
-    return fbcheck_verify_proved(schema->owner, scratch != NULL ? &scratch->owner : &none,
-                                 options != NULL ? options : &published, buffer != NULL ? buffer : no_bytes, length,
-                                 verdict != NULL ? verdict : &unseen);
+    if (verdict == NULL)
+        return verify_untold(schema, scratch, options, buffer, length);
+    if (options == NULL)
+        options = &published;
+    if (buffer == NULL)
+        buffer = no_bytes;
+    if (scratch == NULL)
+        return fbcheck_verify_alone_proved(schema->owner, verdict, options, buffer, length);
+    return fbcheck_verify_proved(schema->owner, &scratch->owner, options, buffer, length, verdict);
 }
 
 uint32_t fbcheck_verify_each(const fbcheck_schema *schema, fbcheck_scratch *scratch, const fbcheck_options *options,
@@ -208,6 +223,14 @@ size_t fbcheck_reason_name(uint32_t reason, char *text, size_t room)
     if (text == NULL && room != 0)
         return 0;
     return fbcheck_reason_name_proved(reason, text != NULL ? (uint8_t *)text : none, room);
+}
+
+size_t fbcheck_fault_name(uint32_t status, uint32_t number, char *text, size_t room)
+{
+    uint8_t none[1];
+    if (text == NULL && room != 0)
+        return 0;
+    return fbcheck_fault_name_proved(status, number, text != NULL ? (uint8_t *)text : none, room);
 }
 
 size_t fbcheck_object_name(const fbcheck_schema *schema, uint32_t object, char *text, size_t room)

@@ -76,14 +76,13 @@ inline std::string why(const fbcheck_verdict &told) {
         return part(" object=", told.object) +
                (told.field == FBCHECK_NONE ? std::string(" field=-") : part(" field=", told.field));
     };
-    if (told.status == FBCHECK_BAD || told.status == FBCHECK_NOT_WELL_FORMED) {
-        char reason[20];
-        const std::string name(reason, fbcheck_reason_name(told.reason, reason, sizeof reason));
-        return name + part(" at=", told.at) + (told.status == FBCHECK_BAD ? place() : "");
-    }
-    if (told.status == FBCHECK_BAD_SCHEMA) return part("C", told.reason) + place();
+    char text[20];
+    const std::string name(text, fbcheck_fault_name(told.status, told.reason, text, sizeof text));
+    if (told.status == FBCHECK_BAD) return name + part(" at=", told.at) + place();
+    if (told.status == FBCHECK_NOT_WELL_FORMED) return name + part(" at=", told.at);
+    if (told.status == FBCHECK_BAD_SCHEMA) return name + place();
     if (told.status == FBCHECK_BAD_PATH)
-        return part("P", told.reason) + part(told.reason == FBCHECK_BAD_TEXT ? " at=" : " step=", told.at);
+        return name + part(told.reason == FBCHECK_BAD_TEXT ? " at=" : " step=", told.at);
     return told.status < std::size(words) ? words[told.status] : part("status ", told.status);
 }
 

@@ -101,7 +101,7 @@ class LibraryForC(LibraryCase):
         status, out, err = ran(TOP / "build_c", seconds=3600)
         self.same("./build_c builds", (status, out), (0, ""))
         calls = sorted(re.findall(r"^(?:\w+ )+\*?(fbcheck_\w+)\(", HEADER, re.M))
-        self.same("of which the header has so many", len(calls), 20)
+        self.same("of which the header has so many", len(calls), 21)
         for library, words in [("libfbcheck.a", ["-g"]), ("libfbcheck.so.1", ["-D"])]:
             _, symbols, _ = ran("nm", *words, "--defined-only", OUT / library)
             found = sorted(line.split()[2].partition("@")[0] for line in symbols.splitlines()
@@ -599,6 +599,13 @@ class LibraryForC(LibraryCase):
         rows = [table.split() for table in ["A v", "W", "R u_type u", "Q us_type us"]]
         with python.Verifier(schemas.X) as verifier:
             self.same("reasons", [verifier.reason_name(n) for n in range(15)], [None, *reasons, None])
+            codes = [*re.findall(r"`(C\d \w+)`", page), "C9 OutOfMemory"]
+            steps = [*re.findall(r"`(P\d \w+) ", page), "P7 OutOfMemory"]
+            told = {1: reasons, 8: reasons, 9: codes, 17: steps}
+            for status in range(25):
+                given = [verifier.fault_name(status, n) for n in range(15)]
+                named = told.get(status, [])
+                self.same(f"faults of status {status}", given, [None, *named, *[None] * (14 - len(named))])
             for number, (table, *fields) in enumerate(rows):
                 self.same(f"object {number}", verifier.object_name(number), table)
                 told = [verifier.field_name(number, n) for n in range(len(fields) + 1)]
@@ -612,7 +619,8 @@ class LibraryForC(LibraryCase):
             self.same("just enough", (calls.fbcheck_field_name(schema, 3, 0, text, 7), text.raw), (7, b"us_type?"))
             self.same("no room",
                       (calls.fbcheck_field_name(schema, 3, 0, None, 9), calls.fbcheck_reason_name(1, None, 9),
-                       calls.fbcheck_object_name(schema, 0, None, 9)), (0, 0, 0))
+                       calls.fbcheck_fault_name(1, 1, None, 9), calls.fbcheck_object_name(schema, 0, None, 9)),
+                      (0, 0, 0, 0))
             self.same("no schema",
                       (calls.fbcheck_object_name(None, 0, text, 8), calls.fbcheck_field_name(None, 0, 0, text, 8)),
                       (0, 0))
@@ -726,7 +734,7 @@ class LibraryForC(LibraryCase):
         for name, words, text, text_of_cpp in [
             ("no schema", [orc, orc], "no schema: 8, reason 5 at 4", "no schema: V5 WrongIdentifier at=4"),
             ("rows that are none", [file_of("bent", schema([table("T", field("a", INT, 5))])), orc],
-             "no schema: 9, reason 4 at 0", "no schema: C4 object=0 field=0"),
+             "no schema: 9, reason 4 at 0", "no schema: C4 BadSlot object=0 field=0"),
             ("no schema file", [FOLDER / "nowhere", orc], *[f"{FOLDER}/nowhere can't be read"] * 2),
             ("no buffer", [small, FOLDER / "nowhere"], *[f"{FOLDER}/nowhere can't be read"] * 2),
             ("a folder", [small, FOLDER], *[f"{FOLDER} can't be read"] * 2),
@@ -759,8 +767,8 @@ class LibraryForC(LibraryCase):
                           (0, want, ""))
         long = ".".join("a" * 32)
         for name, words, given, text in [
-            ("a path", [ORDERS, "to.nam", 9, 512], POST, "no path: to.nam: P2 step=1"),
-            ("a text", [ORDERS, "to..name", 9, 512], POST, "no path: to..name: P1 at=3"),
+            ("a path", [ORDERS, "to.nam", 9, 512], POST, "no path: to.nam: P2 NoSuchField step=1"),
+            ("a text", [ORDERS, "to..name", 9, 512], POST, "no path: to..name: P1 BadText at=3"),
             ("a long path", [file_of("node", schemas.NODE), long, 9, 512], POST, f"no path: {long}: too many steps"),
             ("a stream", [ORDERS, "to", 9, 512], POST[:-1], "the stream ends inside a message"),
             ("a message", [ORDERS, "to", 9, 511], POST, "a message is too long for the room: 508"),

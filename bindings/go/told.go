@@ -37,8 +37,13 @@ func (r Reason) String() string {
 	if r == TooLong {
 		return "TooLong"
 	}
+	return faultName(C.FBCHECK_BAD, C.uint32_t(r))
+}
+
+// faultName is the code and name of a fault, by what a verdict tells of it.
+func faultName(status, reason C.uint32_t) string {
 	var text [32]byte
-	length := C.fbcheck_reason_name(C.uint32_t(r), (*C.char)(unsafe.Pointer(&text)), C.size_t(len(text)))
+	length := C.fbcheck_fault_name(status, reason, (*C.char)(unsafe.Pointer(&text)), C.size_t(len(text)))
 	return string(text[:length])
 }
 
@@ -136,11 +141,6 @@ var texts = map[Status]string{
 	TooMuchShared: "schema: L6 TooMuchShared",
 }
 
-var codes = [...]string{"", "NoSuchObject", "NoSuchEnum", "Unsupported", "BadSlot", "NoTypeField", "BadStruct",
-	"BadMember", "NameTwice"}
-
-var pathFaults = [...]string{"", "BadText", "NoSuchField", "NotIndexable", "NotAUnion", "NoSuchMember", "NotATable"}
-
 // noSchema is said behind the fault of a file that isn't well-formed.
 const noSchema = "; this is no binary schema, which flatc --binary --schema makes"
 
@@ -157,20 +157,20 @@ func (e *Error) Error() string {
 
 // errorOf is the error that a call told, which was asked for something, or for nothing that has a name.
 func errorOf(verdict C.fbcheck_verdict, asked string) *Error {
-	status, code := Status(verdict.status), uint32(verdict.reason)
+	status, name := Status(verdict.status), faultName(verdict.status, verdict.reason)
 	text := texts[status]
 	switch status {
 	case NotWellFormed:
 		text = "schema: L1 " + refused(verdict, "").String()[len("bad "):] + noSchema
 	case BadSchema:
 		owner, field := uint32(verdict.object), dash(part(verdict.field))
-		text = fmt.Sprintf("schema: L2 C%d %s owner=%d part=%s", code, codes[code], owner, field)
+		text = fmt.Sprintf("schema: L2 %s owner=%d part=%s", name, owner, field)
 	case BadPath:
 		word := "step"
-		if code == 1 {
+		if verdict.reason == C.FBCHECK_BAD_TEXT {
 			word = "at"
 		}
-		text = fmt.Sprintf("path: P%d %s %s=%d", code, pathFaults[code], word, uint64(verdict.at))
+		text = fmt.Sprintf("path: %s %s=%d", name, word, uint64(verdict.at))
 	}
 	if status == BadPath || status == TooManySteps {
 		text = naming(text, asked)

@@ -203,6 +203,7 @@ def _library():
         (_U32, "fbcheck_resolve", [schema, options, *text, path, verdict]),
         (_U32, "fbcheck_read", [schema, scratch, options, *text, path, value, _SIZE, verdict]),
         (_SIZE, "fbcheck_reason_name", [_U32, *text]),
+        (_SIZE, "fbcheck_fault_name", [_U32, _U32, *text]),
         (_SIZE, "fbcheck_object_name", [schema, _U32, *text]),
         (_SIZE, "fbcheck_field_name", [schema, _U32, _U32, *text]),
         (_U32, "fbcheck_version", []),
@@ -318,6 +319,10 @@ class Verifier:
     def reason_name(self, reason: int) -> str | None:
         """The code and name of a reason, as "V10 NoTerminator"."""
         return _name(self._calls.fbcheck_reason_name, reason)
+
+    def fault_name(self, status: int, number: int) -> str | None:
+        """The code and name of a fault, by the status and reason of a verdict."""
+        return _name(self._calls.fbcheck_fault_name, status, number)
 
     def object_name(self, number: int) -> str | None:
         """The name of an object by its number."""

@@ -173,6 +173,7 @@ extern "C" {
         length: u64,
         reads: *mut u64,
     ) -> u32;
+    pub fn fbcheck_fault_name(status: u32, reason: u32, text: *mut c_char, room: usize) -> usize;
     pub fn fbcheck_object_name(
         schema: *const Schema,
         object: u32,

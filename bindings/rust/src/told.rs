@@ -284,24 +284,12 @@ pub enum Error {
     TooManySteps(String),
 }
 
-const CODES: [&str; 8] = [
-    "NoSuchObject",
-    "NoSuchEnum",
-    "Unsupported",
-    "BadSlot",
-    "NoTypeField",
-    "BadStruct",
-    "BadMember",
-    "NameTwice",
-];
-const PATH_FAULTS: [&str; 6] = [
-    "BadText",
-    "NoSuchField",
-    "NotIndexable",
-    "NotAUnion",
-    "NoSuchMember",
-    "NotATable",
-];
+/// The code and name of a fault, by what a verdict tells of it.
+fn fault_name(status: u32, reason: u32) -> String {
+    // SAFETY: the text has as much room.
+    crate::name(|text, room| unsafe { calls::fbcheck_fault_name(status, reason, text, room) })
+        .unwrap_or_default()
+}
 
 /// What is said behind the fault of a file that isn't well-formed.
 const NO_SCHEMA: &str = "; this is no binary schema, which flatc --binary --schema makes";
@@ -340,8 +328,8 @@ impl fmt::Display for Error {
         match *self {
             Error::NotWellFormed(ref fault) => write!(to, "schema: L1 {fault}{NO_SCHEMA}"),
             Error::BadSchema { code, owner, part } => {
-                let (name, part) = (CODES[code as usize - 1], number_or_dash(part));
-                write!(to, "schema: L2 C{code} {name} owner={owner} part={part}")
+                let (name, part) = (fault_name(calls::BAD_SCHEMA, code), number_or_dash(part));
+                write!(to, "schema: L2 {name} owner={owner} part={part}")
             }
             Error::RootNotListed => write!(to, "schema: L3 RootNotListed"),
             Error::NoMemory => write!(to, "out of memory"),
@@ -352,11 +340,9 @@ impl fmt::Display for Error {
             Error::NoIdent => write!(to, "the schema's identifier isn't four bytes"),
             Error::OutOfRange => write!(to, "max_depth is above 4096"),
             Error::BadPath { code, at, ref path } => {
-                let (name, at_or_step) = (
-                    PATH_FAULTS[code as usize - 1],
-                    if code == 1 { "at" } else { "step" },
-                );
-                write!(to, "path: P{code} {name} {at_or_step}={at} ({path:?})")
+                let name = fault_name(calls::BAD_PATH, code);
+                let at_or_step = if code == 1 { "at" } else { "step" };
+                write!(to, "path: {name} {at_or_step}={at} ({path:?})")
             }
             Error::TooManySteps(ref path) => {
                 write!(to, "the path has more than 31 steps ({path:?})")

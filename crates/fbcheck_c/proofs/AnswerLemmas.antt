@@ -8,7 +8,7 @@ use Rattle.fb_bfbs.specs.declared.loading.Loaded.{Loaded}
 use Rattle.fbcheck_c.specs.declared.answer.Answer.{Answer}
 use Rattle.fbcheck_c.specs.declared.answer.Answer.TheVariants.{Done, Good, Bad, UnknownOptions, OutOfRange, NoIdent, NoRoot, TooLong, NoSchema, NoSpan, BadStream, BadPath, NoRoom, Misfit}
 use Rattle.fbcheck_c.specs.declared.options.Options.{Options}
-use Rattle.fbcheck_c.specs.Answered.{IsBadFrom, IsChecked, IsGoodFrom, Serves}
+use Rattle.fbcheck_c.specs.Answered.{IsBadFrom, IsChecked, IsGoodFrom, IsUnserved, Serves}
 use Rattle.fbcheck_c.specs.AnswerLaws.{CanServe}
 use Rattle.fbcheck_c.specs.Asked.{ident_asked, question_of, root_asked}
 use Rattle.fbcheck_c.specs.Told.{told}
@@ -16,6 +16,23 @@ use Rattle.fbcheck_c.specs.Told.{told}
 -- what holds of the value that there is
 at_value : {X : Type 0} (o : Option X) (x : X) (P : X → Type 0) → o ≡ Some x → IsSomeAnd o P → P x
 at_value o x P e h = subst (λ v. IsSomeAnd v P) e h
+
+-- what is answered where no check can begin is answered of every buffer
+pub unserved_is_checked : (l : Loaded) (n : ℕ) (o : Options) (b : List ℕ) (a : Answer) → IsUnserved l n o a → IsChecked l n o b a
+unserved_is_checked l n o b Done h = h
+unserved_is_checked l n o b (Good r) h = absurd h
+unserved_is_checked l n o b (Bad f) h = absurd h
+unserved_is_checked l n o b UnknownOptions h = h
+unserved_is_checked l n o b OutOfRange h = h
+unserved_is_checked l n o b NoIdent h = h
+unserved_is_checked l n o b NoRoot h = h
+unserved_is_checked l n o b TooLong h = absurd h
+unserved_is_checked l n o b (NoSchema fault) h = h
+unserved_is_checked l n o b NoSpan h = h
+unserved_is_checked l n o b (BadStream fault) h = h
+unserved_is_checked l n o b (BadPath fault) h = h
+unserved_is_checked l n o b NoRoom h = h
+unserved_is_checked l n o b Misfit h = h
 
 module _ (l : Loaded) (n : ℕ) (o : Options) (b : List ℕ) (root : ℕ) (ident : Ident) (c : CanServe l n o root ident) where
   served : (P : ℕ → Ident → Type 0) → Serves l n o P → P root ident

@@ -75,6 +75,10 @@ pub record Begins (l : Loaded) (n : ℕ) (o : Options) (bytes : ℕ) (begun : Be
   pub is_table : IsTrue (is_table l.schema begun.root)
   pub ident_is : ident_asked l o ≡ Some begun.ident
 
+-- none can begin
+abbrev pub CannotBegin : Loaded → ℕ → Options → Type 0
+CannotBegin l n o = HasLimits o n → IsSome (root_asked l o) → IsSome (ident_asked l o) → ⊥
+
 -- why nothing can be checked by these options, in room for so many levels
 abbrev pub IsUnserved : Loaded → ℕ → Options → Answer → Type 0
 IsUnserved l n o NoRoot = HasLimits o n × (root_asked l o ≡ None)

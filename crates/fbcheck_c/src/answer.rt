@@ -2,6 +2,7 @@
 
 ghost use Rattle.std.specs.Prelude.{◌≡◌, min};
 ghost use Rattle.fb_verify.specs.Reasons.{reason_number};
+ghost use Rattle.fbcheck_c.specs.declared.answer.Answer.TheVariants.{Bad, Good};
 ghost use Rattle.fbcheck_c.specs.Told.{blank, code_number, fault_told, field_number, load_told, low, misplaced, part_number, path_told, stream_number, told};
 
 use fb_access::PathFault;
@@ -125,6 +126,18 @@ fn blank(status: u32) -> Verdict
     }
 }
 
+/// The counts of a good buffer.
+fn good_told(report: Report) -> Verdict
+    ensures { result ≡ told (Good report) }
+{
+    Verdict {
+        tables: report.tables,
+        depth: report.depth,
+        reads: low(report.reads),
+        ..blank(0)
+    }
+}
+
 /// A fault of the verifier.
 fn fault_told(status: u32, fault: Fault) -> Verdict
     ensures { result ≡ fault_told status fault }
@@ -196,6 +209,39 @@ fn stream_number(fault: StreamFault) -> u32
     }
 }
 
+/// Writes what is told of a good buffer, and answers the status.
+#[inline(always)]
+pub fn tell_good(report: Report, verdict: &mut Verdict) -> u32
+    ensures told { verdict.new ≡ told (Good report) }
+    ensures status { result ≡ verdict.new.status }
+{
+    *verdict = good_told(report);
+    0
+}
+
+/// Writes what is told of a bad buffer, and answers the status. It and the next stand apart, so that a good buffer pays
+/// nothing for them.
+#[cold]
+#[inline(never)]
+pub fn tell_bad(fault: Fault, verdict: &mut Verdict) -> u32
+    ensures told { verdict.new ≡ told (Bad fault) }
+    ensures status { result ≡ verdict.new.status }
+{
+    *verdict = fault_told(1, fault);
+    1
+}
+
+/// Writes a status with nothing more to tell, and answers it.
+#[cold]
+#[inline(never)]
+pub fn tell_blank(status: u32, verdict: &mut Verdict) -> u32
+    ensures told { verdict.new ≡ blank status }
+    ensures status { result ≡ verdict.new.status }
+{
+    *verdict = blank(status);
+    status
+}
+
 impl Answer {
     /// The answer in numbers.
     #[inline(always)]
@@ -204,12 +250,7 @@ impl Answer {
     {
         match self {
             Answer::Done => blank(0),
-            Answer::Good(report) => Verdict {
-                tables: report.tables,
-                depth: report.depth,
-                reads: low(report.reads),
-                ..blank(0)
-            },
+            Answer::Good(report) => good_told(report),
             Answer::Bad(fault) => fault_told(1, fault),
             Answer::UnknownOptions => blank(3),
             Answer::OutOfRange => blank(4),

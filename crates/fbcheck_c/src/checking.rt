@@ -1,16 +1,16 @@
 //! Loading a schema, and the checks of buffers by it.
 
-ghost use Rattle.std.specs.Prelude.{◌≡◌, MatchResult, Some};
-ghost use Rattle.fbcheck_c.specs.Answered.{Begins, IfSchema, IsChecked, IsNotOpened, IsOpened, IsPriced, IsUnserved, levels};
+ghost use Rattle.std.specs.Prelude.{◌≡◌, MatchOption, MatchResult};
+ghost use Rattle.fbcheck_c.specs.Answered.{Begins, CannotBegin, IfSchema, IsChecked, IsNotOpened, IsOpened, IsPriced, IsUnserved, levels};
 ghost use Rattle.fbcheck_c.specs.Told.{told};
 ghost use Rattle.fbcheck_c.specs.declared.answer.Answer.{Answer};
 ghost use Rattle.fbcheck_c.specs.Reached.{IsPath, IsRead, IsReadBy, IsResolved, IsUnresolved};
 
-use crate::answer::{Answer, Verdict, low};
+use crate::answer::{Answer, Verdict, low, tell_bad, tell_blank, tell_good};
 use crate::fits::paths_fit;
 use crate::handle::Handle;
 use crate::held::{Held, Room};
-use crate::options::Options;
+use crate::options::{DEEPEST, Options};
 use crate::steps::PlainPath;
 use crate::values::{Value, tell_values};
 use fb_access::Path;
@@ -18,9 +18,6 @@ use fb_bfbs::{Loaded, load};
 use fb_bytes::Meter;
 use fb_verify::{Ident, Limits, most_reads, verify, verify_shallow, walk, walk_shallow};
 use std::alloc::Global;
-
-/// The most levels that there may be room for.
-const DEEPEST: u32 = 4096;
 
 /// The levels for which a call has room on its own stack.
 pub const SHALLOW: u32 = 64;
@@ -52,12 +49,42 @@ pub struct Begun {
     pub ident: Ident,
 }
 
+/// What a check of so many bytes by these options begins with, in room for so many levels, if it can begin.
+#[inline(always)]
+fn prepare(loaded: &Loaded<'static>, levels: u32, options: &Options, length: u64) -> Option<Begun>
+    ensures { MatchOption result (CannotBegin loaded.now levels options.now) (Begins loaded.now levels options.now length) }
+{
+    if !options.have_limits(levels) {
+        return None;
+    }
+    let root = options.root(loaded)?;
+    let ident = options.ident(loaded)?;
+    Some(Begun {
+        limits: options.limits_of(length),
+        root,
+        ident,
+    })
+}
+
+/// Why a check can't begin.
+fn unserved(loaded: &Loaded<'static>, levels: u32, options: &Options) -> Answer
+    requires { CannotBegin loaded.now levels options.now }
+    ensures { IsUnserved loaded.now levels options.now result }
+{
+    if let Err(answer) = options.limits(levels, 0) {
+        return answer;
+    }
+    match options.root(loaded) {
+        Some(_) => Answer::NoIdent,
+        None => Answer::NoRoot,
+    }
+}
+
 /// What a check of so many bytes by these options begins with, in room for so many levels.
 ///
 /// # Errors
 ///
 /// As [`Options::limits`] has it for these levels; then `NoRoot`, then `NoIdent`.
-#[inline(always)]
 pub fn begin(
     loaded: &Loaded<'static>,
     levels: u32,
@@ -66,37 +93,44 @@ pub fn begin(
 ) -> Result<Begun, Answer>
     ensures { MatchResult result (Begins loaded.now levels options.now length) (IsUnserved loaded.now levels options.now) }
 {
-    let limits = options.limits(levels, length)?;
-    let Some(root) = options.root(loaded) else {
-        return Err(Answer::NoRoot);
-    };
-    match options.ident(loaded) {
-        Some(ident) => Ok(Begun {
-            limits,
-            root,
-            ident,
-        }),
-        None => Err(Answer::NoIdent),
+    match prepare(loaded, levels, options, length) {
+        Some(begun) => Ok(begun),
+        None => Err(unserved(loaded, levels, options)),
     }
+}
+
+/// Writes why a check can't begin, and answers its status. It stands apart, so that one that can pays nothing for it.
+#[cold]
+#[inline(never)]
+fn tell_unserved(
+    loaded: &Loaded<'static>,
+    levels: u32,
+    options: &Options,
+    verdict: &mut Verdict,
+) -> u32
+    requires { CannotBegin loaded.now levels options.now }
+    ensures told { (a : Answer) × (verdict.new ≡ told a) × IsUnserved loaded.now levels options.now a }
+    ensures status { result ≡ verdict.new.status }
+{
+    unserved(loaded, levels, options).tell(verdict)
 }
 
 /// Checks a buffer as the options ask, in room on the call's own stack, writes the verdict and answers its status.
 #[inline(always)]
 fn check_shallow(
     loaded: &Loaded<'static>,
+    verdict: &mut Verdict,
     options: &Options,
     buffer: &[u8],
-    verdict: &mut Verdict,
 ) -> u32
     ensures told { (a : Answer) × (verdict.new ≡ told a) × IsChecked loaded.now 64 options.now buffer.now a }
     ensures status { result ≡ verdict.new.status }
 {
-    let begun = match begin(loaded, SHALLOW, options, buffer.len() as u64) {
-        Ok(begun) => begun,
-        Err(answer) => return answer.tell(verdict),
+    let Some(begun) = prepare(loaded, SHALLOW, options, buffer.len() as u64) else {
+        return tell_unserved(loaded, SHALLOW, options, verdict);
     };
     let Ok(mut meter) = Meter::new(buffer) else {
-        return Answer::TooLong.tell(verdict);
+        return tell_blank(7, verdict);
     };
     match walk_shallow(
         &mut meter,
@@ -107,29 +141,30 @@ fn check_shallow(
         begun.limits,
         options.checks(),
     ) {
-        Ok(report) => Answer::Good(report).tell(verdict),
-        Err(fault) => Answer::Bad(fault).tell(verdict),
+        Ok(report) => tell_good(report, verdict),
+        Err(fault) => tell_bad(fault, verdict),
     }
 }
 
 /// The same in the room that is given.
+#[inline(always)]
 fn check_in(
     loaded: &Loaded<'static>,
     room: &mut Room,
+    verdict: &mut Verdict,
     options: &Options,
     buffer: &[u8],
-    verdict: &mut Verdict,
 ) -> u32
     ensures told { (a : Answer) × (verdict.new ≡ told a) × IsChecked loaded.now room.old options.now buffer.now a }
     ensures status { result ≡ verdict.new.status }
     ensures kept { room.new ≡ room.old }
 {
-    let begun = match begin(loaded, room.levels(), options, buffer.len() as u64) {
-        Ok(begun) => begun,
-        Err(answer) => return answer.tell(verdict),
+    let levels = room.levels();
+    let Some(begun) = prepare(loaded, levels, options, buffer.len() as u64) else {
+        return tell_unserved(loaded, levels, options, verdict);
     };
     let Ok(mut meter) = Meter::new(buffer) else {
-        return Answer::TooLong.tell(verdict);
+        return tell_blank(7, verdict);
     };
     match walk(
         &mut meter,
@@ -141,27 +176,39 @@ fn check_in(
         options.checks(),
         &mut room.scratch,
     ) {
-        Ok(counts) => Answer::Good(counts).tell(verdict),
-        Err(first) => Answer::Bad(first).tell(verdict),
+        Ok(counts) => tell_good(counts, verdict),
+        Err(first) => tell_bad(first, verdict),
     }
 }
 
-/// The same in what a handle holds: the call's own stack is taken where that is no room.
+/// Checks a buffer by a schema in room on the call's own stack. Writes the verdict, and answers its status.
 #[inline(never)]
-fn check_held(
-    loaded: &Loaded<'static>,
-    inside: &mut Held,
+pub fn check_alone(held: &Held, verdict: &mut Verdict, options: &Options, buffer: &[u8]) -> u32
+    ensures told { (a : Answer) × (verdict.new ≡ told a) × IfSchema held.now a (λ l. IsChecked l 64 options.now buffer.now a) }
+    ensures status { result ≡ verdict.new.status }
+{
+    match held {
+        Held::Schema(loaded) => check_shallow(loaded, verdict, options, buffer),
+        Held::Room(_) => tell_blank(6, verdict),
+    }
+}
+
+/// The same in the room that is given.
+#[inline(never)]
+fn check_within(
+    held: &Held,
+    room: &mut Room,
+    verdict: &mut Verdict,
     options: &Options,
     buffer: &[u8],
-    verdict: &mut Verdict,
 ) -> u32
-    ensures told { (a : Answer) × (verdict.new ≡ told a) × IsChecked loaded.now (levels (Some inside.old)) options.now buffer.now a }
+    ensures told { (a : Answer) × (verdict.new ≡ told a) × IfSchema held.now a (λ l. IsChecked l room.old options.now buffer.now a) }
     ensures status { result ≡ verdict.new.status }
-    ensures kept { inside.new ≡ inside.old }
+    ensures kept { room.new ≡ room.old }
 {
-    match inside {
-        Held::Room(room) => check_in(loaded, room, options, buffer, verdict),
-        Held::Schema(_) => check_shallow(loaded, options, buffer, verdict),
+    match held {
+        Held::Schema(loaded) => check_in(loaded, room, verdict, options, buffer),
+        Held::Room(_) => tell_blank(6, verdict),
     }
 }
 
@@ -172,21 +219,22 @@ pub fn check(
     alloc: Global,
     held: &Held,
     handle: &mut Handle,
+    verdict: &mut Verdict,
     options: &Options,
     buffer: &[u8],
-    verdict: &mut Verdict,
 ) -> u32
     ensures told { (a : Answer) × (verdict.new ≡ told a) × IfSchema held.now a (λ l. IsChecked l (levels handle.old.inside) options.now buffer.now a) }
     ensures status { result ≡ verdict.new.status }
     ensures kept { handle.new.inside ≡ handle.old.inside }
 {
-    let Held::Schema(loaded) = held else {
-        return Answer::NoRoot.tell(verdict);
-    };
     let Some(mut taken) = handle.take(alloc) else {
-        return check_shallow(loaded, options, buffer, verdict);
+        return check_alone(held, verdict, options, buffer);
     };
-    let status = check_held(loaded, &mut *taken, options, buffer, verdict);
+    let inside = &mut *taken;
+    let status = match inside {
+        Held::Room(room) => check_within(held, room, verdict, options, buffer),
+        Held::Schema(_) => check_alone(held, verdict, options, buffer),
+    };
     handle.put(taken);
     status
 }

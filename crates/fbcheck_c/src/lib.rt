@@ -8,7 +8,7 @@ ghost use Rattle.std.specs.Prelude.{◌≡◌, ℕ, List, None, Option, length, 
 ghost use Rattle.fbcheck_c.specs.Answered.{IfSchema, IsChecked, IsPriceTold, IsRoomMade, IsTaken, levels};
 ghost use Rattle.fbcheck_c.specs.Asked.{published};
 ghost use Rattle.fbcheck_c.specs.Framers.{IsFedTold, IsFinished, IsKept, IsNext};
-ghost use Rattle.fbcheck_c.specs.Names.{IsNameTold, IsReasonName, field_name, held_name, object_name, table_number};
+ghost use Rattle.fbcheck_c.specs.Names.{IsFaultName, IsNameTold, IsReasonName, field_name, held_name, object_name, table_number};
 ghost use Rattle.fbcheck_c.specs.Placed.{IsLocatedBy};
 ghost use Rattle.fbcheck_c.specs.Reached.{IsPath, IsReadBy};
 ghost use Rattle.fbcheck_c.specs.Spans.{AreTold, all_good};
@@ -33,11 +33,11 @@ mod steps;
 mod values;
 
 use answer::Verdict;
-use checking::{check, price, read, resolve};
+use checking::{check, check_alone, price, read, resolve};
 use fb_bytes::Taken;
 use framer::Framer;
 use handle::Handle;
-use names::{field_told, object_told, reason_told, table_of};
+use names::{fault_told, field_told, object_told, reason_told, table_of};
 use options::Options;
 use place::locate;
 use shared::Shared;
@@ -153,7 +153,21 @@ pub extern "C" fn fbcheck_verify_proved(
     ensures status { result ≡ verdict.new.status }
     ensures kept { room.new.inside ≡ room.old.inside }
 {
-    check(alloc, schema.held(), room, options, buffer, verdict)
+    check(alloc, schema.held(), room, verdict, options, buffer)
+}
+
+/// Checks one buffer by a schema, on the call's own stack.
+#[unsafe(no_mangle)]
+pub extern "C" fn fbcheck_verify_alone_proved(
+    schema: Shared,
+    verdict: &mut Verdict,
+    options: &Options,
+    buffer: &[u8],
+) -> u32
+    ensures told { (a : Answer) × (verdict.new ≡ told a) × IfSchema schema.held a (λ l. IsChecked l 64 options.now buffer.now a) }
+    ensures status { result ≡ verdict.new.status }
+{
+    check_alone(schema.held(), verdict, options, buffer)
 }
 
 /// Checks the buffers that spans name in a block of bytes, each as [`fbcheck_verify_proved`] does, and tells each
@@ -265,6 +279,14 @@ pub extern "C" fn fbcheck_reason_name_proved(number: u32, room: &mut [u8]) -> us
     ensures { (name : Option (List ℕ)) × IsReasonName number name × IsNameTold name room.old room.new result }
 {
     reason_told(number, room)
+}
+
+/// Copies the code and name of a fault by the status with which it is told and its number.
+#[unsafe(no_mangle)]
+pub extern "C" fn fbcheck_fault_name_proved(status: u32, number: u32, room: &mut [u8]) -> usize
+    ensures { (name : Option (List ℕ)) × IsFaultName status number name × IsNameTold name room.old room.new result }
+{
+    fault_told(status, number, room)
 }
 
 /// Copies the name of an object by its number.

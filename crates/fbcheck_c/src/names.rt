@@ -1,12 +1,16 @@
 //! Names by their numbers, copied into room that a caller gives.
 
 ghost use Rattle.std.specs.Prelude.{◌≡◌, ℕ, List, MatchOption, Option, length, option_map};
-ghost use Rattle.fbcheck_c.specs.Names.{IsNameTold, IsReasonName, NumbersNothing, field_name, filled, held_name, object_name, table_number};
+ghost use Rattle.fb_access.specs.declared.path_fault.PathFault.{PathFault};
+ghost use Rattle.fb_schema.specs.declared.fault.Code.{Code};
+ghost use Rattle.fbcheck_c.specs.Told.{code_number};
+ghost use Rattle.fbcheck_c.specs.Names.{IsCodeName, IsFaultName, IsNameTold, IsPathName, IsReasonName, NumbersNothing, code_text, path_code, field_name, filled, held_name, object_name, table_number};
 ghost use Rattle.fb_verify.specs.Reasons.{reason_number};
 
 use crate::held::Held;
 use crate::options::NO_TABLE;
-use fb_schema::Schema;
+use fb_access::PathFault;
+use fb_schema::{Code, Schema};
 use fb_verify::Reason;
 
 /// The reason of this number.
@@ -87,6 +91,105 @@ pub fn reason_told(number: u32, room: &mut [u8]) -> usize
     match reason_of(number) {
         Some(reason) => copied(reason.text().as_bytes(), room),
         None => 0,
+    }
+}
+
+/// What is wrong with rows, by its number.
+fn code_of(number: u32) -> Option<Code>
+    ensures { MatchOption result ((c : Code) → code_number c ≡ number → ⊥) (λ c. code_number c ≡ number) }
+{
+    match number {
+        1 => Some(Code::NoSuchObject),
+        2 => Some(Code::NoSuchEnum),
+        3 => Some(Code::Unsupported),
+        4 => Some(Code::BadSlot),
+        5 => Some(Code::NoTypeField),
+        6 => Some(Code::BadStruct),
+        7 => Some(Code::BadMember),
+        8 => Some(Code::NameTwice),
+        9 => Some(Code::OutOfMemory),
+        _ => None,
+    }
+}
+
+/// The code and name of what is wrong with rows.
+fn code_text(code: Code) -> &'static str
+    ensures { result.now ≡ code_text code }
+{
+    match code {
+        Code::NoSuchObject => "C1 NoSuchObject",
+        Code::NoSuchEnum => "C2 NoSuchEnum",
+        Code::Unsupported => "C3 Unsupported",
+        Code::BadSlot => "C4 BadSlot",
+        Code::NoTypeField => "C5 NoTypeField",
+        Code::BadStruct => "C6 BadStruct",
+        Code::BadMember => "C7 BadMember",
+        Code::NameTwice => "C8 NameTwice",
+        Code::OutOfMemory => "C9 OutOfMemory",
+    }
+}
+
+/// Why a text is no path, by its number; at its beginning.
+fn path_fault_of(number: u32) -> Option<PathFault>
+    ensures { MatchOption result ((f : PathFault) → (path_code f).0 ≡ number → ⊥) (λ f. (path_code f).0 ≡ number) }
+{
+    match number {
+        1 => Some(PathFault::BadText { at: 0 }),
+        2 => Some(PathFault::NoSuchField { step: 0 }),
+        3 => Some(PathFault::NotIndexable { step: 0 }),
+        4 => Some(PathFault::NotAUnion { step: 0 }),
+        5 => Some(PathFault::NoSuchMember { step: 0 }),
+        6 => Some(PathFault::NotATable { step: 0 }),
+        7 => Some(PathFault::OutOfMemory),
+        _ => None,
+    }
+}
+
+/// The code and name of why a text is no path.
+fn path_text(fault: PathFault) -> &'static str
+    ensures { result.now ≡ (path_code fault).1 }
+{
+    match fault {
+        PathFault::BadText { .. } => "P1 BadText",
+        PathFault::NoSuchField { .. } => "P2 NoSuchField",
+        PathFault::NotIndexable { .. } => "P3 NotIndexable",
+        PathFault::NotAUnion { .. } => "P4 NotAUnion",
+        PathFault::NoSuchMember { .. } => "P5 NoSuchMember",
+        PathFault::NotATable { .. } => "P6 NotATable",
+        PathFault::OutOfMemory => "P7 OutOfMemory",
+    }
+}
+
+/// Copies the code and name of what is wrong with rows, by its number. Their length, 0 where nothing has it.
+fn code_told(number: u32, room: &mut [u8]) -> usize
+    ensures { (name : Option (List ℕ)) × IsCodeName number name × IsNameTold name room.old room.new result }
+{
+    match code_of(number) {
+        Some(code) => copied(code_text(code).as_bytes(), room),
+        None => 0,
+    }
+}
+
+/// Copies the code and name of why a text is no path, by its number. Their length, 0 where nothing has it.
+fn path_told(number: u32, room: &mut [u8]) -> usize
+    ensures { (name : Option (List ℕ)) × IsPathName number name × IsNameTold name room.old room.new result }
+{
+    match path_fault_of(number) {
+        Some(fault) => copied(path_text(fault).as_bytes(), room),
+        None => 0,
+    }
+}
+
+/// Copies the code and name of a fault, by the status with which it is told and its number. Their length, 0 where there
+/// is none.
+pub fn fault_told(status: u32, number: u32, room: &mut [u8]) -> usize
+    ensures { (name : Option (List ℕ)) × IsFaultName status number name × IsNameTold name room.old room.new result }
+{
+    match status {
+        1 | 8 => reason_told(number, room),
+        9 => code_told(number, room),
+        17 => path_told(number, room),
+        _ => 0,
     }
 }
 

@@ -1,6 +1,6 @@
 //! What a caller in C asks of a buffer.
 
-ghost use Rattle.std.specs.Prelude.{◌≡◌, IsTrue, ◌↔◌, MatchResult};
+ghost use Rattle.std.specs.Prelude.{◌≡◌, ◌≤◌, IsTrue, ◌↔◌, MatchResult};
 ghost use Rattle.fb_schema.specs.Rows.{is_table};
 ghost use Rattle.std.specs.Prelude.{IfSome};
 ghost use Rattle.fbcheck_c.specs.Asked.{AreKnown, HasLimits, LimitsFail, checks_asked, ident_asked, if_table, limits_of, published, root_asked, start_asked, start_of};
@@ -12,6 +12,9 @@ use fb_verify::{Checks, Ident, Limits, Start};
 
 /// The version of the options that this library knows.
 const VERSION: u32 = 1;
+
+/// The most levels that there may be room for.
+pub const DEEPEST: u32 = 4096;
 
 /// The longest buffer, in bytes.
 const LONGEST: u64 = 0x7FFF_FFFF;
@@ -105,7 +108,26 @@ impl Options {
         self.version == VERSION && self.ident_from <= 2
     }
 
+    /// Whether this library knows the options, and they ask for no more than 4,096 levels and these.
+    pub fn have_limits(&self, levels: u32) -> bool
+        ensures { IsTrue result ↔ HasLimits self.now levels }
+    {
+        self.are_known() && self.max_depth <= levels && self.max_depth <= DEEPEST
+    }
+
     /// The limits that are asked of so many bytes.
+    pub fn limits_of(&self, length: u64) -> Limits
+        requires { self.now.max_depth ≤ 4096 }
+        ensures { result ≡ limits_of self.now length }
+    {
+        let Ok(limits) = Limits::new(self.max_depth, self.max_tables) else {
+            unreachable!()
+        };
+        let limits = limits.with_reads(self.max_reads);
+        limits.of_length(self.reads_per_byte, length.min(LONGEST))
+    }
+
+    /// The limits that are asked of so many bytes, in room for so many levels.
     ///
     /// # Errors
     ///
@@ -114,18 +136,13 @@ impl Options {
     pub fn limits(&self, levels: u32, length: u64) -> Result<Limits, Answer>
         ensures { MatchResult result (λ l. HasLimits self.now levels × (l ≡ limits_of self.now length)) (LimitsFail self.now levels) }
     {
-        if !self.are_known() {
-            return Err(Answer::UnknownOptions);
+        if self.have_limits(levels) {
+            return Ok(self.limits_of(length));
         }
-        if self.max_depth > levels {
-            return Err(Answer::OutOfRange);
-        }
-        match Limits::new(self.max_depth, self.max_tables) {
-            Ok(limits) => {
-                let limits = limits.with_reads(self.max_reads);
-                Ok(limits.of_length(self.reads_per_byte, length.min(LONGEST)))
-            }
-            Err(_) => Err(Answer::OutOfRange),
+        if self.are_known() {
+            Err(Answer::OutOfRange)
+        } else {
+            Err(Answer::UnknownOptions)
         }
     }
 

@@ -49,7 +49,7 @@ fn check_span(
     ensures kept { handle.new.inside ≡ handle.old.inside }
 {
     let _status = match span.cut(block) {
-        Some(buffer) => check(alloc, held, handle, options, buffer, verdict),
+        Some(buffer) => check(alloc, held, handle, verdict, options, buffer),
         None => Answer::NoSpan.tell(verdict),
     };
 }

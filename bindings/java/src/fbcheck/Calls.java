@@ -56,8 +56,8 @@ final class Calls {
             call("fbcheck_table", FunctionDescriptor.of(JAVA_INT, ADDRESS, ADDRESS, JAVA_LONG), CRITICAL);
     private static final MethodHandle MOST_READS = call("fbcheck_most_reads",
             FunctionDescriptor.of(JAVA_INT, ADDRESS, ADDRESS, JAVA_LONG, ADDRESS), CRITICAL);
-    private static final MethodHandle REASON_NAME =
-            call("fbcheck_reason_name", FunctionDescriptor.of(JAVA_LONG, JAVA_INT, ADDRESS, JAVA_LONG), CRITICAL);
+    private static final MethodHandle FAULT_NAME = call("fbcheck_fault_name",
+            FunctionDescriptor.of(JAVA_LONG, JAVA_INT, JAVA_INT, ADDRESS, JAVA_LONG), CRITICAL);
     private static final MethodHandle OBJECT_NAME = call("fbcheck_object_name",
             FunctionDescriptor.of(JAVA_LONG, ADDRESS, JAVA_INT, ADDRESS, JAVA_LONG), CRITICAL);
     private static final MethodHandle FIELD_NAME = call("fbcheck_field_name",
@@ -159,8 +159,8 @@ final class Calls {
         return reads[0];
     }
 
-    static Optional<String> reasonName(int reason) {
-        return name(room -> (long) REASON_NAME.invokeExact(reason, room, room.byteSize()));
+    static String faultName(int status, int reason) {
+        return name(room -> (long) FAULT_NAME.invokeExact(status, reason, room, room.byteSize())).orElseThrow();
     }
 
     static Optional<String> objectName(MemorySegment schema, int object) {

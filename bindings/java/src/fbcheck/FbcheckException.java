@@ -57,11 +57,6 @@ public class FbcheckException extends RuntimeException {
         }
     }
 
-    private static final String[] CODES = {"", "NoSuchObject", "NoSuchEnum", "Unsupported", "BadSlot", "NoTypeField",
-        "BadStruct", "BadMember", "NameTwice"};
-    private static final String[] PATH_FAULTS = {"", "BadText", "NoSuchField", "NotIndexable", "NotAUnion",
-        "NoSuchMember", "NotATable"};
-
     /** What is said behind the fault of a file that isn't well-formed. */
     private static final String NO_SCHEMA = "; this is no binary schema, which flatc --binary --schema makes";
 
@@ -87,9 +82,9 @@ public class FbcheckException extends RuntimeException {
         return new FbcheckException(status, naming(asked, switch (status) {
             case NOT_WELL_FORMED -> "schema: L1 " + Told.bad(told, "").toString().substring("bad ".length())
                     + NO_SCHEMA;
-            case BAD_SCHEMA -> "schema: L2 C" + code + " " + CODES[code] + " owner=" + Told.object(told) + " part="
-                    + Told.dash(Told.field(told));
-            case BAD_PATH -> "path: P" + code + " " + PATH_FAULTS[code] + (code == 1 ? " at=" : " step=")
+            case BAD_SCHEMA -> "schema: L2 " + Calls.faultName(status.number, code) + " owner=" + Told.object(told)
+                    + " part=" + Told.dash(Told.field(told));
+            case BAD_PATH -> "path: " + Calls.faultName(status.number, code) + (code == 1 ? " at=" : " step=")
                     + Told.at(told);
             default -> status.text;
         }));

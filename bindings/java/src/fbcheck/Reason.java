@@ -39,6 +39,6 @@ public enum Reason {
 
     @Override
     public String toString() {
-        return this == TOO_LONG ? "TooLong" : Calls.reasonName(ordinal()).orElseThrow();
+        return this == TOO_LONG ? "TooLong" : Calls.faultName(1, ordinal());
     }
 }
