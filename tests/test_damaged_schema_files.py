@@ -104,7 +104,7 @@ class Loads:
         got, (status, what) = loaded(file, reads), expected(file, reads)
         self.counts[status.name] += 1
         if not isinstance(got, PYTHON.Verifier) or status != PYTHON.Status.OK:
-            self.wrong += [] if told(got) == (status, what) else [(got, status, what, file.hex())]
+            self.wrong += [] if told(got) == (status, what) else [(told(got), status, what, file.hex())]
             return
         self.wrong += [(*pair, file.hex()) for pair in of_the_file(got, what) if pair[0] != pair[1]]
         if repr(what) not in self.seen:
