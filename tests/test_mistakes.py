@@ -84,7 +84,7 @@ CALLS = {
 def rows():
     """The first two columns of the table."""
     page = (TOP / "docs/REFERENCE.md").read_text()
-    section = page.split("## Where every message is refused")[1].split("\n## ")[0]
+    section = page.split("## Where all or most messages are refused")[1].split("\n## ")[0]
     return re.findall(r"^\| `(.+?)` \| (.+?) \| .+ \|$", section, re.M)
 
 
