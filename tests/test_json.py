@@ -1,10 +1,8 @@
 """Lines of JSON: `--json`. Each is one object, and says what the plain line of the same message says."""
 
-import struct
-
 from tests.support import schemas
 from tests.support.buffers import NOTHING, ODD, ORC, PLAIN, SEVEN
-from tests.support.builder import Plain, buffer, changed, prefixed
+from tests.support.builder import Plain, buffer, prefixed
 from tests.support.cases import Case
 from tests.support.every_kind import FILE, LITTLE, OBJECTS, UNION, WHOLE, variants
 from tests.support.json_lines import names_of, read, said
