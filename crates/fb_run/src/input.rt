@@ -12,7 +12,8 @@ use std::io;
 ///
 /// It is read by [`ask`](Input::ask) alone, and each call has to prove the leave for it. So a run that may ask only
 /// where this has been written and that noted has written and noted it by every read; and one that may ask only where
-/// no call failed and no end was told asks no more after either. The outputs' types belong to the trait: of a method that took any, a run could show other outputs than its own.
+/// no call failed and no end was told asks no more after either. The outputs' types belong to the trait: of a method
+/// that took any, a run could show other outputs than its own.
 ///
 /// `remaining`, `calls`, `failures` and `ended` are those of a [`Source`], and each source is an input that may always
 /// be asked.

@@ -122,19 +122,33 @@ module _ (c : Checks) (b : List ℕ) (S : Rows) (L : Bounds) where
 pub cost_is_bounded : (q : Question) (b : List ℕ) (y : Tree) → IsWellFormed q b y → IsWithin q b y → cost q b y ≤ most_reads q.rows q.limits (length b)
 unfolding most_reads
 cost_is_bounded q b y h r =
-    let p = tree_price q.checks b q.rows (6 + length b) (table_most q.checks b q.rows q.limits) (field_price q.checks b q.rows) (all_tables q.checks b q.rows q.limits) y q.root (target b (base q.start)) h.unfolds in
-    lesser q.checks b q.rows q.limits q.limits.reads _ _ (omega (arith, p, start_price q.start q.ident, mul-le-mul_left (table_most q.checks b q.rows q.limits) r.tables, below_bound q.checks b q.rows q.limits)) (near q.limits.reads (cost q b y) _ (omega arith) r.reads)
+    let c = q.checks in
+    let S = q.rows in
+    let L = q.limits in
+    let most = table_most c b S L in
+    let p = tree_price c b S (6 + length b) most (field_price c b S) (all_tables c b S L) y q.root (target b (base q.start)) h.unfolds in
+    let few = mul-le-mul_left most r.tables in
+    lesser c b S L L.reads _ _ (omega (arith, p, start_price q.start q.ident, few, below_bound c b S L)) (near L.reads (cost q b y) _ (omega arith) r.reads)
 
 pub reads_are_bounded : (q : Question) (b : List ℕ) (f : Fault) → Stops q b f → f.reads ≤ most_reads q.rows q.limits (length b)
 unfolding fault_at most_reads
 reads_are_bounded q b f (inl h) =
+    let c = q.checks in
+    let L = q.limits in
     let w = way_to_start q.root in
     let n = start_reads q.start q.ident in
-    let r = fault_reads n w (start_failure q.checks b q.start q.ident ▷ reads_failure q.limits w.paid n (base q.start)) f (either n _ _ (start_most q.checks b q.start q.ident) (reads_most q.limits w.paid n (base q.start))) h.first in
-    lesser q.checks b q.rows q.limits q.limits.reads _ _ (omega (arith, r, start_price q.start q.ident, below_bound q.checks b q.rows q.limits)) (near q.limits.reads 0 f.reads (omega (arith, r, start_price q.start q.ident)) (no_reads q.limits.reads))
+    let asked = reads_failure L w.paid n (base q.start) in
+    let most = either n _ _ (start_most c b q.start q.ident) (reads_most L w.paid n (base q.start)) in
+    let r = fault_reads n w (start_failure c b q.start q.ident ▷ asked) f most h.first in
+    let price = start_price q.start q.ident in
+    lesser c b q.rows L L.reads _ _ (omega (arith, r, price, below_bound c b q.rows L)) (near L.reads 0 f.reads (omega (arith, r, price)) (no_reads L.reads))
 reads_are_bounded q b f (inr h) =
+    let c = q.checks in
+    let S = q.rows in
+    let L = q.limits in
     let few : 6 ≤ 6 + length b = omega arith in
     let w = way_to_root q.root q.start q.ident in
-    let r = trail_price q.checks b q.rows q.limits (6 + length b) (table_most q.checks b q.rows q.limits) (field_price q.checks b q.rows) (all_tables q.checks b q.rows q.limits) few h.1.0 q.root (target b (base q.start)) w f h.1.1 in
-    let near_is = trail_near q.checks b q.rows q.limits h.1.0 q.root (target b (base q.start)) w f (omega arith) h.1.1 in
-    lesser q.checks b q.rows q.limits q.limits.reads _ _ (omega (arith, r, start_price q.start q.ident, below_bound q.checks b q.rows q.limits)) near_is
+    let t = target b (base q.start) in
+    let r = trail_price c b S L (6 + length b) (table_most c b S L) (field_price c b S) (all_tables c b S L) few h.1.0 q.root t w f h.1.1 in
+    let near_is = trail_near c b S L h.1.0 q.root t w f (omega arith) h.1.1 in
+    lesser c b S L L.reads _ _ (omega (arith, r, start_price q.start q.ident, below_bound c b S L)) near_is

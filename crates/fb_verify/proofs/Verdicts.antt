@@ -41,11 +41,13 @@ module _ (q : Question) (b : List ℕ) where
   unfolding fault_at
   stops_at_start f h =
       let w = way_to_start q.root in
-      let g : fault_at q.checks b q.rows q.limits (in_start q.start q.ident) w ≡ Some f = sym (told_is w root_site (start_failure q.checks b q.start q.ident ▷ reads_failure q.limits 0 (start_reads q.start q.ident) (base q.start)) refl refl) ∙ h in
+      let failed = start_failure q.checks b q.start q.ident ▷ reads_failure q.limits 0 (start_reads q.start q.ident) (base q.start) in
+      let g : fault_at q.checks b q.rows q.limits (in_start q.start q.ident) w ≡ Some f = sym (told_is w root_site failed refl refl) ∙ h in
       inl (record { within = record { tables = omega arith; depth = omega arith; reads = no_reads q.limits.reads }; first = g }, refl)
 
   -- a fault at the root table or below
-  pub stops_below_start : (t r : ℕ) (f : Fault) (links : List Link) → start_failure q.checks b q.start q.ident ≡ None → t ≡ target b (base q.start) → r ≡ start_reads q.start q.ident → LeadsAlong q.checks b q.rows q.limits q.root t (way_at 0 0 0 r root_site) f links → StopsAlong q b f links
+  pub stops_below_start : (t r : ℕ) (f : Fault) (links : List Link) → start_failure q.checks b q.start q.ident ≡ None → t ≡ target b (base q.start)
+      → r ≡ start_reads q.start q.ident → LeadsAlong q.checks b q.rows q.limits q.root t (way_at 0 0 0 r root_site) f links → StopsAlong q b f links
   stops_below_start t r f links o p e h = inr ((start_none q.checks b q.start q.ident).0 o, rw (p, root_way r e) at h)
 
   -- where links lead to a fault, there is one

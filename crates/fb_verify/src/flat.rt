@@ -93,8 +93,9 @@ fn test_head(reads: &mut Reads<'_>, checks: Checks, at: &mut u64, head: &mut Hea
     None
 }
 
-/// Passes the fields of an open table of which none leads to a table, by their steps. Where one fails, the position is moved to where it does, and its number is written. The walk that is
-/// under way, and the frames that wait in it, are those that the contract speaks of.
+/// Passes the fields of an open table of which none leads to a table, by their steps. Where one fails, the position is
+/// moved to where it does, and its number is written. The walk that is under way, and the frames that wait in it, are
+/// those that the contract speaks of.
 #[inline(always)]
 fn pass_steps(
     reads: &mut Reads<'_>,

@@ -1,6 +1,6 @@
 use Rattle.std.proofs.Common.{List, None, ap, [], arith}
 use Rattle.std.proofs.lemmas.List.Elements.{All-nil}
-use Rattle.fb_verify.specs.Stack.{HaltsAlong, IsLinked, StopsIn, last_link}
+use Rattle.fb_verify.specs.Stack.{HaltsAlong, IsLinked, Origin, StopsIn, last_link}
 use Rattle.fb_verify.specs.Question.{question}
 use Rattle.fb_verify.specs.Told.{stopped, way_at}
 use Rattle.fb_verify.specs.Verdict.{Reports}
@@ -12,7 +12,8 @@ use Rattle.fb_verify.proofs.verdict.trace.Goals as goal
 use Rattle.fb_verify.proofs.verdict.trace.Goals.{In-Err, In_err-run, After-reads}
 
 -- where the start fails, no frame leads there
-fails_at_start : (c : In-Err) → HaltsAlong (question c.args.schema.now c.args.root c.args.start c.args.ident c.args.limits c.args.checks) c.args.meter.now.bytes [] Behind (stopped c.in-Err.stop c.read_start.new.meter.count)
+fails_at_start : (c : In-Err) → let a = c.args in
+    HaltsAlong (question a.schema.now a.root a.start a.ident a.limits a.checks) a.meter.now.bytes [] Behind (stopped c.in-Err.stop c.read_start.new.meter.count)
 fails_at_start c =
     let a = c.args in
     record {
@@ -21,22 +22,29 @@ fails_at_start c =
     }
 
 -- where the walk fails, and frames lead there from its root table
-halts : (c : In_err-run) (way : List Frame)
-    → StopsIn c.args.checks c.args.meter.now.bytes c.args.schema.now c.args.limits (record { object = c.args.root; position = c.in-Ok.at; way = way_at 0 0 0 c.read_start.new.meter.count (record { object = c.args.root; field = None }) }) way (last_link c.in_err-run.field-0.0.last (stopped c.in_err-run.field-0.0.stop c.run.new.meter.count)) (stopped c.in_err-run.field-0.0.stop c.run.new.meter.count)
-    → HaltsAlong (question c.args.schema.now c.args.root c.args.start c.args.ident c.args.limits c.args.checks) c.args.meter.now.bytes way c.in_err-run.field-0.0.last (stopped c.in_err-run.field-0.0.stop c.run.new.meter.count)
+halts : (c : In_err-run) (way : List Frame) → let a = c.args in
+    let halt = c.in_err-run.field-0.0 in
+    let fault = stopped halt.stop c.run.new.meter.count in
+    let root : Origin = record { object = a.root; position = c.in-Ok.at; way = way_at 0 0 0 c.read_start.new.meter.count (record { object = a.root; field = None }) } in
+    StopsIn a.checks a.meter.now.bytes a.schema.now a.limits root way (last_link halt.last fault) fault
+    → HaltsAlong (question a.schema.now a.root a.start a.ident a.limits a.checks) a.meter.now.bytes way halt.last fault
 halts c way h =
     let a = c.args in
     record {
-      along = stops_below_start (question a.schema.now a.root a.start a.ident a.limits a.checks) a.meter.now.bytes c.in-Ok.at c.read_start.new.meter.count _ _ c.in-Ok.ensures.ok c.in-Ok.ensures.value (omega (arith, c.requires.fresh, ap (λ m. m.count) c.in-Ok.ensures.counted)) h.along;
+      along = stops_below_start (question a.schema.now a.root a.start a.ident a.limits a.checks) a.meter.now.bytes c.in-Ok.at c.read_start.new.meter.count _ _
+          c.in-Ok.ensures.ok c.in-Ok.ensures.value (omega (arith, c.requires.fresh, ap (λ m. m.count) c.in-Ok.ensures.counted)) h.along;
       linked = h.linked;
     }
 
 -- some frames do
-halts_somehow : (c : In_err-run) → (way : List Frame) × HaltsAlong (question c.args.schema.now c.args.root c.args.start c.args.ident c.args.limits c.args.checks) c.args.meter.now.bytes way c.in_err-run.field-0.0.last (stopped c.in_err-run.field-0.0.stop c.run.new.meter.count)
+halts_somehow : (c : In_err-run) → let a = c.args in
+    let halt = c.in_err-run.field-0.0 in
+    (way : List Frame) × HaltsAlong (question a.schema.now a.root a.start a.ident a.limits a.checks) a.meter.now.bytes way halt.last (stopped halt.stop c.run.new.meter.count)
 halts_somehow c = let e = c.in_err-run.ensures.err in (e.0, halts c e.0 (rw (ap (λ m. m.bytes) c.in-Ok.ensures.counted) at e.1))
 
 -- else the report tells what it came to
-tells : (c : After-reads) → Reports (question c.args.schema.now c.args.root c.args.start c.args.ident c.args.limits c.args.checks) c.args.meter.now.bytes (record { tables = c.run.new.self.tables; depth = c.run.new.self.deepest; reads = c.reads.result })
+tells : (c : After-reads) → let a = c.args in
+    Reports (question a.schema.now a.root a.start a.ident a.limits a.checks) a.meter.now.bytes (record { tables = c.run.new.self.tables; depth = c.run.new.self.deepest; reads = c.reads.result })
 tells c =
     let a = c.args in
     let ran = c.in_ok-run.ensures in
