@@ -1,15 +1,16 @@
 //! A tally's bytes, lent out to be read under a short count.
 
-ghost use Rattle.std.specs.Prelude.{◌≡◌, ◌+◌, ◌^◌, ◌<◌, ◌≤◌, length, IsTrue, ◌↔◌};
+ghost use Rattle.std.specs.Prelude.{◌≡◌, ◌+◌, ◌^◌, ◌<◌, ◌≤◌, [], length, IsTrue, ◌↔◌};
 ghost use Rattle.fb_bytes.specs.Word.{word, signed_word};
 
 use crate::window::Window;
 use std::marker::Model;
+use std::mem;
 
 /// The bytes of a [`crate::Tally`] under its count, which goes on in 64 bits: a loop keeps those in a register.
 ///
 /// A contract sees it as a meter: as its bytes and its count. Whoever holds one settles it before 2^63 reads. There is no
-/// way to the bytes but by a counted read: nothing of them is lent on, and nothing seals them. The count goes with the
+/// way to the bytes but by a counted read: nothing seals them. The count goes with the
 /// bytes, so that whichever tally takes them back has every read that was made of them. [`crate::Tally::lend`] makes
 /// one, and [`crate::Tally::settle`] takes it back.
 #[derive(Drop)]
@@ -42,6 +43,26 @@ impl<'a> Reads<'a> {
         ensures count { result.1 ≡ self.entry.count }
     {
         (self.window, self.count)
+    }
+
+    /// Lends the bytes on under the same count. Until [`Reads::settle`] takes them back, there are none here.
+    #[inline(always)]
+    pub fn lend(&mut self) -> Reads<'a>
+        ensures lent { result ≡ self.old }
+        ensures bare { self.new ≡ record self.old { bytes = [] } }
+    {
+        let window = mem::replace(&mut self.window, Window::over(&[]));
+        Reads::over(window, self.count)
+    }
+
+    /// Takes bytes back, with the count of all reads that were made of them.
+    #[inline(always)]
+    pub fn settle(&mut self, reads: Reads<'a>)
+        ensures { self.new ≡ reads.entry }
+    {
+        let (window, count) = reads.into_parts();
+        self.window = window;
+        self.count = count;
     }
 
     /// How many reads were made since it was lent.

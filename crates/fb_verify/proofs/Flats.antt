@@ -99,7 +99,7 @@ pub flat_work : (S : Rows) (L : Bounds) (below : List Frame) (top : Frame) (row 
 unfolding work
 flat_work S L below top row n r u re more fewer cost = omega (arith, more, fewer, cost, ap (λ (x : Row). x.left) re)
 
-lt_true : (a b : ℕ) → a < b → nat_lt a b ≡ true
+pub lt_true : (a b : ℕ) → a < b → nat_lt a b ≡ true
 lt_true a b h = grind (arith, nat_tests)
 
 -- the limits allow it

@@ -51,7 +51,7 @@ if_present_few : (n : ℕ) (place : Option ℕ) → reads_if_present n place ≤
 if_present_few n None = omega arith
 if_present_few n (Some q) = omega arith
 
-present_few : (b : List ℕ) (t o : ℕ) (kind : Kind) → present_reads b t o kind ≤ 5
+pub present_few : (b : List ℕ) (t o : ℕ) (kind : Kind) → present_reads b t o kind ≤ 5
 present_few b t o (Scalar s) = omega arith
 present_few b t o (Struct k) = omega arith
 present_few b t o Text = omega arith

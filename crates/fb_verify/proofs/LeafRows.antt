@@ -2,6 +2,8 @@
 use Rattle.std.proofs.Common.{◌≡◌, ℕ, ◌+◌, ◌<◌, List, [], ◌∷◌, ◌++◌, refl, sym, ◌∙◌, ap, subst, Option, Some}
 use Rattle.fb_schema.specs.Rows.{Rows}
 use Rattle.fb_verify.specs.declared.checks.Checks.{Checks}
+use Rattle.fb_verify.specs.declared.offset_row.Leads.{Leads}
+use Rattle.fb_verify.specs.declared.offset_row.Leads.TheVariants.{All, ByType}
 use Rattle.fb_verify.specs.declared.offset_row.Referent.{Referent}
 use Rattle.fb_verify.specs.declared.offset_row.Row.{Row}
 use Rattle.fb_verify.specs.declared.offset_row.Referent.TheVariants.{Text as AText, Table as ATable, Struct as AStruct, Nothing}
@@ -12,7 +14,7 @@ use Rattle.fb_verify.specs.declared.site.Stop.{Stop}
 use Rattle.fb_verify.specs.Bounds.{Bounds}
 use Rattle.fb_verify.specs.Fields.{Lead, Entry}
 use Rattle.fb_verify.specs.Order.{Failure, after, lead_failure, element_failure}
-use Rattle.fb_verify.specs.OffsetRows.{lead_to, first_word, past_first, IsReferent, IsSized, IsLeafLead}
+use Rattle.fb_verify.specs.OffsetRows.{lead_to, first_word, word_at, past_first, leads_after, IsReferent, IsSized, IsLeafLead, AreLeaf}
 use Rattle.fb_verify.specs.Stack.{Origin, IsUnderWay, StopsIn}
 use Rattle.fb_verify.specs.Stops.{lead_reads_failure}
 use Rattle.fb_verify.specs.Told.{refused, stopped}
@@ -56,3 +58,15 @@ is_sized S AText h = tt
 is_sized S (ATable k) h = tt
 is_sized S (AStruct size align) h = h
 is_sized S Nothing h = tt
+
+-- words of which none leads to a table
+pub leaf_word : (b : List ℕ) (S : Rows) (leads : Leads) (p : ℕ) → AreLeaf leads → IsLeafLead (word_at b S leads p).lead
+leaf_word b S (All AText) p h = tt
+leaf_word b S (All (ATable k)) p h = h
+leaf_word b S (All (AStruct size align)) p h = tt
+leaf_word b S (All Nothing) p h = tt
+leaf_word b S (ByType e q) p h = absurd h
+
+pub leaf_after : (leads : Leads) → AreLeaf leads → AreLeaf (leads_after leads)
+leaf_after (All referent) h = h
+leaf_after (ByType e q) h = h

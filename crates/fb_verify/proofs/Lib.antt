@@ -38,3 +38,7 @@ pub mod LeafRows
 pub mod Members
 pub mod Flats
 pub mod Children
+pub mod Turning
+pub mod Turns
+pub mod RowTurns
+pub mod IntoField

@@ -6,12 +6,14 @@ use Rattle.fb_schema.specs.declared.targets.Targets.{Targets}
 use Rattle.fb_schema.specs.declared.views.Target.{Target}
 use Rattle.fb_schema.specs.Rows.{Rows}
 use Rattle.fb_schema.specs.Served.{MemberHolds}
-use Rattle.fb_schema.specs.Targets.{target_of}
-use Rattle.fb_verify.specs.Fields.{lead_of}
+use Rattle.fb_schema.specs.Targets.{target_of, kind_to}
+use Rattle.fb_verify.specs.Fields.{to_nothing, lead_of}
 use Rattle.fb_verify.specs.declared.offset_row.Leads.{Leads}
 use Rattle.fb_verify.specs.declared.offset_row.Leads.TheVariants.{All, ByType}
+use Rattle.fb_verify.specs.declared.offset_row.Referent.{Referent}
+use Rattle.fb_verify.specs.declared.offset_row.Referent.TheVariants.{Text as AText, Table as ATable, Struct as AStruct, Nothing}
 use Rattle.fb_verify.specs.declared.offset_row.Row.{Row}
-use Rattle.fb_verify.specs.OffsetRows.{lead_to_goal, leads_after, AreLeads, AreOfUnion, AreTargetsOf, GoalHolds, IsRow}
+use Rattle.fb_verify.specs.OffsetRows.{lead_to, lead_to_goal, leads_after, AreLeads, AreOfUnion, AreTargetsOf, GoalHolds, IsRow}
 
 leads : (S : Rows) (member : Option Kind) → lead_to_goal ((target_of S member).goal) (target_of S member) ≡ lead_of S member
 leads S None = refl
@@ -56,3 +58,28 @@ of_union b S n (ByType e q) h = h.0
 
 pub row_of_union : (b : List ℕ) (S : Rows) (r : Row) → 0 < r.left → IsRow b S r → AreOfUnion S r.leads
 row_of_union b S r more h = of_union b S r.left r.leads (h.leads more)
+
+-- a type that leads to nothing has no member, where the members of unions are what unions may hold
+pub no_member : (S : Rows) (member : Option Kind) → kind_to (target_of S member) ≡ member → to_nothing ≡ lead_of S member → member ≡ None
+no_member S None told e = refl
+no_member S (Some (Scalar s)) told e = absurd cc
+no_member S (Some Text) told e = absurd cc
+no_member S (Some (Struct k)) told e = absurd cc
+no_member S (Some (Table k)) told e = absurd cc
+no_member S (Some (Union u)) told e = absurd cc
+no_member S (Some (Scalars s)) told e = absurd cc
+no_member S (Some Texts) told e = absurd cc
+no_member S (Some (Structs k)) told e = absurd cc
+no_member S (Some (Tables k)) told e = absurd cc
+no_member S (Some (Unions u)) told e = absurd cc
+
+-- what leads to something has one
+no_nothing : (referent : Referent) → lead_to referent ≡ to_nothing → referent ≡ Nothing
+no_nothing AText e = absurd cc
+no_nothing (ATable k) e = absurd cc
+no_nothing (AStruct size align) e = absurd cc
+no_nothing Nothing e = refl
+
+pub some_member : (S : Rows) (member : Option Kind) (referent : Referent) → lead_to referent ≡ lead_of S member → (referent ≡ Nothing → ⊥) → (kind : Kind) × (member ≡ Some kind)
+some_member S None referent e n = absurd (n (no_nothing referent e))
+some_member S (Some kind) referent e n = (kind, refl)

@@ -48,7 +48,7 @@ use Rattle.fb_verify.proofs.Walking.{goes_on, field_skipped}
 use Rattle.fb_verify.proofs.Words.{row_none}
 
 -- a stop is its parts
-stop_is : (s : Stop) (e : Refusal) (object number reads : ℕ) → s.refusal ≡ e → (s.site).object ≡ object → (s.site).field ≡ Some number
+pub stop_is : (s : Stop) (e : Refusal) (object number reads : ℕ) → s.refusal ≡ e → (s.site).object ≡ object → (s.site).field ≡ Some number
     → stopped (record { refusal = e; site = record { object = object; field = Some number } }) reads ≡ stopped s reads
 stop_is s e object number reads a b c = rw (a, b, c) refl
 
@@ -185,6 +185,13 @@ module _ {w : Walk} {m : Metered} {under : Waiting} {top : Frame} {steps : List 
   pub next_within : top.next + 1 ≤ length fields
   next_within = field_within _ _ _ found.1
 
+  -- it may lead on where its field may
+  pub leads_open : step.act ≡ Other → (f : Live) → slice_get fields top.next ≡ Some f → act_of f f.kind ≡ Other
+  leads_open act f here =
+      let w : Some found.0 ≡ Some f = sym found.1 ∙ here in
+      let v : found.0 ≡ f = cc in
+      ap (λ (z : Live). act_of z z.kind) (sym v) ∙ ap (λ (z : Step). z.act) (sym found.2) ∙ act
+
   pub long : length steps ≡ length fields
   long = ap length h.all ∙ length-map fields step_of
 
@@ -299,6 +306,7 @@ pub none_left : {w : Walk} {m new : Metered} {under : Waiting} {top past : Frame
 none_left same walking forth within all ends grows bytes = record {
   walking = λ _. walking;
   field = λ e. absurd cc;
+  open-field = λ e. absurd cc;
   same = same;
   forth = forth;
   within = within;

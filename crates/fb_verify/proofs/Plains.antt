@@ -36,7 +36,7 @@ is_own n size align h =
     let w = both_true (size == n) (align == n) h in
     ((Decides-eqb size n).0 w.0, (Decides-eqb align n).0 w.1)
 
-inline_acts : (P : Act → Type 0) (size align : ℕ) → ((size ≡ 1) × (align ≡ 1) → P One) → ((size ≡ 2) × (align ≡ 2) → P Two) → ((size ≡ 4) × (align ≡ 4) → P Four) → ((size ≡ 8) × (align ≡ 8) → P Eight) → P Inline → P (inline_act size align)
+pub inline_acts : (P : Act → Type 0) (size align : ℕ) → ((size ≡ 1) × (align ≡ 1) → P One) → ((size ≡ 2) × (align ≡ 2) → P Two) → ((size ≡ 4) × (align ≡ 4) → P Four) → ((size ≡ 8) × (align ≡ 8) → P Eight) → P Inline → P (inline_act size align)
 inline_acts P size align one two four eight other =
     go (size == 1 && align == 1) (size == 2 && align == 2) (size == 4 && align == 4) (size == 8 && align == 8)
     (λ e. one (is_own 1 size align e)) (λ e. two (is_own 2 size align e)) (λ e. four (is_own 4 size align e)) (λ e. eight (is_own 8 size align e)) where

@@ -31,5 +31,6 @@ pub mod Stack
 pub mod StopsAt
 pub mod PassesOn
 pub mod Flat
+pub mod Turns
 pub mod Told
 pub mod Walked

@@ -101,6 +101,14 @@ abbrev pub IsLeafLead : Lead → Type 0
 IsLeafLead (to_table k) = ⊥
 IsLeafLead _ = Unit {0}
 
+-- offset words of which none leads to a table
+abbrev pub AreLeaf : Leads → Type 0
+AreLeaf (All AText) = Unit {0}
+AreLeaf (All (ATable k)) = ⊥
+AreLeaf (All (AStruct size align)) = Unit {0}
+AreLeaf (All Nothing) = Unit {0}
+AreLeaf (ByType e q) = ⊥
+
 -- the types of n offset words lie in the buffer
 abbrev pub AreLeads : List ℕ → Rows → ℕ → Leads → Type 0
 AreLeads b S n (All referent) = IsReferent S referent

@@ -1,7 +1,9 @@
 -- What it takes to pass fields of the top of a walk, and what that leaves.
-use Rattle.std.specs.Prelude.{◌≡◌, ℕ, ◌+◌, ◌-◌, ◌*◌, ◌^◌, ◌<◌, ◌≤◌, Bool, true, false, Result, IfOk, IfErr, length}
+use Rattle.std.specs.Prelude.{◌≡◌, ℕ, ◌+◌, ◌-◌, ◌*◌, ◌^◌, ◌<◌, ◌≤◌, Bool, true, false, Result, IfOk, IfErr, length, slice_get, Some}
 use Rattle.fb_schema.specs.Rows.{Rows}
-use Rattle.fb_schema.specs.Live.{live_fields}
+use Rattle.fb_schema.specs.declared.views.Act.TheVariants.{Other}
+use Rattle.fb_schema.specs.Live.{Live, live_fields}
+use Rattle.fb_schema.specs.Steps.{act_of}
 use Rattle.fb_bytes.specs.Word.{Metered}
 use Rattle.fb_verify.specs.declared.fault.Reason.{Reason}
 use Rattle.fb_verify.specs.declared.scratch.Frame.{Frame}
@@ -39,6 +41,7 @@ pub record HasPassed (w : Walk) (m new : Metered) (under : Waiting) (top past : 
 pub record PassesOn (w : Walk) (m new : Metered) (under : Waiting) (top past : Frame) (place : ℕ) (result : Result Bool Reason) : Type 0 where
   pub walking : IfOk result (λ more. more ≡ false → IsWalking w new under.start under.frames past)
   pub field : IfOk result (λ more. more ≡ true → IsAtField w new.bytes new.count under.start under.frames past place)
+  pub open-field : IfOk result (λ more. more ≡ true → (f : Live) → slice_get (live_fields w.schema.now (top.table).object) past.next ≡ Some f → act_of f f.kind ≡ Other)
   pub same : past ≡ record top { next = past.next }
   pub forth : IfOk result (λ _. top.next ≤ past.next)
   pub within : IfOk result (λ _. past.next ≤ length (live_fields w.schema.now (top.table).object))

@@ -13,7 +13,21 @@ pub struct Checks {
     pub inline_size: bool,
 }
 
+/// The checks of FlatBuffers' own verifier for C++, as constants.
+pub(crate) const PUBLISHED: Checks = Checks {
+    alignment: true,
+    inline_size: false,
+};
+
 impl Checks {
+    /// Whether these are the published ones.
+    #[inline(always)]
+    pub(crate) fn are_published(self) -> bool
+        ensures { result ≡ true → self ≡ record { alignment = true; inline_size = false } }
+    {
+        self.alignment && !self.inline_size
+    }
+
     /// The checks of FlatBuffers' own verifier for C++: alignment, and not the inline size.
     pub fn published() -> Self
         ensures { result ≡ record { alignment = true; inline_size = false } }

@@ -7,13 +7,13 @@ ghost use Rattle.fb_verify.specs.Stack.{blank, Origin, work, IsWalking, IsOver, 
 
 use crate::scratch::{BLANK, Frame};
 use crate::site::Halt;
-use crate::stack::Walk;
+use crate::stack::{Turn, Walk};
 use fb_bytes::Tally;
 
 impl Walk<'_, '_> {
     /// Goes on with a walk over these frames, of which so many wait below the top, until it is over, or until it needs a
     /// frame behind the last of them. Answers how many wait then; none where it is over.
-    #[inline(never)]
+    #[inline(always)]
     pub fn go_on(
         &mut self,
         meter: &mut Tally<'_>,
@@ -37,12 +37,50 @@ impl Walk<'_, '_> {
         ensures deep { IfErr result (λ h. h.links + links_left h.last ≤ (self.old.limits).depth) }
         ensures err { IfErr result (λ h. HaltsIn self.old meter.old start (take h.links frames.new) h meter.new.count) }
     {
-        let _schema = self.schema;
+        let mut waiting = waiting;
+        match self.walk_on(meter, frames, &mut waiting) {
+            Turn::Up => Ok(None),
+            Turn::Halt => Err(self.halt),
+            _ => self.go_slowly(meter, frames, waiting),
+        }
+    }
+
+    /// The same, a turn by single units first, where a limit may be met in it.
+    #[cold]
+    #[inline(never)]
+    fn go_slowly(
+        &mut self,
+        meter: &mut Tally<'_>,
+        frames: &mut [Frame],
+        waiting: u32,
+    ) -> Result<Option<u32>, Halt>
+        ghost start: { Origin }
+        requires walking { IsWalking self.old meter.old start (take waiting frames.old) (slice_index_or frames.old waiting blank) }
+        requires top { waiting < length frames.old }
+        requires few { meter.old.count + work self.old.schema.now self.old.limits (take waiting frames.old) (slice_index_or frames.old waiting blank) self.old.tables ≤ 2 ^ 94 }
+        ensures same { IfOk result (λ _. self.new ≡ record self.old { tables = self.new.tables; deepest = self.new.deepest }) }
+        ensures walking { IfOk result (λ o. MatchOption o
+            (IsOver self.new meter.new start)
+            (λ after. IsWalking self.new meter.new start (take after frames.new) (slice_index_or frames.new after blank))) }
+        ensures few { IfOk result (λ o. IfSome o (λ after. meter.new.count + work self.old.schema.now self.old.limits (take after frames.new) (slice_index_or frames.new after blank) self.new.tables ≤ 2 ^ 94)) }
+        ensures used { IfOk result (λ o. IfSome o (λ after. (after < length frames.new) × (length frames.new < (self.old.limits).depth))) }
+        ensures within { IfOk result (λ _. self.new.tables ≤ (self.old.limits).tables) }
+        ensures shallow { IfOk result (λ _. self.new.deepest ≤ (self.old.limits).depth) }
+        ensures reads { IfOk result (λ _. AreAllowed (self.old.limits).reads meter.new.count) }
+        ensures bytes { meter.new.bytes ≡ meter.old.bytes }
+        ensures deep { IfErr result (λ h. h.links + links_left h.last ≤ (self.old.limits).depth) }
+        ensures err { IfErr result (λ h. HaltsIn self.old meter.old start (take h.links frames.new) h meter.new.count) }
+    {
         let mut waiting = waiting;
         while waiting as usize + 1 < frames.len() || self.limits.depth() as usize <= frames.len() {
-            match self.turn(meter, frames, waiting)? {
+            match self.turn_by_units(meter, frames, waiting)? {
                 Some(after) => waiting = after,
                 None => return Ok(None),
+            }
+            match self.walk_on(meter, frames, &mut waiting) {
+                Turn::Up => return Ok(None),
+                Turn::Halt => return Err(self.halt),
+                _ => {}
             }
         }
         Ok(Some(waiting))

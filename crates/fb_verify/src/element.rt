@@ -22,6 +22,9 @@ use crate::stack::Walk;
 use crate::values::{check_inline, read_offset, read_string};
 use fb_bytes::Tally;
 
+/// No table.
+pub const NO_CHILD: Child = Child { object: 0, at: 0 };
+
 /// A table that is to be opened: its object's number and its position.
 #[derive(Clone, Copy)]
 pub struct Child {

@@ -6,27 +6,32 @@ ghost use Rattle.fb_schema.specs.Live.{live_fields};
 ghost use Rattle.fb_schema.specs.Steps.{is_plain, step_of};
 ghost use Rattle.fb_verify.specs.Bounds.{AreAllowed};
 ghost use Rattle.fb_verify.specs.Cost.{head_reads};
-ghost use Rattle.fb_verify.specs.Flat.{came, Going, MayOpen, PassesFlat, PassesFlats, PassesMembers};
+ghost use Rattle.fb_verify.specs.Flat.{came, in_head, frame_at, Going, MayOpen, PassesFlat};
 ghost use Rattle.fb_verify.specs.Order.{head_failure};
 ghost use Rattle.fb_verify.specs.PassesOn.{IsBetween, HasRoom, PassesOn};
 ghost use Rattle.fb_verify.specs.Places.{has_vtable, vtable};
 ghost use Rattle.fb_verify.specs.Plain.{IsTested};
-ghost use Rattle.fb_verify.specs.Stack.{blank, opened, Waiting, IsWalking};
+ghost use Rattle.fb_verify.specs.Stack.{opened, Waiting, IsWalking};
+ghost use Rattle.fb_verify.specs.StopsAt.{IsStopAt};
+ghost use Rattle.fb_verify.specs.Turns.{IsShort, RowTurned};
+ghost use Rattle.fb_verify.specs.declared.stack.Turn.TheVariants.{Halt as Halted};
+ghost use Rattle.fb_verify.specs.declared.site.LastLink.TheVariants.{Behind, InField};
 ghost use Rattle.fb_verify.specs.declared.offset_row.Leads.TheVariants.{All};
 ghost use Rattle.fb_verify.specs.declared.offset_row.Referent.TheVariants.{Table as ATable};
 ghost use Rattle.fb_verify.specs.Told.{IsHead};
 
-use crate::checks::Checks;
+use crate::checks::{Checks, PUBLISHED};
+use crate::element::Child;
 use crate::fault::Reason;
 use crate::field::Table;
 use crate::head::Head;
 use crate::leaves::{stop_at_word, targets_of};
-use crate::offset_row::{Leads, Referent, Row};
+use crate::offset_row::{Referent, Row};
 use crate::plain::{fails, slot_at, test_at, test_inline, test_lead};
 use crate::scratch::Frame;
-use crate::site::{Halt, LastLink, Refusal, Site, Stop, is_aligned};
-use crate::stack::Walk;
-use fb_bytes::{Reads, Tally};
+use crate::site::{LastLink, is_aligned};
+use crate::stack::{Turn, Walk};
+use fb_bytes::Reads;
 use fb_schema::{Schema, Step};
 
 /// The number of no field: the head of a table is under check.
@@ -97,7 +102,7 @@ fn test_head(reads: &mut Reads<'_>, checks: Checks, at: &mut u64, head: &mut Hea
 /// moved to where it does, and its number is written. The walk that is under way, and the frames that wait in it, are
 /// those that the contract speaks of.
 #[inline(always)]
-fn pass_steps(
+pub fn pass_steps(
     reads: &mut Reads<'_>,
     checks: Checks,
     steps: &[Step],
@@ -196,7 +201,7 @@ fn pass_flat(
 /// Opens the frame of the table at a position, of this object, if its head holds; else the position is moved to where
 /// that fails.
 #[inline(always)]
-fn open_frame(
+pub fn open_frame(
     reads: &mut Reads<'_>,
     checks: Checks,
     object: u32,
@@ -225,21 +230,6 @@ fn open_frame(
     failed
 }
 
-/// Where the walk stops at the head of a table of this object.
-#[cold]
-#[inline(never)]
-fn stop_in_head(object: u32, at: u64, reason: Reason) -> Stop
-    ensures { result ≡ record { refusal = record { at = at; reason = reason }; site = record { object = object; field = None } } }
-{
-    Stop {
-        refusal: Refusal { at, reason },
-        site: Site {
-            object,
-            field: None,
-        },
-    }
-}
-
 impl<'s, 'n> Walk<'s, 'n> {
     /// Whether an offset word is left of a row, and the limits allow to open one more table, for so many reads at most.
     #[inline(always)]
@@ -258,14 +248,14 @@ impl<'s, 'n> Walk<'s, 'n> {
     /// lead to no table: as many as the limits allow to open, so that the budget allows whatever each may cost. So many
     /// frames wait below the top.
     #[inline(always)]
-    fn pass_flats(
+    pub fn pass_flats(
         &mut self,
         checks: Checks,
         reads: &mut Reads<'_>,
         waiting: u32,
         object: u32,
         top: &mut Frame,
-    ) -> Result<(), Halt>
+    ) -> Turn
         ghost under: { Waiting }
         requires waiting { waiting ≡ length under.frames }
         requires walking { IsWalking self.old reads.old under.start under.frames top.old }
@@ -274,9 +264,9 @@ impl<'s, 'n> Walk<'s, 'n> {
         requires plain { is_plain self.old.schema.now object ≡ true }
         requires deep { waiting + 1 < (self.old.limits).depth }
         requires low { waiting + 1 < 4096 }
-        requires few { reads.old.count ≤ 2 ^ 56 }
+        requires short { IsShort reads.old.count }
         requires same { checks ≡ self.old.checks }
-        ensures { PassesFlats self.old self.new reads.old reads.new under top.old top.new result }
+        ensures { (child : Child) → RowTurned self.old self.new reads.old reads.new under top.old top.new child result }
     {
         let steps = self.schema.steps_of(object);
         let schema = self.schema;
@@ -288,7 +278,7 @@ impl<'s, 'n> Walk<'s, 'n> {
             let failed = test_lead(reads, checks, &mut at, Referent::Table(object));
             if let Some(reason) = failed {
                 let stop = stop_at_word(top, row, at, reason);
-                return Err(stop.halt(waiting + 1, LastLink::Behind));
+                return self.stop(stop, waiting + 1, LastLink::Behind);
             }
             row.advance();
             self.tables += 1;
@@ -299,79 +289,15 @@ impl<'s, 'n> Walk<'s, 'n> {
             );
             if let Some(reason) = came {
                 top.row = row;
-                if next == IN_HEAD {
-                    let stop = stop_in_head(object, at, reason);
-                    return Err(stop.halt(waiting + 1, LastLink::Behind));
-                }
-                let stop = self.stop_at(object, next, at, reason);
-                return Err(stop.halt(waiting + 1, LastLink::InField));
+                return self.stop_in_flat(object, next, at, reason, waiting + 1);
             }
         }
         top.row = row;
-        Ok(())
-    }
-
-    /// The same by the tally, whatever the checks are: it lends its bytes meanwhile, and takes them back with the reads
-    /// that were made.
-    #[cold]
-    #[inline(never)]
-    fn pass_flats_by_checks(
-        &mut self,
-        meter: &mut Tally<'_>,
-        waiting: u32,
-        object: u32,
-        top: &mut Frame,
-    ) -> Result<(), Halt>
-        ghost under: { Waiting }
-        requires waiting { waiting ≡ length under.frames }
-        requires walking { IsWalking self.old meter.old under.start under.frames top.old }
-        requires leads { (top.old.row).leads ≡ All (ATable object) }
-        requires table { IsTrue (is_table self.old.schema.now object) }
-        requires plain { is_plain self.old.schema.now object ≡ true }
-        requires deep { waiting + 1 < (self.old.limits).depth }
-        requires low { waiting + 1 < 4096 }
-        requires few { meter.old.count ≤ 2 ^ 56 }
-        ensures { PassesFlats self.old self.new meter.old meter.new under top.old top.new result }
-    {
-        let checks = self.checks;
-        let mut reads = meter.lend();
-        let answer = self.pass_flats(checks, &mut reads, waiting, object, top);
-        meter.settle(reads);
-        answer
-    }
-
-    /// The same, quickly where the checks are the published ones, which are constants in the loop then.
-    #[inline(always)]
-    fn pass_flats_on(
-        &mut self,
-        meter: &mut Tally<'_>,
-        waiting: u32,
-        object: u32,
-        top: &mut Frame,
-    ) -> Result<(), Halt>
-        ghost under: { Waiting }
-        requires waiting { waiting ≡ length under.frames }
-        requires walking { IsWalking self.old meter.old under.start under.frames top.old }
-        requires leads { (top.old.row).leads ≡ All (ATable object) }
-        requires table { IsTrue (is_table self.old.schema.now object) }
-        requires plain { is_plain self.old.schema.now object ≡ true }
-        requires deep { waiting + 1 < (self.old.limits).depth }
-        requires low { waiting + 1 < 4096 }
-        requires few { meter.old.count ≤ 2 ^ 56 }
-        ensures { PassesFlats self.old self.new meter.old meter.new under top.old top.new result }
-    {
-        let checks = self.checks;
-        if !checks.alignment || checks.inline_size {
-            return self.pass_flats_by_checks(meter, waiting, object, top);
+        if row.left == 0 {
+            Turn::Up
+        } else {
+            Turn::Slowly
         }
-        let published = Checks {
-            alignment: true,
-            inline_size: false,
-        };
-        let mut reads = meter.lend();
-        let answer = self.pass_flats(published, &mut reads, waiting, object, top);
-        meter.settle(reads);
-        answer
     }
 
     /// Whether an offset word is left of a row, and the limits allow to open one more table, for so many reads at most
@@ -390,8 +316,7 @@ impl<'s, 'n> Walk<'s, 'n> {
     }
 
     /// Passes offset words that are left of the top table's field, each with what it leads to, until one leads to a
-    /// table of which a field may lead on. That table is opened below the top then, and the answer is yes. So many
-    /// frames wait below the top.
+    /// table of which a field may lead on, which is to be opened. So many frames wait below the top.
     #[inline(always)]
     fn pass_members(
         &mut self,
@@ -399,152 +324,118 @@ impl<'s, 'n> Walk<'s, 'n> {
         reads: &mut Reads<'_>,
         waiting: u32,
         top: &mut Frame,
-        below: &mut Frame,
-    ) -> Result<bool, Halt>
+        child: &mut Child,
+    ) -> Turn
         ghost under: { Waiting }
         requires waiting { waiting ≡ length under.frames }
         requires walking { IsWalking self.old reads.old under.start under.frames top.old }
         requires deep { waiting + 1 < (self.old.limits).depth }
         requires low { waiting + 1 < 4096 }
-        requires few { reads.old.count ≤ 2 ^ 56 }
+        requires short { IsShort reads.old.count }
         requires same { checks ≡ self.old.checks }
         requires leads { 0 < (top.old.row).left }
-        ensures { PassesMembers self.old self.new reads.old reads.new under top.old top.new below.new result }
+        ensures { RowTurned self.old self.new reads.old reads.new under top.old top.new child.new result }
     {
         let schema = self.schema;
         let room = self.limits.short();
         let targets = targets_of(schema, top.row.leads);
         while self.has_member(reads, top.row, room) {
-            let child = match self.pass_words_of(checks, reads, targets, top, top.row) {
-                Ok(child) => child,
-                Err(stop) => return Err(stop.halt(waiting + 1, LastLink::Behind)),
+            let found = match self.pass_words_of(checks, reads, targets, top, top.row) {
+                Ok(found) => found,
+                Err(stop) => return self.stop(stop, waiting + 1, LastLink::Behind),
             };
-            let Some(child) = child else {
-                return Ok(false);
+            let Some(found) = found else {
+                return Turn::Up;
             };
             top.row.advance();
             self.tables += 1;
             self.deepest = self.deepest.max(waiting + 2);
-            let object = child.object;
-            let mut at = child.at;
+            let object = found.object;
             let steps = schema.steps_of(object);
             if !schema.is_plain(object) || reads.count() + 4 + 6 * steps.len() as u64 > room {
-                let failed = open_frame(reads, checks, object, &mut at, below);
-                if let Some(reason) = failed {
-                    let stop = stop_in_head(object, at, reason);
-                    return Err(stop.halt(waiting + 1, LastLink::Behind));
-                }
-                return Ok(true);
+                child.object = object;
+                child.at = found.at;
+                return Turn::Down;
             }
+            let mut at = found.at;
             let mut next = 0;
             let came = pass_flat(
                 self, top, top.row, reads, checks, object, steps, schema, &mut next, &mut at,
             );
             if let Some(reason) = came {
-                if next == IN_HEAD {
-                    let stop = stop_in_head(object, at, reason);
-                    return Err(stop.halt(waiting + 1, LastLink::Behind));
-                }
-                let stop = self.stop_at(object, next, at, reason);
-                return Err(stop.halt(waiting + 1, LastLink::InField));
+                return self.stop_in_flat(object, next, at, reason, waiting + 1);
             }
         }
-        Ok(false)
+        if top.row.left == 0 {
+            Turn::Up
+        } else {
+            Turn::Slowly
+        }
     }
 
-    /// The same by the tally, whatever the checks are.
+    /// The same by the published checks, which are constants then.
+    #[inline(never)]
+    fn pass_members_by_published(
+        &mut self,
+        reads: &mut Reads<'_>,
+        waiting: u32,
+        top: &mut Frame,
+        child: &mut Child,
+    ) -> Turn
+        ghost under: { Waiting }
+        requires waiting { waiting ≡ length under.frames }
+        requires walking { IsWalking self.old reads.old under.start under.frames top.old }
+        requires deep { waiting + 1 < (self.old.limits).depth }
+        requires low { waiting + 1 < 4096 }
+        requires short { IsShort reads.old.count }
+        requires leads { 0 < (top.old.row).left }
+        requires same { record { alignment = true; inline_size = false } ≡ self.old.checks }
+        ensures { RowTurned self.old self.new reads.old reads.new under top.old top.new child.new result }
+    {
+        self.pass_members(PUBLISHED, reads, waiting, top, child)
+    }
+
+    /// The same, by the function for the walk's checks.
+    #[inline(always)]
+    pub fn pass_members_on(
+        &mut self,
+        checks: Checks,
+        reads: &mut Reads<'_>,
+        waiting: u32,
+        top: &mut Frame,
+        child: &mut Child,
+    ) -> Turn
+        ghost under: { Waiting }
+        requires waiting { waiting ≡ length under.frames }
+        requires walking { IsWalking self.old reads.old under.start under.frames top.old }
+        requires deep { waiting + 1 < (self.old.limits).depth }
+        requires low { waiting + 1 < 4096 }
+        requires short { IsShort reads.old.count }
+        requires leads { 0 < (top.old.row).left }
+        requires same { checks ≡ self.old.checks }
+        ensures { RowTurned self.old self.new reads.old reads.new under top.old top.new child.new result }
+    {
+        if checks.are_published() {
+            return self.pass_members_by_published(reads, waiting, top, child);
+        }
+        self.pass_members(checks, reads, waiting, top, child)
+    }
+
+    /// Stops in a table of this object whose fields lead on nowhere: at its head, or at its next field.
     #[cold]
     #[inline(never)]
-    fn pass_members_by_checks(
-        &mut self,
-        meter: &mut Tally<'_>,
-        waiting: u32,
-        top: &mut Frame,
-        below: &mut Frame,
-    ) -> Result<bool, Halt>
-        ghost under: { Waiting }
-        requires waiting { waiting ≡ length under.frames }
-        requires walking { IsWalking self.old meter.old under.start under.frames top.old }
-        requires deep { waiting + 1 < (self.old.limits).depth }
-        requires low { waiting + 1 < 4096 }
-        requires few { meter.old.count ≤ 2 ^ 56 }
-        requires leads { 0 < (top.old.row).left }
-        ensures { PassesMembers self.old self.new meter.old meter.new under top.old top.new below.new result }
+    fn stop_in_flat(&mut self, object: u32, next: u32, at: u64, reason: Reason, links: u32) -> Turn
+        requires table { IsTrue (is_table self.old.schema.now object) }
+        requires next { (next ≡ in_head → ⊥) → next < length (live_fields self.old.schema.now object) }
+        ensures turn { result ≡ Halted }
+        ensures same { self.new ≡ record self.old { halt = self.new.halt } }
+        ensures links { (self.new.halt).links ≡ links }
+        ensures head { next ≡ in_head → self.new.halt ≡ record { stop = record { refusal = record { at = at; reason = reason }; site = record { object = object; field = None } }; links = links; last = Behind } }
+        ensures field { (next ≡ in_head → ⊥) → IsStopAt self.old.schema.now (frame_at object next) at reason self.new.halt.stop × ((self.new.halt).last ≡ InField) }
     {
-        let checks = self.checks;
-        let mut reads = meter.lend();
-        let answer = self.pass_members(checks, &mut reads, waiting, top, below);
-        meter.settle(reads);
-        answer
-    }
-
-    /// The same, quickly where the checks are the published ones.
-    #[inline(always)]
-    fn pass_members_on(
-        &mut self,
-        meter: &mut Tally<'_>,
-        waiting: u32,
-        top: &mut Frame,
-        below: &mut Frame,
-    ) -> Result<bool, Halt>
-        ghost under: { Waiting }
-        requires waiting { waiting ≡ length under.frames }
-        requires walking { IsWalking self.old meter.old under.start under.frames top.old }
-        requires deep { waiting + 1 < (self.old.limits).depth }
-        requires low { waiting + 1 < 4096 }
-        requires few { meter.old.count ≤ 2 ^ 56 }
-        requires leads { 0 < (top.old.row).left }
-        ensures { PassesMembers self.old self.new meter.old meter.new under top.old top.new below.new result }
-    {
-        let checks = self.checks;
-        if !checks.alignment || checks.inline_size {
-            return self.pass_members_by_checks(meter, waiting, top, below);
+        if next == IN_HEAD {
+            return self.stop_in_head(object, at, reason, links);
         }
-        let published = Checks {
-            alignment: true,
-            inline_size: false,
-        };
-        let mut reads = meter.lend();
-        let answer = self.pass_members(published, &mut reads, waiting, top, below);
-        meter.settle(reads);
-        answer
-    }
-
-    /// Passes offset words of a row in a loop: where all lead to tables of one object, whose fields lead to no table, or
-    /// where the types of a union tell what each leads to. It needs that one table more may be open and that the budget
-    /// is not used up; else it passes none. Where it answers yes, the first frame of the room is that of a table that was
-    /// opened below the top.
-    #[inline(never)]
-    pub fn pass_flat_row(
-        &mut self,
-        meter: &mut Tally<'_>,
-        waiting: u32,
-        top: &mut Frame,
-        room: &mut [Frame],
-    ) -> Result<bool, Halt>
-        ghost under: { Waiting }
-        requires waiting { waiting ≡ length under.frames }
-        requires walking { IsWalking self.old meter.old under.start under.frames top.old }
-        requires leads { 0 < (top.old.row).left }
-        requires room { min (self.old.limits).depth (waiting + 2) ≤ waiting + 1 + length room.old }
-        ensures passes { PassesMembers self.old self.new meter.old meter.new under top.old top.new (slice_index_or room.new 0 blank) result }
-        ensures length { length room.new ≡ length room.old }
-    {
-        if waiting + 1 >= self.limits.depth() || !self.limits.allows_short(meter.reads()) {
-            return Ok(false);
-        }
-        match top.row.leads {
-            Leads::All(Referent::Table(object)) => {
-                if !self.schema.is_plain(object) {
-                    return Ok(false);
-                }
-                match self.pass_flats_on(meter, waiting, object, top) {
-                    Ok(()) => Ok(false),
-                    Err(halt) => Err(halt),
-                }
-            }
-            Leads::ByType(_, _) => { self.pass_members_on(meter, waiting, top, &mut room[0]) },
-            _ => Ok(false),
-        }
+        self.stop_in_field(object, next, at, reason, links)
     }
 }

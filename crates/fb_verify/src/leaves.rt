@@ -1,11 +1,12 @@
 // The offset words by which a field leads on, passed by reads that are counted in a register.
 
-ghost use Rattle.std.specs.Prelude.{◌≡◌, ◌+◌, ◌*◌, ◌^◌, ◌<◌, ◌≤◌, [], ◌∷◌, ◌++◌, IfOk, IfErr, IfSome, Some, None, true};
+ghost use Rattle.std.specs.Prelude.{◌≡◌, ◌+◌, ◌*◌, ◌^◌, ◌<◌, ◌≤◌, length, [], ◌∷◌, ◌++◌, IfOk, IfErr, IfSome, Some, None, true};
 ghost use Rattle.fb_schema.specs.Served.{IsServed};
 ghost use Rattle.fb_verify.specs.Bounds.{AreAllowed};
-ghost use Rattle.fb_verify.specs.OffsetRows.{lead_to, first_word, past_first, AreOfUnion, AreTargetsOf, IsReferent, IsRow, AreTypesNear};
+ghost use Rattle.fb_verify.specs.OffsetRows.{lead_to, first_word, past_first, AreOfUnion, AreTargetsOf, IsReferent, IsRow, AreTypesNear, AreLeaf};
 ghost use Rattle.fb_verify.specs.Stack.{Waiting, IsWalking, IsAtTable, IsStoppedBehind};
 ghost use Rattle.fb_verify.specs.Told.{stopped};
+ghost use Rattle.fb_verify.specs.Turns.{IsShort, RowTurned};
 
 use crate::checks::Checks;
 use crate::element::Child;
@@ -14,9 +15,9 @@ use crate::field::referent_among;
 use crate::offset_row::{Leads, Referent, Row};
 use crate::plain::test_lead;
 use crate::scratch::Frame;
-use crate::site::{Refusal, Stop};
-use crate::stack::Walk;
-use fb_bytes::{Reads, Tally};
+use crate::site::{LastLink, Refusal, Stop};
+use crate::stack::{Turn, Walk};
+use fb_bytes::Reads;
 use fb_schema::{Schema, Targets};
 
 /// No targets.
@@ -84,21 +85,6 @@ pub fn stop_at_word(top: &mut Frame, left: Row, at: u64, reason: Reason) -> Stop
 }
 
 impl Walk<'_, '_> {
-    /// Whether the offset words that are left of the top table's field are passed in a loop: where the budget allows
-    /// whatever they may cost, four reads each, and not each of them leads to a table.
-    #[inline(always)]
-    fn may_pass_words(&self, meter: &Tally<'_>, top: &Frame) -> bool
-        requires few { meter.now.count < 2 ^ 96 }
-        ensures allowed { result ≡ true → AreAllowed (self.now.limits).reads (meter.now.count + 4 * (top.now.row).left) }
-        ensures short { result ≡ true → meter.now.count + 4 * (top.now.row).left < 2 ^ 56 }
-    {
-        if let Leads::All(Referent::Table(_)) = top.row.leads {
-            return false;
-        }
-        self.limits
-            .allows_short(meter.reads() + u128::from(4 * u64::from(top.row.left)))
-    }
-
     /// Passes offset words that are left of the top table's field, with the strings and structs that they lead to,
     /// until one leads to a table, and answers that table; none where no word is left. Where one fails, the row is left
     /// past it. The budget allows whatever they cost. These are the walk's own checks, and the words, of which a caller may
@@ -115,7 +101,7 @@ impl Walk<'_, '_> {
         ghost under: { Waiting }
         requires walking { IsWalking self.now reads.old under.start under.frames top.old }
         requires room { AreAllowed (self.now.limits).reads (reads.old.count + 4 * (top.old.row).left) }
-        requires few { reads.old.count + 4 * (top.old.row).left < 2 ^ 56 }
+        requires few { reads.old.count + 4 * (top.old.row).left ≤ 2 ^ 56 }
         requires same { words ≡ top.old.row }
         requires checks { checks ≡ self.now.checks }
         requires targets { AreTargetsOf self.now.schema.now targets words.leads }
@@ -128,6 +114,7 @@ impl Walk<'_, '_> {
         ensures grows { IfOk result (λ _. reads.old.count ≤ reads.new.count) }
         ensures bytes { reads.new.bytes ≡ reads.old.bytes }
         ensures targets { IfOk result (λ _. AreTargetsOf self.now.schema.now targets.entry (top.new.row).leads) }
+        ensures leaf { IfOk result (λ o. AreLeaf words.leads → o ≡ None) }
         ensures err { IfErr result (λ s. IsStoppedBehind self.now reads.old under.start (under.frames ++ top.new ∷ []) (stopped s reads.new.count)) }
     {
         let mut row = words;
@@ -148,20 +135,57 @@ impl Walk<'_, '_> {
         Ok(None)
     }
 
-    /// The same, in a loop of its own where all words lead to strings.
+    /// Passes the offset words that are left of the top table's field, of which none leads to a table, where the budget
+    /// allows whatever they may cost, four reads each. Where these are texts, that is a constant in the loop.
     #[inline(always)]
-    fn pass_words(&self, reads: &mut Reads<'_>, top: &mut Frame) -> Result<Option<Child>, Stop>
+    pub fn pass_words(
+        &mut self,
+        checks: Checks,
+        reads: &mut Reads<'_>,
+        waiting: u32,
+        top: &mut Frame,
+    ) -> Turn
+        ghost under: { Waiting }
+        requires waiting { waiting ≡ length under.frames }
+        requires walking { IsWalking self.old reads.old under.start under.frames top.old }
+        requires more { 0 < (top.old.row).left }
+        requires leaf { AreLeaf (top.old.row).leads }
+        requires short { IsShort reads.old.count }
+        requires same { checks ≡ self.old.checks }
+        ensures { (child : Child) → RowTurned self.old self.new reads.old reads.new under top.old top.new child result }
+    {
+        let _schema = self.schema;
+        if reads.count() + 4 * u64::from(top.row.left) > self.limits.short() {
+            return Turn::Slowly;
+        }
+        let mut own = reads.lend();
+        let answer = self.pass_leaves(checks, &mut own, top);
+        reads.settle(own);
+        match answer {
+            Ok(_) => Turn::Up,
+            Err(stop) => self.stop(stop, waiting + 1, LastLink::Behind),
+        }
+    }
+
+    /// The same, by the loop for these words.
+    #[inline(always)]
+    fn pass_leaves(
+        &self,
+        checks: Checks,
+        reads: &mut Reads<'_>,
+        top: &mut Frame,
+    ) -> Result<Option<Child>, Stop>
         ghost under: { Waiting }
         requires walking { IsWalking self.now reads.old under.start under.frames top.old }
         requires room { AreAllowed (self.now.limits).reads (reads.old.count + 4 * (top.old.row).left) }
-        requires few { reads.old.count + 4 * (top.old.row).left < 2 ^ 56 }
-        requires leads { 0 < (top.old.row).left }
-        ensures walking { IfOk result (λ o. o ≡ None → IsWalking self.now reads.new under.start under.frames top.new) }
-        ensures table { IfOk result (λ o. IfSome o (λ child. IsAtTable self.now reads.new.bytes reads.new.count under.start under.frames top.new (reads.old.count + 4 * (top.old.row).left) child)) }
+        requires few { reads.old.count + 4 * (top.old.row).left ≤ 2 ^ 56 }
+        requires leaf { AreLeaf (top.old.row).leads }
+        requires checks { checks ≡ self.now.checks }
+        ensures none { IfOk result (λ o. o ≡ None) }
+        ensures walking { IfOk result (λ _. IsWalking self.now reads.new under.start under.frames top.new) }
         ensures top { IfOk result (λ _. top.new ≡ record top.old { row = top.new.row }) }
-        ensures fewer { IfOk result (λ _. (top.new.row).left ≤ (top.old.row).left) }
-        ensures none { IfOk result (λ o. o ≡ None → (top.new.row).left ≡ 0) }
-        ensures paid { IfOk result (λ o. o ≡ None → reads.new.count ≤ reads.old.count + 4 * (top.old.row).left) }
+        ensures fewer { IfOk result (λ _. (top.new.row).left ≡ 0) }
+        ensures paid { IfOk result (λ _. reads.new.count ≤ reads.old.count + 4 * (top.old.row).left) }
         ensures grows { IfOk result (λ _. reads.old.count ≤ reads.new.count) }
         ensures bytes { reads.new.bytes ≡ reads.old.bytes }
         ensures err { IfErr result (λ s. IsStoppedBehind self.now reads.old under.start (under.frames ++ top.new ∷ []) (stopped s reads.new.count)) }
@@ -171,51 +195,8 @@ impl Walk<'_, '_> {
                 leads: Leads::All(Referent::Text),
                 ..top.row
             };
-            return self.pass_words_of(self.checks, reads, NO_TARGETS, top, texts);
+            return self.pass_words_of(checks, reads, NO_TARGETS, top, texts);
         }
-        let targets = targets_of(self.schema, top.row.leads);
-        self.pass_words_of(self.checks, reads, targets, top, top.row)
-    }
-
-    /// Passes one or more offset words that are left of the top table's field, with the strings and structs that they
-    /// lead to, or comes to one that leads to a table, and answers that table. The word that leads to it is still left;
-    /// one that fails is not.
-    #[inline(always)]
-    pub fn next_child(&self, meter: &mut Tally<'_>, top: &mut Frame) -> Result<Option<Child>, Stop>
-        ghost under: { Waiting }
-        requires walking { IsWalking self.now meter.old under.start under.frames top.old }
-        requires leads { 0 < (top.old.row).left }
-        requires few { meter.old.count < 2 ^ 96 }
-        ensures walking { IfOk result (λ o. o ≡ None → IsWalking self.now meter.new under.start under.frames top.new) }
-        ensures table { IfOk result (λ o. IfSome o (λ child. IsAtTable self.now meter.new.bytes meter.new.count under.start under.frames top.new (meter.old.count + 4 * (top.old.row).left) child)) }
-        ensures top { IfOk result (λ _. top.new ≡ record top.old { row = top.new.row }) }
-        ensures fewer { IfOk result (λ _. (top.new.row).left ≤ (top.old.row).left) }
-        ensures passed { IfOk result (λ o. o ≡ None → (top.new.row).left < (top.old.row).left) }
-        ensures paid { IfOk result (λ o. o ≡ None → meter.new.count + 4 * (top.new.row).left ≤ meter.old.count + 4 * (top.old.row).left) }
-        ensures grows { IfOk result (λ _. meter.old.count ≤ meter.new.count) }
-        ensures bytes { meter.new.bytes ≡ meter.old.bytes }
-        ensures err { IfErr result (λ s. IsStoppedBehind self.now meter.old under.start (under.frames ++ top.new ∷ []) (stopped s meter.new.count)) }
-    {
-        if self.may_pass_words(meter, top) {
-            let mut reads = meter.lend();
-            let answer = self.pass_words(&mut reads, top);
-            meter.settle(reads);
-            return answer;
-        }
-        let site = top.site();
-        let row = top.row;
-        let passed = self.pass_element(meter, site, row);
-        let child = match passed {
-            Ok(child) => child,
-            Err(stop) => {
-                top.row.advance();
-                return Err(stop);
-            }
-        };
-        if let Some(child) = child {
-            return Ok(Some(child));
-        }
-        top.row.advance();
-        Ok(None)
+        self.pass_words_of(checks, reads, NO_TARGETS, top, top.row)
     }
 }

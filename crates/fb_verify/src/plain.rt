@@ -1,6 +1,7 @@
 // The tests of fields that lead to no table, by reads that are counted in a register.
 
-ghost use Rattle.std.specs.Prelude.{◌≡◌, ℕ, ◌+◌, ◌^◌, ◌<◌, length, Some, None, IfSome, IsTrue, true, false};
+ghost use Rattle.std.specs.Prelude.{◌≡◌, ℕ, ◌+◌, ◌*◌, ◌^◌, ◌<◌, length, Some, None, IfSome, IsTrue, true, false};
+ghost use Rattle.fb_bytes.specs.Word.{word};
 ghost use Rattle.fb_schema.specs.declared.views.Act.TheVariants.{Other};
 ghost use Rattle.fb_verify.specs.Places.{fits, target, has_slot, field_place};
 ghost use Rattle.fb_verify.specs.Cost.{slot_reads, lead_reads};
@@ -67,7 +68,7 @@ pub fn test_inline(
 /// Tests that what stands inline for a field ends within the inline size of its table, where that is checked.
 #[inline(always)]
 #[tactic(auto, unfolding(crate::specs::Order::table_failure, crate::specs::Places::ends_in_table))]
-fn test_end(
+pub fn test_end(
     reads: &Reads<'_>,
     checks: Checks,
     table: Table,
@@ -124,7 +125,7 @@ fn test_inline_field(
 /// Tests the offset word at a position, and goes on where it leads.
 #[inline(always)]
 #[tactic(auto, unfolding(crate::specs::Order::offset_failure, crate::specs::Order::inline_failure))]
-fn test_offset(reads: &mut Reads<'_>, checks: Checks, at: &mut u64) -> Option<Reason>
+pub fn test_offset(reads: &mut Reads<'_>, checks: Checks, at: &mut u64) -> Option<Reason>
     requires few { reads.old.count < 2 ^ 62 }
     requires near { at.old < 2 ^ 35 }
     ensures tested { IsTested reads.old reads.new at.new (offset_failure checks reads.old.bytes at.old) 1 result }
@@ -167,7 +168,7 @@ fn test_string(reads: &mut Reads<'_>, checks: Checks, at: &mut u64) -> Option<Re
     None
 }
 
-/// Tests the vector at a position, of elements of this size and alignment, and goes on to the first.
+/// Tests the vector at a position, of elements of this size and alignment, puts their number, and goes on to the first.
 #[inline(always)]
 #[tactic(auto, unfolding(crate::specs::Order::vector_failure, crate::specs::Order::inline_failure))]
 fn test_vector(
@@ -176,11 +177,15 @@ fn test_vector(
     at: &mut u64,
     size: u32,
     align: u32,
+    many: &mut u32,
 ) -> Option<Reason>
     requires few { reads.old.count < 2 ^ 62 }
     requires near { at.old < 2 ^ 35 }
     requires align { 0 < align }
-    ensures { IsTested reads.old reads.new at.new (vector_failure checks reads.old.bytes at.old size align) 1 result }
+    ensures tested { IsTested reads.old reads.new at.new (vector_failure checks reads.old.bytes at.old size align) 1 result }
+    ensures first { result ≡ None → at.new ≡ at.old + 4 }
+    ensures many { result ≡ None → many.new ≡ word reads.old.bytes at.old 4 }
+    ensures within { result ≡ None → at.new + many.new * size < 2 ^ 31 }
 {
     let word = test_inline(reads, checks, *at, 4, 4);
     if word.is_some() {
@@ -194,6 +199,7 @@ fn test_vector(
     if count != 0 && !is_aligned(checks, *at, align) {
         return fails(Reason::Misaligned);
     }
+    *many = count;
     None
 }
 
@@ -262,20 +268,25 @@ fn test_text_field(
     test_text(reads, checks, at)
 }
 
-/// Tests a field that holds an offset word to a vector of elements of this size and alignment, with that vector.
+/// Tests a field that holds an offset word to a vector of elements of this size and alignment, with that vector, puts
+/// the number of its elements, and goes on to the first.
 #[inline(always)]
-fn test_vector_field(
+pub fn test_vector_field(
     reads: &mut Reads<'_>,
     checks: Checks,
     table: Table,
     at: &mut u64,
     size: u32,
     align: u32,
+    many: &mut u32,
 ) -> Option<Reason>
     requires few { reads.old.count < 2 ^ 60 }
     requires placed { IsPlaced checks reads.old.bytes table.at table.head at.old }
     requires align { 0 < align }
-    ensures { IsTested reads.old reads.new at.new (vector_field_failure checks reads.old.bytes table.at at.old size align) 2 result }
+    ensures tested { IsTested reads.old reads.new at.new (vector_field_failure checks reads.old.bytes table.at at.old size align) 2 result }
+    ensures first { result ≡ None → at.new ≡ target reads.old.bytes at.old + 4 }
+    ensures many { result ≡ None → many.new ≡ word reads.old.bytes (target reads.old.bytes at.old) 4 }
+    ensures within { result ≡ None → at.new + many.new * size < 2 ^ 31 }
 {
     let end = test_end(reads, checks, table, *at, 4);
     if end.is_some() {
@@ -285,7 +296,7 @@ fn test_vector_field(
     if offset.is_some() {
         return offset;
     }
-    test_vector(reads, checks, at, size, align)
+    test_vector(reads, checks, at, size, align, many)
 }
 
 /// Reads where the field with this slot stands, the table's own position where it is absent.
@@ -334,7 +345,10 @@ pub fn test_at(
         Act::Eight => test_inline_field(reads, checks, table, *at, 8, 8),
         Act::Inline => test_inline_field(reads, checks, table, *at, step.size, step.align),
         Act::Text => test_text_field(reads, checks, table, at),
-        Act::Vector => test_vector_field(reads, checks, table, at, step.size, step.align),
+        Act::Vector => {
+            let mut many = 0;
+            test_vector_field(reads, checks, table, at, step.size, step.align, &mut many)
+        }
         Act::Other => None,
     }
 }

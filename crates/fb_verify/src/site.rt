@@ -56,6 +56,22 @@ pub struct Halt {
     pub last: LastLink,
 }
 
+/// The halt of a walk that doesn't stop.
+pub const NO_HALT: Halt = Halt {
+    stop: Stop {
+        refusal: Refusal {
+            at: 0,
+            reason: Reason::WrongPrefix,
+        },
+        site: Site {
+            object: 0,
+            field: None,
+        },
+    },
+    links: 0,
+    last: LastLink::Behind,
+};
+
 impl Stop {
     /// A halt where the words of so many frames lead, and what they leave to be told.
     pub fn halt(self, links: u32, last: LastLink) -> Halt

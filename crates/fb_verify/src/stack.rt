@@ -1,37 +1,51 @@
-// The walk: a loop over the frames of the open tables.
+// The walk: a loop over the frames of the open tables, by reads that are lent once.
 
-ghost use Rattle.std.specs.Prelude.{◌≡◌, ◌+◌, ◌-◌, ◌*◌, ◌^◌, ◌<◌, ◌≤◌, max, min, length, List, take, slice_get, slice_index_or, [], ◌∷◌, ◌++◌, IfOk, IfErr, IfSome, MatchOption, IsTrue, Some, None, true, false};
+ghost use Rattle.std.specs.Prelude.{◌≡◌, ◌+◌, ◌*◌, ◌^◌, ◌<◌, ◌≤◌, max, min, length, List, take, slice_get, slice_index_or, ◌∷◌, ◌++◌, [], IfOk, IfErr, IsTrue, Some, None, true};
 ghost use Rattle.fb_schema.specs.Rows.{is_table};
 ghost use Rattle.fb_schema.specs.Live.{Live, live_fields, live_of_view};
+ghost use Rattle.fb_schema.specs.Steps.{act_of, is_plain};
+ghost use Rattle.fb_schema.specs.declared.views.Act.TheVariants.{Other};
 ghost use Rattle.fb_schema.specs.Served.{IsServed};
 ghost use Rattle.fb_verify.specs.Bounds.{AreAllowed};
-ghost use Rattle.fb_verify.specs.Cost.{head_reads, own_reads};
-ghost use Rattle.fb_verify.specs.Fields.{entries};
-ghost use Rattle.fb_verify.specs.Order.{◌▷◌, head_failure, own_failure};
-ghost use Rattle.fb_verify.specs.OffsetRows.{IsAskable, LeavesRow};
-ghost use Rattle.fb_verify.specs.Stops.{budget_failure, reads_failure};
-ghost use Rattle.fb_verify.specs.Places.{field_place, has_slot};
-ghost use Rattle.fb_verify.specs.PassesOn.{IsBetween, HasRoom, PassesOn, PassesFields};
-ghost use Rattle.fb_verify.specs.Told.{told, stopped, way_at, IsAskedAt, IsHead, IsPlaced};
+ghost use Rattle.fb_verify.specs.Flat.{Going};
+ghost use Rattle.fb_verify.specs.PassesOn.{IsBetween, HasRoom, PassesOn, fields_left};
+ghost use Rattle.fb_verify.specs.Told.{way_at};
 ghost use Rattle.fb_verify.specs.Walked.{TableWalked, ended};
-ghost use Rattle.fb_verify.specs.Stack.{blank, Origin, Waiting, frame_work, work, opened, IsWalking, IsOver, IsStopped, HaltsIn, links_left};
+ghost use Rattle.fb_verify.specs.Stack.{blank, Origin, Waiting, work, IsWalking, IsAtField, HaltsIn, links_left, opened};
+ghost use Rattle.fb_verify.specs.Turns.{IsShort, IsAtChild, RowTurned, FieldTurned, Turned, Opened, FramesTurned, RootTurned, Walked};
+ghost use Rattle.fb_verify.specs.declared.offset_row.Leads.TheVariants.{All};
+ghost use Rattle.fb_verify.specs.declared.offset_row.Referent.TheVariants.{Table as ATable};
+ghost use Rattle.fb_verify.specs.declared.stack.Turn.TheVariants.{Halt as Halted};
+ghost use Rattle.fb_verify.specs.declared.site.LastLink.TheVariants.{Behind, InField};
 
-use crate::budget::ask_reads;
-use crate::checks::Checks;
-use crate::element::Child;
+use crate::checks::{Checks, PUBLISHED};
+use crate::element::{Child, NO_CHILD};
 use crate::fault::Reason;
-use crate::field::{FieldSpot, Table, check_present};
-use crate::head::{Head, check_head, read_slot};
+use crate::field::Table;
+use crate::flat::{open_frame, pass_steps};
 use crate::limits::Limits;
 use crate::offset_row::{Referent, Row};
-use crate::plain::{leads_on, slot_at, test_at};
+use crate::plain::{leads_on, slot_at, test_at, test_end, test_offset};
 use crate::scratch::Frame;
-use crate::site::{Halt, LastLink, Refusal, Site, Stop, refuse};
+use crate::site::{Halt, LastLink, Refusal, Site, Stop};
 use fb_bytes::{Reads, Tally};
 use fb_schema::{FieldView, Kind, Schema};
 
-/// What a walk carries: what it is asked, the tables that it opened, and the greatest number of them that were open at
-/// once.
+/// How a walk goes on, once it was a while in the top table.
+#[derive(Clone, Copy, PartialEq, Eq)]
+pub enum Turn {
+    /// In a table below, which is to be opened.
+    Down,
+    /// In the table above: the top is passed to its end. In a row, with the next field.
+    Up,
+    /// By single units, since a limit may be met in the next one.
+    Slowly,
+    /// Not at all: it stops.
+    Halt,
+}
+
+/// What a walk carries: what it is asked, the tables that it opened, the greatest number of them that were open at once,
+/// and where it stops, once it does.
 #[derive(Drop)]
 pub struct Walk<'s, 'n> {
     pub schema: &'s Schema<'n>,
@@ -39,193 +53,60 @@ pub struct Walk<'s, 'n> {
     pub checks: Checks,
     pub tables: u32,
     pub deepest: u32,
+    pub halt: Halt,
 }
 
 impl<'s, 'n> Walk<'s, 'n> {
-    /// Reads the head of the table at a position, of this object, and asks the budget. What fails does so in this
-    /// table, before its first field.
-    #[inline(always)]
-    #[tactic(auto, using(crate::proofs::Refusals::told_after))]
-    fn read_head(&self, meter: &mut Tally<'_>, object: u32, at: u64) -> Result<Head, Stop>
-        requires few { meter.old.count < 2 ^ 98 }
-        ensures asked { IsAskedAt (record { object = object; field = None }) self.now.limits meter.old meter.new (head_failure self.now.checks meter.old.bytes at) (head_reads self.now.checks) at result }
-        ensures head { IfOk result (λ h. IsHead self.now.checks meter.old.bytes at h) }
+    /// Stops there, where the words of so many frames lead.
+    #[cold]
+    #[inline(never)]
+    pub fn stop(&mut self, stop: Stop, links: u32, last: LastLink) -> Turn
+        ensures turn { result ≡ Halted }
+        ensures halt { self.new ≡ record self.old { halt = record { stop = stop; links = links; last = last } } }
+    {
+        self.halt = stop.halt(links, last);
+        Turn::Halt
+    }
+
+    /// Stops at the head of a table of this object.
+    #[cold]
+    #[inline(never)]
+    pub fn stop_in_head(&mut self, object: u32, at: u64, reason: Reason, links: u32) -> Turn
+        ensures turn { result ≡ Halted }
+        ensures halt { self.new ≡ record self.old { halt = record { stop = record { refusal = record { at = at; reason = reason }; site = record { object = object; field = None } }; links = links; last = Behind } } }
     {
         let site = Site {
             object,
             field: None,
         };
-        match check_head(meter, self.checks, at) {
-            Ok(head) => {
-                ask_reads(meter, self.limits, site, at)?;
-                Ok(head)
-            }
-            Err(refusal) => Err(Stop { site, refusal }),
-        }
+        let refusal = Refusal { at, reason };
+        self.stop(Stop { refusal, site }, links, LastLink::Behind)
     }
 
-    /// Opens a table, if the limits allow it, and reads its head. So many tables are open before.
-    #[inline(always)]
-    fn open_table(
-        &mut self,
-        meter: &mut Tally<'_>,
-        links: u32,
-        site: Site,
-        child: Child,
-    ) -> Result<Table, Stop>
-        requires few { meter.old.count < 2 ^ 97 }
-        ensures shallow { IfOk result (λ _. links < (self.old.limits).depth) }
-        ensures low { IfOk result (λ _. links < 4096) }
-        ensures few_tables { IfOk result (λ _. (self.old.limits).tables < 2 ^ 32) }
-        ensures fewer { IfOk result (λ _. self.old.tables < (self.old.limits).tables) }
-        ensures ok { IfOk result (λ _. head_failure self.old.checks meter.old.bytes child.at ≡ None) }
-        ensures head { IfOk result (λ t. IsHead self.old.checks meter.old.bytes child.at t.head) }
-        ensures table { IfOk result (λ t. t ≡ record { object = child.object; at = child.at; head = t.head }) }
-        ensures reads { IfOk result (λ _. AreAllowed (self.old.limits).reads meter.new.count) }
-        ensures opened { IfOk result (λ _. self.new ≡ record self.old { tables = self.old.tables + 1; deepest = max self.old.deepest (links + 1) }) }
-        ensures counted { IfOk result (λ _. meter.new ≡ record meter.old { count = meter.old.count + head_reads self.old.checks }) }
-        ensures err { IfErr result (λ s. (told site meter.old.count (budget_failure self.old.limits (way_at links self.old.tables self.old.deepest meter.old.count site) child.at) ▷ told (record { object = child.object; field = None }) meter.old.count (head_failure self.old.checks meter.old.bytes child.at ▷ reads_failure self.old.limits meter.old.count (head_reads self.old.checks) child.at)) ≡ Some (stopped s meter.new.count)) }
-        ensures bytes { meter.new.bytes ≡ meter.old.bytes }
-    {
-        if links >= self.limits.depth() {
-            let refusal = refuse(child.at, Reason::TooDeep);
-            return Err(Stop { site, refusal });
-        }
-        if self.tables >= self.limits.tables() {
-            let refusal = refuse(child.at, Reason::TooManyTables);
-            return Err(Stop { site, refusal });
-        }
-        self.tables += 1;
-        self.deepest = self.deepest.max(links + 1);
-        let head = self.read_head(meter, child.object, child.at)?;
-        Ok(Table {
-            object: child.object,
-            at: child.at,
-            head,
-        })
-    }
-
-    /// Goes on with a field of a table that stands at this place, whose slot was the last read: checks it by itself,
-    /// asks the budget, and answers whether the field leads on, and then by which offset words. What fails does so at
-    /// this field. One that leads to a table comes first, so that it goes past the other kinds without a jump.
-    #[inline(always)]
-    #[tactic(auto, using(crate::proofs::Refusals::told_after), unfolding(crate::specs::Order::own_failure, crate::specs::Order::table_failure, crate::specs::Cost::own_reads, crate::specs::Fields::entries, crate::specs::Fields::row))]
-    fn pass_present(
-        &self,
-        meter: &mut Tally<'_>,
-        table: Table,
-        place: u64,
-        field: &FieldView<'_>,
-        row: &mut Row,
-    ) -> Result<bool, Stop>
-        requires askable { IsAskable meter.old.bytes self.now.schema.now table.at (live_of_view field.now) (field.now).kind }
-        requires present { field_place meter.old.bytes table.at (field.now).slot ≡ Some place }
-        requires slot { IsTrue (has_slot meter.old.bytes table.at (field.now).slot) }
-        requires counted { 1 ≤ meter.old.count }
-        requires few { meter.old.count ≤ 2 ^ 96 + 2 ^ 95 }
-        requires placed { IsPlaced self.now.checks meter.old.bytes table.at table.head place }
-        ensures asked { IsAskedAt (record { object = table.object; field = Some (field.now).number }) self.now.limits (record meter.old { count = meter.old.count - 1 }) meter.new (own_failure self.now.checks meter.old.bytes self.now.schema.now table.at (live_of_view field.now)) (own_reads meter.old.bytes table.at (live_of_view field.now)) table.at result }
-        ensures leads { IfOk result (λ more. LeavesRow meter.old.bytes self.now.schema.now (entries meter.old.bytes self.now.schema.now table.at (live_of_view field.now)) row.old row.new more) }
-    {
-        let site = Site {
-            object: table.object,
-            field: Some(field.number),
-        };
-        if let Kind::Table(object) = field.kind {
-            if !self.checks.inline_size {
-                *row = Row::one(Referent::Table(object), place);
-                ask_reads(meter, self.limits, site, table.at)?;
-                return Ok(true);
-            }
-        }
-        let spot = FieldSpot {
-            at: table.at,
-            head: table.head,
-            place,
-        };
-        match check_present(meter, self.schema, self.checks, spot, field, row) {
-            Ok(more) => {
-                ask_reads(meter, self.limits, site, spot.at)?;
-                Ok(more)
-            }
-            Err(refusal) => Err(Stop { site, refusal }),
-        }
-    }
-
-    /// Checks a field of a table by itself, asks the budget, and answers whether the field leads on, and then by which
-    /// offset words. What fails does so at this field.
-    #[inline(always)]
-    #[tactic(auto, using(crate::proofs::Refusals::told_after), unfolding(crate::specs::Order::own_failure, crate::specs::Cost::own_reads, crate::specs::Fields::entries))]
-    fn pass_field(
-        &self,
-        meter: &mut Tally<'_>,
-        table: Table,
-        field: &FieldView<'_>,
-        row: &mut Row,
-    ) -> Result<bool, Stop>
-        requires askable { IsAskable meter.old.bytes self.now.schema.now table.at (live_of_view field.now) (field.now).kind }
-        requires few { meter.old.count < 2 ^ 96 + 2 ^ 95 }
-        requires near { table.at < 2 ^ 33 }
-        requires head { IsHead self.now.checks meter.old.bytes table.at table.head }
-        ensures asked { IsAskedAt (record { object = table.object; field = Some (field.now).number }) self.now.limits meter.old meter.new (own_failure self.now.checks meter.old.bytes self.now.schema.now table.at (live_of_view field.now)) (own_reads meter.old.bytes table.at (live_of_view field.now)) table.at result }
-        ensures leads { IfOk result (λ more. LeavesRow meter.old.bytes self.now.schema.now (entries meter.old.bytes self.now.schema.now table.at (live_of_view field.now)) row.old row.new more) }
-    {
-        let site = Site {
-            object: table.object,
-            field: Some(field.number),
-        };
-        let Some(place) = read_slot(meter, table.at, table.head, field.slot) else {
-            if field.required {
-                let refusal = refuse(table.at, Reason::MissingRequired);
-                return Err(Stop { site, refusal });
-            }
-            ask_reads(meter, self.limits, site, table.at)?;
-            return Ok(false);
-        };
-        self.pass_present(meter, table, place, field, row)
-    }
-
-    /// Passes fields of the top table one by one until one leads on, and answers whether one does. It serves where the
-    /// budget may end in this table, since it asks the budget after each field.
+    /// Stops at the next field of a table of this object.
     #[cold]
     #[inline(never)]
-    fn pass_each(&self, meter: &mut Tally<'_>, top: &mut Frame) -> Result<bool, Stop>
-        ghost under: { Waiting }
-        requires between { IsBetween self.now meter.old under top.old }
-        requires few { meter.old.count < 2 ^ 96 }
-        ensures { PassesFields self.now meter.old meter.new under top.old top.new result }
+    pub fn stop_in_field(
+        &mut self,
+        object: u32,
+        next: u32,
+        at: u64,
+        reason: Reason,
+        links: u32,
+    ) -> Turn
+        requires table { IsTrue (is_table self.old.schema.now object) }
+        requires next { next < length (live_fields self.old.schema.now object) }
+        ensures turn { result ≡ Halted }
+        ensures same { self.new ≡ record self.old { halt = self.new.halt } }
+        ensures refusal { (self.new.halt.stop).refusal ≡ record { at = at; reason = reason } }
+        ensures object { ((self.new.halt.stop).site).object ≡ object }
+        ensures field { (f : Live) → slice_get (live_fields self.old.schema.now object) next ≡ Some f → ((self.new.halt.stop).site).field ≡ Some f.number }
+        ensures links { (self.new.halt).links ≡ links }
+        ensures last { (self.new.halt).last ≡ InField }
     {
-        let fields = self.schema.fields_of(top.table.object);
-        while let Some(field) = fields.get(top.next as usize) {
-            if top.table.head.ends_before(field.slot) {
-                let Some(needed) = self.schema.next_required(top.table.object, top.next) else {
-                    top.next = fields.len() as u32;
-                    return Ok(false);
-                };
-                let reason = Reason::MissingRequired;
-                return Err(self.stop_at(top.table.object, needed, top.table.at, reason));
-            }
-            top.next += 1;
-            if self.pass_field(meter, top.table, field, &mut top.row)? {
-                top.number = field.number;
-                return Ok(true);
-            }
-        }
-        Ok(false)
-    }
-
-    /// Whether the budget allows whatever the other fields of the top table may cost by themselves, with the strings
-    /// that they may lead to: six reads each.
-    #[inline(always)]
-    fn has_room(&self, meter: &Tally<'_>, top: &Frame) -> bool
-        requires table { IsTrue (is_table self.now.schema.now (top.now.table).object) }
-        requires next { top.now.next ≤ length (live_fields self.now.schema.now (top.now.table).object) }
-        requires few { meter.now.count < 2 ^ 96 }
-        ensures { result ≡ true → HasRoom self.now meter.now top.now }
-    {
-        let left = self.schema.field_count(top.table.object) - top.next;
-        self.limits
-            .allows_short(meter.reads() + u128::from(6 * u64::from(left)))
+        let _schema = self.schema;
+        let stop = self.stop_at(object, next, at, reason);
+        self.stop(stop, links, LastLink::InField)
     }
 
     /// Where the walk stops at the next field of a table of this object.
@@ -246,6 +127,333 @@ impl<'s, 'n> Walk<'s, 'n> {
                 field: Some(field.number),
             },
         }
+    }
+
+    /// Whether the budget allows whatever the other fields of the top table may cost by themselves, with the strings
+    /// that they may lead to: six reads each, and eight for what the last of them may lead to.
+    #[inline(always)]
+    fn has_room(&self, reads: &Reads<'_>, top: &Frame) -> bool
+        requires table { IsTrue (is_table self.now.schema.now (top.now.table).object) }
+        requires next { top.now.next ≤ length (live_fields self.now.schema.now (top.now.table).object) }
+        requires few { IsShort reads.now.count }
+        ensures room { result ≡ true → HasRoom self.now reads.now top.now }
+        ensures more { result ≡ true → AreAllowed (self.now.limits).reads (reads.now.count + 8 + 6 * fields_left self.now.schema.now top.now) }
+        ensures short { result ≡ true → IsShort (reads.now.count + 8 + 6 * fields_left self.now.schema.now top.now) }
+    {
+        let left = self.schema.steps_of(top.table.object).len() as u64 - u64::from(top.next);
+        reads.count() + 8 + 6 * left <= self.limits.short()
+    }
+
+    /// Whether one more table may be opened, where so many are open, and eight reads may be made for it.
+    #[inline(always)]
+    pub fn may_open(&self, reads: &Reads<'_>, links: u32) -> bool
+        requires few { IsShort reads.now.count }
+        ensures deep { result ≡ true → links < (self.now.limits).depth }
+        ensures low { result ≡ true → links < 4096 }
+        ensures fewer { result ≡ true → self.now.tables < (self.now.limits).tables }
+        ensures small { result ≡ true → (self.now.limits).tables < 2 ^ 32 }
+        ensures room { result ≡ true → AreAllowed (self.now.limits).reads (reads.now.count + 8) }
+        ensures short { result ≡ true → IsShort (reads.now.count + 8) }
+    {
+        links < self.limits.depth()
+            && self.tables < self.limits.tables()
+            && reads.count() + 8 <= self.limits.short()
+    }
+
+    /// Comes to the table to which the first word of the top's row leads.
+    #[inline(always)]
+    pub fn next_table(
+        &mut self,
+        checks: Checks,
+        reads: &mut Reads<'_>,
+        waiting: u32,
+        object: u32,
+        top: &mut Frame,
+        child: &mut Child,
+    ) -> Turn
+        ghost under: { Waiting }
+        requires waiting { waiting ≡ length under.frames }
+        requires walking { IsWalking self.old reads.old under.start under.frames top.old }
+        requires leads { (top.old.row).leads ≡ All (ATable object) }
+        requires table { IsTrue (is_table self.old.schema.now object) }
+        requires more { 0 < (top.old.row).left }
+        requires short { IsShort reads.old.count }
+        requires same { checks ≡ self.old.checks }
+        ensures { RowTurned self.old self.new reads.old reads.new under top.old top.new child.new result }
+    {
+        let _schema = self.schema;
+        if !self.may_open(reads, waiting + 1) {
+            return Turn::Slowly;
+        }
+        let mut at = top.row.place;
+        let failed = test_offset(reads, checks, &mut at);
+        top.row.advance();
+        if let Some(reason) = failed {
+            let refusal = Refusal { at, reason };
+            let site = top.site();
+            return self.stop(Stop { refusal, site }, waiting + 1, LastLink::Behind);
+        }
+        self.tables += 1;
+        self.deepest = self.deepest.max(waiting + 2);
+        child.object = object;
+        child.at = at;
+        Turn::Down
+    }
+
+    /// Goes into the field before the top's next one, which stands there and may lead on.
+    #[inline(always)]
+    fn go_into(
+        &mut self,
+        checks: Checks,
+        reads: &mut Reads<'_>,
+        waiting: u32,
+        at: u64,
+        field: &FieldView<'_>,
+        top: &mut Frame,
+        child: &mut Child,
+    ) -> Turn
+        ghost under: { Waiting }
+        requires waiting { waiting ≡ length under.frames }
+        requires at { IsAtField self.old reads.old.bytes reads.old.count under.start under.frames top.old at }
+        requires rests { (top.old.row).left ≡ 0 }
+        requires field { slice_get (live_fields self.old.schema.now (top.old.table).object) top.old.next ≡ Some (live_of_view field.now) }
+        requires open { act_of (live_of_view field.now) (field.now).kind ≡ Other }
+        requires room { AreAllowed (self.old.limits).reads (reads.old.count + 7) }
+        requires short { IsShort (reads.old.count + 7) }
+        requires same { checks ≡ self.old.checks }
+        ensures { FieldTurned self.old self.new reads.old reads.new under top.old top.new child.new result }
+    {
+        let _schema = self.schema;
+        top.next += 1;
+        let mut place = at;
+        if let Kind::Table(object) = field.kind {
+            let failed = test_end(reads, checks, top.table, place, 4);
+            if let Some(reason) = failed {
+                return self.stop_in_field(top.table.object, top.next - 1, place, reason, waiting);
+            }
+            top.number = field.number;
+            top.row = Row::one(Referent::Table(object), place);
+            return self.next_table(checks, reads, waiting, object, top, child);
+        }
+        let failed = self.put_row(reads, top.table, field, &mut place, &mut top.row);
+        if let Some(reason) = failed {
+            return self.stop_in_field(top.table.object, top.next - 1, place, reason, waiting);
+        }
+        if top.row.left == 0 {
+            return Turn::Up;
+        }
+        top.number = field.number;
+        self.pass_row(reads, waiting, top, child)
+    }
+
+    /// Goes on with the fields of the top table until one leads to a table that is to be opened.
+    #[inline(always)]
+    fn pass_fields(
+        &mut self,
+        checks: Checks,
+        reads: &mut Reads<'_>,
+        waiting: u32,
+        top: &mut Frame,
+        child: &mut Child,
+    ) -> Turn
+        ghost under: { Waiting }
+        requires waiting { waiting ≡ length under.frames }
+        requires between { IsBetween self.old reads.old under top.old }
+        requires short { IsShort reads.old.count }
+        requires same { checks ≡ self.old.checks }
+        ensures { Turned self.old self.new reads.old reads.new under top.old top.new child.new result }
+    {
+        let mut at = 0;
+        while self.has_room(reads, top) {
+            match self.pass_plain(checks, reads, top, &mut at) {
+                Ok(true) => {}
+                Ok(false) => return Turn::Up,
+                Err(reason) => {
+                    return self.stop_in_field(top.table.object, top.next, at, reason, waiting);
+                }
+            }
+            let field = &self.schema.fields_of(top.table.object)[top.next as usize];
+            match self.go_into(checks, reads, waiting, at, field, top, child) {
+                Turn::Up => {}
+                turn => return turn,
+            }
+        }
+        Turn::Slowly
+    }
+
+    /// Goes on with the row and the fields of the top table until one leads to a table that is to be opened.
+    #[inline(always)]
+    fn pass_top(
+        &mut self,
+        checks: Checks,
+        reads: &mut Reads<'_>,
+        waiting: u32,
+        top: &mut Frame,
+        child: &mut Child,
+    ) -> Turn
+        ghost under: { Waiting }
+        requires waiting { waiting ≡ length under.frames }
+        requires walking { IsWalking self.old reads.old under.start under.frames top.old }
+        requires short { IsShort reads.old.count }
+        requires same { checks ≡ self.old.checks }
+        ensures { Turned self.old self.new reads.old reads.new under top.old top.new child.new result }
+    {
+        let _schema = self.schema;
+        if top.row.left > 0 {
+            match self.pass_row(reads, waiting, top, child) {
+                Turn::Up => {}
+                turn => return turn,
+            }
+        }
+        self.pass_fields(checks, reads, waiting, top, child)
+    }
+
+    /// Opens the frame of a table that was counted, below a frame that waits for it, and so many in all.
+    #[inline(always)]
+    fn open_child(
+        &mut self,
+        checks: Checks,
+        reads: &mut Reads<'_>,
+        links: u32,
+        above: &Frame,
+        child: Child,
+        below: &mut Frame,
+    ) -> Turn
+        ghost under: { Waiting }
+        requires links { links ≡ length under.frames }
+        requires child { IsAtChild self.old reads.old under.start under.frames child }
+        requires short { IsShort (reads.old.count + 3) }
+        requires same { checks ≡ self.old.checks }
+        ensures { Opened self.old self.new reads.old reads.new under below.new child result }
+    {
+        let _schema = self.schema;
+        // Only the contract speaks of the frame above.
+        let _above = above;
+        let mut at = child.at;
+        let failed = open_frame(reads, checks, child.object, &mut at, below);
+        if let Some(reason) = failed {
+            return self.stop_in_head(child.object, at, reason, links);
+        }
+        Turn::Down
+    }
+
+    /// One turn of the walk: goes on in the top table to a table below it, which is opened, or to its end, so that the
+    /// table above it becomes the top, if there is one. So many frames wait below the top.
+    #[inline(always)]
+    fn turn(
+        &mut self,
+        checks: Checks,
+        reads: &mut Reads<'_>,
+        frames: &mut [Frame],
+        waiting: u32,
+    ) -> Turn
+        ghost under: { Waiting }
+        requires under { under.frames ≡ take waiting frames.old }
+        requires walking { IsWalking self.old reads.old under.start under.frames (slice_index_or frames.old waiting blank) }
+        requires room { min (self.old.limits).depth (waiting + 2) ≤ length frames.old }
+        requires top { waiting < length frames.old }
+        requires short { IsShort reads.old.count }
+        requires same { checks ≡ self.old.checks }
+        ensures { FramesTurned self.old self.new reads.old reads.new under.start frames.old frames.new waiting result }
+    {
+        let _schema = self.schema;
+        let at = waiting as usize;
+        let (low, room) = frames.split_at_mut(at + 1);
+        let top = &mut low[at];
+        let mut child = NO_CHILD;
+        match self.pass_top(checks, reads, waiting, top, &mut child) {
+            Turn::Down => self.open_child(checks, reads, waiting + 1, top, child, &mut room[0]),
+            turn => turn,
+        }
+    }
+
+    /// Goes on with the frames of which so many wait below the top, until the first is closed, or until there is no
+    /// frame for a table below.
+    #[inline(always)]
+    fn walk_by(
+        &mut self,
+        checks: Checks,
+        reads: &mut Reads<'_>,
+        frames: &mut [Frame],
+        waiting: &mut u32,
+    ) -> Turn
+        ghost start: { Origin }
+        requires walking { IsWalking self.old reads.old start (take waiting.old frames.old) (slice_index_or frames.old waiting.old blank) }
+        requires top { waiting.old < length frames.old }
+        requires short { IsShort reads.old.count }
+        requires same { checks ≡ self.old.checks }
+        ensures goes { Walked self.old self.new reads.old reads.new start frames.old waiting.old frames.new waiting.new result }
+        ensures length { length frames.new ≡ length frames.old }
+    {
+        let _schema = self.schema;
+        let depth = self.limits.depth() as usize;
+        let mut at = *waiting;
+        while at as usize + 1 < frames.len() || depth <= frames.len() {
+            match self.turn(checks, reads, frames, at) {
+                Turn::Down => at += 1,
+                Turn::Up => {
+                    if at == 0 {
+                        return Turn::Up;
+                    }
+                    at -= 1;
+                }
+                turn => {
+                    *waiting = at;
+                    return turn;
+                }
+            }
+        }
+        *waiting = at;
+        Turn::Slowly
+    }
+
+    /// The same, whatever the checks are.
+    #[cold]
+    #[inline(never)]
+    fn walk_by_checks(
+        &mut self,
+        reads: &mut Reads<'_>,
+        frames: &mut [Frame],
+        waiting: &mut u32,
+    ) -> Turn
+        ghost start: { Origin }
+        requires walking { IsWalking self.old reads.old start (take waiting.old frames.old) (slice_index_or frames.old waiting.old blank) }
+        requires top { waiting.old < length frames.old }
+        requires short { IsShort reads.old.count }
+        ensures goes { Walked self.old self.new reads.old reads.new start frames.old waiting.old frames.new waiting.new result }
+        ensures length { length frames.new ≡ length frames.old }
+    {
+        let _schema = self.schema;
+        self.walk_by(self.checks, reads, frames, waiting)
+    }
+
+    /// Goes on quickly as long as no limit may be met, by bytes that are lent once: by the published checks as constants
+    /// where these are made.
+    #[inline(never)]
+    pub fn walk_on(
+        &mut self,
+        meter: &mut Tally<'_>,
+        frames: &mut [Frame],
+        waiting: &mut u32,
+    ) -> Turn
+        ghost start: { Origin }
+        requires walking { IsWalking self.old meter.old start (take waiting.old frames.old) (slice_index_or frames.old waiting.old blank) }
+        requires top { waiting.old < length frames.old }
+        ensures goes { Walked self.old self.new meter.old meter.new start frames.old waiting.old frames.new waiting.new result }
+        ensures length { length frames.new ≡ length frames.old }
+    {
+        let _schema = self.schema;
+        if !self.limits.allows_short(meter.reads()) {
+            return Turn::Slowly;
+        }
+        let mut reads = meter.lend();
+        let turn = if self.checks.are_published() {
+            self.walk_by(PUBLISHED, &mut reads, frames, waiting)
+        } else {
+            self.walk_by_checks(&mut reads, frames, waiting)
+        };
+        meter.settle(reads);
+        turn
     }
 
     /// Passes fields of the top table until one is there that may lead to a table, and answers whether one is; the
@@ -298,249 +506,40 @@ impl<'s, 'n> Walk<'s, 'n> {
         Ok(false)
     }
 
-    /// The same by the tally, whatever the checks are: it lends its bytes meanwhile, and takes them back with the reads
-    /// that were made.
-    #[cold]
+    /// Passes the fields of an opened root table of which none leads on, quickly by the published checks where the budget
+    /// allows whatever they may cost.
     #[inline(never)]
-    fn pass_on_by_checks(
-        &self,
-        meter: &mut Tally<'_>,
-        top: &mut Frame,
-        at: &mut u64,
-    ) -> Result<bool, Reason>
-        ghost under: { Waiting }
-        requires between { IsBetween self.now meter.old under top.old }
-        requires room { HasRoom self.now meter.old top.old }
-        ensures { PassesOn self.now meter.old meter.new under top.old top.new at.new result }
+    fn pass_root(&mut self, meter: &mut Tally<'_>, table: Table) -> Turn
+        ghost going: { Going }
+        requires walk { going.walk ≡ self.old }
+        requires walking { IsWalking self.old meter.old going.under.start [] (opened table) }
+        requires root { going.under.frames ≡ [] }
+        requires plain { is_plain self.old.schema.now table.object ≡ true }
+        ensures { RootTurned self.old self.new meter.old meter.new going.under.start result }
     {
-        let mut reads = meter.lend();
-        let answer = self.pass_plain(self.checks, &mut reads, top, at);
-        meter.settle(reads);
-        answer
-    }
-
-    /// The same, quickly where the checks are the published ones, which are constants in the loop then.
-    #[inline(always)]
-    fn pass_on(&self, meter: &mut Tally<'_>, top: &mut Frame, at: &mut u64) -> Result<bool, Reason>
-        ghost under: { Waiting }
-        requires between { IsBetween self.now meter.old under top.old }
-        requires room { HasRoom self.now meter.old top.old }
-        ensures { PassesOn self.now meter.old meter.new under top.old top.new at.new result }
-    {
-        let checks = self.checks;
-        if !checks.alignment || checks.inline_size {
-            return self.pass_on_by_checks(meter, top, at);
+        let _schema = self.schema;
+        let steps = self.schema.steps_of(table.object);
+        let most = meter.reads() + u128::from(6 * steps.len() as u64);
+        if !self.checks.are_published() || !self.limits.allows_short(most) {
+            return Turn::Slowly;
         }
-        let published = Checks {
-            alignment: true,
-            inline_size: false,
-        };
-        let mut reads = meter.lend();
-        let answer = self.pass_plain(published, &mut reads, top, at);
-        meter.settle(reads);
-        answer
-    }
-
-    /// Passes fields of the top table until one leads on, and answers whether one does.
-    #[inline(always)]
-    fn pass_fields(&self, meter: &mut Tally<'_>, top: &mut Frame) -> Result<bool, Stop>
-        ghost under: { Waiting }
-        requires between { IsBetween self.now meter.old under top.old }
-        requires few { meter.old.count < 2 ^ 96 }
-        ensures { PassesFields self.now meter.old meter.new under top.old top.new result }
-    {
-        if !self.has_room(meter, top) {
-            return self.pass_each(meter, top);
-        }
-        let fields = self.schema.fields_of(top.table.object);
+        let mut next = 0;
         let mut at = 0;
-        loop {
-            match self.pass_on(meter, top, &mut at) {
-                Ok(true) => {}
-                Ok(false) => return Ok(false),
-                Err(reason) => return Err(self.stop_at(top.table.object, top.next, at, reason)),
-            }
-            let Some(field) = fields.get(top.next as usize) else {
-                return Ok(false);
-            };
-            top.next += 1;
-            if self.pass_present(meter, top.table, at, field, &mut top.row)? {
-                top.number = field.number;
-                return Ok(true);
-            }
+        let mut reads = meter.lend();
+        let failed = pass_steps(
+            &mut reads,
+            PUBLISHED,
+            steps,
+            self.schema,
+            table,
+            &mut next,
+            &mut at,
+        );
+        meter.settle(reads);
+        match failed {
+            None => Turn::Up,
+            Some(reason) => self.stop_in_field(table.object, next, at, reason, 0),
         }
-    }
-
-    /// Opens the frame of a table that was opened below another frame, and passes its fields until one leads on.
-    /// Answers whether one does; else the table is passed to its end, so that the walk goes on in the frame above.
-    #[inline(always)]
-    fn pass_below(
-        &self,
-        meter: &mut Tally<'_>,
-        above: &Frame,
-        table: Table,
-        below: &mut Frame,
-    ) -> Result<bool, Stop>
-        ghost under: { Waiting }
-        requires walking { IsWalking self.now meter.old under.start under.frames (opened table) }
-        requires few { meter.old.count < 2 ^ 96 }
-        ensures leads { IfOk result (λ more. more ≡ true → IsWalking self.now meter.new under.start under.frames below.new) }
-        ensures ends { IfOk result (λ more. more ≡ false → (rest : List Frame) → under.frames ≡ rest ++ above.now ∷ [] → IsWalking self.now meter.new under.start rest above.now) }
-        ensures least { IfOk result (λ more. more ≡ false → meter.new.count ≤ meter.old.count + frame_work self.now.schema.now (opened table)) }
-        ensures falls { IfOk result (λ more. more ≡ true → meter.new.count + frame_work self.now.schema.now below.new ≤ meter.old.count + frame_work self.now.schema.now (opened table)) }
-        ensures grows { IfOk result (λ _. meter.old.count ≤ meter.new.count) }
-        ensures bytes { meter.new.bytes ≡ meter.old.bytes }
-        ensures err { IfErr result (λ s. IsStopped self.now meter.old under.start under.frames (stopped s meter.new.count)) }
-    {
-        // Only the contract speaks of the frame above.
-        let _above = above;
-        *below = Frame::opened(table);
-        self.pass_fields(meter, below)
-    }
-
-    /// Passes offset words that are left of the top table's field, each with all that it leads to, until one leads to a
-    /// table with a field that leads on in its turn, and answers whether one does: the frame of that table is the first
-    /// of the room then. So many frames wait below the top.
-    #[inline(always)]
-    fn pass_children(
-        &mut self,
-        meter: &mut Tally<'_>,
-        waiting: u32,
-        top: &mut Frame,
-        room: &mut [Frame],
-    ) -> Result<bool, Halt>
-        ghost under: { Waiting }
-        requires waiting { waiting ≡ length under.frames }
-        requires walking { IsWalking self.old meter.old under.start under.frames top.old }
-        requires leads { 0 < (top.old.row).left }
-        requires room { min (self.old.limits).depth (waiting + 2) ≤ waiting + 1 + length room.old }
-        requires few { meter.old.count + work self.old.schema.now self.old.limits under.frames top.old self.old.tables ≤ 2 ^ 95 }
-        ensures same { IfOk result (λ _. self.new ≡ record self.old { tables = self.new.tables; deepest = self.new.deepest }) }
-        ensures over { IfOk result (λ more. more ≡ false → IsWalking self.new meter.new under.start under.frames top.new) }
-        ensures leads { IfOk result (λ more. more ≡ true → IsWalking self.new meter.new under.start (under.frames ++ top.new ∷ []) (slice_index_or room.new 0 blank)) }
-        ensures least { IfOk result (λ more. more ≡ false → meter.new.count + work self.old.schema.now self.old.limits under.frames top.new self.new.tables < meter.old.count + work self.old.schema.now self.old.limits under.frames top.old self.old.tables) }
-        ensures falls { IfOk result (λ more. more ≡ true → meter.new.count + work self.old.schema.now self.old.limits (under.frames ++ top.new ∷ []) (slice_index_or room.new 0 blank) self.new.tables < meter.old.count + work self.old.schema.now self.old.limits under.frames top.old self.old.tables) }
-        ensures grows { IfOk result (λ _. meter.old.count ≤ meter.new.count) }
-        ensures bytes { meter.new.bytes ≡ meter.old.bytes }
-        ensures links { IfErr result (λ h. h.links ≡ waiting + 1) }
-        ensures deep { IfErr result (λ h. h.links + links_left h.last ≤ (self.old.limits).depth) }
-        ensures err { IfErr result (λ h. HaltsIn self.old meter.old under.start (under.frames ++ top.new ∷ []) h meter.new.count) }
-        ensures length { length room.new ≡ length room.old }
-    {
-        let _schema = self.schema;
-        while top.row.left > 0 {
-            let child = match self.next_child(meter, top) {
-                Ok(child) => child,
-                Err(stop) => return Err(stop.halt(waiting + 1, LastLink::Behind)),
-            };
-            if let Some(child) = child {
-                top.row.advance();
-                let site = top.site();
-                let table = match self.open_table(meter, waiting + 1, site, child) {
-                    Ok(table) => table,
-                    Err(stop) => return Err(stop.halt(waiting + 1, LastLink::Behind)),
-                };
-                match self.pass_below(meter, top, table, &mut room[0]) {
-                    Ok(true) => return Ok(true),
-                    Ok(false) => {}
-                    Err(stop) => return Err(stop.halt(waiting + 1, LastLink::InField)),
-                }
-            }
-        }
-        Ok(false)
-    }
-
-    /// Passes offset words that are left of the top table's field, each with all that it leads to, until one leads to a
-    /// table with a field that leads on in its turn, and answers whether one does: the frame of that table is the first
-    /// of the room then. So many frames wait below the top.
-    #[inline(always)]
-    fn pass_elements(
-        &mut self,
-        meter: &mut Tally<'_>,
-        waiting: u32,
-        top: &mut Frame,
-        room: &mut [Frame],
-    ) -> Result<bool, Halt>
-        ghost under: { Waiting }
-        requires waiting { waiting ≡ length under.frames }
-        requires walking { IsWalking self.old meter.old under.start under.frames top.old }
-        requires leads { 0 < (top.old.row).left }
-        requires room { min (self.old.limits).depth (waiting + 2) ≤ waiting + 1 + length room.old }
-        requires few { meter.old.count + work self.old.schema.now self.old.limits under.frames top.old self.old.tables ≤ 2 ^ 95 }
-        ensures same { IfOk result (λ _. self.new ≡ record self.old { tables = self.new.tables; deepest = self.new.deepest }) }
-        ensures over { IfOk result (λ more. more ≡ false → IsWalking self.new meter.new under.start under.frames top.new) }
-        ensures leads { IfOk result (λ more. more ≡ true → IsWalking self.new meter.new under.start (under.frames ++ top.new ∷ []) (slice_index_or room.new 0 blank)) }
-        ensures least { IfOk result (λ more. more ≡ false → meter.new.count + work self.old.schema.now self.old.limits under.frames top.new self.new.tables < meter.old.count + work self.old.schema.now self.old.limits under.frames top.old self.old.tables) }
-        ensures falls { IfOk result (λ more. more ≡ true → meter.new.count + work self.old.schema.now self.old.limits (under.frames ++ top.new ∷ []) (slice_index_or room.new 0 blank) self.new.tables < meter.old.count + work self.old.schema.now self.old.limits under.frames top.old self.old.tables) }
-        ensures grows { IfOk result (λ _. meter.old.count ≤ meter.new.count) }
-        ensures bytes { meter.new.bytes ≡ meter.old.bytes }
-        ensures links { IfErr result (λ h. h.links ≡ waiting + 1) }
-        ensures deep { IfErr result (λ h. h.links + links_left h.last ≤ (self.old.limits).depth) }
-        ensures err { IfErr result (λ h. HaltsIn self.old meter.old under.start (under.frames ++ top.new ∷ []) h meter.new.count) }
-        ensures length { length room.new ≡ length room.old }
-    {
-        let _schema = self.schema;
-        if top.row.left > 1 {
-            match self.pass_flat_row(meter, waiting, top, room) {
-                Ok(true) => return Ok(true),
-                Ok(false) => {}
-                Err(halt) => return Err(halt),
-            }
-            if top.row.left == 0 {
-                return Ok(false);
-            }
-        }
-        self.pass_children(meter, waiting, top, room)
-    }
-
-    /// One step of the walk: goes on in the top table to a table below it, which becomes the top, or to its end, where
-    /// the table above it becomes the top. So many frames wait below the top, and the answer says how many do after;
-    /// none where the first table is closed.
-    pub fn turn(
-        &mut self,
-        meter: &mut Tally<'_>,
-        frames: &mut [Frame],
-        waiting: u32,
-    ) -> Result<Option<u32>, Halt>
-        ghost under: { Waiting }
-        requires under { under.frames ≡ take waiting frames.old }
-        requires walking { IsWalking self.old meter.old under.start under.frames (slice_index_or frames.old waiting blank) }
-        requires room { min (self.old.limits).depth (waiting + 2) ≤ length frames.old }
-        requires few { meter.old.count + work self.old.schema.now self.old.limits under.frames (slice_index_or frames.old waiting blank) self.old.tables ≤ 2 ^ 95 }
-        ensures same { IfOk result (λ _. self.new ≡ record self.old { tables = self.new.tables; deepest = self.new.deepest }) }
-        ensures walking { IfOk result (λ o. MatchOption o
-            (IsOver self.new meter.new under.start)
-            (λ after. IsWalking self.new meter.new under.start (take after frames.new) (slice_index_or frames.new after blank))) }
-        ensures within { IfOk result (λ _. self.new.tables ≤ (self.old.limits).tables) }
-        ensures shallow { IfOk result (λ _. self.new.deepest ≤ (self.old.limits).depth) }
-        ensures reads { IfOk result (λ _. AreAllowed (self.old.limits).reads meter.new.count) }
-        ensures falls { IfOk result (λ o. IfSome o (λ after. meter.new.count + work self.old.schema.now self.old.limits (take after frames.new) (slice_index_or frames.new after blank) self.new.tables < meter.old.count + work self.old.schema.now self.old.limits under.frames (slice_index_or frames.old waiting blank) self.old.tables)) }
-        ensures near { IfOk result (λ o. IfSome o (λ after. after ≤ waiting + 1)) }
-        ensures grows { IfOk result (λ _. meter.old.count ≤ meter.new.count) }
-        ensures bytes { meter.new.bytes ≡ meter.old.bytes }
-        ensures deep { IfErr result (λ h. h.links + links_left h.last ≤ (self.old.limits).depth) }
-        ensures err { IfErr result (λ h. HaltsIn self.old meter.old under.start (take h.links frames.new) h meter.new.count) }
-    {
-        let _schema = self.schema;
-        let at = waiting as usize;
-        let (low, room) = frames.split_at_mut(at + 1);
-        let top = &mut low[at];
-        if top.row.left == 0 {
-            let leads = match self.pass_fields(meter, top) {
-                Ok(leads) => leads,
-                Err(stop) => return Err(stop.halt(waiting, LastLink::InField)),
-            };
-            if !leads {
-                if waiting == 0 {
-                    return Ok(None);
-                }
-                return Ok(Some(waiting - 1));
-            }
-        }
-        if self.pass_elements(meter, waiting, top, room)? {
-            return Ok(Some(waiting + 1));
-        }
-        Ok(Some(waiting))
     }
 
     /// Walks a table and all below it, over these frames, and over 64 of its own where it needs more than these.
@@ -576,6 +575,13 @@ impl<'s, 'n> Walk<'s, 'n> {
             Ok(table) => table,
             Err(stop) => return Err(stop.halt(0, LastLink::Behind)),
         };
+        if self.schema.is_plain(root.object) {
+            match self.pass_root(meter, table) {
+                Turn::Up => return Ok(()),
+                Turn::Halt => return Err(self.halt),
+                _ => {}
+            }
+        }
         frames[0] = Frame::opened(table);
         match self.go_on(meter, frames, 0)? {
             Some(waiting) => self.go_deeper(meter, frames, waiting),

@@ -16,7 +16,7 @@ use crate::element::Child;
 use crate::fault::{Fault, Report};
 use crate::limits::Limits;
 use crate::scratch::{Frame, Scratch};
-use crate::site::{Halt, LastLink, Site};
+use crate::site::{Halt, LastLink, NO_HALT, Site};
 use crate::stack::Walk;
 use crate::start::{Ident, Start};
 use fb_bytes::{Meter, Tally};
@@ -120,6 +120,7 @@ pub(crate) fn trace(
         checks,
         tables: 0,
         deepest: 0,
+        halt: NO_HALT,
     };
     let root = Child { object: root, at };
     walk.run(meter, frames, site, root)?;

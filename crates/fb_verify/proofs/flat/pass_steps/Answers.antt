@@ -55,6 +55,7 @@ returns-then-ends_before g c =
     record {
       walking = tt;
       field = tt;
+      open-field = tt;
       same = refl;
       forth = tt;
       within = tt;
@@ -105,6 +106,7 @@ returns-in-Some-failed g c =
     (record {
       walking = tt;
       field = tt;
+      open-field = tt;
       same = refl;
       forth = tt;
       within = tt;

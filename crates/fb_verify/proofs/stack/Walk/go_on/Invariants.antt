@@ -1,20 +1,8 @@
-use Rattle.std.proofs.Common.{◌≡◌, ◌+◌, ◌^◌, ◌<◌, ◌≤◌, length, take, slice_index_or}
-use Rattle.fb_verify.specs.Stack.{blank, IsWalking, work}
 use Rattle.fb_verify.proofs.stack.Walk.go_on.Given as goal
 
--- the frames below the top are a walk that began where this one did
-abbrev pub ghost-turn : goal.ghost-turn
-ghost-turn g a = record { start = g.start; frames = take a.waiting a.frames.now }
+-- the walk began where it did
+abbrev pub ghost-walk_on : goal.ghost-walk_on
+ghost-walk_on g a = g.start
 
--- each turn leaves less work, by more than the reads that it makes
-abbrev pub invariant-loop-waiting : goal.invariant-loop-waiting
-invariant-loop-waiting g l = record {
-  same : l.self ≡ record l.fn.self { tables = l.self.tables; deepest = l.self.deepest };
-  bytes : l.meter.bytes ≡ l.fn.meter.bytes;
-  top : l.waiting < length l.frames;
-  walking : IsWalking l.self l.meter g.start (take l.waiting l.frames) (slice_index_or l.frames l.waiting blank);
-  budget : l.meter.count + work l.self.schema.now l.self.limits (take l.waiting l.frames) (slice_index_or l.frames l.waiting blank) l.self.tables ≤ 2 ^ 94;
-}
-
-abbrev pub decreases-loop-waiting : goal.decreases-loop-waiting
-decreases-loop-waiting g l = work l.self.schema.now l.self.limits (take l.waiting l.frames) (slice_index_or l.frames l.waiting blank) l.self.tables
+abbrev pub ghost-go_slowly : goal.ghost-go_slowly
+ghost-go_slowly g a = g.start

@@ -1,5 +1,5 @@
 use Rattle.fb_verify.proofs.stack.Walk.pass_below.Given as goal
 
 -- the same frames wait
-abbrev pub ghost-pass_fields : goal.ghost-pass_fields
-ghost-pass_fields g a = g.under
+abbrev pub ghost-pass_each : goal.ghost-pass_each
+ghost-pass_each g a = g.under

@@ -103,7 +103,7 @@ loop-top-preserved-in-Ok-false g c =
     _ (rw (t.opened, t.counted) at (c.in-Ok-false.ensures.least none)) in
     record {
       bytes = c.in-Ok-false.ensures.bytes ∙ t.bytes ∙ e.bytes ∙ i.bytes;
-      same = rw (t.opened, ap (λ (x : Walk). x.checks) i.same, ap (λ (x : Walk). x.schema) i.same, ap (λ (x : Walk). x.limits) i.same) refl;
+      same = rw (t.opened, ap (λ (x : Walk). x.checks) i.same, ap (λ (x : Walk). x.schema) i.same, ap (λ (x : Walk). x.limits) i.same, ap (λ (x : Walk). x.halt) i.same) refl;
       walking = c.in-Ok-false.ensures.ends none (g.under).frames refl;
       budget = rw t.opened (omega (arith, less, i.budget));
       began = λ _. rw t.opened (omega (arith, less, i.budget));

@@ -1,145 +1,134 @@
-use Rattle.std.proofs.Common.{None, ◌≡◌, ◌+◌, ◌-◌, ◌≤◌, length, refl, sym, ◌∙◌, ap, arith}
+use Rattle.std.proofs.Common.{◌+◌, ◌-◌, ◌<◌, ◌≤◌, length, sym, ◌∙◌, ap, arith}
 use Rattle.fb_schema.specs.Live.{live_fields, live_of_view}
-use Rattle.fb_bytes.specs.Word.{Metered}
-use Rattle.fb_verify.specs.Cost.{own_reads}
-use Rattle.fb_verify.specs.PassesOn.{PassesFields}
-use Rattle.fb_verify.specs.Stack.{frame_work, IsAtField}
+use Rattle.std.proofs.lemmas.Option.{slice_get-get_or}
+use Rattle.fb_verify.specs.declared.stack.Walk.{Walk}
+use Rattle.fb_verify.specs.Stack.{work, IsAtField}
 use Rattle.fb_verify.proofs.Budgets.{fewer_reads}
-use Rattle.fb_verify.proofs.Frames.{item_some, item_none, field_at, length_map, own_few}
-use Rattle.fb_verify.proofs.Passing.{own_least}
-use Rattle.fb_verify.proofs.NextField.{err_exit, AtNext, askable, next_stops, next_leads, next_over}
+use Rattle.fb_verify.proofs.Frames.{field_at, length_map}
+use Rattle.fb_verify.specs.declared.field.Table.{Table}
+use Rattle.fb_verify.proofs.Turning.{halts_on, field_turned, field_over}
+use Rattle.fb_verify.proofs.Turns.{halts_in_field}
 use Rattle.fb_verify.proofs.stack.Walk.pass_fields.Goals as goal
-use Rattle.fb_verify.proofs.stack.Walk.pass_fields.Goals.{After-get, In-Some}
+use Rattle.fb_verify.proofs.stack.Walk.pass_fields.Goals.{In-Ok-true}
 
 -- what the loop over plain fields came to
-come : (g : _) (c : After-get g) → IsAtField c.args.self.now c.pass_on.new.meter.bytes c.pass_on.new.meter.count (g.under).start (g.under).frames c.pass_on.new.top c.pass_on.new.at
-come g c = (rw c.in-Ok-true.is at c.pass_on.ensures.field) c.in-Ok-true.field-0-test
-
--- a field that stands somewhere is there
-there : (g : _) (c : After-get g) → c.get.result ≡ None → ⊥
-there g c none =
-    let i = c.loop-reason.invariant in
-    let p = c.pass_on.ensures in
-    let o = come g c in
-    let S = c.args.self.now.schema.now in
-    let fields = c.fields_of-fields.result.now in
-    let past = item_none _ _ _ c.get.ensures.lookup none in
-    let long = ap (λ x. length (live_fields S x.object)) (ap (λ x. x.table) p.same ∙ (i.passed).table) in
-    omega (arith, past, o.within, ap length c.fields_of-fields.ensures.value, length_map live_of_view fields, long)
-
--- the walk before that field's slot was read
-abbrev before : (g : _) → In-Some g → Metered
-before g c = record { bytes = c.pass_on.new.meter.bytes; count = c.pass_on.new.meter.count - 1 }
-
--- comes to the field
-here : (g : _) (c : In-Some g) → AtNext c.args.self.now (before g c) g.under c.pass_on.new.top (live_of_view c.in-Some.field.now)
-here g c =
-    let i = c.loop-reason.invariant in
-    let p = c.pass_on.ensures in
-    let o = (rw c.in-Ok-true.is at p.field) c.in-Ok-true.field-0-test in
-    let is : c.pass_on.new.meter.count - 1 ≡ o.before = omega (arith, o.count) in
-    let e = sym (ap (λ x. x.table) p.same ∙ (i.passed).table) in
-    record {
-      walking = rw is o.walking;
-      rests = ap (λ x. (x.row).left) p.same ∙ ((i.passed).between).rests;
-      here = rw e at (field_at live_of_view c.fields_of-fields.result.now _ _ _ c.fields_of-fields.ensures.value (item_some _ _ _ _ c.get.ensures.lookup c.in-Some.is));
-    }
+come : (g : _) (c : In-Ok-true g) → IsAtField c.loop-checks.self c.pass_plain.new.reads.bytes c.pass_plain.new.reads.count (g.under).start (g.under).frames c.pass_plain.new.top c.pass_plain.new.at
+come g c = (rw c.in-Ok-true.is at c.pass_plain.ensures.field) c.in-Ok-true.field-0-test
 
 -- after work that left room for it
-falls : (g : _) (c : In-Some g) → (before g c).count + frame_work c.args.self.now.schema.now c.pass_on.new.top ≤ c.args.meter.now.count + frame_work c.args.self.now.schema.now c.args.top.now
+falls : (g : _) (c : In-Ok-true g) → c.pass_plain.new.reads.count - 1 + work c.args.self.now.schema.now c.args.self.now.limits (g.under).frames c.pass_plain.new.top c.loop-checks.self.tables
+    ≤ c.args.reads.now.count + work c.args.self.now.schema.now c.args.self.now.limits (g.under).frames c.args.top.now c.args.self.now.tables
+unfolding work
 falls g c =
-    let p = c.pass_on.ensures in
-    let o = (rw c.in-Ok-true.is at p.field) c.in-Ok-true.field-0-test in
-    let long = ap (λ x. length (live_fields c.args.self.now.schema.now (x.table).object)) p.same in
+    let i = c.loop-checks.invariant in
+    let p = c.pass_plain.ensures in
+    let S = c.args.self.now.schema.now in
+    let schema = ap (λ (x : Walk). x.schema.now) i.same in
+    let long = ap (λ x. length (live_fields S (x.table).object)) p.same in
     let left = ap (λ x. (x.row).left) p.same in
-    omega (arith, (rw c.in-Ok-true.is at p.paid), (rw c.in-Ok-true.is at p.forth), (rw c.in-Ok-true.is at p.within), o.count, long, left, ((c.loop-reason.invariant).passed).falls)
+    let forth = rw c.in-Ok-true.is at p.forth in
+    let within = rw schema at (rw c.in-Ok-true.is at p.within) in
+    let paid = rw schema at (rw c.in-Ok-true.is at p.paid) in
+    omega (arith, paid, forth, within, (come g c).count, long, left, i.falls)
 
--- whose reads are at least the one of its slot
-least : (g : _) (c : In-Some g) → c.args.meter.now.count ≤ (before g c).count + own_reads c.pass_on.new.meter.bytes (c.pass_on.new.top.table).at (live_of_view c.in-Some.field.now)
-least g c =
-    let p = c.pass_on.ensures in
-    let o = (rw c.in-Ok-true.is at p.field) c.in-Ok-true.field-0-test in
-    let h = here g c in
-    omega (arith, ((c.loop-reason.invariant).passed).grows, p.grows, own_least c.pass_on.new.meter.bytes (c.pass_on.new.top.table).at (live_of_view c.in-Some.field.now) (o.present _ h.here).1)
-
-pub pass_present-requires-clause-askable : goal.pass_present-requires-clause-askable
-pass_present-requires-clause-askable g c = askable (here g (goal.at.pass_present-requires-clause-askable g c).In-Some)
-
-pub pass_present-requires-clause-present : goal.pass_present-requires-clause-present
-pass_present-requires-clause-present g c =
-    let h = here g (goal.at.pass_present-requires-clause-present g c).In-Some in
-    let o = come g (goal.at.pass_present-requires-clause-present g c).After-get in
-    (o.present _ h.here).0
-
-pub pass_present-requires-clause-slot : goal.pass_present-requires-clause-slot
-pass_present-requires-clause-slot g c =
-    let h = here g (goal.at.pass_present-requires-clause-slot g c).In-Some in
-    let o = come g (goal.at.pass_present-requires-clause-slot g c).After-get in
-    (o.present _ h.here).1
-
-pub returns-in_default : goal.returns-in_default
-returns-in_default g c = absurd (there g (goal.at.returns-in_default g c).After-get c.in_default.is)
+pub returns-in-Ok-false : goal.returns-in-Ok-false
+unfolding work
+returns-in-Ok-false g c =
+    let i = c.loop-checks.invariant in
+    let p = c.pass_plain.ensures in
+    let S = c.args.self.now.schema.now in
+    let ok = c.in-Ok-false.is in
+    let none = c.in-Ok-false.field-0-test in
+    let schema = ap (λ (x : Walk). x.schema.now) i.same in
+    let long = ap (λ x. length (live_fields S (x.table).object)) p.same in
+    let left = ap (λ x. (x.row).left) p.same in
+    let all = rw schema at ((rw ok at p.all) none) in
+    let ends = rw schema at ((rw ok at p.ends) none) in
+    record {
+      on = record {
+        same = i.same;
+        walking = (rw ok at p.walking) none;
+        table = ap (λ x. x.table) p.same ∙ i.table;
+        falls = omega (arith, ends, (rw ok at p.forth), (rw schema at (rw ok at p.within)), long, left, i.falls);
+        grows = omega (arith, p.grows, i.grows);
+        bytes = p.bytes ∙ i.bytes;
+        short = omega (arith, (rw ok at p.forth), ends, (rw schema at (c.has_room.ensures.short c.loop-checks-test.true)));
+      };
+      rests = left ∙ (i.between).rests;
+      all = omega (arith, all, long);
+    }
 
 pub returns-in-Err : goal.returns-in-Err
 returns-in-Err g c =
-    let i = c.loop-reason.invariant in
-    let p = c.pass_on.ensures in
-    let s = c.stop_at.ensures in
-    let stops = rw (i.passed).bytes at ((rw c.in-Err.is at p.err) c.stop_at.result (record { refusal = s.refusal; object = s.object; field = s.field })) in
-    record { walking = tt; leads = tt; rests = tt; all = tt; falls = tt; grows = tt; bytes = p.bytes ∙ (i.passed).bytes; err = stops }
+    let i = c.loop-checks.invariant in
+    let p = c.pass_plain.ensures in
+    let e = c.stop_in_field.ensures in
+    let w = c.loop-checks.self in
+    let stops = (rw c.in-Err.is at p.err) (c.stop_in_field.new.self.halt).stop (record { refusal = e.refusal; object = e.object; field = e.field }) in
+    rw e.turn
+    (halts_on c.args.self.now w c.stop_in_field.new.self c.args.reads.now c.loop-checks.reads c.pass_plain.new.reads g.under i.same i.bytes
+    (halts_in_field w c.stop_in_field.new.self c.loop-checks.reads c.pass_plain.new.reads g.under c.pass_plain.new.top c.args.waiting c.requires.0 p.bytes ((i.between).walking).links e.links e.last stops))
 
-pub returns-in-Ok-false : goal.returns-in-Ok-false
-returns-in-Ok-false g c =
-    let i = c.loop-reason.invariant in
-    let p = c.pass_on.ensures in
-    let ok = c.in-Ok-false.is in
-    let none = c.in-Ok-false.field-0-test in
-    let long = ap (λ x. length (live_fields c.args.self.now.schema.now (x.table).object)) p.same in
-    let left = ap (λ x. (x.row).left) p.same in
-    let all = (rw ok at p.all) none in
+pub go_into-requires : goal.go_into-requires
+go_into-requires g c =
+    let d = (goal.at.go_into-requires g c).In-Ok-true in
+    let i = c.loop-checks.invariant in
+    let p = c.pass_plain.ensures in
+    let ok = c.in-Ok-true.is in
+    let yes = c.in-Ok-true.field-0-test in
+    let S = c.loop-checks.self.schema.now in
+    let o = come g d in
+    let schema = ap (λ (x : Walk). x.schema.now) i.same in
+    let table = ap (λ x. x.table) p.same in
+    let fields = c.fields_of.result.now in
+    let many : c.pass_plain.new.top.next < length fields = omega (arith, o.within, ap length c.fields_of.ensures.value, length_map live_of_view fields) in
+    let here = field_at live_of_view fields _ _ _ c.fields_of.ensures.value (slice_get-get_or fields c.pass_plain.new.top.next _ many) in
+    let paid = rw ok at p.paid in
+    let within = rw ok at p.within in
+    let long = ap (λ x. length (live_fields S (x.table).object)) p.same in
+    let room = c.has_room.ensures.more c.loop-checks-test.true in
+    let act = ((rw ok at p.open-field) yes) _ (rw (ap (λ (x : Table). live_fields S x.object) table) at here) in (
+      c.requires.0,
+      (
+        o,
+        (
+          ap (λ x. (x.row).left) p.same ∙ (i.between).rests,
+          (
+            here,
+            (
+              act,
+              (
+                fewer_reads (c.loop-checks.self.limits).reads _ _ (omega (arith, paid, within, long)) room,
+                (omega (arith, paid, within, long, c.has_room.ensures.short c.loop-checks-test.true), c.requires.1.1.1 ∙ sym (ap (λ (x : Walk). x.checks) i.same)),
+              ),
+            ),
+          ),
+        ),
+      ),
+    )
+
+pub loop-checks-preserved : goal.loop-checks-preserved
+loop-checks-preserved g c =
+    let d = (goal.at.loop-checks-preserved g c).In-Ok-true in
+    let i = c.loop-checks.invariant in
+    let p = c.pass_plain.ensures in
+    let over = field_over c.args.self.now c.loop-checks.self c.go_into.new.self c.args.reads.now c.pass_plain.new.reads c.go_into.new.reads g.under i.same (p.bytes ∙ i.bytes) c.args.top.now c.pass_plain.new.top c.go_into.new.top c.go_into.new.child
+    (ap (λ x. x.table) p.same ∙ i.table) (omega (arith, p.grows, i.grows)) (falls g d) (rw c.in-Up.is at c.go_into.ensures) in
+    let on = over.0 in
     record {
-      walking = (rw ok at p.walking) none;
-      leads = λ e. absurd cc;
-      rests = λ _. left ∙ ((i.passed).between).rests;
-      all = λ _. omega (arith, all, long);
-      falls = omega (arith, (rw ok at p.ends) none, (rw ok at p.forth), (rw ok at p.within), long, left, (i.passed).falls);
-      grows = omega (arith, p.grows, (i.passed).grows);
-      bytes = p.bytes ∙ (i.passed).bytes;
-      err = tt;
+      same = on.same;
+      between = record { walking = on.walking; rests = over.1 };
+      table = on.table;
+      falls = on.falls;
+      grows = on.grows;
+      bytes = on.bytes;
+      short = on.short;
     }
 
-pub returns-in_err-pass_present : goal.returns-in_err-pass_present
-returns-in_err-pass_present g c =
-    let h = here g (goal.at.returns-in_err-pass_present g c).In-Some in
-    let bytes = c.pass_on.ensures.bytes ∙ ((c.loop-reason.invariant).passed).bytes in
-    let e = c.in_err-pass_present.ensures.asked in
-    err_exit c.from_residual.result _ (λ r. PassesFields c.args.self.now c.args.meter.now c.pass_present.new.meter g.under c.args.top.now (record c.pass_on.new.top { next = c.pass_on.new.top.next + 1; row = c.pass_present.new.row }) r) c.from_residual.ensures.1
-    (record { walking = tt; leads = tt; rests = tt; all = tt; falls = tt; grows = tt; bytes = e.bytes ∙ bytes; err = rw bytes at (next_stops h _ e.err) })
-
-pub returns-then-branch : goal.returns-then-branch
-returns-then-branch g c =
-    let d = (goal.at.returns-then-branch g c).In-Some in
-    let e = c.in_ok-pass_present.ensures.asked in
-    let leads = c.in_ok-pass_present.ensures.leads in
-    let more = c.if-branch.true in
-    let bytes = c.pass_on.ensures.bytes ∙ ((c.loop-reason.invariant).passed).bytes in
-    rw e.counted (next_leads (here g d) e.ok refl (rw e.counted at e.reads) (falls g d) (least g d) bytes c.pass_present.new.row (leads.row more) (leads.entries more))
-
-pub loop-reason-preserved : goal.loop-reason-preserved
-loop-reason-preserved g c =
-    let d = (goal.at.loop-reason-preserved g c).In-Some in
-    let i = c.loop-reason.invariant in
-    let p = c.pass_on.ensures in
-    let o = (rw c.in-Ok-true.is at p.field) c.in-Ok-true.field-0-test in
-    let e = c.in_ok-pass_present.ensures.asked in
-    let none = c.in_ok-pass_present.ensures.leads.none c.if-branch.false in
-    let count = ap (λ m. m.count) e.counted in
-    let long = ap (λ x. length (live_fields c.args.self.now.schema.now (x.table).object)) p.same in
-    let few = own_few c.pass_on.new.meter.bytes (c.pass_on.new.top.table).at (live_of_view c.in-Some.field.now) in
-    record {
-      passed = rw (e.counted, none.1) (next_over (here g d) e.ok refl (rw e.counted at e.reads) (falls g d) (least g d) (p.bytes ∙ (i.passed).bytes) (ap (λ x. x.table) p.same ∙ (i.passed).table) none.0);
-      room = record {
-        allowed = fewer_reads (c.args.self.now.limits).reads _ _ (omega (arith, (rw c.in-Ok-true.is at p.paid), count, few, o.within, o.count, long)) (i.room).allowed;
-        short = omega (arith, (rw c.in-Ok-true.is at p.paid), count, few, o.within, o.count, long, (i.room).short);
-      };
-    }
+pub returns-in_default : goal.returns-in_default
+returns-in_default g c =
+    let d = (goal.at.returns-in_default g c).In-Ok-true in
+    let i = c.loop-checks.invariant in
+    let p = c.pass_plain.ensures in
+    field_turned c.args.self.now c.loop-checks.self c.go_into.new.self c.args.reads.now c.pass_plain.new.reads c.go_into.new.reads g.under i.same (p.bytes ∙ i.bytes) c.args.top.now c.pass_plain.new.top c.go_into.new.top c.go_into.new.child
+    (ap (λ x. x.table) p.same ∙ i.table) (omega (arith, p.grows, i.grows)) (falls g d) c.go_into.result c.in_default.not-Up c.go_into.ensures

@@ -1,20 +1,28 @@
-use Rattle.std.proofs.Common.{◌-◌, length}
-use Rattle.fb_verify.specs.PassesOn.{HasPassed, HasRoom}
+use Rattle.std.proofs.Common.{◌≡◌, ◌+◌, ◌-◌, ◌≤◌, length}
+use Rattle.fb_schema.specs.Live.{live_fields}
+use Rattle.fb_verify.specs.PassesOn.{IsBetween}
+use Rattle.fb_verify.specs.Stack.{work}
+use Rattle.fb_verify.specs.Turns.{IsShort}
 use Rattle.fb_verify.proofs.stack.Walk.pass_fields.Given as goal
 
--- the budget still allows the other fields
-abbrev pub invariant-loop-reason : goal.invariant-loop-reason
-invariant-loop-reason g l = record {
-  passed : HasPassed l.self l.fn.meter l.meter g.under l.fn.top l.top;
-  room : HasRoom l.self l.meter l.top;
+-- the walk goes on in the same table, between two fields
+abbrev pub invariant-loop-checks : goal.invariant-loop-checks
+invariant-loop-checks g l = record {
+  same : l.self ≡ record l.fn.self { tables = l.self.tables; deepest = l.self.deepest };
+  between : IsBetween l.self l.reads g.under l.top;
+  table : l.top.table ≡ l.fn.top.table;
+  falls : l.reads.count + work l.fn.self.schema.now l.fn.self.limits (g.under).frames l.top l.self.tables ≤ l.fn.reads.count + work l.fn.self.schema.now l.fn.self.limits (g.under).frames l.fn.top l.fn.self.tables;
+  grows : l.fn.reads.count ≤ l.reads.count;
+  bytes : l.reads.bytes ≡ l.fn.reads.bytes;
+  short : IsShort l.reads.count;
 }
 
-abbrev pub decreases-loop-reason : goal.decreases-loop-reason
-decreases-loop-reason g l = length l.fields - l.top.next
+abbrev pub decreases-loop-checks : goal.decreases-loop-checks
+decreases-loop-checks g l = length (live_fields l.fn.self.schema.now (l.fn.top.table).object) - l.top.next
 
 -- the same frames wait
-abbrev pub ghost-pass_each : goal.ghost-pass_each
-ghost-pass_each g a = g.under
+abbrev pub ghost-pass_plain : goal.ghost-pass_plain
+ghost-pass_plain g a = g.under
 
-abbrev pub ghost-pass_on : goal.ghost-pass_on
-ghost-pass_on g a = g.under
+abbrev pub ghost-go_into : goal.ghost-go_into
+ghost-go_into g a = g.under

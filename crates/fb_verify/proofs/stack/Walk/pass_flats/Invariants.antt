@@ -1,19 +1,13 @@
-use Rattle.std.proofs.Common.{◌≡◌, ◌+◌, ◌<◌, ◌≤◌, [], ◌∷◌, ◌++◌}
-use Rattle.fb_verify.specs.Stack.{IsWalking, work}
+use Rattle.std.proofs.Common.{◌≡◌, [], ◌∷◌, ◌++◌}
+use Rattle.fb_verify.specs.Turns.{GoesOn}
 use Rattle.fb_verify.proofs.stack.Walk.pass_flats.Given as goal
 
 -- the walk goes on in the same field, between two offset words
 abbrev pub invariant-loop-steps : goal.invariant-loop-steps
 invariant-loop-steps g l = record {
-  bytes : l.reads.bytes ≡ l.fn.reads.bytes;
-  top : l.top ≡ l.fn.top;
-  same : l.self ≡ record l.fn.self { tables = l.self.tables; deepest = l.self.deepest };
+  on : GoesOn l.fn.self l.self l.fn.reads l.reads g.under l.fn.top (record l.top { row = l.row });
+  next : l.top.next ≡ l.fn.top.next;
   leads : (l.row).leads ≡ (l.fn.top.row).leads;
-  walking : IsWalking l.self l.reads (g.under).start (g.under).frames (record l.fn.top { row = l.row });
-  falls : l.reads.count + work l.fn.self.schema.now l.fn.self.limits (g.under).frames (record l.fn.top { row = l.row }) l.self.tables ≤ l.fn.reads.count + work l.fn.self.schema.now l.fn.self.limits (g.under).frames l.fn.top l.fn.self.tables;
-  began : (l.row).left < (l.fn.top.row).left → l.reads.count + work l.fn.self.schema.now l.fn.self.limits (g.under).frames (record l.fn.top { row = l.row }) l.self.tables < l.fn.reads.count + work l.fn.self.schema.now l.fn.self.limits (g.under).frames l.fn.top l.fn.self.tables;
-  grows : l.fn.reads.count ≤ l.reads.count;
-  few : l.reads.count ≤ 72057594037927936;
 }
 
 abbrev pub decreases-loop-steps : goal.decreases-loop-steps

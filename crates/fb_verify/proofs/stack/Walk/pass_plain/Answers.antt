@@ -13,7 +13,7 @@ use Rattle.fb_verify.specs.PassesOn.{fields_left}
 use Rattle.fb_verify.proofs.Budgets.{fewer_reads}
 use Rattle.fb_verify.proofs.Frames.{item_some, item_none, slot_few}
 use Rattle.fb_verify.proofs.Plains.{is_step, plain_few, plain_told, plain_counted, place_near}
-use Rattle.fb_verify.proofs.Passing.{AtStep, none_left, long, next_within, rest_absent, required_within, required_stops, step_passed, step_stops, at_field, told_grows}
+use Rattle.fb_verify.proofs.Passing.{AtStep, none_left, long, next_within, rest_absent, required_within, required_stops, step_passed, step_stops, at_field, leads_open, told_grows}
 use Rattle.fb_verify.proofs.stack.Walk.pass_plain.Goals as goal
 use Rattle.fb_verify.proofs.stack.Walk.pass_plain.Goals.{In-Some, After-test_at-failed}
 
@@ -48,6 +48,7 @@ returns-then-ends_before g c =
     rw i.same (record {
       walking = tt;
       field = tt;
+      open-field = tt;
       same = refl;
       forth = tt;
       within = tt;
@@ -96,6 +97,7 @@ returns-in-Some-failed g c =
     rw i.same (record {
       walking = tt;
       field = tt;
+      open-field = tt;
       same = refl;
       forth = tt;
       within = tt;
@@ -121,6 +123,7 @@ returns-then-leads_on g c =
     rw (slot.counted, i.same) (record {
       walking = λ e. absurd cc;
       field = λ _. rw (c.leads_on.ensures.there c.if-leads_on.true) at at;
+      open-field = λ _ f here. leads_open s (c.leads_on.ensures.open c.if-leads_on.true) f here;
       same = refl;
       forth = i.forth;
       within = omega (arith, within);

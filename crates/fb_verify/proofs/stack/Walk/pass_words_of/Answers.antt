@@ -8,7 +8,7 @@ use Rattle.fb_verify.specs.Plain.{tested_by}
 use Rattle.fb_verify.proofs.Budgets.{fewer_reads}
 use Rattle.fb_verify.proofs.Chains.{after_none}
 use Rattle.fb_verify.proofs.Frames.{first_few, row_types_near}
-use Rattle.fb_verify.proofs.LeafRows.{word_told, word_fails, is_leaf, is_sized}
+use Rattle.fb_verify.proofs.LeafRows.{word_told, word_fails, is_leaf, is_sized, leaf_word, leaf_after}
 use Rattle.fb_verify.proofs.Members.{targets_after}
 use Rattle.fb_verify.proofs.Walking.{leaf_passed}
 use Rattle.fb_verify.proofs.stack.Walk.pass_words_of.Goals as goal
@@ -104,5 +104,11 @@ loop-row-preserved g c =
           rw (kept g d)
           (leaf_passed w.checks b w.schema.now w.limits (g.under).start (g.under).frames (top_at g d) w.tables w.deepest c.loop-row.reads.count i.walking c.advance.new.self q c.advance.ensures more (holds g d none) (omega (arith, cost)) leaf cheap);
       targets = rw c.advance.ensures (targets_after w.schema.now c.args.targets (c.loop-row.row).leads i.targets);
+      leaf = λ x. rw c.advance.ensures (leaf_after (c.loop-row.row).leads (i.leaf x));
       paid = omega (arith, cost, few, i.paid, more, left);
     }
+
+pub returns-in-Table-clause-leaf : goal.returns-in-Table-clause-leaf
+returns-in-Table-clause-leaf g c leaf =
+    let row = c.loop-row.row in
+    absurd (subst (λ x. IsLeafLead x) (sym c.first_referent-referent.ensures.lead ∙ ap lead_to c.in-Table.is) (leaf_word c.loop-row.reads.bytes c.args.self.now.schema.now row.leads row.place ((c.loop-row.invariant).leaf leaf)))

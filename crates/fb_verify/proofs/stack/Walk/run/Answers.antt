@@ -1,13 +1,14 @@
-use Rattle.std.proofs.Common.{◌<◌, [], length, refl, sym, ap, arith}
+use Rattle.std.proofs.Common.{◌≡◌, ◌<◌, [], length, refl, sym, ◌∙◌, ap, arith}
 use Rattle.std.proofs.Math.ListN.{length-set}
 use Rattle.std.proofs.lemmas.List.{get_or-set_same}
 use Rattle.std.proofs.lemmas.List.Elements.{All-nil}
 use Rattle.fb_verify.specs.declared.field.Table.{Table}
 use Rattle.fb_verify.specs.Told.{stopped, way_at}
-use Rattle.fb_verify.specs.Stack.{blank, opened, IsFrame, IsLinked, Origin, StopsIn, work}
+use Rattle.fb_verify.specs.Stack.{blank, opened, IsFrame, IsLinked, IsUnderWay, Origin, StopsIn, work}
 use Rattle.fb_verify.proofs.Frames.{head_few, frame_opened, work_opened}
 use Rattle.fb_verify.proofs.Standings.{begin, stop_at_root}
-use Rattle.fb_verify.proofs.stack.Walk.run.Goals.{In-Err}
+use Rattle.fb_verify.proofs.Turning.{root_kept}
+use Rattle.fb_verify.proofs.stack.Walk.run.Goals.{In-Err, In-Ok, Joined-is_plain, then-is_plain+in_default, else-is_plain}
 use Rattle.fb_verify.proofs.stack.Walk.run.Goals as goal
 
 -- where the root table can't be opened, no frame leads there
@@ -27,35 +28,64 @@ returns-in-Err-clause-err g c = ([], rw c.halt.ensures (fails_at_root g (goal.at
 pub returns-in-Err-clause-along : goal.returns-in-Err-clause-along
 returns-in-Err-clause-along g c _ = rw c.halt.ensures (fails_at_root g (goal.at.returns-in-Err-clause-along g c).In-Err)
 
-pub go_on-requires : goal.go_on-requires
-unfolding work
-go_on-requires g c =
+-- the root table wasn't passed before
+kept : (g : _) (c : Joined-is_plain g) → (c.if-is_plain.self ≡ c.open_table.new.self) × (c.if-is_plain.meter ≡ c.open_table.new.meter)
+kept g c = elim c.if-is_plain.branch [
+  | then-is_plain+in_default w ↦
+      let k = root_kept c.open_table.new.self w.pass_root.new.self c.open_table.new.meter w.pass_root.new.meter g.start w.pass_root.result w.in_default.not-Up w.in_default.not-Halt w.pass_root.ensures in
+      (rw w.self-is k.0, rw w.meter-is k.1)
+  | else-is_plain w ↦ (rw w.self-is refl, rw w.meter-is refl)
+]
+
+-- the root table is opened
+begun : (g : _) (c : In-Ok g) → IsUnderWay c.args.self.now.checks c.args.meter.now.bytes c.args.self.now.schema.now c.args.self.now.limits g.start [] (opened c.in-Ok.table) c.open_table.new.self.tables c.open_table.new.self.deepest c.open_table.new.meter.count
+begun g c =
     let b = c.args.meter.now.bytes in
     let S = c.args.self.now.schema.now in
     let L = c.args.self.now.limits in
     let ch = c.args.self.now.checks in
     let s : Origin = record { object = c.args.root.object; position = c.args.root.at; way = way_at 0 c.args.self.now.tables c.args.self.now.deepest c.args.meter.now.count c.args.site } in
-    let xs = c.args.frames.now in
     let table = c.in-Ok.table in
     let t = c.in-Ok.ensures.table in
     let object = ap (λ (x : Table). x.object) t in
     let at = ap (λ (x : Table). x.at) t in
     let h = begin ch b S L s table c.args.self.now.deepest refl refl object at (rw (sym at) at c.in-Ok.ensures.ok) in
     let frame = frame_opened ch b S table (rw (sym object) at c.requires.1.1.0) (rw (sym at) at c.requires.1.1.1.0) (rw (sym at) at c.in-Ok.ensures.head) in
-    let new = work_opened ch b S table c.requires.1.0 in
+    rw (c.in-Ok.ensures.opened, c.in-Ok.ensures.counted)
+    (record {
+      served = c.requires.1.0;
+      tables = omega (arith, c.in-Ok.ensures.fewer);
+      deepest = omega (arith, c.in-Ok.ensures.shallow, c.requires.1.1.1.1.1.1.1.0);
+      reads = rw c.in-Ok.ensures.counted at c.in-Ok.ensures.reads;
+      links = c.in-Ok.ensures.shallow;
+      low = omega arith;
+      frames = All-nil (IsFrame ch b S);
+      frame = frame;
+      standing = rw c.requires.0 h;
+    })
+
+pub pass_root-requires : goal.pass_root-requires
+pass_root-requires g c =
+    let d = (goal.at.pass_root-requires g c).In-Ok in
+    let object = ap (λ (x : Table). x.object) c.in-Ok.ensures.table in
+    (refl, (rw (c.in-Ok.ensures.opened, c.in-Ok.ensures.counted) (rw (c.in-Ok.ensures.opened, c.in-Ok.ensures.counted) at (begun g d)), (refl, rw object (sym c.is_plain.ensures ∙ c.if-is_plain.true))))
+
+pub returns-in-Halt-clause-along : goal.returns-in-Halt-clause-along
+returns-in-Halt-clause-along g c _ =
+    let p = rw c.in-Halt.is at c.pass_root.ensures in
+    rw p.1 (rw (p.1, c.in-Ok.ensures.opened, c.in-Ok.ensures.counted) at (p.0).err)
+
+pub go_on-requires : goal.go_on-requires
+unfolding work
+go_on-requires g c =
+    let d = (goal.at.go_on-requires g c).In-Ok in
+    let k = kept g (goal.at.go_on-requires g c).Joined-is_plain in
+    let xs = c.args.frames.now in
+    let table = c.in-Ok.table in
+    let new = work_opened c.args.self.now.checks c.args.meter.now.bytes c.args.self.now.schema.now table c.requires.1.0 in
     let some : 0 < length xs = omega (arith, c.in-Ok.ensures.shallow, c.requires.1.1.1.1.0) in
     let top = get_or-set_same xs 0 c.opened.result blank some in
-    rw (c.in-Ok.ensures.opened, c.in-Ok.ensures.counted, top, c.opened.ensures) (
-      record {
-        served = c.requires.1.0;
-        tables = omega (arith, c.in-Ok.ensures.fewer);
-        deepest = omega (arith, c.in-Ok.ensures.shallow, c.requires.1.1.1.1.1.1.1.0);
-        reads = rw c.in-Ok.ensures.counted at c.in-Ok.ensures.reads;
-        links = c.in-Ok.ensures.shallow;
-        low = omega arith;
-        frames = All-nil (IsFrame ch b S);
-        frame = frame;
-        standing = rw c.requires.0 h;
-      },
-      (omega (arith, length-set xs 0 (opened table), some), omega (arith, new, head_few ch, c.requires.1.1.1.1.1.1.1.1.1, c.in-Ok.ensures.fewer, c.in-Ok.ensures.few_tables)),
+    rw (k.0, k.1, c.in-Ok.ensures.opened, c.in-Ok.ensures.counted, top, c.opened.ensures) (
+      (rw (c.in-Ok.ensures.opened, c.in-Ok.ensures.counted) at (begun g d)),
+      (omega (arith, length-set xs 0 (opened table), some), omega (arith, new, head_few c.args.self.now.checks, c.requires.1.1.1.1.1.1.1.1.1, c.in-Ok.ensures.fewer, c.in-Ok.ensures.few_tables)),
     )

@@ -1,4 +1,4 @@
-use Rattle.fb_verify.proofs.stack.Walk.pass_members_by_checks.Given as goal
+use Rattle.fb_verify.proofs.stack.Walk.pass_members_by_published.Given as goal
 
 -- the same frames wait
 abbrev pub ghost-pass_members : goal.ghost-pass_members

@@ -1,0 +1,134 @@
+-- Turns through the words of the top's row.
+use Rattle.std.proofs.Common.{◌≡◌, ℕ, ◌+◌, ◌*◌, ◌<◌, ◌≤◌, max, [], ◌∷◌, ◌++◌, length, take, inl, inr, refl, sym, ◌∙◌, ap, arith, Some, None}
+use Rattle.std.proofs.lemmas.Bool.{cases_eq}
+use Rattle.std.proofs.lemmas.List.{length-append, take_all}
+use Rattle.fb_bytes.specs.Word.{Metered}
+use Rattle.fb_verify.specs.declared.element.Child.{Child}
+use Rattle.fb_verify.specs.declared.fault.Reason.{Reason}
+use Rattle.fb_verify.specs.declared.offset_row.Row.{Row}
+use Rattle.fb_verify.specs.declared.scratch.Frame.{Frame}
+use Rattle.fb_verify.specs.declared.site.LastLink.TheVariants.{Behind, InField}
+use Rattle.fb_verify.specs.declared.stack.Walk.{Walk}
+use Rattle.fb_verify.specs.Bounds.{AreAllowed}
+use Rattle.fb_verify.specs.Cost.{head_reads}
+use Rattle.fb_verify.specs.Flat.{in_head, frame_at, PassesFlat}
+use Rattle.fb_verify.specs.OffsetRows.{past_first}
+use Rattle.fb_verify.specs.Stack.{Waiting, IsAtTable, IsWalking, HaltsIn}
+use Rattle.fb_verify.specs.StopsAt.{IsStopAt}
+use Rattle.fb_verify.specs.Turns.{IsShort, IsAtChild, GoesDown, GoesOn, Rests, Halts}
+use Rattle.fb_verify.proofs.Budgets.{fewer_reads}
+use Rattle.fb_verify.proofs.Children.{words_work}
+use Rattle.fb_verify.proofs.Flats.{flat_work}
+use Rattle.fb_verify.proofs.Frames.{first_few, head_few}
+use Rattle.fb_verify.proofs.Turns.{at_child, down_falls}
+
+-- the walk goes on where it is
+pub stays : (w : Walk) (m : Metered) (under : Waiting) (top : Frame) → IsWalking w m under.start under.frames top → IsShort m.count → GoesOn w w m m under top top
+stays w m under top h short = record { same = refl; walking = h; table = refl; falls = omega arith; grows = omega arith; bytes = refl; short = short }
+
+module _ {w then : Walk} {m new : Metered} {under : Waiting} {top past : Frame} (on : GoesOn w then m new under top past) where
+  -- all the words that are left are passed
+  pub words_passed : (last : Frame) (q : Metered) → IsWalking then q under.start under.frames last → last ≡ record past { row = last.row } → (last.row).left ≡ 0 → past.next ≡ top.next
+      → q.count ≤ new.count + 4 * (past.row).left → new.count ≤ q.count → q.bytes ≡ new.bytes → IsShort q.count → Rests w then m q under top last
+  words_passed last q h same none next paid grows bytes short = record {
+    on = record {
+      same = on.same;
+      walking = h;
+      table = ap (λ (x : Frame). x.table) same ∙ on.table;
+      falls = omega (arith, on.falls, words_work w.schema.now w.limits under.frames past last then.tables new.count q.count same (omega (arith, paid, none)) (omega (arith, none)));
+      grows = omega (arith, on.grows, grows);
+      bytes = bytes ∙ on.bytes;
+      short = short;
+    };
+    rests = none;
+    next = ap (λ (x : Frame). x.next) same ∙ next;
+  }
+
+-- the next ones were passed until one leads to a table, which was counted
+pub record Counts (w then counted : Walk) (m new mid : Metered) (under : Waiting) (top past last : Frame) (row : Row) (child : Child) (links : ℕ) : Type 0 where
+  pub on : GoesOn w then m new under top past
+  pub kept : mid.bytes ≡ new.bytes
+  pub grows : new.count ≤ mid.count
+  pub at : IsAtTable then mid.bytes mid.count under.start under.frames last (new.count + 4 * (past.row).left) child
+  pub same : last ≡ record past { row = last.row }
+  pub less : (last.row).left ≤ (past.row).left
+  pub word : row ≡ past_first last.row
+  pub many : links ≡ length under.frames + 1
+  pub fewer : then.tables < (then.limits).tables
+  pub deep : links < (w.limits).depth
+  pub low : links < 4096
+  pub cheap : AreAllowed (w.limits).reads (mid.count + 3)
+  pub is : counted ≡ record then { tables = then.tables + 1; deepest = max then.deepest (links + 1) }
+
+module _ {w then counted : Walk} {m new mid : Metered} {under : Waiting} {top past last : Frame} {row : Row} {child : Child} {links : ℕ} (h : Counts w then counted m new mid under top past last row child links) where
+  limits : then.limits ≡ w.limits
+  limits = ap (λ (x : Walk). x.limits) (h.on).same
+
+  schema : then.schema.now ≡ w.schema.now
+  schema = ap (λ (x : Walk). x.schema.now) (h.on).same
+
+  abbrev waits : Frame
+  waits = record last { row = row }
+
+  abbrev below : Waiting
+  below = record { start = under.start; frames = under.frames ++ waits ∷ [] }
+
+  counted_same : counted ≡ record w { tables = counted.tables; deepest = counted.deepest }
+  counted_same =
+      h.is ∙ ap (λ (x : Walk). record x { tables = then.tables + 1; deepest = max then.deepest (links + 1) }) (h.on).same
+      ∙ sym (ap (λ (x : Walk). record w { tables = x.tables; deepest = x.deepest }) h.is)
+
+  -- it is to be opened
+  pub comes_down : IsAtChild counted mid under.start below.frames child
+  comes_down =
+      at_child then mid.bytes mid.count under.start under.frames last (new.count + 4 * (past.row).left) child h.at links h.many row h.word h.fewer (rw limits h.deep) h.low
+      (fewer_reads (then.limits).reads (mid.count + head_reads then.checks) (mid.count + 3) (omega (arith, head_few then.checks)) (rw limits h.cheap)) counted h.is
+
+  pub goes_down : IsShort (mid.count + 3) → GoesDown w counted m mid under top waits child
+  goes_down short =
+      let fall = down_falls then mid.bytes mid.count new.count under.start under.frames past last child h.same h.less h.at row h.word h.fewer in
+      record {
+        same = counted_same;
+        down = comes_down;
+        deep = omega (arith, h.many, h.deep);
+        falls = rw (ap (λ (x : Walk). x.tables) h.is) (omega (arith, (h.on).falls, rw (schema, limits) at fall));
+        grows = omega (arith, (h.on).grows, h.grows);
+        bytes = h.kept ∙ (h.on).bytes;
+        short = short;
+      }
+
+  -- or it is passed whole
+  pub table_passed : (next at : ℕ) (q : Metered) → PassesFlat counted mid q below child.object child.at next at None → IsShort q.count → GoesOn w counted m q under top waits
+  table_passed next at q p short =
+      let most : q.count ≤ (h.at).before + 200000 = omega (arith, p.paid refl, (h.at).count, first_few mid.bytes then.schema.now last.row, ((p.walking refl under.frames waits refl).served).few child.object) in
+      let fall = flat_work w.schema.now w.limits under.frames last row then.tables (h.at).before q.count h.word (h.at).more (rw limits at h.fewer) most in
+      record {
+        same = counted_same;
+        walking = p.walking refl under.frames waits refl;
+        table = ap (λ (x : Frame). x.table) h.same ∙ (h.on).table;
+        falls = rw (ap (λ (x : Walk). x.tables) h.is) (omega (arith, (h.on).falls, fall, words_work w.schema.now w.limits under.frames past last then.tables new.count (h.at).before h.same (h.at).paid h.less));
+        grows = omega (arith, (h.on).grows, h.grows, p.grows);
+        bytes = p.bytes ∙ h.kept ∙ (h.on).bytes;
+        short = short;
+      }
+
+  -- or the walk stops in it
+  pub table_halts : (next at : ℕ) (reason : Reason) (q : Metered) (halted : Walk) → PassesFlat counted mid q below child.object child.at next at (Some reason) → (halted.halt).links ≡ links
+      → (next ≡ in_head → halted.halt ≡ record { stop = record { refusal = record { at = at; reason = reason }; site = record { object = child.object; field = None } }; links = links; last = Behind })
+      → ((next ≡ in_head → ⊥) → IsStopAt counted.schema.now (frame_at child.object next) at reason (halted.halt).stop × ((halted.halt).last ≡ InField)) → Halts w halted m q under waits
+  table_halts next at reason q halted p many_links head field =
+      let all : take links (under.frames ++ waits ∷ []) ≡ under.frames ++ waits ∷ [] = take_all links (under.frames ++ waits ∷ []) (omega (arith, h.many, length-append under.frames (waits ∷ []))) in
+      let err : HaltsIn counted mid under.start below.frames halted.halt q.count =
+      elim (cases_eq next in_head) [
+        | inl e ↦ rw (head e) (comes_down.stops at q.count reason (p.head e))
+        | inr e ↦ let g = field e in rw g.1 (p.field e (halted.halt).stop g.0)
+      ] in
+      record {
+        links = omega (arith, many_links, h.many);
+        deep = elim (cases_eq next in_head) [
+          | inl e ↦ rw (head e) (omega (arith, h.deep))
+          | inr e ↦ rw (field e).1 (omega (arith, many_links, h.deep))
+        ];
+        err = rw (many_links, all, sym (ap (λ (x : Walk). x.checks) (h.on).same), sym schema, sym limits, sym (h.kept ∙ (h.on).bytes)) (rw (ap (λ (x : Walk). x.checks) h.is, ap (λ (x : Walk). x.schema.now) h.is, ap (λ (x : Walk). x.limits) h.is) at err);
+        bytes = p.bytes ∙ h.kept ∙ (h.on).bytes;
+      }

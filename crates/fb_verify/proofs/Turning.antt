@@ -1,0 +1,211 @@
+-- A turn of the top, over the frames in which it stands.
+use Rattle.std.proofs.Common.{◌≡◌, ℕ, ◌+◌, ◌-◌, ◌≤◌, ◌<◌, List, [], ◌∷◌, ◌++◌, length, take, get_or, refl, sym, ◌∙◌, ap, arith}
+use Rattle.std.proofs.Math.ListN.{set, length-set}
+use Rattle.std.proofs.lemmas.List.{take-take, length-take, length-append}
+use Rattle.std.specs.List.{All}
+use Rattle.fb_bytes.specs.Word.{Metered}
+use Rattle.fb_schema.specs.Live.{live_fields}
+use Rattle.fb_verify.specs.declared.element.Child.{Child}
+use Rattle.fb_verify.specs.declared.scratch.Frame.{Frame}
+use Rattle.fb_verify.specs.declared.stack.Turn.{Turn}
+use Rattle.fb_verify.specs.declared.stack.Turn.TheVariants.{Down, Up, Slowly, Halt as Halted}
+use Rattle.fb_verify.specs.declared.stack.Walk.{Walk}
+use Rattle.fb_verify.specs.Stack.{blank, Origin, frame_work, work, Waiting, IsFrame}
+use Rattle.fb_verify.specs.Turns.{GoesOn, Ends, GoesDown, Halts, GoesOver, WentOn, WentWrong, GoesUp, OpensChild, StopsAtChild, Opened, Turned, FramesTurned, RootTurned, PassedField, FieldTurned}
+use Rattle.fb_verify.proofs.Stacks.{last_is, sum_last, all_last, all_below, below_joined, grown_joined, top_joined, next_joined}
+use Rattle.fb_verify.proofs.Standings.{close_last, close_more}
+
+module _ (w then : Walk) (m new : Metered) (under : Waiting) (old low high : List Frame) (waiting : ℕ) (top past : Frame) (child : Child) (parts : old ≡ low ++ high) (front : length low ≡ waiting + 1)
+    (below : under.frames ≡ take waiting old) (stands : top ≡ get_or old waiting blank) (other : List Frame) where
+  abbrev frames : List Frame
+  frames = set low waiting past ++ other
+
+  waits : under.frames ≡ take waiting frames
+  waits = below ∙ sym (below_joined old low high waiting past parts front other blank)
+
+  top_is : get_or frames waiting blank ≡ past
+  top_is = top_joined old low high waiting past parts front other blank
+
+  grown : take (waiting + 1) frames ≡ under.frames ++ past ∷ []
+  grown = grown_joined old low high waiting past parts front other blank ∙ ap (λ zs. zs ++ past ∷ []) (sym below)
+
+  next_is : get_or frames (waiting + 1) blank ≡ get_or other 0 blank
+  next_is = next_joined old low high waiting past parts front other blank
+
+  long : length frames ≡ waiting + 1 + length other
+  long = omega (arith, length-append (set low waiting past) other, length-set low waiting past, front)
+
+  many : length under.frames ≡ waiting
+  many = omega (arith, ap length below, length-take waiting old, ap length parts, length-append low high, front)
+
+  -- the links that lead to where it stops are those of its first frames
+  pub frames_halt : Halts w then m new under past → WentWrong w then m new under.start frames
+  frames_halt h =
+      let l = (then.halt).links in
+      let same : take l frames ≡ take l (under.frames ++ past ∷ []) = sym (take-take l (waiting + 1) frames (omega (arith, h.links, many))) ∙ ap (take l) grown in
+      record { deep = h.deep; err = rw same h.err; bytes = h.bytes }
+
+  frames_stay : GoesOn w then m new under top past → WentOn w then m new under.start old waiting frames waiting
+  frames_stay h = record {
+    same = h.same;
+    walking = rw (sym waits, top_is) h.walking;
+    top = omega (arith, long);
+    falls = rw (sym waits, top_is, sym below, sym stands) h.falls;
+    grows = h.grows;
+    bytes = h.bytes;
+  }
+
+  frames_close : Ends w then m new under top past → GoesUp w then m new under.start old waiting frames
+  unfolding work
+  frames_close e =
+      let h = e.on.walking in
+      let limits = ap (λ (x : Walk). x.limits) e.on.same in
+      let schema = ap (λ (x : Walk). x.schema.now) e.on.same in
+      let all : length (live_fields then.schema.now (past.table).object) ≤ past.next = rw schema e.all in
+      record {
+        over = λ zero. record {
+          same = e.on.same;
+          over = close_last then.checks new.bytes then.schema.now then.limits under.start under.frames past then.tables then.deepest new.count h.standing (below ∙ rw zero refl) e.rests all;
+          within = rw (sym limits) h.tables;
+          shallow = rw (sym limits) h.deepest;
+          reads = rw (sym limits) h.reads;
+          bytes = e.on.bytes;
+        };
+        above = λ some.
+            let P = IsFrame then.checks new.bytes then.schema.now in
+            let room : waiting ≤ length frames = omega (arith, long) in
+            let holds : All P (take waiting frames) = rw (sym waits) h.frames in
+            record {
+              same = e.on.same;
+              walking = record {
+                served = h.served;
+                tables = h.tables;
+                deepest = h.deepest;
+                reads = h.reads;
+                links = omega (arith, h.links, ap length waits, length-take waiting frames, length-take (waiting - 1) frames);
+                low = omega (arith, h.low, ap length waits, length-take waiting frames, length-take (waiting - 1) frames);
+                frames = all_below frames waiting blank some room P holds;
+                frame = all_last frames waiting blank some room P holds;
+                standing = close_more then.checks new.bytes then.schema.now then.limits under.start under.frames past then.tables then.deepest new.count h.standing
+                    (take (waiting - 1) frames) (get_or frames (waiting - 1) blank) (waits ∙ last_is frames waiting blank some room) e.rests all;
+              };
+              falls = rw (sym below, sym stands) (omega (arith, e.on.falls, ap (λ zs. work w.schema.now w.limits zs past then.tables) waits, sum_last frames waiting blank some room (frame_work w.schema.now)));
+              grows = e.on.grows;
+              bytes = e.on.bytes;
+              short = e.on.short;
+            };
+      }
+
+  -- the top goes on, is passed to its end, or stops
+  pub frames_turned : (turn : Turn) → (turn ≡ Down → ⊥) → Turned w then m new under top past child turn → FramesTurned w then m new under.start old frames waiting turn
+  frames_turned Down un h = absurd (un refl)
+  frames_turned Up un h = frames_close h
+  frames_turned Slowly un h = frames_stay h
+  frames_turned Halted un h = frames_halt h
+
+  -- a table below was opened, or its head stops the walk
+  module _ (last : Walk) (then-reads : Metered) (open-frame : Frame) (first : get_or other 0 blank ≡ open-frame) (some : 0 < length other) (h : GoesDown w then m new under top past child) where
+    abbrev above : Waiting
+    above = record { start = under.start; frames = under.frames ++ past ∷ [] }
+
+    length_above : length (under.frames ++ past ∷ []) ≡ waiting + 1
+    length_above = omega (arith, length-append under.frames (past ∷ []), many)
+
+    frames_opened : OpensChild then last new then-reads above open-frame child → GoesOver w last m then-reads under.start old waiting frames (waiting + 1)
+    unfolding work
+    frames_opened o =
+        let less = ap (λ x. work w.schema.now w.limits (under.frames ++ past ∷ []) x then.tables) o.opens in
+        record {
+          same = rw o.same h.same;
+          walking = rw (grown, next_is, first, o.same) o.walking;
+          falls = rw (grown, next_is, first, o.same, sym below, sym stands) (omega (arith, less, h.falls, o.paid));
+          grows = omega (arith, h.grows, o.grows);
+          bytes = o.bytes ∙ h.bytes;
+          short = omega (arith, h.short, o.paid);
+        }
+
+    frames_stop : StopsAtChild then last new then-reads above → WentWrong w last m then-reads under.start frames
+    frames_stop o =
+        let links : (last.halt).links ≡ waiting + 1 = o.links ∙ length_above in
+        let checks = ap (λ (x : Walk). x.checks) h.same in
+        let schema = ap (λ (x : Walk). x.schema) h.same in
+        let limits = ap (λ (x : Walk). x.limits) h.same in
+        record {
+          deep = rw o.behind (omega (arith, links, h.deep, many));
+          err = rw (links, grown) (rw (checks, schema, limits, h.bytes) at o.err);
+          bytes = o.bytes ∙ h.bytes;
+        }
+
+    pub frames_down : (turn : Turn) → Opened then last new then-reads above open-frame child turn → FramesTurned w last m then-reads under.start old frames waiting turn
+    frames_down Down o = frames_opened o
+    frames_down Up o = absurd o
+    frames_down Slowly o = absurd o
+    frames_down Halted o = frames_stop o
+
+-- The walk goes on from where it came to before.
+module _ (w mid then : Walk) (m been new : Metered) (under : Waiting) (kept : mid ≡ record w { tables = mid.tables; deepest = mid.deepest }) (bytes : been.bytes ≡ m.bytes) where
+  checks_kept : mid.checks ≡ w.checks
+  checks_kept = ap (λ (x : Walk). x.checks) kept
+
+  schema_kept : mid.schema ≡ w.schema
+  schema_kept = ap (λ (x : Walk). x.schema) kept
+
+  limits_kept : mid.limits ≡ w.limits
+  limits_kept = ap (λ (x : Walk). x.limits) kept
+
+  pub same_on : then ≡ record mid { tables = then.tables; deepest = then.deepest } → then ≡ record w { tables = then.tables; deepest = then.deepest }
+  same_on e = rw (schema_kept, limits_kept, checks_kept, ap (λ (x : Walk). x.halt) kept) at e
+
+  pub halts_on : {past : Frame} → Halts mid then been new under past → Halts w then m new under past
+  halts_on h = record {
+    links = h.links;
+    deep = rw limits_kept at h.deep;
+    err = rw (checks_kept, schema_kept, limits_kept, bytes) at h.err;
+    bytes = h.bytes ∙ bytes;
+  }
+
+  module _ (top t past : Frame) (child : Child) (table : t.table ≡ top.table) (grows : m.count ≤ been.count)
+      (falls : been.count - 1 + work w.schema.now w.limits under.frames t mid.tables ≤ m.count + work w.schema.now w.limits under.frames top w.tables) where
+    -- past a field that leads on
+    pub field_turned : (turn : Turn) → (turn ≡ Up → ⊥) → FieldTurned mid then been new under t past child turn → Turned w then m new under top past child turn
+    field_turned Down un h = record {
+      same = same_on h.same;
+      down = h.down;
+      deep = rw limits_kept at h.deep;
+      falls = omega (arith, (rw (schema_kept, limits_kept) at h.falls), falls);
+      grows = omega (arith, grows, h.grows);
+      bytes = h.bytes ∙ bytes;
+      short = h.short;
+    }
+    field_turned Up un h = absurd (un refl)
+    field_turned Slowly un h = record {
+      same = same_on h.same;
+      walking = h.walking;
+      table = h.table ∙ table;
+      falls = omega (arith, (rw (schema_kept, limits_kept) at h.falls), falls);
+      grows = omega (arith, grows, h.grows);
+      bytes = h.bytes ∙ bytes;
+      short = h.short;
+    }
+    field_turned Halted un h = halts_on h
+
+    pub field_over : PassedField mid then been new under t past → GoesOn w then m new under top past × ((past.row).left ≡ 0)
+    field_over h = (
+      record {
+        same = same_on h.same;
+        walking = (h.between).walking;
+        table = h.table ∙ table;
+        falls = omega (arith, (rw (schema_kept, limits_kept) at h.falls), falls);
+        grows = omega (arith, grows, h.grows);
+        bytes = h.bytes ∙ bytes;
+        short = h.short;
+      },
+      (h.between).rests,
+    )
+
+-- what wasn't passed at the root is as it was
+pub root_kept : (w then : Walk) (m new : Metered) (s : Origin) (turn : Turn) → (turn ≡ Up → ⊥) → (turn ≡ Halted → ⊥) → RootTurned w then m new s turn → (then ≡ w) × (new ≡ m)
+root_kept w then m new s Down up halt h = absurd h
+root_kept w then m new s Up up halt h = absurd (up refl)
+root_kept w then m new s Slowly up halt h = h
+root_kept w then m new s Halted up halt h = absurd (halt refl)

@@ -1,0 +1,45 @@
+use Rattle.std.proofs.Common.{◌≡◌, ◌+◌, [], ◌∷◌, refl, sym, ◌∙◌, ap, arith, None, Some}
+use Rattle.fb_schema.specs.Members.{member_of}
+use Rattle.fb_schema.proofs.ToldKinds.{told_of}
+use Rattle.fb_verify.specs.Fields.{entry, lead_of, type_place, union_type, row}
+use Rattle.fb_verify.specs.Cost.{reads_if_present}
+use Rattle.fb_verify.specs.OffsetRows.{lead_to}
+use Rattle.fb_verify.specs.Order.{table_failure}
+use Rattle.fb_verify.proofs.Members.{no_member, some_member}
+use Rattle.fb_verify.proofs.Plains.{after_twice}
+use Rattle.fb_verify.proofs.leads.put_union.Goals as goal
+
+-- the type of the union has no member
+none : (c : goal.In-Nothing) → member_of c.args.schema.now c.args.union (union_type c.args.reads.now.bytes (type_place c.args.reads.now.bytes c.args.table.at c.args.slot)) ≡ None
+none c =
+    let member = member_of c.args.schema.now c.args.union c.type_of-value.result in
+    let lead = (c.referent_at-referent.ensures).lead in
+    ap (member_of c.args.schema.now c.args.union) (sym c.type_of-value.ensures.value) ∙ no_member c.args.schema.now member (told_of c.args.schema.now c.lawful.ensures.legal c.args.union c.type_of-value.result) (rw c.in-Nothing.is at lead)
+
+pub returns-in-Nothing-clause-tested : goal.returns-in-Nothing-clause-tested
+returns-in-Nothing-clause-tested c =
+    let counted = c.type_of-value.ensures.counted in
+    record { told = rw (none c) refl; counted = λ _. ap (λ m. m.count) counted; bytes = ap (λ m. m.bytes) counted }
+
+pub returns-in-Nothing-clause-leads : goal.returns-in-Nothing-clause-leads
+returns-in-Nothing-clause-leads c =
+    let rests = c.requires.rests in
+    λ _. record { none = λ _. (rw (none c) refl, refl); entries = rw rests (λ e. absurd cc); row = rw rests (λ e. absurd cc) }
+
+pub returns-then-is_none : goal.returns-then-is_none
+unfolding row
+returns-then-is_none c =
+    let value = c.type_of-value.ensures.value in
+    let e = c.referent_at-referent.ensures in
+    let counted = c.type_of-value.ensures.counted in
+    let some = some_member c.args.schema.now (member_of c.args.schema.now c.args.union c.type_of-value.result) c.referent_at-referent.result e.lead c.in_default.not-Nothing in
+    let lead : lead_to c.referent_at-referent.result ≡ lead_of c.args.schema.now (Some some.0) = rw some.1 at e.lead in
+    let failure = table_failure c.args.checks c.args.reads.now.bytes c.args.table.at c.args.at 4 in
+    record {
+      tested = record {
+        told = rw (sym value, some.1, counted) (rw counted at c.test_end-end.ensures.told ∙ sym (after_twice c.args.reads.now.count (1 + reads_if_present 1 (type_place c.args.reads.now.bytes c.args.table.at c.args.slot)) failure));
+        counted = λ _. ap (λ m. m.count) counted;
+        bytes = ap (λ m. m.bytes) counted;
+      };
+      leads = λ _. rw (sym value, some.1, c.one.ensures) (record { none = λ x. absurd cc; entries = λ _. ap (λ l. entry l c.args.at 0 ∷ []) (sym lead); row = λ _. (record { place = omega (arith, c.requires.placed.place); left = omega arith; leads = λ _. e.referent }, omega arith) });
+    }

@@ -1,0 +1,59 @@
+use Rattle.std.proofs.Common.{◌≡◌, ◌+◌, ◌*◌, max, refl, sym, ◌∙◌, ap, arith}
+use Rattle.fb_verify.specs.Cost.{head_reads}
+use Rattle.fb_verify.specs.Fields.{to_table}
+use Rattle.fb_verify.specs.Order.{after, lead_failure}
+use Rattle.fb_verify.specs.Plain.{tested_by}
+use Rattle.fb_verify.specs.Stack.{IsAtTable}
+use Rattle.fb_verify.proofs.Budgets.{fewer_reads}
+use Rattle.fb_verify.proofs.Flats.{at_flat, word_tells}
+use Rattle.fb_verify.proofs.Frames.{head_few}
+use Rattle.fb_verify.proofs.LeafRows.{word_fails}
+use Rattle.fb_verify.proofs.Turns.{at_child, down_falls, halts_behind}
+use Rattle.fb_verify.proofs.stack.Walk.next_table.Goals as goal
+
+pub returns-in-Some : goal.returns-in-Some
+returns-in-Some g c =
+    let w = c.args.self.now in
+    let r = c.args.reads.now.count in
+    let new = c.test_offset-failed.new in
+    let top = c.args.top.now in
+    let h = c.requires.1.0 in
+    let more = c.requires.1.1.1.1.0 in
+    let checks = c.requires.1.1.1.1.1.1 in
+    let e = c.test_offset-failed.ensures.tested in
+    let told : tested_by new.at new.reads.count c.test_offset-failed.result ≡ after r (lead_failure w.checks c.args.reads.now.bytes (top.row).place (to_table c.args.object)) = rw checks at e.told in
+    let word = word_tells w c.args.reads.now.bytes (g.under).start (g.under).frames top r h c.args.object c.requires.1.1.0 more new.reads.count new.at c.test_offset-failed.result told in
+    rw c.stop.ensures.turn
+    (halts_behind w c.stop.new.self c.args.reads.now new.reads g.under _ c.args.waiting c.requires.0 e.bytes h.links _ (ap (λ x. x.halt) c.stop.ensures.halt)
+    (word_fails w.checks c.args.reads.now.bytes w.schema.now w.limits (g.under).start (g.under).frames top w.tables w.deepest r h c.advance.new.self c.advance.ensures more (record { at = new.at; reason = c.in-Some.reason }) r new.reads.count refl
+    (sym word ∙ ap (tested_by new.at new.reads.count) c.in-Some.is) _ (ap (λ s. record { refusal = record { at = new.at; reason = c.in-Some.reason }; site = s }) c.site-site.ensures)))
+
+pub returns : goal.returns
+returns g c =
+    let w = c.args.self.now in
+    let r = c.args.reads.now.count in
+    let b = c.args.reads.now.bytes in
+    let new = c.test_offset-failed.new in
+    let q = new.reads.count in
+    let none = c.in_default.is in
+    let top = c.args.top.now in
+    let row = c.advance.new.self in
+    let e = c.test_offset-failed.ensures.tested in
+    let may = c.may_open.ensures in
+    let paid : q ≡ r + 1 = e.counted none in
+    let told : tested_by new.at q c.test_offset-failed.result ≡ after r (lead_failure w.checks b (top.row).place (to_table c.args.object)) = rw c.requires.1.1.1.1.1.1 at e.told in
+    let at : IsAtTable w b q (g.under).start (g.under).frames top (r + 4 * (top.row).left) (record { object = c.args.object; at = new.at }) =
+    at_flat w b (g.under).start (g.under).frames top r c.requires.1.0 c.args.object c.requires.1.1.0 c.requires.1.1.1.1.0 q new.at c.test_offset-failed.result told none c.requires.1.1.1.0 paid (c.test_offset-failed.ensures.value none) (c.test_offset-failed.ensures.near none) in
+    let two : c.args.waiting + 2 ≡ c.args.waiting + 1 + 1 = omega arith in
+    let deepest : c.max-self.result ≡ max w.deepest (c.args.waiting + 1 + 1) = c.max-self.ensures ∙ ap (max w.deepest) two in
+    let yes = c.if-not-may_open.false in
+    record {
+      same = refl;
+      down = rw e.bytes (at_child w b q (g.under).start (g.under).frames top _ _ at (c.args.waiting + 1) (omega (arith, c.requires.0)) row c.advance.ensures (may.fewer yes) (may.deep yes) (omega (arith, may.low yes))
+          (fewer_reads (w.limits).reads (q + head_reads w.checks) (r + 8) (omega (arith, paid, head_few w.checks)) (may.room yes)) _ (rw deepest refl));
+      deep = omega (arith, may.deep yes, c.requires.0);
+      falls = down_falls w b q r (g.under).start (g.under).frames top top _ refl (omega arith) at row c.advance.ensures (may.fewer yes);
+      grows = omega (arith, paid);
+      bytes = e.bytes;
+      short = omega (arith, paid, may.short yes);
+    }

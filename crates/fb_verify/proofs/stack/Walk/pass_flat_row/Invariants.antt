@@ -1,8 +1,0 @@
-use Rattle.fb_verify.proofs.stack.Walk.pass_flat_row.Given as goal
-
--- the same frames wait
-abbrev pub ghost-pass_flats_on : goal.ghost-pass_flats_on
-ghost-pass_flats_on g a = g.under
-
-abbrev pub ghost-pass_members_on : goal.ghost-pass_members_on
-ghost-pass_members_on g a = g.under

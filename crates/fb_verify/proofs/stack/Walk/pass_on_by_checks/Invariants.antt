@@ -1,5 +1,0 @@
-use Rattle.fb_verify.proofs.stack.Walk.pass_on_by_checks.Given as goal
-
--- the same frames wait
-abbrev pub ghost-pass_plain : goal.ghost-pass_plain
-ghost-pass_plain g a = g.under

@@ -1,0 +1,5 @@
+use Rattle.fb_verify.proofs.stack.Walk.pass_row_by_checks.Given as goal
+
+-- the same frames wait
+abbrev pub ghost-pass_row_by : goal.ghost-pass_row_by
+ghost-pass_row_by g a = g.under

@@ -1,0 +1,131 @@
+use Rattle.std.proofs.Common.{◌≡◌, ◌+◌, ◌-◌, ◌<◌, ◌≤◌, List, [], ◌∷◌, ◌++◌, take, length, get_or, refl, sym, ◌∙◌, ap, arith}
+use Rattle.std.proofs.Math.ListN.{set, length-set}
+use Rattle.std.proofs.lemmas.List.{length-take, take-set-le}
+use Rattle.fb_verify.specs.declared.scratch.Frame.{Frame}
+use Rattle.fb_verify.specs.Stack.{blank, IsFrame, IsWalking, work, frame_work}
+use Rattle.fb_verify.proofs.Frames.{if_err_exit}
+use Rattle.fb_verify.proofs.Stacks.{last_is, sum_last, all_last, all_below, top_is, joined, below_joined, grown_joined, top_joined, next_joined}
+use Rattle.fb_verify.proofs.Standings.{close_last, close_more}
+use Rattle.fb_verify.proofs.stack.Walk.turn_by_units.Goals.{Else-waiting-eq0, Joined-top-eq0, After-pass_children, then-top-eq0+in-Ok+else-not-leads, else-top-eq0}
+use Rattle.fb_verify.proofs.stack.Walk.turn_by_units.Goals as goal
+
+-- Where the top's fields are passed, and frames wait.
+
+-- the frames with the top that is left
+abbrev stack : (g : _) → Else-waiting-eq0 g → List Frame
+stack g c = set c.args.frames.now c.args.waiting c.pass_each.new.top
+
+-- these are both parts of the row
+whole : (g : _) (c : Else-waiting-eq0 g) → set c.split_at_mut-low.result.0.now c.args.waiting c.pass_each.new.top ++ c.split_at_mut-low.result.1.now ≡ stack g c
+whole g c = joined c.args.frames.now c.split_at_mut-low.result.0.now c.split_at_mut-low.result.1.now c.args.waiting c.pass_each.new.top c.split_at_mut-low.ensures.value c.split_at_mut-low.ensures.front_len
+
+-- those that wait are the first of them
+below : (g : _) (c : Else-waiting-eq0 g) → (g.under).frames ≡ take c.args.waiting (stack g c)
+below g c = c.requires.0 ∙ sym (take-set-le c.args.waiting c.args.frames.now c.args.waiting c.pass_each.new.top (omega arith))
+
+some : (g : _) (c : Else-waiting-eq0 g) → 0 < c.args.waiting
+some g c = omega (arith, c.if-waiting-eq0.false)
+
+room : (g : _) (c : Else-waiting-eq0 g) → c.args.waiting ≤ length (stack g c)
+room g c = omega (arith, (c.in-Ok.ensures.walking).links, ap length c.requires.0, length-take c.args.waiting c.args.frames.now, c.requires.1.1.0, length-set c.args.frames.now c.args.waiting c.pass_each.new.top)
+
+pub returns-then-waiting-eq0-clause-walking : goal.returns-then-waiting-eq0-clause-walking
+returns-then-waiting-eq0-clause-walking g c =
+    let h = c.in-Ok.ensures.walking in
+    let zero = c.if-waiting-eq0.true in
+    close_last c.args.self.now.checks c.pass_each.new.meter.bytes c.args.self.now.schema.now c.args.self.now.limits (g.under).start (g.under).frames c.pass_each.new.top c.args.self.now.tables c.args.self.now.deepest c.pass_each.new.meter.count h.standing
+    (c.requires.0 ∙ rw zero refl) (c.in-Ok.ensures.rests c.if-not-leads.true) (c.in-Ok.ensures.all c.if-not-leads.true)
+
+pub returns-then-not-leads-clause-walking : goal.returns-then-not-leads-clause-walking
+returns-then-not-leads-clause-walking g c =
+    let d = (goal.at.returns-then-not-leads-clause-walking g c).Else-waiting-eq0 in
+    let h = c.in-Ok.ensures.walking in
+    let m = c.args.waiting in
+    let ys = stack g d in
+    let S = c.args.self.now.schema.now in
+    let P = IsFrame c.args.self.now.checks c.pass_each.new.meter.bytes S in
+    let waits = below g d in
+    let all = rw waits at h.frames in
+    rw (whole g d)
+    (record {
+      served = h.served;
+      tables = h.tables;
+      deepest = h.deepest;
+      reads = h.reads;
+      links = omega (arith, h.links, ap length waits, length-take m ys, length-take (m - 1) ys);
+      low = omega (arith, h.low, ap length waits, length-take m ys, length-take (m - 1) ys);
+      frames = all_below ys m blank (some g d) (room g d) P all;
+      frame = all_last ys m blank (some g d) (room g d) P all;
+      standing = close_more c.args.self.now.checks c.pass_each.new.meter.bytes S c.args.self.now.limits (g.under).start (g.under).frames c.pass_each.new.top c.args.self.now.tables c.args.self.now.deepest c.pass_each.new.meter.count h.standing
+          (take (m - 1) ys) (get_or ys (m - 1) blank) (waits ∙ last_is ys m blank (some g d) (room g d)) (c.in-Ok.ensures.rests c.if-not-leads.true) (c.in-Ok.ensures.all c.if-not-leads.true);
+    })
+
+pub returns-then-not-leads-clause-falls : goal.returns-then-not-leads-clause-falls
+unfolding work
+returns-then-not-leads-clause-falls g c =
+    let d = (goal.at.returns-then-not-leads-clause-falls g c).Else-waiting-eq0 in
+    let top = top_is c.args.frames.now c.split_at_mut-low.result.0.now c.split_at_mut-low.result.1.now c.args.waiting c.pass_each.new.top c.split_at_mut-low.ensures.value c.split_at_mut-low.ensures.front_len blank in
+    rw (whole g d, below g d) (omega (arith, sum_last (stack g d) c.args.waiting blank (some g d) (room g d) (frame_work c.args.self.now.schema.now), rw top at c.in-Ok.ensures.falls))
+
+-- Where the elements of a field of the top are passed.
+
+-- the top stood in its place
+top_was : (g : _) (c : Joined-top-eq0 g) → get_or c.split_at_mut-low.result.0.now c.args.waiting blank ≡ get_or c.args.frames.now c.args.waiting blank
+top_was g c =
+    top_is c.args.frames.now c.split_at_mut-low.result.0.now c.split_at_mut-low.result.1.now c.args.waiting (get_or c.args.frames.now c.args.waiting blank) c.split_at_mut-low.ensures.value c.split_at_mut-low.ensures.front_len blank
+
+-- no more reads were made before than work was left to it
+less : (g : _) (c : Joined-top-eq0 g) → c.if-top-eq0.meter.count + frame_work c.args.self.now.schema.now c.if-top-eq0.top ≤ c.args.meter.now.count + frame_work c.args.self.now.schema.now (get_or c.args.frames.now c.args.waiting blank)
+less g c =
+    let top = top_was g c in
+    elim c.if-top-eq0.branch [
+      | then-top-eq0+in-Ok+else-not-leads w ↦ rw (w.meter-is, w.top-is, sym top) w.in-Ok.ensures.falls
+      | else-top-eq0 w ↦ rw (w.meter-is, w.top-is, sym top) (omega arith)
+    ]
+
+-- it follows those that wait
+grown : (g : _) (c : After-pass_children g) → take (c.args.waiting + 1) (set c.split_at_mut-low.result.0.now c.args.waiting c.pass_children.new.top ++ c.pass_children.new.room) ≡ take c.args.waiting c.args.frames.now ++ c.pass_children.new.top ∷ []
+grown g c = grown_joined c.args.frames.now c.split_at_mut-low.result.0.now c.split_at_mut-low.result.1.now c.args.waiting c.pass_children.new.top c.split_at_mut-low.ensures.value c.split_at_mut-low.ensures.front_len c.pass_children.new.room blank
+
+pub pass_children-requires : goal.pass_children-requires
+unfolding work
+pass_children-requires g c =
+    let j = c.if-top-eq0 in
+    let d = (goal.at.pass_children-requires g c).Joined-top-eq0 in
+    let leads : 0 < (j.top.row).left =
+    elim c.if-top-eq0.branch [
+      | then-top-eq0+in-Ok+else-not-leads w ↦ rw w.top-is (w.in-Ok.ensures.leads w.if-not-leads.false)
+      | else-top-eq0 w ↦ rw w.top-is (omega (arith, w.if-top-eq0.false))
+    ] in
+    let walks : IsWalking c.args.self.now j.meter (g.under).start (g.under).frames j.top =
+    elim c.if-top-eq0.branch [
+      | then-top-eq0+in-Ok+else-not-leads w ↦ rw (w.meter-is, w.top-is) w.in-Ok.ensures.walking
+      | else-top-eq0 w ↦ rw (w.meter-is, w.top-is, top_was g d) c.requires.1.0
+    ] in
+    let frames = ap length c.requires.0 in
+    (omega (arith, frames, length-take c.args.waiting c.args.frames.now, (c.requires.1.0).links, c.requires.1.1.0), (walks, (leads, (omega (arith, c.requires.1.1.0, c.split_at_mut-low.ensures.back_len), omega (arith, less g d, c.requires.1.1.1)))))
+
+pub returns-in_err-pass_children-clause-err : goal.returns-in_err-pass_children-clause-err
+returns-in_err-pass_children-clause-err g c =
+    let j = c.if-top-eq0 in
+    let bytes : j.meter.bytes ≡ c.args.meter.now.bytes =
+    elim c.if-top-eq0.branch [
+      | then-top-eq0+in-Ok+else-not-leads w ↦ rw w.meter-is w.in-Ok.ensures.bytes
+      | else-top-eq0 w ↦ rw w.meter-is refl
+    ] in
+    let e = c.in_err-pass_children.ensures in
+    if_err_exit _ _ _ c.from_residual.ensures.1 (rw (e.links, grown g (goal.at.returns-in_err-pass_children-clause-err g c).After-pass_children, sym c.requires.0, sym bytes) e.err)
+
+pub returns-then-branch-clause-falls : goal.returns-then-branch-clause-falls
+unfolding work
+returns-then-branch-clause-falls g c =
+    let d = goal.at.returns-then-branch-clause-falls g c in
+    let next = next_joined c.args.frames.now c.split_at_mut-low.result.0.now c.split_at_mut-low.result.1.now c.args.waiting c.pass_children.new.top c.split_at_mut-low.ensures.value c.split_at_mut-low.ensures.front_len c.pass_children.new.room blank in
+    rw (grown g d.After-pass_children, next, sym c.requires.0) (omega (arith, less g d.Joined-top-eq0, c.in_ok-pass_children.ensures.falls c.if-branch.true))
+
+pub returns-clause-falls : goal.returns-clause-falls
+unfolding work
+returns-clause-falls g c =
+    let waits = below_joined c.args.frames.now c.split_at_mut-low.result.0.now c.split_at_mut-low.result.1.now c.args.waiting c.pass_children.new.top c.split_at_mut-low.ensures.value c.split_at_mut-low.ensures.front_len c.pass_children.new.room blank in
+    let top = top_joined c.args.frames.now c.split_at_mut-low.result.0.now c.split_at_mut-low.result.1.now c.args.waiting c.pass_children.new.top c.split_at_mut-low.ensures.value c.split_at_mut-low.ensures.front_len c.pass_children.new.room blank in
+    rw (waits, top, sym c.requires.0) (omega (arith, less g (goal.at.returns-clause-falls g c).Joined-top-eq0, c.in_ok-pass_children.ensures.least c.if-branch.false))

@@ -1,0 +1,8 @@
+use Rattle.fb_verify.proofs.stack.Walk.turn_by_units.Given as goal
+
+-- the same frames wait while the top goes on
+abbrev pub ghost-pass_each : goal.ghost-pass_each
+ghost-pass_each g a = g.under
+
+abbrev pub ghost-pass_children : goal.ghost-pass_children
+ghost-pass_children g a = g.under

@@ -1,0 +1,330 @@
+// The offset words by which a present field leads on, put into a row, and the ways through that row.
+
+ghost use Rattle.std.specs.Prelude.{◌≡◌, ◌+◌, ◌*◌, ◌^◌, ◌<◌, ◌≤◌, length, IsTrue, None, ℕ, nat_lt};
+ghost use Rattle.fb_bytes.specs.Word.{word};
+ghost use Rattle.fb_schema.specs.Rows.{is_union, is_table};
+ghost use Rattle.fb_schema.specs.Members.{member_of};
+ghost use Rattle.fb_schema.specs.Live.{live_of_view};
+ghost use Rattle.fb_schema.specs.Served.{IsServed};
+ghost use Rattle.fb_verify.specs.Cost.{present_reads, reads_if_present, slot_reads};
+ghost use Rattle.fb_verify.specs.Fields.{entries_of, type_place, union_type, type_count, types_begin, union_entry};
+ghost use Rattle.fb_verify.specs.OffsetRows.{words_of, IsAskable, IsRow, LeavesRow, TypeFits, TypesFit, AreLeaf};
+ghost use Rattle.fb_verify.specs.Order.{after, present_failure, union_field_failure, unions_field_failure, vector_field_failure};
+ghost use Rattle.fb_verify.specs.Places.{field_place, has_slot, target};
+ghost use Rattle.fb_verify.specs.Plain.{IsTested, place_from};
+ghost use Rattle.fb_verify.specs.Stack.{Waiting, IsWalking};
+ghost use Rattle.fb_verify.specs.Told.{IsPlaced, IsVtable};
+ghost use Rattle.fb_verify.specs.declared.offset_row.Leads.TheVariants.{All, ByType};
+ghost use Rattle.fb_verify.specs.Turns.{IsFar, IsShort, RowTurned};
+
+use crate::checks::{Checks, PUBLISHED};
+use crate::element::Child;
+use crate::fault::Reason;
+use crate::field::{Table, referent_at};
+use crate::offset_row::{Leads, Referent, Row};
+use crate::plain::{fails, test_end, test_vector_field};
+use crate::scratch::Frame;
+use crate::stack::{Turn, Walk};
+use fb_bytes::Reads;
+use fb_schema::{FieldView, Kind, Schema};
+
+/// Reads the distance of the field with this slot from its table, 0 where it is absent.
+#[inline(always)]
+#[tactic(auto, using(crate::proofs::Plains::place_told), unfolding(crate::specs::Places::field_place))]
+fn distance_of(reads: &mut Reads<'_>, table: Table, slot: u16) -> u64
+    requires few { reads.old.count < 2 ^ 60 }
+    requires near { table.at < 2 ^ 33 }
+    requires head { IsVtable reads.old.bytes table.at table.head }
+    ensures value { place_from table.at (table.at + result) ≡ field_place reads.old.bytes table.at slot }
+    ensures near { result < 2 ^ 16 }
+    ensures counted { reads.new ≡ record reads.old { count = reads.old.count + slot_reads reads.old.bytes table.at slot } }
+{
+    if table.head.ends_before(slot) {
+        return 0;
+    }
+    u64::from(reads.u16_at(table.head.vtable + u64::from(slot)))
+}
+
+/// Reads the type of a union again, whose field has this slot: 0 where its type field is absent.
+#[inline(always)]
+fn type_of(reads: &mut Reads<'_>, table: Table, slot: u16) -> u8
+    requires few { reads.old.count < 2 ^ 60 }
+    requires near { table.at < 2 ^ 33 }
+    requires head { IsVtable reads.old.bytes table.at table.head }
+    requires present { IsTrue (has_slot reads.old.bytes table.at slot) }
+    requires typed { TypeFits reads.old.bytes table.at slot }
+    ensures value { result ≡ union_type reads.old.bytes (type_place reads.old.bytes table.at slot) }
+    ensures counted { reads.new ≡ record reads.old { count = reads.old.count + (1 + reads_if_present 1 (type_place reads.old.bytes table.at slot)) } }
+{
+    match distance_of(reads, table, slot - 2) {
+        0 => 0,
+        distance => reads.u8_at(table.at + distance),
+    }
+}
+
+/// Where the types of a vector of unions begin, and how many they are.
+#[derive(Clone, Copy)]
+struct Types {
+    at: u64,
+    count: u32,
+}
+
+/// Reads again where the types of a vector of unions begin, whose field has this slot, and how many they are: none
+/// where their field is absent.
+#[inline(always)]
+fn types_of(reads: &mut Reads<'_>, table: Table, slot: u16) -> Types
+    requires few { reads.old.count < 2 ^ 60 }
+    requires near { table.at < 2 ^ 33 }
+    requires head { IsVtable reads.old.bytes table.at table.head }
+    requires present { IsTrue (has_slot reads.old.bytes table.at slot) }
+    requires typed { TypesFit reads.old.bytes table.at slot }
+    ensures at { result.at ≡ types_begin reads.old.bytes (type_place reads.old.bytes table.at slot) }
+    ensures count { result.count ≡ type_count reads.old.bytes (type_place reads.old.bytes table.at slot) }
+    ensures within { result.at + result.count ≤ length reads.old.bytes }
+    ensures near { result.at + result.count < 2 ^ 36 }
+    ensures counted { reads.new ≡ record reads.old { count = reads.old.count + (1 + reads_if_present 2 (type_place reads.old.bytes table.at slot)) } }
+{
+    match distance_of(reads, table, slot - 2) {
+        0 => Types { at: 0, count: 0 },
+        distance => {
+            let place = table.at + distance;
+            let at = place + u64::from(reads.u32_at(place));
+            let count = reads.u32_at(at);
+            Types { at: at + 4, count }
+        }
+    }
+}
+
+/// Tests a present union by itself, and puts its offset word, if its type has a member.
+#[inline(always)]
+fn put_union(
+    reads: &mut Reads<'_>,
+    checks: Checks,
+    schema: &Schema<'_>,
+    table: Table,
+    at: u64,
+    slot: u16,
+    union: u32,
+    row: &mut Row,
+) -> Option<Reason>
+    requires served { IsServed schema.now }
+    requires union { IsTrue (is_union schema.now union) }
+    requires present { IsTrue (has_slot reads.old.bytes table.at slot) }
+    requires typed { TypeFits reads.old.bytes table.at slot }
+    requires few { reads.old.count < 2 ^ 58 }
+    requires placed { IsPlaced checks reads.old.bytes table.at table.head at }
+    requires rests { row.old.left ≡ 0 }
+    ensures tested { IsTested reads.old reads.new at (after (1 + reads_if_present 1 (type_place reads.old.bytes table.at slot)) (union_field_failure checks reads.old.bytes table.at at (member_of schema.now union (union_type reads.old.bytes (type_place reads.old.bytes table.at slot))))) (1 + reads_if_present 1 (type_place reads.old.bytes table.at slot)) result }
+    ensures leads { result ≡ None → LeavesRow reads.old.bytes schema.now (union_entry schema.now at (member_of schema.now union (union_type reads.old.bytes (type_place reads.old.bytes table.at slot)))) row.old row.new (nat_lt 0 row.new.left) }
+{
+    schema.lawful();
+    let value = type_of(reads, table, slot);
+    let referent = referent_at(schema, union, value);
+    if let Referent::Nothing = referent {
+        return None;
+    }
+    let end = test_end(reads, checks, table, at, 4);
+    if end.is_none() {
+        *row = Row::one(referent, at);
+    }
+    end
+}
+
+/// Tests a present vector of unions by itself, and puts its offset words, if there are any.
+#[inline(always)]
+fn put_unions(
+    reads: &mut Reads<'_>,
+    checks: Checks,
+    table: Table,
+    at: &mut u64,
+    slot: u16,
+    union: u32,
+    row: &mut Row,
+) -> Option<Reason>
+    requires present { IsTrue (has_slot reads.old.bytes table.at slot) }
+    requires typed { TypesFit reads.old.bytes table.at slot }
+    requires few { reads.old.count < 2 ^ 58 }
+    requires placed { IsPlaced checks reads.old.bytes table.at table.head at.old }
+    ensures tested { IsTested reads.old reads.new at.new (after (1 + reads_if_present 2 (type_place reads.old.bytes table.at slot)) (unions_field_failure checks reads.old.bytes table.at at.old (type_place reads.old.bytes table.at slot))) (1 + reads_if_present 2 (type_place reads.old.bytes table.at slot) + 2) result }
+    ensures none { result ≡ None → word reads.old.bytes (target reads.old.bytes at.old) 4 ≡ 0 → row.new ≡ row.old }
+    ensures some { result ≡ None → 0 < word reads.old.bytes (target reads.old.bytes at.old) 4 → row.new ≡ record { leads = ByType union (types_begin reads.old.bytes (type_place reads.old.bytes table.at slot)); place = target reads.old.bytes at.old + 4; left = word reads.old.bytes (target reads.old.bytes at.old) 4 } }
+    ensures types { result ≡ None → types_begin reads.old.bytes (type_place reads.old.bytes table.at slot) + word reads.old.bytes (target reads.old.bytes at.old) 4 ≤ length reads.old.bytes }
+    ensures types_near { result ≡ None → types_begin reads.old.bytes (type_place reads.old.bytes table.at slot) + word reads.old.bytes (target reads.old.bytes at.old) 4 < 2 ^ 36 }
+    ensures within { result ≡ None → target reads.old.bytes at.old + 4 + 4 * word reads.old.bytes (target reads.old.bytes at.old) 4 < 2 ^ 31 }
+{
+    let types = types_of(reads, table, slot);
+    let mut count = 0;
+    let failed = test_vector_field(reads, checks, table, at, 4, 4, &mut count);
+    if failed.is_some() {
+        return failed;
+    }
+    if count != types.count {
+        *at -= 4;
+        return fails(Reason::LengthsDiffer);
+    }
+    if count != 0 {
+        *row = Row {
+            leads: Leads::ByType(union, types.at),
+            place: *at,
+            left: count,
+        };
+    }
+    None
+}
+
+/// Tests a present vector of offset words by itself that all refer to the same, and puts these, if there are any.
+#[inline(always)]
+fn put_words(
+    reads: &mut Reads<'_>,
+    checks: Checks,
+    table: Table,
+    at: &mut u64,
+    referent: Referent,
+    row: &mut Row,
+) -> Option<Reason>
+    requires few { reads.old.count < 2 ^ 58 }
+    requires placed { IsPlaced checks reads.old.bytes table.at table.head at.old }
+    ensures tested { IsTested reads.old reads.new at.new (vector_field_failure checks reads.old.bytes table.at at.old 4 4) 2 result }
+    ensures none { result ≡ None → word reads.old.bytes (target reads.old.bytes at.old) 4 ≡ 0 → row.new ≡ row.old }
+    ensures some { result ≡ None → 0 < word reads.old.bytes (target reads.old.bytes at.old) 4 → row.new ≡ record { leads = All referent; place = target reads.old.bytes at.old + 4; left = word reads.old.bytes (target reads.old.bytes at.old) 4 } }
+    ensures within { result ≡ None → target reads.old.bytes at.old + 4 + 4 * word reads.old.bytes (target reads.old.bytes at.old) 4 < 2 ^ 31 }
+{
+    let mut count = 0;
+    let failed = test_vector_field(reads, checks, table, at, 4, 4, &mut count);
+    if failed.is_none() && count != 0 {
+        *row = Row {
+            leads: Leads::All(referent),
+            place: *at,
+            left: count,
+        };
+    }
+    failed
+}
+
+impl Walk<'_, '_> {
+    /// Tests a present field by itself that leads on by the words of a vector or by that of a union, and puts these, if
+    /// there are any. Where a test fails, the position is moved to where.
+    #[inline(never)]
+    pub fn put_row(
+        &self,
+        reads: &mut Reads<'_>,
+        table: Table,
+        field: &FieldView<'_>,
+        at: &mut u64,
+        row: &mut Row,
+    ) -> Option<Reason>
+        requires askable { IsAskable reads.old.bytes self.now.schema.now table.at (live_of_view field.now) (field.now).kind }
+        requires far { IsFar (field.now).kind }
+        requires present { IsTrue (has_slot reads.old.bytes table.at (field.now).slot) }
+        requires few { reads.old.count < 2 ^ 58 }
+        requires placed { IsPlaced self.now.checks reads.old.bytes table.at table.head at.old }
+        requires rests { row.old.left ≡ 0 }
+        ensures tested { IsTested reads.old reads.new at.new (present_failure self.now.checks reads.old.bytes self.now.schema.now table.at (live_of_view field.now) at.old (field.now).kind) (present_reads reads.old.bytes table.at (field.now).slot (field.now).kind) result }
+        ensures leads { result ≡ None → LeavesRow reads.old.bytes self.now.schema.now (entries_of reads.old.bytes self.now.schema.now table.at (live_of_view field.now) at.old (field.now).kind) row.old row.new (nat_lt 0 row.new.left) }
+    {
+        let checks = self.checks;
+        match field.kind {
+            Kind::Union(union) => {
+                put_union(
+                    reads,
+                    checks,
+                    self.schema,
+                    table,
+                    *at,
+                    field.slot,
+                    union,
+                    row,
+                )
+            }
+            Kind::Unions(union) => put_unions(reads, checks, table, at, field.slot, union, row),
+            Kind::Tables(object) => {
+                put_words(reads, checks, table, at, Referent::Table(object), row)
+            }
+            _ => put_words(reads, checks, table, at, Referent::Text, row),
+        }
+    }
+
+    /// Passes the words of the top's row until one leads to a table that is to be opened.
+    #[inline(always)]
+    fn pass_row_by(
+        &mut self,
+        checks: Checks,
+        reads: &mut Reads<'_>,
+        waiting: u32,
+        top: &mut Frame,
+        child: &mut Child,
+    ) -> Turn
+        ghost under: { Waiting }
+        requires waiting { waiting ≡ length under.frames }
+        requires walking { IsWalking self.old reads.old under.start under.frames top.old }
+        requires leads { 0 < (top.old.row).left }
+        requires short { IsShort reads.old.count }
+        requires same { checks ≡ self.old.checks }
+        ensures { RowTurned self.old self.new reads.old reads.new under top.old top.new child.new result }
+    {
+        let is_deepest = waiting + 1 >= self.limits.depth();
+        match top.row.leads {
+            Leads::ByType(_, _) => {
+                if is_deepest {
+                    return Turn::Slowly;
+                }
+                self.pass_members_on(checks, reads, waiting, top, child)
+            }
+            Leads::All(Referent::Table(object)) => {
+                if !self.schema.is_plain(object) {
+                    return self.next_table(checks, reads, waiting, object, top, child);
+                }
+                if is_deepest {
+                    return Turn::Slowly;
+                }
+                let mut own = reads.lend();
+                let turn = self.pass_flats(checks, &mut own, waiting, object, top);
+                reads.settle(own);
+                turn
+            }
+            Leads::All(_) => self.pass_words(checks, reads, waiting, top),
+        }
+    }
+
+    /// The same, whatever the checks are.
+    #[cold]
+    #[inline(never)]
+    fn pass_row_by_checks(
+        &mut self,
+        reads: &mut Reads<'_>,
+        waiting: u32,
+        top: &mut Frame,
+        child: &mut Child,
+    ) -> Turn
+        ghost under: { Waiting }
+        requires waiting { waiting ≡ length under.frames }
+        requires walking { IsWalking self.old reads.old under.start under.frames top.old }
+        requires leads { 0 < (top.old.row).left }
+        requires short { IsShort reads.old.count }
+        ensures { RowTurned self.old self.new reads.old reads.new under top.old top.new child.new result }
+    {
+        self.pass_row_by(self.checks, reads, waiting, top, child)
+    }
+
+    /// The same, quickly where the checks are the published ones, which are constants then.
+    #[inline(never)]
+    pub fn pass_row(
+        &mut self,
+        reads: &mut Reads<'_>,
+        waiting: u32,
+        top: &mut Frame,
+        child: &mut Child,
+    ) -> Turn
+        ghost under: { Waiting }
+        requires waiting { waiting ≡ length under.frames }
+        requires walking { IsWalking self.old reads.old under.start under.frames top.old }
+        requires leads { 0 < (top.old.row).left }
+        requires short { IsShort reads.old.count }
+        ensures { RowTurned self.old self.new reads.old reads.new under top.old top.new child.new result }
+    {
+        if !self.checks.are_published() {
+            return self.pass_row_by_checks(reads, waiting, top, child);
+        }
+        self.pass_row_by(PUBLISHED, reads, waiting, top, child)
+    }
+}
