@@ -509,6 +509,13 @@ class LibraryForC(LibraryCase):
             self.same(f"options: {name}, told", told() if got > 1 else None, blank(answer) if got > 1 else None)
         calls.fbcheck_scratch_free(scratch)
         calls.fbcheck_scratch_free(None)
+        path, value, written = python._Path(), python._Value(), ctypes.c_size_t()
+        untold = [calls.fbcheck_verify(schema, None, None, None, 9, None),
+                  calls.fbcheck_locate(schema, None, None, b"", 0, None, 0, written, None),
+                  calls.fbcheck_resolve(schema, None, b"?", 1, path, None),
+                  calls.fbcheck_read(schema, None, None, b"", 0, path, value, 1, None),
+                  calls.fbcheck_schema_new(None, 9, None, None), calls.fbcheck_schema_new(b"", 0, None, None)]
+        self.same("without a verdict", untold, [2, 1, 17, 1, None, None])
         self.order_of_answers(python, calls)
         self.same("options to make", calls.fbcheck_options_init(None), status.NULL)
         self.same("sizes to tell", calls.fbcheck_struct_sizes(None), status.NULL)

@@ -12,6 +12,7 @@ pub mod Samples
 pub mod Examples
 pub mod Grammar
 pub mod Resolving
+pub mod PathCodes
 pub mod Location
 pub mod PathTests
 pub mod LocationTests

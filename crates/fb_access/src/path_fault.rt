@@ -1,5 +1,8 @@
 // Why a text is no path of a schema.
 
+ghost use Rattle.std.specs.Prelude.{◌≡◌};
+ghost use Rattle.fb_access.specs.PathCodes.{path_code};
+
 use std::error::Error;
 use std::fmt;
 
@@ -25,18 +28,35 @@ pub enum PathFault {
     OutOfMemory,
 }
 
+impl PathFault {
+    /// Its code and its name: `P2 NoSuchField`.
+    pub fn text(self) -> &'static str
+        ensures { result.now ≡ (path_code self).1 }
+    {
+        match self {
+            PathFault::BadText { .. } => "P1 BadText",
+            PathFault::NoSuchField { .. } => "P2 NoSuchField",
+            PathFault::NotIndexable { .. } => "P3 NotIndexable",
+            PathFault::NotAUnion { .. } => "P4 NotAUnion",
+            PathFault::NoSuchMember { .. } => "P5 NoSuchMember",
+            PathFault::NotATable { .. } => "P6 NotATable",
+            PathFault::OutOfMemory => "P7 OutOfMemory",
+        }
+    }
+}
+
 impl fmt::Display for PathFault {
     fn fmt<W: fmt::Write>(&self, f: &mut fmt::Formatter<W>) -> fmt::Result {
-        let (name, step) = match self {
-            PathFault::BadText { at } => return write!(f, "P1 BadText at={at}"),
-            PathFault::NoSuchField { step } => ("P2 NoSuchField", *step),
-            PathFault::NotIndexable { step } => ("P3 NotIndexable", *step),
-            PathFault::NotAUnion { step } => ("P4 NotAUnion", *step),
-            PathFault::NoSuchMember { step } => ("P5 NoSuchMember", *step),
-            PathFault::NotATable { step } => ("P6 NotATable", *step),
-            PathFault::OutOfMemory => return write!(f, "P7 OutOfMemory"),
-        };
-        write!(f, "{name} step={step}")
+        let name = self.text();
+        match self {
+            PathFault::BadText { at } => write!(f, "{name} at={at}"),
+            PathFault::NoSuchField { step }
+            | PathFault::NotIndexable { step }
+            | PathFault::NotAUnion { step }
+            | PathFault::NoSuchMember { step }
+            | PathFault::NotATable { step } => write!(f, "{name} step={step}"),
+            PathFault::OutOfMemory => write!(f, "{name}"),
+        }
     }
 }
 

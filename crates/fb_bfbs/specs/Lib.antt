@@ -6,6 +6,7 @@ pub mod Sums
 pub mod FileRows
 pub mod Loads
 pub mod LoadLaws
+pub mod Codes
 pub mod Samples
 pub mod Examples
 -- What proofs alone need.

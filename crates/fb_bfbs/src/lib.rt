@@ -16,5 +16,5 @@ mod taking;
 mod values;
 
 pub use fixed::reflection;
-pub use load_fault::LoadFault;
+pub use load_fault::{LoadFault, code_text};
 pub use loading::{Loaded, load, own_ident};

@@ -2,6 +2,7 @@
 
 ghost use Rattle.std.specs.Prelude.{◌≡◌};
 ghost use Rattle.fb_bfbs.specs.declared.load_fault.LoadFault.TheVariants.{NotWellFormed, OutOfMemory, TooLong as TooManyBytes};
+ghost use Rattle.fb_bfbs.specs.Codes.{code_text};
 ghost use Rattle.fb_bfbs.specs.Loads.{build_fault};
 
 use fb_bytes::TooLong;
@@ -69,7 +70,9 @@ impl From<SchemaFault> for LoadFault {
 }
 
 /// The code and name of what is wrong with rows.
-fn code_text(code: Code) -> &'static str {
+pub fn code_text(code: Code) -> &'static str
+    ensures { result.now ≡ code_text code }
+{
     match code {
         Code::NoSuchObject => "C1 NoSuchObject",
         Code::NoSuchEnum => "C2 NoSuchEnum",

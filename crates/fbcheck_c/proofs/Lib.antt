@@ -1,4 +1,5 @@
 pub mod AnswerLemmas
+pub mod FaultNames
 pub mod FitLemmas
 pub mod FramerLemmas
 pub mod MemberLemmas

@@ -6,6 +6,7 @@ pub verdicts_shown : Verdicts
 verdicts_shown = record {
   good = refl;
   bad = refl;
+  reasons = refl;
   of_no_field = refl;
   of_more_reads = refl;
   unserved = refl;
@@ -13,6 +14,7 @@ verdicts_shown = record {
   nothing_else = refl;
   no_schema = refl;
   bad_rows = refl;
+  demands = refl;
   of_no_part = refl;
   other_files = refl;
   no_path = refl;

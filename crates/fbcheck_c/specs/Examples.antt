@@ -4,10 +4,11 @@ use Rattle.std.specs.Borrow.{Bor}
 use Rattle.fb_bfbs.specs.declared.load_fault.LoadFault.TheVariants as load
 use Rattle.fb_bfbs.specs.declared.loading.Loaded.{Loaded}
 use Rattle.fb_bytes.specs.declared.stream_fault.StreamFault.TheVariants as stream
-use Rattle.fb_schema.specs.declared.fault.Code.TheVariants.{BadSlot, NameTwice}
+use Rattle.fb_schema.specs.declared.fault.Code.TheVariants.{NoSuchObject, NoSuchEnum, Unsupported, BadSlot, NoTypeField, BadStruct, BadMember, NameTwice}
 use Rattle.fb_verify.specs.Samples.{table}
 use Rattle.fb_verify.specs.declared.fault.Fault.{Fault}
-use Rattle.fb_verify.specs.declared.fault.Reason.TheVariants.{OutOfBuffer, TooManyReads}
+use Rattle.fb_verify.specs.Reasons.{reason_number}
+use Rattle.fb_verify.specs.declared.fault.Reason.TheVariants.{WrongPrefix, OutOfBuffer, Misaligned, ZeroOffset, WrongIdentifier, TooDeep, TooManyTables, BadVtable, MissingRequired, NoTerminator, LengthsDiffer, PastTable, TooManyReads}
 use Rattle.fb_verify.specs.declared.start.Ident.TheVariants.{Any, Want}
 use Rattle.fb_verify.specs.declared.start.Start.TheVariants.{Bare, Prefixed}
 use Rattle.fb_access.specs.Denotes as denotes
@@ -25,7 +26,7 @@ use Rattle.fbcheck_c.specs.Names.{filled, number_or_none}
 use Rattle.fbcheck_c.specs.Placed.{cut_to}
 use Rattle.fbcheck_c.specs.Spans.{all_good, cut}
 use Rattle.fbcheck_c.specs.Steps.{no_step, step_of, steps_in}
-use Rattle.fbcheck_c.specs.Told.{blank, told}
+use Rattle.fbcheck_c.specs.Told.{blank, code_number, told}
 use Rattle.fbcheck_c.specs.Values.{placed, plain, value_told}
 
 -- ---- answers in numbers
@@ -44,6 +45,7 @@ status a = (told a).status
 pub record Verdicts : Type 0 where
   pub good : told (Good (record { tables = 3; depth = 2; reads = 40 })) ≡ record (verdict 0 0 0 4294967295) { tables = 3; depth = 2; reads = 40 }
   pub bad : told (Bad torn) ≡ record (verdict 1 2 2 3) { at = 28; reads = 7 }
+  pub reasons : map reason_number (WrongPrefix ∷ OutOfBuffer ∷ Misaligned ∷ ZeroOffset ∷ WrongIdentifier ∷ TooDeep ∷ TooManyTables ∷ BadVtable ∷ MissingRequired ∷ NoTerminator ∷ LengthsDiffer ∷ PastTable ∷ TooManyReads ∷ []) ≡ 1 ∷ 2 ∷ 3 ∷ 4 ∷ 5 ∷ 6 ∷ 7 ∷ 8 ∷ 9 ∷ 10 ∷ 11 ∷ 12 ∷ 13 ∷ []
   pub of_no_field : told (Bad (record torn { field = None; reason = TooManyReads })) ≡ record (verdict 1 13 2 4294967295) { at = 28; reads = 7 }
   pub of_more_reads : (told (Bad (record torn { reads = 18446744073709551616 }))).reads ≡ 18446744073709551615
   pub unserved : map status (UnknownOptions ∷ OutOfRange ∷ NoIdent ∷ NoRoot ∷ TooLong ∷ []) ≡ 3 ∷ 4 ∷ 5 ∷ 6 ∷ 7 ∷ []
@@ -51,6 +53,7 @@ pub record Verdicts : Type 0 where
   pub nothing_else : told NoRoot ≡ verdict 6 0 0 4294967295
   pub no_schema : told (NoSchema (load.NotWellFormed torn)) ≡ record (verdict 8 2 2 3) { at = 28; reads = 7 }
   pub bad_rows : told (NoSchema (load.BadSchema (record { code = BadSlot; owner = 5; part = Some 1 }))) ≡ verdict 9 4 5 1
+  pub demands : map code_number (NoSuchObject ∷ NoSuchEnum ∷ Unsupported ∷ BadSlot ∷ NoTypeField ∷ BadStruct ∷ BadMember ∷ NameTwice ∷ []) ≡ 1 ∷ 2 ∷ 3 ∷ 4 ∷ 5 ∷ 6 ∷ 7 ∷ 8 ∷ []
   pub of_no_part : told (NoSchema (load.BadSchema (record { code = NameTwice; owner = 5; part = None }))) ≡ verdict 9 8 5 4294967295
   pub other_files : map (λ f. status (NoSchema f)) (load.TooLong ∷ load.RootNotListed ∷ load.OutOfMemory ∷ load.TooMuchShared ∷ []) ≡ 7 ∷ 10 ∷ 11 ∷ 20 ∷ []
   pub no_path : told (BadPath (path.NoSuchField 4)) ≡ record (verdict 17 2 0 4294967295) { at = 4 }

@@ -1,14 +1,18 @@
 -- Names by their numbers, and how they are copied.
-use Rattle.std.specs.Prelude.{◌≡◌, ◌≢◌, ℕ, ◌==◌, nat_le, List, codes, ◌++◌, drop, find, length, slice_get, Option, Some, None, option_map, if◌then◌else◌}
+use Rattle.std.specs.Prelude.{◌≡◌, ◌≢◌, ℕ, ◌==◌, nat_le, List, ◌++◌, drop, find, length, slice_get, Option, Some, None, option_map, if◌then◌else◌}
 use Rattle.fb_schema.specs.Live.{live_fields}
 use Rattle.fb_schema.specs.Rows.{Rows, is_table, table_named}
 use Rattle.fb_verify.specs.Reasons.{reason_number, reason_text}
 use Rattle.fb_verify.specs.declared.fault.Reason.{Reason}
+use Rattle.fb_access.specs.PathCodes.{path_code}
 use Rattle.fb_access.specs.declared.path_fault.PathFault.{PathFault}
 use Rattle.fb_access.specs.declared.path_fault.PathFault.TheVariants as path
+use Rattle.fb_bfbs.specs.Codes.{code_text}
+use Rattle.fb_bfbs.specs.declared.load_fault.LoadFault.TheVariants as load
 use Rattle.fb_schema.specs.declared.fault.Code.{Code}
-use Rattle.fb_schema.specs.declared.fault.Code.TheVariants.{NoSuchObject, NoSuchEnum, Unsupported, BadSlot, NoTypeField, BadStruct, BadMember, NameTwice, OutOfMemory as NoMemory}
-use Rattle.fbcheck_c.specs.Told.{code_number}
+use Rattle.fbcheck_c.specs.Told.{code_number, told}
+use Rattle.fbcheck_c.specs.declared.answer.Answer.{Answer}
+use Rattle.fbcheck_c.specs.declared.answer.Answer.TheVariants.{Bad, BadPath, NoSchema}
 use Rattle.fbcheck_c.specs.declared.held.Held.{Held}
 use Rattle.fbcheck_c.specs.declared.held.Held.TheVariants.{Schema, Room}
 
@@ -51,32 +55,12 @@ abbrev pub IsReasonName : ℕ → Option (List ℕ) → Type 0
 IsReasonName n (Some text) = (r : Reason) × (reason_number r ≡ n) × (text ≡ reason_text r)
 IsReasonName n None = NumbersNothing n
 
--- the name of what is wrong with rows
-abbrev pub code_text : Code → List ℕ
-code_text NoSuchObject = codes "C1 NoSuchObject"
-code_text NoSuchEnum = codes "C2 NoSuchEnum"
-code_text Unsupported = codes "C3 Unsupported"
-code_text BadSlot = codes "C4 BadSlot"
-code_text NoTypeField = codes "C5 NoTypeField"
-code_text BadStruct = codes "C6 BadStruct"
-code_text BadMember = codes "C7 BadMember"
-code_text NameTwice = codes "C8 NameTwice"
-code_text NoMemory = codes "C9 OutOfMemory"
-
+-- that of what is wrong with rows
 abbrev pub IsCodeName : ℕ → Option (List ℕ) → Type 0
 IsCodeName n (Some text) = (c : Code) × (code_number c ≡ n) × (text ≡ code_text c)
 IsCodeName n None = (c : Code) → code_number c ≡ n → ⊥
 
--- why a text is no path, by its number and its name
-abbrev pub path_code : PathFault → ℕ × List ℕ
-path_code (path.BadText at) = (1, codes "P1 BadText")
-path_code (path.NoSuchField step) = (2, codes "P2 NoSuchField")
-path_code (path.NotIndexable step) = (3, codes "P3 NotIndexable")
-path_code (path.NotAUnion step) = (4, codes "P4 NotAUnion")
-path_code (path.NoSuchMember step) = (5, codes "P5 NoSuchMember")
-path_code (path.NotATable step) = (6, codes "P6 NotATable")
-path_code path.OutOfMemory = (7, codes "P7 OutOfMemory")
-
+-- that of why a text is no path
 abbrev pub IsPathName : ℕ → Option (List ℕ) → Type 0
 IsPathName n (Some text) = (f : PathFault) × ((path_code f).0 ≡ n) × (text ≡ (path_code f).1)
 IsPathName n None = (f : PathFault) → (path_code f).0 ≡ n → ⊥
@@ -88,3 +72,16 @@ pub record IsFaultName (status n : ℕ) (name : Option (List ℕ)) : Type 0 wher
   pub of_rows : status ≡ 9 → IsCodeName n name
   pub of_text : status ≡ 17 → IsPathName n name
   pub of_nothing : status ≢ 1 → status ≢ 8 → status ≢ 9 → status ≢ 17 → name ≡ None
+
+-- the code and name of the fault that an answer has, if it is told by a number
+abbrev pub fault_name : Answer → Option (List ℕ)
+fault_name (Bad f) = Some (reason_text f.reason)
+fault_name (NoSchema (load.NotWellFormed f)) = Some (reason_text f.reason)
+fault_name (NoSchema (load.BadSchema f)) = Some (code_text f.code)
+fault_name (BadPath path.OutOfMemory) = None
+fault_name (BadPath f) = Some (path_code f).1
+fault_name _ = None
+
+-- what is the name by the numbers that an answer is told by is that of its own fault
+abbrev pub FaultsHaveTheirNames : Type 0
+FaultsHaveTheirNames = (a : Answer) (name : Option (List ℕ)) → IsFaultName (told a).status (told a).reason name → name ≡ fault_name a

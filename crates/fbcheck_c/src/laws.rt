@@ -1,6 +1,7 @@
 //! What follows from the definitions of answers alone. These functions have no body: their contracts are the theorems.
 
 ghost use Rattle.fbcheck_c.specs.AnswerLaws.{BadGetsNo, GoodGetsYes, LongGetsItsNumber, ValuesStand};
+ghost use Rattle.fbcheck_c.specs.Names.{FaultsHaveTheirNames};
 
 /// Where the schema, the room and the options can serve a buffer of less than 2^31 bytes, and some tree of it is well
 /// formed and within the limits, the answer is 0.
@@ -21,4 +22,9 @@ pub fn a_long_buffer_gets_its_number()
 /// The bytes that are told of a float, a string and a struct are its value; what has no bytes is told none.
 pub fn a_value_stands_where_told()
     ensures { ValuesStand }
+{}
+
+/// The status and the number that are told of an answer have the code and name of its own fault, and of no other.
+pub fn a_fault_has_its_name()
+    ensures { FaultsHaveTheirNames }
 {}

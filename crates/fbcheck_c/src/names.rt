@@ -1,15 +1,17 @@
 //! Names by their numbers, copied into room that a caller gives.
 
 ghost use Rattle.std.specs.Prelude.{◌≡◌, ℕ, List, MatchOption, Option, length, option_map};
+ghost use Rattle.fb_access.specs.PathCodes.{path_code};
 ghost use Rattle.fb_access.specs.declared.path_fault.PathFault.{PathFault};
 ghost use Rattle.fb_schema.specs.declared.fault.Code.{Code};
 ghost use Rattle.fbcheck_c.specs.Told.{code_number};
-ghost use Rattle.fbcheck_c.specs.Names.{IsCodeName, IsFaultName, IsNameTold, IsPathName, IsReasonName, NumbersNothing, code_text, path_code, field_name, filled, held_name, object_name, table_number};
+ghost use Rattle.fbcheck_c.specs.Names.{IsCodeName, IsFaultName, IsNameTold, IsPathName, IsReasonName, NumbersNothing, field_name, filled, held_name, object_name, table_number};
 ghost use Rattle.fb_verify.specs.Reasons.{reason_number};
 
 use crate::held::Held;
 use crate::options::NO_TABLE;
 use fb_access::PathFault;
+use fb_bfbs::code_text;
 use fb_schema::{Code, Schema};
 use fb_verify::Reason;
 
@@ -112,23 +114,6 @@ fn code_of(number: u32) -> Option<Code>
     }
 }
 
-/// The code and name of what is wrong with rows.
-fn code_text(code: Code) -> &'static str
-    ensures { result.now ≡ code_text code }
-{
-    match code {
-        Code::NoSuchObject => "C1 NoSuchObject",
-        Code::NoSuchEnum => "C2 NoSuchEnum",
-        Code::Unsupported => "C3 Unsupported",
-        Code::BadSlot => "C4 BadSlot",
-        Code::NoTypeField => "C5 NoTypeField",
-        Code::BadStruct => "C6 BadStruct",
-        Code::BadMember => "C7 BadMember",
-        Code::NameTwice => "C8 NameTwice",
-        Code::OutOfMemory => "C9 OutOfMemory",
-    }
-}
-
 /// Why a text is no path, by its number; at its beginning.
 fn path_fault_of(number: u32) -> Option<PathFault>
     ensures { MatchOption result ((f : PathFault) → (path_code f).0 ≡ number → ⊥) (λ f. (path_code f).0 ≡ number) }
@@ -142,21 +127,6 @@ fn path_fault_of(number: u32) -> Option<PathFault>
         6 => Some(PathFault::NotATable { step: 0 }),
         7 => Some(PathFault::OutOfMemory),
         _ => None,
-    }
-}
-
-/// The code and name of why a text is no path.
-fn path_text(fault: PathFault) -> &'static str
-    ensures { result.now ≡ (path_code fault).1 }
-{
-    match fault {
-        PathFault::BadText { .. } => "P1 BadText",
-        PathFault::NoSuchField { .. } => "P2 NoSuchField",
-        PathFault::NotIndexable { .. } => "P3 NotIndexable",
-        PathFault::NotAUnion { .. } => "P4 NotAUnion",
-        PathFault::NoSuchMember { .. } => "P5 NoSuchMember",
-        PathFault::NotATable { .. } => "P6 NotATable",
-        PathFault::OutOfMemory => "P7 OutOfMemory",
     }
 }
 
@@ -175,7 +145,7 @@ fn path_told(number: u32, room: &mut [u8]) -> usize
     ensures { (name : Option (List ℕ)) × IsPathName number name × IsNameTold name room.old room.new result }
 {
     match path_fault_of(number) {
-        Some(fault) => copied(path_text(fault).as_bytes(), room),
+        Some(fault) => copied(fault.text().as_bytes(), room),
         None => 0,
     }
 }

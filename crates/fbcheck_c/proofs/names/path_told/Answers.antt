@@ -3,5 +3,5 @@ use Rattle.fbcheck_c.proofs.names.path_told.Goals as goal
 
 pub returns-in-Some : goal.returns-in-Some
 returns-in-Some c =
-    let text = c.as_bytes.ensures.value ∙ c.path_text.ensures in
+    let text = c.as_bytes.ensures.value ∙ c.text.ensures in
     (Some c.as_bytes.result.now, (c.in-Some.fault, c.in-Some.ensures, text), (c.copied.ensures.length, c.copied.ensures.room))
