@@ -193,8 +193,12 @@ class Faults(Case):
             path = file_of("tables.bfbs", schema([*structs, *map(table, tables)]))
             self.same(f"{many} tables among structs", run("--schema", path, "--root", "S00"), rootless("S00", *tables))
             path = file_of("fields.bfbs", schema([table("T", *fields[:many])], root="T"))
-            self.same(f"{many} fields", run("--schema", path, "--path", "x"),
-                      fieldless(*[f"f{number:02}" for number in range(many)]))
+            names = [f"f{number:02}" for number in range(many)]
+            self.same(f"{many} fields", run("--schema", path, "--path", "x"), fieldless(*names))
+            parts = [field(name, INT, 4 * number) for number, name in enumerate(names)]
+            inner = a_struct("S", 4 * many, 4, *parts) if many else table("S")
+            path = file_of("inner.bfbs", schema([inner, table("T", field("s", an_object(0), 4))], root="T"))
+            self.same(f"{many} fields further in", run("--schema", path, "--path", "s.x"), fieldless(*names, step=1))
         rows = [field("z", INT, 8), field("old", INT, 6, deprecated=True), field("a", INT, 4)]
         path = file_of("order.bfbs", schema([table("T", *rows), table("a b\n\"")], root="T"))
         self.same("live ones by their slots", run("--schema", path, "--path", "old"), fieldless("a", "z"))
@@ -224,11 +228,13 @@ class Faults(Case):
                 got = run("--schema", FILES["X"], "--root", root, f"--path={path}", given=MEMBER)
                 self.same(f"{path!r} from {root}", got, refused(f"path: {fault}={place}"))
         self.same("no such field", run("--schema", FILES["X"], "--root", "R", "--path", "x"), fieldless("u_type", "u"))
-        self.same("nor one of a member", run("--schema", FILES["X"], "--root", "R", "--path", "u@A.x"),
-                  refused("path: P2 NoSuchField step=2"))
+        for name, path, field in [("of a member's table", "u@A.x", "v"), ("of a member's struct", "u@W.y", "x")]:
+            self.same(f"nor one {name}", run("--schema", FILES["X"], "--root", "R", "--path", path),
+                      fieldless(field, step=2))
         for name, paths, text in [
             ("the first of two", ["u[0]", "u"], "path: P3 NotIndexable step=1 in u[0]"),
             ("the last of two", ["u", "x"], "path: P2 NoSuchField step=0 in x; fields: u_type u"),
+            ("a later step of two", ["u", "u@W.y"], "path: P2 NoSuchField step=2 in u@W.y; fields: x"),
             ("the first wrong one of three", ["u@A", "u@Z", "x"], "path: P5 NoSuchMember step=1 in u@Z"),
             ("one that would break the line", ["u", 'u\n"'], 'path: P1 BadText at=1 in u\\x0a\\"'),
             ("an empty one", ["u", ""], "path: P1 BadText at=0 in "),

@@ -101,9 +101,9 @@ def rootless(name, *tables):
     return refused(f"no root table{'' if name is None else ' ' + name}; tables:{listed(tables)}")
 
 
-def fieldless(*fields):
-    """A run with a path whose first name is no field of the root table, which has these."""
-    return refused(f"path: P2 NoSuchField step=0; fields:{listed(fields)}")
+def fieldless(*fields, step=0):
+    """A run with a path of which this step's name is no field of the table or struct there, which has these."""
+    return refused(f"path: P2 NoSuchField step={step}; fields:{listed(fields)}")
 
 
 def failed(text, *before):

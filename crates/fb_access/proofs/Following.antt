@@ -159,6 +159,10 @@ module _ (S : Rows) (root : ℕ) (text rest : List ℕ) (steps : List Step) (kin
         unfit = sym (f s.part s.is_piece);
       }
 
+  pub stands_at : (n : ℕ) → n ≡ length steps → (m : Misfit) → ((p : Part) → IsPieceOf p piece → Err m ≡ fitting S kind p) → (misfit : Misfits S root text m n) × (misfit.last ≡ kind)
+  unfolding misfits
+  stands_at n same m f = (misfits n same m f, refl)
+
   pub is_fault : (n : ℕ) → n ≡ length steps → (m : Misfit) → ((p : Part) → IsPieceOf p piece → Err m ≡ fitting S kind p) → IsFault S root text (fault_of m n)
   is_fault n same NoSuchField f = misfits n same NoSuchField f
   is_fault n same NotIndexable f = misfits n same NotIndexable f

@@ -99,7 +99,7 @@ module _ (S : Rows) (root : ℕ) (text : List ℕ) where
   sorted (NotATableAt step) h = inr (record { misfit = NotATable; step = step; is = refl; wrong = h })
   sorted OutOfMemory h = absurd h
 
-  text_and_step : (at n : ℕ) (m : Misfit) → IsWrongAt text at → Misfits S root text m n → ⊥
+  pub text_and_step : (at n : ℕ) (m : Misfit) → IsWrongAt text at → Misfits S root text m n → ⊥
   text_and_step at n m h g = h.wrong (is_path text g.name g.parts g.reading)
 
   steps_same : (a b : ℕ) (m n : Misfit) → Misfits S root text m a → Misfits S root text n b → (a ≡ b) × (m ≡ n)
@@ -116,10 +116,15 @@ module _ (S : Rows) (root : ℕ) (text : List ℕ) where
     both (inr x) (inl y) = absurd (text_and_step y.at x.step x.misfit y.wrong x.wrong)
     both (inr x) (inr y) = let s = steps_same x.step y.step x.misfit y.misfit x.wrong y.wrong in x.is ∙ ap (fault_of x.misfit) s.0 ∙ ap (λ m. fault_of m y.step) s.1 ∙ sym y.is
 
+  -- where each step is followed, none misfits
+  pub steps_or_step : (steps : List Step) (n : ℕ) (m : Misfit) → Resolves S root text steps → Misfits S root text m n → ⊥
+  steps_or_step steps n m r w =
+      not_both S (Table root) r.last w.last (field r.name ∷ r.parts) w.before w.after w.part steps w.steps m (same_parts text r.name w.name r.parts w.parts r.reading w.reading ∙ w.all) r.follows w.follows w.unfit
+
   steps_or_fault : (steps : List Step) (f : PathFault) → Resolves S root text steps → IsFault S root text f → ⊥
   steps_or_fault steps f r a = elim (sorted f a) [
     | inl x ↦ x.wrong.wrong (is_path text r.name r.parts r.reading)
-    | inr x ↦ let w = x.wrong in not_both S (Table root) r.last w.last (field r.name ∷ r.parts) w.before w.after w.part steps w.steps x.misfit (same_parts text r.name w.name r.parts w.parts r.reading w.reading ∙ w.all) r.follows w.follows w.unfit
+    | inr x ↦ steps_or_step steps x.step x.misfit r x.wrong
   ]
 
   same_steps : (a b : List Step) → Resolves S root text a → Resolves S root text b → a ≡ b

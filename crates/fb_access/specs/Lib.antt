@@ -13,12 +13,12 @@ pub mod Examples
 pub mod Grammar
 pub mod Resolving
 pub mod PathCodes
+pub mod Kept
 pub mod Location
 pub mod PathTests
 pub mod LocationTests
 pub mod LocationLaws
 -- What proofs alone need.
 pub mod Cutting
-pub mod Kept
 pub mod Scanned
 pub mod Underway

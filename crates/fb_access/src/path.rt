@@ -1,11 +1,12 @@
 // Paths: steps from a root table, written by names.
 
-ghost use Rattle.std.specs.Prelude.{◌≡◌, IfOk, IfErr, IsTrue};
+ghost use Rattle.std.specs.Prelude.{◌≡◌, IfOk, IfErr, IfSome, IsTrue};
 ghost use Rattle.fb_schema.specs.declared.kinds.Kind.{Kind};
 ghost use Rattle.fb_schema.specs.Rows.{is_table};
 ghost use Rattle.fb_access.specs.Grammar.{IsPath};
 ghost use Rattle.fb_access.specs.Fitting.{StepsFit};
-ghost use Rattle.fb_access.specs.Resolving.{Resolves, Refuses, fault_of};
+ghost use Rattle.fb_access.specs.Kept.{IsThere};
+ghost use Rattle.fb_access.specs.Resolving.{IsMisfitAt, Resolves, Refuses, fault_of};
 
 use crate::misfit::{Misfit, fit};
 use crate::path_fault::PathFault;
@@ -114,4 +115,27 @@ fn follow<A: Allocator>(
         rest = part.rest;
     }
     Ok(steps)
+}
+
+/// The kind at which the first step of a path's text stands that doesn't fit, from the table `root` on; none where the
+/// text is no path, or each step fits. So whoever tells of the fault can tell what there is. It takes no memory.
+pub fn misfit_at(schema: &Schema<'_>, root: u32, text: &[u8]) -> Option<Kind>
+    requires { IsTrue (is_table schema.now root) }
+    ensures kind { IsMisfitAt schema.now root text.now result }
+    ensures there { IfSome result (IsThere schema.now) }
+{
+    let Ok(()) = check_text(text) else {
+        return None;
+    };
+    schema.lawful();
+    let mut kind = Kind::Table(root);
+    let mut rest = text;
+    while let Some(part) = cut_part(rest) {
+        let Ok(fitted) = fit(schema, kind, part.piece) else {
+            return Some(kind);
+        };
+        kind = fitted.kind;
+        rest = part.rest;
+    }
+    None
 }

@@ -179,7 +179,7 @@ impl<'n, A: Allocator + Copy> Schema<'n, A> {
     }
 
     /// The fields of a struct in the order of the rows, none where the object is no struct.
-    fn parts_of(&self, n: u32) -> &[FieldRow<'n>]
+    pub fn parts_of(&self, n: u32) -> &[FieldRow<'n>]
         ensures value { map field_of result.now ≡ parts_of self.now n }
         ensures few { length result.now < 2 ^ 31 }
     {

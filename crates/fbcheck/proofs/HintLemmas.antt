@@ -1,12 +1,18 @@
 -- Names in a row.
-use Rattle.std.proofs.Common.{◌≡◌, ◌∙◌, ℕ, zero, suc, ◌+◌, Bool, true, false, List, [], ◌∷◌, ◌++◌, Some, refl, sym, ap, drop, option_map, slice_get, add-one, append_assoc, arith, codes, ◌-◌, ◌<◌, ◌≤◌, append-nil, drop-cons, length, map, slice_index_or}
-use Rattle.std.proofs.Math.ListN.{drop_of_length-le}
+use Rattle.std.proofs.Common.{◌≡◌, ◌∙◌, ℕ, zero, suc, ◌+◌, Bool, true, false, List, [], ◌∷◌, ◌++◌, Option, Some, None, refl, sym, ap, drop, option_map, slice_get, add-one, append_assoc, arith, codes, ◌-◌, ◌<◌, append-nil, length, map}
+use Rattle.std.proofs.lemmas.Option.{slice_get-map, slice_get_past, slice_get_read}
+use Rattle.std.specs.Borrow.{Bor}
+use Rattle.std.specs.Slice.{IsItemAt}
 use Rattle.fb_schema.specs.Heads.{Head, head_of, head_of_view}
-use Rattle.fb_schema.specs.Live.{live_of_view}
-use Rattle.fb_schema.specs.Rows.{Object}
+use Rattle.fb_schema.specs.Live.{Live, live_fields, live_of_view}
+use Rattle.fb_schema.specs.Parts.{parts_of}
+use Rattle.fb_schema.specs.Rows.{Field, Object, Rows, field_of}
+use Rattle.fb_schema.specs.declared.kinds.Kind.{Kind}
+use Rattle.fb_schema.specs.declared.kinds.Kind.TheVariants.{Struct, Table}
+use Rattle.fb_schema.specs.declared.rows.FieldRow.{FieldRow}
 use Rattle.fb_schema.specs.declared.views.FieldView.{FieldView}
 use Rattle.fb_schema.specs.declared.views.ObjectView.{ObjectView}
-use Rattle.fbcheck.specs.Hints.{fields_in, listed, named, tables_in}
+use Rattle.fbcheck.specs.Hints.{fields_at, listed, named, tables_in}
 
 -- what is left behind an object of this kind and name
 abbrev left_behind : Bool → List ℕ → List Object → List (List ℕ)
@@ -58,37 +64,62 @@ pub more_told : (text all : List ℕ) (xs : List Object) (n left : ℕ) (view : 
 more_told text all xs n zero view is kind none told = ap (λ names. text ++ listed zero names) (sym (table_next xs n view is kind)) ∙ told
 more_told text all xs n (suc left) view is kind none told = absurd (omega arith)
 
--- what is left at a field
-abbrev left_of : List FieldView → ℕ → List (List ℕ)
-left_of fields i = fields_in (map live_of_view (drop i fields))
+-- what is lent at a place of a list
+item_at : {X : Type 0} (xs : List X) (i : ℕ) (found : Option (Bor X)) → IsItemAt xs i found → slice_get xs i ≡ option_map (λ (b : Bor X). b.now) found
+item_at xs i None (_, _, _, past, _) = slice_get_past xs i past
+item_at xs i (Some b) (_, is, _, within, _) = slice_get_read xs (length xs) i b.now refl within.0 is
 
-next_field : (fields : List FieldView) (i : ℕ) (d : FieldView) → i < length fields → left_of fields i ≡ (slice_index_or fields i d).name.now ∷ left_of fields (i + 1)
-next_field fields i d lt =
-    let left : drop i fields ≡ slice_index_or fields i d ∷ drop (i + 1) fields = rw add-one (drop-cons fields i d lt) in
-    ap (λ l. fields_in (map live_of_view l)) left
+-- of what it has by a name
+names_at : {X Y : Type 0} (named : X → List ℕ) (seen : X → Y) (name : Y → List ℕ) (xs : List X) (i : ℕ) (found : Option (Bor X)) → ((x : X) → named x ≡ name (seen x)) → IsItemAt xs i found
+    → option_map (λ (b : Bor X). named b.now) found ≡ slice_get (map name (map seen xs)) i
+names_at {X} named seen name xs i found same is =
+    all found ∙ ap (λ o. option_map name (option_map seen o)) (sym (item_at xs i found is)) ∙ ap (option_map name) (sym (slice_get-map seen xs i)) ∙ sym (slice_get-map name (map seen xs) i)
+  where
+    all : (o : Option (Bor X)) → option_map (λ (b : Bor X). named b.now) o ≡ option_map name (option_map seen (option_map (λ (b : Bor X). b.now) o))
+    all None = refl
+    all (Some b) = ap Some (same b.now)
 
--- the text after a field whose name was added
-pub field_told : (text text' all : List ℕ) (fields : List FieldView) (i left : ℕ) (d : FieldView) → i < length fields → 0 < left
-    → text' ≡ text ++ named (slice_index_or fields i d).name.now → text ++ listed left (left_of fields i) ≡ all → text' ++ listed (left - 1) (left_of fields (i + 1)) ≡ all
-field_told text text' all fields i zero d lt some grown told = absurd (omega arith)
-field_told text text' all fields i (suc left) d lt some grown told =
-    let rest = listed left (left_of fields (i + 1)) in
-    let name = named (slice_index_or fields i d).name.now in
-    let one : suc left - 1 ≡ left = omega arith in
-    ap (λ m. text' ++ listed m (left_of fields (i + 1))) one ∙ ap (λ (t : List ℕ). t ++ rest) grown ∙ append_assoc text name rest
-    ∙ ap (λ names. text ++ listed (suc left) names) (sym (next_field fields i d lt)) ∙ told
+-- the name at a place of a table's fields, and of a struct's
+pub name_in_table : (rows : Rows) (kind : Kind) (k : ℕ) (fields : List FieldView) (place : ℕ) (got found : Option (Bor FieldView)) → kind ≡ Table k → map live_of_view fields ≡ live_fields rows k
+    → got ≡ found → IsItemAt fields place got → option_map (λ (b : Bor FieldView). b.now.name.now) found ≡ slice_get (fields_at rows kind) place
+name_in_table rows kind k fields place got found is are same at =
+    ap (option_map (λ (b : Bor FieldView). b.now.name.now)) (sym same)
+    ∙ names_at (λ f. f.name.now) live_of_view (λ (f : Live). f.name) fields place got (λ f. refl) at
+    ∙ ap (λ l. slice_get (map (λ (f : Live). f.name) l) place) are ∙ ap (λ k'. slice_get (fields_at rows k') place) (sym is)
 
-some_field : (fields : List FieldView) → 0 < length fields → FieldView
-some_field [] lt = absurd (omega arith)
-some_field (f ∷ fields) lt = f
+pub name_in_struct : (rows : Rows) (kind : Kind) (k : ℕ) (fields : List FieldRow) (place : ℕ) (got found : Option (Bor FieldRow)) → kind ≡ Struct k → map field_of fields ≡ parts_of rows k
+    → got ≡ found → IsItemAt fields place got → option_map (λ (b : Bor FieldRow). b.now.name.now) found ≡ slice_get (fields_at rows kind) place
+name_in_struct rows kind k fields place got found is are same at =
+    ap (option_map (λ (b : Bor FieldRow). b.now.name.now)) (sym same)
+    ∙ names_at (λ f. f.name.now) field_of (λ (f : Field). f.name) fields place got (λ f. refl) at
+    ∙ ap (λ l. slice_get (map (λ (f : Field). f.name) l) place) are ∙ ap (λ k'. slice_get (fields_at rows k') place) (sym is)
 
--- the text at a field where no more are told
-pub more_fields_told : (text all : List ℕ) (fields : List FieldView) (i left : ℕ) → i < length fields → left ≡ 0
-    → text ++ listed left (left_of fields i) ≡ all → text ++ codes " .." ≡ all
-more_fields_told text all fields i zero lt none told =
-    ap (λ names. text ++ listed zero names) (sym (next_field fields i (some_field fields (omega arith)) lt)) ∙ told
-more_fields_told text all fields i (suc left) lt none told = absurd (omega arith)
+-- what is left behind a name, and behind the last
+one_more : (names : List (List ℕ)) (i : ℕ) (name : List ℕ) → slice_get names i ≡ Some name → drop i names ≡ name ∷ drop (suc i) names
+one_more [] i name is = absurd cc
+one_more (x ∷ xs) zero name is = let same : x ≡ name = cc in ap (λ n. n ∷ xs) same
+one_more (x ∷ xs) (suc i) name is = one_more xs i name is
 
--- the text behind all fields
-pub all_fields_told : (text all : List ℕ) (fields : List FieldView) (i left : ℕ) → length fields ≤ i → text ++ listed left (left_of fields i) ≡ all → text ≡ all
-all_fields_told text all fields i left le told = sym (append-nil text) ∙ ap (λ l. text ++ listed left (fields_in (map live_of_view l))) (sym (drop_of_length-le fields le)) ∙ told
+no_more : (names : List (List ℕ)) (i : ℕ) → slice_get names i ≡ None → drop i names ≡ []
+no_more [] zero is = refl
+no_more [] (suc i) is = refl
+no_more (x ∷ xs) zero is = absurd cc
+no_more (x ∷ xs) (suc i) is = no_more xs i is
+
+-- the text after a name that was added, of those of which so many more are told
+pub name_told : (text text' all : List ℕ) (names : List (List ℕ)) (i left : ℕ) (name : List ℕ) → slice_get names i ≡ Some name → i < left
+    → text' ≡ text ++ named name → text ++ listed (left - i) (drop i names) ≡ all → text' ++ listed (left - (i + 1)) (drop (i + 1) names) ≡ all
+name_told text text' all names i left name is some grown told = go (left - (i + 1)) (omega (arith, some)) where
+  go : (rest : ℕ) → left - i ≡ suc rest → text' ++ listed rest (drop (i + 1) names) ≡ all
+  go rest more =
+      let tail = listed rest (drop (suc i) names) in
+      rw (add-one, grown) (append_assoc text (named name) tail ∙ ap (λ l. text ++ listed (suc rest) l) (sym (one_more names i name is)) ∙ ap (λ m. text ++ listed m (drop i names)) (sym more) ∙ told)
+
+-- behind the last of them, and where one is left of which none is told
+pub names_told : (text all : List ℕ) (names : List (List ℕ)) (i left : ℕ) → slice_get names i ≡ None → text ++ listed left (drop i names) ≡ all → text ≡ all
+names_told text all names i left is told = sym (append-nil text) ∙ ap (λ l. text ++ listed left l) (sym (no_more names i is)) ∙ told
+
+pub more_names_told : (text all : List ℕ) (names : List (List ℕ)) (i left : ℕ) (name : List ℕ) → slice_get names i ≡ Some name → left ≡ 0
+    → text ++ listed left (drop i names) ≡ all → text ++ codes " .." ≡ all
+more_names_told text all names i left name is none told =
+    ap (λ l. text ++ listed 0 l) (sym (one_more names i name is)) ∙ ap (λ m. text ++ listed m (drop i names)) (sym none) ∙ told

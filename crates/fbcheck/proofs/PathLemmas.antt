@@ -1,12 +1,13 @@
 -- Texts that name paths, one after another.
-use Rattle.std.proofs.Common.{◌≡◌, ℕ, ◌+◌, ◌<◌, suc, List, [], ◌∷◌, ◌++◌, length, take, drop, drop-cons, get_or, map, Result, Ok, Err, refl, sym, ap, subst, ◌∙◌, take-append-drop}
+use Rattle.std.proofs.Common.{◌≡◌, ℕ, ◌+◌, ◌<◌, suc, List, [], ◌∷◌, ◌++◌, length, take, drop, drop-cons, get_or, map, Option, Result, Ok, Err, refl, sym, ap, subst, ◌∙◌, take-append-drop}
 use mathlib.Core.Logic.{inl, inr}
 use Rattle.std.specs.Prelude.{IfOk, Vec, String, string_bytes}
 use Rattle.std.specs.declared.alloc.AllocError.{AllocError}
 use Rattle.std.specs.Global.{Global}
 use Rattle.std.proofs.lemmas.List.{map-append, take_more}
-use Rattle.fb_access.specs.Resolving.{IsFault}
+use Rattle.fb_access.specs.Resolving.{IsFault, IsMisfitAt}
 use Rattle.fb_access.specs.declared.path_fault.PathFault.{PathFault}
+use Rattle.fb_schema.specs.declared.kinds.Kind.{Kind}
 use Rattle.fb_schema.specs.Rows.{Rows}
 use Rattle.fb_run.specs.Wanted.{Wanted}
 use Rattle.fb_run.proofs.FoundLemmas.{both_more}
@@ -57,9 +58,9 @@ module _ (rows : Rows) (root : ℕ) where
         (fail_at (map string_bytes (take i texts)) paths (string_bytes text) (map string_bytes (drop (suc i) texts)) fault h fails)
 
     -- and what is told behind that
-    pub path_told : (paths : List Wanted) (fault : AskFault) (hint : List ℕ) → ArePaths rows root (map string_bytes (take i texts)) paths → PathFails rows root (string_bytes text) fault
-        → hint ≡ path_hint rows root (label_of (are_several (map string_bytes texts)) (string_bytes text)) fault → IsPathHint rows root (map string_bytes texts) fault hint
-    path_told paths (Path fault) hint h fails told = record {
+    pub path_told : (paths : List Wanted) (fault : AskFault) (at : Option Kind) (hint : List ℕ) → ArePaths rows root (map string_bytes (take i texts)) paths → PathFails rows root (string_bytes text) fault
+        → IsMisfitAt rows root (string_bytes text) at → hint ≡ path_hint rows (label_of (are_several (map string_bytes texts)) (string_bytes text)) fault at → IsPathHint rows root (map string_bytes texts) fault hint
+    path_told paths (Path fault) at hint h fails stands told = record {
       front = map string_bytes (take i texts);
       text = string_bytes text;
       rest = map string_bytes (drop (suc i) texts);
@@ -67,10 +68,12 @@ module _ (rows : Rows) (root : ℕ) where
       paths = paths;
       paths_are = h;
       fault_is = fails;
+      at = at;
+      at_is = stands;
       hint_is = told;
     }
-    path_told paths OutOfMemory hint h fails told = told
-    path_told paths _ hint h fails told = absurd fails
+    path_told paths OutOfMemory at hint h fails stands told = told
+    path_told paths _ at hint h fails stands told = absurd fails
 
     -- or names the next path
     pub paths_more : (paths paths' : List Wanted) (path : Wanted) → ArePaths rows root (map string_bytes (take i texts)) paths → IsPath rows root (string_bytes text) path

@@ -2,9 +2,10 @@
 use Rattle.std.specs.Prelude.{◌≡◌, ℕ, List, ◌∷◌, ◌++◌, Option, Some, None, Result, Ok, Err, min, length, codes, map, option_map, string_bytes}
 use Rattle.std.specs.Borrow.{Bor}
 use Rattle.std.specs.Io.KnownBytes.{Keeps}
+use Rattle.fb_schema.specs.declared.kinds.Kind.{Kind}
 use Rattle.fb_schema.specs.Rows.{Rows}
 use Rattle.fb_verify.specs.Bounds.{Bounds, limits_of_length}
-use Rattle.fb_access.specs.Resolving.{IsFault}
+use Rattle.fb_access.specs.Resolving.{IsFault, IsMisfitAt}
 use Rattle.fb_access.specs.declared.path_fault.PathFault.{PathFault}
 use Rattle.fb_bfbs.specs.Fixed.{fixed}
 use Rattle.fb_bfbs.specs.Loads.{IsLoaded, IsLoadFault, schema_number}
@@ -74,7 +75,7 @@ LacksJob file settings OutOfMemory = Unit {0}
 LacksJob file settings fault = Asks file settings (Err fault)
 
 -- the first of these texts that names no path from the root has this fault, and this is told behind it: which it is,
--- where they are several
+-- where they are several, and what there is where its step doesn't fit
 pub record TellsPath (rows : Rows) (root : ℕ) (texts : List (List ℕ)) (fault : PathFault) (hint : List ℕ) : Type 0 where
   pub front : List (List ℕ)
   pub text : List ℕ
@@ -83,7 +84,9 @@ pub record TellsPath (rows : Rows) (root : ℕ) (texts : List (List ℕ)) (fault
   pub paths : List Wanted
   pub paths_are : ArePaths rows root front paths
   pub fault_is : IsFault rows root text fault
-  pub hint_is : hint ≡ path_hint rows root (label_of (are_several texts) text) (Path fault)
+  pub at : Option Kind
+  pub at_is : IsMisfitAt rows root text at
+  pub hint_is : hint ≡ path_hint rows (label_of (are_several texts) text) (Path fault) at
 
 abbrev pub IsPathHint : Rows → ℕ → List (List ℕ) → AskFault → List ℕ → Type 0
 IsPathHint rows root texts (Path fault) hint = TellsPath rows root texts fault hint

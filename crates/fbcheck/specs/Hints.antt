@@ -5,10 +5,13 @@ use Rattle.std.specs.Borrow.{Bor}
 use Rattle.std.specs.List.{flat_map, list_all}
 use Rattle.std.specs.declared.io.ErrorKind.{ErrorKind}
 use Rattle.std.specs.declared.io.ErrorKind.TheVariants as kind
-use Rattle.fb_access.specs.declared.path_fault.PathFault.TheVariants as fault_of
+use Rattle.fb_access.specs.declared.path_fault.PathFault.TheVariants.{NoSuchField}
 use Rattle.fb_run.specs.AnswerText.{byte_text}
+use Rattle.fb_schema.specs.declared.kinds.Kind.{Kind}
+use Rattle.fb_schema.specs.declared.kinds.Kind.TheVariants.{Struct, Table}
 use Rattle.fb_schema.specs.Live.{Live, live_fields}
-use Rattle.fb_schema.specs.Rows.{Object, Rows}
+use Rattle.fb_schema.specs.Parts.{parts_of}
+use Rattle.fb_schema.specs.Rows.{Field, Object, Rows}
 use Rattle.fbcheck.specs.declared.fault.AskFault.{AskFault}
 use Rattle.fbcheck.specs.declared.fault.AskFault.TheVariants.{OutOfMemory, Path}
 use Rattle.fbcheck.specs.declared.files.FileFault.{FileFault}
@@ -65,13 +68,16 @@ abbrev pub schema_hint : Option (Bor (List ℕ)) → List ℕ
 schema_hint None = codes "\n"
 schema_hint (Some bytes) = front_hint (take 16 bytes.now)
 
--- the names of the tables among objects, and of fields
+-- the names of the tables among objects
 abbrev pub tables_in : List Object → List (List ℕ)
 tables_in [] = []
 tables_in (o ∷ objects) = if o.is_struct then tables_in objects else o.name ∷ tables_in objects
 
-abbrev pub fields_in : List Live → List (List ℕ)
-fields_in fields = map (λ (f : Live). f.name) fields
+-- of the fields of a table that can be named, in rising slot, and of a struct; nothing else has any
+abbrev pub fields_at : Rows → Kind → List (List ℕ)
+fields_at rows (Table k) = map (λ (f : Live). f.name) (live_fields rows k)
+fields_at rows (Struct k) = map (λ (f : Field). f.name) (parts_of rows k)
+fields_at rows kind = []
 
 -- the name that isn't a table's, where one was asked for, and the tables that there are, up to ten
 abbrev pub root_hint : Rows → Option (List ℕ) → List ℕ
@@ -83,12 +89,12 @@ abbrev pub in_path : Option (List ℕ) → List ℕ
 in_path None = []
 in_path (Some path) = codes " in" ++ named path
 
--- behind the fault of a path stands which it is, and where its first name is no field of the root table, the fields that
--- there are, up to ten
-abbrev pub path_hint : Rows → ℕ → Option (List ℕ) → AskFault → List ℕ
-path_hint rows root path (Path (fault_of.NoSuchField zero)) = in_path path ++ codes "; fields:" ++ listed 10 (fields_in (live_fields rows root)) ++ codes "\n"
-path_hint rows root path (Path fault) = in_path path ++ codes "\n"
-path_hint rows root path _ = codes "\n"
+-- behind the fault of a path stands which it is, and where a name is no field's, the fields that there are at the kind
+-- where its step stands, up to ten
+abbrev pub path_hint : Rows → Option (List ℕ) → AskFault → Option Kind → List ℕ
+path_hint rows path (Path (NoSuchField step)) (Some kind) = in_path path ++ codes "; fields:" ++ listed 10 (fields_at rows kind) ++ codes "\n"
+path_hint rows path (Path fault) at = in_path path ++ codes "\n"
+path_hint rows path fault at = codes "\n"
 
 -- the text of a hint, where there is one, and else the end of the line
 abbrev pub hint_text : {A : Type 0} → Option (Vec ℕ A) → List ℕ

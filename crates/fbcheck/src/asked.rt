@@ -15,7 +15,7 @@ ghost use Rattle.fb_schema.specs.declared.kinds.Kind.TheVariants.{Table};
 
 use crate::fault::AskFault;
 use crate::hint::{Unasked, path_hint, root_hint, schema_hint};
-use fb_access::Path;
+use fb_access::{Path, misfit_at};
 use fb_bfbs::{Loaded, load, own_ident, reflection};
 use fb_run::{AskedPath, Form, Mode, Options, Places, Prefix};
 use fb_schema::Schema;
@@ -107,7 +107,8 @@ fn find_paths(
             Ok(path) => path,
             Err(fault) => {
                 let told = told_path(several, text);
-                let hint = path_hint(alloc, schema, root, told, fault);
+                let at = misfit_at(schema, root, text.as_bytes());
+                let hint = path_hint(alloc, schema, told, fault, at);
                 return Err(Unasked::new(fault, hint));
             }
         };
@@ -260,10 +261,7 @@ pub fn asked_of<'b>(
         let hint = root_hint(alloc, &schema, &settings.root);
         return Err(Unasked::new(AskFault::NoRoot, hint));
     };
-    let paths = match find_paths(alloc, &schema, root, settings.paths.as_slice()) {
-        Ok(paths) => paths,
-        Err(unasked) => return Err(unasked),
-    };
+    let paths = find_paths(alloc, &schema, root, settings.paths.as_slice())?;
     let Some(ident) = find_ident(settings, ident) else {
         return Err(Unasked::plain(AskFault::NoIdent));
     };

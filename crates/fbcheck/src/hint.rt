@@ -1,22 +1,21 @@
 //! What is told behind a fault of status 2, to the end of its line.
 
-ghost use Rattle.std.specs.Prelude.{IfOk, IsTrue, OnOk, Some, ◌≡◌, ◌++◌, option_map, string_bytes};
+ghost use Rattle.std.specs.Prelude.{IfOk, IfSome, OnOk, Some, ◌≡◌, ◌++◌, option_map, slice_get, string_bytes};
 ghost use Rattle.std.specs.List.{list_all};
-ghost use Rattle.fb_schema.specs.Live.{live_fields};
-ghost use Rattle.fb_schema.specs.Rows.{is_table};
-ghost use Rattle.fbcheck.specs.Hints.{fields_in, file_hint, front_hint, hint_text, in_path, is_blank, is_plain, listed, named, opens, path_hint, reason_text, root_hint, schema_hint, tables_in, with_hint};
+ghost use Rattle.fb_access.specs.Kept.{IsThere};
+ghost use Rattle.fbcheck.specs.Hints.{fields_at, file_hint, front_hint, hint_text, in_path, is_blank, is_plain, listed, named, opens, path_hint, reason_text, root_hint, schema_hint, tables_in, with_hint};
 
 use crate::fault::AskFault;
 use crate::files::FileFault;
 use fb_access::PathFault;
 use fb_run::put_bytes;
-use fb_schema::Schema;
+use fb_schema::{Kind, Schema};
 use std::alloc::{AllocError, Global};
 use std::io::ErrorKind;
 use thiserror::Error;
 
 /// How many names are told.
-const MOST: u32 = 10;
+const MOST: usize = 10;
 
 /// By how many of its first bytes a file is taken for a text.
 const FRONT: usize = 16;
@@ -90,20 +89,39 @@ fn put_tables(text: &mut Vec<u8>, schema: &Schema<'_>) -> Result<(), AllocError>
     Ok(())
 }
 
-/// Adds the names of a table's fields, of which there may be more than are told.
-fn put_fields(text: &mut Vec<u8>, schema: &Schema<'_>, table: u32) -> Result<(), AllocError>
-    requires { IsTrue (is_table schema.now table) }
-    ensures { OnOk result (text.new.items ≡ text.old.items ++ listed 10 (fields_in (live_fields schema.now table))) }
+/// The name of the field at this place among those of a table or a struct.
+fn field_name<'s>(schema: &'s Schema<'_>, kind: Kind, place: usize) -> Option<&'s [u8]>
+    requires { IsThere schema.now kind }
+    ensures { option_map (λ name. name.now) result ≡ slice_get (fields_at schema.now kind) place }
 {
-    let mut left = MOST;
-    for field in schema.fields_of(table) {
-        if left == 0 {
-            return text.extend_from_slice(b" ..");
-        }
-        put_name(text, field.name)?;
-        left -= 1;
+    match kind {
+        Kind::Table(table) => match schema.fields_of(table).get(place) {
+            Some(field) => Some(field.name),
+            None => None,
+        },
+        Kind::Struct(object) => match schema.parts_of(object).get(place) {
+            Some(field) => Some(field.name),
+            None => None,
+        },
+        _ => None,
     }
-    Ok(())
+}
+
+/// Adds the names of the fields of a table or a struct, of which there may be more than are told.
+fn put_fields(text: &mut Vec<u8>, schema: &Schema<'_>, kind: Kind) -> Result<(), AllocError>
+    requires { IsThere schema.now kind }
+    ensures { OnOk result (text.new.items ≡ text.old.items ++ listed 10 (fields_at schema.now kind)) }
+{
+    for place in 0..MOST {
+        let Some(name) = field_name(schema, kind, place) else {
+            return Ok(());
+        };
+        put_name(text, name)?;
+    }
+    match field_name(schema, kind, MOST) {
+        Some(_) => text.extend_from_slice(b" .."),
+        None => Ok(()),
+    }
 }
 
 /// Why the system gives no file.
@@ -157,24 +175,24 @@ pub fn root_hint(
     Ok(text)
 }
 
-/// What is told behind the fault of a path: which it is, where that is to be told, and where its first name is no field
-/// of the root table, the fields that there are.
+/// What is told behind the fault of a path: which it is, where that is to be told, and where a name is no field's, the
+/// fields that there are at this kind.
 pub fn path_hint(
     alloc: Global,
     schema: &Schema<'_>,
-    root: u32,
     path: Option<&[u8]>,
     fault: AskFault,
+    at: Option<Kind>,
 ) -> Result<Vec<u8>, AllocError>
-    requires { IsTrue (is_table schema.now root) }
-    ensures { IfOk result (λ hint. hint.items ≡ path_hint schema.now root (option_map (λ p. p.now) path.entry) fault) }
+    requires { IfSome at (IsThere schema.now) }
+    ensures { IfOk result (λ hint. hint.items ≡ path_hint schema.now (option_map (λ p. p.now) path.entry) fault at) }
 {
     let mut text = Vec::new(alloc);
     if let AskFault::Path(fault) = fault {
         put_path(&mut text, path)?;
-        if let PathFault::NoSuchField { step: 0 } = fault {
+        if let (PathFault::NoSuchField { .. }, Some(kind)) = (fault, at) {
             text.extend_from_slice(b"; fields:")?;
-            put_fields(&mut text, schema, root)?;
+            put_fields(&mut text, schema, kind)?;
         }
     }
     text.extend_from_slice(b"\n")?;

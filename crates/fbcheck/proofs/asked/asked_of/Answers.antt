@@ -1,6 +1,9 @@
-use Rattle.std.proofs.Common.{refl, rules, subst, sym, ◌∙◌}
+use Rattle.std.proofs.Common.{IfErr, Result, refl, rules, subst, sym, ◌∙◌}
+use Rattle.fbcheck.specs.declared.asked.Asked.{Asked}
+use Rattle.fbcheck.specs.declared.hint.Unasked.{Unasked}
 use Rattle.fbcheck.specs.Asked.{LacksIdent}
 use Rattle.fbcheck.specs.Checking.{IsUntold, own_of}
+use Rattle.fb_run.proofs.RunLemmas.{err_exit}
 use Rattle.fbcheck.proofs.AskedLemmas.{untold_path}
 use Rattle.fbcheck.proofs.asked.asked_of.Goals as goal
 
@@ -13,8 +16,8 @@ returns-clause-job c =
       record {
         root = c.in-Some.root;
         root_is = sym c.find_root.ensures.number ∙ c.in-Some.is;
-        paths = c.in-Ok-find_paths.paths;
-        paths_are = rw c.as_slice.ensures.value at c.in-Ok-find_paths.ensures.paths;
+        paths = c.in_ok-paths.paths;
+        paths_are = rw c.as_slice.ensures.value at c.in_ok-paths.ensures.paths;
         ident = c.in-Some-find_ident.ident;
         ident_is = sym (c.find_ident.ensures loaded.root) ∙ c.in-Some-find_ident.is;
         job_is = search rules;
@@ -27,8 +30,8 @@ returns-in_default-find_ident-clause-none c =
     let lacks : LacksIdent loaded.schema (own_of loaded) c.args.settings.now = record {
       root = c.in-Some.root;
       root_is = sym c.find_root.ensures.number ∙ c.in-Some.is;
-      paths = c.in-Ok-find_paths.paths.items;
-      paths_are = rw c.as_slice.ensures.value at c.in-Ok-find_paths.ensures.paths;
+      paths = c.in_ok-paths.paths.items;
+      paths_are = rw c.as_slice.ensures.value at c.in_ok-paths.ensures.paths;
       none = sym (c.find_ident.ensures loaded.root) ∙ search rules;
     } in
     subst (IsUntold c.args.schema_bytes c.args.settings.now) (sym c.plain.ensures)
@@ -37,8 +40,9 @@ returns-in_default-find_ident-clause-none c =
 pub returns-in-Err-clause-none : goal.returns-in-Err-clause-none
 returns-in-Err-clause-none c = c.schemaless.ensures c.args.settings.now
 
-pub returns-in-Err-find_paths-clause-none : goal.returns-in-Err-find_paths-clause-none
-returns-in-Err-find_paths-clause-none c =
+pub returns-in_err-paths-clause-none : goal.returns-in_err-paths-clause-none
+returns-in_err-paths-clause-none c =
     let loaded = c.in-Ok.loaded in
-    untold_path c.args.schema_bytes c.args.settings.now loaded.schema (own_of loaded) c.in-Some.root c.in-Err-find_paths.unasked c.in-Ok.ensures.schema
-    (sym c.find_root.ensures.number ∙ c.in-Some.is) (rw c.as_slice.ensures.value at c.in-Err-find_paths.ensures.fault) (rw c.as_slice.ensures.value at c.in-Err-find_paths.ensures.hint)
+    err_exit c.from_residual.result _ (λ (r : Result Asked Unasked). IfErr r (IsUntold c.args.schema_bytes c.args.settings.now)) c.from_residual.ensures.1
+    (untold_path c.args.schema_bytes c.args.settings.now loaded.schema (own_of loaded) c.in-Some.root _ c.in-Ok.ensures.schema
+    (sym c.find_root.ensures.number ∙ c.in-Some.is) (rw c.as_slice.ensures.value at c.in_err-paths.ensures.fault) (rw c.as_slice.ensures.value at c.in_err-paths.ensures.hint))

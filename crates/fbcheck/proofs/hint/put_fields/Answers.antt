@@ -1,20 +1,21 @@
-use Rattle.std.proofs.Common.{rules, arith, ap, sym, ◌∙◌, ◌++◌}
-use Rattle.fbcheck.specs.Hints.{fields_in, listed}
-use Rattle.fbcheck.proofs.HintLemmas.{all_fields_told, field_told, more_fields_told}
+use Rattle.std.proofs.Common.{◌≡◌, ◌-◌, arith, rules, sym, ◌∙◌}
+use Rattle.fbcheck.proofs.HintLemmas.{more_names_told, name_told, names_told}
 use Rattle.fbcheck.proofs.hint.put_fields.Goals as goal
 
-pub returns-then-left-eq0 : goal.returns-then-left-eq0
-returns-then-left-eq0 c =
-    let told = more_fields_told _ _ c.fields_of-field-items.result.now c.loop-field.field-index c.loop-field.left c.loop-field-test.true c.if-left-eq0.true c.loop-field.invariant in
-    let all = ap (λ fields. c.args.text.now.items ++ listed 10 (fields_in fields)) c.fields_of-field-items.ensures.value in
-    search (rules, told, all, sym, ◌∙◌)
+pub returns-in_default : goal.returns-in_default
+returns-in_default c = names_told _ _ _ c.loop-place.place _ (sym c.in_default.ensures) c.loop-place.invariant
 
-pub loop-field-preserved : goal.loop-field-preserved
-loop-field-preserved c =
-    field_told c.loop-field.text.items _ _ c.fields_of-field-items.result.now c.loop-field.field-index c.loop-field.left _ c.loop-field-test.true
-    (omega (arith, c.if-left-eq0.false)) c.in_ok-put_name.ensures c.loop-field.invariant
+pub loop-place-preserved : goal.loop-place-preserved
+loop-place-preserved c = name_told c.loop-place.text.items _ _ _ c.loop-place.place 10 c.in-Some.name.now (sym c.in-Some.ensures) (omega (arith, c.loop-place-test.true)) c.in_ok-put_name.ensures c.loop-place.invariant
 
-pub returns : goal.returns
-returns c =
-    all_fields_told _ _ c.fields_of-field-items.result.now c.loop-field.field-index c.loop-field.left c.loop-field-test.false c.loop-field.invariant
-    ∙ ap (λ fields. c.args.text.now.items ++ listed 10 (fields_in fields)) c.fields_of-field-items.ensures.value
+-- all places were passed
+pub returns-in-Some-field_name : goal.returns-in-Some-field_name
+returns-in-Some-field_name c =
+    let all : c.loop-place.place ≡ 10 = omega (arith, c.loop-place-test.false, c.loop-place.auto.place-end) in
+    let told = more_names_told c.loop-place.text.items _ _ c.loop-place.place (10 - c.loop-place.place) c.in-Some-field_name.field-0.now (rw all (sym c.in-Some-field_name.ensures)) (omega (arith, all)) c.loop-place.invariant in
+    search (rules, told, sym, ◌∙◌)
+
+pub returns-in-None : goal.returns-in-None
+returns-in-None c =
+    let all : c.loop-place.place ≡ 10 = omega (arith, c.loop-place-test.false, c.loop-place.auto.place-end) in
+    names_told _ _ _ c.loop-place.place _ (rw all (sym c.in-None.ensures)) c.loop-place.invariant

@@ -1,8 +1,7 @@
-use Rattle.std.proofs.Common.{◌≡◌, ◌++◌, drop, map}
-use Rattle.fb_schema.specs.Live.{live_of_view}
-use Rattle.fbcheck.specs.Hints.{fields_in, listed}
+use Rattle.std.proofs.Common.{◌≡◌, ◌-◌, ◌++◌, drop}
+use Rattle.fbcheck.specs.Hints.{fields_at, listed}
 use Rattle.fbcheck.proofs.hint.put_fields.Given as goal
 
 -- what was added and what is left to add are the list
-abbrev pub invariant-loop-field : goal.invariant-loop-field
-invariant-loop-field l = l.text.items ++ listed l.left (fields_in (map live_of_view (drop l.field-index l.field-items))) ≡ l.initial.text.items ++ listed 10 (fields_in (map live_of_view l.field-items))
+abbrev pub invariant-loop-place : goal.invariant-loop-place
+invariant-loop-place l = l.text.items ++ listed (10 - l.place) (drop l.place (fields_at l.schema l.kind)) ≡ l.initial.text.items ++ listed 10 (fields_at l.schema l.kind)
