@@ -265,8 +265,13 @@ class Faults(Case):
             ("a bare input that is too long", (*BY_M, "--max-bytes", "31"), ORC, failed("input longer than 31 bytes")),
         ]:
             self.same(name, run(*words, given=given), want)
-        self.same("a folder as standard input", run_in_shell("<.", *BY_N), failed("read failed"))
-        self.same("a folder, bare", run_in_shell("<.", *BY_M), failed("read failed"))
+        self.same("a folder as standard input", run_in_shell("<.", *BY_N), failed("read failed: is a directory"))
+        self.same("a folder, bare", run_in_shell("<.", *BY_M), failed("read failed: is a directory"))
+        source, _ = os.pipe()
+        os.set_blocking(source, False)
+        ran = subprocess.run([PROGRAM, *BY_N], stdin=source, capture_output=True, timeout=SECONDS)
+        self.same("a pipe that doesn't block", Ran(ran.returncode, ran.stdout, ran.stderr),
+                  failed("read failed: operation would block"))
 
     def test_an_input_that_breaks_off(self):
         for name, words, given, heard in [

@@ -69,7 +69,7 @@ class Filter(Case):
         ]:
             self.same(name, run(*words, given=given), want)
         self.same("a folder as standard input", run_in_shell("<.", *BY_N),
-                  passed(b"", "fbcheck: read failed", status=3))
+                  passed(b"", "fbcheck: read failed: is a directory", status=3))
         stream = SEVEN + ODD + SEVEN + NOTHING
         ends = [32, 64, 96, 100]
         for length in range(len(stream) + 1):

@@ -116,7 +116,7 @@ class Summary(Case):
             self.same(f"{name}, with --filter", run(*BY_N, "--filter", given=given),
                       Ran(3, SEVEN, lines(f"2 {NO[ODD]}") + want))
         self.same("a folder as standard input", run_in_shell("<.", *BY_N),
-                  Ran(3, b"", lines(EMPTY, "fbcheck: read failed")))
+                  Ran(3, b"", lines(EMPTY, "fbcheck: read failed: is a directory")))
         self.same("a read that fails in mid-stream", run_broken_off(*BY_N, given=SEVEN + ODD + SEVEN[:9]),
                   Ran(3, told(SEVEN, ODD), lines(two, "fbcheck: read failed")))
         self.same("too little memory for the second message",

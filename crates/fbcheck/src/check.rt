@@ -13,6 +13,7 @@ use crate::fault::CheckFault;
 use crate::files::Files;
 use crate::hint::Unasked;
 use crate::inputs::{Passed, pass_files};
+use crate::reading::Explains;
 use fb_bytes::Sink;
 use fb_run::{Input, MOST_TURNS, Nowhere, Ran, Tally, run_beside};
 use fbcheck_words::Settings;
@@ -67,7 +68,7 @@ pub fn check_beside<S: Input<K, N>, K: Sink, N: Sink>(
 }
 
 /// The same of the files that the settings name, one behind another, as [`pass_files`] says.
-pub fn check_files<F: Files, S: Input<K, N>, K: Sink, N: Sink>(
+pub fn check_files<F: Files, S: Input<K, N> + Explains, K: Sink, N: Sink>(
     alloc: Global,
     files: &F,
     schema_bytes: Option<&[u8]>,

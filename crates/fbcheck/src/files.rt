@@ -5,6 +5,7 @@ ghost use Rattle.std.specs.IoError.{error_kind};
 ghost use Rattle.fbcheck.specs.Faults.{HasFileFault, IsFile, file_fault};
 ghost use Rattle.fbcheck.specs.declared.files.FileFault.{FileFault};
 
+use crate::reading::Explains;
 use fb_bytes::Source;
 use std::io;
 use std::io::ErrorKind;
@@ -36,7 +37,7 @@ impl FileFault {
 /// Files that are read by their names.
 pub trait Files {
     /// A file that is open.
-    type Opened: Source + Drop;
+    type Opened: Source + Explains + Drop;
 
     /// What a read of the file of this name may answer: its bytes, or a fault.
     ghost gives: { Self → List ℕ → Result (List ℕ) FileFault → Type 0 };

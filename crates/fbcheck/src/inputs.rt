@@ -11,6 +11,7 @@ ghost use Rattle.fbcheck.specs.declared.inputs.Standard.TheVariants.{Unread, Spe
 
 use crate::files::{FileFault, Files};
 use crate::hint::reason;
+use crate::reading::{Explained, Explains};
 use arrayvec::ArrayString;
 use fb_bytes::Sink;
 use fb_run::{
@@ -19,6 +20,7 @@ use fb_run::{
 use fb_schema::Schema;
 use std::alloc::{AllocError, Global};
 use std::fmt::Write;
+use std::io::ErrorKind;
 
 /// The name of standard input.
 const STANDARD: &str = "-";
@@ -45,6 +47,13 @@ pub enum Missed {
     File(FileFault),
     /// It is standard input, which was among the files before.
     Again,
+}
+
+/// What one file came to, and why a read of it failed, where one did.
+#[derive(Clone, Copy, Debug)]
+struct Came {
+    what: Result<Ran, Missed>,
+    cause: Option<ErrorKind>,
 }
 
 /// What files came to.
@@ -77,7 +86,7 @@ pub struct Passed {
 ///
 /// It ends well behind the last file, or for one of these: `WriteFault` and `NoteFault` where a write or a note failed,
 /// `OutOfMemory` where memory was refused, and `TooManyTurns` where the writer or the notes have had 2^64 calls.
-pub fn pass_files<F: Files, S: Input<K, N>, K: Sink, N: Sink>(
+pub fn pass_files<F: Files, S: Input<K, N> + Explains, K: Sink, N: Sink>(
     alloc: Global,
     files: &F,
     names: &[String],
@@ -146,7 +155,7 @@ fn label(alloc: Global, several: bool, name: &str) -> Result<Option<Vec<u8>>, Al
 }
 
 /// Goes through one file.
-fn pass_file<F: Files, S: Input<K, N>, K: Sink, N: Sink>(
+fn pass_file<F: Files, S: Input<K, N> + Explains, K: Sink, N: Sink>(
     alloc: Global,
     files: &F,
     name: &str,
@@ -179,12 +188,12 @@ fn pass_file<F: Files, S: Input<K, N>, K: Sink, N: Sink>(
     let came = run_file(
         alloc, files, name, schema, options, standard, reader, writer, notes,
     );
-    *course = course.with(name, &came);
+    *course = course.with(name, &came.what);
     tell_behind(alloc, name, &came, notes)
 }
 
 /// Runs over one file, where it can be read.
-fn run_file<F: Files, S: Input<K, N>, K: Sink, N: Sink>(
+fn run_file<F: Files, S: Input<K, N> + Explains, K: Sink, N: Sink>(
     alloc: Global,
     files: &F,
     name: &str,
@@ -194,14 +203,14 @@ fn run_file<F: Files, S: Input<K, N>, K: Sink, N: Sink>(
     reader: &mut S,
     writer: &mut K,
     notes: &mut N,
-) -> Result<Ran, Missed>
+) -> Came
     requires serves { Serves schema.now options.now }
     requires few { (K.calls writer.old < 2 ^ 64) × (N.calls notes.old < 2 ^ 64) }
     requires reads { standard ≡ Unread → S.calls reader.old < 2 ^ 64 }
     requires leave { is_standard name.now ≡ true → standard ≡ Unread → HasLeave S.Input (ends_of S.Input K.Sink N.Sink reader.old writer.old notes.old) (IsPrompt (job_of schema.now options.now)) }
 
-    ensures comes { ComesOf (folder_of F.Files F.Opened.Source files.now) (job_of schema.now options.now) name.now standard (ends_of S.Input K.Sink N.Sink reader.old writer.old notes.old) (ends_of S.Input K.Sink N.Sink reader.new writer.new notes.new) result }
-    ensures places { IfOk result (λ ran. length ran.tally.reasons ≡ 13) }
+    ensures comes { ComesOf (folder_of F.Files F.Opened.Source files.now) (job_of schema.now options.now) name.now standard (ends_of S.Input K.Sink N.Sink reader.old writer.old notes.old) (ends_of S.Input K.Sink N.Sink reader.new writer.new notes.new) result.what }
+    ensures places { IfOk result.what (λ ran. length ran.tally.reasons ≡ 13) }
     ensures pushes { N.calls notes.new ≤ N.calls notes.old + 2 ^ 96 }
     ensures turns { S.calls reader.new ≤ S.calls reader.old + MOST_TURNS }
     ensures apart { is_standard name.now ≡ false → reader.new ≡ reader.old }
@@ -209,17 +218,41 @@ fn run_file<F: Files, S: Input<K, N>, K: Sink, N: Sink>(
 {
     if name == STANDARD {
         return match standard {
-            Standard::Unread => Ok(run_beside(
-                alloc, reader, writer, notes, schema, options, MOST_TURNS,
-            )),
-            Standard::Spent => Err(Missed::Again),
+            Standard::Unread => {
+                let ran = run_beside(alloc, reader, writer, notes, schema, options, MOST_TURNS);
+                Came::by(ran, reader)
+            }
+            Standard::Spent => Came::missed(Missed::Again),
         };
     }
     match files.open(name) {
-        Ok(mut file) => Ok(run_beside(
-            alloc, &mut file, writer, notes, schema, options, MOST_TURNS,
-        )),
-        Err(fault) => Err(Missed::File(fault)),
+        Ok(mut file) => {
+            let ran = run_beside(alloc, &mut file, writer, notes, schema, options, MOST_TURNS);
+            Came::by(ran, &file)
+        }
+        Err(fault) => Came::missed(Missed::File(fault)),
+    }
+}
+
+impl Came {
+    /// What this run over a reader came to.
+    fn by<S: Explains>(ran: Ran, reader: &S) -> Came
+        ensures { result.what ≡ Ok ran }
+    {
+        Came {
+            what: Ok(ran),
+            cause: reader.cause(),
+        }
+    }
+
+    /// No run.
+    fn missed(missed: Missed) -> Came
+        ensures { result.what ≡ Err missed }
+    {
+        Came {
+            what: Err(missed),
+            cause: None,
+        }
     }
 }
 
@@ -304,15 +337,15 @@ fn sums(some: &[u64; 13], more: &[u64; 13]) -> [u64; 13]
 fn tell_behind<N: Sink>(
     alloc: Global,
     name: &str,
-    came: &Result<Ran, Missed>,
+    came: &Came,
     notes: &mut N,
 ) -> Result<(), RunFault>
     requires { N.calls notes.old < 2 ^ 99 }
-    ensures told { IsBehind name.now came.now (writer_of N.Sink notes.old) (writer_of N.Sink notes.new) result }
+    ensures told { IsBehind name.now came.now.what (writer_of N.Sink notes.old) (writer_of N.Sink notes.new) result }
     ensures calls { N.calls notes.new ≤ N.calls notes.old + 2 ^ 64 }
 {
-    match came {
-        Ok(ran) => tell_run(alloc, name, &ran.end, notes),
+    match &came.what {
+        Ok(ran) => tell_run(alloc, name, &ran.end, came.cause, notes),
         Err(Missed::File(FileFault::OutOfMemory)) => Err(RunFault::OutOfMemory),
         Err(Missed::File(FileFault::Unreadable(cause))) => {
             tell_fault(alloc, name, reason(*cause), notes)
@@ -326,6 +359,7 @@ fn tell_run<N: Sink>(
     alloc: Global,
     name: &str,
     end: &Result<(), RunFault>,
+    cause: Option<ErrorKind>,
     notes: &mut N,
 ) -> Result<(), RunFault>
     requires { N.calls notes.old < 2 ^ 99 }
@@ -339,7 +373,8 @@ fn tell_run<N: Sink>(
         return Err(*fault);
     }
     let mut why = ArrayString::<ROOM>::new();
-    let _ = write!(why, "{fault}");
+    let fault = *fault;
+    let _ = write!(why, "{}", Explained { fault, cause });
     tell_fault(alloc, name, why.as_str().as_bytes(), notes)
 }
 

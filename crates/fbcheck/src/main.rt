@@ -16,11 +16,13 @@ mod fault;
 mod files;
 mod hint;
 mod inputs;
+mod reading;
 mod serve;
 mod stop;
 
 use fb_bytes::Counted;
 use files::{FileFault, Files};
+use reading::Reading;
 use serve::serve;
 use std::env::Env;
 use std::fs::File;
@@ -62,7 +64,7 @@ fn read_file(rt: &HostRuntime, name: &str) -> io::Result<Vec<u8>> {
     Ok(bytes)
 }
 
-/// A file to be read. A folder is refused here, since a read of it fails without telling why.
+/// A file to be read. A folder is refused here, before a read of it fails.
 fn open_file(rt: &HostRuntime, name: &str) -> io::Result<File> {
     let file = File::open(rt, name)?;
     if file.metadata()?.is_dir() {
@@ -78,7 +80,7 @@ struct Disk<'a> {
 }
 
 impl Files for Disk<'_> {
-    type Opened = Counted<File>;
+    type Opened = Reading<File>;
 
     ghost gives = { λ _ _ _. ⊤ };
 
@@ -88,9 +90,9 @@ impl Files for Disk<'_> {
         read_file(self.rt, name).map_err(FileFault::of)
     }
 
-    fn open(&self, name: &str) -> Result<Counted<File>, FileFault> {
+    fn open(&self, name: &str) -> Result<Reading<File>, FileFault> {
         match open_file(self.rt, name) {
-            Ok(file) => Ok(Counted::new(file)),
+            Ok(file) => Ok(Reading::new(file)),
             Err(error) => Err(FileFault::of(error)),
         }
     }
@@ -101,7 +103,7 @@ fn main(rt: HostRuntime) -> io::Result<ExitCode> {
         Ok(words) => Ok(words),
         Err(error) => Err(WordsFault::of(error, wrong_word(&rt))),
     };
-    let mut reader = Counted::new(rt.stdin());
+    let mut reader = Reading::new(rt.stdin());
     let mut writer = Counted::new(rt.stdout());
     let mut notes = Counted::new(rt.stderr());
     let files = Disk { rt: &rt };

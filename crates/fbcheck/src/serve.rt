@@ -10,6 +10,7 @@ use crate::check::{check_beside, check_files};
 use crate::files::{Files, read_schema};
 use crate::hint::file_hint;
 use crate::inputs::Passed;
+use crate::reading::Explains;
 use crate::stop::{Ending, Stop, Sums, WordsFault, exit_status, sum_up, tell};
 use clap::Error;
 use fb_bytes::Sink;
@@ -21,7 +22,7 @@ use std::alloc::{AllocError, Global};
 /// name, checks the buffers of the reader by it, and tells of them as [`check_beside`](crate::check::check_beside)
 /// does; or writes help, where it is asked for. Behind what they have the notes get a line of what was counted, where
 /// the words ask for it, and then why it came to rest before the end.
-pub fn serve<F: Files, S: Input<K, N>, K: Sink, N: Sink>(
+pub fn serve<F: Files, S: Input<K, N> + Explains, K: Sink, N: Sink>(
     alloc: Global,
     words: Result<Vec<String>, WordsFault>,
     files: &F,
@@ -39,12 +40,12 @@ pub fn serve<F: Files, S: Input<K, N>, K: Sink, N: Sink>(
     let mut sums = None;
     let outcome = come_to(alloc, words, files, reader, writer, notes, &mut sums);
     let ending = sum_up(outcome, &sums, notes);
-    tell(&ending, notes);
+    tell(&ending, reader.cause(), notes);
     exit_status(&ending)
 }
 
 /// What the program comes to, and the numbers of the run, where these are to be told.
-fn come_to<F: Files, S: Input<K, N>, K: Sink, N: Sink>(
+fn come_to<F: Files, S: Input<K, N> + Explains, K: Sink, N: Sink>(
     alloc: Global,
     words: Result<Vec<String>, WordsFault>,
     files: &F,

@@ -11,6 +11,7 @@ ghost use Rattle.fbcheck.specs.declared.stop.Stop.TheVariants as stop;
 use crate::files::FileFault;
 use crate::hint::Unasked;
 use crate::inputs::Course;
+use crate::reading::Explained;
 use arrayvec::ArrayString;
 use fb_bytes::Sink;
 use fb_run::summary::summary;
@@ -151,8 +152,9 @@ impl Stop {
         }
     }
 
-    /// Writes the text of `clap`, or else a line that begins with the program's name. What can't be written is left.
-    fn tell<N: Sink>(&self, notes: &mut N)
+    /// Writes the text of `clap`, or else a line that begins with the program's name, where this is why a read of
+    /// standard input failed, if one did. What can't be written is left.
+    fn tell<N: Sink>(&self, cause: Option<ErrorKind>, notes: &mut N)
         requires { N.calls notes.old < 2 ^ 99 }
         ensures told { Complains (Err self.now) (writer_of N.Sink notes.old) (writer_of N.Sink notes.new) }
         ensures more { N.calls notes.old ≤ N.calls notes.new }
@@ -162,7 +164,17 @@ impl Stop {
             return;
         }
         let mut why = ArrayString::<ROOM>::new();
-        let _ = write!(why, "{self}");
+        let _ = match self {
+            Stop::Run(fault) => write!(
+                why,
+                "{}",
+                Explained {
+                    fault: *fault,
+                    cause
+                }
+            ),
+            _ => write!(why, "{self}"),
+        };
         let mut line = ArrayString::<LINE>::new();
         line.push_str(NAME);
         line.push_str(why.as_str());
@@ -217,14 +229,15 @@ pub fn sum_up<N: Sink>(
     }
 }
 
-/// Tells on standard error why the program came to rest, if it did, and nothing else.
-pub fn tell<N: Sink>(outcome: &Result<Ending, Stop>, notes: &mut N)
+/// Tells on standard error why the program came to rest, if it did, and nothing else. This is why a read of standard
+/// input failed, if one did.
+pub fn tell<N: Sink>(outcome: &Result<Ending, Stop>, cause: Option<ErrorKind>, notes: &mut N)
     requires { N.calls notes.old < 2 ^ 99 }
     ensures told { Complains outcome.now (writer_of N.Sink notes.old) (writer_of N.Sink notes.new) }
     ensures more { N.calls notes.old ≤ N.calls notes.new }
 {
     if let Err(stop) = outcome {
-        stop.tell(notes);
+        stop.tell(cause, notes);
     }
 }
 

@@ -9,7 +9,7 @@ use Rattle.fbcheck.proofs.inputs.pass_file.Goals as goal
 pub returns-clause-tries : goal.returns-clause-tries
 returns-clause-tries g c =
     tries_of (folder_of g.F.Files g.F.Opened.Source c.args.files.now) (job_of c.args.schema.now c.args.options.now) c.args.name.now _ _ c.tell_behind.result (record {
-      came = c.run_file-came.result;
+      came = c.run_file-came.result.what;
       between = ends_of g.S.Input g.K.Sink g.N.Sink c.run_file-came.new.reader c.run_file-came.new.writer c.run_file-came.new.notes;
       comes = c.run_file-came.ensures.comes;
       told = c.tell_behind.ensures.told;
@@ -19,17 +19,17 @@ returns-clause-tries g c =
 
 pub returns-clause-unread : goal.returns-clause-unread
 returns-clause-unread g c is =
-    let same = sym (standard_with c.args.name.now c.run_file-came.result c.args.course.now) ∙ ap (λ (course : Course). course.standard) (sym c.with.ensures.course) ∙ is in
+    let same = sym (standard_with c.args.name.now c.run_file-came.result.what c.args.course.now) ∙ ap (λ (course : Course). course.standard) (sym c.with.ensures.course) ∙ is in
     let (isnt, old) = after_unread _ c.args.course.now.standard same in
     (old, c.run_file-came.ensures.apart isnt)
 
 pub returns-clause-spent : goal.returns-clause-spent
 returns-clause-spent g c old = (
-  ap (λ (course : Course). course.standard) c.with.ensures.course ∙ standard_with c.args.name.now c.run_file-came.result c.args.course.now ∙ after_spent _ c.args.course.now.standard old,
+  ap (λ (course : Course). course.standard) c.with.ensures.course ∙ standard_with c.args.name.now c.run_file-came.result.what c.args.course.now ∙ after_spent _ c.args.course.now.standard old,
   c.run_file-came.ensures.spent old,
 )
 
 pub returns-clause-crowded : goal.returns-clause-crowded
 returns-clause-crowded g c is =
-    absurd (behind_never c.args.name.now c.run_file-came.result c.tell_behind.result (writer_of g.N.Sink c.run_file-came.new.notes) (writer_of g.N.Sink c.tell_behind.new.notes)
+    absurd (behind_never c.args.name.now c.run_file-came.result.what c.tell_behind.result (writer_of g.N.Sink c.run_file-came.new.notes) (writer_of g.N.Sink c.tell_behind.new.notes)
     c.tell_behind.ensures.told (is_turns c.tell_behind.result is))
