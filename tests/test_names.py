@@ -454,7 +454,7 @@ class Names(Case):
         quiet = refusing([*words, "--quiet"], prefixed(levels(9)))
         self.same("a good message asks for nothing", (quiet.status, quiet.reads[0]), (0, quiet.asked))
         part = prefixed(broken(9))
-        twice, often = [refusing(words, part * count, most=len(part)) for count in (2, 40)]
+        twice, often = [refusing(words, part * count, most=len(part)) for count in (2, 9)]
         self.same("places of one length ask once", (often.status, often.asked), (1, twice.asked))
 
     def test_each_place_is_a_path(self):

@@ -1,11 +1,11 @@
 //! What a run tells: gathered, counted, and written together.
 
-ghost use Rattle.std.specs.Prelude.{Err, IfErr, Ok, OnOk, OnErr, ◌≡◌, ◌⊎◌, ◌+◌, ◌<◌, ◌≤◌, ◌^◌, ◌++◌, length, true, false, codes, take};
+ghost use Rattle.std.specs.Prelude.{Err, IfErr, IsTrue, Ok, OnOk, OnErr, ◌≡◌, ◌⊎◌, ◌+◌, ◌<◌, ◌≤◌, ◌^◌, ◌++◌, length, true, false};
 ghost use Rattle.fb_run.specs.Ends.{GrowsBy, IsBelow, Takes, load_of, outs_of, writer_of};
 ghost use Rattle.fb_run.specs.Faults.{IsCausedOut, IsCausedWriting, IsUnfailedOut};
-ghost use Rattle.fb_run.specs.Job.{HasRoom, brief_verdict, verdict_of};
+ghost use Rattle.fb_run.specs.Job.{HasRoom, brief_verdict, is_brief, verdict_of};
 ghost use Rattle.fb_run.specs.AnswerText.{label_text};
-ghost use Rattle.fb_run.specs.Line.{asked_text, json_line, line_of, short_line, told_of, verdict_line};
+ghost use Rattle.fb_run.specs.Line.{line_of, told_of, verdict_line};
 ghost use Rattle.fb_run.specs.Lines.{Adds, AddsThrough, AddsTold, ComesBehind, StopsBehind, StopsIn, WritesFronts};
 ghost use Rattle.fb_run.specs.Sums.{count_of, no_tally};
 ghost use Rattle.fb_run.specs.Texts.{silent, size, waiting, written_by};
@@ -32,10 +32,10 @@ pub struct Output<A: Allocator> {
     pub out: Pending<A>,
     /// Whole lines.
     pub notes: Pending<A>,
-    /// The line that is being made, but for values or a place in words.
+    /// A plain line that is being made, but for what it begins with, values, and a place in words.
     line: Line,
-    /// These.
-    asked: Vec<u8, A>,
+    /// A whole line.
+    made: Vec<u8, A>,
 }
 
 impl<'a, A: Allocator> Output<&'a A> {
@@ -51,7 +51,7 @@ impl<'a, A: Allocator> Output<&'a A> {
             out: Pending::new(alloc),
             notes: Pending::new(alloc),
             line: Line::new(),
-            asked: Vec::new(alloc),
+            made: Vec::new(alloc),
         }
     }
 }
@@ -80,7 +80,7 @@ impl<A: Allocator> Output<A> {
         if checker.is_brief() {
             return match checker.report(room, message) {
                 Ok(report) => self.add_yes(checker.mode(), message, &report),
-                Err(fault) => self.add_no(checker.mode(), message, fault),
+                Err(fault) => self.add_no(checker, message, fault),
             };
         }
         self.add_at_length(checker, room, message)
@@ -110,12 +110,18 @@ impl<A: Allocator> Output<A> {
         Ok(())
     }
 
-    /// Adds what the mode tells of the next message with this fault, where no more is asked, and counts it.
+    /// Adds what is told of the next message with this fault, where no more is asked, and counts it.
     #[inline(never)]
-    fn add_no(&mut self, mode: Mode, message: &[u8], fault: Fault) -> Result<(), AllocError>
+    fn add_no(
+        &mut self,
+        checker: &Checker<'_, '_, '_>,
+        message: &[u8],
+        fault: Fault,
+    ) -> Result<(), AllocError>
+        requires brief { IsTrue (is_brief checker.now) }
         requires few { count_of self.old.counter < 2 ^ 63 }
         requires short { length message.now < 2 ^ 31 }
-        ensures ok { OnOk result (Adds mode (verdict_line (1 + count_of self.old.counter) (brief_verdict (Err fault))) message.now (brief_verdict (Err fault))
+        ensures ok { OnOk result (Adds checker.now.mode (verdict_line (1 + count_of self.old.counter) (brief_verdict (Err fault))) message.now (brief_verdict (Err fault))
             (waiting self.old) self.old.counter (waiting self.new) self.new.counter) }
         ensures err_text { OnErr result (waiting self.new ≡ waiting self.old) }
         ensures err_counted { OnErr result (self.new.counter ≡ self.old.counter) }
@@ -124,7 +130,7 @@ impl<A: Allocator> Output<A> {
     {
         let verdict = Err(Wrong { fault, place: None });
         let number = 1 + self.counter.messages();
-        self.tell(mode, b"", number, message, &verdict)?;
+        self.tell(checker, b"", number, message, &verdict)?;
         self.counter.count(message, &verdict);
         Ok(())
     }
@@ -152,7 +158,7 @@ impl<A: Allocator> Output<A> {
         let verdict = checker.verdict(room, message)?;
         let (verdict, begin) = checker.told(room, verdict);
         let number = 1 + self.counter.messages();
-        self.tell_in_form(checker, begin, number, message, &verdict)?;
+        self.tell(checker, begin, number, message, &verdict)?;
         self.counter.count(message, &verdict);
         Ok(())
     }
@@ -188,7 +194,7 @@ impl<A: Allocator> Output<A> {
         let verdict = checker.verdict(room, message)?;
         let (verdict, begin) = checker.told(room, verdict);
         let number = 1 + self.counter.messages();
-        let told = self.tell_formed(checker, begin, number, message, &verdict, writer);
+        let told = self.tell_through(checker, begin, number, message, &verdict, writer);
         if let Err(RunFault::OutOfMemory) = told {
             return told;
         }
@@ -198,7 +204,7 @@ impl<A: Allocator> Output<A> {
 
     /// Adds what is told of message number `number` by this verdict, where plain lines begin so. A plain line with a long
     /// value is written while it is made.
-    fn tell_formed<K: Sink>(
+    fn tell_through<K: Sink>(
         &mut self,
         checker: &Checker<'_, '_, '_>,
         begin: &[u8],
@@ -222,21 +228,22 @@ impl<A: Allocator> Output<A> {
         ensures counted { self.new.counter ≡ self.old.counter }
         ensures noted { self.new.notes.written ≡ self.old.notes.written }
     {
-        match checker.form() {
-            Form::Plain => self.tell_through(
-                checker.mode(),
-                begin,
-                number,
-                message,
-                verdict,
-                writer,
-            ),
-            Form::Json => Ok(self.tell_json(checker, number, message, verdict)?),
+        if let Form::Json = checker.form() {
+            return Ok(self.tell(checker, begin, number, message, verdict)?);
         }
+        let Some(answers) = long_answers(checker.mode(), verdict) else {
+            return Ok(self.tell(checker, begin, number, message, verdict)?);
+        };
+        self.line.set(number, verdict);
+        let line = self.line.bytes();
+        if let Err(Unwritten { written }) = put_line(&mut self.out, writer, begin, line, answers) {
+            return Err(RunFault::WriteFault { written });
+        }
+        Ok(())
     }
 
     /// The same in memory.
-    fn tell_in_form(
+    fn tell(
         &mut self,
         checker: &Checker<'_, '_, '_>,
         begin: &[u8],
@@ -252,150 +259,82 @@ impl<A: Allocator> Output<A> {
         ensures written { self.new.out.written ≡ self.old.out.written }
         ensures noted { self.new.notes.written ≡ self.old.notes.written }
     {
-        match checker.form() {
-            Form::Plain => self.tell(checker.mode(), begin, number, message, verdict),
-            Form::Json => self.tell_json(checker, number, message, verdict),
-        }
-    }
-
-    /// Adds what is told of message number `number` by this verdict, where lines are JSON.
-    fn tell_json(
-        &mut self,
-        checker: &Checker<'_, '_, '_>,
-        number: u64,
-        bytes: &[u8],
-        verdict: &Result<Found<'_>, Wrong<'_>>,
-    ) -> Result<(), AllocError>
-        ensures out { OnOk result ((waiting self.new).out ≡ (waiting self.old).out ++ (told_of checker.now.mode (json_line checker.now number (verdict_of verdict.now)) bytes.now (verdict_of verdict.now)).out) }
-        ensures notes { OnOk result ((waiting self.new).notes ≡ (waiting self.old).notes ++ (told_of checker.now.mode (json_line checker.now number (verdict_of verdict.now)) bytes.now (verdict_of verdict.now)).notes) }
-        ensures err_text { OnErr result (waiting self.new ≡ waiting self.old) }
-        ensures counted { self.new.counter ≡ self.old.counter }
-        ensures written { self.new.out.written ≡ self.old.out.written }
-        ensures noted { self.new.notes.written ≡ self.old.notes.written }
-    {
-        match checker.mode() {
-            Mode::Lines => put_json(&mut self.out, &mut self.asked, checker, number, verdict),
-            Mode::BadLines => match verdict {
-                Ok(_) => Ok(()),
-                Err(_) => put_json(&mut self.out, &mut self.asked, checker, number, verdict),
+        match verdict {
+            Ok(_) => match checker.mode() {
+                Mode::Lines => self.put_line(checker, begin, number, verdict),
+                Mode::BadLines => Ok(()),
+                Mode::Filter => self.out.bytes.extend_from_slice(message),
             },
-            Mode::Filter => match verdict {
-                Ok(_) => self.out.bytes.extend_from_slice(bytes),
-                Err(_) => put_json(&mut self.notes, &mut self.asked, checker, number, verdict),
+            Err(_) => match checker.mode() {
+                Mode::Lines | Mode::BadLines => self.put_line(checker, begin, number, verdict),
+                Mode::Filter => self.note_line(checker, begin, number, verdict),
             },
         }
     }
 
-    /// Adds what the mode tells of message number `number` with this verdict, where lines begin so. A line with a long
-    /// value is written while it is made.
-    fn tell_through<K: Sink>(
-        &mut self,
-        mode: Mode,
-        begin: &[u8],
-        number: u64,
-        message: &[u8],
-        verdict: &Result<Found<'_>, Wrong<'_>>,
-        writer: &mut K,
-    ) -> Result<(), RunFault>
-        requires writes { K.calls writer.old < 2 ^ 99 + 2 ^ 97 }
-        requires written { self.old.out.written < 2 ^ 99 + 2 ^ 97 }
-        ensures ok { OnOk result (ComesBehind (waiting self.old).out (told_of mode (begin.now ++ verdict_line number (verdict_of verdict.now)) message.now (verdict_of verdict.now)).out
-            (waiting self.new).out (K.contents writer.old) (K.contents writer.new) self.old.out.written self.new.out.written) }
-        ensures notes { OnOk result ((waiting self.new).notes ≡ (waiting self.old).notes ++ (told_of mode (begin.now ++ verdict_line number (verdict_of verdict.now)) message.now (verdict_of verdict.now)).notes) }
-        ensures err { IfErr result (λ fault. StopsIn ((waiting self.old).out ++ (told_of mode (begin.now ++ verdict_line number (verdict_of verdict.now)) message.now (verdict_of verdict.now)).out)
-            (K.contents writer.old) (K.contents writer.new) self.old.out.written fault) }
-        ensures failed { IfErr result (IsCausedWriting (writer_of K.Sink writer.old) (writer_of K.Sink writer.new)) }
-        ensures unfailed { OnOk result (K.failures writer.new ≡ K.failures writer.old) }
-        ensures little { OnOk result (self.new.out.written ≤ self.old.out.written + 2 ^ 67) }
-        ensures calls { OnOk result (K.calls writer.new ≤ K.calls writer.old + 2 ^ 67) }
-        ensures counted { self.new.counter ≡ self.old.counter }
-        ensures noted { self.new.notes.written ≡ self.old.notes.written }
-    {
-        let Some(answers) = long_answers(mode, verdict) else {
-            return Ok(self.tell(mode, begin, number, message, verdict)?);
-        };
-        self.line.set(number, verdict);
-        let line = self.line.bytes();
-        if let Err(Unwritten { written }) = put_line(&mut self.out, writer, begin, line, answers) {
-            return Err(RunFault::WriteFault { written });
-        }
-        Ok(())
-    }
-
-    /// Adds what the mode tells of message number `number` with this verdict, where lines begin so.
-    fn tell(
-        &mut self,
-        mode: Mode,
-        begin: &[u8],
-        number: u64,
-        message: &[u8],
-        verdict: &Result<Found<'_>, Wrong<'_>>,
-    ) -> Result<(), AllocError>
-        ensures out { OnOk result ((waiting self.new).out ≡ (waiting self.old).out ++ (told_of mode (begin.now ++ verdict_line number (verdict_of verdict.now)) message.now (verdict_of verdict.now)).out) }
-        ensures notes { OnOk result ((waiting self.new).notes ≡ (waiting self.old).notes ++ (told_of mode (begin.now ++ verdict_line number (verdict_of verdict.now)) message.now (verdict_of verdict.now)).notes) }
-        ensures err_text { OnErr result (waiting self.new ≡ waiting self.old) }
-        ensures counted { self.new.counter ≡ self.old.counter }
-        ensures written { self.new.out.written ≡ self.old.out.written }
-        ensures noted { self.new.notes.written ≡ self.old.notes.written }
-    {
-        match mode {
-            Mode::Lines => self.put_line(begin, number, verdict),
-            Mode::BadLines => match verdict {
-                Ok(_) => Ok(()),
-                Err(_) => self.put_line(begin, number, verdict),
-            },
-            Mode::Filter => match verdict {
-                Ok(_) => self.out.bytes.extend_from_slice(message),
-                Err(_) => {
-                    self.set_line(number, verdict)?;
-                    add_line(
-                        &mut self.notes.bytes,
-                        begin,
-                        self.line.bytes(),
-                        self.asked.as_slice(),
-                    )
-                }
-            },
-        }
-    }
-
-    /// Adds the line of this verdict on message number `number` to what waits for the writer. It begins so.
+    /// Adds the line of this verdict on message number `number` to what waits for the writer. Plain lines begin so.
     fn put_line(
         &mut self,
+        checker: &Checker<'_, '_, '_>,
         begin: &[u8],
         number: u64,
         verdict: &Result<Found<'_>, Wrong<'_>>,
     ) -> Result<(), AllocError>
-        ensures ok { OnOk result (self.new.out.bytes.items ≡ self.old.out.bytes.items ++ (begin.now ++ verdict_line number (verdict_of verdict.now))) }
+        requires begin { begin.now ≡ label_text checker.now.label }
+        ensures ok { OnOk result (self.new.out.bytes.items ≡ self.old.out.bytes.items ++ line_of checker.now number (verdict_of verdict.now)) }
         ensures err_text { OnErr result (self.new.out.bytes.items ≡ self.old.out.bytes.items) }
         ensures notes { self.new.notes ≡ self.old.notes }
         ensures counted { self.new.counter ≡ self.old.counter }
         ensures written { self.new.out.written ≡ self.old.out.written }
     {
-        self.set_line(number, verdict)?;
-        add_line(
-            &mut self.out.bytes,
-            begin,
-            self.line.bytes(),
-            self.asked.as_slice(),
-        )
+        self.make_line(checker, begin, number, verdict)?;
+        self.out.bytes.extend_from_slice(self.made.as_slice())
     }
 
-    /// Makes the line of this verdict on message number `number`, and what was asked for at its end.
-    fn set_line(
+    /// The same of what waits for the notes.
+    fn note_line(
         &mut self,
+        checker: &Checker<'_, '_, '_>,
+        begin: &[u8],
         number: u64,
         verdict: &Result<Found<'_>, Wrong<'_>>,
     ) -> Result<(), AllocError>
-        ensures line { OnOk result (self.new.line ≡ short_line number (verdict_of verdict.now)) }
-        ensures asked { OnOk result (self.new.asked.items ≡ asked_text (verdict_of verdict.now)) }
+        requires begin { begin.now ≡ label_text checker.now.label }
+        ensures ok { OnOk result (self.new.notes.bytes.items ≡ self.old.notes.bytes.items ++ line_of checker.now number (verdict_of verdict.now)) }
+        ensures err_text { OnErr result (self.new.notes.bytes.items ≡ self.old.notes.bytes.items) }
+        ensures out { self.new.out ≡ self.old.out }
+        ensures counted { self.new.counter ≡ self.old.counter }
+        ensures noted { self.new.notes.written ≡ self.old.notes.written }
+    {
+        self.make_line(checker, begin, number, verdict)?;
+        self.notes.bytes.extend_from_slice(self.made.as_slice())
+    }
+
+    /// Makes the line of this verdict on message number `number`. Plain ones begin so.
+    fn make_line(
+        &mut self,
+        checker: &Checker<'_, '_, '_>,
+        begin: &[u8],
+        number: u64,
+        verdict: &Result<Found<'_>, Wrong<'_>>,
+    ) -> Result<(), AllocError>
+        requires begin { begin.now ≡ label_text checker.now.label }
+        ensures line { OnOk result (self.new.made.items ≡ line_of checker.now number (verdict_of verdict.now)) }
         ensures out { self.new.out ≡ self.old.out }
         ensures notes { self.new.notes ≡ self.old.notes }
         ensures counted { self.new.counter ≡ self.old.counter }
     {
-        self.line.set(number, verdict);
-        self.asked.clear();
-        put_asked(&mut self.asked, verdict)
+        self.made.clear();
+        match checker.form() {
+            Form::Plain => {
+                self.line.set(number, verdict);
+                self.made.extend_from_slice(begin)?;
+                self.made.extend_from_slice(self.line.bytes())?;
+                put_asked(&mut self.made, verdict)?;
+                self.made.extend_from_slice(b"\n")
+            }
+            Form::Json => checker.put_json(&mut self.made, number, verdict),
+        }
     }
 
     /// Whether so much waits that it is written before the next message is checked. (Where it were 2^40 bytes, they would
@@ -438,56 +377,4 @@ impl<A: Allocator> Output<A> {
     {
         self.counter.tally()
     }
-}
-
-/// Adds the line of this verdict on message number `number` as JSON behind what waits. It is made in a room of its own.
-fn put_json<A: Allocator>(
-    pending: &mut Pending<A>,
-    line: &mut Vec<u8, A>,
-    checker: &Checker<'_, '_, '_>,
-    number: u64,
-    verdict: &Result<Found<'_>, Wrong<'_>>,
-) -> Result<(), AllocError>
-    ensures ok { OnOk result (pending.new.bytes.items ≡ pending.old.bytes.items ++ json_line checker.now number (verdict_of verdict.now)) }
-    ensures err_text { OnErr result (pending.new.bytes.items ≡ pending.old.bytes.items) }
-    ensures written { pending.new.written ≡ pending.old.written }
-{
-    line.clear();
-    checker.put_json(line, number, verdict)?;
-    pending.bytes.extend_from_slice(line.as_slice())
-}
-
-/// Adds a line to a text: what it begins with, the line, what was asked for, and a newline. Where memory is refused, the
-/// text stays.
-fn add_line<A: Allocator>(
-    text: &mut Vec<u8, A>,
-    begin: &[u8],
-    line: &[u8],
-    asked: &[u8],
-) -> Result<(), AllocError>
-    ensures ok { OnOk result (text.new.items ≡ text.old.items ++ (begin.now ++ (line.now ++ (asked.now ++ codes "\n")))) }
-    ensures err_text { OnErr result (text.new.items ≡ text.old.items) }
-{
-    let before = text.len();
-    let whole = add_all(text, begin, line, asked);
-    if whole.is_err() {
-        text.truncate(before);
-    }
-    whole
-}
-
-/// The same, but for a front of it where memory is refused.
-fn add_all<A: Allocator>(
-    text: &mut Vec<u8, A>,
-    begin: &[u8],
-    line: &[u8],
-    asked: &[u8],
-) -> Result<(), AllocError>
-    ensures ok { OnOk result (text.new.items ≡ text.old.items ++ (begin.now ++ (line.now ++ (asked.now ++ codes "\n")))) }
-    ensures err_text { OnErr result (take (length text.old.items) text.new.items ≡ text.old.items) }
-{
-    text.extend_from_slice(begin)?;
-    text.extend_from_slice(line)?;
-    text.extend_from_slice(asked)?;
-    text.extend_from_slice(b"\n")
 }
