@@ -1,17 +1,16 @@
 -- What it takes to pass a table whose fields lead to no table, and what that leaves.
-use Rattle.std.specs.Prelude.{◌≡◌, ℕ, ◌+◌, ◌*◌, ◌<◌, ◌≤◌, List, [], ◌∷◌, ◌++◌, true, false, Option, Some, None, Result, Ok, Err, IfOk, IfErr, IfSome, Bool, length}
+use Rattle.std.specs.Prelude.{◌≡◌, ℕ, ◌+◌, ◌*◌, ◌<◌, ◌≤◌, List, [], ◌∷◌, ◌++◌, false, Option, Some, None, Result, Ok, Err, IfSome, Bool, length}
 use Rattle.fb_bytes.specs.Word.{Metered}
 use Rattle.fb_schema.specs.Live.{live_fields}
 use Rattle.fb_verify.specs.declared.fault.Reason.{Reason}
 use Rattle.fb_verify.specs.declared.field.Table.{Table}
 use Rattle.fb_verify.specs.declared.scratch.Frame.{Frame}
-use Rattle.fb_verify.specs.declared.site.Halt.{Halt}
 use Rattle.fb_verify.specs.declared.site.Stop.{Stop}
 use Rattle.fb_verify.specs.declared.stack.Walk.{Walk}
 use Rattle.fb_verify.specs.Cost.{head_reads}
 use Rattle.fb_verify.specs.Order.{after, head_failure}
 use Rattle.fb_verify.specs.Plain.{tested_by}
-use Rattle.fb_verify.specs.Stack.{blank, opened, own_link, Waiting, IsUnderWay, IsWalking, StopsIn, HaltsIn, links_left, work}
+use Rattle.fb_verify.specs.Stack.{blank, opened, own_link, Waiting, IsUnderWay, IsWalking, StopsIn}
 use Rattle.fb_verify.specs.StopsAt.{IsStopAt}
 use Rattle.fb_verify.specs.Told.{stopped, IsHead}
 
@@ -49,31 +48,3 @@ pub record PassesFlat (w : Walk) (m new : Metered) (under : Waiting) (k t next a
   pub head : next ≡ in_head → IfSome result (λ _. tested_by at new.count result ≡ after m.count (head_failure w.checks m.bytes t))
   pub within : (next ≡ in_head → ⊥) → IfSome result (λ _. next < length (live_fields w.schema.now k))
   pub field : (next ≡ in_head → ⊥) → IfSome result (λ reason. (s : Stop) → IsStopAt w.schema.now (frame_at k next) at reason s → StopsIn w.checks m.bytes w.schema.now w.limits under.start under.frames (own_link (stopped s new.count)) (stopped s new.count))
-
--- tables were passed whole to which the first words of the top's row lead, and that row is left of it; or the walk
--- stops at one
-pub record PassesFlats {A : Type 0} (w then : Walk) (m new : Metered) (under : Waiting) (top past : Frame) (result : Result A Halt) : Type 0 where
-  pub same : IfOk result (λ _. then ≡ record w { tables = then.tables; deepest = then.deepest })
-  pub walking : IfOk result (λ _. IsWalking then new under.start under.frames past)
-  pub falls : IfOk result (λ _. new.count + work w.schema.now w.limits under.frames past then.tables ≤ m.count + work w.schema.now w.limits under.frames top w.tables)
-  pub began : IfOk result (λ _. (past.row).left < (top.row).left → new.count + work w.schema.now w.limits under.frames past then.tables < m.count + work w.schema.now w.limits under.frames top w.tables)
-  pub grows : IfOk result (λ _. m.count ≤ new.count)
-  pub bytes : new.bytes ≡ m.bytes
-  pub links : IfErr result (λ h. h.links ≡ length under.frames + 1)
-  pub deep : IfErr result (λ h. h.links + links_left h.last ≤ (w.limits).depth)
-  pub err : IfErr result (λ h. HaltsIn w m under.start (under.frames ++ past ∷ []) h new.count)
-
--- offset words of the top's row were passed, each with what it leads to, and that row is left of it; or the frame below
--- was opened for a table to which one leads (more tells which); or the walk stops at one
-pub record PassesMembers (w then : Walk) (m new : Metered) (under : Waiting) (top past below : Frame) (result : Result Bool Halt) : Type 0 where
-  pub same : IfOk result (λ _. then ≡ record w { tables = then.tables; deepest = then.deepest })
-  pub walking : IfOk result (λ more. more ≡ false → IsWalking then new under.start under.frames past)
-  pub falls : IfOk result (λ more. more ≡ false → new.count + work w.schema.now w.limits under.frames past then.tables ≤ m.count + work w.schema.now w.limits under.frames top w.tables)
-  pub began : IfOk result (λ more. more ≡ false → (past.row).left < (top.row).left → new.count + work w.schema.now w.limits under.frames past then.tables < m.count + work w.schema.now w.limits under.frames top w.tables)
-  pub opened : IfOk result (λ more. more ≡ true → IsWalking then new under.start (under.frames ++ past ∷ []) below)
-  pub leads : IfOk result (λ more. more ≡ true → new.count + work w.schema.now w.limits (under.frames ++ past ∷ []) below then.tables < m.count + work w.schema.now w.limits under.frames top w.tables)
-  pub grows : IfOk result (λ _. m.count ≤ new.count)
-  pub bytes : new.bytes ≡ m.bytes
-  pub links : IfErr result (λ h. h.links ≡ length under.frames + 1)
-  pub deep : IfErr result (λ h. h.links + links_left h.last ≤ (w.limits).depth)
-  pub err : IfErr result (λ h. HaltsIn w m under.start (under.frames ++ past ∷ []) h new.count)
