@@ -9,10 +9,10 @@ use std::mem;
 
 /// The bytes of a [`crate::Tally`] under its count, which goes on in 64 bits: a loop keeps those in a register.
 ///
-/// A contract sees it as a meter: as its bytes and its count. Whoever holds one settles it before 2^63 reads. There is no
-/// way to the bytes but by a counted read: nothing seals them. The count goes with the
-/// bytes, so that whichever tally takes them back has every read that was made of them. [`crate::Tally::lend`] makes
-/// one, and [`crate::Tally::settle`] takes it back.
+/// A contract sees it as a meter: as its bytes and its count. Whoever holds one settles it before 2^63 reads. There is
+/// no way to the bytes but by a counted read: nothing seals them. The count goes with the bytes, so that whichever
+/// tally takes them back has every read that was made of them. [`crate::Tally::lend`] makes one, and
+/// [`crate::Tally::settle`] takes it back.
 #[derive(Drop)]
 pub struct Reads<'a> {
     window: Window<'a>,

@@ -202,8 +202,8 @@ impl<A: Allocator> Output<A> {
         told
     }
 
-    /// Adds what is told of message number `number` by this verdict, where plain lines begin so. A plain line with a long
-    /// value is written while it is made.
+    /// Adds what is told of message number `number` by this verdict, where plain lines begin so. A plain line with a
+    /// long value is written while it is made.
     fn tell_through<K: Sink>(
         &mut self,
         checker: &Checker<'_, '_, '_>,
@@ -337,8 +337,8 @@ impl<A: Allocator> Output<A> {
         }
     }
 
-    /// Whether so much waits that it is written before the next message is checked. (Where it were 2^40 bytes, they would
-    /// wait on; no line and no message has as many.)
+    /// Whether so much waits that it is written before the next message is checked. (Where it were 2^40 bytes, they
+    /// would wait on; no line and no message has as many.)
     pub fn is_much(&self) -> bool
         ensures much { result ≡ true → 65536 ≤ size (waiting self.now) × (size (waiting self.now) < 2 ^ 40) }
         ensures little { result ≡ false → size (waiting self.now) < 65536 ⊎ 2 ^ 40 ≤ size (waiting self.now) }

@@ -11,8 +11,8 @@ use crate::stack::{Turn, Walk};
 use fb_bytes::Tally;
 
 impl Walk<'_, '_> {
-    /// Goes on with a walk over these frames, of which so many wait below the top, until it is over, or until it needs a
-    /// frame behind the last of them. Answers how many wait then; none where it is over.
+    /// Goes on with a walk over these frames, of which so many wait below the top, until it is over, or until it needs
+    /// a frame behind the last of them. Answers how many wait then; none where it is over.
     #[inline(always)]
     pub fn go_on(
         &mut self,

@@ -67,7 +67,8 @@ fn pass_referent(
 
 impl<'s, 'n> Walk<'s, 'n> {
     /// Checks the first offset word of a row, and answers the table to which it leads, if it does; else the budget is
-    /// asked. What fails does so at this site. A row of tables comes first, so that its words are passed without a jump.
+    /// asked. What fails does so at this site. A row of tables comes first, so that its words are passed without a
+    /// jump.
     #[tactic(auto, using(crate::proofs::Refusals::told_after), unfolding(crate::specs::Order::element_failure))]
     pub fn pass_element(
         &self,

@@ -38,8 +38,8 @@ pub fn targets_of<'s>(schema: &'s Schema<'_>, leads: Leads) -> Targets<'s>
     }
 }
 
-/// What the first offset word of a row refers to. Where the types of a union tell that, its type is read, and the target
-/// of it is looked up among these.
+/// What the first offset word of a row refers to. Where the types of a union tell that, its type is read, and the
+/// target of it is looked up among these.
 #[inline(always)]
 fn first_referent(
     reads: &mut Reads<'_>,
@@ -87,8 +87,8 @@ pub fn stop_at_word(top: &mut Frame, left: Row, at: u64, reason: Reason) -> Stop
 impl Walk<'_, '_> {
     /// Passes offset words that are left of the top table's field, with the strings and structs that they lead to,
     /// until one leads to a table, and answers that table; none where no word is left. Where one fails, the row is left
-    /// past it. The budget allows whatever they cost. These are the walk's own checks, and the words, of which a caller may
-    /// know constants.
+    /// past it. The budget allows whatever they cost. These are the walk's own checks, and the words, of which a caller
+    /// may know constants.
     #[inline(always)]
     pub fn pass_words_of(
         &self,

@@ -44,8 +44,8 @@ pub enum Turn {
     Halt,
 }
 
-/// What a walk carries: what it is asked, the tables that it opened, the greatest number of them that were open at once,
-/// and where it stops, once it does.
+/// What a walk carries: what it is asked, the tables that it opened, the greatest number of them that were open at
+/// once, and where it stops, once it does.
 #[derive(Drop)]
 pub struct Walk<'s, 'n> {
     pub schema: &'s Schema<'n>,
@@ -427,8 +427,8 @@ impl<'s, 'n> Walk<'s, 'n> {
         self.walk_by(self.checks, reads, frames, waiting)
     }
 
-    /// Goes on quickly as long as no limit may be met, by bytes that are lent once: by the published checks as constants
-    /// where these are made.
+    /// Goes on quickly as long as no limit may be met, by bytes that are lent once: by the published checks as
+    /// constants where these are made.
     #[inline(never)]
     pub fn walk_on(
         &mut self,
@@ -506,8 +506,8 @@ impl<'s, 'n> Walk<'s, 'n> {
         Ok(false)
     }
 
-    /// Passes the fields of an opened root table of which none leads on, quickly by the published checks where the budget
-    /// allows whatever they may cost.
+    /// Passes the fields of an opened root table of which none leads on, quickly by the published checks where the
+    /// budget allows whatever they may cost.
     #[inline(never)]
     fn pass_root(&mut self, meter: &mut Tally<'_>, table: Table) -> Turn
         ghost going: { Going }

@@ -85,8 +85,8 @@ fn find_path(
     Ok(AskedPath::new(path, text))
 }
 
-/// The paths that texts name from the root, in their order, or why the first that names none does not, with what is told
-/// behind it.
+/// The paths that texts name from the root, in their order, or why the first that names none does not, with what is
+/// told behind it.
 fn find_paths(
     alloc: Global,
     schema: &Schema<'_>,

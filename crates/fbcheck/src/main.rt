@@ -1,5 +1,5 @@
-//! `fbcheck` checks FlatBuffers by a binary schema: it reads streams of size-prefixed buffers, or bare buffers, from files
-//! or standard input and writes a line for each to standard output. Without a schema file it checks schema files.
+//! `fbcheck` checks FlatBuffers by a binary schema: it reads streams of size-prefixed buffers, or bare buffers, from
+//! files or standard input and writes a line for each to standard output. Without a schema file it checks schema files.
 //!
 //! The words of the command line are read first, then the schema file, then the input; help goes to standard output.
 //! Faults go to standard error, and the first ends the program, but for one of a file among files. The exit status is 0

@@ -242,7 +242,8 @@ pub fn tell<N: Sink>(outcome: &Result<Ending, Stop>, cause: Option<ErrorKind>, n
 }
 
 /// The program's exit status: 0 where every buffer had a yes or help was written, 1 where a buffer had a no, 2 where
-/// the words, the schema file, the root, the path or the schema's own identifier are wrong, and 3 for every other fault.
+/// the words, the schema file, the root, the path or the schema's own identifier are wrong, and 3 for every other
+/// fault.
 pub fn exit_status(outcome: &Result<Ending, Stop>) -> u8
     ensures { result ≡ exit_status outcome.now }
 {
