@@ -1,4 +1,4 @@
-// The offset words by which a present field leads on, put into a row, and the ways through that row.
+// The offset words by which a present field leads on, put into a row.
 
 ghost use Rattle.std.specs.Prelude.{◌≡◌, ◌+◌, ◌*◌, ◌^◌, ◌<◌, ◌≤◌, length, IsTrue, None, ℕ, nat_lt};
 ghost use Rattle.fb_bytes.specs.Word.{word};
@@ -17,14 +17,12 @@ ghost use Rattle.fb_verify.specs.Told.{IsPlaced, IsVtable};
 ghost use Rattle.fb_verify.specs.declared.offset_row.Leads.TheVariants.{All, ByType};
 ghost use Rattle.fb_verify.specs.Turns.{IsFar, IsShort, RowTurned};
 
-use crate::checks::{Checks, PUBLISHED};
-use crate::element::Child;
+use crate::checks::Checks;
 use crate::fault::Reason;
 use crate::field::{Table, referent_at};
 use crate::offset_row::{Leads, Referent, Row};
 use crate::plain::{fails, test_end, test_vector_field};
-use crate::scratch::Frame;
-use crate::stack::{Turn, Walk};
+use crate::stack::Walk;
 use fb_bytes::Reads;
 use fb_schema::{FieldView, Kind, Schema};
 
@@ -242,89 +240,5 @@ impl Walk<'_, '_> {
             }
             _ => put_words(reads, checks, table, at, Referent::Text, row),
         }
-    }
-
-    /// Passes the words of the top's row until one leads to a table that is to be opened.
-    #[inline(always)]
-    fn pass_row_by(
-        &mut self,
-        checks: Checks,
-        reads: &mut Reads<'_>,
-        waiting: u32,
-        top: &mut Frame,
-        child: &mut Child,
-    ) -> Turn
-        ghost under: { Waiting }
-        requires waiting { waiting ≡ length under.frames }
-        requires walking { IsWalking self.old reads.old under.start under.frames top.old }
-        requires leads { 0 < (top.old.row).left }
-        requires short { IsShort reads.old.count }
-        requires same { checks ≡ self.old.checks }
-        ensures { RowTurned self.old self.new reads.old reads.new under top.old top.new child.new result }
-    {
-        let is_deepest = waiting + 1 >= self.limits.depth();
-        match top.row.leads {
-            Leads::ByType(_, _) => {
-                if is_deepest {
-                    return Turn::Slowly;
-                }
-                self.pass_members_on(checks, reads, waiting, top, child)
-            }
-            Leads::All(Referent::Table(object)) => {
-                if !self.schema.is_plain(object) {
-                    return self.next_table(checks, reads, waiting, object, top, child);
-                }
-                if is_deepest {
-                    return Turn::Slowly;
-                }
-                let mut own = reads.lend();
-                let turn = self.pass_flats(checks, &mut own, waiting, object, top);
-                reads.settle(own);
-                turn
-            }
-            Leads::All(_) => self.pass_words(checks, reads, waiting, top),
-        }
-    }
-
-    /// The same, whatever the checks are.
-    #[cold]
-    #[inline(never)]
-    fn pass_row_by_checks(
-        &mut self,
-        reads: &mut Reads<'_>,
-        waiting: u32,
-        top: &mut Frame,
-        child: &mut Child,
-    ) -> Turn
-        ghost under: { Waiting }
-        requires waiting { waiting ≡ length under.frames }
-        requires walking { IsWalking self.old reads.old under.start under.frames top.old }
-        requires leads { 0 < (top.old.row).left }
-        requires short { IsShort reads.old.count }
-        ensures { RowTurned self.old self.new reads.old reads.new under top.old top.new child.new result }
-    {
-        self.pass_row_by(self.checks, reads, waiting, top, child)
-    }
-
-    /// The same, quickly where the checks are the published ones, which are constants then.
-    #[inline(never)]
-    pub fn pass_row(
-        &mut self,
-        reads: &mut Reads<'_>,
-        waiting: u32,
-        top: &mut Frame,
-        child: &mut Child,
-    ) -> Turn
-        ghost under: { Waiting }
-        requires waiting { waiting ≡ length under.frames }
-        requires walking { IsWalking self.old reads.old under.start under.frames top.old }
-        requires leads { 0 < (top.old.row).left }
-        requires short { IsShort reads.old.count }
-        ensures { RowTurned self.old self.new reads.old reads.new under top.old top.new child.new result }
-    {
-        if !self.checks.are_published() {
-            return self.pass_row_by_checks(reads, waiting, top, child);
-        }
-        self.pass_row_by(PUBLISHED, reads, waiting, top, child)
     }
 }
