@@ -16,6 +16,12 @@ pub record Metered : Type 0 where
   pub bytes : List ℕ
   pub count : ℕ
 
+-- a buffer that is lent to a walk, how many reads were made of it, and how many of these before a count in 64 bits began
+pub record Lent : Type 0 where
+  pub bytes : List ℕ
+  pub count : ℕ
+  pub base : ℕ
+
 -- the count of a meter whose bytes are lent, more than any reads come to: what was read is told once they are settled
 abbrev pub while_lent : ℕ
 while_lent = 340282366920938463463374607431768211455

@@ -3,7 +3,7 @@
 ghost use Rattle.std.specs.Prelude.{◌≡◌, ◌+◌, ◌^◌, ◌<◌, ◌≤◌, length, IfOk, IsErr, IsTrue, ◌↔◌};
 ghost use Rattle.fb_bytes.specs.Word.{word, signed_word, while_lent};
 
-use crate::tally::Tally;
+use crate::loan::Loan;
 use crate::window::Window;
 use std::marker::Model;
 
@@ -123,25 +123,25 @@ impl<'a> Meter<'a> {
     /// Lends the bytes to a walk, under a count that goes on from this one. Until [`Meter::settle`] takes that count,
     /// nothing is told of the reads, so that no walk is made beside it that nobody counts.
     #[inline(always)]
-    pub fn lend(&mut self) -> Tally<'a>
+    pub fn lend(&mut self) -> Loan<'a>
         requires few { self.old.count < 2 ^ 100 }
-        ensures lent { result ≡ self.old }
+        ensures lent { result ≡ record { bytes = self.old.bytes; count = self.old.count; base = 0 } }
         ensures untold { self.new ≡ record self.old { count = while_lent } }
     {
-        let tally = Tally::over(self.window.again(), self.count);
+        let loan = Loan::over(self.window.again(), self.count);
         self.count = WHILE_LENT;
-        tally
+        loan
     }
 
-    /// Takes the count of a tally of these bytes, which were lent.
+    /// Takes the count of a loan of these bytes, which were lent.
     #[inline(always)]
-    pub fn settle(&mut self, tally: Tally<'_>)
-        requires same { tally.bytes ≡ self.old.bytes }
+    pub fn settle(&mut self, loan: Loan<'_>)
+        requires same { loan.bytes ≡ self.old.bytes }
         requires lent { self.old.count ≡ while_lent }
-        ensures count { self.new ≡ record self.old { count = tally.entry.count } }
+        ensures count { self.new ≡ record self.old { count = loan.entry.count } }
         ensures settled { self.new.count < while_lent }
     {
-        self.count = tally.reads();
+        self.count = loan.reads();
     }
 
     /// The same bytes behind a [`Window`], whose reads aren't counted. Nothing makes a meter of a window.

@@ -1,4 +1,4 @@
-//! A tally's bytes, lent out to be read under a short count.
+//! A loan's bytes, lent out to be read under a short count.
 
 ghost use Rattle.std.specs.Prelude.{◌≡◌, ◌+◌, ◌^◌, ◌<◌, ◌≤◌, [], length, IsTrue, ◌↔◌};
 ghost use Rattle.fb_bytes.specs.Word.{word, signed_word};
@@ -7,42 +7,53 @@ use crate::window::Window;
 use std::marker::Model;
 use std::mem;
 
-/// The bytes of a [`crate::Tally`] under its count, which goes on in 64 bits: a loop keeps those in a register.
+/// The bytes of a [`crate::Loan`] under its count, which goes on in 64 bits: a loop keeps those in a register.
 ///
-/// A contract sees it as a meter: as its bytes and its count. Whoever holds one settles it before 2^63 reads. There is
-/// no way to the bytes but by a counted read: nothing seals them. The count goes with the bytes, so that whichever
-/// tally takes them back has every read that was made of them. [`crate::Tally::lend`] makes one, and
-/// [`crate::Tally::settle`] takes it back.
+/// A contract sees it as its bytes, all reads that were made of them, and how many of these were made before the count
+/// in 64 bits began. There is no way to the bytes but by a counted read: nothing seals them. The count goes with the
+/// bytes, so that whichever loan takes them back has every read that was made of them. [`crate::Loan::lend`] makes
+/// one, and [`crate::Loan::settle`] takes it back.
 #[derive(Drop)]
 pub struct Reads<'a> {
     window: Window<'a>,
     count: u64,
+    base: u128,
 }
 
 impl<'a> Model for Reads<'a> {
-    ghost use Rattle.fb_bytes.specs.Word.{Metered};
+    ghost use Rattle.std.specs.Prelude.{◌+◌, ◌^◌, ◌<◌, ◌≤◌};
+    ghost use Rattle.fb_bytes.specs.Word.{Lent};
 
-    ghost Value = { Metered };
+    ghost Value = { Lent };
 
-    ghost view = { λ r. record { bytes = r.window; count = r.count } };
+    ghost view = { λ r. record { bytes = r.window; count = r.base + r.count; base = r.base } };
+
+    ghost invariant = { λ r. (r.base ≤ 2 ^ 100) × (0 < r.base → 2 ^ 57 ≤ r.base) };
 }
 
 impl<'a> Reads<'a> {
-    /// A window of which so many reads were made.
+    /// A window of which so many reads were made, and so many more in the count of 64 bits.
     #[inline(always)]
-    pub(crate) fn over(window: Window<'a>, count: u64) -> Self
-        ensures { result ≡ record { bytes = window.entry; count = count } }
+    pub(crate) fn over(window: Window<'a>, base: u128, count: u64) -> Self
+        requires few { base ≤ 2 ^ 100 }
+        requires many { 0 < base → 2 ^ 57 ≤ base }
+        ensures { result ≡ record { bytes = window.entry; count = base + count; base = base } }
     {
-        Reads { window, count }
+        Reads {
+            window,
+            count,
+            base,
+        }
     }
 
     /// The window, and all reads that were made of it.
     #[inline(always)]
-    pub(crate) fn into_parts(self) -> (Window<'a>, u64)
+    pub(crate) fn into_parts(self) -> (Window<'a>, u128)
         ensures window { result.0 ≡ self.entry.bytes }
         ensures count { result.1 ≡ self.entry.count }
+        ensures few { result.1 ≤ 2 ^ 101 }
     {
-        (self.window, self.count)
+        (self.window, self.base + u128::from(self.count))
     }
 
     /// Lends the bytes on under the same count. Until [`Reads::settle`] takes them back, there are none here.
@@ -52,7 +63,7 @@ impl<'a> Reads<'a> {
         ensures bare { self.new ≡ record self.old { bytes = [] } }
     {
         let window = mem::replace(&mut self.window, Window::over(&[]));
-        Reads::over(window, self.count)
+        Reads::over(window, self.base, self.count)
     }
 
     /// Takes bytes back, with the count of all reads that were made of them.
@@ -60,14 +71,13 @@ impl<'a> Reads<'a> {
     pub fn settle(&mut self, reads: Reads<'a>)
         ensures { self.new ≡ reads.entry }
     {
-        let (window, count) = reads.into_parts();
-        self.window = window;
-        self.count = count;
+        *self = reads;
     }
 
-    /// How many reads were made since it was lent.
+    /// How many reads were made, where these are fewer than 2^57: then none was made before the count in 64 bits.
     #[inline(always)]
     pub fn count(&self) -> u64
+        requires short { self.now.count < 2 ^ 57 }
         ensures { result ≡ self.now.count }
     {
         self.count
@@ -95,7 +105,7 @@ impl<'a> Reads<'a> {
     #[inline(always)]
     pub fn u8_at(&mut self, at: u64) -> u8
         requires fits { at + 1 ≤ length self.old.bytes }
-        requires few { self.old.count < 2 ^ 63 }
+        requires few { self.old.count < self.old.base + 2 ^ 63 }
         ensures number { result ≡ word self.old.bytes at 1 }
         ensures counted { self.new ≡ record self.old { count = self.old.count + 1 } }
     {
@@ -107,7 +117,7 @@ impl<'a> Reads<'a> {
     #[inline(always)]
     pub fn u16_at(&mut self, at: u64) -> u16
         requires fits { at + 2 ≤ length self.old.bytes }
-        requires few { self.old.count < 2 ^ 63 }
+        requires few { self.old.count < self.old.base + 2 ^ 63 }
         ensures number { result ≡ word self.old.bytes at 2 }
         ensures counted { self.new ≡ record self.old { count = self.old.count + 1 } }
     {
@@ -119,7 +129,7 @@ impl<'a> Reads<'a> {
     #[inline(always)]
     pub fn u32_at(&mut self, at: u64) -> u32
         requires fits { at + 4 ≤ length self.old.bytes }
-        requires few { self.old.count < 2 ^ 63 }
+        requires few { self.old.count < self.old.base + 2 ^ 63 }
         ensures number { result ≡ word self.old.bytes at 4 }
         ensures counted { self.new ≡ record self.old { count = self.old.count + 1 } }
     {
@@ -131,7 +141,7 @@ impl<'a> Reads<'a> {
     #[inline(always)]
     pub fn i32_at(&mut self, at: u64) -> i32
         requires fits { at + 4 ≤ length self.old.bytes }
-        requires few { self.old.count < 2 ^ 63 }
+        requires few { self.old.count < self.old.base + 2 ^ 63 }
         ensures number { result ≡ signed_word self.old.bytes at }
         ensures counted { self.new ≡ record self.old { count = self.old.count + 1 } }
     {

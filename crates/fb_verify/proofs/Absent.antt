@@ -16,7 +16,7 @@ use Rattle.fb_verify.specs.Places.{has_slot, field_place, vtable_size}
 use Rattle.fb_verify.specs.Fields.{entries}
 use Rattle.fb_verify.specs.Cost.{own_reads}
 use Rattle.fb_verify.specs.Order.{own_failure}
-use Rattle.fb_verify.specs.Stack.{blank, frame_work, Origin, IsUnderWay}
+use Rattle.fb_verify.specs.Stack.{blank, Origin, IsUnderWay}
 use Rattle.fb_verify.proofs.Frames.{no_row}
 use Rattle.fb_verify.proofs.Walking.{field_skipped}
 use Rattle.fb_verify.proofs.Words.{row_none}
@@ -132,7 +132,3 @@ module _ (c : Checks) (b : List ℕ) (S : Rows) (L : Bounds) (s : Origin) (below
     required_next place some =
         let found = some_found fields top.next place some field in
         absent_to place found.0 (λ i f low lt at. some_free fields top.next place some i f low lt at) found.1
-
-  -- which leaves no more work
-  pub absent_work : frame_work S (top_at (length fields)) ≤ frame_work S top
-  absent_work = omega (arith, (h.frame).next)

@@ -1,5 +1,5 @@
 -- What a budget of reads allows.
-use Rattle.std.proofs.Common.{◌≡◌, ◌↔◌, ℕ, ◌+◌, ◌*◌, ◌≤◌, true, false, refl, arith, Option, Some, None}
+use Rattle.std.proofs.Common.{◌≡◌, ◌↔◌, ℕ, ◌+◌, ◌*◌, ◌≤◌, false, arith, Option, Some, None}
 use Rattle.std.proofs.lemmas.Bool.Decides.{nat_tests}
 use Rattle.fb_verify.specs.Bounds.{AreAllowed, allowed, AreTooMany, lesser_budget}
 use Rattle.fb_verify.specs.Laws.{LengthAllows}
@@ -14,15 +14,7 @@ pub no_reads : (budget : Option ℕ) → AreAllowed budget 0
 no_reads None = tt
 no_reads (Some most) = omega arith
 
--- the test tells whether they are
-pub are_allowed : (budget : Option ℕ) (n : ℕ) → allowed budget n ≡ true → AreAllowed budget n
-are_allowed None n h = tt
-are_allowed (Some most) n h = grind (arith, nat_tests)
-
-pub is_allowed : (budget : Option ℕ) (n : ℕ) → AreAllowed budget n → allowed budget n ≡ true
-is_allowed None n h = refl
-is_allowed (Some most) n h = grind (arith, nat_tests)
-
+-- reads that the test refuses are too many
 pub are_too_many : (budget : Option ℕ) (n : ℕ) → allowed budget n ≡ false → AreTooMany budget n
 are_too_many None n h = absurd cc
 are_too_many (Some most) n h = grind (arith, nat_tests)

@@ -1,12 +1,12 @@
 -- A table whose fields lead to no table is passed whole.
 use Rattle.std.proofs.Common.{◌≡◌, ℕ, ◌+◌, ◌*◌, ◌^◌, ◌<◌, ◌≤◌, IsTrue, nat_lt, true, List, length, refl, sym, ◌∙◌, ap, arith, Option, Some, None}
 use Rattle.std.proofs.lemmas.Bool.Decides.{nat_tests}
-use Rattle.fb_bytes.specs.Word.{Metered}
+use Rattle.fb_bytes.specs.Word.{Lent}
 use Rattle.fb_schema.specs.Rows.{Rows, is_table}
 use Rattle.fb_schema.specs.Live.{live_fields}
 use Rattle.fb_verify.specs.declared.checks.Checks.{Checks}
 use Rattle.fb_verify.specs.declared.fault.Reason.{Reason}
-use Rattle.fb_verify.specs.declared.field.Table.{Table}
+use Rattle.fb_verify.specs.declared.table.Table.{Table}
 use Rattle.fb_verify.specs.declared.offset_row.Row.{Row}
 use Rattle.fb_verify.specs.declared.offset_row.Leads.TheVariants.{All}
 use Rattle.fb_verify.specs.declared.offset_row.Referent.TheVariants.{Table as ATable}
@@ -33,7 +33,7 @@ use Rattle.fb_verify.proofs.Refusals.{told_after, told_first}
 use Rattle.fb_verify.proofs.Walking.{table_closed}
 
 -- its head holds, and its fields were passed
-module _ (w : Walk) (m mid new : Metered) (under : Waiting) (table : Table) (next at : ℕ) (bytes : mid.bytes ≡ m.bytes) (least : m.count ≤ mid.count) (most : mid.count ≤ m.count + 3)
+module _ (w : Walk) (m mid new : Lent) (under : Waiting) (table : Table) (next at : ℕ) (bytes : mid.bytes ≡ m.bytes) (least : m.count ≤ mid.count) (most : mid.count ≤ m.count + 3)
     (few : length (live_fields w.schema.now table.object) < 2 ^ 32) where
   pub flat_passed : (result : Option Reason) → PassesOn w mid new under (opened table) (record (opened table) { next = next }) at (came result) → PassesFlat w m new under table.object table.at next at result
   flat_passed None e = record {

@@ -7,11 +7,11 @@ use Rattle.std.specs.Slice.{IsItemAt}
 use Rattle.std.proofs.lemmas.Option.{slice_get-get_or}
 use Rattle.fb_schema.specs.declared.kinds.Kind.{Kind}
 use Rattle.fb_schema.specs.declared.kinds.Kind.TheVariants.{Scalar, Text, Struct, Table, Union, Scalars, Texts, Structs, Tables, Unions}
-use Rattle.fb_schema.specs.Rows.{Rows, Object, is_table, is_some_table}
+use Rattle.fb_schema.specs.Rows.{Rows, is_table}
 use Rattle.fb_schema.specs.Live.{Live, live_fields}
 use Rattle.fb_schema.specs.Served.{IsServed}
 use Rattle.fb_verify.specs.declared.checks.Checks.{Checks}
-use Rattle.fb_verify.specs.declared.field.Table.{Table as TableOf}
+use Rattle.fb_verify.specs.declared.table.Table.{Table as TableOf}
 use Rattle.fb_verify.specs.declared.offset_row.Leads.{Leads}
 use Rattle.fb_verify.specs.declared.offset_row.Leads.TheVariants.{All, ByType}
 use Rattle.fb_verify.specs.declared.offset_row.Row.{Row}
@@ -74,17 +74,6 @@ pub own_few : (b : List ℕ) (t : ℕ) (f : Live) → own_reads b t f ≤ 6
 unfolding own_reads
 own_few b t f = omega (arith, slot_few b t f.slot, at_few b t f (field_place b t f.slot))
 
--- A table's object is there.
-
-there : (xs : List Object) (k : ℕ) → IsTrue (is_some_table (slice_get xs k)) → k < length xs
-there [] zero h = absurd cc
-there [] (suc k) h = absurd cc
-there (x ∷ xs) zero h = omega arith
-there (x ∷ xs) (suc k) h = omega (arith, there xs k h)
-
-pub table_there : (S : Rows) (k : ℕ) → IsTrue (is_table S k) → k < length S.objects
-table_there S k h = there S.objects k h
-
 -- The fields that a schema lends are the live fields.
 
 get_map : {A B : Type 0} (f : A → B) (xs : List A) (i : ℕ) (x : A) → slice_get xs i ≡ Some x → slice_get (map f xs) i ≡ Some (f x)
@@ -108,9 +97,6 @@ field_within xs i x h = omega (arith, get_within xs i x h)
 pub length_map : {A B : Type 0} (f : A → B) (xs : List A) → length (map f xs) ≡ length xs
 length_map f [] = refl
 length_map f (x ∷ xs) = ap suc (length_map f xs)
-
-pub no_field_at : {A B : Type 0} (f : A → B) (xs : List A) (ys : List B) (i : ℕ) → map f xs ≡ ys → length xs ≤ i → length ys ≤ i
-no_field_at f xs ys i e h = omega (arith, h, length_map f xs, ap length e)
 
 -- what `get` lends of a slice
 pub item_some : {A : Type 0} (xs : List A) (i : ℕ) (r : Option (Bor A)) (x : Bor A) → IsItemAt xs i r → r ≡ Some x → slice_get xs i ≡ Some x.now

@@ -1,11 +1,11 @@
 -- The walk goes into a field that may lead on, whose slot was the last read.
 use Rattle.std.proofs.Common.{◌≡◌, ℕ, ◌+◌, ◌-◌, ◌≤◌, List, [], refl, sym, ◌∙◌, ap, subst, arith, Option, Some, None}
 use Rattle.std.specs.Prelude.{slice_get}
-use Rattle.fb_bytes.specs.Word.{Metered}
+use Rattle.fb_bytes.specs.Word.{Lent}
 use Rattle.fb_schema.specs.Rows.{Rows}
 use Rattle.fb_schema.specs.Live.{Live, live_fields}
 use Rattle.fb_verify.specs.declared.checks.Checks.{Checks}
-use Rattle.fb_verify.specs.declared.element.Child.{Child}
+use Rattle.fb_verify.specs.declared.table.Child.{Child}
 use Rattle.fb_verify.specs.declared.fault.Reason.{Reason}
 use Rattle.fb_verify.specs.declared.offset_row.Row.{Row}
 use Rattle.fb_verify.specs.declared.scratch.Frame.{Frame}
@@ -65,21 +65,21 @@ module _ {w : Walk} {b : List ℕ} {r : ℕ} {under : Waiting} {top : Frame} {pl
   entries_are = ap (entries_at b S t f) (o.present f here).0
 
   -- the walk before that
-  at_next : AtNext w (record { bytes = b; count = o.before }) under top f
+  at_next : AtNext w (record { bytes = b; count = o.before; base = 0 }) under top f
   at_next = record { walking = o.walking; rests = rests; here = here }
 
   pub into_askable : IsAskable b S t f f.kind
   into_askable = askable at_next
 
   -- it fails
-  pub into_stops : (at new : ℕ) (reason : Reason) → tested_by at new (Some reason) ≡ after r present → (stop : Stop) → IsStopAt S top at reason stop → IsStopped w (record { bytes = b; count = r }) under.start under.frames (stopped stop new)
+  pub into_stops : (at new : ℕ) (reason : Reason) → tested_by at new (Some reason) ≡ after r present → (stop : Stop) → IsStopAt S top at reason stop → IsStopped w (record { bytes = b; count = r; base = 0 }) under.start under.frames (stopped stop new)
   into_stops at new reason told stop is =
       let e : Refusal = record { at = at; reason = reason } in
       let site : Site = record { object = (top.table).object; field = Some f.number } in
       let own = own_failure c b S t f in
       let x : after o.before own ≡ Some (refused e new) = ap (after o.before) chain ∙ after_twice o.before 1 present ∙ ap (λ n. after n present) (sym o.count) ∙ sym told in
       let fault = stopped (record { site = site; refusal = e }) new in
-      subst (λ y. IsStopped w (record { bytes = b; count = r }) under.start under.frames y) (stop_is stop e (top.table).object f.number new is.refusal is.object (is.field f here))
+      subst (λ y. IsStopped w (record { bytes = b; count = r; base = 0 }) under.start under.frames y) (stop_is stop e (top.table).object f.number new is.refusal is.object (is.field f here))
       (next_stops at_next fault (told_first site o.before own (reads_failure w.limits o.before (own_reads b t f) t) fault (told_after site o.before new own e x)))
 
   -- or it holds, after these reads
@@ -117,7 +117,7 @@ unfolding work
 on_work S L below on top n q r paid = omega (arith, paid)
 
 -- Behind it, a turn through its words is one into it.
-module _ (w then : Walk) (m mid new : Metered) (under : Waiting) (top on past : Frame) (child : Child) (table : on.table ≡ top.table) (next : on.next ≡ top.next + 1)
+module _ (w then : Walk) (m mid new : Lent) (under : Waiting) (top on past : Frame) (child : Child) (table : on.table ≡ top.table) (next : on.next ≡ top.next + 1)
     (paid : mid.count + frame_work w.schema.now on ≤ m.count - 1 + frame_work w.schema.now top) (grows : m.count ≤ mid.count) (bytes : mid.bytes ≡ m.bytes) where
   less : mid.count + work w.schema.now w.limits under.frames on w.tables ≤ m.count - 1 + work w.schema.now w.limits under.frames top w.tables
   less = on_work w.schema.now w.limits under.frames on top w.tables mid.count (m.count - 1) paid

@@ -33,6 +33,7 @@ pub mod Walking
 pub mod NextField
 pub mod Absent
 pub mod Plains
+pub mod ByUnits
 pub mod Passing
 pub mod LeafRows
 pub mod Members

@@ -1,5 +1,5 @@
 -- What the schema tells of a type of a union is what its member leads to.
-use Rattle.std.proofs.Common.{◌≡◌, refl, ℕ, ◌<◌, List, Option, Some, None}
+use Rattle.std.proofs.Common.{◌≡◌, refl, Option, Some, None}
 use Rattle.fb_schema.specs.declared.kinds.Kind.{Kind}
 use Rattle.fb_schema.specs.declared.kinds.Kind.TheVariants.{Scalar, Text, Struct, Table, Union, Scalars, Texts, Structs, Tables, Unions}
 use Rattle.fb_schema.specs.declared.targets.Targets.{Targets}
@@ -12,8 +12,7 @@ use Rattle.fb_verify.specs.declared.offset_row.Leads.{Leads}
 use Rattle.fb_verify.specs.declared.offset_row.Leads.TheVariants.{All, ByType}
 use Rattle.fb_verify.specs.declared.offset_row.Referent.{Referent}
 use Rattle.fb_verify.specs.declared.offset_row.Referent.TheVariants.{Text as AText, Table as ATable, Struct as AStruct, Nothing}
-use Rattle.fb_verify.specs.declared.offset_row.Row.{Row}
-use Rattle.fb_verify.specs.OffsetRows.{lead_to, lead_to_goal, leads_after, AreLeads, AreOfUnion, AreTargetsOf, GoalHolds, IsRow}
+use Rattle.fb_verify.specs.OffsetRows.{lead_to, lead_to_goal, leads_after, AreTargetsOf, GoalHolds}
 
 leads : (S : Rows) (member : Option Kind) → lead_to_goal ((target_of S member).goal) (target_of S member) ≡ lead_of S member
 leads S None = refl
@@ -50,14 +49,6 @@ goal_holds S member t is h = rw is (holds S member h)
 pub targets_after : (S : Rows) (targets : Targets) (leads : Leads) → AreTargetsOf S targets leads → AreTargetsOf S targets (leads_after leads)
 targets_after S targets (All referent) h = tt
 targets_after S targets (ByType e q) h = h
-
--- the types that tell where the words of a row lead are those of a union
-of_union : (b : List ℕ) (S : Rows) (n : ℕ) (leads : Leads) → AreLeads b S n leads → AreOfUnion S leads
-of_union b S n (All referent) h = tt
-of_union b S n (ByType e q) h = h.0
-
-pub row_of_union : (b : List ℕ) (S : Rows) (r : Row) → 0 < r.left → IsRow b S r → AreOfUnion S r.leads
-row_of_union b S r more h = of_union b S r.left r.leads (h.leads more)
 
 -- a type that leads to nothing has no member, where the members of unions are what unions may hold
 pub no_member : (S : Rows) (member : Option Kind) → kind_to (target_of S member) ≡ member → to_nothing ≡ lead_of S member → member ≡ None

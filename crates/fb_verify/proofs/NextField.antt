@@ -2,7 +2,7 @@
 use Rattle.std.proofs.Common.{◌≡◌, ℕ, ◌+◌, ◌<◌, ◌≤◌, [], Result, Ok, Err, true, refl, sym, subst, ◌∙◌, arith, Some, None}
 use Rattle.std.specs.Prelude.{slice_get}
 use Rattle.std.specs.Result.{IsErrAnd}
-use Rattle.fb_bytes.specs.Word.{Metered}
+use Rattle.fb_bytes.specs.Word.{Lent}
 use Rattle.fb_schema.specs.Live.{Live, live_fields}
 use Rattle.fb_verify.specs.declared.fault.Fault.{Fault}
 use Rattle.fb_verify.specs.declared.offset_row.Row.{Row}
@@ -29,12 +29,12 @@ err_exit (Ok a) x P h p = absurd h
 err_exit (Err e) x P h p = subst (λ y. P (Err y)) (sym h) p
 
 -- no field is under check, and this is the next
-pub record AtNext (w : Walk) (m : Metered) (under : Waiting) (top : Frame) (field : Live) : Type 0 where
+pub record AtNext (w : Walk) (m : Lent) (under : Waiting) (top : Frame) (field : Live) : Type 0 where
   pub walking : IsWalking w m under.start under.frames top
   pub rests : (top.row).left ≡ 0
   pub here : slice_get (live_fields w.schema.now (top.table).object) top.next ≡ Some field
 
-module _ {w : Walk} {m : Metered} {under : Waiting} {top : Frame} {field : Live} (h : AtNext w m under top field) where
+module _ {w : Walk} {m : Lent} {under : Waiting} {top : Frame} {field : Live} (h : AtNext w m under top field) where
   pub askable : IsAskable m.bytes w.schema.now (top.table).at field field.kind
   askable = record {
     served = (h.walking).served;
@@ -50,10 +50,10 @@ module _ {w : Walk} {m : Metered} {under : Waiting} {top : Frame} {field : Live}
 
   -- or it holds, after these reads; the walk began before it
   module _ (own : own_failure w.checks m.bytes w.schema.now (top.table).at field ≡ None) {q : ℕ} (count : q ≡ m.count + own_reads m.bytes (top.table).at field) (cheap : AreAllowed (w.limits).reads q)
-      {began : Metered} {first : Frame} (falls : m.count + frame_work w.schema.now top ≤ began.count + frame_work w.schema.now first) (grows : began.count ≤ q) (bytes : m.bytes ≡ began.bytes) where
+      {began : Lent} {first : Frame} (falls : m.count + frame_work w.schema.now top ≤ began.count + frame_work w.schema.now first) (grows : began.count ≤ q) (bytes : m.bytes ≡ began.bytes) where
     -- it leads on
     pub next_leads : (row : Row) → IsRow m.bytes w.schema.now row × (0 < row.left) → entries m.bytes w.schema.now (top.table).at field ≡ words_of m.bytes w.schema.now row
-        → PassesFields w began (record { bytes = m.bytes; count = q }) under first (record { table = top.table; next = top.next + 1; number = field.number; row = row }) (Ok true)
+        → PassesFields w began (record m { count = q }) under first (record { table = top.table; next = top.next + 1; number = field.number; row = row }) (Ok true)
     next_leads row good leads = record {
       walking = field_passed w.checks m.bytes w.schema.now w.limits under.start under.frames top w.tables w.deepest m.count h.walking field row field.number q h.rests h.here count good.0 cheap refl own leads;
       leads = λ _. good.1;
@@ -66,7 +66,7 @@ module _ {w : Walk} {m : Metered} {under : Waiting} {top : Frame} {field : Live}
     }
 
     -- it leads on nowhere
-    pub next_over : top.table ≡ first.table → entries m.bytes w.schema.now (top.table).at field ≡ [] → HasPassed w began (record { bytes = m.bytes; count = q }) under first (record top { next = top.next + 1 })
+    pub next_over : top.table ≡ first.table → entries m.bytes w.schema.now (top.table).at field ≡ [] → HasPassed w began (record m { count = q }) under first (record top { next = top.next + 1 })
     next_over table none = record {
       between = record {
         walking =

@@ -3,7 +3,7 @@ use Rattle.std.proofs.Common.{◌≡◌, ℕ, ◌+◌, ◌-◌, ◌^◌, ◌<◌
 use Rattle.std.specs.Prelude.{◌*◌, slice_get}
 use Rattle.std.proofs.lemmas.List.{length-map}
 use Rattle.std.proofs.lemmas.Option.{slice_get-get_or, slice_get-map}
-use Rattle.fb_bytes.specs.Word.{Metered}
+use Rattle.fb_bytes.specs.Word.{Lent}
 use Rattle.fb_schema.specs.declared.views.Act.TheVariants.{Other}
 use Rattle.fb_schema.specs.declared.views.Step.{Step}
 use Rattle.fb_schema.specs.declared.kinds.Kind.{Kind}
@@ -156,19 +156,14 @@ slot_is_one b at o h = go (has_slot b at o) h where
   go true h = refl
   go false h = absurd cc
 
--- which the field's reads count
-pub own_least : (b : List ℕ) (at : ℕ) (f : Live) → IsTrue (has_slot b at f.slot) → 1 ≤ own_reads b at f
-unfolding own_reads
-own_least b at f h = omega (arith, slot_is_one b at f.slot h)
-
 -- The walk comes to this step of the top's table, between two fields.
-pub record AtStep (w : Walk) (m : Metered) (under : Waiting) (top : Frame) (steps : List Step) (step : Step) : Type 0 where
+pub record AtStep (w : Walk) (m : Lent) (under : Waiting) (top : Frame) (steps : List Step) (step : Step) : Type 0 where
   pub walking : IsWalking w m under.start under.frames top
   pub rests : (top.row).left ≡ 0
   pub all : steps ≡ map step_of (live_fields w.schema.now (top.table).object)
   pub got : slice_get steps top.next ≡ Some step
 
-module _ {w : Walk} {m : Metered} {under : Waiting} {top : Frame} {steps : List Step} {step : Step} (h : AtStep w m under top steps step) where
+module _ {w : Walk} {m : Lent} {under : Waiting} {top : Frame} {steps : List Step} {step : Step} (h : AtStep w m under top steps step) where
   abbrev b : List ℕ
   b = m.bytes
 
@@ -266,11 +261,11 @@ bare_place : (b : List ℕ) (t o : ℕ) → has_slot b t o ≡ false → field_p
 unfolding field_place
 bare_place b t o bare = rw bare refl
 
-pub required_within : {w : Walk} {m : Metered} {under : Waiting} {top : Frame} {steps : List Step} {step : Step} → AtStep w m under top steps step
+pub required_within : {w : Walk} {m : Lent} {under : Waiting} {top : Frame} {steps : List Step} {step : Step} → AtStep w m under top steps step
     → (place : ℕ) → next_required w.schema.now (top.table).object top.next ≡ Some place → place < length (live_fields w.schema.now (top.table).object)
 required_within {w} {m} {under} {top} h place some = (some_found (live_fields w.schema.now (top.table).object) top.next place some (found h).0).2
 
-pub required_stops : {w : Walk} {m : Metered} {under : Waiting} {top : Frame} {steps : List Step} {step : Step} → AtStep w m under top steps step → vtable_size m.bytes (top.table).at < step.slot + 2
+pub required_stops : {w : Walk} {m : Lent} {under : Waiting} {top : Frame} {steps : List Step} {step : Step} → AtStep w m under top steps step → vtable_size m.bytes (top.table).at < step.slot + 2
     → (place : ℕ) → next_required w.schema.now (top.table).object top.next ≡ Some place → (stop : Stop) → IsStopAt w.schema.now (record top { next = place }) (top.table).at MissingRequired stop
     → IsStopped w m under.start under.frames (stopped stop m.count)
 required_stops {w} {m} {under} {top} {steps} {step} h past place some stop is =
@@ -300,7 +295,7 @@ told_grows None h = absurd cc
 told_grows {at} {k} {new} (Some e) h = omega (arith, ap reads_told h)
 
 -- no field was left that may lead to a table
-pub none_left : {w : Walk} {m new : Metered} {under : Waiting} {top past : Frame} {place : ℕ} → past ≡ record top { next = past.next } → IsWalking w new under.start under.frames past → top.next ≤ past.next
+pub none_left : {w : Walk} {m new : Lent} {under : Waiting} {top past : Frame} {place : ℕ} → past ≡ record top { next = past.next } → IsWalking w new under.start under.frames past → top.next ≤ past.next
     → past.next ≤ length (live_fields w.schema.now (top.table).object) → length (live_fields w.schema.now (top.table).object) ≤ past.next → new.count + 6 * fields_left w.schema.now past ≤ m.count + 6 * fields_left w.schema.now top
     → m.count ≤ new.count → new.bytes ≡ m.bytes → PassesOn w m new under top past place (Ok false)
 none_left same walking forth within all ends grows bytes = record {

@@ -107,11 +107,6 @@ at_few : (s : Step) (place : Option ℕ) → step_reads_at s place ≤ 3
 at_few s None = omega arith
 at_few s (Some p) = act_few s.act
 
--- one that leads on reads no more than its slot
-pub act_free : (s : Step) (place : Option ℕ) → s.act ≡ Other → step_reads_at s place ≡ 0
-act_free s None e = refl
-act_free s (Some p) e = ap step_reads e
-
 pub plain_few : (b : List ℕ) (t : ℕ) (s : Step) → plain_reads b t s ≤ 4
 unfolding plain_reads
 plain_few b t s = omega (arith, slot_few b t s.slot, at_few s (field_place b t s.slot))

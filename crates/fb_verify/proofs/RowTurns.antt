@@ -2,8 +2,8 @@
 use Rattle.std.proofs.Common.{◌≡◌, ℕ, ◌+◌, ◌*◌, ◌<◌, ◌≤◌, max, [], ◌∷◌, ◌++◌, length, take, inl, inr, refl, sym, ◌∙◌, ap, arith, Some, None}
 use Rattle.std.proofs.lemmas.Bool.{cases_eq}
 use Rattle.std.proofs.lemmas.List.{length-append, take_all}
-use Rattle.fb_bytes.specs.Word.{Metered}
-use Rattle.fb_verify.specs.declared.element.Child.{Child}
+use Rattle.fb_bytes.specs.Word.{Lent}
+use Rattle.fb_verify.specs.declared.table.Child.{Child}
 use Rattle.fb_verify.specs.declared.fault.Reason.{Reason}
 use Rattle.fb_verify.specs.declared.offset_row.Row.{Row}
 use Rattle.fb_verify.specs.declared.scratch.Frame.{Frame}
@@ -23,12 +23,12 @@ use Rattle.fb_verify.proofs.Frames.{first_few, head_few}
 use Rattle.fb_verify.proofs.Turns.{at_child, down_falls}
 
 -- the walk goes on where it is
-pub stays : (w : Walk) (m : Metered) (under : Waiting) (top : Frame) → IsWalking w m under.start under.frames top → IsShort m.count → GoesOn w w m m under top top
+pub stays : (w : Walk) (m : Lent) (under : Waiting) (top : Frame) → IsWalking w m under.start under.frames top → IsShort m.count → GoesOn w w m m under top top
 stays w m under top h short = record { same = refl; walking = h; table = refl; falls = omega arith; grows = omega arith; bytes = refl; short = short }
 
-module _ {w then : Walk} {m new : Metered} {under : Waiting} {top past : Frame} (on : GoesOn w then m new under top past) where
+module _ {w then : Walk} {m new : Lent} {under : Waiting} {top past : Frame} (on : GoesOn w then m new under top past) where
   -- all the words that are left are passed
-  pub words_passed : (last : Frame) (q : Metered) → IsWalking then q under.start under.frames last → last ≡ record past { row = last.row } → (last.row).left ≡ 0 → past.next ≡ top.next
+  pub words_passed : (last : Frame) (q : Lent) → IsWalking then q under.start under.frames last → last ≡ record past { row = last.row } → (last.row).left ≡ 0 → past.next ≡ top.next
       → q.count ≤ new.count + 4 * (past.row).left → new.count ≤ q.count → q.bytes ≡ new.bytes → IsShort q.count → Rests w then m q under top last
   words_passed last q h same none next paid grows bytes short = record {
     on = record {
@@ -45,7 +45,7 @@ module _ {w then : Walk} {m new : Metered} {under : Waiting} {top past : Frame} 
   }
 
 -- the next ones were passed until one leads to a table, which was counted
-pub record Counts (w then counted : Walk) (m new mid : Metered) (under : Waiting) (top past last : Frame) (row : Row) (child : Child) (links : ℕ) : Type 0 where
+pub record Counts (w then counted : Walk) (m new mid : Lent) (under : Waiting) (top past last : Frame) (row : Row) (child : Child) (links : ℕ) : Type 0 where
   pub on : GoesOn w then m new under top past
   pub kept : mid.bytes ≡ new.bytes
   pub grows : new.count ≤ mid.count
@@ -60,7 +60,7 @@ pub record Counts (w then counted : Walk) (m new mid : Metered) (under : Waiting
   pub cheap : AreAllowed (w.limits).reads (mid.count + 3)
   pub is : counted ≡ record then { tables = then.tables + 1; deepest = max then.deepest (links + 1) }
 
-module _ {w then counted : Walk} {m new mid : Metered} {under : Waiting} {top past last : Frame} {row : Row} {child : Child} {links : ℕ} (h : Counts w then counted m new mid under top past last row child links) where
+module _ {w then counted : Walk} {m new mid : Lent} {under : Waiting} {top past last : Frame} {row : Row} {child : Child} {links : ℕ} (h : Counts w then counted m new mid under top past last row child links) where
   limits : then.limits ≡ w.limits
   limits = ap (λ (x : Walk). x.limits) (h.on).same
 
@@ -81,7 +81,7 @@ module _ {w then counted : Walk} {m new mid : Metered} {under : Waiting} {top pa
   -- it is to be opened
   pub comes_down : IsAtChild counted mid under.start below.frames child
   comes_down =
-      at_child then mid.bytes mid.count under.start under.frames last (new.count + 4 * (past.row).left) child h.at links h.many row h.word h.fewer (rw limits h.deep) h.low
+      at_child then mid.bytes mid.count mid.base under.start under.frames last (new.count + 4 * (past.row).left) child h.at links h.many row h.word h.fewer (rw limits h.deep) h.low
       (fewer_reads (then.limits).reads (mid.count + head_reads then.checks) (mid.count + 3) (omega (arith, head_few then.checks)) (rw limits h.cheap)) counted h.is
 
   pub goes_down : IsShort (mid.count + 3) → GoesDown w counted m mid under top waits child
@@ -98,7 +98,7 @@ module _ {w then counted : Walk} {m new mid : Metered} {under : Waiting} {top pa
       }
 
   -- or it is passed whole
-  pub table_passed : (next at : ℕ) (q : Metered) → PassesFlat counted mid q below child.object child.at next at None → IsShort q.count → GoesOn w counted m q under top waits
+  pub table_passed : (next at : ℕ) (q : Lent) → PassesFlat counted mid q below child.object child.at next at None → IsShort q.count → GoesOn w counted m q under top waits
   table_passed next at q p short =
       let most : q.count ≤ (h.at).before + 200000 = omega (arith, p.paid refl, (h.at).count, first_few mid.bytes then.schema.now last.row, ((p.walking refl under.frames waits refl).served).few child.object) in
       let fall = flat_work w.schema.now w.limits under.frames last row then.tables (h.at).before q.count h.word (h.at).more (rw limits at h.fewer) most in
@@ -113,7 +113,7 @@ module _ {w then counted : Walk} {m new mid : Metered} {under : Waiting} {top pa
       }
 
   -- or the walk stops in it
-  pub table_halts : (next at : ℕ) (reason : Reason) (q : Metered) (halted : Walk) → PassesFlat counted mid q below child.object child.at next at (Some reason) → (halted.halt).links ≡ links
+  pub table_halts : (next at : ℕ) (reason : Reason) (q : Lent) (halted : Walk) → PassesFlat counted mid q below child.object child.at next at (Some reason) → (halted.halt).links ≡ links
       → (next ≡ in_head → halted.halt ≡ record { stop = record { refusal = record { at = at; reason = reason }; site = record { object = child.object; field = None } }; links = links; last = Behind })
       → ((next ≡ in_head → ⊥) → IsStopAt counted.schema.now (frame_at child.object next) at reason (halted.halt).stop × ((halted.halt).last ≡ InField)) → Halts w halted m q under waits
   table_halts next at reason q halted p many_links head field =

@@ -3,9 +3,9 @@ use Rattle.std.proofs.Common.{◌≡◌, ℕ, ◌+◌, ◌-◌, ◌≤◌, ◌<�
 use Rattle.std.proofs.Math.ListN.{set, length-set}
 use Rattle.std.proofs.lemmas.List.{take-take, length-take, length-append}
 use Rattle.std.specs.List.{All}
-use Rattle.fb_bytes.specs.Word.{Metered}
+use Rattle.fb_bytes.specs.Word.{Lent}
 use Rattle.fb_schema.specs.Live.{live_fields}
-use Rattle.fb_verify.specs.declared.element.Child.{Child}
+use Rattle.fb_verify.specs.declared.table.Child.{Child}
 use Rattle.fb_verify.specs.declared.scratch.Frame.{Frame}
 use Rattle.fb_verify.specs.declared.stack.Turn.{Turn}
 use Rattle.fb_verify.specs.declared.stack.Turn.TheVariants.{Down, Up, Slowly, Halt as Halted}
@@ -15,7 +15,7 @@ use Rattle.fb_verify.specs.Turns.{GoesOn, Ends, GoesDown, Halts, GoesOver, WentO
 use Rattle.fb_verify.proofs.Stacks.{last_is, sum_last, all_last, all_below, below_joined, grown_joined, top_joined, next_joined}
 use Rattle.fb_verify.proofs.Standings.{close_last, close_more}
 
-module _ (w then : Walk) (m new : Metered) (under : Waiting) (old low high : List Frame) (waiting : ℕ) (top past : Frame) (child : Child) (parts : old ≡ low ++ high) (front : length low ≡ waiting + 1)
+module _ (w then : Walk) (m new : Lent) (under : Waiting) (old low high : List Frame) (waiting : ℕ) (top past : Frame) (child : Child) (parts : old ≡ low ++ high) (front : length low ≡ waiting + 1)
     (below : under.frames ≡ take waiting old) (stands : top ≡ get_or old waiting blank) (other : List Frame) where
   abbrev frames : List Frame
   frames = set low waiting past ++ other
@@ -104,7 +104,7 @@ module _ (w then : Walk) (m new : Metered) (under : Waiting) (old low high : Lis
   frames_turned Halted un h = frames_halt h
 
   -- a table below was opened, or its head stops the walk
-  module _ (last : Walk) (then-reads : Metered) (open-frame : Frame) (first : get_or other 0 blank ≡ open-frame) (some : 0 < length other) (h : GoesDown w then m new under top past child) where
+  module _ (last : Walk) (then-reads : Lent) (open-frame : Frame) (first : get_or other 0 blank ≡ open-frame) (some : 0 < length other) (h : GoesDown w then m new under top past child) where
     abbrev above : Waiting
     above = record { start = under.start; frames = under.frames ++ past ∷ [] }
 
@@ -143,7 +143,7 @@ module _ (w then : Walk) (m new : Metered) (under : Waiting) (old low high : Lis
     frames_down Halted o = frames_stop o
 
 -- The walk goes on from where it came to before.
-module _ (w mid then : Walk) (m been new : Metered) (under : Waiting) (kept : mid ≡ record w { tables = mid.tables; deepest = mid.deepest }) (bytes : been.bytes ≡ m.bytes) where
+module _ (w mid then : Walk) (m been new : Lent) (under : Waiting) (kept : mid ≡ record w { tables = mid.tables; deepest = mid.deepest }) (bytes : been.bytes ≡ m.bytes) where
   checks_kept : mid.checks ≡ w.checks
   checks_kept = ap (λ (x : Walk). x.checks) kept
 
@@ -204,7 +204,7 @@ module _ (w mid then : Walk) (m been new : Metered) (under : Waiting) (kept : mi
     )
 
 -- what wasn't passed at the root is as it was
-pub root_kept : (w then : Walk) (m new : Metered) (s : Origin) (turn : Turn) → (turn ≡ Up → ⊥) → (turn ≡ Halted → ⊥) → RootTurned w then m new s turn → (then ≡ w) × (new ≡ m)
+pub root_kept : (w then : Walk) (m new : Lent) (s : Origin) (turn : Turn) → (turn ≡ Up → ⊥) → (turn ≡ Halted → ⊥) → RootTurned w then m new s turn → (then ≡ w) × (new ≡ m)
 root_kept w then m new s Down up halt h = absurd h
 root_kept w then m new s Up up halt h = absurd (up refl)
 root_kept w then m new s Slowly up halt h = h

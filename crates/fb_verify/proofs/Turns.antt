@@ -3,10 +3,10 @@ use Rattle.std.proofs.Common.{◌≡◌, ℕ, ◌+◌, ◌*◌, ◌<◌, ◌≤�
 use Rattle.std.proofs.Math.Seq.{take-append_seam}
 use Rattle.std.proofs.lemmas.List.{length-append}
 use Rattle.std.proofs.lemmas.List.Sums.{sum_by_push}
-use Rattle.fb_bytes.specs.Word.{Metered}
+use Rattle.fb_bytes.specs.Word.{Lent}
 use Rattle.fb_schema.specs.Rows.{Rows}
-use Rattle.fb_verify.specs.declared.element.Child.{Child}
-use Rattle.fb_verify.specs.declared.field.Table.{Table}
+use Rattle.fb_verify.specs.declared.table.Child.{Child}
+use Rattle.fb_verify.specs.declared.table.Table.{Table}
 use Rattle.fb_verify.specs.declared.offset_row.Row.{Row}
 use Rattle.fb_verify.specs.declared.scratch.Frame.{Frame}
 use Rattle.fb_verify.specs.declared.site.LastLink.TheVariants.{Behind, InField}
@@ -27,7 +27,7 @@ use Rattle.fb_verify.proofs.Pushes.{take_all}
 pub table_is : (t : Table) (k p : ℕ) → t.object ≡ k → t.at ≡ p → t ≡ record { object = k; at = p; head = t.head }
 table_is t k p e f = rw (sym e, sym f) refl
 
-module _ (w : Walk) (b : List ℕ) (q : ℕ) (s : Origin) (below : List Frame) (top : Frame) (most : ℕ) (child : Child) (o : IsAtTable w b q s below top most child)
+module _ (w : Walk) (b : List ℕ) (q base : ℕ) (s : Origin) (below : List Frame) (top : Frame) (most : ℕ) (child : Child) (o : IsAtTable w b q s below top most child)
     (m : ℕ) (mi : m ≡ length below + 1) (row : Row) (re : row ≡ past_first top.row) (fewer : w.tables < (w.limits).tables) (deep : m < (w.limits).depth) where
   -- the frame that waits for it
   abbrev waits : Frame
@@ -35,10 +35,10 @@ module _ (w : Walk) (b : List ℕ) (q : ℕ) (s : Origin) (below : List Frame) (
 
   -- once it is counted, the walk is to open it
   pub at_child : (low : m < 4096) → AreAllowed (w.limits).reads (q + head_reads w.checks) → (then : Walk) → then ≡ record w { tables = w.tables + 1; deepest = max w.deepest (m + 1) }
-      → IsAtChild then (record { bytes = b; count = q }) s (below ++ waits ∷ []) child
+      → IsAtChild then (record { bytes = b; count = q; base = base }) s (below ++ waits ∷ []) child
   at_child low cheap then is =
       let site : Site = record { object = (top.table).object; field = Some top.number } in
-      let base : IsAtChild (record w { tables = w.tables + 1; deepest = max w.deepest (m + 1) }) (record { bytes = b; count = q }) s (below ++ waits ∷ []) child = record {
+      let counted : IsAtChild (record w { tables = w.tables + 1; deepest = max w.deepest (m + 1) }) (record { bytes = b; count = q; base = base }) s (below ++ waits ∷ []) child = record {
         opens = λ table k p head ok. child_opened w b q s below top most child o m mi row re table (table_is table child.object child.at k p) ok fewer deep low head cheap;
         table = o.table;
         near = o.near;
@@ -46,7 +46,7 @@ module _ (w : Walk) (b : List ℕ) (q : ℕ) (s : Origin) (below : List Frame) (
             child_stops w b q s below top most child o m mi row re site refl _
             (head_fails w.checks b w.limits (way_at m w.tables w.deepest q site) site child.object child.at at q reads reason deep fewer e);
       } in
-      subst (λ x. IsAtChild x (record { bytes = b; count = q }) s (below ++ waits ∷ []) child) (sym is) base
+      subst (λ x. IsAtChild x (record { bytes = b; count = q; base = base }) s (below ++ waits ∷ []) child) (sym is) counted
 
 -- Which leaves less work than where the words before it were passed.
 module _ (w : Walk) (b : List ℕ) (q r : ℕ) (s : Origin) (below : List Frame) (old top : Frame) (child : Child) (same : top ≡ record old { row = top.row }) (less : (top.row).left ≤ (old.row).left)
@@ -71,7 +71,7 @@ module _ (w : Walk) (b : List ℕ) (q r : ℕ) (s : Origin) (below : List Frame)
       )
 
 -- Where a walk stops.
-module _ (w then : Walk) (m new : Metered) (under : Waiting) (past : Frame) (links : ℕ) (many : links ≡ length under.frames) (bytes : new.bytes ≡ m.bytes) (low : length under.frames < (w.limits).depth) where
+module _ (w then : Walk) (m new : Lent) (under : Waiting) (past : Frame) (links : ℕ) (many : links ≡ length under.frames) (bytes : new.bytes ≡ m.bytes) (low : length under.frames < (w.limits).depth) where
   -- behind a word of the top
   pub halts_behind : (stop : Stop) → then.halt ≡ record { stop = stop; links = links + 1; last = Behind } → StopsIn w.checks m.bytes w.schema.now w.limits under.start (under.frames ++ past ∷ []) [] (stopped stop new.count)
       → Halts w then m new under past

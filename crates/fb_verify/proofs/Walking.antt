@@ -7,7 +7,7 @@ use Rattle.std.proofs.lemmas.List.{length-append}
 use Rattle.fb_schema.specs.Rows.{Rows, is_table}
 use Rattle.fb_schema.specs.Live.{Live, live_fields}
 use Rattle.fb_verify.specs.declared.checks.Checks.{Checks}
-use Rattle.fb_verify.specs.declared.field.Table.{Table}
+use Rattle.fb_verify.specs.declared.table.Table.{Table}
 use Rattle.fb_verify.specs.declared.offset_row.Row.{Row}
 use Rattle.fb_verify.specs.declared.scratch.Frame.{Frame}
 use Rattle.fb_verify.specs.Bounds.{Bounds, AreAllowed}
@@ -38,10 +38,6 @@ module _ (c : Checks) (b : List ℕ) (S : Rows) (L : Bounds) (s : Origin) (below
   pub goes_on : (next : Frame) (q : ℕ) → AreAllowed L.reads q → IsFrame c b S next → Standing c b S s below next n d q → IsUnderWay c b S L s below next n d q
   goes_on next q cheap frame standing = record { served = h.served; tables = h.tables; deepest = h.deepest; reads = cheap; links = h.links; low = h.low; frames = h.frames; frame = frame; standing = standing }
 
-  -- what is left to the top is bounded
-  pub top_few : frame_work S top < 2 ^ 49
-  top_few = omega (arith, (h.served).few (top.table).object, ((h.frame).row).left)
-
   -- the table of the top is walked to its end, and the one above it goes on
   pub table_closed : (rest : List Frame) (above : Frame) → below ≡ rest ++ above ∷ [] → (top.row).left ≡ 0 → length (live_fields S (top.table).object) ≤ top.next → IsUnderWay c b S L s rest above n d r
   table_closed rest above e rests all =
@@ -65,10 +61,6 @@ module _ (c : Checks) (b : List ℕ) (S : Rows) (L : Bounds) (s : Origin) (below
     -- an offset word that leads to no table is passed
     pub leaf_passed : IsLeafLead (first_word b S top.row).lead → AreAllowed L.reads q → IsUnderWay c b S L s below (top_on row) n d q
     leaf_passed k cheap = goes_on (top_on row) q cheap (frame_on c b S top row re l h.frame) (pass_leaf c b S L s below top n d r h.standing row q re l o k z)
-
-    pub leaf_work : q + work S L below (top_on row) n < r + work S L below top n
-    unfolding work
-    leaf_work = omega (arith, l, left_is, z, first_few b S top.row)
 
     module _ (m k : ℕ) (table : Table) (mi : m ≡ length below + 1) (e : (first_word b S top.row).lead ≡ to_table k) (ko : table.object ≡ k) (p : table.at ≡ target b (top.row).place) (g : head_failure c b table.at ≡ None) (fewer : n < L.tables) (shallow : m < L.depth) (low : m < 4096) where
       -- a table is opened

@@ -1,9 +1,9 @@
 -- What it takes to pass a table whose fields lead to no table, and what that leaves.
 use Rattle.std.specs.Prelude.{◌≡◌, ℕ, ◌+◌, ◌*◌, ◌<◌, ◌≤◌, List, [], ◌∷◌, ◌++◌, false, Option, Some, None, Result, Ok, Err, IfSome, Bool, length}
-use Rattle.fb_bytes.specs.Word.{Metered}
+use Rattle.fb_bytes.specs.Word.{Lent}
 use Rattle.fb_schema.specs.Live.{live_fields}
 use Rattle.fb_verify.specs.declared.fault.Reason.{Reason}
-use Rattle.fb_verify.specs.declared.field.Table.{Table}
+use Rattle.fb_verify.specs.declared.table.Table.{Table}
 use Rattle.fb_verify.specs.declared.scratch.Frame.{Frame}
 use Rattle.fb_verify.specs.declared.site.Stop.{Stop}
 use Rattle.fb_verify.specs.declared.stack.Walk.{Walk}
@@ -40,7 +40,7 @@ MayOpen w b r under k t =
 
 -- the table at t of the object k was passed whole, and the walk goes on in the frame above it; or its head fails, or a
 -- field of it, at this place, for this reason
-pub record PassesFlat (w : Walk) (m new : Metered) (under : Waiting) (k t next at : ℕ) (result : Option Reason) : Type 0 where
+pub record PassesFlat (w : Walk) (m new : Lent) (under : Waiting) (k t next at : ℕ) (result : Option Reason) : Type 0 where
   pub walking : result ≡ None → (rest : List Frame) → (above : Frame) → under.frames ≡ rest ++ above ∷ [] → IsWalking w new under.start rest above
   pub paid : result ≡ None → new.count ≤ m.count + 3 + 6 * length (live_fields w.schema.now k)
   pub grows : m.count ≤ new.count

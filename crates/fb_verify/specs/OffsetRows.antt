@@ -2,7 +2,7 @@
 use Rattle.std.specs.Prelude.{◌≡◌, ℕ, ◌+◌, ◌-◌, ◌*◌, ◌<◌, ◌≤◌, ◌^◌, List, [], length, Some, Bool, true, false, IsTrue}
 use Rattle.fb_bytes.specs.Word.{word}
 use Rattle.fb_schema.specs.declared.kinds.Kind.{Kind}
-use Rattle.fb_schema.specs.declared.kinds.Kind.TheVariants.{Scalar, Text, Struct, Table, Union, Unions}
+use Rattle.fb_schema.specs.declared.kinds.Kind.TheVariants.{Union, Unions}
 use Rattle.fb_schema.specs.declared.views.Goal.{Goal}
 use Rattle.fb_schema.specs.declared.views.Goal.TheVariants.{Nothing as NoGoal, Text as TextGoal, Table as TableGoal, Struct as StructGoal}
 use Rattle.fb_schema.specs.declared.views.Target.{Target}
@@ -147,11 +147,3 @@ pub record IsAskable (b : List ℕ) (S : Rows) (t : ℕ) (f : Live) (kind : Kind
   pub served : IsServed S
   pub holds : KindHolds S f kind
   pub typed : IsTyped b t f.slot kind
-
--- what doesn't stand whole in its table's slot or one offset word
-abbrev pub IsVectorOrUnion : Kind → Type 0
-IsVectorOrUnion (Scalar s) = ⊥
-IsVectorOrUnion (Struct k) = ⊥
-IsVectorOrUnion Text = ⊥
-IsVectorOrUnion (Table k) = ⊥
-IsVectorOrUnion _ = Unit {0}

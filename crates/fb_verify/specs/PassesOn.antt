@@ -4,7 +4,7 @@ use Rattle.fb_schema.specs.Rows.{Rows}
 use Rattle.fb_schema.specs.declared.views.Act.TheVariants.{Other}
 use Rattle.fb_schema.specs.Live.{Live, live_fields}
 use Rattle.fb_schema.specs.Steps.{act_of}
-use Rattle.fb_bytes.specs.Word.{Metered}
+use Rattle.fb_bytes.specs.Word.{Lent}
 use Rattle.fb_verify.specs.declared.fault.Reason.{Reason}
 use Rattle.fb_verify.specs.declared.scratch.Frame.{Frame}
 use Rattle.fb_verify.specs.declared.site.Stop.{Stop}
@@ -15,7 +15,7 @@ use Rattle.fb_verify.specs.Stack.{Waiting, frame_work, IsWalking, IsAtField, IsS
 use Rattle.fb_verify.specs.StopsAt.{IsStopAt}
 
 -- a walk between two fields of the top
-pub record IsBetween (w : Walk) (m : Metered) (under : Waiting) (top : Frame) : Type 0 where
+pub record IsBetween (w : Walk) (m : Lent) (under : Waiting) (top : Frame) : Type 0 where
   pub walking : IsWalking w m under.start under.frames top
   pub rests : (top.row).left ≡ 0
 
@@ -24,12 +24,12 @@ abbrev pub fields_left : Rows → Frame → ℕ
 fields_left S fr = length (live_fields S (fr.table).object) - fr.next
 
 -- the budget allows whatever these cost, six reads each, and a count of 64 bits holds it
-pub record HasRoom (w : Walk) (m : Metered) (top : Frame) : Type 0 where
+pub record HasRoom (w : Walk) (m : Lent) (top : Frame) : Type 0 where
   pub allowed : AreAllowed (w.limits).reads (m.count + 6 * fields_left w.schema.now top)
   pub short : m.count + 6 * fields_left w.schema.now top < 2 ^ 56
 
 -- fields of the top were passed that lead on nowhere, and the walk is between two fields again
-pub record HasPassed (w : Walk) (m new : Metered) (under : Waiting) (top past : Frame) : Type 0 where
+pub record HasPassed (w : Walk) (m new : Lent) (under : Waiting) (top past : Frame) : Type 0 where
   pub between : IsBetween w new under past
   pub table : past.table ≡ top.table
   pub falls : new.count + frame_work w.schema.now past ≤ m.count + frame_work w.schema.now top
@@ -38,7 +38,7 @@ pub record HasPassed (w : Walk) (m new : Metered) (under : Waiting) (top past : 
 
 -- fields of the top that lead to no table were passed, for six reads each at most, until one was there that may lead to
 -- a table, at this place, or none was left (more tells which); or the next one fails, at this place, for this reason
-pub record PassesOn (w : Walk) (m new : Metered) (under : Waiting) (top past : Frame) (place : ℕ) (result : Result Bool Reason) : Type 0 where
+pub record PassesOn (w : Walk) (m new : Lent) (under : Waiting) (top past : Frame) (place : ℕ) (result : Result Bool Reason) : Type 0 where
   pub walking : IfOk result (λ more. more ≡ false → IsWalking w new under.start under.frames past)
   pub field : IfOk result (λ more. more ≡ true → IsAtField w new.bytes new.count under.start under.frames past place)
   pub open-field : IfOk result (λ more. more ≡ true → (f : Live) → slice_get (live_fields w.schema.now (top.table).object) past.next ≡ Some f → act_of f f.kind ≡ Other)
@@ -54,7 +54,7 @@ pub record PassesOn (w : Walk) (m new : Metered) (under : Waiting) (top past : F
   pub err : IfErr result (λ reason. (s : Stop) → IsStopAt w.schema.now past place reason s → IsStopped w m under.start under.frames (stopped s new.count))
 
 -- fields of the top were passed until one leads on, or none was left (more tells which); or the walk stops at one
-pub record PassesFields (w : Walk) (m new : Metered) (under : Waiting) (top past : Frame) (result : Result Bool Stop) : Type 0 where
+pub record PassesFields (w : Walk) (m new : Lent) (under : Waiting) (top past : Frame) (result : Result Bool Stop) : Type 0 where
   pub walking : IfOk result (λ _. IsWalking w new under.start under.frames past)
   pub leads : IfOk result (λ more. more ≡ true → 0 < (past.row).left)
   pub rests : IfOk result (λ more. more ≡ false → (past.row).left ≡ 0)

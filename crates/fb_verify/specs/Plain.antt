@@ -1,6 +1,6 @@
 -- Fields that lead to no table, by their steps.
 use Rattle.std.specs.Prelude.{◌≡◌, ℕ, ◌+◌, ◌<◌, ◌==◌, if◌then◌else◌, List, not, Option, Some, None}
-use Rattle.fb_bytes.specs.Word.{Metered}
+use Rattle.fb_bytes.specs.Word.{Lent}
 use Rattle.fb_schema.specs.declared.views.Act.{Act}
 use Rattle.fb_schema.specs.declared.views.Act.TheVariants.{One, Two, Four, Eight, Inline, Text, Vector, Other}
 use Rattle.fb_schema.specs.declared.views.Step.{Step}
@@ -19,10 +19,11 @@ tested_by at reads (Some reason) = Some (record { reason = reason; at = at; read
 
 -- a chain of tests was asked by bytes that are lent: it found nothing, after n reads; or it found what is told at this
 -- position
-pub record IsTested (m new : Metered) (at : ℕ) (chain : Option Failure) (n : ℕ) (result : Option Reason) : Type 0 where
+pub record IsTested (m new : Lent) (at : ℕ) (chain : Option Failure) (n : ℕ) (result : Option Reason) : Type 0 where
   pub told : tested_by at new.count result ≡ after m.count chain
   pub counted : result ≡ None → new.count ≡ m.count + n
   pub bytes : new.bytes ≡ m.bytes
+  pub base : new.base ≡ m.base
 
 -- where a field stands in the table at t, that is told to be at p: nowhere, where that is the table's own position
 abbrev pub place_from : (t p : ℕ) → Option ℕ

@@ -6,7 +6,7 @@ use Rattle.fb_schema.specs.declared.kinds.Kind.TheVariants.{Union, Texts, Tables
 use Rattle.fb_schema.specs.Rows.{Rows, is_table}
 use Rattle.fb_schema.specs.Live.{Live, live_fields}
 use Rattle.fb_schema.specs.Served.{IsServed}
-use Rattle.fb_bytes.specs.Word.{Metered, word}
+use Rattle.fb_bytes.specs.Word.{Lent, word}
 use Rattle.fb_verify.specs.declared.checks.Checks.{Checks}
 use Rattle.fb_verify.specs.declared.fault.Fault.{Fault}
 use Rattle.fb_verify.specs.declared.offset_row.Referent.TheVariants.{Nothing}
@@ -15,8 +15,8 @@ use Rattle.fb_verify.specs.declared.scratch.Frame.{Frame}
 use Rattle.fb_verify.specs.declared.site.Halt.{Halt}
 use Rattle.fb_verify.specs.declared.site.LastLink.{LastLink}
 use Rattle.fb_verify.specs.declared.site.LastLink.TheVariants.{Behind, InField}
-use Rattle.fb_verify.specs.declared.element.Child.{Child}
-use Rattle.fb_verify.specs.declared.field.Table.{Table}
+use Rattle.fb_verify.specs.declared.table.Child.{Child}
+use Rattle.fb_verify.specs.declared.table.Table.{Table}
 use Rattle.fb_verify.specs.declared.links.Link.{Link}
 use Rattle.fb_verify.specs.declared.stack.Walk.{Walk}
 use Rattle.fb_verify.specs.Bounds.{Bounds, AreAllowed}
@@ -108,7 +108,7 @@ pub record IsUnderWay (c : Checks) (b : List ℕ) (S : Rows) (L : Bounds) (s : O
   pub standing : Standing c b S s below top n d r
 
 -- the same of what a walk carries and of the buffer that it reads
-abbrev pub IsWalking : Walk → Metered → Origin → List Frame → Frame → Type 0
+abbrev pub IsWalking : Walk → Lent → Origin → List Frame → Frame → Type 0
 IsWalking w m s below top = IsUnderWay w.checks m.bytes w.schema.now w.limits s below top w.tables w.deepest m.count
 
 -- a walk through these bytes, which came to r reads, where the last one was the slot of the top's next field, which
@@ -137,7 +137,7 @@ pub record IsAtTable (w : Walk) (b : List ℕ) (r : ℕ) (s : Origin) (below : L
   pub paid : before + 4 * (top.row).left ≤ most
 
 -- the walk is over: the table where it began was walked
-abbrev pub IsOver : Walk → Metered → Origin → Type 0
+abbrev pub IsOver : Walk → Lent → Origin → Type 0
 IsOver w m s = TableWalked w.checks m.bytes w.schema.now s.object s.position s.way (ended s.way w.tables w.deepest m.count)
 
 -- A walk that stops: the words behind which the frames' rows were left lead to the fault, link by link.
@@ -209,15 +209,15 @@ links_left Behind = 0
 links_left InField = 1
 
 -- it stops in a field of the table to which these frames lead
-abbrev pub IsStopped : Walk → Metered → Origin → List Frame → Fault → Type 0
+abbrev pub IsStopped : Walk → Lent → Origin → List Frame → Fault → Type 0
 IsStopped w m s frames f = StopsIn w.checks m.bytes w.schema.now w.limits s frames (own_link f) f
 
 -- it stops behind the words of these frames
-abbrev pub IsStoppedBehind : Walk → Metered → Origin → List Frame → Fault → Type 0
+abbrev pub IsStoppedBehind : Walk → Lent → Origin → List Frame → Fault → Type 0
 IsStoppedBehind w m s frames f = StopsIn w.checks m.bytes w.schema.now w.limits s frames [] f
 
 -- it came to this halt after so many reads, by the links of these frames
-abbrev pub HaltsIn : Walk → Metered → Origin → List Frame → Halt → ℕ → Type 0
+abbrev pub HaltsIn : Walk → Lent → Origin → List Frame → Halt → ℕ → Type 0
 HaltsIn w m s frames h reads = StopsIn w.checks m.bytes w.schema.now w.limits s frames (last_link h.last (stopped h.stop reads)) (stopped h.stop reads)
 
 -- a whole walk came to this fault by the links of these frames

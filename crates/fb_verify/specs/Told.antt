@@ -1,15 +1,15 @@
 -- What the parts of a walk hand on: refusals, stops and faults, and the head of a table.
 use Rattle.std.specs.Prelude.{◌≡◌, ℕ, ◌+◌, ◌≤◌, ◌<◌, ◌^◌, IsTrue, List, length, Option, Some, None, Result, IfOk, IfErr}
-use Rattle.fb_bytes.specs.Word.{Metered}
+use Rattle.fb_bytes.specs.Word.{Lent}
 use Rattle.fb_verify.specs.declared.checks.Checks.{Checks}
 use Rattle.fb_verify.specs.declared.fault.Fault.{Fault}
 use Rattle.fb_verify.specs.declared.site.Site.{Site}
 use Rattle.fb_verify.specs.declared.site.Refusal.{Refusal}
 use Rattle.fb_verify.specs.declared.site.Stop.{Stop}
-use Rattle.fb_verify.specs.declared.head.Head.{Head}
+use Rattle.fb_verify.specs.declared.table.Head.{Head}
 use Rattle.fb_verify.specs.Places.{vtable, vtable_size, inline_size}
 use Rattle.fb_verify.specs.Bounds.{Bounds, AreAllowed}
-use Rattle.fb_verify.specs.Order.{Failure, after, ◌▷◌}
+use Rattle.fb_verify.specs.Order.{Failure, ◌▷◌}
 use Rattle.fb_verify.specs.Stops.{reads_failure}
 use Rattle.fb_verify.specs.Way.{Way}
 
@@ -26,15 +26,9 @@ refused e reads = record { reason = e.reason; at = e.at; reads = reads }
 abbrev pub stopped : Stop → ℕ → Fault
 stopped s reads = record { at = (s.refusal).at; object = (s.site).object; field = (s.site).field; reason = (s.refusal).reason; reads = reads }
 
--- a chain of tests was asked: it found nothing, after n reads; or it found what is refused
-pub record IsAsked {A : Type 0} (m new : Metered) (chain : Option Failure) (n : ℕ) (result : Result A Refusal) : Type 0 where
-  pub ok : IfOk result (λ _. chain ≡ None)
-  pub counted : IfOk result (λ _. new ≡ record m { count = m.count + n })
-  pub err : IfErr result (λ e. after m.count chain ≡ Some (refused e new.count))
-  pub bytes : new.bytes ≡ m.bytes
-
--- the same at this site, and after these reads the budget, which is told at p
-pub record IsAskedAt {A : Type 0} (site : Site) (L : Bounds) (m new : Metered) (chain : Option Failure) (n p : ℕ) (result : Result A Stop) : Type 0 where
+-- a chain of tests was asked at this site, and then the budget, which is told at p: both found nothing, after n reads;
+-- or the first that fails is told
+pub record IsAskedAt {A : Type 0} (site : Site) (L : Bounds) (m new : Lent) (chain : Option Failure) (n p : ℕ) (result : Result A Stop) : Type 0 where
   pub ok : IfOk result (λ _. chain ≡ None)
   pub counted : IfOk result (λ _. new ≡ record m { count = m.count + n })
   pub reads : IfOk result (λ _. AreAllowed L.reads new.count)

@@ -1,11 +1,11 @@
 -- What a turn of a quick walk leaves: it goes on, up or down, or it stops.
 use Rattle.std.specs.Prelude.{◌≡◌, ℕ, ◌+◌, ◌-◌, ◌<◌, ◌≤◌, ◌^◌, List, [], ◌∷◌, ◌++◌, take, length, slice_index_or, IsTrue, Some, None}
-use Rattle.fb_bytes.specs.Word.{Metered}
+use Rattle.fb_bytes.specs.Word.{Lent}
 use Rattle.fb_schema.specs.declared.kinds.Kind.{Kind}
 use Rattle.fb_schema.specs.declared.kinds.Kind.TheVariants.{Union, Texts, Tables, Unions}
 use Rattle.fb_schema.specs.Rows.{is_table}
 use Rattle.fb_schema.specs.Live.{live_fields}
-use Rattle.fb_verify.specs.declared.element.Child.{Child}
+use Rattle.fb_verify.specs.declared.table.Child.{Child}
 use Rattle.fb_verify.specs.declared.fault.Reason.{Reason}
 use Rattle.fb_verify.specs.declared.scratch.Frame.{Frame}
 use Rattle.fb_verify.specs.declared.site.LastLink.TheVariants.{Behind}
@@ -28,7 +28,7 @@ abbrev pub frame_of : Child → Frame
 frame_of child = opened (record { object = child.object; at = child.at; head = (blank.table).head })
 
 -- a table was counted and is to be opened, to which these frames lead: its head may hold, or the walk stops there
-pub record IsAtChild (w : Walk) (m : Metered) (s : Origin) (frames : List Frame) (child : Child) : Type 0 where
+pub record IsAtChild (w : Walk) (m : Lent) (s : Origin) (frames : List Frame) (child : Child) : Type 0 where
   pub opens : MayOpen w m.bytes m.count (record { start = s; frames = frames }) child.object child.at
   pub table : IsTrue (is_table w.schema.now child.object)
   pub near : child.at < 2 ^ 33
@@ -36,7 +36,7 @@ pub record IsAtChild (w : Walk) (m : Metered) (s : Origin) (frames : List Frame)
       → StopsIn w.checks m.bytes w.schema.now w.limits s frames [] (record { at = at; object = child.object; field = None; reason = reason; reads = reads })
 
 -- the walk goes on in the same table
-pub record GoesOn (w then : Walk) (m new : Metered) (under : Waiting) (top past : Frame) : Type 0 where
+pub record GoesOn (w then : Walk) (m new : Lent) (under : Waiting) (top past : Frame) : Type 0 where
   pub same : then ≡ record w { tables = then.tables; deepest = then.deepest }
   pub walking : IsWalking then new under.start under.frames past
   pub table : past.table ≡ top.table
@@ -46,19 +46,19 @@ pub record GoesOn (w then : Walk) (m new : Metered) (under : Waiting) (top past 
   pub short : IsShort new.count
 
 -- with the next field, as no offset word is left of the one before
-pub record Rests (w then : Walk) (m new : Metered) (under : Waiting) (top past : Frame) : Type 0 where
+pub record Rests (w then : Walk) (m new : Lent) (under : Waiting) (top past : Frame) : Type 0 where
   pub on : GoesOn w then m new under top past
   pub rests : (past.row).left ≡ 0
   pub next : past.next ≡ top.next
 
 -- nowhere: all its fields were passed
-pub record Ends (w then : Walk) (m new : Metered) (under : Waiting) (top past : Frame) : Type 0 where
+pub record Ends (w then : Walk) (m new : Lent) (under : Waiting) (top past : Frame) : Type 0 where
   pub on : GoesOn w then m new under top past
   pub rests : (past.row).left ≡ 0
   pub all : length (live_fields w.schema.now (past.table).object) ≤ past.next
 
 -- in a table below, which is to be opened
-pub record GoesDown (w then : Walk) (m new : Metered) (under : Waiting) (top past : Frame) (child : Child) : Type 0 where
+pub record GoesDown (w then : Walk) (m new : Lent) (under : Waiting) (top past : Frame) (child : Child) : Type 0 where
   pub same : then ≡ record w { tables = then.tables; deepest = then.deepest }
   pub down : IsAtChild then new under.start (under.frames ++ past ∷ []) child
   pub deep : length under.frames + 1 < (w.limits).depth
@@ -68,28 +68,28 @@ pub record GoesDown (w then : Walk) (m new : Metered) (under : Waiting) (top pas
   pub short : IsShort (new.count + 3)
 
 -- it stops, at what the walk holds: by the links of the frames below, or of these and the top
-pub record Halts (w then : Walk) (m new : Metered) (under : Waiting) (past : Frame) : Type 0 where
+pub record Halts (w then : Walk) (m new : Lent) (under : Waiting) (past : Frame) : Type 0 where
   pub links : (then.halt).links ≤ length under.frames + 1
   pub deep : (then.halt).links + links_left (then.halt).last ≤ (w.limits).depth
   pub err : HaltsIn w m under.start (take (then.halt).links (under.frames ++ past ∷ [])) then.halt new.count
   pub bytes : new.bytes ≡ m.bytes
 
 -- a turn through the words of the top's row
-abbrev pub RowTurned : (w then : Walk) → (m new : Metered) → (under : Waiting) → (top past : Frame) → (child : Child) → Turn → Type 0
+abbrev pub RowTurned : (w then : Walk) → (m new : Lent) → (under : Waiting) → (top past : Frame) → (child : Child) → Turn → Type 0
 RowTurned w then m new under top past child Down = GoesDown w then m new under top past child
 RowTurned w then m new under top past child Up = Rests w then m new under top past
 RowTurned w then m new under top past child Slowly = GoesOn w then m new under top past
 RowTurned w then m new under top past child Halted = Halts w then m new under past
 
 -- a turn through the row and the fields of the top
-abbrev pub Turned : (w then : Walk) → (m new : Metered) → (under : Waiting) → (top past : Frame) → (child : Child) → Turn → Type 0
+abbrev pub Turned : (w then : Walk) → (m new : Lent) → (under : Waiting) → (top past : Frame) → (child : Child) → Turn → Type 0
 Turned w then m new under top past child Down = GoesDown w then m new under top past child
 Turned w then m new under top past child Up = Ends w then m new under top past
 Turned w then m new under top past child Slowly = GoesOn w then m new under top past
 Turned w then m new under top past child Halted = Halts w then m new under past
 
 -- past a field that may lead on, whose slot was the last read
-pub record PassedField (w then : Walk) (m new : Metered) (under : Waiting) (top past : Frame) : Type 0 where
+pub record PassedField (w then : Walk) (m new : Lent) (under : Waiting) (top past : Frame) : Type 0 where
   pub same : then ≡ record w { tables = then.tables; deepest = then.deepest }
   pub between : IsBetween then new under past
   pub table : past.table ≡ top.table
@@ -100,7 +100,7 @@ pub record PassedField (w then : Walk) (m new : Metered) (under : Waiting) (top 
   pub short : IsShort new.count
 
 -- the walk goes on in the same table, with the words of that field
-pub record StaysInField (w then : Walk) (m new : Metered) (under : Waiting) (top past : Frame) : Type 0 where
+pub record StaysInField (w then : Walk) (m new : Lent) (under : Waiting) (top past : Frame) : Type 0 where
   pub same : then ≡ record w { tables = then.tables; deepest = then.deepest }
   pub walking : IsWalking then new under.start under.frames past
   pub table : past.table ≡ top.table
@@ -110,7 +110,7 @@ pub record StaysInField (w then : Walk) (m new : Metered) (under : Waiting) (top
   pub grows : m.count ≤ new.count
 
 -- in a table below
-pub record GoesIntoField (w then : Walk) (m new : Metered) (under : Waiting) (top past : Frame) (child : Child) : Type 0 where
+pub record GoesIntoField (w then : Walk) (m new : Lent) (under : Waiting) (top past : Frame) (child : Child) : Type 0 where
   pub same : then ≡ record w { tables = then.tables; deepest = then.deepest }
   pub down : IsAtChild then new under.start (under.frames ++ past ∷ []) child
   pub deep : length under.frames + 1 < (w.limits).depth
@@ -120,14 +120,14 @@ pub record GoesIntoField (w then : Walk) (m new : Metered) (under : Waiting) (to
   pub grows : m.count ≤ new.count
 
 -- a turn into a field that may lead on
-abbrev pub FieldTurned : (w then : Walk) → (m new : Metered) → (under : Waiting) → (top past : Frame) → (child : Child) → Turn → Type 0
+abbrev pub FieldTurned : (w then : Walk) → (m new : Lent) → (under : Waiting) → (top past : Frame) → (child : Child) → Turn → Type 0
 FieldTurned w then m new under top past child Down = GoesIntoField w then m new under top past child
 FieldTurned w then m new under top past child Up = PassedField w then m new under top past
 FieldTurned w then m new under top past child Slowly = StaysInField w then m new under top past
 FieldTurned w then m new under top past child Halted = Halts w then m new under past
 
 -- a child was opened, or the walk stops at its head
-pub record OpensChild (w then : Walk) (m new : Metered) (under : Waiting) (below : Frame) (child : Child) : Type 0 where
+pub record OpensChild (w then : Walk) (m new : Lent) (under : Waiting) (below : Frame) (child : Child) : Type 0 where
   pub same : then ≡ w
   pub walking : IsWalking w new under.start under.frames below
   pub opens : below ≡ opened (record { object = child.object; at = child.at; head = (below.table).head })
@@ -135,20 +135,20 @@ pub record OpensChild (w then : Walk) (m new : Metered) (under : Waiting) (below
   pub grows : m.count ≤ new.count
   pub bytes : new.bytes ≡ m.bytes
 
-pub record StopsAtChild (w then : Walk) (m new : Metered) (under : Waiting) : Type 0 where
+pub record StopsAtChild (w then : Walk) (m new : Lent) (under : Waiting) : Type 0 where
   pub links : (then.halt).links ≡ length under.frames
   pub behind : (then.halt).last ≡ Behind
   pub err : HaltsIn w m under.start under.frames then.halt new.count
   pub bytes : new.bytes ≡ m.bytes
 
-abbrev pub Opened : (w then : Walk) → (m new : Metered) → (under : Waiting) → (frame : Frame) → (child : Child) → Turn → Type 0
+abbrev pub Opened : (w then : Walk) → (m new : Lent) → (under : Waiting) → (frame : Frame) → (child : Child) → Turn → Type 0
 Opened w then m new under frame child Down = OpensChild w then m new under frame child
 Opened w then m new under frame child Up = ⊥
 Opened w then m new under frame child Slowly = ⊥
 Opened w then m new under frame child Halted = StopsAtChild w then m new under
 
 -- the walk goes on over these frames, of which so many wait now, with less work
-pub record GoesOver (w then : Walk) (m new : Metered) (s : Origin) (old : List Frame) (waiting : ℕ) (frames : List Frame) (left : ℕ) : Type 0 where
+pub record GoesOver (w then : Walk) (m new : Lent) (s : Origin) (old : List Frame) (waiting : ℕ) (frames : List Frame) (left : ℕ) : Type 0 where
   pub same : then ≡ record w { tables = then.tables; deepest = then.deepest }
   pub walking : IsWalking then new s (take left frames) (slice_index_or frames left blank)
   pub falls : new.count + work w.schema.now w.limits (take left frames) (slice_index_or frames left blank) then.tables < m.count + work w.schema.now w.limits (take waiting old) (slice_index_or old waiting blank) w.tables
@@ -157,7 +157,7 @@ pub record GoesOver (w then : Walk) (m new : Metered) (s : Origin) (old : List F
   pub short : IsShort new.count
 
 -- the walk went on over these frames, of which so many wait
-pub record WentOn (w then : Walk) (m new : Metered) (s : Origin) (old : List Frame) (waiting : ℕ) (frames : List Frame) (left : ℕ) : Type 0 where
+pub record WentOn (w then : Walk) (m new : Lent) (s : Origin) (old : List Frame) (waiting : ℕ) (frames : List Frame) (left : ℕ) : Type 0 where
   pub same : then ≡ record w { tables = then.tables; deepest = then.deepest }
   pub walking : IsWalking then new s (take left frames) (slice_index_or frames left blank)
   pub top : left < length frames
@@ -166,7 +166,7 @@ pub record WentOn (w then : Walk) (m new : Metered) (s : Origin) (old : List Fra
   pub bytes : new.bytes ≡ m.bytes
 
 -- until it was over
-pub record WentOver (w then : Walk) (m new : Metered) (s : Origin) : Type 0 where
+pub record WentOver (w then : Walk) (m new : Lent) (s : Origin) : Type 0 where
   pub same : then ≡ record w { tables = then.tables; deepest = then.deepest }
   pub over : IsOver then new s
   pub within : then.tables ≤ (w.limits).tables
@@ -175,32 +175,32 @@ pub record WentOver (w then : Walk) (m new : Metered) (s : Origin) : Type 0 wher
   pub bytes : new.bytes ≡ m.bytes
 
 -- until it stopped
-pub record WentWrong (w then : Walk) (m new : Metered) (s : Origin) (frames : List Frame) : Type 0 where
+pub record WentWrong (w then : Walk) (m new : Lent) (s : Origin) (frames : List Frame) : Type 0 where
   pub deep : (then.halt).links + links_left (then.halt).last ≤ (w.limits).depth
   pub err : HaltsIn w m s (take (then.halt).links frames) then.halt new.count
   pub bytes : new.bytes ≡ m.bytes
 
 -- the top is passed to its end
-pub record GoesUp (w then : Walk) (m new : Metered) (s : Origin) (old : List Frame) (waiting : ℕ) (frames : List Frame) : Type 0 where
+pub record GoesUp (w then : Walk) (m new : Lent) (s : Origin) (old : List Frame) (waiting : ℕ) (frames : List Frame) : Type 0 where
   pub over : waiting ≡ 0 → WentOver w then m new s
   pub above : 0 < waiting → GoesOver w then m new s old waiting frames (waiting - 1)
 
 -- one turn over frames
-abbrev pub FramesTurned : (w then : Walk) → (m new : Metered) → (s : Origin) → (old frames : List Frame) → (waiting : ℕ) → Turn → Type 0
+abbrev pub FramesTurned : (w then : Walk) → (m new : Lent) → (s : Origin) → (old frames : List Frame) → (waiting : ℕ) → Turn → Type 0
 FramesTurned w then m new s old frames waiting Down = GoesOver w then m new s old waiting frames (waiting + 1)
 FramesTurned w then m new s old frames waiting Up = GoesUp w then m new s old waiting frames
 FramesTurned w then m new s old frames waiting Slowly = WentOn w then m new s old waiting frames waiting
 FramesTurned w then m new s old frames waiting Halted = WentWrong w then m new s frames
 
 -- the root table, whose fields lead on nowhere, is passed, or it isn't begun, or the walk stops there
-abbrev pub RootTurned : (w then : Walk) → (m new : Metered) → (s : Origin) → Turn → Type 0
+abbrev pub RootTurned : (w then : Walk) → (m new : Lent) → (s : Origin) → Turn → Type 0
 RootTurned w then m new s Down = ⊥
 RootTurned w then m new s Up = WentOver w then m new s
 RootTurned w then m new s Slowly = (then ≡ w) × (new ≡ m)
 RootTurned w then m new s Halted = WentWrong w then m new s [] × ((then.halt).links ≡ 0)
 
 -- a quick walk over frames: it is over, stops, or can't go on quickly
-abbrev pub Walked : (w then : Walk) → (m new : Metered) → (s : Origin) → (old : List Frame) → (waiting : ℕ) → (frames : List Frame) → (left : ℕ) → Turn → Type 0
+abbrev pub Walked : (w then : Walk) → (m new : Lent) → (s : Origin) → (old : List Frame) → (waiting : ℕ) → (frames : List Frame) → (left : ℕ) → Turn → Type 0
 Walked w then m new s old waiting frames left Down = ⊥
 Walked w then m new s old waiting frames left Up = WentOver w then m new s
 Walked w then m new s old waiting frames left Slowly = WentOn w then m new s old waiting frames left

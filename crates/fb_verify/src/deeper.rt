@@ -2,13 +2,12 @@
 
 ghost use Rattle.std.specs.Prelude.{◌≡◌, ◌+◌, ◌^◌, ◌<◌, ◌≤◌, length, List, take, slice_index_or, IfOk, IfErr, IfSome, MatchOption};
 ghost use Rattle.fb_verify.specs.Bounds.{AreAllowed};
-ghost use Rattle.fb_verify.specs.Walked.{TableWalked, ended};
 ghost use Rattle.fb_verify.specs.Stack.{blank, Origin, work, IsWalking, IsOver, HaltsIn, links_left};
 
 use crate::scratch::{BLANK, Frame};
 use crate::site::Halt;
 use crate::stack::{Turn, Walk};
-use fb_bytes::Tally;
+use fb_bytes::Loan;
 
 impl Walk<'_, '_> {
     /// Goes on with a walk over these frames, of which so many wait below the top, until it is over, or until it needs
@@ -16,32 +15,32 @@ impl Walk<'_, '_> {
     #[inline(always)]
     pub fn go_on(
         &mut self,
-        meter: &mut Tally<'_>,
+        loan: &mut Loan<'_>,
         frames: &mut [Frame],
         waiting: u32,
     ) -> Result<Option<u32>, Halt>
         ghost start: { Origin }
-        requires walking { IsWalking self.old meter.old start (take waiting frames.old) (slice_index_or frames.old waiting blank) }
+        requires walking { IsWalking self.old loan.old start (take waiting frames.old) (slice_index_or frames.old waiting blank) }
         requires top { waiting < length frames.old }
-        requires few { meter.old.count + work self.old.schema.now self.old.limits (take waiting frames.old) (slice_index_or frames.old waiting blank) self.old.tables ≤ 2 ^ 94 }
+        requires few { loan.old.count + work self.old.schema.now self.old.limits (take waiting frames.old) (slice_index_or frames.old waiting blank) self.old.tables ≤ 2 ^ 94 }
         ensures same { IfOk result (λ _. self.new ≡ record self.old { tables = self.new.tables; deepest = self.new.deepest }) }
         ensures walking { IfOk result (λ o. MatchOption o
-            (IsOver self.new meter.new start)
-            (λ after. IsWalking self.new meter.new start (take after frames.new) (slice_index_or frames.new after blank))) }
-        ensures few { IfOk result (λ o. IfSome o (λ after. meter.new.count + work self.old.schema.now self.old.limits (take after frames.new) (slice_index_or frames.new after blank) self.new.tables ≤ 2 ^ 94)) }
+            (IsOver self.new loan.new start)
+            (λ after. IsWalking self.new loan.new start (take after frames.new) (slice_index_or frames.new after blank))) }
+        ensures few { IfOk result (λ o. IfSome o (λ after. loan.new.count + work self.old.schema.now self.old.limits (take after frames.new) (slice_index_or frames.new after blank) self.new.tables ≤ 2 ^ 94)) }
         ensures used { IfOk result (λ o. IfSome o (λ after. (after < length frames.new) × (length frames.new < (self.old.limits).depth))) }
         ensures within { IfOk result (λ _. self.new.tables ≤ (self.old.limits).tables) }
         ensures shallow { IfOk result (λ _. self.new.deepest ≤ (self.old.limits).depth) }
-        ensures reads { IfOk result (λ _. AreAllowed (self.old.limits).reads meter.new.count) }
-        ensures bytes { meter.new.bytes ≡ meter.old.bytes }
+        ensures reads { IfOk result (λ _. AreAllowed (self.old.limits).reads loan.new.count) }
+        ensures bytes { loan.new.bytes ≡ loan.old.bytes }
         ensures deep { IfErr result (λ h. h.links + links_left h.last ≤ (self.old.limits).depth) }
-        ensures err { IfErr result (λ h. HaltsIn self.old meter.old start (take h.links frames.new) h meter.new.count) }
+        ensures err { IfErr result (λ h. HaltsIn self.old loan.old start (take h.links frames.new) h loan.new.count) }
     {
         let mut waiting = waiting;
-        match self.walk_on(meter, frames, &mut waiting) {
+        match self.walk_on(loan, frames, &mut waiting) {
             Turn::Up => Ok(None),
             Turn::Halt => Err(self.halt),
-            _ => self.go_slowly(meter, frames, waiting),
+            _ => self.go_slowly(loan, frames, waiting),
         }
     }
 
@@ -50,34 +49,34 @@ impl Walk<'_, '_> {
     #[inline(never)]
     fn go_slowly(
         &mut self,
-        meter: &mut Tally<'_>,
+        loan: &mut Loan<'_>,
         frames: &mut [Frame],
         waiting: u32,
     ) -> Result<Option<u32>, Halt>
         ghost start: { Origin }
-        requires walking { IsWalking self.old meter.old start (take waiting frames.old) (slice_index_or frames.old waiting blank) }
+        requires walking { IsWalking self.old loan.old start (take waiting frames.old) (slice_index_or frames.old waiting blank) }
         requires top { waiting < length frames.old }
-        requires few { meter.old.count + work self.old.schema.now self.old.limits (take waiting frames.old) (slice_index_or frames.old waiting blank) self.old.tables ≤ 2 ^ 94 }
+        requires few { loan.old.count + work self.old.schema.now self.old.limits (take waiting frames.old) (slice_index_or frames.old waiting blank) self.old.tables ≤ 2 ^ 94 }
         ensures same { IfOk result (λ _. self.new ≡ record self.old { tables = self.new.tables; deepest = self.new.deepest }) }
         ensures walking { IfOk result (λ o. MatchOption o
-            (IsOver self.new meter.new start)
-            (λ after. IsWalking self.new meter.new start (take after frames.new) (slice_index_or frames.new after blank))) }
-        ensures few { IfOk result (λ o. IfSome o (λ after. meter.new.count + work self.old.schema.now self.old.limits (take after frames.new) (slice_index_or frames.new after blank) self.new.tables ≤ 2 ^ 94)) }
+            (IsOver self.new loan.new start)
+            (λ after. IsWalking self.new loan.new start (take after frames.new) (slice_index_or frames.new after blank))) }
+        ensures few { IfOk result (λ o. IfSome o (λ after. loan.new.count + work self.old.schema.now self.old.limits (take after frames.new) (slice_index_or frames.new after blank) self.new.tables ≤ 2 ^ 94)) }
         ensures used { IfOk result (λ o. IfSome o (λ after. (after < length frames.new) × (length frames.new < (self.old.limits).depth))) }
         ensures within { IfOk result (λ _. self.new.tables ≤ (self.old.limits).tables) }
         ensures shallow { IfOk result (λ _. self.new.deepest ≤ (self.old.limits).depth) }
-        ensures reads { IfOk result (λ _. AreAllowed (self.old.limits).reads meter.new.count) }
-        ensures bytes { meter.new.bytes ≡ meter.old.bytes }
+        ensures reads { IfOk result (λ _. AreAllowed (self.old.limits).reads loan.new.count) }
+        ensures bytes { loan.new.bytes ≡ loan.old.bytes }
         ensures deep { IfErr result (λ h. h.links + links_left h.last ≤ (self.old.limits).depth) }
-        ensures err { IfErr result (λ h. HaltsIn self.old meter.old start (take h.links frames.new) h meter.new.count) }
+        ensures err { IfErr result (λ h. HaltsIn self.old loan.old start (take h.links frames.new) h loan.new.count) }
     {
         let mut waiting = waiting;
         while waiting as usize + 1 < frames.len() || self.limits.depth() as usize <= frames.len() {
-            match self.turn_by_units(meter, frames, waiting)? {
+            match self.turn_by_units(loan, frames, waiting)? {
                 Some(after) => waiting = after,
                 None => return Ok(None),
             }
-            match self.walk_on(meter, frames, &mut waiting) {
+            match self.walk_on(loan, frames, &mut waiting) {
                 Turn::Up => return Ok(None),
                 Turn::Halt => return Err(self.halt),
                 _ => {}
@@ -92,30 +91,30 @@ impl Walk<'_, '_> {
     #[inline(never)]
     pub fn go_deeper(
         &mut self,
-        meter: &mut Tally<'_>,
+        loan: &mut Loan<'_>,
         frames: &[Frame],
         waiting: u32,
     ) -> Result<(), Halt>
         ghost start: { Origin }
-        requires walking { IsWalking self.old meter.old start (take waiting frames.now) (slice_index_or frames.now waiting blank) }
-        requires few { meter.old.count + work self.old.schema.now self.old.limits (take waiting frames.now) (slice_index_or frames.now waiting blank) self.old.tables ≤ 2 ^ 94 }
+        requires walking { IsWalking self.old loan.old start (take waiting frames.now) (slice_index_or frames.now waiting blank) }
+        requires few { loan.old.count + work self.old.schema.now self.old.limits (take waiting frames.now) (slice_index_or frames.now waiting blank) self.old.tables ≤ 2 ^ 94 }
         requires top { waiting < length frames.now }
         requires fewer { length frames.now ≤ 64 }
         requires room { (self.old.limits).depth ≤ 64 }
         ensures same { IfOk result (λ _. self.new ≡ record self.old { tables = self.new.tables; deepest = self.new.deepest }) }
-        ensures over { IfOk result (λ _. IsOver self.new meter.new start) }
+        ensures over { IfOk result (λ _. IsOver self.new loan.new start) }
         ensures within { IfOk result (λ _. self.new.tables ≤ (self.old.limits).tables) }
         ensures shallow { IfOk result (λ _. self.new.deepest ≤ (self.old.limits).depth) }
-        ensures reads { IfOk result (λ _. AreAllowed (self.old.limits).reads meter.new.count) }
-        ensures bytes { meter.new.bytes ≡ meter.old.bytes }
+        ensures reads { IfOk result (λ _. AreAllowed (self.old.limits).reads loan.new.count) }
+        ensures bytes { loan.new.bytes ≡ loan.old.bytes }
         ensures deep { IfErr result (λ h. h.links + links_left h.last ≤ (self.old.limits).depth) }
-        ensures err { IfErr result (λ h. (way : List Frame) × HaltsIn self.old meter.old start way h meter.new.count) }
+        ensures err { IfErr result (λ h. (way : List Frame) × HaltsIn self.old loan.old start way h loan.new.count) }
     {
         let _schema = self.schema;
         let mut more = [BLANK; 64];
         let (first, _) = more.split_at_mut(frames.len());
         first.copy_from_slice(frames);
-        match self.go_on(meter, &mut more, waiting)? {
+        match self.go_on(loan, &mut more, waiting)? {
             Some(_) => unreachable!(),
             None => Ok(()),
         }

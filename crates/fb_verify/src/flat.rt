@@ -1,6 +1,6 @@
 // Tables whose fields lead to no table, passed whole by reads that are counted in a register.
 
-ghost use Rattle.std.specs.Prelude.{slice_index_or, ◌≡◌, ◌+◌, ◌*◌, ◌^◌, ◌<◌, ◌≤◌, length, map, min, MatchOption, IfOk, IfErr, IfSome, IsTrue, None, true, false};
+ghost use Rattle.std.specs.Prelude.{◌≡◌, ◌+◌, ◌*◌, ◌^◌, ◌<◌, ◌≤◌, length, map, IsTrue, None, true, false};
 ghost use Rattle.fb_schema.specs.Rows.{is_table};
 ghost use Rattle.fb_schema.specs.Live.{live_fields};
 ghost use Rattle.fb_schema.specs.Steps.{is_plain, step_of};
@@ -9,7 +9,6 @@ ghost use Rattle.fb_verify.specs.Cost.{head_reads};
 ghost use Rattle.fb_verify.specs.Flat.{came, in_head, frame_at, Going, MayOpen, PassesFlat};
 ghost use Rattle.fb_verify.specs.Order.{head_failure};
 ghost use Rattle.fb_verify.specs.PassesOn.{IsBetween, HasRoom, PassesOn};
-ghost use Rattle.fb_verify.specs.Places.{has_vtable, vtable};
 ghost use Rattle.fb_verify.specs.Plain.{IsTested};
 ghost use Rattle.fb_verify.specs.Stack.{opened, Waiting, IsWalking};
 ghost use Rattle.fb_verify.specs.StopsAt.{IsStopAt};
@@ -21,82 +20,19 @@ ghost use Rattle.fb_verify.specs.declared.offset_row.Referent.TheVariants.{Table
 ghost use Rattle.fb_verify.specs.Told.{IsHead};
 
 use crate::checks::{Checks, PUBLISHED};
-use crate::element::Child;
 use crate::fault::Reason;
-use crate::field::Table;
-use crate::head::Head;
 use crate::leaves::{stop_at_word, targets_of};
 use crate::offset_row::{Referent, Row};
-use crate::plain::{fails, slot_at, test_at, test_inline, test_lead};
+use crate::plain::{slot_at, test_at, test_head, test_lead};
 use crate::scratch::Frame;
-use crate::site::{LastLink, is_aligned};
+use crate::site::LastLink;
 use crate::stack::{Turn, Walk};
+use crate::table::{Child, NO_HEAD, Table};
 use fb_bytes::Reads;
 use fb_schema::{Schema, Step};
 
 /// The number of no field: the head of a table is under check.
 pub const IN_HEAD: u32 = 4_294_967_295;
-
-/// Reads where the vtable of the table at a position stands, none where that is negative.
-#[inline(always)]
-#[tactic(auto, unfolding(crate::specs::Places::has_vtable, crate::specs::Places::vtable))]
-fn vtable_at(reads: &mut Reads<'_>, at: u64) -> Option<u64>
-    requires fits { at + 4 ≤ length reads.old.bytes }
-    requires near { at < 2 ^ 31 }
-    requires few { reads.old.count < 2 ^ 62 }
-    ensures place { MatchOption result (has_vtable reads.old.bytes at ≡ false) (λ v. (has_vtable reads.old.bytes at ≡ true) × (v ≡ vtable reads.old.bytes at)) }
-    ensures near { IfSome result (λ v. v < 2 ^ 32) }
-    ensures counted { reads.new ≡ record reads.old { count = reads.old.count + 1 } }
-{
-    let place = at as i64 - i64::from(reads.i32_at(at));
-    if place < 0 { None } else { Some(place as u64) }
-}
-
-/// Tests the head of the table at a position, and writes it. Where it fails, the position is moved to where it does.
-#[inline(always)]
-#[tactic(auto, unfolding(crate::specs::Order::head_failure, crate::specs::Order::inline_failure))]
-fn test_head(reads: &mut Reads<'_>, checks: Checks, at: &mut u64, head: &mut Head) -> Option<Reason>
-    requires few { reads.old.count < 2 ^ 60 }
-    requires near { at.old < 2 ^ 33 }
-    ensures tested { IsTested reads.old reads.new at.new (head_failure checks reads.old.bytes at.old) (head_reads checks) result }
-    ensures head { result ≡ None → IsHead checks reads.old.bytes at.old head.new }
-    ensures same { result ≡ None → at.new ≡ at.old }
-{
-    let word = test_inline(reads, checks, *at, 4, 4);
-    if word.is_some() {
-        return word;
-    }
-    let Some(vtable) = vtable_at(reads, *at) else {
-        return fails(Reason::OutOfBuffer);
-    };
-    if !reads.fits(vtable, 2) {
-        return fails(Reason::OutOfBuffer);
-    }
-    if !is_aligned(checks, vtable, 2) {
-        *at = vtable;
-        return fails(Reason::Misaligned);
-    }
-    let size = reads.u16_at(vtable);
-    if size % 2 != 0 || size < 4 {
-        *at = vtable;
-        return fails(Reason::BadVtable);
-    }
-    if !reads.fits(vtable, u64::from(size)) {
-        *at = vtable;
-        return fails(Reason::OutOfBuffer);
-    }
-    let inline = if checks.inline_size {
-        reads.u16_at(vtable + 2)
-    } else {
-        0
-    };
-    *head = Head {
-        vtable,
-        size,
-        inline,
-    };
-    None
-}
 
 /// Passes the fields of an open table of which none leads to a table, by their steps. Where one fails, the position is
 /// moved to where it does, and its number is written. The walk that is under way, and the frames that wait in it, are
@@ -178,11 +114,7 @@ fn pass_flat(
     let _walk = walk;
     let _above = above;
     let _row = row;
-    let mut head = Head {
-        vtable: 0,
-        size: 0,
-        inline: 0,
-    };
+    let mut head = NO_HEAD;
     let mut tested = *at;
     let failed = test_head(reads, checks, &mut tested, &mut head);
     if let Some(reason) = failed {
@@ -208,17 +140,13 @@ pub fn open_frame(
     at: &mut u64,
     frame: &mut Frame,
 ) -> Option<Reason>
-    requires few { reads.old.count < 2 ^ 60 }
+    requires few { reads.old.count < reads.old.base + 2 ^ 60 }
     requires near { at.old < 2 ^ 33 }
     ensures tested { IsTested reads.old reads.new at.new (head_failure checks reads.old.bytes at.old) (head_reads checks) result }
     ensures head { result ≡ None → IsHead checks reads.old.bytes at.old (frame.new.table).head }
     ensures opened { result ≡ None → frame.new ≡ opened (record { object = object; at = at.old; head = (frame.new.table).head }) }
 {
-    let mut head = Head {
-        vtable: 0,
-        size: 0,
-        inline: 0,
-    };
+    let mut head = NO_HEAD;
     let failed = test_head(reads, checks, at, &mut head);
     if failed.is_none() {
         *frame = Frame::opened(Table {
@@ -235,7 +163,7 @@ impl<'s, 'n> Walk<'s, 'n> {
     #[inline(always)]
     fn has_flat(&self, reads: &Reads<'_>, row: Row, cost: u64, room: u64) -> bool
         requires cost { cost < 2 ^ 40 }
-        requires few { reads.now.count < 2 ^ 58 }
+        requires few { reads.now.count < 2 ^ 57 }
         ensures more { result ≡ true → 0 < row.left }
         ensures fewer { result ≡ true → self.now.tables < (self.now.limits).tables }
         ensures small { result ≡ true → (self.now.limits).tables < 2 ^ 32 }
@@ -304,7 +232,7 @@ impl<'s, 'n> Walk<'s, 'n> {
     /// behind all these words.
     #[inline(always)]
     fn has_member(&self, reads: &Reads<'_>, row: Row, room: u64) -> bool
-        requires few { reads.now.count < 2 ^ 58 }
+        requires few { reads.now.count < 2 ^ 57 }
         ensures more { result ≡ true → 0 < row.left }
         ensures fewer { result ≡ true → self.now.tables < (self.now.limits).tables }
         ensures small { result ≡ true → (self.now.limits).tables < 2 ^ 32 }
@@ -395,6 +323,28 @@ impl<'s, 'n> Walk<'s, 'n> {
         self.pass_members(PUBLISHED, reads, waiting, top, child)
     }
 
+    /// The same, whatever the checks are.
+    #[cold]
+    #[inline(never)]
+    fn pass_members_by_checks(
+        &mut self,
+        reads: &mut Reads<'_>,
+        waiting: u32,
+        top: &mut Frame,
+        child: &mut Child,
+    ) -> Turn
+        ghost under: { Waiting }
+        requires waiting { waiting ≡ length under.frames }
+        requires walking { IsWalking self.old reads.old under.start under.frames top.old }
+        requires deep { waiting + 1 < (self.old.limits).depth }
+        requires low { waiting + 1 < 4096 }
+        requires short { IsShort reads.old.count }
+        requires leads { 0 < (top.old.row).left }
+        ensures { RowTurned self.old self.new reads.old reads.new under top.old top.new child.new result }
+    {
+        self.pass_members(self.checks, reads, waiting, top, child)
+    }
+
     /// The same, by the function for the walk's checks.
     #[inline(always)]
     pub fn pass_members_on(
@@ -418,7 +368,7 @@ impl<'s, 'n> Walk<'s, 'n> {
         if checks.are_published() {
             return self.pass_members_by_published(reads, waiting, top, child);
         }
-        self.pass_members(checks, reads, waiting, top, child)
+        self.pass_members_by_checks(reads, waiting, top, child)
     }
 
     /// Stops in a table of this object whose fields lead on nowhere: at its head, or at its next field.

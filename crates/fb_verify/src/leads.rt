@@ -1,28 +1,27 @@
 // The offset words by which a present field leads on, put into a row.
 
-ghost use Rattle.std.specs.Prelude.{◌≡◌, ◌+◌, ◌*◌, ◌^◌, ◌<◌, ◌≤◌, length, IsTrue, None, ℕ, nat_lt};
+ghost use Rattle.std.specs.Prelude.{◌≡◌, ◌+◌, ◌*◌, ◌^◌, ◌<◌, ◌≤◌, length, IfSome, IsTrue, None, nat_lt};
 ghost use Rattle.fb_bytes.specs.Word.{word};
-ghost use Rattle.fb_schema.specs.Rows.{is_union, is_table};
+ghost use Rattle.fb_schema.specs.Rows.{is_union};
 ghost use Rattle.fb_schema.specs.Members.{member_of};
 ghost use Rattle.fb_schema.specs.Live.{live_of_view};
 ghost use Rattle.fb_schema.specs.Served.{IsServed};
-ghost use Rattle.fb_verify.specs.Cost.{present_reads, reads_if_present, slot_reads};
-ghost use Rattle.fb_verify.specs.Fields.{entries_of, type_place, union_type, type_count, types_begin, union_entry};
-ghost use Rattle.fb_verify.specs.OffsetRows.{words_of, IsAskable, IsRow, LeavesRow, TypeFits, TypesFit, AreLeaf};
-ghost use Rattle.fb_verify.specs.Order.{after, present_failure, union_field_failure, unions_field_failure, vector_field_failure};
+ghost use Rattle.fb_verify.specs.Cost.{present_reads, reads_at, reads_if_present, slot_reads};
+ghost use Rattle.fb_verify.specs.Fields.{entries_of, entries_at, type_place, union_type, type_count, types_begin, union_entry};
+ghost use Rattle.fb_verify.specs.OffsetRows.{IsAskable, LeavesRow, TypeFits, TypesFit};
+ghost use Rattle.fb_verify.specs.Order.{after, table_failure, failure_at, present_failure, union_field_failure, unions_field_failure, vector_field_failure};
 ghost use Rattle.fb_verify.specs.Places.{field_place, has_slot, target};
-ghost use Rattle.fb_verify.specs.Plain.{IsTested, place_from};
-ghost use Rattle.fb_verify.specs.Stack.{Waiting, IsWalking};
+ghost use Rattle.fb_verify.specs.Plain.{tested_by, IsTested, place_from};
 ghost use Rattle.fb_verify.specs.Told.{IsPlaced, IsVtable};
 ghost use Rattle.fb_verify.specs.declared.offset_row.Leads.TheVariants.{All, ByType};
-ghost use Rattle.fb_verify.specs.Turns.{IsFar, IsShort, RowTurned};
+ghost use Rattle.fb_verify.specs.Turns.{IsFar};
 
 use crate::checks::Checks;
 use crate::fault::Reason;
-use crate::field::{Table, referent_at};
-use crate::offset_row::{Leads, Referent, Row};
-use crate::plain::{fails, test_end, test_vector_field};
+use crate::offset_row::{Leads, Referent, Row, referent_at};
+use crate::plain::{fails, test_end, test_inline_field, test_vector_field};
 use crate::stack::Walk;
+use crate::table::Table;
 use fb_bytes::Reads;
 use fb_schema::{FieldView, Kind, Schema};
 
@@ -30,7 +29,7 @@ use fb_schema::{FieldView, Kind, Schema};
 #[inline(always)]
 #[tactic(auto, using(crate::proofs::Plains::place_told), unfolding(crate::specs::Places::field_place))]
 fn distance_of(reads: &mut Reads<'_>, table: Table, slot: u16) -> u64
-    requires few { reads.old.count < 2 ^ 60 }
+    requires few { reads.old.count < reads.old.base + 2 ^ 60 }
     requires near { table.at < 2 ^ 33 }
     requires head { IsVtable reads.old.bytes table.at table.head }
     ensures value { place_from table.at (table.at + result) ≡ field_place reads.old.bytes table.at slot }
@@ -46,7 +45,7 @@ fn distance_of(reads: &mut Reads<'_>, table: Table, slot: u16) -> u64
 /// Reads the type of a union again, whose field has this slot: 0 where its type field is absent.
 #[inline(always)]
 fn type_of(reads: &mut Reads<'_>, table: Table, slot: u16) -> u8
-    requires few { reads.old.count < 2 ^ 60 }
+    requires few { reads.old.count < reads.old.base + 2 ^ 60 }
     requires near { table.at < 2 ^ 33 }
     requires head { IsVtable reads.old.bytes table.at table.head }
     requires present { IsTrue (has_slot reads.old.bytes table.at slot) }
@@ -71,7 +70,7 @@ struct Types {
 /// where their field is absent.
 #[inline(always)]
 fn types_of(reads: &mut Reads<'_>, table: Table, slot: u16) -> Types
-    requires few { reads.old.count < 2 ^ 60 }
+    requires few { reads.old.count < reads.old.base + 2 ^ 60 }
     requires near { table.at < 2 ^ 33 }
     requires head { IsVtable reads.old.bytes table.at table.head }
     requires present { IsTrue (has_slot reads.old.bytes table.at slot) }
@@ -93,6 +92,56 @@ fn types_of(reads: &mut Reads<'_>, table: Table, slot: u16) -> Types
     }
 }
 
+/// Tests a present field by itself that is a single offset word, and puts that.
+#[inline(always)]
+fn put_word(
+    reads: &Reads<'_>,
+    checks: Checks,
+    table: Table,
+    at: u64,
+    referent: Referent,
+    row: &mut Row,
+) -> Option<Reason>
+    requires placed { IsPlaced checks reads.now.bytes table.at table.head at }
+    ensures told { tested_by at reads.now.count result ≡ after reads.now.count (table_failure checks reads.now.bytes table.at at 4) }
+    ensures row { result ≡ None → row.new ≡ record { leads = All referent; place = at; left = 1 } }
+{
+    let end = test_end(reads, checks, table, at, 4);
+    if end.is_none() {
+        *row = Row::one(referent, at);
+    }
+    end
+}
+
+/// Tests a present vector of offset words by itself that all refer to the same, and puts these, if there are any.
+#[inline(always)]
+fn put_words(
+    reads: &mut Reads<'_>,
+    checks: Checks,
+    table: Table,
+    at: &mut u64,
+    referent: Referent,
+    row: &mut Row,
+) -> Option<Reason>
+    requires few { reads.old.count < reads.old.base + 2 ^ 58 }
+    requires placed { IsPlaced checks reads.old.bytes table.at table.head at.old }
+    ensures tested { IsTested reads.old reads.new at.new (vector_field_failure checks reads.old.bytes table.at at.old 4 4) 2 result }
+    ensures none { result ≡ None → word reads.old.bytes (target reads.old.bytes at.old) 4 ≡ 0 → row.new ≡ row.old }
+    ensures some { result ≡ None → 0 < word reads.old.bytes (target reads.old.bytes at.old) 4 → row.new ≡ record { leads = All referent; place = target reads.old.bytes at.old + 4; left = word reads.old.bytes (target reads.old.bytes at.old) 4 } }
+    ensures within { result ≡ None → target reads.old.bytes at.old + 4 + 4 * word reads.old.bytes (target reads.old.bytes at.old) 4 < 2 ^ 31 }
+{
+    let mut count = 0;
+    let failed = test_vector_field(reads, checks, table, at, 4, 4, &mut count);
+    if failed.is_none() && count != 0 {
+        *row = Row {
+            leads: Leads::All(referent),
+            place: *at,
+            left: count,
+        };
+    }
+    failed
+}
+
 /// Tests a present union by itself, and puts its offset word, if its type has a member.
 #[inline(always)]
 fn put_union(
@@ -109,7 +158,7 @@ fn put_union(
     requires union { IsTrue (is_union schema.now union) }
     requires present { IsTrue (has_slot reads.old.bytes table.at slot) }
     requires typed { TypeFits reads.old.bytes table.at slot }
-    requires few { reads.old.count < 2 ^ 58 }
+    requires few { reads.old.count < reads.old.base + 2 ^ 58 }
     requires placed { IsPlaced checks reads.old.bytes table.at table.head at }
     requires rests { row.old.left ≡ 0 }
     ensures tested { IsTested reads.old reads.new at (after (1 + reads_if_present 1 (type_place reads.old.bytes table.at slot)) (union_field_failure checks reads.old.bytes table.at at (member_of schema.now union (union_type reads.old.bytes (type_place reads.old.bytes table.at slot))))) (1 + reads_if_present 1 (type_place reads.old.bytes table.at slot)) result }
@@ -121,11 +170,7 @@ fn put_union(
     if let Referent::Nothing = referent {
         return None;
     }
-    let end = test_end(reads, checks, table, at, 4);
-    if end.is_none() {
-        *row = Row::one(referent, at);
-    }
-    end
+    put_word(reads, checks, table, at, referent, row)
 }
 
 /// Tests a present vector of unions by itself, and puts its offset words, if there are any.
@@ -141,7 +186,7 @@ fn put_unions(
 ) -> Option<Reason>
     requires present { IsTrue (has_slot reads.old.bytes table.at slot) }
     requires typed { TypesFit reads.old.bytes table.at slot }
-    requires few { reads.old.count < 2 ^ 58 }
+    requires few { reads.old.count < reads.old.base + 2 ^ 58 }
     requires placed { IsPlaced checks reads.old.bytes table.at table.head at.old }
     ensures tested { IsTested reads.old reads.new at.new (after (1 + reads_if_present 2 (type_place reads.old.bytes table.at slot)) (unions_field_failure checks reads.old.bytes table.at at.old (type_place reads.old.bytes table.at slot))) (1 + reads_if_present 2 (type_place reads.old.bytes table.at slot) + 2) result }
     ensures none { result ≡ None → word reads.old.bytes (target reads.old.bytes at.old) 4 ≡ 0 → row.new ≡ row.old }
@@ -170,35 +215,6 @@ fn put_unions(
     None
 }
 
-/// Tests a present vector of offset words by itself that all refer to the same, and puts these, if there are any.
-#[inline(always)]
-fn put_words(
-    reads: &mut Reads<'_>,
-    checks: Checks,
-    table: Table,
-    at: &mut u64,
-    referent: Referent,
-    row: &mut Row,
-) -> Option<Reason>
-    requires few { reads.old.count < 2 ^ 58 }
-    requires placed { IsPlaced checks reads.old.bytes table.at table.head at.old }
-    ensures tested { IsTested reads.old reads.new at.new (vector_field_failure checks reads.old.bytes table.at at.old 4 4) 2 result }
-    ensures none { result ≡ None → word reads.old.bytes (target reads.old.bytes at.old) 4 ≡ 0 → row.new ≡ row.old }
-    ensures some { result ≡ None → 0 < word reads.old.bytes (target reads.old.bytes at.old) 4 → row.new ≡ record { leads = All referent; place = target reads.old.bytes at.old + 4; left = word reads.old.bytes (target reads.old.bytes at.old) 4 } }
-    ensures within { result ≡ None → target reads.old.bytes at.old + 4 + 4 * word reads.old.bytes (target reads.old.bytes at.old) 4 < 2 ^ 31 }
-{
-    let mut count = 0;
-    let failed = test_vector_field(reads, checks, table, at, 4, 4, &mut count);
-    if failed.is_none() && count != 0 {
-        *row = Row {
-            leads: Leads::All(referent),
-            place: *at,
-            left: count,
-        };
-    }
-    failed
-}
-
 impl Walk<'_, '_> {
     /// Tests a present field by itself that leads on by the words of a vector or by that of a union, and puts these, if
     /// there are any. Where a test fails, the position is moved to where.
@@ -214,7 +230,7 @@ impl Walk<'_, '_> {
         requires askable { IsAskable reads.old.bytes self.now.schema.now table.at (live_of_view field.now) (field.now).kind }
         requires far { IsFar (field.now).kind }
         requires present { IsTrue (has_slot reads.old.bytes table.at (field.now).slot) }
-        requires few { reads.old.count < 2 ^ 58 }
+        requires few { reads.old.count < reads.old.base + 2 ^ 58 }
         requires placed { IsPlaced self.now.checks reads.old.bytes table.at table.head at.old }
         requires rests { row.old.left ≡ 0 }
         ensures tested { IsTested reads.old reads.new at.new (present_failure self.now.checks reads.old.bytes self.now.schema.now table.at (live_of_view field.now) at.old (field.now).kind) (present_reads reads.old.bytes table.at (field.now).slot (field.now).kind) result }
@@ -240,5 +256,69 @@ impl Walk<'_, '_> {
             }
             _ => put_words(reads, checks, table, at, Referent::Text, row),
         }
+    }
+
+    /// Tests a present field by itself, and puts the words by which it leads on, if there are any. Where a test fails,
+    /// the position is moved to where.
+    fn put_present(
+        &self,
+        reads: &mut Reads<'_>,
+        table: Table,
+        field: &FieldView<'_>,
+        at: &mut u64,
+        row: &mut Row,
+    ) -> Option<Reason>
+        requires askable { IsAskable reads.old.bytes self.now.schema.now table.at (live_of_view field.now) (field.now).kind }
+        requires present { IsTrue (has_slot reads.old.bytes table.at (field.now).slot) }
+        requires few { reads.old.count < reads.old.base + 2 ^ 58 }
+        requires placed { IsPlaced self.now.checks reads.old.bytes table.at table.head at.old }
+        requires rests { row.old.left ≡ 0 }
+        ensures tested { IsTested reads.old reads.new at.new (present_failure self.now.checks reads.old.bytes self.now.schema.now table.at (live_of_view field.now) at.old (field.now).kind) (present_reads reads.old.bytes table.at (field.now).slot (field.now).kind) result }
+        ensures leads { result ≡ None → LeavesRow reads.old.bytes self.now.schema.now (entries_of reads.old.bytes self.now.schema.now table.at (live_of_view field.now) at.old (field.now).kind) row.old row.new (nat_lt 0 row.new.left) }
+    {
+        let checks = self.checks;
+        let size = field.size;
+        let align = field.align;
+        match field.kind {
+            Kind::Scalar(_) | Kind::Struct(_) => {
+                test_inline_field(reads, checks, table, *at, size, align)
+            }
+            Kind::Scalars(_) | Kind::Structs(_) => {
+                let mut many = 0;
+                test_vector_field(reads, checks, table, at, size, align, &mut many)
+            }
+            Kind::Text => put_word(reads, checks, table, *at, Referent::Text, row),
+            Kind::Table(object) => {
+                put_word(reads, checks, table, *at, Referent::Table(object), row)
+            }
+            _ => self.put_row(reads, table, field, at, row),
+        }
+    }
+
+    /// The same of a field that stands at this position or is absent.
+    pub fn put_field(
+        &self,
+        reads: &mut Reads<'_>,
+        table: Table,
+        field: &FieldView<'_>,
+        at: &mut u64,
+        row: &mut Row,
+    ) -> Option<Reason>
+        requires askable { IsAskable reads.old.bytes self.now.schema.now table.at (live_of_view field.now) (field.now).kind }
+        requires present { IfSome (place_from table.at at.old) (λ _. IsTrue (has_slot reads.old.bytes table.at (field.now).slot)) }
+        requires few { reads.old.count < reads.old.base + 2 ^ 58 }
+        requires placed { IsPlaced self.now.checks reads.old.bytes table.at table.head at.old }
+        requires rests { row.old.left ≡ 0 }
+        ensures tested { IsTested reads.old reads.new at.new (failure_at self.now.checks reads.old.bytes self.now.schema.now table.at (live_of_view field.now) (place_from table.at at.old)) (reads_at reads.old.bytes table.at (live_of_view field.now) (place_from table.at at.old)) result }
+        ensures leads { result ≡ None → LeavesRow reads.old.bytes self.now.schema.now (entries_at reads.old.bytes self.now.schema.now table.at (live_of_view field.now) (place_from table.at at.old)) row.old row.new (nat_lt 0 row.new.left) }
+    {
+        let _schema = self.schema;
+        if *at == table.at {
+            if field.required {
+                return fails(Reason::MissingRequired);
+            }
+            return None;
+        }
+        self.put_present(reads, table, field, at, row)
     }
 }

@@ -1,6 +1,6 @@
 // The offset words by which a field leads on, passed by reads that are counted in a register.
 
-ghost use Rattle.std.specs.Prelude.{◌≡◌, ◌+◌, ◌*◌, ◌^◌, ◌<◌, ◌≤◌, length, [], ◌∷◌, ◌++◌, IfOk, IfErr, IfSome, Some, None, true};
+ghost use Rattle.std.specs.Prelude.{◌≡◌, ◌+◌, ◌*◌, ◌^◌, ◌<◌, ◌≤◌, length, [], ◌∷◌, ◌++◌, IfOk, IfErr, IfSome, Some, None};
 ghost use Rattle.fb_schema.specs.Served.{IsServed};
 ghost use Rattle.fb_verify.specs.Bounds.{AreAllowed};
 ghost use Rattle.fb_verify.specs.OffsetRows.{lead_to, first_word, past_first, AreOfUnion, AreTargetsOf, IsReferent, IsRow, AreTypesNear, AreLeaf};
@@ -9,14 +9,13 @@ ghost use Rattle.fb_verify.specs.Told.{stopped};
 ghost use Rattle.fb_verify.specs.Turns.{IsShort, RowTurned};
 
 use crate::checks::Checks;
-use crate::element::Child;
 use crate::fault::Reason;
-use crate::field::referent_among;
-use crate::offset_row::{Leads, Referent, Row};
+use crate::offset_row::{Leads, Referent, Row, referent_among};
 use crate::plain::test_lead;
 use crate::scratch::Frame;
 use crate::site::{LastLink, Refusal, Stop};
 use crate::stack::{Turn, Walk};
+use crate::table::Child;
 use fb_bytes::Reads;
 use fb_schema::{Schema, Targets};
 
@@ -38,10 +37,10 @@ pub fn targets_of<'s>(schema: &'s Schema<'_>, leads: Leads) -> Targets<'s>
     }
 }
 
-/// What the first offset word of a row refers to. Where the types of a union tell that, its type is read, and the
-/// target of it is looked up among these.
+/// What the first offset word of a row refers to. Where the types of a union tell that, its type is read, and the target
+/// of it is looked up among these.
 #[inline(always)]
-fn first_referent(
+pub fn first_referent(
     reads: &mut Reads<'_>,
     targets: Targets<'_>,
     schema: &Schema<'_>,
@@ -51,7 +50,7 @@ fn first_referent(
     requires served { IsServed schema.now }
     requires more { 0 < row.left }
     requires row { IsRow reads.old.bytes schema.now row }
-    requires few { reads.old.count < 2 ^ 60 }
+    requires few { reads.old.count < reads.old.base + 2 ^ 60 }
     ensures lead { lead_to result ≡ (first_word reads.old.bytes schema.now row).lead }
     ensures referent { IsReferent schema.now result }
     ensures counted { reads.new ≡ record reads.old { count = reads.old.count + (first_word reads.old.bytes schema.now row).reads } }
@@ -87,8 +86,8 @@ pub fn stop_at_word(top: &mut Frame, left: Row, at: u64, reason: Reason) -> Stop
 impl Walk<'_, '_> {
     /// Passes offset words that are left of the top table's field, with the strings and structs that they lead to,
     /// until one leads to a table, and answers that table; none where no word is left. Where one fails, the row is left
-    /// past it. The budget allows whatever they cost. These are the walk's own checks, and the words, of which a caller
-    /// may know constants.
+    /// past it. The budget allows whatever they cost. These are the walk's own checks, and the words, of which a caller may
+    /// know constants.
     #[inline(always)]
     pub fn pass_words_of(
         &self,

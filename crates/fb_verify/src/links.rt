@@ -10,9 +10,9 @@ ghost use Rattle.fb_verify.specs.Told.{IsVtable};
 
 use crate::checks::Checks;
 use crate::fault::Fault;
-use crate::field::Table;
 use crate::scratch::Frame;
 use crate::site::LastLink;
+use crate::table::Table;
 use fb_bytes::Window;
 use fb_schema::{FieldView, Kind, Schema};
 

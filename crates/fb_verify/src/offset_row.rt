@@ -1,8 +1,14 @@
 // The offset words by which a field leads on.
 
-ghost use Rattle.std.specs.Prelude.{◌≡◌, ◌+◌, ◌*◌, ◌-◌, ◌<◌, ◌^◌, true, false};
-ghost use Rattle.fb_verify.specs.OffsetRows.{past_first, AreTypesNear};
+ghost use Rattle.std.specs.Prelude.{◌≡◌, ◌+◌, ◌-◌, ◌<◌, ◌^◌, IsTrue};
+ghost use Rattle.fb_schema.specs.Rows.{Rows, is_union};
+ghost use Rattle.fb_schema.specs.Members.{member_of};
+ghost use Rattle.fb_schema.specs.Served.{IsServed};
+ghost use Rattle.fb_verify.specs.Fields.{lead_of};
+ghost use Rattle.fb_verify.specs.OffsetRows.{past_first, lead_to, lead_to_goal, AreTypesNear, AreUnionTargets, GoalHolds, IsReferent};
 ghost use Rattle.fb_verify.specs.declared.offset_row.Leads.TheVariants.{All};
+
+use fb_schema::{Goal, Schema, Target, Targets};
 
 /// What an offset word refers to, past its own test.
 #[derive(Clone, Copy)]
@@ -54,18 +60,6 @@ impl Row {
         }
     }
 
-    /// Writes this row over another, if an offset word is left of it, and answers whether one is.
-    pub fn put_into(self, row: &mut Row) -> bool
-        ensures none { result ≡ false → (self.left ≡ 0) × (row.new ≡ row.old) }
-        ensures some { result ≡ true → (0 < self.left) × (row.new ≡ self) }
-    {
-        if self.left == 0 {
-            return false;
-        }
-        *row = self;
-        true
-    }
-
     /// Goes past the first offset word, which is left out from then on.
     pub fn advance(&mut self)
         requires more { 0 < self.old.left }
@@ -79,4 +73,44 @@ impl Row {
         self.place += 4;
         self.left -= 1;
     }
+}
+
+/// What an offset word of a union refers to whose type has this target.
+#[inline(always)]
+fn referent_to(target: Target) -> Referent
+    ensures lead { lead_to result ≡ lead_to_goal target.goal target }
+    ensures referent { (S : Rows) → GoalHolds S target.goal target → IsReferent S result }
+{
+    match target.goal {
+        Goal::Nothing => Referent::Nothing,
+        Goal::Text => Referent::Text,
+        Goal::Table => Referent::Table(target.object),
+        Goal::Struct => Referent::Struct(target.size, target.align),
+    }
+}
+
+/// What an offset word of a union refers to whose type has this value, and whose targets are these. Only the contract
+/// speaks of the schema and of the union.
+#[inline(always)]
+pub fn referent_among(targets: Targets<'_>, schema: &Schema<'_>, union: u32, value: u8) -> Referent
+    requires served { IsServed schema.now }
+    requires union { IsTrue (is_union schema.now union) }
+    requires targets { AreUnionTargets schema.now targets union }
+    ensures lead { lead_to result ≡ lead_of schema.now (member_of schema.now union value) }
+    ensures referent { IsReferent schema.now result }
+{
+    let _schema = schema;
+    let _union = union;
+    referent_to(targets.get(value))
+}
+
+/// The same, where the targets are looked up for this word alone.
+#[inline(always)]
+pub fn referent_at(schema: &Schema<'_>, union: u32, value: u8) -> Referent
+    requires served { IsServed schema.now }
+    requires union { IsTrue (is_union schema.now union) }
+    ensures lead { lead_to result ≡ lead_of schema.now (member_of schema.now union value) }
+    ensures referent { IsReferent schema.now result }
+{
+    referent_among(schema.targets_of(union), schema, union, value)
 }

@@ -1,23 +1,22 @@
-// The tests of fields that lead to no table, by reads that are counted in a register.
+// The rules of the format: each is tested here, by reads that are counted in a register, but for those of unions.
 
-ghost use Rattle.std.specs.Prelude.{◌≡◌, ℕ, ◌+◌, ◌*◌, ◌^◌, ◌<◌, length, Some, None, IfSome, IsTrue, true, false};
+ghost use Rattle.std.specs.Prelude.{◌≡◌, ℕ, ◌+◌, ◌*◌, ◌^◌, ◌<◌, ◌≤◌, length, Some, None, IfSome, MatchOption, IsTrue, true, false};
 ghost use Rattle.fb_bytes.specs.Word.{word};
 ghost use Rattle.fb_schema.specs.declared.views.Act.TheVariants.{Other};
-ghost use Rattle.fb_verify.specs.Places.{fits, target, has_slot, field_place};
-ghost use Rattle.fb_verify.specs.Cost.{slot_reads, lead_reads};
+ghost use Rattle.fb_verify.specs.Places.{fits, target, has_slot, has_vtable, vtable, field_place};
+ghost use Rattle.fb_verify.specs.Cost.{head_reads, slot_reads, lead_reads};
 ghost use Rattle.fb_verify.specs.Fields.{to_string};
 ghost use Rattle.fb_verify.specs.declared.offset_row.Referent.TheVariants.{Table as ATable};
 ghost use Rattle.fb_verify.specs.OffsetRows.{lead_to, IsSized};
-ghost use Rattle.fb_verify.specs.Order.{after, ◌▷◌, table_failure, offset_failure, string_failure, vector_failure, inline_failure, inline_field_failure, vector_field_failure, lead_failure};
-ghost use Rattle.fb_verify.specs.Plain.{tested_by, IsTested, place_from, step_failure, step_reads, IsStep, step_failure_at, step_reads_at};
-ghost use Rattle.fb_verify.specs.Told.{IsVtable, IsPlaced};
+ghost use Rattle.fb_verify.specs.Order.{after, ◌▷◌, head_failure, table_failure, offset_failure, string_failure, vector_failure, inline_failure, inline_field_failure, vector_field_failure, lead_failure};
+ghost use Rattle.fb_verify.specs.Plain.{tested_by, IsTested, place_from, IsStep, step_failure_at, step_reads_at};
+ghost use Rattle.fb_verify.specs.Told.{IsVtable, IsHead, IsPlaced};
 
 use crate::checks::Checks;
 use crate::fault::Reason;
-use crate::field::Table;
-use crate::head::Head;
 use crate::offset_row::Referent;
 use crate::site::is_aligned;
+use crate::table::{Head, Table};
 use fb_bytes::Reads;
 use fb_schema::{Act, Step};
 
@@ -65,6 +64,171 @@ pub fn test_inline(
     None
 }
 
+/// Tests the offset word at a position, and goes on where it leads.
+#[inline(always)]
+#[tactic(auto, unfolding(crate::specs::Order::offset_failure, crate::specs::Order::inline_failure))]
+pub fn test_offset(reads: &mut Reads<'_>, checks: Checks, at: &mut u64) -> Option<Reason>
+    requires few { reads.old.count < reads.old.base + 2 ^ 62 }
+    requires near { at.old < 2 ^ 35 }
+    ensures tested { IsTested reads.old reads.new at.new (offset_failure checks reads.old.bytes at.old) 1 result }
+    ensures value { result ≡ None → at.new ≡ target reads.old.bytes at.old }
+    ensures near { result ≡ None → at.new < 2 ^ 33 }
+{
+    let word = test_inline(reads, checks, *at, 4, 4);
+    if word.is_some() {
+        return word;
+    }
+    let offset = u64::from(reads.u32_at(*at));
+    if offset == 0 {
+        return fails(Reason::ZeroOffset);
+    }
+    *at += offset;
+    None
+}
+
+/// Tests the string at a position: its count, so many bytes, and a byte 0. It goes on to that byte.
+#[inline(always)]
+#[tactic(auto, unfolding(crate::specs::Order::string_failure, crate::specs::Order::inline_failure))]
+fn test_string(reads: &mut Reads<'_>, checks: Checks, at: &mut u64) -> Option<Reason>
+    requires few { reads.old.count < reads.old.base + 2 ^ 62 }
+    requires near { at.old < 2 ^ 35 }
+    ensures { IsTested reads.old reads.new at.new (string_failure checks reads.old.bytes at.old) 2 result }
+{
+    let word = test_inline(reads, checks, *at, 4, 4);
+    if word.is_some() {
+        return word;
+    }
+    let count = u64::from(reads.u32_at(*at));
+    *at += 4;
+    if !is_inside(reads, *at, count + 1) {
+        return fails(Reason::OutOfBuffer);
+    }
+    *at += count;
+    if reads.u8_at(*at) != 0 {
+        return fails(Reason::NoTerminator);
+    }
+    None
+}
+
+/// Tests the vector at a position, of elements of this size and alignment, puts their number, and goes on to the first.
+#[inline(always)]
+#[tactic(auto, unfolding(crate::specs::Order::vector_failure, crate::specs::Order::inline_failure))]
+fn test_vector(
+    reads: &mut Reads<'_>,
+    checks: Checks,
+    at: &mut u64,
+    size: u32,
+    align: u32,
+    many: &mut u32,
+) -> Option<Reason>
+    requires few { reads.old.count < reads.old.base + 2 ^ 62 }
+    requires near { at.old < 2 ^ 35 }
+    requires align { 0 < align }
+    ensures tested { IsTested reads.old reads.new at.new (vector_failure checks reads.old.bytes at.old size align) 1 result }
+    ensures first { result ≡ None → at.new ≡ at.old + 4 }
+    ensures many { result ≡ None → many.new ≡ word reads.old.bytes at.old 4 }
+    ensures within { result ≡ None → at.new + many.new * size < 2 ^ 31 }
+{
+    let word = test_inline(reads, checks, *at, 4, 4);
+    if word.is_some() {
+        return word;
+    }
+    let count = reads.u32_at(*at);
+    *at += 4;
+    if !reads.fits(*at, u64::from(count) * u64::from(size)) {
+        return fails(Reason::OutOfBuffer);
+    }
+    if count != 0 && !is_aligned(checks, *at, align) {
+        return fails(Reason::Misaligned);
+    }
+    *many = count;
+    None
+}
+
+/// Reads where the vtable of the table at a position stands, none where that is negative.
+#[inline(always)]
+#[tactic(auto, unfolding(crate::specs::Places::has_vtable, crate::specs::Places::vtable))]
+fn vtable_at(reads: &mut Reads<'_>, at: u64) -> Option<u64>
+    requires fits { at + 4 ≤ length reads.old.bytes }
+    requires near { at < 2 ^ 31 }
+    requires few { reads.old.count < reads.old.base + 2 ^ 62 }
+    ensures place { MatchOption result (has_vtable reads.old.bytes at ≡ false) (λ v. (has_vtable reads.old.bytes at ≡ true) × (v ≡ vtable reads.old.bytes at)) }
+    ensures near { IfSome result (λ v. v < 2 ^ 32) }
+    ensures counted { reads.new ≡ record reads.old { count = reads.old.count + 1 } }
+{
+    let place = at as i64 - i64::from(reads.i32_at(at));
+    if place < 0 { None } else { Some(place as u64) }
+}
+
+/// Tests the head of the table at a position, and writes it. Where it fails, the position is moved to where it does.
+#[inline(always)]
+#[tactic(auto, unfolding(crate::specs::Order::head_failure, crate::specs::Order::inline_failure))]
+pub fn test_head(
+    reads: &mut Reads<'_>,
+    checks: Checks,
+    at: &mut u64,
+    head: &mut Head,
+) -> Option<Reason>
+    requires few { reads.old.count < reads.old.base + 2 ^ 60 }
+    requires near { at.old < 2 ^ 33 }
+    ensures tested { IsTested reads.old reads.new at.new (head_failure checks reads.old.bytes at.old) (head_reads checks) result }
+    ensures head { result ≡ None → IsHead checks reads.old.bytes at.old head.new }
+    ensures same { result ≡ None → at.new ≡ at.old }
+{
+    let word = test_inline(reads, checks, *at, 4, 4);
+    if word.is_some() {
+        return word;
+    }
+    let Some(vtable) = vtable_at(reads, *at) else {
+        return fails(Reason::OutOfBuffer);
+    };
+    if !reads.fits(vtable, 2) {
+        return fails(Reason::OutOfBuffer);
+    }
+    if !is_aligned(checks, vtable, 2) {
+        *at = vtable;
+        return fails(Reason::Misaligned);
+    }
+    let size = reads.u16_at(vtable);
+    if size % 2 != 0 || size < 4 {
+        *at = vtable;
+        return fails(Reason::BadVtable);
+    }
+    if !reads.fits(vtable, u64::from(size)) {
+        *at = vtable;
+        return fails(Reason::OutOfBuffer);
+    }
+    let inline = if checks.inline_size {
+        reads.u16_at(vtable + 2)
+    } else {
+        0
+    };
+    *head = Head {
+        vtable,
+        size,
+        inline,
+    };
+    None
+}
+
+/// Reads where the field with this slot stands, the table's own position where it is absent.
+#[inline(always)]
+#[tactic(auto, using(crate::proofs::Plains::place_told, crate::proofs::Plains::place_none), unfolding(crate::specs::Places::field_place))]
+pub fn slot_at(reads: &mut Reads<'_>, at: u64, head: Head, slot: u16) -> u64
+    requires few { reads.old.count < reads.old.base + 2 ^ 60 }
+    requires near { at < 2 ^ 33 }
+    requires head { IsVtable reads.old.bytes at head }
+    ensures value { place_from at result ≡ field_place reads.old.bytes at slot }
+    ensures within { IfSome (place_from at result) (λ _. IsTrue (has_slot reads.old.bytes at slot)) }
+    ensures near { result < 2 ^ 34 }
+    ensures counted { reads.new ≡ record reads.old { count = reads.old.count + slot_reads reads.old.bytes at slot } }
+{
+    if head.ends_before(slot) {
+        return at;
+    }
+    at + u64::from(reads.u16_at(head.vtable + u64::from(slot)))
+}
+
 /// Tests that what stands inline for a field ends within the inline size of its table, where that is checked.
 #[inline(always)]
 #[tactic(auto, unfolding(crate::specs::Order::table_failure, crate::specs::Places::ends_in_table))]
@@ -103,7 +267,7 @@ fn test_byte_field(reads: &Reads<'_>, checks: Checks, table: Table, place: u64) 
 
 /// Tests a field that is a scalar or struct of this size and alignment.
 #[inline(always)]
-fn test_inline_field(
+pub fn test_inline_field(
     reads: &Reads<'_>,
     checks: Checks,
     table: Table,
@@ -122,91 +286,41 @@ fn test_inline_field(
     test_inline(reads, checks, place, size, align)
 }
 
-/// Tests the offset word at a position, and goes on where it leads.
+/// Tests a field that holds an offset word to a vector of elements of this size and alignment, with that vector, puts
+/// the number of its elements, and goes on to the first.
 #[inline(always)]
-#[tactic(auto, unfolding(crate::specs::Order::offset_failure, crate::specs::Order::inline_failure))]
-pub fn test_offset(reads: &mut Reads<'_>, checks: Checks, at: &mut u64) -> Option<Reason>
-    requires few { reads.old.count < 2 ^ 62 }
-    requires near { at.old < 2 ^ 35 }
-    ensures tested { IsTested reads.old reads.new at.new (offset_failure checks reads.old.bytes at.old) 1 result }
-    ensures value { result ≡ None → at.new ≡ target reads.old.bytes at.old }
-    ensures near { result ≡ None → at.new < 2 ^ 33 }
-{
-    let word = test_inline(reads, checks, *at, 4, 4);
-    if word.is_some() {
-        return word;
-    }
-    let offset = u64::from(reads.u32_at(*at));
-    if offset == 0 {
-        return fails(Reason::ZeroOffset);
-    }
-    *at += offset;
-    None
-}
-
-/// Tests the string at a position: its count, so many bytes, and a byte 0. It goes on to that byte.
-#[inline(always)]
-#[tactic(auto, unfolding(crate::specs::Order::string_failure, crate::specs::Order::inline_failure))]
-fn test_string(reads: &mut Reads<'_>, checks: Checks, at: &mut u64) -> Option<Reason>
-    requires few { reads.old.count < 2 ^ 62 }
-    requires near { at.old < 2 ^ 35 }
-    ensures { IsTested reads.old reads.new at.new (string_failure checks reads.old.bytes at.old) 2 result }
-{
-    let word = test_inline(reads, checks, *at, 4, 4);
-    if word.is_some() {
-        return word;
-    }
-    let count = u64::from(reads.u32_at(*at));
-    *at += 4;
-    if !is_inside(reads, *at, count + 1) {
-        return fails(Reason::OutOfBuffer);
-    }
-    *at += count;
-    if reads.u8_at(*at) != 0 {
-        return fails(Reason::NoTerminator);
-    }
-    None
-}
-
-/// Tests the vector at a position, of elements of this size and alignment, puts their number, and goes on to the first.
-#[inline(always)]
-#[tactic(auto, unfolding(crate::specs::Order::vector_failure, crate::specs::Order::inline_failure))]
-fn test_vector(
+pub fn test_vector_field(
     reads: &mut Reads<'_>,
     checks: Checks,
+    table: Table,
     at: &mut u64,
     size: u32,
     align: u32,
     many: &mut u32,
 ) -> Option<Reason>
-    requires few { reads.old.count < 2 ^ 62 }
-    requires near { at.old < 2 ^ 35 }
+    requires few { reads.old.count < reads.old.base + 2 ^ 60 }
+    requires placed { IsPlaced checks reads.old.bytes table.at table.head at.old }
     requires align { 0 < align }
-    ensures tested { IsTested reads.old reads.new at.new (vector_failure checks reads.old.bytes at.old size align) 1 result }
-    ensures first { result ≡ None → at.new ≡ at.old + 4 }
-    ensures many { result ≡ None → many.new ≡ word reads.old.bytes at.old 4 }
+    ensures tested { IsTested reads.old reads.new at.new (vector_field_failure checks reads.old.bytes table.at at.old size align) 2 result }
+    ensures first { result ≡ None → at.new ≡ target reads.old.bytes at.old + 4 }
+    ensures many { result ≡ None → many.new ≡ word reads.old.bytes (target reads.old.bytes at.old) 4 }
     ensures within { result ≡ None → at.new + many.new * size < 2 ^ 31 }
 {
-    let word = test_inline(reads, checks, *at, 4, 4);
-    if word.is_some() {
-        return word;
+    let end = test_end(reads, checks, table, *at, 4);
+    if end.is_some() {
+        return end;
     }
-    let count = reads.u32_at(*at);
-    *at += 4;
-    if !reads.fits(*at, u64::from(count) * u64::from(size)) {
-        return fails(Reason::OutOfBuffer);
+    let offset = test_offset(reads, checks, at);
+    if offset.is_some() {
+        return offset;
     }
-    if count != 0 && !is_aligned(checks, *at, align) {
-        return fails(Reason::Misaligned);
-    }
-    *many = count;
-    None
+    test_vector(reads, checks, at, size, align, many)
 }
 
 /// Tests the offset word at a position, with the string that it leads to.
 #[inline(always)]
 fn test_text(reads: &mut Reads<'_>, checks: Checks, at: &mut u64) -> Option<Reason>
-    requires few { reads.old.count < 2 ^ 61 }
+    requires few { reads.old.count < reads.old.base + 2 ^ 61 }
     requires near { at.old < 2 ^ 35 }
     ensures { IsTested reads.old reads.new at.new (lead_failure checks reads.old.bytes at.old to_string) 3 result }
 {
@@ -226,7 +340,7 @@ pub fn test_lead(
     at: &mut u64,
     referent: Referent,
 ) -> Option<Reason>
-    requires few { reads.old.count < 2 ^ 60 }
+    requires few { reads.old.count < reads.old.base + 2 ^ 60 }
     requires near { at.old < 2 ^ 35 }
     requires align { IsSized referent }
     ensures told { tested_by at.new reads.new.count result ≡ after reads.old.count (lead_failure checks reads.old.bytes at.old (lead_to referent)) }
@@ -234,6 +348,7 @@ pub fn test_lead(
     ensures near { result ≡ None → (object : ℕ) → referent ≡ ATable object → at.new < 2 ^ 33 }
     ensures counted { result ≡ None → reads.new.count ≡ reads.old.count + lead_reads (lead_to referent) }
     ensures bytes { reads.new.bytes ≡ reads.old.bytes }
+    ensures base { reads.new.base ≡ reads.old.base }
 {
     match referent {
         Referent::Nothing => None,
@@ -257,7 +372,7 @@ fn test_text_field(
     table: Table,
     at: &mut u64,
 ) -> Option<Reason>
-    requires few { reads.old.count < 2 ^ 60 }
+    requires few { reads.old.count < reads.old.base + 2 ^ 60 }
     requires placed { IsPlaced checks reads.old.bytes table.at table.head at.old }
     ensures { IsTested reads.old reads.new at.new (table_failure checks reads.old.bytes table.at at.old 4 ▷ lead_failure checks reads.old.bytes at.old to_string) 3 result }
 {
@@ -266,55 +381,6 @@ fn test_text_field(
         return end;
     }
     test_text(reads, checks, at)
-}
-
-/// Tests a field that holds an offset word to a vector of elements of this size and alignment, with that vector, puts
-/// the number of its elements, and goes on to the first.
-#[inline(always)]
-pub fn test_vector_field(
-    reads: &mut Reads<'_>,
-    checks: Checks,
-    table: Table,
-    at: &mut u64,
-    size: u32,
-    align: u32,
-    many: &mut u32,
-) -> Option<Reason>
-    requires few { reads.old.count < 2 ^ 60 }
-    requires placed { IsPlaced checks reads.old.bytes table.at table.head at.old }
-    requires align { 0 < align }
-    ensures tested { IsTested reads.old reads.new at.new (vector_field_failure checks reads.old.bytes table.at at.old size align) 2 result }
-    ensures first { result ≡ None → at.new ≡ target reads.old.bytes at.old + 4 }
-    ensures many { result ≡ None → many.new ≡ word reads.old.bytes (target reads.old.bytes at.old) 4 }
-    ensures within { result ≡ None → at.new + many.new * size < 2 ^ 31 }
-{
-    let end = test_end(reads, checks, table, *at, 4);
-    if end.is_some() {
-        return end;
-    }
-    let offset = test_offset(reads, checks, at);
-    if offset.is_some() {
-        return offset;
-    }
-    test_vector(reads, checks, at, size, align, many)
-}
-
-/// Reads where the field with this slot stands, the table's own position where it is absent.
-#[inline(always)]
-#[tactic(auto, using(crate::proofs::Plains::place_told, crate::proofs::Plains::place_none), unfolding(crate::specs::Places::field_place))]
-pub fn slot_at(reads: &mut Reads<'_>, at: u64, head: Head, slot: u16) -> u64
-    requires few { reads.old.count < 2 ^ 60 }
-    requires near { at < 2 ^ 33 }
-    requires head { IsVtable reads.old.bytes at head }
-    ensures value { place_from at result ≡ field_place reads.old.bytes at slot }
-    ensures within { IfSome (place_from at result) (λ _. IsTrue (has_slot reads.old.bytes at slot)) }
-    ensures near { result < 2 ^ 34 }
-    ensures counted { reads.new ≡ record reads.old { count = reads.old.count + slot_reads reads.old.bytes at slot } }
-{
-    if head.ends_before(slot) {
-        return at;
-    }
-    at + u64::from(reads.u16_at(head.vtable + u64::from(slot)))
 }
 
 /// Tests the field of a step, which stands at this position or is absent, with the string or vector that it may lead
@@ -327,7 +393,7 @@ pub fn test_at(
     at: &mut u64,
     step: &Step,
 ) -> Option<Reason>
-    requires few { reads.old.count < 2 ^ 60 }
+    requires few { reads.old.count < reads.old.base + 2 ^ 60 }
     requires step { IsStep step.now (step.now).act }
     requires placed { IsPlaced checks reads.old.bytes table.at table.head at.old }
     ensures { IsTested reads.old reads.new at.new (step_failure_at checks reads.old.bytes table.at step.now (place_from table.at at.old)) (step_reads_at step.now (place_from table.at at.old)) result }

@@ -45,9 +45,9 @@ pub fn walk_shallow(
     ensures settled { meter.new.count < while_lent }
 {
     let mut frames = [BLANK; 3];
-    let mut tally = meter.lend();
+    let mut loan = meter.lend();
     let answer = trace(
-        &mut tally,
+        &mut loan,
         schema,
         root,
         start,
@@ -56,7 +56,7 @@ pub fn walk_shallow(
         checks,
         &mut frames,
     );
-    meter.settle(tally);
+    meter.settle(loan);
     match answer {
         Ok(report) => Ok(report),
         Err(halt) => Err(halt.stop.fault(meter)),

@@ -15,7 +15,7 @@ pub struct Site {
     pub field: Option<u16>,
 }
 
-/// Why a test failed, and at which position. It is small, since each test may answer one.
+/// Why a test failed, and at which position.
 #[derive(Clone, Copy)]
 pub struct Refusal {
     pub at: u64,

@@ -1,6 +1,6 @@
 // The walk: a loop over the frames of the open tables, by reads that are lent once.
 
-ghost use Rattle.std.specs.Prelude.{◌≡◌, ◌+◌, ◌*◌, ◌^◌, ◌<◌, ◌≤◌, max, min, length, List, take, slice_get, slice_index_or, ◌∷◌, ◌++◌, [], IfOk, IfErr, IsTrue, Some, None, true};
+ghost use Rattle.std.specs.Prelude.{[], ◌≡◌, ◌+◌, ◌*◌, ◌^◌, ◌<◌, ◌≤◌, max, min, length, List, take, slice_get, slice_index_or, IfOk, IfErr, IsTrue, Some, None, true};
 ghost use Rattle.fb_schema.specs.Rows.{is_table};
 ghost use Rattle.fb_schema.specs.Live.{Live, live_fields, live_of_view};
 ghost use Rattle.fb_schema.specs.Steps.{act_of, is_plain};
@@ -11,7 +11,7 @@ ghost use Rattle.fb_verify.specs.Flat.{Going};
 ghost use Rattle.fb_verify.specs.PassesOn.{IsBetween, HasRoom, PassesOn, fields_left};
 ghost use Rattle.fb_verify.specs.Told.{way_at};
 ghost use Rattle.fb_verify.specs.Walked.{TableWalked, ended};
-ghost use Rattle.fb_verify.specs.Stack.{blank, Origin, Waiting, work, IsWalking, IsAtField, HaltsIn, links_left, opened};
+ghost use Rattle.fb_verify.specs.Stack.{blank, Origin, Waiting, IsWalking, IsAtField, HaltsIn, links_left, opened};
 ghost use Rattle.fb_verify.specs.Turns.{IsShort, IsAtChild, RowTurned, FieldTurned, Turned, Opened, FramesTurned, RootTurned, Walked};
 ghost use Rattle.fb_verify.specs.declared.offset_row.Leads.TheVariants.{All};
 ghost use Rattle.fb_verify.specs.declared.offset_row.Referent.TheVariants.{Table as ATable};
@@ -19,16 +19,15 @@ ghost use Rattle.fb_verify.specs.declared.stack.Turn.TheVariants.{Halt as Halted
 ghost use Rattle.fb_verify.specs.declared.site.LastLink.TheVariants.{Behind, InField};
 
 use crate::checks::{Checks, PUBLISHED};
-use crate::element::{Child, NO_CHILD};
 use crate::fault::Reason;
-use crate::field::Table;
 use crate::flat::{open_frame, pass_steps};
 use crate::limits::Limits;
 use crate::offset_row::{Leads, Referent, Row};
 use crate::plain::{leads_on, slot_at, test_at, test_end, test_offset};
 use crate::scratch::Frame;
 use crate::site::{Halt, LastLink, Refusal, Site, Stop};
-use fb_bytes::{Reads, Tally};
+use crate::table::{Child, NO_CHILD, Table};
+use fb_bytes::{Loan, Reads};
 use fb_schema::{FieldView, Kind, Schema};
 
 /// How a walk goes on, once it was a while in the top table.
@@ -44,8 +43,8 @@ pub enum Turn {
     Halt,
 }
 
-/// What a walk carries: what it is asked, the tables that it opened, the greatest number of them that were open at
-/// once, and where it stops, once it does.
+/// What a walk carries: what it is asked, the tables that it opened, the greatest number of them that were open at once,
+/// and where it stops, once it does.
 #[derive(Drop)]
 pub struct Walk<'s, 'n> {
     pub schema: &'s Schema<'n>,
@@ -511,32 +510,27 @@ impl<'s, 'n> Walk<'s, 'n> {
         self.walk_by(self.checks, reads, frames, waiting)
     }
 
-    /// Goes on quickly as long as no limit may be met, by bytes that are lent once: by the published checks as
-    /// constants where these are made.
+    /// Goes on quickly as long as no limit may be met, by bytes that are lent once: by the published checks as constants
+    /// where these are made.
     #[inline(never)]
-    pub fn walk_on(
-        &mut self,
-        meter: &mut Tally<'_>,
-        frames: &mut [Frame],
-        waiting: &mut u32,
-    ) -> Turn
+    pub fn walk_on(&mut self, loan: &mut Loan<'_>, frames: &mut [Frame], waiting: &mut u32) -> Turn
         ghost start: { Origin }
-        requires walking { IsWalking self.old meter.old start (take waiting.old frames.old) (slice_index_or frames.old waiting.old blank) }
+        requires walking { IsWalking self.old loan.old start (take waiting.old frames.old) (slice_index_or frames.old waiting.old blank) }
         requires top { waiting.old < length frames.old }
-        ensures goes { Walked self.old self.new meter.old meter.new start frames.old waiting.old frames.new waiting.new result }
+        ensures goes { Walked self.old self.new loan.old loan.new start frames.old waiting.old frames.new waiting.new result }
         ensures length { length frames.new ≡ length frames.old }
     {
         let _schema = self.schema;
-        if !self.limits.allows_short(meter.reads()) {
+        if !self.limits.allows_short(loan.reads()) {
             return Turn::Slowly;
         }
-        let mut reads = meter.lend();
+        let mut reads = loan.lend();
         let turn = if self.checks.are_published() {
             self.walk_by(PUBLISHED, &mut reads, frames, waiting)
         } else {
             self.walk_by_checks(&mut reads, frames, waiting)
         };
-        meter.settle(reads);
+        loan.settle(reads);
         turn
     }
 
@@ -590,26 +584,26 @@ impl<'s, 'n> Walk<'s, 'n> {
         Ok(false)
     }
 
-    /// Passes the fields of an opened root table of which none leads on, quickly by the published checks where the
-    /// budget allows whatever they may cost.
+    /// Passes the fields of an opened root table of which none leads on, quickly by the published checks where the budget
+    /// allows whatever they may cost.
     #[inline(never)]
-    fn pass_root(&mut self, meter: &mut Tally<'_>, table: Table) -> Turn
+    fn pass_root(&mut self, loan: &mut Loan<'_>, table: Table) -> Turn
         ghost going: { Going }
         requires walk { going.walk ≡ self.old }
-        requires walking { IsWalking self.old meter.old going.under.start [] (opened table) }
+        requires walking { IsWalking self.old loan.old going.under.start [] (opened table) }
         requires root { going.under.frames ≡ [] }
         requires plain { is_plain self.old.schema.now table.object ≡ true }
-        ensures { RootTurned self.old self.new meter.old meter.new going.under.start result }
+        ensures { RootTurned self.old self.new loan.old loan.new going.under.start result }
     {
         let _schema = self.schema;
         let steps = self.schema.steps_of(table.object);
-        let most = meter.reads() + u128::from(6 * steps.len() as u64);
+        let most = loan.reads() + u128::from(6 * steps.len() as u64);
         if !self.checks.are_published() || !self.limits.allows_short(most) {
             return Turn::Slowly;
         }
         let mut next = 0;
         let mut at = 0;
-        let mut reads = meter.lend();
+        let mut reads = loan.lend();
         let failed = pass_steps(
             &mut reads,
             PUBLISHED,
@@ -619,7 +613,7 @@ impl<'s, 'n> Walk<'s, 'n> {
             &mut next,
             &mut at,
         );
-        meter.settle(reads);
+        loan.settle(reads);
         match failed {
             None => Turn::Up,
             Some(reason) => self.stop_in_field(table.object, next, at, reason, 0),
@@ -630,13 +624,13 @@ impl<'s, 'n> Walk<'s, 'n> {
     #[inline(always)]
     pub fn run(
         &mut self,
-        meter: &mut Tally<'_>,
+        loan: &mut Loan<'_>,
         frames: &mut [Frame],
         site: Site,
         root: Child,
     ) -> Result<(), Halt>
         ghost start: { Origin }
-        requires here { start ≡ record { object = root.object; position = root.at; way = way_at 0 self.old.tables self.old.deepest meter.old.count site } }
+        requires here { start ≡ record { object = root.object; position = root.at; way = way_at 0 self.old.tables self.old.deepest loan.old.count site } }
         requires served { IsServed self.old.schema.now }
         requires table { IsTrue (is_table self.old.schema.now root.object) }
         requires near { root.at < 2 ^ 33 }
@@ -644,31 +638,31 @@ impl<'s, 'n> Walk<'s, 'n> {
         requires room { (self.old.limits).depth ≤ max 64 (length frames.old) }
         requires within { self.old.tables ≤ (self.old.limits).tables }
         requires shallow { self.old.deepest ≤ (self.old.limits).depth }
-        requires reads { AreAllowed (self.old.limits).reads meter.old.count }
-        requires few { meter.old.count < 2 ^ 90 }
-        ensures ok { IfOk result (λ _. TableWalked self.old.checks meter.old.bytes self.old.schema.now start.object start.position start.way (ended start.way self.new.tables self.new.deepest meter.new.count)) }
+        requires reads { AreAllowed (self.old.limits).reads loan.old.count }
+        requires few { loan.old.count < 2 ^ 90 }
+        ensures ok { IfOk result (λ _. TableWalked self.old.checks loan.old.bytes self.old.schema.now start.object start.position start.way (ended start.way self.new.tables self.new.deepest loan.new.count)) }
         ensures within { IfOk result (λ _. self.new.tables ≤ (self.old.limits).tables) }
         ensures shallow { IfOk result (λ _. self.new.deepest ≤ (self.old.limits).depth) }
-        ensures reads { IfOk result (λ _. AreAllowed (self.old.limits).reads meter.new.count) }
+        ensures reads { IfOk result (λ _. AreAllowed (self.old.limits).reads loan.new.count) }
         ensures deep { IfErr result (λ h. h.links + links_left h.last ≤ (self.old.limits).depth) }
-        ensures err { IfErr result (λ h. (way : List Frame) × HaltsIn self.old meter.old start way h meter.new.count) }
-        ensures along { IfErr result (λ h. (self.old.limits).depth ≤ length frames.new → HaltsIn self.old meter.old start (take h.links frames.new) h meter.new.count) }
-        ensures bytes { meter.new.bytes ≡ meter.old.bytes }
+        ensures err { IfErr result (λ h. (way : List Frame) × HaltsIn self.old loan.old start way h loan.new.count) }
+        ensures along { IfErr result (λ h. (self.old.limits).depth ≤ length frames.new → HaltsIn self.old loan.old start (take h.links frames.new) h loan.new.count) }
+        ensures bytes { loan.new.bytes ≡ loan.old.bytes }
     {
-        let table = match self.open_table(meter, 0, site, root) {
+        let table = match self.open_table(loan, 0, site, root) {
             Ok(table) => table,
             Err(stop) => return Err(stop.halt(0, LastLink::Behind)),
         };
         if self.schema.is_plain(root.object) {
-            match self.pass_root(meter, table) {
+            match self.pass_root(loan, table) {
                 Turn::Up => return Ok(()),
                 Turn::Halt => return Err(self.halt),
                 _ => {}
             }
         }
         frames[0] = Frame::opened(table);
-        match self.go_on(meter, frames, 0)? {
-            Some(waiting) => self.go_deeper(meter, frames, waiting),
+        match self.go_on(loan, frames, 0)? {
+            Some(waiting) => self.go_deeper(loan, frames, waiting),
             None => Ok(()),
         }
     }

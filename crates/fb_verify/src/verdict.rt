@@ -12,14 +12,14 @@ ghost use Rattle.fb_verify.specs.Verdict.{Reports, HasNone};
 
 use crate::begin::read_start;
 use crate::checks::Checks;
-use crate::element::Child;
 use crate::fault::{Fault, Report};
 use crate::limits::Limits;
 use crate::scratch::{Frame, Scratch};
 use crate::site::{Halt, LastLink, NO_HALT, Site};
 use crate::stack::Walk;
 use crate::start::{Ident, Start};
-use fb_bytes::{Meter, Tally};
+use crate::table::Child;
+use fb_bytes::{Loan, Meter};
 use fb_schema::Schema;
 use std::alloc::Allocator;
 
@@ -60,9 +60,9 @@ pub fn walk<A: Allocator>(
     ensures settled { meter.new.count < while_lent }
     ensures scratch { scratch.new ≡ scratch.old }
 {
-    let mut tally = meter.lend();
+    let mut loan = meter.lend();
     let answer = trace(
-        &mut tally,
+        &mut loan,
         schema,
         root,
         start,
@@ -71,19 +71,19 @@ pub fn walk<A: Allocator>(
         checks,
         &mut scratch.frames,
     );
-    meter.settle(tally);
+    meter.settle(loan);
     match answer {
         Ok(report) => Ok(report),
         Err(halt) => Err(halt.stop.fault(meter)),
     }
 }
 
-/// The same over these frames, and where it needs more than these over 64 of its own, by a tally, which can only read
+/// The same over these frames, and where it needs more than these over 64 of its own, by a loan, which can only read
 /// and count: from here on nothing seals the bytes. Where there is a fault, and these were enough for the depth limit,
 /// those are left whose links lead to it.
 #[inline(always)]
 pub(crate) fn trace(
-    meter: &mut Tally<'_>,
+    loan: &mut Loan<'_>,
     schema: &Schema<'_>,
     root: u32,
     start: Start,
@@ -92,25 +92,25 @@ pub(crate) fn trace(
     checks: Checks,
     frames: &mut [Frame],
 ) -> Result<Report, Halt>
-    requires fresh { meter.old.count ≡ 0 }
+    requires fresh { loan.old.count ≡ 0 }
     requires table { IsTrue (is_table schema.now root) }
     requires some { min limits.depth 1 ≤ length frames.old }
     requires room { limits.depth ≤ max 64 (length frames.old) }
-    ensures yes { IfOk result (λ r. Reports (question schema.now root start ident limits checks) meter.old.bytes r) }
-    ensures none { IfErr result (λ _. HasNone (question schema.now root start ident limits checks) meter.old.bytes) }
+    ensures yes { IfOk result (λ r. Reports (question schema.now root start ident limits checks) loan.old.bytes r) }
+    ensures none { IfErr result (λ _. HasNone (question schema.now root start ident limits checks) loan.old.bytes) }
     ensures deep { IfErr result (λ h. h.links + links_left h.last ≤ limits.depth) }
-    ensures no { IfErr result (λ h. Stops (question schema.now root start ident limits checks) meter.old.bytes (stopped h.stop meter.new.count)) }
-    ensures along { IfErr result (λ h. limits.depth ≤ length frames.new → HaltsAlong (question schema.now root start ident limits checks) meter.old.bytes (take h.links frames.new) h.last (stopped h.stop meter.new.count)) }
-    ensures price { meter.new.count ≤ most_reads schema.now limits (length meter.old.bytes) }
-    ensures read { IfOk result (λ r. meter.new.count ≡ r.reads) }
-    ensures bytes { meter.new.bytes ≡ meter.old.bytes }
+    ensures no { IfErr result (λ h. Stops (question schema.now root start ident limits checks) loan.old.bytes (stopped h.stop loan.new.count)) }
+    ensures along { IfErr result (λ h. limits.depth ≤ length frames.new → HaltsAlong (question schema.now root start ident limits checks) loan.old.bytes (take h.links frames.new) h.last (stopped h.stop loan.new.count)) }
+    ensures price { loan.new.count ≤ most_reads schema.now limits (length loan.old.bytes) }
+    ensures read { IfOk result (λ r. loan.new.count ≡ r.reads) }
+    ensures bytes { loan.new.bytes ≡ loan.old.bytes }
 {
     schema.lawful();
     let site = Site {
         object: root,
         field: None,
     };
-    let at = match read_start(meter, limits, checks, site, start, ident) {
+    let at = match read_start(loan, limits, checks, site, start, ident) {
         Ok(at) => at,
         Err(stop) => return Err(stop.halt(0, LastLink::Behind)),
     };
@@ -123,10 +123,10 @@ pub(crate) fn trace(
         halt: NO_HALT,
     };
     let root = Child { object: root, at };
-    walk.run(meter, frames, site, root)?;
+    walk.run(loan, frames, site, root)?;
     Ok(Report {
         tables: walk.tables,
         depth: walk.deepest,
-        reads: meter.reads(),
+        reads: loan.reads(),
     })
 }

@@ -1,6 +1,6 @@
 // A buffer that was verified, with its schema.
 
-ghost use Rattle.std.specs.Prelude.{◌≡◌, ◌+◌, ◌*◌, ◌^◌, ◌<◌, ◌≤◌, length, take, IfOk, IfErr, IsTrue};
+ghost use Rattle.std.specs.Prelude.{◌≡◌, ◌<◌, ◌≤◌, length, take, IfOk, IfErr, IsTrue};
 ghost use Rattle.fb_schema.specs.Rows.{is_table};
 ghost use Rattle.fb_verify.specs.Links.{StopsAlong};
 ghost use Rattle.fb_verify.specs.MostReads.{most_reads};
@@ -276,11 +276,11 @@ fn locate_in<'b, 's, 'n>(
     ensures room { length links.new ≡ length links.old }
 {
     let mut meter = meter;
-    let mut tally = meter.lend();
+    let mut loan = meter.lend();
     let answer = trace(
-        &mut tally, schema, root, start, ident, limits, checks, frames,
+        &mut loan, schema, root, start, ident, limits, checks, frames,
     );
-    meter.settle(tally);
+    meter.settle(loan);
     match answer {
         Ok(report) => Ok(Verified {
             window: meter.seal(),

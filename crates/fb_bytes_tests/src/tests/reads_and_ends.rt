@@ -1,6 +1,6 @@
 //! What no contract says: that calls succeed, on bytes and answers known from outside.
 
-use fb_bytes::{Counted, Meter, Sink, Source, Tally, Window};
+use fb_bytes::{Counted, Loan, Meter, Sink, Source, Window};
 use std::fmt::Debug;
 use std::io;
 use std::io::{ErrorKind, Read, Write};
@@ -19,7 +19,7 @@ static NUMBERS: [u8; 8] = [0x01, 0x02, 0x03, 0x84, 0xff, 0xff, 0xff, 0xff];
 /// What is read of them: the byte at 3, two from 1 on, and four from 0 on, also in two's complement.
 const OF_EACH_WIDTH: (u8, u16, u32, i32) = (0x84, 0x0302, 0x8403_0201, -2_080_177_663);
 
-/// The same by a meter, a tally or reads that were lent, which count four for it.
+/// The same by a meter, or by reads that were lent, which count four for it.
 macro_rules! of_each_width {
     ($reader:expr) => {
         (
@@ -128,48 +128,29 @@ fn a_range_fits_or_not_whatever_its_sum(rt: HostRuntime) -> Result<(), Fail> {
 }
 
 #[test]
-fn a_tally_reads_and_counts_on(rt: HostRuntime) -> Result<(), Fail> {
-    let mut meter = Meter::new(&NUMBERS)?;
-    same(&rt, meter.u8_at(0), 0x01);
-    let mut tally: Tally = meter.lend();
-    same(
-        &rt,
-        (
-            tally.len(),
-            tally.fits(4, 4),
-            tally.fits(5, 4),
-            tally.reads(),
-        ),
-        (8, true, false, 1),
-    );
-    same(&rt, of_each_width!(tally), OF_EACH_WIDTH);
-    // What was read is told once it is settled.
-    same(&rt, (tally.reads(), meter.reads()), (5, u128::MAX));
-    meter.settle(tally);
-    same(&rt, (meter.len(), meter.reads()), (8, 5));
-    same(&rt, meter.i32_at(4), -1);
-    same(&rt, meter.reads(), 6);
-    Ok(())
-}
-
-#[test]
 fn what_is_lent_is_read_and_settled(rt: HostRuntime) -> Result<(), Fail> {
     let mut meter = Meter::new(&NUMBERS)?;
-    let mut tally = meter.lend();
-    same(&rt, tally.u8_at(0), 0x01);
-    let mut reads = tally.lend();
-    // Of what is lent out nothing is left to read.
-    same(&rt, (tally.len(), tally.fits(0, 1)), (0, false));
+    same(&rt, meter.u8_at(0), 0x01);
+    let mut loan: Loan = meter.lend();
+    let mut reads = loan.lend();
+    // Of what is lent out nothing is left to read, and what was read is told once it is settled.
+    same(&rt, loan.lend().len(), 0);
     same(
         &rt,
         (reads.len(), reads.fits(4, 4), reads.fits(5, 4)),
         (8, true, false),
     );
     same(&rt, of_each_width!(reads), OF_EACH_WIDTH);
-    tally.settle(reads);
-    same(&rt, (tally.len(), tally.reads()), (8, 5));
-    same(&rt, tally.i32_at(4), -1);
-    same(&rt, tally.reads(), 6);
+    let mut on = reads.lend();
+    same(&rt, (reads.len(), on.u8_at(1)), (0, 0x02));
+    reads.settle(on);
+    same(&rt, (reads.len(), reads.count()), (8, 6));
+    loan.settle(reads);
+    same(&rt, (loan.reads(), meter.reads()), (6, u128::MAX));
+    meter.settle(loan);
+    same(&rt, (meter.len(), meter.reads()), (8, 6));
+    same(&rt, meter.i32_at(4), -1);
+    same(&rt, meter.reads(), 7);
     Ok(())
 }
 
@@ -177,13 +158,15 @@ fn what_is_lent_is_read_and_settled(rt: HostRuntime) -> Result<(), Fail> {
 fn reads_are_counted_whoever_takes_them_back(rt: HostRuntime) -> Result<(), Fail> {
     let mut meter = Meter::new(&ORC)?;
     let mut other = Meter::new(&[])?;
-    let mut tally = meter.lend();
-    same(&rt, tally.u8_at(28), b'O');
+    let mut loan = meter.lend();
+    let mut reads = loan.lend();
+    same(&rt, reads.u8_at(28), b'O');
     let mut passer = other.lend();
-    passer.settle(tally.lend());
-    same(&rt, passer.u8_at(28), b'O');
-    tally.settle(passer.lend());
-    same(&rt, tally.reads(), 2);
+    passer.settle(reads);
+    let mut again = passer.lend();
+    same(&rt, again.u8_at(28), b'O');
+    loan.settle(again);
+    same(&rt, (loan.reads(), passer.reads()), (2, 1));
     Ok(())
 }
 

@@ -7,7 +7,7 @@ use Rattle.fb_verify.specs.Order.{head_failure}
 use Rattle.fb_verify.specs.PassesOn.{fields_left}
 use Rattle.fb_verify.specs.Plain.{tested_by}
 use Rattle.fb_verify.specs.Stack.{opened}
-use Rattle.fb_verify.specs.declared.field.Table.{Table}
+use Rattle.fb_verify.specs.declared.table.Table.{Table}
 use Rattle.fb_verify.proofs.Budgets.{fewer_reads}
 use Rattle.fb_verify.proofs.Chains.{after_none}
 use Rattle.fb_verify.proofs.Flats.{flat_passed}

@@ -19,16 +19,16 @@ none c =
 pub returns-in-Nothing-clause-tested : goal.returns-in-Nothing-clause-tested
 returns-in-Nothing-clause-tested c =
     let counted = c.type_of-value.ensures.counted in
-    record { told = rw (none c) refl; counted = λ _. ap (λ m. m.count) counted; bytes = ap (λ m. m.bytes) counted }
+    record { told = rw (none c) refl; counted = λ _. ap (λ m. m.count) counted; bytes = ap (λ m. m.bytes) counted; base = ap (λ m. m.base) counted }
 
 pub returns-in-Nothing-clause-leads : goal.returns-in-Nothing-clause-leads
 returns-in-Nothing-clause-leads c =
     let rests = c.requires.rests in
     λ _. record { none = λ _. (rw (none c) refl, refl); entries = rw rests (λ e. absurd cc); row = rw rests (λ e. absurd cc) }
 
-pub returns-then-is_none : goal.returns-then-is_none
+pub returns : goal.returns
 unfolding row
-returns-then-is_none c =
+returns c =
     let value = c.type_of-value.ensures.value in
     let e = c.referent_at-referent.ensures in
     let counted = c.type_of-value.ensures.counted in
@@ -37,9 +37,10 @@ returns-then-is_none c =
     let failure = table_failure c.args.checks c.args.reads.now.bytes c.args.table.at c.args.at 4 in
     record {
       tested = record {
-        told = rw (sym value, some.1, counted) (rw counted at c.test_end-end.ensures.told ∙ sym (after_twice c.args.reads.now.count (1 + reads_if_present 1 (type_place c.args.reads.now.bytes c.args.table.at c.args.slot)) failure));
+        told = rw (sym value, some.1, counted) (rw counted at c.put_word.ensures.told ∙ sym (after_twice c.args.reads.now.count (1 + reads_if_present 1 (type_place c.args.reads.now.bytes c.args.table.at c.args.slot)) failure));
         counted = λ _. ap (λ m. m.count) counted;
         bytes = ap (λ m. m.bytes) counted;
+        base = ap (λ m. m.base) counted;
       };
-      leads = λ _. rw (sym value, some.1, c.one.ensures) (record { none = λ x. absurd cc; entries = λ _. ap (λ l. entry l c.args.at 0 ∷ []) (sym lead); row = λ _. (record { place = omega (arith, c.requires.placed.place); left = omega arith; leads = λ _. e.referent }, omega arith) });
+      leads = λ ok. rw (sym value, some.1, c.put_word.ensures.row ok) (record { none = λ x. absurd cc; entries = λ _. ap (λ l. entry l c.args.at 0 ∷ []) (sym lead); row = λ _. (record { place = omega (arith, c.requires.placed.place); left = omega arith; leads = λ _. e.referent }, omega arith) });
     }

@@ -13,43 +13,43 @@ use Rattle.fb_verify.proofs.verdict.trace.Goals.{In-Err, In_err-run, After-reads
 
 -- where the start fails, no frame leads there
 fails_at_start : (c : In-Err) → let a = c.args in
-    HaltsAlong (question a.schema.now a.root a.start a.ident a.limits a.checks) a.meter.now.bytes [] Behind (stopped c.in-Err.stop c.read_start.new.meter.count)
+    HaltsAlong (question a.schema.now a.root a.start a.ident a.limits a.checks) a.loan.now.bytes [] Behind (stopped c.in-Err.stop c.read_start.new.loan.count)
 fails_at_start c =
     let a = c.args in
     record {
-      along = stops_at_start (question a.schema.now a.root a.start a.ident a.limits a.checks) a.meter.now.bytes _ (rw c.requires.fresh at c.in-Err.ensures.err);
-      linked = All-nil (IsLinked a.checks a.meter.now.bytes a.schema.now);
+      along = stops_at_start (question a.schema.now a.root a.start a.ident a.limits a.checks) a.loan.now.bytes _ (rw c.requires.fresh at c.in-Err.ensures.asked.err);
+      linked = All-nil (IsLinked a.checks a.loan.now.bytes a.schema.now);
     }
 
 -- where the walk fails, and frames lead there from its root table
 halts : (c : In_err-run) (way : List Frame) → let a = c.args in
     let halt = c.in_err-run.field-0.0 in
-    let fault = stopped halt.stop c.run.new.meter.count in
-    let root : Origin = record { object = a.root; position = c.in-Ok.at; way = way_at 0 0 0 c.read_start.new.meter.count (record { object = a.root; field = None }) } in
-    StopsIn a.checks a.meter.now.bytes a.schema.now a.limits root way (last_link halt.last fault) fault
-    → HaltsAlong (question a.schema.now a.root a.start a.ident a.limits a.checks) a.meter.now.bytes way halt.last fault
+    let fault = stopped halt.stop c.run.new.loan.count in
+    let root : Origin = record { object = a.root; position = c.in-Ok.at; way = way_at 0 0 0 c.read_start.new.loan.count (record { object = a.root; field = None }) } in
+    StopsIn a.checks a.loan.now.bytes a.schema.now a.limits root way (last_link halt.last fault) fault
+    → HaltsAlong (question a.schema.now a.root a.start a.ident a.limits a.checks) a.loan.now.bytes way halt.last fault
 halts c way h =
     let a = c.args in
     record {
-      along = stops_below_start (question a.schema.now a.root a.start a.ident a.limits a.checks) a.meter.now.bytes c.in-Ok.at c.read_start.new.meter.count _ _
-          c.in-Ok.ensures.ok c.in-Ok.ensures.value (omega (arith, c.requires.fresh, ap (λ m. m.count) c.in-Ok.ensures.counted)) h.along;
+      along = stops_below_start (question a.schema.now a.root a.start a.ident a.limits a.checks) a.loan.now.bytes c.in-Ok.at c.read_start.new.loan.count _ _
+          c.in-Ok.ensures.asked.ok c.in-Ok.ensures.value (omega (arith, c.requires.fresh, ap (λ m. m.count) c.in-Ok.ensures.asked.counted)) h.along;
       linked = h.linked;
     }
 
 -- some frames do
 halts_somehow : (c : In_err-run) → let a = c.args in
     let halt = c.in_err-run.field-0.0 in
-    (way : List Frame) × HaltsAlong (question a.schema.now a.root a.start a.ident a.limits a.checks) a.meter.now.bytes way halt.last (stopped halt.stop c.run.new.meter.count)
-halts_somehow c = let e = c.in_err-run.ensures.err in (e.0, halts c e.0 (rw (ap (λ m. m.bytes) c.in-Ok.ensures.counted) at e.1))
+    (way : List Frame) × HaltsAlong (question a.schema.now a.root a.start a.ident a.limits a.checks) a.loan.now.bytes way halt.last (stopped halt.stop c.run.new.loan.count)
+halts_somehow c = let e = c.in_err-run.ensures.err in (e.0, halts c e.0 (rw (ap (λ m. m.bytes) c.in-Ok.ensures.asked.counted) at e.1))
 
 -- else the report tells what it came to
 tells : (c : After-reads) → let a = c.args in
-    Reports (question a.schema.now a.root a.start a.ident a.limits a.checks) a.meter.now.bytes (record { tables = c.run.new.self.tables; depth = c.run.new.self.deepest; reads = c.reads.result })
+    Reports (question a.schema.now a.root a.start a.ident a.limits a.checks) a.loan.now.bytes (record { tables = c.run.new.self.tables; depth = c.run.new.self.deepest; reads = c.reads.result })
 tells c =
     let a = c.args in
     let ran = c.in_ok-run.ensures in
-    reports (question a.schema.now a.root a.start a.ident a.limits a.checks) a.meter.now.bytes c.in-Ok.at c.read_start.new.meter.count c.run.new.self.tables c.run.new.self.deepest c.run.new.meter.count
-    c.reads.result c.in-Ok.ensures.ok c.in-Ok.ensures.value (omega (arith, c.requires.fresh, ap (λ m. m.count) c.in-Ok.ensures.counted)) (rw (ap (λ m. m.bytes) c.in-Ok.ensures.counted) at ran.ok) ran.within ran.shallow ran.reads c.reads.ensures.count
+    reports (question a.schema.now a.root a.start a.ident a.limits a.checks) a.loan.now.bytes c.in-Ok.at c.read_start.new.loan.count c.run.new.self.tables c.run.new.self.deepest c.run.new.loan.count
+    c.reads.result c.in-Ok.ensures.asked.ok c.in-Ok.ensures.value (omega (arith, c.requires.fresh, ap (λ m. m.count) c.in-Ok.ensures.asked.counted)) (rw (ap (λ m. m.bytes) c.in-Ok.ensures.asked.counted) at ran.ok) ran.within ran.shallow ran.reads c.reads.ensures.count
 
 pub returns-in-Err-clause-along : goal.returns-in-Err-clause-along
 returns-in-Err-clause-along c _ = rw c.halt.ensures (fails_at_start (goal.at.returns-in-Err-clause-along c).In-Err)
@@ -66,7 +66,7 @@ returns-in-Err-clause-price c = price_of_no (fails_at_start (goal.at.returns-in-
 pub returns-in_err-run-clause-along : goal.returns-in_err-run-clause-along
 returns-in_err-run-clause-along c =
     let d = (goal.at.returns-in_err-run-clause-along c).In_err-run in
-    if_err_exit _ _ _ c.from_residual.ensures.1 (λ enough. halts d _ (rw (ap (λ m. m.bytes) d.in-Ok.ensures.counted) at (d.in_err-run.ensures.along enough)))
+    if_err_exit _ _ _ c.from_residual.ensures.1 (λ enough. halts d _ (rw (ap (λ m. m.bytes) d.in-Ok.ensures.asked.counted) at (d.in_err-run.ensures.along enough)))
 
 pub returns-in_err-run-clause-no : goal.returns-in_err-run-clause-no
 returns-in_err-run-clause-no c = if_err_exit _ _ _ c.from_residual.ensures.1 (fault_along ((halts_somehow (goal.at.returns-in_err-run-clause-no c).In_err-run).1))

@@ -13,10 +13,10 @@ ghost-walk_on g a = g.start
 abbrev pub invariant-loop-waiting : goal.invariant-loop-waiting
 invariant-loop-waiting g l = record {
   same : l.self ≡ record l.fn.self { tables = l.self.tables; deepest = l.self.deepest };
-  bytes : l.meter.bytes ≡ l.fn.meter.bytes;
+  bytes : l.loan.bytes ≡ l.fn.loan.bytes;
   top : l.waiting < length l.frames;
-  walking : IsWalking l.self l.meter g.start (take l.waiting l.frames) (slice_index_or l.frames l.waiting blank);
-  budget : l.meter.count + work l.fn.self.schema.now l.fn.self.limits (take l.waiting l.frames) (slice_index_or l.frames l.waiting blank) l.self.tables ≤ 2 ^ 94;
+  walking : IsWalking l.self l.loan g.start (take l.waiting l.frames) (slice_index_or l.frames l.waiting blank);
+  budget : l.loan.count + work l.fn.self.schema.now l.fn.self.limits (take l.waiting l.frames) (slice_index_or l.frames l.waiting blank) l.self.tables ≤ 2 ^ 94;
 }
 
 abbrev pub decreases-loop-waiting : goal.decreases-loop-waiting

@@ -7,7 +7,7 @@ use Rattle.fb_verify.proofs.stack.Walk.next_child.Goals as goal
 pub returns-in-Err-clause-err : goal.returns-in-Err-clause-err
 returns-in-Err-clause-err g c =
     let w = c.args.self.now in
-    let m = c.args.meter.now in
+    let m = c.args.loan.now in
     let h = c.requires.0 in
     word_stops w.checks m.bytes w.schema.now w.limits (g.under).start (g.under).frames c.args.top.now w.tables w.deepest m.count h _ c.advance.new.self c.advance.ensures c.requires.1.0 (rw c.site-site.ensures at c.in-Err.ensures.err)
 
@@ -17,7 +17,7 @@ returns-in-Some-clause-table g c =
     let child = rw c.in-Some.is at e.child in
     rw e.bytes
     (record {
-      before = c.args.meter.now.count;
+      before = c.args.loan.now.count;
       count = ap (λ x. x.count) e.counted;
       walking = c.requires.0;
       more = c.requires.1.0;
@@ -32,12 +32,12 @@ returns-in-Some-clause-table g c =
 pub advance-requires-clause-types : goal.advance-requires-clause-types
 advance-requires-clause-types g c =
     let w = c.args.self.now in
-    row_types_near w.checks c.args.meter.now.bytes w.schema.now c.args.top.now.row c.requires.1.0 ((c.requires.0).frame).row
+    row_types_near w.checks c.args.loan.now.bytes w.schema.now c.args.top.now.row c.requires.1.0 ((c.requires.0).frame).row
 
 pub returns-clause-walking : goal.returns-clause-walking
 returns-clause-walking g c _ =
     let w = c.args.self.now in
-    let m = c.args.meter.now in
+    let m = c.args.loan.now in
     let e = c.in-Ok.ensures in
     let leaf = rw c.in_default.is at e.child in
     rw e.bytes

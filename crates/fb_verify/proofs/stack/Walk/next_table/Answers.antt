@@ -49,7 +49,7 @@ returns g c =
     let yes = c.if-not-may_open.false in
     record {
       same = refl;
-      down = rw e.bytes (at_child w b q (g.under).start (g.under).frames top _ _ at (c.args.waiting + 1) (omega (arith, c.requires.0)) row c.advance.ensures (may.fewer yes) (may.deep yes) (omega (arith, may.low yes))
+      down = rw e.bytes (at_child w b q new.reads.base (g.under).start (g.under).frames top _ _ at (c.args.waiting + 1) (omega (arith, c.requires.0)) row c.advance.ensures (may.fewer yes) (may.deep yes) (omega (arith, may.low yes))
           (fewer_reads (w.limits).reads (q + head_reads w.checks) (r + 8) (omega (arith, paid, head_few w.checks)) (may.room yes)) _ (rw deepest refl));
       deep = omega (arith, may.deep yes, c.requires.0);
       falls = down_falls w b q r (g.under).start (g.under).frames top top _ refl (omega arith) at row c.advance.ensures (may.fewer yes);

@@ -9,7 +9,7 @@ of_three (Err e) P Q R X f p q r = tt
 
 pub returns-clause-ends : goal.returns-clause-ends
 returns-clause-ends g c =
-    let m = c.pass_each.new.meter in
+    let m = c.pass_each.new.loan in
     let w = c.args.self.now in
     let e = c.pass_each.ensures in
     of_three c.pass_each.result _ _ _ _ (λ more walking rests all ended rest above.

@@ -9,12 +9,12 @@ ghost-pass_below g a = record { start = (g.under).start; frames = (g.under).fram
 -- the walk goes on in the same field; what was passed left less work
 abbrev pub invariant-loop-top : goal.invariant-loop-top
 invariant-loop-top g l = record {
-  bytes : l.meter.bytes ≡ l.fn.meter.bytes;
+  bytes : l.loan.bytes ≡ l.fn.loan.bytes;
   same : l.self ≡ record l.fn.self { tables = l.self.tables; deepest = l.self.deepest };
-  walking : IsWalking l.self l.meter (g.under).start (g.under).frames l.top;
-  budget : l.meter.count + work l.fn.self.schema.now l.fn.self.limits (g.under).frames l.top l.self.tables ≤ l.fn.meter.count + work l.fn.self.schema.now l.fn.self.limits (g.under).frames l.fn.top l.fn.self.tables;
-  began : (l.top.row).left ≡ 0 → l.meter.count + work l.fn.self.schema.now l.fn.self.limits (g.under).frames l.top l.self.tables < l.fn.meter.count + work l.fn.self.schema.now l.fn.self.limits (g.under).frames l.fn.top l.fn.self.tables;
-  grows : l.fn.meter.count ≤ l.meter.count;
+  walking : IsWalking l.self l.loan (g.under).start (g.under).frames l.top;
+  budget : l.loan.count + work l.fn.self.schema.now l.fn.self.limits (g.under).frames l.top l.self.tables ≤ l.fn.loan.count + work l.fn.self.schema.now l.fn.self.limits (g.under).frames l.fn.top l.fn.self.tables;
+  began : (l.top.row).left ≡ 0 → l.loan.count + work l.fn.self.schema.now l.fn.self.limits (g.under).frames l.top l.self.tables < l.fn.loan.count + work l.fn.self.schema.now l.fn.self.limits (g.under).frames l.fn.top l.fn.self.tables;
+  grows : l.fn.loan.count ≤ l.loan.count;
   room : length l.room ≡ length l.fn.room;
 }
 

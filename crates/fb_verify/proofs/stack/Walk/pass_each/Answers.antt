@@ -15,7 +15,7 @@ below : (a b : ℕ) → nat_lt a b ≡ true → a < b
 below a b e = grind (arith, nat_tests)
 
 -- the field that comes
-here : (g : _) (c : In-Some g) → AtNext c.args.self.now c.loop-field.meter g.under c.loop-field.top (live_of_view c.in-Some.field.now)
+here : (g : _) (c : In-Some g) → AtNext c.args.self.now c.loop-field.loan g.under c.loop-field.top (live_of_view c.in-Some.field.now)
 here g c =
     let i = c.loop-field.invariant in
     record {
@@ -32,11 +32,11 @@ returns-in_err-pass_field g c =
     let h = here g (goal.at.returns-in_err-pass_field g c).In-Some in
     let i = c.loop-field.invariant in
     let e = c.in_err-pass_field.ensures.asked in
-    err_exit c.from_residual.result _ (λ r. PassesFields c.args.self.now c.args.meter.now c.pass_field.new.meter g.under c.args.top.now (record c.loop-field.top { next = c.loop-field.top.next + 1; row = c.pass_field.new.row }) r) c.from_residual.ensures.1
+    err_exit c.from_residual.result _ (λ r. PassesFields c.args.self.now c.args.loan.now c.pass_field.new.loan g.under c.args.top.now (record c.loop-field.top { next = c.loop-field.top.next + 1; row = c.pass_field.new.row }) r) c.from_residual.ensures.1
     (record { walking = tt; leads = tt; rests = tt; all = tt; falls = tt; grows = tt; bytes = e.bytes ∙ i.bytes; err = rw i.bytes at (next_stops h _ e.err) })
 
 -- its step
-stepped : (g : _) (c : In-Some g) → AtStep c.args.self.now c.loop-field.meter g.under c.loop-field.top (map step_of (live_fields c.args.self.now.schema.now (c.loop-field.top.table).object)) (step_of (live_of_view c.in-Some.field.now))
+stepped : (g : _) (c : In-Some g) → AtStep c.args.self.now c.loop-field.loan g.under c.loop-field.top (map step_of (live_fields c.args.self.now.schema.now (c.loop-field.top.table).object)) (step_of (live_of_view c.in-Some.field.now))
 stepped g c =
     let h = here g c in
     record { walking = h.walking; rests = h.rests; all = refl; got = slice_get-map step_of (live_fields c.args.self.now.schema.now (c.loop-field.top.table).object) c.loop-field.top.next ∙ ap (option_map step_of) h.here }
@@ -50,7 +50,7 @@ returns-in_default-next_required g c =
     let fields = c.fields_of-fields.result.now in
     let all = rw (sym i.table) at (ap length c.fields_of-fields.ensures.value) in
     let all_fields : length fields ≡ length (live_fields c.args.self.now.schema.now (top.table).object) = omega (arith, length_map live_of_view fields, all) in
-    let past : vtable_size c.loop-field.meter.bytes (top.table).at < (c.in-Some.field.now).slot + 2 = omega (arith, below _ _ (sym c.ends_before.ensures ∙ c.if-ends_before.true), ((((h.walking).frame).head).vtable).size) in
+    let past : vtable_size c.loop-field.loan.bytes (top.table).at < (c.in-Some.field.now).slot + 2 = omega (arith, below _ _ (sym c.ends_before.ensures ∙ c.if-ends_before.true), ((((h.walking).frame).head).vtable).size) in
     let next = ((h.walking).frame).next in
     record {
       walking = rw (all_fields ∙ sym (long s)) (rest_absent s past (sym c.next_required.ensures ∙ c.in_default-next_required.is));
@@ -69,7 +69,7 @@ returns-then-ends_before g c =
     let s = stepped g (goal.at.returns-then-ends_before g c).In-Some in
     let i = c.loop-field.invariant in
     let e = c.stop_at.ensures in
-    let past : vtable_size c.loop-field.meter.bytes (c.loop-field.top.table).at < (c.in-Some.field.now).slot + 2 = omega (arith, below _ _ (sym c.ends_before.ensures ∙ c.if-ends_before.true), ((((h.walking).frame).head).vtable).size) in
+    let past : vtable_size c.loop-field.loan.bytes (c.loop-field.top.table).at < (c.in-Some.field.now).slot + 2 = omega (arith, below _ _ (sym c.ends_before.ensures ∙ c.if-ends_before.true), ((((h.walking).frame).head).vtable).size) in
     let some = sym c.next_required.ensures ∙ c.in-Some-next_required.is in
     record {
       walking = tt;

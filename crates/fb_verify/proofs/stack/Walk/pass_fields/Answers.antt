@@ -5,7 +5,7 @@ use Rattle.fb_verify.specs.declared.stack.Walk.{Walk}
 use Rattle.fb_verify.specs.Stack.{work, IsAtField}
 use Rattle.fb_verify.proofs.Budgets.{fewer_reads}
 use Rattle.fb_verify.proofs.Frames.{field_at, length_map}
-use Rattle.fb_verify.specs.declared.field.Table.{Table}
+use Rattle.fb_verify.specs.declared.table.Table.{Table}
 use Rattle.fb_verify.proofs.Turning.{halts_on, field_turned, field_over}
 use Rattle.fb_verify.proofs.Turns.{halts_in_field}
 use Rattle.fb_verify.proofs.stack.Walk.pass_fields.Goals as goal

@@ -1,7 +1,7 @@
 use Rattle.std.proofs.Common.{◌≡◌, ℕ, ◌≤◌, ◌+◌, ◌*◌, max, length, refl, sym, ◌∙◌, ap, arith}
 use Rattle.fb_schema.specs.Live.{live_fields}
 use Rattle.fb_schema.specs.Steps.{step_of}
-use Rattle.fb_verify.specs.declared.element.Child.{Child}
+use Rattle.fb_verify.specs.declared.table.Child.{Child}
 use Rattle.fb_verify.specs.declared.offset_row.Row.{Row}
 use Rattle.fb_verify.specs.declared.offset_row.Leads.TheVariants.{All}
 use Rattle.fb_verify.specs.declared.offset_row.Referent.TheVariants.{Table as ATable}

@@ -2,7 +2,7 @@ use Rattle.std.proofs.Common.{◌≡◌, ◌<◌, [], length, refl, sym, ◌∙�
 use Rattle.std.proofs.Math.ListN.{length-set}
 use Rattle.std.proofs.lemmas.List.{get_or-set_same}
 use Rattle.std.proofs.lemmas.List.Elements.{All-nil}
-use Rattle.fb_verify.specs.declared.field.Table.{Table}
+use Rattle.fb_verify.specs.declared.table.Table.{Table}
 use Rattle.fb_verify.specs.Told.{stopped, way_at}
 use Rattle.fb_verify.specs.Stack.{blank, opened, IsFrame, IsLinked, IsUnderWay, Origin, StopsIn, work}
 use Rattle.fb_verify.proofs.Frames.{head_few, frame_opened, work_opened}
@@ -12,14 +12,14 @@ use Rattle.fb_verify.proofs.stack.Walk.run.Goals.{In-Err, In-Ok, Joined-is_plain
 use Rattle.fb_verify.proofs.stack.Walk.run.Goals as goal
 
 -- where the root table can't be opened, no frame leads there
-fails_at_root : (g : _) (c : In-Err g) → StopsIn c.args.self.now.checks c.args.meter.now.bytes c.args.self.now.schema.now c.args.self.now.limits g.start [] [] (stopped c.in-Err.stop c.open_table.new.meter.count)
+fails_at_root : (g : _) (c : In-Err g) → StopsIn c.args.self.now.checks c.args.loan.now.bytes c.args.self.now.schema.now c.args.self.now.limits g.start [] [] (stopped c.in-Err.stop c.open_table.new.loan.count)
 fails_at_root g c =
     let ch = c.args.self.now.checks in
-    let b = c.args.meter.now.bytes in
+    let b = c.args.loan.now.bytes in
     let S = c.args.self.now.schema.now in
-    let s : Origin = record { object = c.args.root.object; position = c.args.root.at; way = way_at 0 c.args.self.now.tables c.args.self.now.deepest c.args.meter.now.count c.args.site } in
-    let stops = stop_at_root ch b S c.args.self.now.limits s c.args.root.at c.args.site c.args.self.now.tables c.args.self.now.deepest c.args.meter.now.count _ refl refl c.requires.1.1.1.1.1.1.0 c.requires.1.1.1.1.1.1.1.0 c.requires.1.1.1.1.1.1.1.1.0 c.in-Err.ensures.err in
-    let none : StopsIn ch b S c.args.self.now.limits s [] [] (stopped c.in-Err.stop c.open_table.new.meter.count) = record { along = stops; linked = All-nil (IsLinked ch b S) } in
+    let s : Origin = record { object = c.args.root.object; position = c.args.root.at; way = way_at 0 c.args.self.now.tables c.args.self.now.deepest c.args.loan.now.count c.args.site } in
+    let stops = stop_at_root ch b S c.args.self.now.limits s c.args.root.at c.args.site c.args.self.now.tables c.args.self.now.deepest c.args.loan.now.count _ refl refl c.requires.1.1.1.1.1.1.0 c.requires.1.1.1.1.1.1.1.0 c.requires.1.1.1.1.1.1.1.1.0 c.in-Err.ensures.err in
+    let none : StopsIn ch b S c.args.self.now.limits s [] [] (stopped c.in-Err.stop c.open_table.new.loan.count) = record { along = stops; linked = All-nil (IsLinked ch b S) } in
     rw c.requires.0 none
 
 pub returns-in-Err-clause-err : goal.returns-in-Err-clause-err
@@ -29,22 +29,22 @@ pub returns-in-Err-clause-along : goal.returns-in-Err-clause-along
 returns-in-Err-clause-along g c _ = rw c.halt.ensures (fails_at_root g (goal.at.returns-in-Err-clause-along g c).In-Err)
 
 -- the root table wasn't passed before
-kept : (g : _) (c : Joined-is_plain g) → (c.if-is_plain.self ≡ c.open_table.new.self) × (c.if-is_plain.meter ≡ c.open_table.new.meter)
+kept : (g : _) (c : Joined-is_plain g) → (c.if-is_plain.self ≡ c.open_table.new.self) × (c.if-is_plain.loan ≡ c.open_table.new.loan)
 kept g c = elim c.if-is_plain.branch [
   | then-is_plain+in_default w ↦
-      let k = root_kept c.open_table.new.self w.pass_root.new.self c.open_table.new.meter w.pass_root.new.meter g.start w.pass_root.result w.in_default.not-Up w.in_default.not-Halt w.pass_root.ensures in
-      (rw w.self-is k.0, rw w.meter-is k.1)
-  | else-is_plain w ↦ (rw w.self-is refl, rw w.meter-is refl)
+      let k = root_kept c.open_table.new.self w.pass_root.new.self c.open_table.new.loan w.pass_root.new.loan g.start w.pass_root.result w.in_default.not-Up w.in_default.not-Halt w.pass_root.ensures in
+      (rw w.self-is k.0, rw w.loan-is k.1)
+  | else-is_plain w ↦ (rw w.self-is refl, rw w.loan-is refl)
 ]
 
 -- the root table is opened
-begun : (g : _) (c : In-Ok g) → IsUnderWay c.args.self.now.checks c.args.meter.now.bytes c.args.self.now.schema.now c.args.self.now.limits g.start [] (opened c.in-Ok.table) c.open_table.new.self.tables c.open_table.new.self.deepest c.open_table.new.meter.count
+begun : (g : _) (c : In-Ok g) → IsUnderWay c.args.self.now.checks c.args.loan.now.bytes c.args.self.now.schema.now c.args.self.now.limits g.start [] (opened c.in-Ok.table) c.open_table.new.self.tables c.open_table.new.self.deepest c.open_table.new.loan.count
 begun g c =
-    let b = c.args.meter.now.bytes in
+    let b = c.args.loan.now.bytes in
     let S = c.args.self.now.schema.now in
     let L = c.args.self.now.limits in
     let ch = c.args.self.now.checks in
-    let s : Origin = record { object = c.args.root.object; position = c.args.root.at; way = way_at 0 c.args.self.now.tables c.args.self.now.deepest c.args.meter.now.count c.args.site } in
+    let s : Origin = record { object = c.args.root.object; position = c.args.root.at; way = way_at 0 c.args.self.now.tables c.args.self.now.deepest c.args.loan.now.count c.args.site } in
     let table = c.in-Ok.table in
     let t = c.in-Ok.ensures.table in
     let object = ap (λ (x : Table). x.object) t in
@@ -82,7 +82,7 @@ go_on-requires g c =
     let k = kept g (goal.at.go_on-requires g c).Joined-is_plain in
     let xs = c.args.frames.now in
     let table = c.in-Ok.table in
-    let new = work_opened c.args.self.now.checks c.args.meter.now.bytes c.args.self.now.schema.now table c.requires.1.0 in
+    let new = work_opened c.args.self.now.checks c.args.loan.now.bytes c.args.self.now.schema.now table c.requires.1.0 in
     let some : 0 < length xs = omega (arith, c.in-Ok.ensures.shallow, c.requires.1.1.1.1.0) in
     let top = get_or-set_same xs 0 c.opened.result blank some in
     rw (k.0, k.1, c.in-Ok.ensures.opened, c.in-Ok.ensures.counted, top, c.opened.ensures) (

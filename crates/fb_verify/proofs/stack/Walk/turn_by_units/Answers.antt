@@ -33,7 +33,7 @@ pub returns-then-waiting-eq0-clause-walking : goal.returns-then-waiting-eq0-clau
 returns-then-waiting-eq0-clause-walking g c =
     let h = c.in-Ok.ensures.walking in
     let zero = c.if-waiting-eq0.true in
-    close_last c.args.self.now.checks c.pass_each.new.meter.bytes c.args.self.now.schema.now c.args.self.now.limits (g.under).start (g.under).frames c.pass_each.new.top c.args.self.now.tables c.args.self.now.deepest c.pass_each.new.meter.count h.standing
+    close_last c.args.self.now.checks c.pass_each.new.loan.bytes c.args.self.now.schema.now c.args.self.now.limits (g.under).start (g.under).frames c.pass_each.new.top c.args.self.now.tables c.args.self.now.deepest c.pass_each.new.loan.count h.standing
     (c.requires.0 ∙ rw zero refl) (c.in-Ok.ensures.rests c.if-not-leads.true) (c.in-Ok.ensures.all c.if-not-leads.true)
 
 pub returns-then-not-leads-clause-walking : goal.returns-then-not-leads-clause-walking
@@ -43,7 +43,7 @@ returns-then-not-leads-clause-walking g c =
     let m = c.args.waiting in
     let ys = stack g d in
     let S = c.args.self.now.schema.now in
-    let P = IsFrame c.args.self.now.checks c.pass_each.new.meter.bytes S in
+    let P = IsFrame c.args.self.now.checks c.pass_each.new.loan.bytes S in
     let waits = below g d in
     let all = rw waits at h.frames in
     rw (whole g d)
@@ -56,7 +56,7 @@ returns-then-not-leads-clause-walking g c =
       low = omega (arith, h.low, ap length waits, length-take m ys, length-take (m - 1) ys);
       frames = all_below ys m blank (some g d) (room g d) P all;
       frame = all_last ys m blank (some g d) (room g d) P all;
-      standing = close_more c.args.self.now.checks c.pass_each.new.meter.bytes S c.args.self.now.limits (g.under).start (g.under).frames c.pass_each.new.top c.args.self.now.tables c.args.self.now.deepest c.pass_each.new.meter.count h.standing
+      standing = close_more c.args.self.now.checks c.pass_each.new.loan.bytes S c.args.self.now.limits (g.under).start (g.under).frames c.pass_each.new.top c.args.self.now.tables c.args.self.now.deepest c.pass_each.new.loan.count h.standing
           (take (m - 1) ys) (get_or ys (m - 1) blank) (waits ∙ last_is ys m blank (some g d) (room g d)) (c.in-Ok.ensures.rests c.if-not-leads.true) (c.in-Ok.ensures.all c.if-not-leads.true);
     })
 
@@ -75,12 +75,12 @@ top_was g c =
     top_is c.args.frames.now c.split_at_mut-low.result.0.now c.split_at_mut-low.result.1.now c.args.waiting (get_or c.args.frames.now c.args.waiting blank) c.split_at_mut-low.ensures.value c.split_at_mut-low.ensures.front_len blank
 
 -- no more reads were made before than work was left to it
-less : (g : _) (c : Joined-top-eq0 g) → c.if-top-eq0.meter.count + frame_work c.args.self.now.schema.now c.if-top-eq0.top ≤ c.args.meter.now.count + frame_work c.args.self.now.schema.now (get_or c.args.frames.now c.args.waiting blank)
+less : (g : _) (c : Joined-top-eq0 g) → c.if-top-eq0.loan.count + frame_work c.args.self.now.schema.now c.if-top-eq0.top ≤ c.args.loan.now.count + frame_work c.args.self.now.schema.now (get_or c.args.frames.now c.args.waiting blank)
 less g c =
     let top = top_was g c in
     elim c.if-top-eq0.branch [
-      | then-top-eq0+in-Ok+else-not-leads w ↦ rw (w.meter-is, w.top-is, sym top) w.in-Ok.ensures.falls
-      | else-top-eq0 w ↦ rw (w.meter-is, w.top-is, sym top) (omega arith)
+      | then-top-eq0+in-Ok+else-not-leads w ↦ rw (w.loan-is, w.top-is, sym top) w.in-Ok.ensures.falls
+      | else-top-eq0 w ↦ rw (w.loan-is, w.top-is, sym top) (omega arith)
     ]
 
 -- it follows those that wait
@@ -97,10 +97,10 @@ pass_children-requires g c =
       | then-top-eq0+in-Ok+else-not-leads w ↦ rw w.top-is (w.in-Ok.ensures.leads w.if-not-leads.false)
       | else-top-eq0 w ↦ rw w.top-is (omega (arith, w.if-top-eq0.false))
     ] in
-    let walks : IsWalking c.args.self.now j.meter (g.under).start (g.under).frames j.top =
+    let walks : IsWalking c.args.self.now j.loan (g.under).start (g.under).frames j.top =
     elim c.if-top-eq0.branch [
-      | then-top-eq0+in-Ok+else-not-leads w ↦ rw (w.meter-is, w.top-is) w.in-Ok.ensures.walking
-      | else-top-eq0 w ↦ rw (w.meter-is, w.top-is, top_was g d) c.requires.1.0
+      | then-top-eq0+in-Ok+else-not-leads w ↦ rw (w.loan-is, w.top-is) w.in-Ok.ensures.walking
+      | else-top-eq0 w ↦ rw (w.loan-is, w.top-is, top_was g d) c.requires.1.0
     ] in
     let frames = ap length c.requires.0 in
     (omega (arith, frames, length-take c.args.waiting c.args.frames.now, (c.requires.1.0).links, c.requires.1.1.0), (walks, (leads, (omega (arith, c.requires.1.1.0, c.split_at_mut-low.ensures.back_len), omega (arith, less g d, c.requires.1.1.1)))))
@@ -108,10 +108,10 @@ pass_children-requires g c =
 pub returns-in_err-pass_children-clause-err : goal.returns-in_err-pass_children-clause-err
 returns-in_err-pass_children-clause-err g c =
     let j = c.if-top-eq0 in
-    let bytes : j.meter.bytes ≡ c.args.meter.now.bytes =
+    let bytes : j.loan.bytes ≡ c.args.loan.now.bytes =
     elim c.if-top-eq0.branch [
-      | then-top-eq0+in-Ok+else-not-leads w ↦ rw w.meter-is w.in-Ok.ensures.bytes
-      | else-top-eq0 w ↦ rw w.meter-is refl
+      | then-top-eq0+in-Ok+else-not-leads w ↦ rw w.loan-is w.in-Ok.ensures.bytes
+      | else-top-eq0 w ↦ rw w.loan-is refl
     ] in
     let e = c.in_err-pass_children.ensures in
     if_err_exit _ _ _ c.from_residual.ensures.1 (rw (e.links, grown g (goal.at.returns-in_err-pass_children-clause-err g c).After-pass_children, sym c.requires.0, sym bytes) e.err)

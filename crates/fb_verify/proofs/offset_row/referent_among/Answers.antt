@@ -1,7 +1,7 @@
 use Rattle.std.proofs.Common.{◌∙◌, arith}
 use Rattle.fb_schema.specs.Members.{member_of}
 use Rattle.fb_verify.proofs.Members.{goal_leads, goal_holds}
-use Rattle.fb_verify.proofs.field.referent_among.Goals as goal
+use Rattle.fb_verify.proofs.offset_row.referent_among.Goals as goal
 
 pub returns-clause-lead : goal.returns-clause-lead
 returns-clause-lead c =

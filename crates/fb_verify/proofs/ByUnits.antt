@@ -1,0 +1,49 @@
+-- What the tests of a unit find is told, and the budget is asked after them.
+use Rattle.std.proofs.Common.{◌≡◌, ℕ, ◌+◌, List, Result, Ok, Err, refl, sym, ◌∙◌, ap, subst, arith, Option, Some, None}
+use Rattle.std.specs.Result.{IsErrAnd}
+use Rattle.fb_bytes.specs.Word.{Lent}
+use Rattle.fb_verify.specs.declared.fault.Reason.{Reason}
+use Rattle.fb_verify.specs.declared.site.Site.{Site}
+use Rattle.fb_verify.specs.declared.site.Stop.{Stop}
+use Rattle.fb_verify.specs.Bounds.{Bounds}
+use Rattle.fb_verify.specs.Order.{Failure, after, ◌▷◌}
+use Rattle.fb_verify.specs.Plain.{tested_by, IsTested}
+use Rattle.fb_verify.specs.Told.{told, stopped, IsAskedAt}
+use Rattle.fb_verify.proofs.Plains.{after_twice}
+use Rattle.fb_verify.proofs.Refusals.{told_after, told_first}
+
+-- a chain that finds nothing has no test that fails
+pub unfailed : (at k m : ℕ) (chain : Option Failure) (failed : Option Reason) → tested_by at k failed ≡ after m chain → chain ≡ None → failed ≡ None
+unfailed at k m None None h e = refl
+unfailed at k m None (Some r) h e = absurd cc
+unfailed at k m (Some x) failed h e = absurd cc
+
+-- and the other way round
+pub unfound : (at k m : ℕ) (chain : Option Failure) (failed : Option Reason) → tested_by at k failed ≡ after m chain → failed ≡ None → chain ≡ None
+unfound at k m None failed h e = refl
+unfound at k m (Some x) None h e = absurd cc
+unfound at k m (Some x) (Some r) h e = absurd cc
+
+-- a test that fails is told at a site where so many reads were paid before
+pub tested_tells : (site : Site) (paid at k : ℕ) (x y : Option Failure) (reason : Reason) → tested_by at k (Some reason) ≡ after paid x
+    → told site paid (x ▷ y) ≡ Some (stopped (record { refusal = record { at = at; reason = reason }; site = site }) k)
+tested_tells site paid at k x y reason h = told_first site paid x y _ (told_after site paid k x (record { at = at; reason = reason }) (sym h))
+
+-- a chain that is tested after some reads
+pub tested_then : (m j : ℕ) {b : List ℕ} {base : ℕ} {new : Lent} {at n k : ℕ} {failed : Option Reason} (chain : Option Failure) → k ≡ m + j
+    → IsTested (record { bytes = b; count = k; base = base }) new at chain n failed → IsTested (record { bytes = b; count = m; base = base }) new at (after j chain) (j + n) failed
+tested_then m j chain e h = record {
+  told = h.told ∙ ap (λ x. after x chain) e ∙ sym (after_twice m j chain);
+  counted = λ o. omega (arith, h.counted o, e);
+  bytes = h.bytes;
+  base = h.base;
+}
+
+module _ {A B : Type 0} {site : Site} {L : Bounds} {m new : Lent} {chain : Option Failure} {n p : ℕ} where
+  -- the answer for a unit serves for what goes on by it
+  pub asked_ok : (a : A) (b : B) → IsAskedAt site L m new chain n p (Ok a) → IsAskedAt site L m new chain n p (Ok b)
+  asked_ok a b h = record { ok = h.ok; counted = h.counted; reads = h.reads; err = tt; bytes = h.bytes }
+
+  pub asked_err : (s : Stop) (r : Result B Stop) → IsErrAnd r (λ e. e ≡ s) → IsAskedAt {A = A} site L m new chain n p (Err s) → IsAskedAt {A = B} site L m new chain n p r
+  asked_err s (Ok b) is h = absurd is
+  asked_err s (Err e) is h = subst (λ x. IsAskedAt {A = B} site L m new chain n p (Err x)) (sym is) (record { ok = tt; counted = tt; reads = tt; err = h.err; bytes = h.bytes })
