@@ -1,7 +1,27 @@
 # Completions of fbcheck for bash.
 
+# Takes what stands there already, and what that excludes, from the options. Only --path may stand there again, and behind
+# -- there are none.
+_fbcheck_left() { # WORD..
+    local word
+    for word; do
+        case $word in
+        --) left= ;;
+        --path) left=${left/ --filter / } ;;
+        --filter) left=${left/ --path / } ;;&
+        --bare) left=${left/ --delimited / } ;;&
+        --delimited) left=${left/ --bare / } ;;&
+        --ident) left=${left/ --schema-ident / } ;;&
+        --schema-ident) left=${left/ --ident / } ;;&
+        *) left=${left/ "$word" / } ;;
+        esac
+    done
+}
+
 _fbcheck() {
     local word=${COMP_WORDS[COMP_CWORD]} before=${COMP_WORDS[COMP_CWORD - 1]}
+    local left=" --schema --root --ident --schema-ident --path --max-depth --max-tables --max-reads --reads-per-byte \
+--max-bytes --bare --delimited --no-alignment --inline-size --quiet --filter --summary --names --json --help --version "
     COMPREPLY=()
     # An equals sign is a word of its own.
     [ "$before" != = ] || before=${COMP_WORDS[COMP_CWORD - 2]}
@@ -13,10 +33,9 @@ _fbcheck() {
         ;;
     --root | --ident | --path | --max-depth | --max-tables | --max-reads | --reads-per-byte | --max-bytes) ;;
     *)
-        mapfile -t COMPREPLY < <(compgen -W "--schema --root --ident --schema-ident --path --max-depth --max-tables \
-            --max-reads --reads-per-byte --max-bytes --bare --delimited --no-alignment --inline-size --quiet --filter \
-            --summary --names --json --help --version" -- "$word")
-        [[ $word == -* ]] || {
+        _fbcheck_left "${COMP_WORDS[@]:1:COMP_CWORD-1}"
+        mapfile -t COMPREPLY < <(compgen -W "$left" -- "$word")
+        [[ $word == -* && $left ]] || {
             compopt -o filenames 2>/dev/null
             mapfile -t COMPREPLY < <(compgen -f -- "$word")
         }

@@ -1,5 +1,5 @@
 """What ./install puts in place: the program, its manual page and its completions, which all know the same options, the
-library for C, and the package for Python."""
+pages, the library for C, and the package for Python."""
 
 import os
 import re
@@ -10,11 +10,14 @@ import unittest
 from tests.support.library import LibraryCase
 from tests.support.program import FOLDER, PROGRAM, TOP, run
 
+PAGES = ("README.md", "CHANGELOG.md", "docs/*.md", "bindings/*/README.md", "bindings/node/index.d.ts", "bench/compare.svg",
+         "examples/deliveries.*", "examples/c/*")
 PLACES = {
     "bin/fbcheck": 0o755,
     "share/man/man1/fbcheck.1": 0o644,
     "share/bash-completion/completions/fbcheck": 0o644,
     "share/zsh/site-functions/_fbcheck": 0o644,
+    **{f"share/doc/fbcheck/{page.relative_to(TOP)}": 0o644 for pages in PAGES for page in sorted(TOP.glob(pages))},
     "include/fbcheck.h": 0o644,
     "include/fbcheck.hpp": 0o644,
     "lib/libfbcheck.a": 0o644,
@@ -73,6 +76,13 @@ def plain(page):
     return re.sub(r"\\f[BIPR]", "", page.replace(r"\-", "-"))
 
 
+def dead_links(folder):
+    """The links between these pages that lead nowhere."""
+    links = [(page, link) for page in folder.rglob("*.md")
+             for link in re.findall(r"\]\(((?!http)[^)#]+)", page.read_text())]
+    return [(page.name, link) for page, link in links if not (page.parent / link).exists()]
+
+
 def completed(folder, *words):
     """What bash offers for the last of these words."""
     script = '. "$1"; shift; COMP_WORDS=("$@"); COMP_CWORD=$(($# - 1)); _fbcheck; printf "%s\\n" "${COMPREPLY[@]}"'
@@ -110,8 +120,19 @@ class Install(LibraryCase):
         self.holds("a file for pkg-config has a whole path", f"libdir={FOLDER}/here/lib\n" in page, page)
         page = (FOLDER / "pkg/opt/it/lib/pkgconfig/fbcheck.pc").read_text()
         self.holds("a package's file for pkg-config knows nothing of DESTDIR", "libdir=/opt/it/lib\n" in page, page)
+        pages = FOLDER / "local/share/doc/fbcheck"
+        self.same("the pages link to what is there", dead_links(pages), [])
+        self.first_example(program, pages)
         self.the_package(FOLDER / "local" / packages())
         self.a_program_in_c(FOLDER / "local")
+
+    def first_example(self, program, pages):
+        """The README's first command, for who has no sources: by the program that was put, in the folder of the pages."""
+        command, *lines = re.search(r"\./(fbcheck .*\n(?:# .*\n)+)", (pages / "README.md").read_text())[1].splitlines()
+        ran = subprocess.run(["sh", "-c", command], cwd=pages, capture_output=True, text=True, timeout=60,
+                             env={"PATH": f"{program.parent}:{os.environ['PATH']}"})
+        told = (ran.returncode, ran.stdout.splitlines(), ran.stderr)
+        self.same("its first example runs among them", told, (1, [line.removeprefix("# ") for line in lines], ""))
 
     def the_package(self, folder):
         """The package is used where it was put, and its version is known there; an older one isn't any more."""
@@ -188,5 +209,20 @@ class Install(LibraryCase):
         self.same("also behind an equals sign", completed(folder, "--schema", "="), files)
         self.same("with a name begun", completed(folder, "--schema", "=", ""), files)
         self.same("and nothing for a number", completed(folder, "--max-depth", ""), [])
+        for name, words, gone in [
+            ("not what stands there", ["--quiet", "--max-depth", "9", "--json"], {"--quiet", "--max-depth", "--json"}),
+            ("nor behind an equals sign", ["--schema", "=", "a.bfbs"], {"--schema"}),
+            ("nor what excludes it", ["--bare", "--ident", "KIND"],
+             {"--bare", "--delimited", "--ident", "--schema-ident"}),
+            ("nor the other way round", ["--delimited", "--schema-ident"],
+             {"--bare", "--delimited", "--ident", "--schema-ident"}),
+            ("a path again, and no filter", ["--path", "id"], {"--filter"}),
+            ("or the other way round", ["--filter"], {"--filter", "--path"}),
+        ]:
+            self.same(f"bash offers {name}", completed(folder, *words, "--"), sorted({*options()} - gone))
+        (folder / "-x.bin").write_bytes(b"")
+        self.same("and files alone behind --", completed(folder, "--bare", "--", "-"), ["-x.bin"])
         zsh = (TOP / "completions/_fbcheck").read_text()
-        self.same("zsh knows each option", re.findall(r"(--[a-z-]+)(?:\[|\})", zsh), options())
+        self.same("zsh knows each option", re.findall(r"(--[a-z-]+)=?(?:\[|\})", zsh), options())
+        valued = re.findall(r"^ +(?:-[hV], )?(--[a-z-]+) <", run("--help").out.decode(), re.M)
+        self.same("and which have a value, behind an equals sign too", re.findall(r"(--[a-z-]+)=\[", zsh), valued)

@@ -12,6 +12,7 @@ import unittest
 
 from tests.support.library import LibraryCase, ran
 from tests.support.program import FOLDER, PROGRAM, TOP, run
+from tests.test_install import dead_links
 
 VERSION = (TOP / "VERSION").read_text().strip()
 DEBS = [f"{name}_{VERSION}_amd64.deb" for name in ("fbcheck", "libfbcheck-dev", "libfbcheck1", "python3-fbcheck")]
@@ -86,10 +87,15 @@ class Package(LibraryCase):
         self.same("a word with dashes is refused", (status, out, err), (2, "", "usage: ./package [FOLDER]\n"))
 
     def test_the_tarball(self):
-        subprocess.run(["tar", "-xzf", self.dist / TARBALL, "-C", FOLDER], check=True)
-        top = FOLDER / TARBALL.removesuffix(".tar.gz")
+        top = FOLDER / "prefix"
+        top.mkdir()
+        page = (TOP / "README.md").read_text()
+        words = re.search(r"`tar xzf (\S+) -C PREFIX (--\S+)`", page)
+        self.same("it has the name that the README tells", words[1], TARBALL)
+        subprocess.run(["tar", "xzf", self.dist / TARBALL, "-C", top, words[2]], check=True)
         self.used(top / "bin/fbcheck", top / "include", top / "lib", top / "lib/pkgconfig")
-        self.holds("it tells what it is", (top / "README.md").read_text().startswith("# fbcheck\n"))
+        self.same("a prefix gets its own folders alone", sorted(os.listdir(top)), ["bin", "include", "lib", "share"])
+        self.the_pages(top, "README.md", "CHANGELOG.md")
 
     def test_the_debian_packages(self):
         root = FOLDER / "root"
@@ -100,6 +106,7 @@ class Package(LibraryCase):
         self.same("pkg-config is told where they are", page.splitlines()[:2],
                   [f"libdir=/{LIBRARIES}", "includedir=/usr/include"])
         self.holds("man finds the page", (root / "usr/share/man/man1/fbcheck.1.gz").exists())
+        self.the_pages(root / "usr", "README.md", "changelog.gz")
         for deb, files in [(DEBS[0], [root / "usr/bin/fbcheck"]), (DEBS[2], [root / LIBRARIES / "libfbcheck.so.1"])]:
             needs = ran("dpkg-deb", "--field", self.dist / deb, "Depends")[1].strip()
             self.same(f"{deb} asks for the glibc that it needs", needs, f"libc6 (>= {newest_glibc(*files)})")
@@ -148,6 +155,15 @@ class Package(LibraryCase):
         status, out, err = ran("dpkg", f"--root={root}", "--force-depends", "--force-script-chrootless", "--remove",
                                "python3-fbcheck")
         self.same("and takes them away", (status, (root / PACKAGES).exists()), (0, False))
+
+    def the_pages(self, prefix, *names):
+        """The pages are where the manual page says, and link to one another."""
+        pages = prefix / "share/doc/fbcheck"
+        place = re.search(r"^\.I /usr/(share/\S+)$", (TOP / "docs/fbcheck.1").read_text(), re.M)[1]
+        self.same("the reference is where man says", (prefix / place).read_text(),
+                  (TOP / "docs/REFERENCE.md").read_text())
+        self.same("their links lead somewhere", dead_links(pages), [])
+        self.same("beside it are", [name for name in names if not (pages / name).exists()], [])
 
     def python_uses(self, root):
         """The package checks a stream by the system's Python, and by that of the tests."""
