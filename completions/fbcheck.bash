@@ -1,7 +1,7 @@
 # Completions of fbcheck for bash.
 
-# Takes what stands there already, and what that excludes, from the options. Only --path may stand there again, and behind
-# -- there are none.
+# Takes what stands there already, and what that excludes, from the options. Only --path may stand there again, and
+# behind -- there are none.
 _fbcheck_left() { # WORD..
     local word
     for word; do

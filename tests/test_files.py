@@ -78,6 +78,26 @@ class Files(Case):
             "2 bad V3 Misaligned at=7 object=0 field=- reads=3"))
         self.same("one that isn't there", run(*BY_N, MISSING), failed(TOLD_MISSING))
 
+    def test_how_one_file_gets_its_name(self):
+        """What the page says of names and of `xargs`."""
+        orc = file_of("orc.bin", ORC)
+        for name, words in [
+            ("beside an empty stream", (*BY_N, BAD, "/dev/null")),
+            ("beside a good file, with --bare", (*BY_M, "--quiet", BAD, orc)),
+            ("behind --, where a name begins with a dash", (*BY_N, "--", BAD.name, "-dash.bin")),
+        ]:
+            file_of("-dash.bin", b"")
+            ran = run(*words, cwd=FOLDER)
+            names = {line.partition(b": ")[0] for line in ran.out.splitlines()}
+            self.same(name, (ran.status, {os.path.basename(name) for name in names}, ran.err), (1, {b"bad.bin"}, b""))
+        for name, file, status in [
+            ("a bad file", BAD, 123), ("one that isn't there", MISSING, 123), ("a good one", GOOD, 0)
+        ]:
+            ran = subprocess.run(["xargs", "-n", "1", PROGRAM, *BY_N, "--summary"], input=f"{GOOD}\n{file}\n".encode(),
+                                 capture_output=True, timeout=SECONDS)
+            self.same(f"{name}: the status of xargs", ran.returncode, status)
+            self.same(f"{name}: the summaries", ran.stderr.count(b"summary: "), 2)
+
     def test_several_files(self):
         self.same("good and bad", run(*BY_N, GOOD, BAD), Ran(1, lines(
             f"{GOOD}: 1 ok tables=1 depth=1 reads=5",

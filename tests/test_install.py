@@ -10,8 +10,8 @@ import unittest
 from tests.support.library import LibraryCase
 from tests.support.program import FOLDER, PROGRAM, TOP, run
 
-PAGES = ("README.md", "CHANGELOG.md", "docs/*.md", "bindings/*/README.md", "bindings/node/index.d.ts", "bench/compare.svg",
-         "examples/deliveries.*", "examples/c/*")
+PAGES = ("README.md", "CHANGELOG.md", "docs/*.md", "bindings/*/README.md", "bindings/node/index.d.ts",
+         "bench/compare.svg", "examples/deliveries.*", "examples/c/*")
 PLACES = {
     "bin/fbcheck": 0o755,
     "share/man/man1/fbcheck.1": 0o644,

@@ -1,5 +1,13 @@
 """Lines of JSON: `--json`. Each is one object, and says what the plain line of the same message says."""
 
+import json
+import math
+import re
+import shutil
+import struct
+import subprocess
+import unittest
+
 from tests.support import schemas
 from tests.support.buffers import NOTHING, ODD, ORC, PLAIN, SEVEN
 from tests.support.builder import Plain, buffer, prefixed
@@ -7,7 +15,7 @@ from tests.support.cases import Case
 from tests.support.every_kind import FILE, LITTLE, OBJECTS, UNION, WHOLE, variants
 from tests.support.json_lines import names_of, read, said
 from tests.support.naive import Schema
-from tests.support.program import Ran, file_of, lines, run
+from tests.support.program import TOP, Ran, file_of, lines, run
 from tests.test_beside_naive import PATHS
 
 FILES = schemas.files()
@@ -101,3 +109,63 @@ class Json(Case):
             for number in numbers:
                 ran = run("--schema", by, "--bare", "--json", "--path", "v", given=buffer({0: (form, number)}))
                 self.same(str(number), ran.out.rpartition(b'"values":')[2], b'{"v":%d}}\n' % number)
+
+
+@unittest.skipIf(shutil.which("jq") is None, "jq isn't there")
+class Recipes(Case):
+    """The page's recipes for jq do what it says of them."""
+
+    PAGE = (TOP / "docs/REFERENCE.md").read_text()
+
+    def picked(self, kind, numbers, form, recipe):
+        """Which of these numbers, each a field of a message, jq passes on by a recipe of the page."""
+        by = file_of("by.bfbs", schemas.schema([schemas.table("T", schemas.field("hp", kind, 4))], root="T"))
+        stream = b"".join(prefixed(buffer({} if number is None else {0: (form, number)})) for number in numbers)
+        told = run("--schema", by, "--json", "--path", "hp", "--no-alignment", given=stream + prefixed(b"bad")).out
+        ran = subprocess.run(["jq", "-c", recipe], input=told, capture_output=True, timeout=60)
+        self.same("jq has nothing to say", (ran.returncode, ran.stderr), (0, b""))
+        return [json.loads(line) for line in ran.stdout.splitlines()]
+
+    def number(self):
+        """The page's `number`."""
+        return re.search(r"```jq\n(def number: .*?)```", self.PAGE, re.S)[1]
+
+    def test_floats(self):
+        for kind, form, bits, top in [(schemas.FLOAT, "f", 23, 127), (schemas.DOUBLE, "d", 52, 1023)]:
+            normal, most = 2.0 ** (1 - top), (2 - 2.0**-bits) * 2.0**top
+            least = normal * 2.0**-bits
+            numbers = [0.0, -0.0, 1.0, 1.5, -2.0, 50.001, 1e-30, -3e30, least, least * 5, normal - least, normal, most]
+            numbers = [struct.unpack(form, struct.pack(form, number))[0] for number in numbers]
+            got = self.picked(kind, numbers, form, self.number() + '.values | select(.) | [.hp | number]')
+            self.same(f"{form}: as many", len(got), len(numbers))
+            for number, told in zip(numbers, got):
+                self.holds(f"{form}: {number}", len(told) == 1 and math.isclose(told[0], number, rel_tol=1e-16), told)
+            ends = self.picked(kind, [math.inf, -math.inf, math.nan, None], form,
+                               self.number() + '.values | select(.) | [.hp | number] | map(. > 0, . == -infinite)')
+            self.same(f"{form}: no numbers", ends, [[True, False], [False, True], [], []])
+            recipe = re.search(r"floats as `(.*?)`", self.PAGE)[1].replace("pos.lat", "hp")
+            got = self.picked(kind, [50.0, 51.0, -1e9, None, math.nan], form, f"{self.number()} {recipe} | .message")
+            self.same(f"{form}: compared", got, [1, 3])
+            default = re.search(r"`(if \. == null .*?)`", self.PAGE)[1]
+            got = self.picked(kind, [1.5, None], form, f"{self.number()} select(.ok).values.hp | {default}")
+            self.same(f"{form}: left out", got, [1.5, 0])
+
+    def test_whole_numbers(self):
+        recipe = re.search(r"whole numbers as `(.*?)`", self.PAGE)[1]
+        self.same("compared", self.picked(schemas.INT, [50, 51, -1, 70], "i", recipe + " | .message"), [2, 4])
+        vector = '{"ok":true,"values":{"hp":{"absent":"no-element"}}}'
+        ran = subprocess.run(["jq", "-c", recipe], input=vector, capture_output=True, text=True, timeout=60)
+        self.same("an absent one is none", (ran.returncode, ran.stdout), (0, ""))
+
+    def test_reasons(self):
+        recipe = re.search(r"`(jq -r 'select\(\.ok == false.*?)`", self.PAGE)[1]
+        told = run(*BY_N, "--json", given=SEVEN + ODD + SEVEN + NOTHING + ODD).out
+        ran = subprocess.run(["sh", "-c", recipe], input=told, capture_output=True, timeout=60)
+        self.same("counted", ran.stdout.split(), [b"2", b"Misaligned", b"1", b"OutOfBuffer"])
+
+    def test_rows(self):
+        """The recipe for rows: of a good message its values, of a bad one its reason and place."""
+        recipe = re.search(r"jq -r '(if \.ok then.*?)'\n", self.PAGE, re.S)[1]
+        told = run(*BY_N, "--json", "--path", "v", given=SEVEN + ODD).out
+        ran = subprocess.run(["jq", "-r", recipe], input=told, capture_output=True, timeout=60)
+        self.same("rows", (ran.stdout, ran.stderr), (b"1\t7\n2\tV3\t.\n", b""))

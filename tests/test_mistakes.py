@@ -3,14 +3,16 @@ the program prints first of what was given."""
 
 import gzip
 import io
+import random
 import re
 import shutil
 import struct
 import subprocess
+import sys
 import zipfile
 
 from tests.support.buffers import POST
-from tests.support.builder import prefixed
+from tests.support.builder import Plain, buffer, prefixed
 from tests.support.cases import Case
 from tests.support.program import TOP, file_of, run
 
@@ -28,6 +30,11 @@ def gzipped(data):
     with gzip.GzipFile("deliveries.bin", "wb", fileobj=packed) as file:
         file.write(data)
     return packed.getvalue()
+
+
+def piped(data):
+    """As gzip packs what it has from a pipe: without a name or a time."""
+    return gzip.compress(data, mtime=0)
 
 
 def zipped(data):
@@ -54,6 +61,15 @@ def framed(message):
     """Behind the five bytes of gRPC."""
     return struct.pack(">BI", 0, len(message)) + message
 
+
+
+def recipe(stream):
+    """What the page's recipe makes of it."""
+    page = (TOP / "docs/REFERENCE.md").read_text()
+    code = re.search(r"python3 -c '(import sys; data.*?)' < in", page, re.S)[1]
+    return subprocess.run([sys.executable, "-c", code], input=stream, capture_output=True, check=True).stdout
+
+
 # By the text of the table's second column: the words, and standard input.
 CALLS = {
     "as the schema messages; its text (`.fbs`) and JSON are told as such behind it": [
@@ -63,9 +79,11 @@ CALLS = {
     "a root without its namespace (`--root Delivery`), or a struct": [((*BY_POST, "--root", "Delivery"), POST)],
     "JSON; any text declares more than 100,000,000": [(BY_POST, JSON)],
     "a file compressed with `gzip`": [(BY_POST, gzipped(POST))],
+    "what `gzip` packed from a pipe: `held=` is all there is; from 559,907 bytes on the first message is bad; with "
+    "`--bare` it's `V2` at 559903": [(BY_POST, piped(POST))],
     "a file compressed with `zstd`": [(BY_POST, by_zstd(POST))],
     "a file compressed with `zip`": [(BY_POST, zipped(POST))],
-    "big-endian prefixes": [(BY_POST, turned(POST))],
+    "big-endian prefixes, as Java and networks have them": [(BY_POST, turned(POST))],
     "a message behind the five bytes of gRPC (a zero, and its size in big-endian)": [(BY_POST, framed(FIRST))],
     "the same with a message below 256 bytes; from 1,024 on it is `S1 Oversize`": [(BY_POST, framed(SECOND))],
     "a bare buffer as a stream: what follows its first four bytes is taken for an offset": [((), BARE)],
@@ -75,8 +93,10 @@ CALLS = {
     "a prefix before a message that has one already": [(BY_POST, prefixed(FIRST))],
     "a prefix put before a finished bare buffer, so that all positions moved by four": [((), prefixed(BARE))],
     "with `--bare` a message whose prefix was taken off": [((*BY_POST, "--bare"), FIRST[4:])],
-    "no `--schema`, so that the messages are checked as schema files, whose tables are `object=0` to `9`": [
-        ((), POST)
+    "no `--schema`, so that the messages are checked as schema files, whose tables are `object=0` to `9`; often `V9 "
+    "MissingRequired`": [((), POST)],
+    "the same with `--path`; with `--root` it's `no root table`, with tables of `reflection`": [
+        (("--path", "to.name"), POST)
     ],
 }
 
@@ -95,6 +115,8 @@ class Mistakes(Case):
             for words, stream in CALLS.get(given, []):
                 ran = run(*words, given=stream)
                 told = (ran.out + ran.err).decode().splitlines()[0].split("; this looks")[0]
+                if stream == piped(POST):  # how long it is may differ a little
+                    told = told.replace(f"held={len(stream)}", "held=506")
                 self.same(f"{given}: {words}", told, line)
 
     def test_what_is_told_behind_them(self):
@@ -121,9 +143,24 @@ class Mistakes(Case):
             ("the root with its namespace", [*BY_POST, "--root", "post.Delivery"], FIRST, 0),
             ("a text that begins with the least of characters", BY_POST, b"\t\t\t\t", 3),
             ("gRPC before 1,024 bytes", BY_POST, framed(bytes(1024)), 3),
+            ("what the recipe makes of big-endian prefixes", BY_POST, recipe(turned(FIRST + SECOND)), 0),
         ]:
             ran = run(*words, given=stream)
             self.same(name, ran.status, want)
             self.same(f"{name}: S1", b"S1 Oversize" in ran.err, want == 3)
         declared = struct.unpack("<I", b"\t\t\t\t")[0]
         self.holds("the least that a text declares", declared > 100_000_000, declared)
+        self.same("the recipe turns prefixes and nothing else", recipe(turned(POST)), POST)
+        for name, data in [("JSON", JSON), ("gzip", gzipped(POST)), ("zstd", by_zstd(POST)), ("zip", zipped(POST)),
+                           ("a pipe's gzip", piped(POST))]:
+            told = run(*BY_POST, "--bare", given=data).out.split(b" object=")[0]
+            number = struct.unpack_from("<I", data)[0]
+            self.same(f"{name} with --bare", told, b"1 bad V2 OutOfBuffer at=%d" % number)
+        self.same("a pipe's gzip's number", number, 559_903)
+        large = piped(random.Random(1).randbytes(600_000))
+        for length, want in [(559_906, b""), (559_907, b"1 bad V4 ZeroOffset at=4 object=1 field=- reads=2\n")]:
+            self.same(f"the front of one, {length} bytes", run(*BY_POST, given=large[:length]).out, want)
+        tables = run("--root", "post.Delivery", given=POST).err
+        self.holds("a root without a schema", b"no root table post.Delivery; tables: reflection.Type" in tables, tables)
+        required = run("--bare", given=buffer({0: Plain(bytes(4), 4)}))
+        self.holds("V9 without a schema", b"V9 MissingRequired" in required.out, required)
