@@ -102,8 +102,8 @@ CALLS = {
 
 
 def rows():
-    """The first two columns of the table."""
-    page = (TOP / "docs/REFERENCE.md").read_text()
+    """The first two columns of the table. How much gzip packs into may differ a little."""
+    page = (TOP / "docs/REFERENCE.md").read_text().replace("held=506", f"held={len(piped(POST))}")
     section = page.split("## Where all or most messages are refused")[1].split("\n## ")[0]
     return re.findall(r"^\| `(.+?)` \| (.+?) \| .+ \|$", section, re.M)
 
@@ -115,8 +115,6 @@ class Mistakes(Case):
             for words, stream in CALLS.get(given, []):
                 ran = run(*words, given=stream)
                 told = (ran.out + ran.err).decode().splitlines()[0].split("; this looks")[0]
-                if stream == piped(POST):  # how long it is may differ a little
-                    told = told.replace(f"held={len(stream)}", "held=506")
                 self.same(f"{given}: {words}", told, line)
 
     def test_what_is_told_behind_them(self):
