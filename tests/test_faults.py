@@ -10,8 +10,8 @@ from tests.support.buffers import MEMBER, ORC, PLAIN, SEVEN
 from tests.support.builder import changed, prefixed, spelled
 from tests.support.cases import Case
 from tests.support.program import (
-    FOLDER, PROGRAM, SECONDS, Ran, Talk, bad, failed, fieldless, file_of, good, lines, refused, rootless, run,
-    run_broken_off, run_in_shell, run_starved,
+    FOLDER, PROGRAM, SECONDS, Ran, Talk, astray, bad, failed, fieldless, file_of, good, lines, refused, rootless,
+    run, run_broken_off, run_in_shell, run_starved,
 )
 from tests.support.schemas import (
     INT, LONG, SHORT, TEXT, a_struct, a_union, an_object, array, field, schema, table, union,
@@ -50,7 +50,7 @@ class Faults(Case):
             ("the last has a no", BY_N, SEVEN + wrong, bad(
                 "1 ok tables=1 depth=1 reads=5", "2 bad V2 OutOfBuffer at=4 object=0 field=- reads=1")),
             ("a fault after a no", BY_N, wrong + SEVEN[:-1], failed(
-                "stream: S2 Truncated held=31", "1 bad V2 OutOfBuffer at=4 object=0 field=- reads=1")),
+                astray("stream: S2 Truncated held=31"), "1 bad V2 OutOfBuffer at=4 object=0 field=- reads=1")),
             ("a bare buffer with a no", ("--schema", FILES["M"], "--bare"), ORC[:-1],
              bad("1 bad V2 OutOfBuffer at=28 object=0 field=1 reads=7")),
         ]:
@@ -261,7 +261,7 @@ class Faults(Case):
             ("a stream that ends in mid-message", BY_N, SEVEN + SEVEN[:-1],
              failed("stream: S2 Truncated held=31", seven)),
             ("one that ends in mid-prefix", BY_N, SEVEN + b"\0", failed("stream: S2 Truncated held=1", seven)),
-            ("one whose prefix alone is there", BY_N, SEVEN[:4], failed("stream: S2 Truncated held=4")),
+            ("one whose prefix alone is there", BY_N, SEVEN[:4], failed(astray("stream: S2 Truncated held=4"))),
             ("a bare input that is too long", (*BY_M, "--max-bytes", "31"), ORC, failed("input longer than 31 bytes")),
         ]:
             self.same(name, run(*words, given=given), want)

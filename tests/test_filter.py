@@ -4,7 +4,7 @@ from tests.support import schemas
 from tests.support.buffers import BY_POST, NOTHING, ODD, ORC, POST, SEVEN
 from tests.support.builder import messages_of, prefixed, spelled
 from tests.support.cases import Case
-from tests.support.program import SECONDS, Ran, Talk, lines, refused, rootless, run, run_in_shell
+from tests.support.program import SECONDS, Ran, Talk, astray, lines, refused, rootless, run, run_in_shell
 
 FILES = schemas.files()
 BY_M = ("--schema", FILES["M"], "--filter")
@@ -76,7 +76,8 @@ class Filter(Case):
             whole = [end for end in ends if end <= length]
             notes = [odd(2)] * (64 in whole) + [nothing(4)] * (100 in whole)
             held = length - max([0, *whole])
-            fault = [f"fbcheck: stream: S2 Truncated held={held}"] * (held > 0)
+            text = f"stream: S2 Truncated held={held}"
+            fault = [f"fbcheck: {text if whole else astray(text)}"] * (held > 0)
             self.same(f"a stream cut off after {length} bytes", run(*BY_N, given=stream[:length]),
                       passed(SEVEN * ((32 in whole) + (96 in whole)), *notes, *fault,
                              status=3 if held else 1 if notes else 0))

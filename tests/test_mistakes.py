@@ -14,7 +14,7 @@ import zipfile
 from tests.support.buffers import POST
 from tests.support.builder import Plain, buffer, prefixed
 from tests.support.cases import Case
-from tests.support.program import TOP, file_of, run
+from tests.support.program import TOP, Ran, astray, failed, file_of, lines, run
 
 EXAMPLES = TOP / "examples"
 SCHEMA = EXAMPLES / "deliveries.bfbs"
@@ -22,6 +22,7 @@ BARE = SCHEMA.read_bytes()
 FIRST, SECOND = POST[:512], POST[512:576]
 JSON = (EXAMPLES / "deliveries.jsonl").read_bytes()
 BY_POST = ("--schema", SCHEMA)
+GOOD = "1 ok tables=8 depth=2 reads=111"
 
 
 def gzipped(data):
@@ -114,7 +115,7 @@ class Mistakes(Case):
         for line, given in rows():
             for words, stream in CALLS.get(given, []):
                 ran = run(*words, given=stream)
-                told = (ran.out + ran.err).decode().splitlines()[0].split("; this looks")[0]
+                told = re.split("; this looks|; no good", (ran.out + ran.err).decode().splitlines()[0])[0]
                 self.same(f"{given}: {words}", told, line)
 
     def test_what_is_told_behind_them(self):
@@ -131,6 +132,19 @@ class Mistakes(Case):
         ]:
             ran = run(*words, given=POST)
             self.same(str(words), (ran.status, ran.out, ran.err.decode()), (2, b"", f"{want}\n"))
+        oversize = "stream: S1 Oversize declared=1684611707"
+        for name, words, stream, want in [
+            ("JSON", BY_POST, JSON, failed(astray(oversize))),
+            ("JSON behind a message", BY_POST, FIRST + JSON, failed(oversize, GOOD)),
+            ("JSON, with --delimited", [*BY_POST, "--delimited"], JSON, failed(astray(oversize))),
+            ("JSON behind a bad message", [*BY_POST, "--max-reads", "0"], FIRST + JSON,
+             failed(astray(oversize), "1 bad V13 TooManyReads at=4 object=1 field=- reads=2")),
+            ("a good message that is left out", [*BY_POST, "--quiet"], FIRST + JSON, failed(oversize)),
+        ]:
+            self.same(name, run(*words, given=stream), want)
+        names = file_of("json", JSON), file_of("both", FIRST + JSON)
+        self.same("of files", run(*BY_POST, *names), Ran(3, lines(f"{names[1]}: {GOOD}"), lines(
+            f"fbcheck: {names[0]}: {astray(oversize)}", f"fbcheck: {names[1]}: {oversize}")))
 
     def test_what_is_said_beside_them(self):
         for name, words, stream, want in [

@@ -11,7 +11,7 @@ from tests.support.builder import Plain, buffer, changed, prefixed, spelled
 from tests.support.cases import Case
 from tests.support.preloaded import ALONE, WITH_LATER, Plan, is_front, narrowed, refusing
 from tests.support.program import (
-    PROGRAM, SECONDS, Ran, Talk, bad, failed, file_of, good, lines, refused, run, run_in_shell, run_starved,
+    PROGRAM, SECONDS, Ran, Talk, astray, bad, failed, file_of, good, lines, refused, run, run_in_shell, run_starved,
 )
 from tests.support.schemas import (
     INT, LONG, TEXT, U_TYPE, a_struct, a_union, an_object, field, schema, table, union, vector,
@@ -316,10 +316,10 @@ class Names(Case):
             text = f"stream: S2 Truncated held={held}"
             want = Ran(1 if whole > 1 else 0, told(*parts[:whole]), b"")
             if held:
-                want = Ran(3, told(*parts[:whole]), lines(f"fbcheck: {text}"))
+                want = Ran(3, told(*parts[:whole]), lines(f"fbcheck: {text if whole else astray(text)}"))
             self.same(f"cut off after {length} bytes", run(*BY_N, given=stream[:length]), want)
         self.same("a prefix past the limit", run(*BY_N, given=ODD + spelled("ffffffff")),
-                  failed("stream: S1 Oversize declared=4294967295", f"1 {NO[ODD]}"))
+                  failed(astray("stream: S1 Oversize declared=4294967295"), f"1 {NO[ODD]}"))
         for most in 1, 3, 31, 32, 33, 100:
             self.same(f"in pieces of {most}", narrowed(*BY_N, given=stream, read=most, write=1),
                       Ran(1, told(*parts), b""))

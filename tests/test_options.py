@@ -8,7 +8,9 @@ from tests.support import buffers, schemas
 from tests.support.buffers import ASKEW, MEMBER, ODD_MEMBER, ORC, PLAIN, SEVEN, TWINS, levels
 from tests.support.builder import changed, prefixed, spelled
 from tests.support.cases import Case
-from tests.support.program import SECONDS, TOP, Ran, bad, failed, fieldless, file_of, good, refused, rootless, run
+from tests.support.program import (
+    SECONDS, TOP, Ran, astray, bad, failed, fieldless, file_of, good, refused, rootless, run,
+)
 
 FILES = schemas.files()
 X = "A", "R", "Q"
@@ -250,18 +252,18 @@ class Options(Case):
         largest = spelled("fbffff7f")
         self.told_alike([
             ("a message of the length", by("N", "--max-bytes", "32"), SEVEN, seven),
-            ("one less", by("N", "--max-bytes", "31"), SEVEN, failed("stream: S1 Oversize declared=28")),
+            ("one less", by("N", "--max-bytes", "31"), SEVEN, failed(astray("stream: S1 Oversize declared=28"))),
             ("a bare input of the length", bare("M", "--max-bytes", "32"), ORC, good("1 ok tables=1 depth=1 reads=8")),
             ("one less, bare", bare("M", "--max-bytes", "31"), ORC, failed("input longer than 31 bytes")),
             ("eight, the least", by("M", "--max-bytes", "8"), spelled("04000000 04000000"),
              bad("1 bad V2 OutOfBuffer at=8 object=0 field=- reads=2")),
             ("nine", by("M", "--max-bytes", "8"), spelled("05000000 04000000 00"),
-             failed("stream: S1 Oversize declared=5")),
-            ("the default", by("M"), spelled("fcffff03"), failed("stream: S2 Truncated held=4")),
-            ("one past the default", by("M"), spelled("fdffff03"), failed("stream: S1 Oversize declared=67108861")),
-            ("the most", by("M", "--max-bytes=2147483647"), largest, failed("stream: S2 Truncated held=4")),
+             failed(astray("stream: S1 Oversize declared=5"))),
+            ("the default", by("M"), spelled("fcffff03"), failed(astray("stream: S2 Truncated held=4"))),
+            ("one past the default", by("M"), spelled("fdffff03"), failed(astray("stream: S1 Oversize declared=67108861"))),
+            ("the most", by("M", "--max-bytes=2147483647"), largest, failed(astray("stream: S2 Truncated held=4"))),
             ("one past the most", by("M", "--max-bytes", "2147483647"), spelled("fcffff7f"),
-             failed("stream: S1 Oversize declared=2147483644")),
+             failed(astray("stream: S1 Oversize declared=2147483644"))),
             ("of a schema file they say nothing", bare("M", "--max-bytes", "32"), PLAIN,
              good("1 ok tables=1 depth=1 reads=3")),
         ])
@@ -272,7 +274,7 @@ class Options(Case):
             ("the same as a stream", by("M"), prefixed(ORC), good("1 ok tables=1 depth=1 reads=9")),
             ("a prefix is no root offset", bare("N"), SEVEN, bad("1 bad V8 BadVtable at=28 object=0 field=- reads=3")),
             ("a root offset is no prefix", by("M"), ORC, failed(
-                "stream: S2 Truncated held=4",
+                astray("stream: S2 Truncated held=4"),
                 "1 bad V2 OutOfBuffer at=786444 object=0 field=- reads=2",
                 "2 bad V2 OutOfBuffer at=304 object=0 field=- reads=2")),
             ("two in a row are one", bare("M"), ORC + ORC, good("1 ok tables=1 depth=1 reads=8")),
@@ -343,7 +345,7 @@ class Options(Case):
             ("--max-depth", "1", bad("1 bad V6 TooDeep at=40 object=2 field=1 reads=11")),
             ("--max-tables", "1", bad("1 bad V7 TooManyTables at=40 object=2 field=1 reads=11")),
             ("--max-reads", "14", bad("1 bad V13 TooManyReads at=40 object=0 field=0 reads=15")),
-            ("--max-bytes", "48", failed("stream: S1 Oversize declared=45")),
+            ("--max-bytes", "48", failed(astray("stream: S1 Oversize declared=45"))),
         ]:
             self.same(f"all options, {name} {value}", run(*words_of({**CALL, name: value}), given=ODD_MEMBER), want)
         past = changed(ODD_MEMBER, (34, "0800"))

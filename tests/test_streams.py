@@ -8,7 +8,7 @@ from tests.support import schemas
 from tests.support.buffers import BY_POST, NOTHING, ORC, POST, SEVEN, named
 from tests.support.builder import prefixed, spelled
 from tests.support.cases import Case
-from tests.support.program import SECONDS, Ran, Talk, bad, failed, file_of, good, lines, run, run_in_shell
+from tests.support.program import SECONDS, Ran, Talk, astray, bad, failed, file_of, good, lines, run, run_in_shell
 
 FILES = schemas.files()
 BY_M = ("--schema", FILES["M"])
@@ -129,11 +129,11 @@ class Streams(Case):
             self.same(f"{length} bytes, the last one wrong", run(*BY_M, given=torn),
                       bad(f"1 bad V10 NoTerminator at={length - 1} object=0 field=1 reads=9"))
             self.same(f"{length} bytes but one", run(*BY_M, given=message[:-1]),
-                      failed(f"stream: S2 Truncated held={length - 1}"))
+                      failed(astray(f"stream: S2 Truncated held={length - 1}")))
             limited = run(*BY_M, "--max-bytes", str(length), given=message)
             self.same(f"{length} bytes and no more are allowed", limited, good(told))
             limited = run(*BY_M, "--max-bytes", str(length - 1), given=message)
-            self.same(f"{length} bytes are one too many", limited, failed(f"stream: S1 Oversize declared={length - 4}"))
+            self.same(f"{length} bytes are one too many", limited, failed(astray(f"stream: S1 Oversize declared={length - 4}")))
 
     def test_long_bare_inputs(self):
         told = "1 ok tables=1 depth=1 reads=8"
@@ -156,7 +156,7 @@ class Streams(Case):
         length = 67_108_864
         self.same("a message of 64 MiB", run(*BY_M, given=named(length)), good("1 ok tables=1 depth=1 reads=9"))
         self.same("one byte more", run(*BY_M, given=named(length + 1)),
-                  failed(f"stream: S1 Oversize declared={length - 3}"))
+                  failed(astray(f"stream: S1 Oversize declared={length - 3}")))
         self.same("64 MiB, bare", run(*BY_M, "--bare", given=named(length, prefix=False)),
                   good("1 ok tables=1 depth=1 reads=8"))
         self.same("one byte more, bare", run(*BY_M, "--bare", given=named(length + 1, prefix=False)),

@@ -111,6 +111,12 @@ def failed(text, *before):
     return Ran(3, lines(*before), lines(f"fbcheck: {text}"))
 
 
+def astray(text):
+    """The text of a stream's fault, where no good message came before."""
+    return (f"{text}; no good message came before: --bare is for a buffer without a prefix, "
+            "--delimited for prefixes outside the buffers")
+
+
 FOLDER = pathlib.Path(tempfile.mkdtemp(prefix="fbcheck-tests-"))
 atexit.register(shutil.rmtree, FOLDER, ignore_errors=True)
 

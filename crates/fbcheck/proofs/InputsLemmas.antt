@@ -13,6 +13,8 @@ use Rattle.fb_run.specs.declared.options.Options.{Options}
 use Rattle.fb_run.specs.declared.fault.RunFault.{RunFault}
 use Rattle.fb_run.specs.declared.fault.RunFault.TheVariants as run
 use Rattle.fb_run.specs.declared.run.Ran.{Ran}
+use Rattle.fb_run.specs.declared.tally.Tally.{Tally}
+use Rattle.fbcheck.specs.Hints.{run_hint}
 use Rattle.fbcheck.specs.Inputs.{Folder, HaltsAmong, IsBehind, IsBehindFault, IsBehindRun, IsNotedOf, Passes, PassesAll, Stand, Tries, are_several, course_with, fault_line, is_final, is_standard, label_of, with_label, standard_after, sum_of_counts, sums}
 use Rattle.fbcheck.specs.declared.files.FileFault.TheVariants as file
 use Rattle.fbcheck.specs.declared.inputs.Course.{Course}
@@ -123,11 +125,12 @@ turns_on calls Unread new first before after kept spent now then = subst (λ s. 
 turns_on calls Spent new first before after kept spent now then = subst (λ s. calls s ≤ calls first + 4294967296) (sym (spent refl).1) then
 
 -- behind a fault that doesn't end it all stands its line
-pub behind_noted : (name : List ℕ) (end : End) (fault : RunFault) (before after : Writer) (answer : End) (why : List ℕ) → end ≡ Err fault → is_final fault ≡ false
-    → IsNotedOf (fault_line name why) before after answer → IsBehindRun name end before after answer
-behind_noted name end fault before after answer why is isnt noted =
-    subst (λ (e : End). IsBehindRun name e before after answer) (sym is)
-    (subst (λ (b : Bool). IsBehindFault b name fault before after answer) (sym isnt) (why, noted))
+pub behind_noted : (name : List ℕ) (tally : Tally) (end : End) (fault : RunFault) (before after : Writer) (answer : End) (why behind : List ℕ) → end ≡ Err fault → is_final fault ≡ false
+    → behind ≡ run_hint fault tally → IsNotedOf (fault_line name why behind) before after answer → IsBehindRun name tally end before after answer
+behind_noted name tally end fault before after answer why behind is isnt hint noted =
+    subst (λ (e : End). IsBehindRun name tally e before after answer) (sym is)
+    (subst (λ (b : Bool). IsBehindFault b name tally fault before after answer) (sym isnt)
+    (why, subst (λ (b : List ℕ). IsNotedOf (fault_line name why b) before after answer) hint noted))
 
 -- what is asked, with another label
 pub relabelled : (rows : Rows) (options : Options) (job : Job) (label : Option (Vec ℕ Global)) (old text : Option (List ℕ)) → job_of rows options ≡ with_label old job
@@ -141,22 +144,22 @@ IsTurns (Ok done) = ⊥
 IsTurns (Err run.TooManyTurns) = Unit {0}
 IsTurns (Err fault) = ⊥
 
-behind_run_never : (name : List ℕ) (ran end : End) (before after : Writer) → IsBehindRun name ran before after end → IsTurns end → ⊥
+behind_run_never : (name : List ℕ) (tally : Tally) (ran end : End) (before after : Writer) → IsBehindRun name tally ran before after end → IsTurns end → ⊥
 unfolding IsTurns
-behind_run_never name (Ok done) end before after (is, same) turns = subst IsTurns is turns
-behind_run_never name (Err (run.WriteFault written)) end before after (is, same) turns = subst IsTurns is turns
-behind_run_never name (Err (run.NoteFault written)) end before after (is, same) turns = subst IsTurns is turns
-behind_run_never name (Err run.OutOfMemory) end before after (is, same) turns = subst IsTurns is turns
-behind_run_never name (Err fault) (Ok done) before after told turns = turns
-behind_run_never name (Err fault) (Err (run.NoteFault written)) before after told turns = turns
-behind_run_never name (Err fault) (Err run.OutOfMemory) before after told turns = turns
-behind_run_never name (Err fault) (Err run.TooManyTurns) before after (why, never) turns = never
-behind_run_never name (Err fault) (Err other) before after told turns = turns
+behind_run_never name tally (Ok done) end before after (is, same) turns = subst IsTurns is turns
+behind_run_never name tally (Err (run.WriteFault written)) end before after (is, same) turns = subst IsTurns is turns
+behind_run_never name tally (Err (run.NoteFault written)) end before after (is, same) turns = subst IsTurns is turns
+behind_run_never name tally (Err run.OutOfMemory) end before after (is, same) turns = subst IsTurns is turns
+behind_run_never name tally (Err fault) (Ok done) before after told turns = turns
+behind_run_never name tally (Err fault) (Err (run.NoteFault written)) before after told turns = turns
+behind_run_never name tally (Err fault) (Err run.OutOfMemory) before after told turns = turns
+behind_run_never name tally (Err fault) (Err run.TooManyTurns) before after (why, never) turns = never
+behind_run_never name tally (Err fault) (Err other) before after told turns = turns
 
 -- nothing behind a file is an end for too many calls
 pub behind_never : (name : List ℕ) (came : Result Ran Missed) (end : End) (before after : Writer) → IsBehind name came before after end → IsTurns end → ⊥
 unfolding IsTurns
-behind_never name (Ok ran) end before after told turns = behind_run_never name ran.end end before after told turns
+behind_never name (Ok ran) end before after told turns = behind_run_never name ran.tally ran.end end before after told turns
 behind_never name (Err (missed.File file.OutOfMemory)) end before after (is, same) turns = subst IsTurns is turns
 behind_never name (Err (missed.File (file.Unreadable cause))) (Ok done) before after told turns = turns
 behind_never name (Err (missed.File (file.Unreadable cause))) (Err run.TooManyTurns) before after told turns = told

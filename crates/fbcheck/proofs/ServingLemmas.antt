@@ -37,7 +37,7 @@ module _ (folder : Folder) where
       → ComesBy folder given (beside reader (record { writer = writer; notes = notes })) (beside reader (record { writer = writer'; notes = notes })) None outcome
   comes_unserved given reader writer writer' notes fault (Ok (Checked tally)) refuses never = absurd never
   comes_unserved given reader writer writer' notes fault (Ok (Passed course)) refuses never = absurd never
-  comes_unserved given reader writer writer' notes fault (Err (stop.Run cause)) refuses never = absurd never
+  comes_unserved given reader writer writer' notes fault (Err (stop.Run cause tally)) refuses never = absurd never
   comes_unserved given reader writer writer' notes fault (Err (stop.Halted cause)) refuses never = absurd never
   comes_unserved given reader writer writer' notes fault (Err (stop.Ask cause)) refuses never = absurd never
   comes_unserved given reader writer writer' notes fault (Err (stop.File cause hint)) refuses never = absurd never
@@ -74,7 +74,7 @@ module _ (folder : Folder) where
   pub comes_run : (given : List Text) (before after : Ends) (sums : Option Sums) (tally : Tally) (end : End) (outcome : Result Ending Stop) → outcome ≡ run_ending tally end
       → ChecksAsGiven folder given before after sums tally end → ComesBy folder given before after sums outcome
   comes_run given before after sums tally (Ok done) outcome is checks = subst (λ (o : Result Ending Stop). ComesBy folder given before after sums o) (sym is) checks
-  comes_run given before after sums tally (Err fault) outcome is checks = subst (λ (o : Result Ending Stop). ComesBy folder given before after sums o) (sym is) (tally, checks)
+  comes_run given before after sums tally (Err fault) outcome is checks = subst (λ (o : Result Ending Stop). ComesBy folder given before after sums o) (sym is) checks
 
   pub comes_files : (given : List Text) (before after : Ends) (sums : Option Sums) (course : Course) (end : End) (outcome : Result Ending Stop) → outcome ≡ files_ending course end
       → PassesAsGiven folder given before after sums course end → ComesBy folder given before after sums outcome

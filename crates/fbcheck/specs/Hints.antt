@@ -1,4 +1,4 @@
--- What is told behind a fault of status 2, to the end of its line.
+-- What is told behind a fault, to the end of its line.
 use Rattle.std.specs.Prelude.{ℕ, zero, suc, ◌==◌, ◌||◌, ◌&&◌, nat_le, Bool, false, not, if◌then◌else◌, List, [], ◌∷◌, ◌++◌, length, take, map, Option, Some, None, Result, Ok, Err, Vec, codes}
 use Rattle.std.specs.Global.{Global}
 use Rattle.std.specs.Borrow.{Bor}
@@ -7,6 +7,9 @@ use Rattle.std.specs.declared.io.ErrorKind.{ErrorKind}
 use Rattle.std.specs.declared.io.ErrorKind.TheVariants as kind
 use Rattle.fb_access.specs.declared.path_fault.PathFault.TheVariants.{NoSuchField}
 use Rattle.fb_run.specs.AnswerText.{byte_text}
+use Rattle.fb_run.specs.declared.fault.RunFault.{RunFault}
+use Rattle.fb_run.specs.declared.fault.RunFault.TheVariants.{Stream}
+use Rattle.fb_run.specs.declared.tally.Tally.{Tally}
 use Rattle.fb_schema.specs.declared.kinds.Kind.{Kind}
 use Rattle.fb_schema.specs.declared.kinds.Kind.TheVariants.{Struct, Table}
 use Rattle.fb_schema.specs.Live.{Live, live_fields}
@@ -105,3 +108,10 @@ hint_text (Some hint) = hint.items
 abbrev pub with_hint : AskFault → Result (Vec ℕ Global) AllocError → Unasked
 with_hint fault (Ok hint) = record { fault = fault; hint = Some hint }
 with_hint fault (Err none) = record { fault = OutOfMemory; hint = None }
+
+-- behind the fault of a stream of which no message was good stands which options other input needs
+abbrev pub run_hint : RunFault → Tally → List ℕ
+run_hint (Stream cause) tally =
+    if tally.yes == 0 then codes "; no good message came before: --bare is for a buffer without a prefix, --delimited for prefixes outside the buffers\n"
+    else codes "\n"
+run_hint fault tally = codes "\n"

@@ -35,4 +35,4 @@ pub record Courses : Type 0 where
 pub record Labels : Type 0 where
   pub of_two : label_of (are_several (codes "a" ∷ codes "b" ∷ [])) (codes "a") ≡ Some (codes "a")
   pub of_one : label_of (are_several (codes "a" ∷ [])) (codes "a") ≡ None
-  pub of_a_fault : fault_line (codes "a.bin") (codes "no such file") ≡ codes "fbcheck: a.bin: no such file\n"
+  pub of_a_fault : fault_line (codes "a.bin") (codes "no such file") (codes "\n") ≡ codes "fbcheck: a.bin: no such file\n"

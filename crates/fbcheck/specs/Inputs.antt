@@ -15,7 +15,7 @@ use Rattle.fb_run.specs.declared.fault.RunFault.{RunFault}
 use Rattle.fb_run.specs.declared.fault.RunFault.TheVariants.{WriteFault, NoteFault, TooManyTurns, OutOfMemory}
 use Rattle.fb_run.specs.declared.run.Ran.{Ran}
 use Rattle.fb_run.specs.declared.tally.Tally.{Tally}
-use Rattle.fbcheck.specs.Hints.{reason_text}
+use Rattle.fbcheck.specs.Hints.{reason_text, run_hint}
 use Rattle.fbcheck.specs.declared.files.Files as files
 use Rattle.fbcheck.specs.declared.files.FileFault.{FileFault}
 use Rattle.fbcheck.specs.declared.files.FileFault.TheVariants as file
@@ -120,9 +120,9 @@ abbrev pub ComesOf : Folder → Job → List ℕ → Standard → Ends → Ends 
 ComesOf folder job name standard before after (Ok ran) = RunsOver (is_standard name) folder job name standard before after ran
 ComesOf folder job name standard before after (Err cause) = IsMissed folder name standard cause × (after ≡ before)
 
--- the line that tells why a file wasn't checked to its end
-abbrev pub fault_line : List ℕ → List ℕ → List ℕ
-fault_line name why = codes "fbcheck: " ++ flat_map byte_text name ++ codes ": " ++ why ++ codes "\n"
+-- the line that tells why a file wasn't checked to its end, with what stands behind that
+abbrev pub fault_line : List ℕ → List ℕ → List ℕ → List ℕ
+fault_line name why behind = codes "fbcheck: " ++ flat_map byte_text name ++ codes ": " ++ why ++ behind
 
 -- this line was noted; or in a write that failed a front of it, or nothing for want of memory, and that ends it all
 abbrev pub IsNotedOf : List ℕ → Writer → Writer → End → Type 0
@@ -139,21 +139,21 @@ is_final OutOfMemory = true
 is_final fault = false
 
 -- behind a fault of a run: nothing, where that ends it all; else it is noted
-abbrev pub IsBehindFault : Bool → List ℕ → RunFault → Writer → Writer → End → Type 0
-IsBehindFault true name fault before after end = (end ≡ Err fault) × (after ≡ before)
-IsBehindFault false name fault before after end = (why : List ℕ) × IsNotedOf (fault_line name why) before after end
+abbrev pub IsBehindFault : Bool → List ℕ → Tally → RunFault → Writer → Writer → End → Type 0
+IsBehindFault true name tally fault before after end = (end ≡ Err fault) × (after ≡ before)
+IsBehindFault false name tally fault before after end = (why : List ℕ) × IsNotedOf (fault_line name why (run_hint fault tally)) before after end
 
 -- behind a run
-abbrev pub IsBehindRun : List ℕ → End → Writer → Writer → End → Type 0
-IsBehindRun name (Ok done) before after end = (end ≡ Ok tt) × (after ≡ before)
-IsBehindRun name (Err fault) before after end = IsBehindFault (is_final fault) name fault before after end
+abbrev pub IsBehindRun : List ℕ → Tally → End → Writer → Writer → End → Type 0
+IsBehindRun name tally (Ok done) before after end = (end ≡ Ok tt) × (after ≡ before)
+IsBehindRun name tally (Err fault) before after end = IsBehindFault (is_final fault) name tally fault before after end
 
 -- the same where there may have been no run
 abbrev pub IsBehind : List ℕ → Result Ran Missed → Writer → Writer → End → Type 0
-IsBehind name (Ok ran) before after end = IsBehindRun name ran.end before after end
+IsBehind name (Ok ran) before after end = IsBehindRun name ran.tally ran.end before after end
 IsBehind name (Err (missed.File file.OutOfMemory)) before after end = (end ≡ Err OutOfMemory) × (after ≡ before)
-IsBehind name (Err (missed.File (file.Unreadable cause))) before after end = IsNotedOf (fault_line name (reason_text cause)) before after end
-IsBehind name (Err missed.Again) before after end = IsNotedOf (fault_line name (codes "standard input was read before")) before after end
+IsBehind name (Err (missed.File (file.Unreadable cause))) before after end = IsNotedOf (fault_line name (reason_text cause) (codes "\n")) before after end
+IsBehind name (Err missed.Again) before after end = IsNotedOf (fault_line name (codes "standard input was read before") (codes "\n")) before after end
 
 -- standard input once this file was gone through
 abbrev pub standard_after : Bool → Standard → Standard

@@ -6,7 +6,7 @@ use Rattle.clap.specs.Walk.{Text}
 use Rattle.clap.specs.Faults.{fault_of}
 use Rattle.fbcheck.specs.Asked.{form_of}
 use Rattle.fbcheck.specs.Checking.{IsIdle, IsPromptOverAsked, IsUntold, RunsAsAsked, ServesAsAsked, names_in}
-use Rattle.fbcheck.specs.Hints.{file_hint, hint_text}
+use Rattle.fbcheck.specs.Hints.{file_hint, hint_text, run_hint}
 use Rattle.fbcheck.specs.Faults.{HasFileFault, IsFile, ask_status}
 use Rattle.fbcheck.specs.Inputs.{Folder}
 use Rattle.fbcheck_words.specs.CommandLine.{program}
@@ -72,7 +72,7 @@ PassesAsGiven folder given before after sums course end =
 -- how the program ends by the end of a run, and of files
 abbrev pub run_ending : Tally → End → Result Ending Stop
 run_ending tally (Ok done) = Ok (Checked tally)
-run_ending tally (Err fault) = Err (stop.Run fault)
+run_ending tally (Err fault) = Err (stop.Run fault tally)
 
 abbrev pub files_ending : Course → End → Result Ending Stop
 files_ending course (Ok done) = Ok (Passed course)
@@ -109,7 +109,7 @@ IsUnserved given before after outcome =
 -- what the program came to by these words, what it read, wrote and noted by then, and the numbers that are to be told
 abbrev pub ComesBy : Folder → List Text → Ends → Ends → Option Sums → Result Ending Stop → Type 0
 ComesBy folder given before after sums (Ok (Checked tally)) = ChecksAsGiven folder given before after sums tally (Ok tt)
-ComesBy folder given before after sums (Err (stop.Run fault)) = (tally : Tally) × ChecksAsGiven folder given before after sums tally (Err fault)
+ComesBy folder given before after sums (Err (stop.Run fault tally)) = ChecksAsGiven folder given before after sums tally (Err fault)
 ComesBy folder given before after sums (Ok (Passed course)) = PassesAsGiven folder given before after sums course (Ok tt)
 ComesBy folder given before after sums (Err (stop.Halted fault)) = (course : Course) × PassesAsGiven folder given before after sums course (Err fault)
 ComesBy folder given before after sums (Err (stop.Ask unasked)) =
@@ -128,7 +128,7 @@ ComesTo folder (Err fault) before after sums _ = ⊥
 -- stands with each of them
 abbrev pub EndsSo : Ends → Ends → ℕ → Result Ending Stop → Type 0
 EndsSo before after turns (Ok (Checked tally)) = EndsBeside before after turns (Ok tt)
-EndsSo before after turns (Err (stop.Run fault)) = EndsBeside before after turns (Err fault)
+EndsSo before after turns (Err (stop.Run fault tally)) = EndsBeside before after turns (Err fault)
 EndsSo before after turns (Ok (Passed course)) = Unit {0}
 EndsSo before after turns (Err (stop.Halted fault)) = Unit {0}
 EndsSo before after turns (Err (stop.CutOff written)) = EndsBeside before after turns (Err (WriteFault written))
@@ -163,6 +163,7 @@ SumsUp (Some sums) before after outcome ending =
 abbrev pub behind : Stop → List ℕ
 behind (stop.File fault hint) = hint.items
 behind (stop.Ask unasked) = hint_text unasked.hint
+behind (stop.Run fault tally) = run_hint fault tally
 behind _ = codes "\n"
 
 -- nothing is told of a good end; of a stop the text of `clap`, or else a line that begins with the program's name
@@ -182,7 +183,7 @@ stop_status (stop.Unsummed written) = 3
 stop_status (stop.File (file_fault.Unreadable cause) hint) = 2
 stop_status (stop.File file_fault.OutOfMemory hint) = 3
 stop_status (stop.Ask unasked) = ask_status unasked.fault
-stop_status (stop.Run fault) = status_of (Err fault)
+stop_status (stop.Run fault tally) = status_of (Err fault)
 stop_status (stop.Halted fault) = status_of (Err fault)
 
 -- the exit status

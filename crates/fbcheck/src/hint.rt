@@ -1,14 +1,14 @@
-//! What is told behind a fault of status 2, to the end of its line.
+//! What is told behind a fault, to the end of its line.
 
 ghost use Rattle.std.specs.Prelude.{IfOk, IfSome, OnOk, Some, ◌≡◌, ◌++◌, option_map, slice_get, string_bytes};
 ghost use Rattle.std.specs.List.{list_all};
 ghost use Rattle.fb_access.specs.Kept.{IsThere};
-ghost use Rattle.fbcheck.specs.Hints.{fields_at, file_hint, front_hint, hint_text, in_path, is_blank, is_plain, listed, named, opens, path_hint, reason_text, root_hint, schema_hint, tables_in, with_hint};
+ghost use Rattle.fbcheck.specs.Hints.{fields_at, file_hint, front_hint, hint_text, in_path, is_blank, is_plain, listed, named, opens, path_hint, reason_text, root_hint, run_hint, schema_hint, tables_in, with_hint};
 
 use crate::fault::AskFault;
 use crate::files::FileFault;
 use fb_access::PathFault;
-use fb_run::put_bytes;
+use fb_run::{RunFault, Tally, put_bytes};
 use fb_schema::{Kind, Schema};
 use std::alloc::{AllocError, Global};
 use std::io::ErrorKind;
@@ -274,4 +274,17 @@ pub fn schema_hint(alloc: Global, file: Option<&[u8]>) -> Result<Vec<u8>, AllocE
         None => text.extend_from_slice(b"\n")?,
     }
     Ok(text)
+}
+
+/// What is told behind the fault of a run that came to this: of a stream of which no message was good, which options
+/// other input needs.
+pub fn run_hint(fault: &RunFault, tally: &Tally) -> &'static [u8]
+    ensures { result.now ≡ run_hint fault.now tally.now }
+{
+    match fault {
+        RunFault::Stream(_) if tally.yes == 0 => {
+            b"; no good message came before: --bare is for a buffer without a prefix, --delimited for prefixes outside the buffers\n"
+        }
+        _ => b"\n",
+    }
 }

@@ -10,7 +10,7 @@ ghost use Rattle.fbcheck.specs.Inputs.{ComesOf, IsBehind, IsBehindRun, IsNotedOf
 ghost use Rattle.fbcheck.specs.declared.inputs.Standard.TheVariants.{Unread, Spent};
 
 use crate::files::{FileFault, Files};
-use crate::hint::reason;
+use crate::hint::{reason, run_hint};
 use crate::reading::{Explained, Explains};
 use arrayvec::ArrayString;
 use fb_bytes::Sink;
@@ -345,12 +345,15 @@ fn tell_behind<N: Sink>(
     ensures calls { N.calls notes.new ≤ N.calls notes.old + 2 ^ 64 }
 {
     match &came.what {
-        Ok(ran) => tell_run(alloc, name, &ran.end, came.cause, notes),
+        Ok(ran) => tell_run(alloc, name, ran, came.cause, notes),
         Err(Missed::File(FileFault::OutOfMemory)) => Err(RunFault::OutOfMemory),
         Err(Missed::File(FileFault::Unreadable(cause))) => {
-            tell_fault(alloc, name, reason(*cause), notes)
+            tell_fault(alloc, name, reason(*cause), b"\n", notes)
         }
-        Err(Missed::Again) => tell_fault(alloc, name, b"standard input was read before", notes),
+        Err(Missed::Again) => {
+            let why = b"standard input was read before";
+            tell_fault(alloc, name, why, b"\n", notes)
+        }
     }
 }
 
@@ -358,24 +361,25 @@ fn tell_behind<N: Sink>(
 fn tell_run<N: Sink>(
     alloc: Global,
     name: &str,
-    end: &Result<(), RunFault>,
+    ran: &Ran,
     cause: Option<ErrorKind>,
     notes: &mut N,
 ) -> Result<(), RunFault>
     requires { N.calls notes.old < 2 ^ 99 }
-    ensures told { IsBehindRun name.now end.now (writer_of N.Sink notes.old) (writer_of N.Sink notes.new) result }
+    ensures told { IsBehindRun name.now ran.now.tally ran.now.end (writer_of N.Sink notes.old) (writer_of N.Sink notes.new) result }
     ensures calls { N.calls notes.new ≤ N.calls notes.old + 2 ^ 64 }
 {
-    let Err(fault) = end else {
+    let Err(fault) = &ran.end else {
         return Ok(());
     };
     if is_final(fault) {
         return Err(*fault);
     }
+    let behind = run_hint(fault, &ran.tally);
     let mut why = ArrayString::<ROOM>::new();
     let fault = *fault;
     let _ = write!(why, "{}", Explained { fault, cause });
-    tell_fault(alloc, name, why.as_str().as_bytes(), notes)
+    tell_fault(alloc, name, why.as_str().as_bytes(), behind, notes)
 }
 
 /// Whether a fault ends it all: a failed write or note, or want of memory.
@@ -388,13 +392,19 @@ fn is_final(fault: &RunFault) -> bool
     }
 }
 
-/// Notes why a file wasn't checked to its end.
-fn tell_fault<N: Sink>(alloc: Global, name: &str, why: &[u8], notes: &mut N) -> Result<(), RunFault>
+/// Notes why a file wasn't checked to its end, with what stands behind that.
+fn tell_fault<N: Sink>(
+    alloc: Global,
+    name: &str,
+    why: &[u8],
+    behind: &[u8],
+    notes: &mut N,
+) -> Result<(), RunFault>
     requires { N.calls notes.old < 2 ^ 99 }
-    ensures told { IsNotedOf (fault_line name.now why.now) (writer_of N.Sink notes.old) (writer_of N.Sink notes.new) result }
+    ensures told { IsNotedOf (fault_line name.now why.now behind.now) (writer_of N.Sink notes.old) (writer_of N.Sink notes.new) result }
     ensures calls { N.calls notes.new ≤ N.calls notes.old + 2 ^ 64 }
 {
-    let line = fault_line(alloc, name, why)?;
+    let line = fault_line(alloc, name, why, behind)?;
     let written = push_all(notes, line.as_slice());
     if written < line.len() {
         return Err(RunFault::NoteFault {
@@ -405,14 +415,14 @@ fn tell_fault<N: Sink>(alloc: Global, name: &str, why: &[u8], notes: &mut N) -> 
 }
 
 /// The line that tells it.
-fn fault_line(alloc: Global, name: &str, why: &[u8]) -> Result<Vec<u8>, AllocError>
-    ensures { IfOk result (λ line. line.items ≡ fault_line name.now why.now) }
+fn fault_line(alloc: Global, name: &str, why: &[u8], behind: &[u8]) -> Result<Vec<u8>, AllocError>
+    ensures { IfOk result (λ line. line.items ≡ fault_line name.now why.now behind.now) }
 {
     let mut line = Vec::new(alloc);
     line.extend_from_slice(b"fbcheck: ")?;
     put_bytes(&mut line, name.as_bytes())?;
     line.extend_from_slice(b": ")?;
     line.extend_from_slice(why)?;
-    line.extend_from_slice(b"\n")?;
+    line.extend_from_slice(behind)?;
     Ok(line)
 }

@@ -102,7 +102,7 @@ fn run_ending(ran: &Ran) -> Result<Ending, Stop>
 {
     match ran.end {
         Ok(()) => Ok(Ending::Checked(ran.tally)),
-        Err(fault) => Err(Stop::Run(fault)),
+        Err(fault) => Err(Stop::Run(fault, ran.tally)),
     }
 }
 

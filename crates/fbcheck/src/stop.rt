@@ -9,7 +9,7 @@ ghost use Rattle.fbcheck_words.specs.declared.choices.SettingsFault.TheVariants 
 ghost use Rattle.fbcheck.specs.declared.stop.Stop.TheVariants as stop;
 
 use crate::files::FileFault;
-use crate::hint::Unasked;
+use crate::hint::{Unasked, run_hint};
 use crate::inputs::Course;
 use crate::reading::Explained;
 use arrayvec::ArrayString;
@@ -99,9 +99,9 @@ pub enum Stop {
     /// There was nothing to check by.
     #[error("{0}")]
     Ask(Unasked),
-    /// The run came to rest.
+    /// The run came to rest, which came to this.
     #[error("{0}")]
-    Run(RunFault),
+    Run(RunFault, Tally),
     /// The run over a file came to rest for what ends the whole call, or wasn't begun.
     #[error("{0}")]
     Halted(RunFault),
@@ -137,7 +137,7 @@ impl Stop {
             Stop::CutOff { .. } | Stop::Unsummed { .. } => 3,
             Stop::Settings(fault) => fault.status(),
             Stop::Ask(unasked) => unasked.fault.status(),
-            Stop::Run(fault) | Stop::Halted(fault) => status(&Err(*fault)),
+            Stop::Run(fault, _) | Stop::Halted(fault) => status(&Err(*fault)),
         }
     }
 
@@ -148,6 +148,7 @@ impl Stop {
         match self {
             Stop::File(_, hint) => hint.as_slice(),
             Stop::Ask(unasked) => unasked.hint(),
+            Stop::Run(fault, tally) => run_hint(fault, tally),
             _ => b"\n",
         }
     }
@@ -165,7 +166,7 @@ impl Stop {
         }
         let mut why = ArrayString::<ROOM>::new();
         let _ = match self {
-            Stop::Run(fault) => write!(
+            Stop::Run(fault, _) => write!(
                 why,
                 "{}",
                 Explained {
