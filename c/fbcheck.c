@@ -48,6 +48,7 @@ uint32_t fbcheck_read_proved(handle schema, handle *room, const fbcheck_options 
 uint32_t fbcheck_most_reads_proved(handle schema, const fbcheck_options *options, uint64_t length, uint64_t *reads);
 size_t fbcheck_reason_name_proved(uint32_t reason, uint8_t *text, size_t room);
 size_t fbcheck_fault_name_proved(uint32_t status, uint32_t number, uint8_t *text, size_t room);
+size_t fbcheck_status_text_proved(uint32_t status, uint8_t *text, size_t room);
 size_t fbcheck_object_name_proved(handle schema, uint32_t object, uint8_t *text, size_t room);
 size_t fbcheck_field_name_proved(handle schema, uint32_t object, uint32_t field, uint8_t *text, size_t room);
 uint32_t fbcheck_framer_feed_proved(fbcheck_framer *framer, uint8_t *room, size_t size, const uint8_t *piece,
@@ -231,6 +232,14 @@ size_t fbcheck_fault_name(uint32_t status, uint32_t number, char *text, size_t r
     if (text == NULL && room != 0)
         return 0;
     return fbcheck_fault_name_proved(status, number, text != NULL ? (uint8_t *)text : none, room);
+}
+
+size_t fbcheck_status_text(uint32_t status, char *text, size_t room)
+{
+    uint8_t none[1];
+    if (text == NULL && room != 0)
+        return 0;
+    return fbcheck_status_text_proved(status, text != NULL ? (uint8_t *)text : none, room);
 }
 
 size_t fbcheck_object_name(const fbcheck_schema *schema, uint32_t object, char *text, size_t room)

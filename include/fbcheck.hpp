@@ -23,7 +23,6 @@
 #include <cstddef>
 #include <cstdint>
 #include <cstring>
-#include <iterator>
 #include <memory>
 #include <new>
 #include <optional>
@@ -64,26 +63,21 @@ class Bytes {
 
 // What a status other than FBCHECK_OK says, with what else the verdict tells of it, as "V2 OutOfBuffer at=28".
 inline std::string why(const fbcheck_verdict &told) {
-    static constexpr const char *words[] = {
-        "good", "bad", "a pointer is null, or the schema was moved from", "the options are of another version",
-        "a depth or a room is out of range", "the schema's identifier isn't four bytes", "no root table",
-        "2^31 bytes or more", "not well formed", "no schema", "its root table isn't listed", "out of memory",
-        "the span isn't in the block", "the message goes on", "a message is too long for the room",
-        "the stream ends inside a message", "the stream has failed before", "no path", "too many steps",
-        "a path is none of this schema's from this root", "its rows or names are more than its length pays for"};
     const auto part = [](const char *name, std::uint64_t value) { return name + std::to_string(value); };
     const auto place = [&] {
         return part(" object=", told.object) +
                (told.field == FBCHECK_NONE ? std::string(" field=-") : part(" field=", told.field));
     };
-    char text[20];
+    char text[64];
     const std::string name(text, fbcheck_fault_name(told.status, told.reason, text, sizeof text));
     if (told.status == FBCHECK_BAD) return name + part(" at=", told.at) + place();
     if (told.status == FBCHECK_NOT_WELL_FORMED) return name + part(" at=", told.at);
     if (told.status == FBCHECK_BAD_SCHEMA) return name + place();
     if (told.status == FBCHECK_BAD_PATH)
         return name + part(told.reason == FBCHECK_BAD_TEXT ? " at=" : " step=", told.at);
-    return told.status < std::size(words) ? words[told.status] : part("status ", told.status);
+    const std::string words(text, fbcheck_status_text(told.status, text, sizeof text));
+    if (words.empty()) return part("status ", told.status);
+    return told.status == FBCHECK_NULL ? words + ", or the schema was moved from" : words;
 }
 
 // The same of a status alone.

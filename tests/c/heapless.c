@@ -72,7 +72,8 @@ static void call_each(fbcheck_scratch *scratch)
         _exit(3);
     if (fbcheck_object_name(schema, 0, name, sizeof name) == 0
         || fbcheck_field_name(schema, 0, 0, name, sizeof name) > sizeof name
-        || fbcheck_reason_name(1, name, sizeof name) == 0 || fbcheck_fault_name(1, 1, name, sizeof name) == 0)
+        || fbcheck_reason_name(1, name, sizeof name) == 0 || fbcheck_fault_name(1, 1, name, sizeof name) == 0
+        || fbcheck_status_text(0, name, sizeof name) != 4)
         _exit(4);
 }
 

@@ -3,8 +3,8 @@
  * program does.
  *
  * A message stands right before a page that can't be read, and the next time right behind one, so that a read outside
- * of it ends the process. The first time it is checked on the call's own stack, where that has room, and then with a
- * scratch. Then all are checked at once where they stand in the stream, which must give the same verdicts.
+ * of it ends the process. Each time it is checked on the call's own stack, where that has room, and with a scratch. Then
+ * all are checked at once where they stand in the stream, which must give the same verdicts.
  */
 #include "../../examples/c/telling.h"
 
@@ -70,20 +70,32 @@ static struct asked asked_by(int count, char **words)
     return asked;
 }
 
-/* The verdict on a message, which two pages that can't be read have given alike. */
+/* Checks a message where it stands, on the call's own stack where that has room, and with a scratch. */
+static fbcheck_verdict verdict_at(const fbcheck_schema *schema, fbcheck_scratch *scratch,
+                                  const fbcheck_options *options, const uint8_t *place, size_t length)
+{
+    fbcheck_verdict alone, with;
+    fbcheck_verify(schema, options->max_depth > FBCHECK_DEEP ? scratch : NULL, options, place, length, &alone);
+    fbcheck_verify(schema, scratch, options, place, length, &with);
+    if (memcmp(&alone, &with, sizeof alone) != 0)
+        fail("a verdict with a scratch differs");
+    return alone;
+}
+
+/* The verdict on a message, which beside two pages that can't be read is the same. */
 static fbcheck_verdict verdict_on(const fbcheck_schema *schema, fbcheck_scratch *scratch,
                                   const fbcheck_options *options, struct field field, const uint8_t *message,
                                   size_t length)
 {
-    fbcheck_verdict verdict, again;
+    fbcheck_verdict before, behind;
     uint8_t *place = field.first + field.length - length;
     memcpy(place, message, length);
-    fbcheck_verify(schema, options->max_depth > FBCHECK_DEEP ? scratch : NULL, options, place, length, &verdict);
+    before = verdict_at(schema, scratch, options, place, length);
     memcpy(field.first, message, length);
-    fbcheck_verify(schema, scratch, options, field.first, length, &again);
-    if (memcmp(&verdict, &again, sizeof verdict) != 0)
+    behind = verdict_at(schema, scratch, options, field.first, length);
+    if (memcmp(&before, &behind, sizeof before) != 0)
         fail("two verdicts on one message differ");
-    return verdict;
+    return before;
 }
 
 /* Where the messages of a stream lie. */

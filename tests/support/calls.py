@@ -204,6 +204,7 @@ def _library():
         (_U32, "fbcheck_read", [schema, scratch, options, *text, path, value, _SIZE, verdict]),
         (_SIZE, "fbcheck_reason_name", [_U32, *text]),
         (_SIZE, "fbcheck_fault_name", [_U32, _U32, *text]),
+        (_SIZE, "fbcheck_status_text", [_U32, *text]),
         (_SIZE, "fbcheck_object_name", [schema, _U32, *text]),
         (_SIZE, "fbcheck_field_name", [schema, _U32, _U32, *text]),
         (_U32, "fbcheck_version", []),
@@ -323,6 +324,10 @@ class Verifier:
     def fault_name(self, status: int, number: int) -> str | None:
         """The code and name of a fault, by the status and reason of a verdict."""
         return _name(self._calls.fbcheck_fault_name, status, number)
+
+    def status_text(self, status: int) -> str | None:
+        """What a status says in words."""
+        return _name(self._calls.fbcheck_status_text, status)
 
     def object_name(self, number: int) -> str | None:
         """The name of an object by its number."""

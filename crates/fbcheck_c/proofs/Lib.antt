@@ -9,4 +9,5 @@ pub mod PlaceLemmas
 pub mod Shown
 pub mod SpanLemmas
 pub mod StandLemmas
+pub mod StatusWords
 pub mod StepLemmas

@@ -1,5 +1,5 @@
 -- Names by their numbers, and how they are copied.
-use Rattle.std.specs.Prelude.{◌≡◌, ◌≢◌, ℕ, ◌==◌, nat_le, List, ◌++◌, drop, find, length, slice_get, Option, Some, None, option_map, if◌then◌else◌}
+use Rattle.std.specs.Prelude.{◌≡◌, ◌≢◌, ℕ, ◌==◌, nat_le, codes, List, [], ◌∷◌, ◌++◌, drop, find, length, slice_get, IsSome, Option, Some, None, option_map, if◌then◌else◌}
 use Rattle.fb_schema.specs.Live.{live_fields}
 use Rattle.fb_schema.specs.Rows.{Rows, is_table, table_named}
 use Rattle.fb_verify.specs.Reasons.{reason_number, reason_text}
@@ -73,6 +73,20 @@ pub record IsFaultName (status n : ℕ) (name : Option (List ℕ)) : Type 0 wher
   pub of_text : status ≡ 17 → IsPathName n name
   pub of_nothing : status ≢ 1 → status ≢ 8 → status ≢ 9 → status ≢ 17 → name ≡ None
 
+-- what each status says in words, by its number
+abbrev pub status_texts : List (List ℕ)
+status_texts =
+    codes "good" ∷ codes "bad" ∷ codes "a pointer is null" ∷ codes "the options are of another version"
+    ∷ codes "a depth or a room is out of range" ∷ codes "the schema's identifier isn't four bytes" ∷ codes "no root table"
+    ∷ codes "2^31 bytes or more" ∷ codes "not well formed" ∷ codes "no schema" ∷ codes "its root table isn't listed"
+    ∷ codes "out of memory" ∷ codes "the span isn't in the block" ∷ codes "the message goes on"
+    ∷ codes "a message is too long for the room" ∷ codes "the stream ends inside a message"
+    ∷ codes "the stream has failed before" ∷ codes "no path" ∷ codes "too many steps"
+    ∷ codes "a path is none of this schema's from this root" ∷ codes "its rows or names are more than its length pays for" ∷ []
+
+abbrev pub status_text : ℕ → Option (List ℕ)
+status_text n = slice_get status_texts n
+
 -- the code and name of the fault that an answer has, if it is told by a number
 abbrev pub fault_name : Answer → Option (List ℕ)
 fault_name (Bad f) = Some (reason_text f.reason)
@@ -85,3 +99,7 @@ fault_name _ = None
 -- what is the name by the numbers that an answer is told by is that of its own fault
 abbrev pub FaultsHaveTheirNames : Type 0
 FaultsHaveTheirNames = (a : Answer) (name : Option (List ℕ)) → IsFaultName (told a).status (told a).reason name → name ≡ fault_name a
+
+-- each answer is told by a status that has words
+abbrev pub StatusesHaveWords : Type 0
+StatusesHaveWords = (a : Answer) → IsSome (status_text (told a).status)

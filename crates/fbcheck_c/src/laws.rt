@@ -1,7 +1,7 @@
 //! What follows from the definitions of answers alone. These functions have no body: their contracts are the theorems.
 
 ghost use Rattle.fbcheck_c.specs.AnswerLaws.{BadGetsNo, GoodGetsYes, LongGetsItsNumber, ValuesStand};
-ghost use Rattle.fbcheck_c.specs.Names.{FaultsHaveTheirNames};
+ghost use Rattle.fbcheck_c.specs.Names.{FaultsHaveTheirNames, StatusesHaveWords};
 
 /// Where the schema, the room and the options can serve a buffer of less than 2^31 bytes, and some tree of it is well
 /// formed and within the limits, the answer is 0.
@@ -27,4 +27,9 @@ pub fn a_value_stands_where_told()
 /// The status and the number that are told of an answer have the code and name of its own fault, and of no other.
 pub fn a_fault_has_its_name()
     ensures { FaultsHaveTheirNames }
+{}
+
+/// Each answer is told by a status that says something in words.
+pub fn a_status_has_words()
+    ensures { StatusesHaveWords }
 {}

@@ -8,7 +8,7 @@ ghost use Rattle.std.specs.Prelude.{◌≡◌, ℕ, List, None, Option, length, 
 ghost use Rattle.fbcheck_c.specs.Answered.{IfSchema, IsChecked, IsPriceTold, IsRoomMade, IsTaken, levels};
 ghost use Rattle.fbcheck_c.specs.Asked.{published};
 ghost use Rattle.fbcheck_c.specs.Framers.{IsFedTold, IsFinished, IsKept, IsNext};
-ghost use Rattle.fbcheck_c.specs.Names.{IsFaultName, IsNameTold, IsReasonName, field_name, held_name, object_name, table_number};
+ghost use Rattle.fbcheck_c.specs.Names.{IsFaultName, IsNameTold, IsReasonName, field_name, held_name, object_name, status_text, table_number};
 ghost use Rattle.fbcheck_c.specs.Placed.{IsLocatedBy};
 ghost use Rattle.fbcheck_c.specs.Reached.{IsPath, IsReadBy};
 ghost use Rattle.fbcheck_c.specs.Spans.{AreTold, all_good};
@@ -37,7 +37,7 @@ use checking::{check, check_alone, price, read, resolve};
 use fb_bytes::Taken;
 use framer::Framer;
 use handle::Handle;
-use names::{fault_told, field_told, object_told, reason_told, table_of};
+use names::{fault_told, field_told, object_told, reason_told, status_told, table_of};
 use options::Options;
 use place::locate;
 use shared::Shared;
@@ -287,6 +287,14 @@ pub extern "C" fn fbcheck_fault_name_proved(status: u32, number: u32, room: &mut
     ensures { (name : Option (List ℕ)) × IsFaultName status number name × IsNameTold name room.old room.new result }
 {
     fault_told(status, number, room)
+}
+
+/// Copies what a status says in words.
+#[unsafe(no_mangle)]
+pub extern "C" fn fbcheck_status_text_proved(status: u32, room: &mut [u8]) -> usize
+    ensures { IsNameTold (status_text status) room.old room.new result }
+{
+    status_told(status, room)
 }
 
 /// Copies the name of an object by its number.

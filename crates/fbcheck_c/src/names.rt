@@ -5,7 +5,7 @@ ghost use Rattle.fb_access.specs.PathCodes.{path_code};
 ghost use Rattle.fb_access.specs.declared.path_fault.PathFault.{PathFault};
 ghost use Rattle.fb_schema.specs.declared.fault.Code.{Code};
 ghost use Rattle.fbcheck_c.specs.Told.{code_number};
-ghost use Rattle.fbcheck_c.specs.Names.{IsCodeName, IsFaultName, IsNameTold, IsPathName, IsReasonName, NumbersNothing, field_name, filled, held_name, object_name, table_number};
+ghost use Rattle.fbcheck_c.specs.Names.{IsCodeName, IsFaultName, IsNameTold, IsPathName, IsReasonName, NumbersNothing, field_name, filled, held_name, object_name, status_text, table_number};
 ghost use Rattle.fb_verify.specs.Reasons.{reason_number};
 
 use crate::held::Held;
@@ -160,6 +160,46 @@ pub fn fault_told(status: u32, number: u32, room: &mut [u8]) -> usize
         9 => code_told(number, room),
         17 => path_told(number, room),
         _ => 0,
+    }
+}
+
+/// What a status says in words.
+fn status_text(status: u32) -> Option<&'static str>
+    ensures { option_map (λ s. s.now) result ≡ status_text status }
+{
+    match status {
+        0 => Some("good"),
+        1 => Some("bad"),
+        2 => Some("a pointer is null"),
+        3 => Some("the options are of another version"),
+        4 => Some("a depth or a room is out of range"),
+        5 => Some("the schema's identifier isn't four bytes"),
+        6 => Some("no root table"),
+        7 => Some("2^31 bytes or more"),
+        8 => Some("not well formed"),
+        9 => Some("no schema"),
+        10 => Some("its root table isn't listed"),
+        11 => Some("out of memory"),
+        12 => Some("the span isn't in the block"),
+        13 => Some("the message goes on"),
+        14 => Some("a message is too long for the room"),
+        15 => Some("the stream ends inside a message"),
+        16 => Some("the stream has failed before"),
+        17 => Some("no path"),
+        18 => Some("too many steps"),
+        19 => Some("a path is none of this schema's from this root"),
+        20 => Some("its rows or names are more than its length pays for"),
+        _ => None,
+    }
+}
+
+/// Copies what a status says in words. Its length, 0 for a number that is no status.
+pub fn status_told(status: u32, room: &mut [u8]) -> usize
+    ensures { IsNameTold (status_text status) room.old room.new result }
+{
+    match status_text(status) {
+        Some(text) => copied(text.as_bytes(), room),
+        None => 0,
     }
 }
 

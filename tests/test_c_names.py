@@ -1,0 +1,62 @@
+"""The names and words that the library for C tells by numbers: those of the reference, the schema and the list here."""
+
+import ctypes
+import re
+
+from tests.support import schemas
+from tests.support.library import LibraryCase, module
+from tests.support.program import TOP
+
+# What each status says in words, by its number.
+STATUS_TEXTS = [
+    "good", "bad", "a pointer is null", "the options are of another version", "a depth or a room is out of range",
+    "the schema's identifier isn't four bytes", "no root table", "2^31 bytes or more", "not well formed", "no schema",
+    "its root table isn't listed", "out of memory", "the span isn't in the block", "the message goes on",
+    "a message is too long for the room", "the stream ends inside a message", "the stream has failed before", "no path",
+    "too many steps", "a path is none of this schema's from this root",
+    "its rows or names are more than its length pays for",
+]
+
+
+class NamesForC(LibraryCase):
+    def test_names(self):
+        """Names by their numbers, as the schema and the reference have them."""
+        python = module()
+        page = (TOP / "docs/REFERENCE.md").read_text()
+        reasons = re.findall(r"V\d+ [A-Z]\w+", page.split("## Reasons")[1].split("\n## ")[0])
+        rows = [table.split() for table in ["A v", "W", "R u_type u", "Q us_type us"]]
+        with python.Verifier(schemas.X) as verifier:
+            self.same("reasons", [verifier.reason_name(n) for n in range(15)], [None, *reasons, None])
+            codes = [*re.findall(r"`(C\d \w+)`", page), "C9 OutOfMemory"]
+            steps = [*re.findall(r"`(P\d \w+) ", page), "P7 OutOfMemory"]
+            told = {1: reasons, 8: reasons, 9: codes, 17: steps}
+            for status in range(25):
+                given = [verifier.fault_name(status, n) for n in range(15)]
+                named = told.get(status, [])
+                self.same(f"faults of status {status}", given, [None, *named, *[None] * (14 - len(named))])
+            self.same("each status has words", len(STATUS_TEXTS), len(python.Status))
+            self.same("statuses", [verifier.status_text(n) for n in (*range(21), 21, 2**32 - 1)],
+                      [*STATUS_TEXTS, None, None])
+            for number, (table, *fields) in enumerate(rows):
+                self.same(f"object {number}", verifier.object_name(number), table)
+                told = [verifier.field_name(number, n) for n in range(len(fields) + 1)]
+                self.same(f"fields of {table}", told, [*fields, None])
+            numbers = (4, 65536, 2**32 - 1)
+            self.same("no such object", [verifier.object_name(n) for n in numbers], [None] * 3)
+            self.same("no such table", [verifier.field_name(n, 0) for n in numbers], [None] * 3)
+            self.same("no such field", [verifier.field_name(2, n) for n in numbers], [None] * 3)
+            calls, schema, text = verifier._calls, verifier._schema, ctypes.create_string_buffer(b"?" * 8, 8)
+            self.same("too little room", (calls.fbcheck_field_name(schema, 3, 0, text, 6), text.raw), (7, b"?" * 8))
+            self.same("just enough", (calls.fbcheck_field_name(schema, 3, 0, text, 7), text.raw), (7, b"us_type?"))
+            self.same("no room",
+                      (calls.fbcheck_field_name(schema, 3, 0, None, 9), calls.fbcheck_reason_name(1, None, 9),
+                       calls.fbcheck_fault_name(1, 1, None, 9), calls.fbcheck_object_name(schema, 0, None, 9),
+                       calls.fbcheck_status_text(1, None, 9)), (0, 0, 0, 0, 0))
+            got = calls.fbcheck_status_text(6, text, 8)
+            self.same("too little room for words", (got, text.raw), (13, b"us_type?"))
+            self.same("no schema",
+                      (calls.fbcheck_object_name(None, 0, text, 8), calls.fbcheck_field_name(None, 0, 0, text, 8)),
+                      (0, 0))
+            verifier.close()
+            self.same("of no schema", (verifier.object_name(0), verifier.field_name(0, 0)), (None, None))
+            self.same("a reason has its name still", verifier.reason_name(13), "V13 TooManyReads")
