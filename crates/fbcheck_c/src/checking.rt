@@ -51,7 +51,12 @@ pub struct Begun {
 
 /// What a check of so many bytes by these options begins with, in room for so many levels, if it can begin.
 #[inline(always)]
-fn prepare(loaded: &Loaded<'static>, levels: u32, options: &Options, length: u64) -> Option<Begun>
+pub fn prepare(
+    loaded: &Loaded<'static>,
+    levels: u32,
+    options: &Options,
+    length: u64,
+) -> Option<Begun>
     ensures { MatchOption result (CannotBegin loaded.now levels options.now) (Begins loaded.now levels options.now length) }
 {
     if !options.have_limits(levels) {
@@ -80,29 +85,10 @@ fn unserved(loaded: &Loaded<'static>, levels: u32, options: &Options) -> Answer
     }
 }
 
-/// What a check of so many bytes by these options begins with, in room for so many levels.
-///
-/// # Errors
-///
-/// As [`Options::limits`] has it for these levels; then `NoRoot`, then `NoIdent`.
-pub fn begin(
-    loaded: &Loaded<'static>,
-    levels: u32,
-    options: &Options,
-    length: u64,
-) -> Result<Begun, Answer>
-    ensures { MatchResult result (Begins loaded.now levels options.now length) (IsUnserved loaded.now levels options.now) }
-{
-    match prepare(loaded, levels, options, length) {
-        Some(begun) => Ok(begun),
-        None => Err(unserved(loaded, levels, options)),
-    }
-}
-
 /// Writes why a check can't begin, and answers its status. It stands apart, so that one that can pays nothing for it.
 #[cold]
 #[inline(never)]
-fn tell_unserved(
+pub fn tell_unserved(
     loaded: &Loaded<'static>,
     levels: u32,
     options: &Options,
@@ -243,22 +229,23 @@ pub fn check(
 /// where one doesn't fit the schema from the root table, whatever the buffer is.
 fn read_shallow(
     loaded: &Loaded<'static>,
+    verdict: &mut Verdict,
     options: &Options,
     buffer: &[u8],
     paths: &[PlainPath],
     values: &mut [Value],
-) -> Answer
-    ensures { IsRead loaded.now 64 options.now buffer.now paths.now values.old values.new result }
+) -> u32
+    ensures told { (a : Answer) × (verdict.new ≡ told a) × IsRead loaded.now 64 options.now buffer.now paths.now values.old values.new a }
+    ensures status { result ≡ verdict.new.status }
 {
-    let begun = match begin(loaded, SHALLOW, options, buffer.len() as u64) {
-        Ok(begun) => begun,
-        Err(answer) => return answer,
+    let Some(begun) = prepare(loaded, SHALLOW, options, buffer.len() as u64) else {
+        return tell_unserved(loaded, SHALLOW, options, verdict);
     };
     if !paths_fit(&loaded.schema, begun.root, paths) {
-        return Answer::Misfit;
+        return tell_blank(19, verdict);
     }
     let Ok(meter) = Meter::new(buffer) else {
-        return Answer::TooLong;
+        return tell_blank(7, verdict);
     };
     let (start, checks) = (options.start(), options.checks());
     match verify_shallow(
@@ -272,9 +259,9 @@ fn read_shallow(
     ) {
         Ok(verified) => {
             tell_values(&verified, paths, values);
-            Answer::Good(verified.report())
+            tell_good(verified.report(), verdict)
         }
-        Err(fault) => Answer::Bad(fault),
+        Err(fault) => tell_bad(fault, verdict),
     }
 }
 
@@ -282,23 +269,25 @@ fn read_shallow(
 fn read_in(
     loaded: &Loaded<'static>,
     room: &mut Room,
+    verdict: &mut Verdict,
     options: &Options,
     buffer: &[u8],
     paths: &[PlainPath],
     values: &mut [Value],
-) -> Answer
-    ensures answer { IsRead loaded.now room.old options.now buffer.now paths.now values.old values.new result }
+) -> u32
+    ensures told { (a : Answer) × (verdict.new ≡ told a) × IsRead loaded.now room.old options.now buffer.now paths.now values.old values.new a }
+    ensures status { result ≡ verdict.new.status }
     ensures kept { room.new ≡ room.old }
 {
-    let begun = match begin(loaded, room.levels(), options, buffer.len() as u64) {
-        Ok(begun) => begun,
-        Err(answer) => return answer,
+    let levels = room.levels();
+    let Some(begun) = prepare(loaded, levels, options, buffer.len() as u64) else {
+        return tell_unserved(loaded, levels, options, verdict);
     };
     if !paths_fit(&loaded.schema, begun.root, paths) {
-        return Answer::Misfit;
+        return tell_blank(19, verdict);
     }
     let Ok(meter) = Meter::new(buffer) else {
-        return Answer::TooLong;
+        return tell_blank(7, verdict);
     };
     let (start, checks) = (options.start(), options.checks());
     match verify(
@@ -313,9 +302,9 @@ fn read_in(
     ) {
         Ok(verified) => {
             tell_values(&verified, paths, values);
-            Answer::Good(verified.report())
+            tell_good(verified.report(), verdict)
         }
-        Err(fault) => Answer::Bad(fault),
+        Err(fault) => tell_bad(fault, verdict),
     }
 }
 
@@ -324,27 +313,29 @@ pub fn read(
     alloc: Global,
     held: &Held,
     handle: &mut Handle,
+    verdict: &mut Verdict,
     options: &Options,
     buffer: &[u8],
     paths: &[PlainPath],
     values: &mut [Value],
-) -> Answer
-    ensures answer { IsReadBy held.now (levels handle.old.inside) options.now buffer.now paths.now values.old values.new result }
+) -> u32
+    ensures told { (a : Answer) × (verdict.new ≡ told a) × IsReadBy held.now (levels handle.old.inside) options.now buffer.now paths.now values.old values.new a }
+    ensures status { result ≡ verdict.new.status }
     ensures kept { handle.new.inside ≡ handle.old.inside }
 {
     let Held::Schema(loaded) = held else {
-        return Answer::NoRoot;
+        return tell_blank(6, verdict);
     };
     let Some(mut taken) = handle.take(alloc) else {
-        return read_shallow(loaded, options, buffer, paths, values);
+        return read_shallow(loaded, verdict, options, buffer, paths, values);
     };
     let inside = &mut *taken;
-    let answer = match inside {
-        Held::Room(room) => read_in(loaded, room, options, buffer, paths, values),
-        Held::Schema(_) => read_shallow(loaded, options, buffer, paths, values),
+    let status = match inside {
+        Held::Room(room) => read_in(loaded, room, verdict, options, buffer, paths, values),
+        Held::Schema(_) => read_shallow(loaded, verdict, options, buffer, paths, values),
     };
     handle.put(taken);
-    answer
+    status
 }
 
 /// The steps of the path that a text names from the root table that the options ask.

@@ -207,10 +207,16 @@ pub extern "C" fn fbcheck_locate_proved(
     ensures status { result ≡ verdict.new.status }
     ensures kept { room.new.inside ≡ room.old.inside }
 {
-    let located = locate(alloc, schema.held(), room, options, buffer, text, written);
-    let place = located.told();
-    *verdict = place;
-    place.status
+    locate(
+        alloc,
+        schema.held(),
+        room,
+        verdict,
+        options,
+        buffer,
+        text,
+        written,
+    )
 }
 
 /// Writes the path that a text names from the root table.
@@ -248,10 +254,16 @@ pub extern "C" fn fbcheck_read_proved(
     ensures status { result ≡ verdict.new.status }
     ensures kept { room.new.inside ≡ room.old.inside }
 {
-    let answer = read(alloc, schema.held(), room, options, buffer, paths, values);
-    let why = answer.told();
-    *verdict = why;
-    why.status
+    read(
+        alloc,
+        schema.held(),
+        room,
+        verdict,
+        options,
+        buffer,
+        paths,
+        values,
+    )
 }
 
 /// Tells how many reads a check of so many bytes makes at most.

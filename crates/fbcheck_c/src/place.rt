@@ -4,9 +4,11 @@ ghost use Rattle.std.specs.Prelude.{◌≡◌, ◌≤◌, length};
 ghost use Rattle.fb_access.specs.Location.{location_text};
 ghost use Rattle.fbcheck_c.specs.Answered.{levels};
 ghost use Rattle.fbcheck_c.specs.Placed.{IsLocated, IsLocatedBy, IsTextTold, cut_to};
+ghost use Rattle.fbcheck_c.specs.Told.{told};
+ghost use Rattle.fbcheck_c.specs.declared.answer.Answer.{Answer};
 
-use crate::answer::Answer;
-use crate::checking::{SHALLOW, begin};
+use crate::answer::{Verdict, tell_bad, tell_blank, tell_good};
+use crate::checking::{SHALLOW, prepare, tell_unserved};
 use crate::handle::Handle;
 use crate::held::{Held, NO_LINK, Room};
 use crate::options::Options;
@@ -39,21 +41,23 @@ fn write_place(schema: &Schema<'_>, fault: &Fault, links: &[Link], text: &mut [u
 }
 
 /// Checks a buffer as the options ask, in room on the call's own stack, and writes where the fault of a bad one is.
+/// Writes the verdict too, and answers its status.
 fn locate_shallow(
     loaded: &Loaded<'static>,
+    verdict: &mut Verdict,
     options: &Options,
     buffer: &[u8],
     text: &mut [u8],
     written: &mut usize,
-) -> Answer
-    ensures { IsLocated loaded.now 64 options.now buffer.now text.old text.new written.old written.new result }
+) -> u32
+    ensures told { (a : Answer) × (verdict.new ≡ told a) × IsLocated loaded.now 64 options.now buffer.now text.old text.new written.old written.new a }
+    ensures status { result ≡ verdict.new.status }
 {
-    let begun = match begin(loaded, SHALLOW, options, buffer.len() as u64) {
-        Ok(begun) => begun,
-        Err(answer) => return answer,
+    let Some(begun) = prepare(loaded, SHALLOW, options, buffer.len() as u64) else {
+        return tell_unserved(loaded, SHALLOW, options, verdict);
     };
     let Ok(meter) = Meter::new(buffer) else {
-        return Answer::TooLong;
+        return tell_blank(7, verdict);
     };
     let mut links = [NO_LINK; 64];
     match verify_and_locate_shallow(
@@ -66,11 +70,11 @@ fn locate_shallow(
         options.checks(),
         &mut links,
     ) {
-        Ok(verified) => Answer::Good(verified.report()),
+        Ok(verified) => tell_good(verified.report(), verdict),
         Err(located) => {
             let way = &links[..located.links as usize];
             *written = write_place(&loaded.schema, &located.fault, way, text);
-            Answer::Bad(located.fault)
+            tell_bad(located.fault, verdict)
         }
     }
 }
@@ -81,22 +85,23 @@ fn locate_within(
     levels: u32,
     scratch: &mut Scratch,
     links: &mut [Link],
+    verdict: &mut Verdict,
     options: &Options,
     buffer: &[u8],
     text: &mut [u8],
     written: &mut usize,
-) -> Answer
+) -> u32
     requires tables { levels ≤ scratch.old }
     requires links { levels ≤ length links.old }
-    ensures answer { IsLocated loaded.now levels options.now buffer.now text.old text.new written.old written.new result }
+    ensures told { (a : Answer) × (verdict.new ≡ told a) × IsLocated loaded.now levels options.now buffer.now text.old text.new written.old written.new a }
+    ensures status { result ≡ verdict.new.status }
     ensures kept { scratch.new ≡ scratch.old }
 {
-    let begun = match begin(loaded, levels, options, buffer.len() as u64) {
-        Ok(begun) => begun,
-        Err(answer) => return answer,
+    let Some(begun) = prepare(loaded, levels, options, buffer.len() as u64) else {
+        return tell_unserved(loaded, levels, options, verdict);
     };
     let Ok(meter) = Meter::new(buffer) else {
-        return Answer::TooLong;
+        return tell_blank(7, verdict);
     };
     match verify_and_locate(
         meter,
@@ -109,11 +114,11 @@ fn locate_within(
         scratch,
         links,
     ) {
-        Ok(verified) => Answer::Good(verified.report()),
+        Ok(verified) => tell_good(verified.report(), verdict),
         Err(located) => {
             let way = &links[..located.links as usize];
             *written = write_place(&loaded.schema, &located.fault, way, text);
-            Answer::Bad(located.fault)
+            tell_bad(located.fault, verdict)
         }
     }
 }
@@ -122,19 +127,21 @@ fn locate_within(
 fn locate_in(
     loaded: &Loaded<'static>,
     room: &mut Room,
+    verdict: &mut Verdict,
     options: &Options,
     buffer: &[u8],
     text: &mut [u8],
     written: &mut usize,
-) -> Answer
-    ensures answer { IsLocated loaded.now room.old options.now buffer.now text.old text.new written.old written.new result }
+) -> u32
+    ensures told { (a : Answer) × (verdict.new ≡ told a) × IsLocated loaded.now room.old options.now buffer.now text.old text.new written.old written.new a }
+    ensures status { result ≡ verdict.new.status }
     ensures kept { room.new ≡ room.old }
 {
     let levels = room.levels();
     let links = room.links.as_mut_slice();
     let scratch = &mut room.scratch;
     locate_within(
-        loaded, levels, scratch, links, options, buffer, text, written,
+        loaded, levels, scratch, links, verdict, options, buffer, text, written,
     )
 }
 
@@ -144,26 +151,28 @@ pub fn locate(
     alloc: Global,
     held: &Held,
     handle: &mut Handle,
+    verdict: &mut Verdict,
     options: &Options,
     buffer: &[u8],
     text: &mut [u8],
     written: &mut usize,
-) -> Answer
-    ensures answer { IsLocatedBy held.now (levels handle.old.inside) options.now buffer.now text.old text.new written.new result }
+) -> u32
+    ensures told { (a : Answer) × (verdict.new ≡ told a) × IsLocatedBy held.now (levels handle.old.inside) options.now buffer.now text.old text.new written.new a }
+    ensures status { result ≡ verdict.new.status }
     ensures kept { handle.new.inside ≡ handle.old.inside }
 {
     *written = 0;
     let Held::Schema(loaded) = held else {
-        return Answer::NoRoot;
+        return tell_blank(6, verdict);
     };
     let Some(mut taken) = handle.take(alloc) else {
-        return locate_shallow(loaded, options, buffer, text, written);
+        return locate_shallow(loaded, verdict, options, buffer, text, written);
     };
     let inside = &mut *taken;
-    let answer = match inside {
-        Held::Room(room) => locate_in(loaded, room, options, buffer, text, written),
-        Held::Schema(_) => locate_shallow(loaded, options, buffer, text, written),
+    let status = match inside {
+        Held::Room(room) => locate_in(loaded, room, verdict, options, buffer, text, written),
+        Held::Schema(_) => locate_shallow(loaded, verdict, options, buffer, text, written),
     };
     handle.put(taken);
-    answer
+    status
 }

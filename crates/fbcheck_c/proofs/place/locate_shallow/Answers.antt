@@ -1,7 +1,17 @@
 use Rattle.std.proofs.Common.{rules}
+use Rattle.fbcheck_c.specs.declared.answer.Answer.TheVariants.{Good, Bad, TooLong}
 use Rattle.fbcheck_c.proofs.PlaceLemmas.{located}
 use Rattle.fbcheck_c.proofs.place.locate_shallow.Goals as goal
 
-pub returns-in-Err-verify_and_locate_shallow : goal.returns-in-Err-verify_and_locate_shallow
-returns-in-Err-verify_and_locate_shallow c =
-    located c.args.loaded.now 64 c.args.options.now c.args.buffer.now c.in-Ok.begun (search rules) c.in-Err-verify_and_locate_shallow.located.fault _ (search rules) (search rules) (search rules) _ _ 0 _ (search rules) c.write_place.ensures
+pub returns-in_default-new-clause-told : goal.returns-in_default-new-clause-told
+returns-in_default-new-clause-told c = (TooLong, c.tell_blank.ensures.told, search rules)
+
+pub returns-in-Ok-verify_and_locate_shallow-clause-told : goal.returns-in-Ok-verify_and_locate_shallow-clause-told
+returns-in-Ok-verify_and_locate_shallow-clause-told c = (Good _, c.tell_good.ensures.told, search rules)
+
+pub returns-in-Err-clause-told : goal.returns-in-Err-clause-told
+returns-in-Err-clause-told c = (
+  Bad c.in-Err.located.fault,
+  c.tell_bad.ensures.told,
+  located c.args.loaded.now 64 c.args.options.now c.args.buffer.now c.in-Some.begun (search rules) c.in-Err.located.fault _ (search rules) (search rules) (search rules) _ _ 0 _ (search rules) c.write_place.ensures,
+)
