@@ -116,6 +116,7 @@ JUDGED = [
         two types, three values | THREE | root=Q | V11 32 3.1 12
         two types, two values, neither examined | THREE 32=02 ..44 | root=Q | yes 1 1 14
         no types, no values | 0c000000 08000800 00000400 08000000 04000000 00000000 | root=Q | yes 1 1 8
+        types, no values | 0c000000 08000800 04000000 08000000 04000000 01000000 01000000 | root=Q | yes 1 1 7
         a string and nothing | HI | root=Q | yes 1 1 17
         and so has an offset word past its table | UNION_INLINE | root=R inline reads=7 | V12 20 2.1 8
         of an unknown type it isn't asked for its end | UNION_INLINE 16=09 | root=R inline reads=7 | V13 12 2.1 8
