@@ -3,7 +3,7 @@
 //     const fbcheck::Schema schema(file); // a std::string, a std::vector of bytes, a span
 //     if (const auto verdict = schema.check(buffer); !verdict) std::cerr << verdict << "\n";
 //
-//     const std::array paths{schema.path("to.name"), schema.path("price")};
+//     const auto paths = schema.paths("to.name", "price");
 //     if (const auto found = schema.read(buffer, paths))
 //         std::cout << found[0].text().value_or("") << found[1].real().value_or(0);
 //
@@ -12,8 +12,11 @@
 // another version, a depth without room for it, a schema that was moved from. std::bad_alloc is thrown too.
 //
 // Any number of threads may use one const Schema; to put another in its place meanwhile, let them share it by
-// std::shared_ptr. A Scratch and a Framer are used by one call at a time. The calls of fbcheck.h that have no method
-// here take get().
+// std::shared_ptr. A Scratch and a Framer serve one call at a time: give each thread its own. The calls of fbcheck.h
+// that have no method here take get().
+//
+// At the start check({nullptr, 0}, options) throws Misuse where the options can't be served, before a first message
+// comes, and read({nullptr, 0}, paths, options) where the paths can't be. fbcheck.h has numbers for a budget.
 #pragma once
 
 #include <fbcheck.h>
@@ -87,7 +90,8 @@ inline std::string why(std::uint32_t status) {
     return why(told);
 }
 
-// A file gave no schema: verdict.status and what follows it tell why.
+// A file gave no schema: verdict.status and what follows it tell why. V5 WrongIdentifier is told of what is no .bfbs,
+// as a schema's text, and V2 OutOfBuffer at=4 of an empty file.
 class SchemaError : public std::runtime_error {
   public:
     explicit SchemaError(const fbcheck_verdict &told) : std::runtime_error("no schema: " + why(told)), verdict(told) {}
@@ -239,6 +243,15 @@ class Schema {
         return served(status), path;
     }
 
+    // The paths of so many texts, for read().
+    template <class... Texts> std::array<Path, sizeof...(Texts)> paths(const Texts &...texts) const {
+        return {{path(texts)...}};
+    }
+    template <class... Texts>
+    std::array<Path, sizeof...(Texts)> paths(const Options &options, const Texts &...texts) const {
+        return {{path(texts, options)...}};
+    }
+
     // Whether a buffer is good. It takes no memory.
     bool good(Bytes buffer, const Options &options = {}, Scratch *scratch = nullptr) const {
         return served(fbcheck_verify(get(), room(scratch), &options, buffer.data(), buffer.size(), nullptr)) ==
@@ -248,7 +261,8 @@ class Schema {
         return good(Bytes(buffer, length), options, scratch);
     }
 
-    // The verdict on a buffer, with the place of a fault in words.
+    // The verdict on a buffer, with the place of a fault in words. For this a bad one is gone through again, within the
+    // same budget, and once more where the place has above 256 bytes; good() goes through each once.
     Verdict check(Bytes buffer, const Options &options = {}, Scratch *scratch = nullptr) const {
         fbcheck_verdict told;
         const auto status = fbcheck_verify(get(), room(scratch), &options, buffer.data(), buffer.size(), &told);
@@ -259,7 +273,7 @@ class Schema {
         return check(Bytes(buffer, length), options, scratch);
     }
 
-    // The verdict on a buffer, and of a good one, which is checked once, the values at the ends of paths.
+    // The same, and of a good buffer, which is gone through once, the values at the ends of paths.
     template <std::size_t Count>
     Reading<Count> read(Bytes buffer, const std::array<Path, Count> &paths, const Options &options = {},
                         Scratch *scratch = nullptr) const {
@@ -301,31 +315,42 @@ class Schema {
     std::unique_ptr<fbcheck_schema, Free> schema_;
 };
 
-// The messages of a stream that comes in pieces, each message with its size in front, for Options::prefixed.
+// What the size in front of each message of a stream is: a part of it (FinishSizePrefixed), for Options::prefixed, or
+// no part of the bare buffer behind it (Finish).
+enum class Framing { Prefixed, Delimited };
+
+// The messages of a stream that comes in pieces, each message with its size in front.
 class Framer {
   public:
     // A message may have so many bytes, its size included; room for them is taken at once.
-    explicit Framer(std::size_t most) : room_(most) {
+    explicit Framer(std::size_t most, Framing framing = Framing::Prefixed)
+        : apart_(framing == Framing::Delimited ? 4 : 0) {
         if (most < 8 || most > INT32_MAX) throw Misuse(FBCHECK_OUT_OF_RANGE);
+        room_.resize(apart_ + most);
     }
 
-    // Calls each(Bytes) with each message that ends in this piece. Its bytes stand in the framer until each returns;
-    // where that throws, the rest of the piece is lost. Throws a StreamError where the stream is at fault.
+    // Calls each(Bytes) with each message that ends in this piece; of a delimited one that is the bare buffer. Its
+    // bytes stand in the framer, aligned for numbers of 8 bytes, until each returns. Where that throws, or returns a
+    // bool that is false, the rest of the piece is lost. Throws a StreamError where the stream is at fault.
     template <class Each> void feed(Bytes piece, Each &&each) {
         for (std::size_t at = 0, used = 0; at < piece.size(); at += used) {
-            const auto status = fbcheck_framer_feed(&framer_, room_.data(), room_.size(), piece.data() + at,
-                                                    piece.size() - at, &used);
+            const auto status =
+                fbcheck_framer_feed(&framer_, room(), size(), piece.data() + at, piece.size() - at, &used);
             if (status == FBCHECK_MORE) return;
             if (status != FBCHECK_OK) throw StreamError(status, framer_);
-            const Bytes message(room_.data(), framer_.held);
-            fbcheck_framer_next(&framer_, room_.data(), room_.size());
-            each(message);
+            const Bytes message(room() + apart_, framer_.held - apart_);
+            fbcheck_framer_next(&framer_, room(), size());
+            if constexpr (std::is_same_v<decltype(each(message)), bool>) {
+                if (!each(message)) return;
+            } else {
+                each(message);
+            }
         }
     }
 
     // Says that the stream has ended. Throws a StreamError where that is inside a message.
     void finish() {
-        const auto status = fbcheck_framer_finish(&framer_, room_.data(), room_.size());
+        const auto status = fbcheck_framer_finish(&framer_, room(), size());
         if (status != FBCHECK_OK) throw StreamError(status, framer_);
     }
 
@@ -333,7 +358,13 @@ class Framer {
     const fbcheck_framer &told() const noexcept { return framer_; }
 
   private:
+    // The room of the framer, null where it was moved from. As many bytes stand before it as its messages' sizes have
+    // that are no part of them, so that what is behind these is aligned.
+    std::uint8_t *room() noexcept { return room_.empty() ? nullptr : room_.data() + apart_; }
+    std::size_t size() const noexcept { return room_.size() - apart_; }
+
     fbcheck_framer framer_ = FBCHECK_FRAMER_INIT;
+    std::size_t apart_;
     std::vector<std::uint8_t> room_;
 };
 

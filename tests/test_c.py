@@ -735,6 +735,15 @@ class LibraryForC(LibraryCase):
             for size, program in zip((1, 7, 4096), [*made, made[0]]):
                 self.same(f"{path}, in pieces of {size}", ran(program, ORDERS, path, size, 512, given=POST),
                           (0, want, ""))
+        bare = b"".join(prefixed(message) for message in [b"", ORC, ORC[:-1], buffer(WHOLE), ORC])
+        words = ["--delimited", "--schema", str(file_of("M.bfbs", schemas.M)), "--path", "name", "--names"]
+        want = run(*words, given=bare).out.decode()
+        for size, program in zip((1, 7, 4096), [*made, made[0]]):
+            of = lambda *more: ran(program, words[2], "name", size, 4096, "delimited", *more, given=bare)
+            self.same(f"bare buffers behind their sizes, in pieces of {size}", of(), (0, want, ""))
+            for last in range(1, 5):
+                front = "".join(want.splitlines(True)[:last])
+                self.same(f"the first {last} alone, in pieces of {size}", of(last), (0, front, ""))
         long = ".".join("a" * 32)
         for name, words, given, text in [
             ("a path", [ORDERS, "to.nam", 9, 512], POST, "no path: to.nam: P2 NoSuchField step=1"),

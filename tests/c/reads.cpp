@@ -1,7 +1,8 @@
-// The messages of a stream in pieces, and a value of each: reads SCHEMA.bfbs PATH PIECE_LENGTH MOST < STREAM
+// The messages of a stream in pieces, and a value of each: reads SCHEMA.bfbs PATH PIECE_LENGTH MOST [FRAMING [LAST]]
 //
 // Each message gets the line of the program with --names and --path, where a Float or Double is a decimal number. What
-// is thrown is told on standard error.
+// is thrown is told on standard error. FRAMING is "delimited", or another word; LAST is the number of the last message,
+// behind which the stream is left.
 #include <fbcheck.hpp>
 
 #include <fstream>
@@ -36,27 +37,63 @@ static std::string words_of(const fbcheck::Value &value) {
     return "?";
 }
 
-int main(int, char **words) try {
-    const fbcheck::Schema schema(all_of(std::ifstream(words[1], std::ios::binary)));
-    const std::array paths{fbcheck::Path{}, schema.path(words[2])};
+static void demand(bool is, const char *what) {
+    if (!is) throw std::logic_error(what);
+}
+
+// The status of the Misuse that a call throws, or FBCHECK_OK.
+template <class Call> static std::uint32_t misuse(Call &&call) try {
+    return call(), FBCHECK_OK;
+} catch (const fbcheck::Misuse &error) {
+    return error.status;
+}
+
+// Without a message options and paths may be tried, and paths() has what path() has.
+static void try_before(const fbcheck::Schema &schema, const std::string &text) {
     fbcheck::Options options;
-    options.prefixed = 1;
-    fbcheck::Scratch scratch(FBCHECK_DEEP);
-    fbcheck::Framer framer(std::stoul(words[4]));
-    int count = 0;
-    const auto tell = [&](fbcheck::Bytes message) {
-        const auto found = schema.read(message, paths, options, &scratch);
-        std::cout << ++count << " " << found.verdict;
-        if (found) std::cout << " " << words_of(found[1]);
-        std::cout << "\n";
-        if (found && (found[0].kind() != FBCHECK_TABLE || !found[0])) throw std::logic_error("the root is no table");
-        if (found && bool(found[1]) != (found[1].kind() > FBCHECK_OTHER_MEMBER)) throw std::logic_error("its truth");
-        if (found && found[1].text() && found[1].integer()) throw std::logic_error("it is of two kinds");
-        if (bool(found) != schema.good(message, options)) throw std::logic_error("good() differs");
-    };
+    const auto path = schema.path(text);
+    auto twice = schema.paths(text, text.c_str());
+    for (const auto &one : {twice[0], twice[1], schema.paths(options, std::string_view(text))[0]})
+        demand(std::memcmp(&one, &path, sizeof path) == 0, "paths() differs");
+    demand(!schema.check({nullptr, 0}, options) && !schema.read({nullptr, 0}, twice, options), "no bytes are good");
+    twice[1] = {1, 0, {{1, 9999}}};
+    demand(misuse([&] { schema.read({nullptr, 0}, twice); }) == FBCHECK_MISFIT, "a wrong path passes");
+    options.max_depth = FBCHECK_DEEP + 1;
+    demand(misuse([&] { schema.check({nullptr, 0}, options); }) == FBCHECK_OUT_OF_RANGE, "a wrong depth passes");
+}
+
+static void tell(const fbcheck::Schema &schema, const std::string &text, fbcheck::Bytes message, bool prefixed) {
+    static fbcheck::Scratch scratch(FBCHECK_DEEP);
+    static int count = 0;
+    const std::array paths{fbcheck::Path{}, schema.path(text)};
+    fbcheck::Options options;
+    options.prefixed = prefixed;
+    const auto found = schema.read(message, paths, options, &scratch);
+    std::cout << ++count << " " << found.verdict;
+    if (found) std::cout << " " << words_of(found[1]);
+    std::cout << "\n";
+    demand(!found || (found[0].kind() == FBCHECK_TABLE && found[0]), "the root is no table");
+    demand(!found || bool(found[1]) == (found[1].kind() > FBCHECK_OTHER_MEMBER), "its truth");
+    demand(!found || !found[1].text() || !found[1].integer(), "it is of two kinds");
+    demand(bool(found) == schema.good(message, options), "good() differs");
+    demand(reinterpret_cast<std::uintptr_t>(message.data()) % 8 == 0, "it isn't aligned");
+}
+
+int main(int number, char **words) try {
+    const fbcheck::Schema schema(all_of(std::ifstream(words[1], std::ios::binary)));
+    try_before(schema, words[2]);
+    const bool bare = number > 5 && words[5] == std::string("delimited");
+    int left = number > 6 ? std::stoi(words[6]) : 0;
+    fbcheck::Framer framer(std::stoul(words[4]), bare ? fbcheck::Framing::Delimited : fbcheck::Framing::Prefixed);
+    const auto each = [&](fbcheck::Bytes message) { tell(schema, words[2], message, !bare); };
+    const auto each_of_some = [&](fbcheck::Bytes message) { return each(message), --left > 0; };
+    const bool some = left > 0;
     std::string piece(std::stoul(words[3]), 0);
-    while (std::cin.read(piece.data(), std::streamsize(piece.size())) || std::cin.gcount() > 0)
-        framer.feed(std::string_view(piece.data(), std::size_t(std::cin.gcount())), tell);
+    while (std::cin.read(piece.data(), std::streamsize(piece.size())) || std::cin.gcount() > 0) {
+        const std::string_view given(piece.data(), std::size_t(std::cin.gcount()));
+        some ? framer.feed(given, each_of_some) : framer.feed(given, each);
+        if (some && left == 0) return 0;
+    }
     framer.finish();
     return 0;
 } catch (const std::exception &error) {
