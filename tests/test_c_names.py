@@ -35,6 +35,7 @@ class NamesForC(LibraryCase):
                 named = told.get(status, [])
                 self.same(f"faults of status {status}", given, [None, *named, *[None] * (14 - len(named))])
             self.same("each status has words", len(STATUS_TEXTS), len(python.Status))
+            self.same("of at most 64 bytes", max(map(len, STATUS_TEXTS)) <= 64, True)
             self.same("statuses", [verifier.status_text(n) for n in (*range(21), 21, 2**32 - 1)],
                       [*STATUS_TEXTS, None, None])
             for number, (table, *fields) in enumerate(rows):

@@ -3,8 +3,8 @@
  * program does.
  *
  * A message stands right before a page that can't be read, and the next time right behind one, so that a read outside
- * of it ends the process. Each time it is checked on the call's own stack, where that has room, and with a scratch. Then
- * all are checked at once where they stand in the stream, which must give the same verdicts.
+ * of it ends the process. Each time it is checked on the call's own stack, where that has room, and with a scratch.
+ * Then all are checked at once where they stand in the stream, which must give the same verdicts.
  */
 #include "../../examples/c/telling.h"
 

@@ -6,8 +6,9 @@
 //!
 //! `struct BYTES/ALIGNMENT:` and `table:` have fields behind them, `union:` and `enum:` members. A field has its slot
 //! behind the `@`, a member its value behind the `=`. A type is a base type by its name in reflection.fbs or by its
-//! number; `[int]` is a vector, `[int:3]` an array, and the index stands behind a `#`. Behind a field's type `gone` says
-//! that it is deprecated, `far` that its offset has 64 bits, and `required`, `optional` and `default=9` what they say.
+//! number; `[int]` is a vector, `[int:3]` an array, and the index stands behind a `#`. Behind a field's type `gone`
+//! says that it is deprecated, `far` that its offset has 64 bits, and `required`, `optional` and `default=9` what they
+//! say.
 
 use fb_schema::builders::{array, field, member, one, plain_enum, structure, table, union, vector};
 use fb_schema::{EnumRow, FieldRow, MemberRow, ObjectRow, Schema, SchemaFault, TypeRow, are_few};

@@ -16,7 +16,8 @@ pub record Metered : Type 0 where
   pub bytes : List ℕ
   pub count : ℕ
 
--- a buffer that is lent to a walk, how many reads were made of it, and how many of these before a count in 64 bits began
+-- a buffer that is lent to a walk, how many reads were made of it, and how many of these before a count in 64 bits
+-- began (of a loan this is 0)
 pub record Lent : Type 0 where
   pub bytes : List ℕ
   pub count : ℕ

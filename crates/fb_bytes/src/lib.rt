@@ -3,8 +3,8 @@
 //! A [`Meter`] counts every number that is read of a buffer. To a walk it lends its bytes as a [`Loan`], which can do
 //! no more than lend them on as [`Reads`]: these read, and count in a register. Sealed, a meter is a [`Window`], whose
 //! reads are free. [`Source`] and [`Sink`] are readers and writers that tell how often they were called, how often they
-//! failed, and whether the input has ended; [`Counted`] makes one of any reader or writer of std. A [`Framer`] finds the
-//! messages in a stream of size-prefixed buffers that comes in pieces.
+//! failed, and whether the input has ended; [`Counted`] makes one of any reader or writer of std. A [`Framer`] finds
+//! the messages in a stream of size-prefixed buffers that comes in pieces.
 #![tactic(auto)]
 
 pub mod counted;

@@ -7,11 +7,11 @@ use crate::window::Window;
 use std::marker::Model;
 use std::mem;
 
-/// From so many reads on, 2^57, a count in 64 bits begins with none.
-const BEFORE: u128 = 1 << 57;
+/// A count of so many reads, 2^57, isn't carried into one of 64 bits, which begins with none then.
+const LONG: u128 = 1 << 57;
 
-/// The bytes of a [`crate::Meter`] under count, as a walk holds them: they are read through the [`Reads`] that it lends,
-/// and each read counts.
+/// The bytes of a [`crate::Meter`] under count, as a walk holds them: they are read through the [`Reads`] that it
+/// lends, and each read counts.
 ///
 /// A contract sees it as its bytes and its count, in 128 bits, which no walk fills. Nothing seals it and nothing of its
 /// bytes is lent as a slice, so what holds no more than a loan reads nothing uncounted. [`crate::Meter::lend`] makes
@@ -52,18 +52,18 @@ impl<'a> Loan<'a> {
         self.count
     }
 
-    /// Lends the bytes to be read under a count in 64 bits, which goes on from this one below 2^57, and else begins with
-    /// none. Until [`Loan::settle`] takes them back, the loan has no bytes.
+    /// Lends the bytes to be read under a count in 64 bits, which goes on from this one below 2^57, and else begins
+    /// with none. Until [`Loan::settle`] takes them back, the loan has no bytes.
     #[inline(always)]
     pub fn lend(&mut self) -> Reads<'a>
-        requires { self.old.count ≤ 2 ^ 100 }
+        requires few { self.old.count ≤ 2 ^ 100 }
         ensures lent { result ≡ record self.old { base = result.base } }
         ensures short { self.old.count < 2 ^ 57 → result ≡ self.old }
         ensures few { self.old.count < result.base + 2 ^ 57 }
         ensures bare { self.new ≡ record self.old { bytes = [] } }
     {
         let window = mem::replace(&mut self.window, Window::over(&[]));
-        if self.count < BEFORE {
+        if self.count < LONG {
             Reads::over(window, 0, self.count as u64)
         } else {
             Reads::over(window, self.count, 0)

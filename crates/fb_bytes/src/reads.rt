@@ -74,11 +74,11 @@ impl<'a> Reads<'a> {
         *self = reads;
     }
 
-    /// How many reads were made, where these are fewer than 2^57: then none was made before the count in 64 bits.
+    /// How many reads were made since the count in 64 bits began: all of them, where they are fewer than 2^57.
     #[inline(always)]
     pub fn count(&self) -> u64
-        requires short { self.now.count < 2 ^ 57 }
-        ensures { result ≡ self.now.count }
+        ensures since { self.now.count ≡ self.now.base + result }
+        ensures all { self.now.count < 2 ^ 57 → result ≡ self.now.count }
     {
         self.count
     }

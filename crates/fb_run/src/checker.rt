@@ -328,8 +328,8 @@ fn skip(options: &Options) -> usize
     }
 }
 
-/// Whether no more is asked of a buffer than a report, or a fault by its numbers: neither values, nor words, nor a name,
-/// nor JSON.
+/// Whether no more is asked of a buffer than a report, or a fault by its numbers: neither values, nor words, nor a
+/// name, nor JSON.
 fn is_brief(options: &Options) -> bool
     ensures { (rows : Rows) → result ≡ is_brief (job_of rows options.now) }
 {

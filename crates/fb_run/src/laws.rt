@@ -20,7 +20,8 @@ pub fn lines_by_example()
     ensures texts { Texts }
 {}
 
-/// Lines of JSON, how values of each kind stand in them, and texts: what is escaped, and what is no UTF-8. Lines of sums.
+/// Lines of JSON, how values of each kind stand in them, and texts: what is escaped, and what is no UTF-8. Lines of
+/// sums.
 #[tactic(auto, using(crate::proofs::ShownJson::lines_shown, crate::proofs::ShownJson::values_shown, crate::proofs::ShownJson::texts_shown, crate::proofs::ShownJson::summaries_shown))]
 pub fn json_by_example()
     ensures lines { JsonLines }

@@ -45,8 +45,8 @@ pub fn long_answers<'v, 'b>(
     }
 }
 
-/// Whether one of these values has more than 65,536 bytes. (Where one had 2^40, none would count as long; no message has
-/// as many.)
+/// Whether one of these values has more than 65,536 bytes. (Where one had 2^40, none would count as long; no message
+/// has as many.)
 fn has_long(answers: &[Answer<'_>]) -> bool
     ensures { result ≡ true → All (λ answer. length (lent answer) < 2 ^ 40) answers.now }
 {
@@ -71,8 +71,8 @@ fn lent<'b>(answer: &Answer<'b>) -> &'b [u8]
     }
 }
 
-/// A line behind what waits: what it begins with, the line, values, each behind a space, and a newline. Where much waits,
-/// it is written.
+/// A line behind what waits: what it begins with, the line, values, each behind a space, and a newline. Where much
+/// waits, it is written.
 pub fn put_line<A: Allocator, K: Sink>(
     out: &mut Pending<A>,
     sink: &mut K,

@@ -18,9 +18,9 @@ const BLANK: Link = Link {
     member: None,
 };
 
-/// Room for the open tables of a buffer, for the links that lead to its fault, and for the place of that in words, beside
-/// what each line begins with. It is made once and used again and again. Where words are not asked for, neither links nor
-/// words take memory.
+/// Room for the open tables of a buffer, for the links that lead to its fault, and for the place of that in words,
+/// beside what each line begins with. It is made once and used again and again. Where words are not asked for, neither
+/// links nor words take memory.
 #[derive(Drop)]
 pub struct Room<A: Allocator> {
     pub scratch: Scratch<A>,

@@ -53,14 +53,14 @@ impl Ran {
 /// `turns` reads. Where the options have paths, the line of a yes ends with the values there.
 ///
 /// The input is a stream of size-prefixed buffers (FlatBuffers Internals), or of bare ones behind their lengths by
-/// `prefix` of the options, or with `bare` one bare buffer. What is told of all messages that are whole is written before
-/// the next read, and before any answer: first to the writer, then to the notes. A reader that may be asked for more only
-/// where this is so can be run over (`leave`).
+/// `prefix` of the options, or with `bare` one bare buffer. What is told of all messages that are whole is written
+/// before the next read, and before any answer: first to the writer, then to the notes. A reader that may be asked for
+/// more only where this is so can be run over (`leave`).
 ///
 /// # Ends
 ///
-/// What a run comes to is that of the messages that are told, or in a write that failed were to be. It ends well, or for
-/// one of these:
+/// What a run comes to is that of the messages that are told, or in a write that failed were to be. It ends well, or
+/// for one of these:
 ///
 /// - `ReadFault` where the reader failed, `TooManyTurns` where `turns` reads were made and a further one is needed, and
 /// `Stream` where a prefix declares too much or the stream ends in mid-message: what is told of all whole messages that

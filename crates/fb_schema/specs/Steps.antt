@@ -29,9 +29,20 @@ act_of f Texts = Other
 act_of f (Tables k) = Other
 act_of f (Unions e) = Other
 
+-- a bit for each act; of what has 1, 2, 4 or 8 bytes it is their number
+abbrev pub bit_of : Act → ℕ
+bit_of One = 1
+bit_of Two = 2
+bit_of Four = 4
+bit_of Eight = 8
+bit_of AText = 16
+bit_of Vector = 32
+bit_of Inline = 64
+bit_of Other = 128
+
 -- the step of a field
 abbrev pub step_of : Live → Step
-step_of f = record { act = act_of f f.kind; required = f.required; slot = f.slot; size = f.size; align = f.align }
+step_of f = record { act = act_of f f.kind; required = f.required; slot = f.slot; bit = bit_of (act_of f f.kind); size = f.size; align = f.align }
 
 -- what leads to no table
 abbrev pub is_plain_act : Act → Bool

@@ -2,7 +2,7 @@
 
 ghost use Rattle.std.specs.Prelude.{◌≡◌, map, IfOk};
 ghost use Rattle.fb_schema.specs.Live.{live_of_view};
-ghost use Rattle.fb_schema.specs.Steps.{inline_act, act_of, is_plain_act, are_plain, step_of};
+ghost use Rattle.fb_schema.specs.Steps.{inline_act, act_of, bit_of, is_plain_act, are_plain, step_of};
 
 use crate::kinds::Kind;
 use crate::views::{Act, FieldView, Step};
@@ -57,12 +57,30 @@ pub fn are_plain(fields: &[FieldView<'_>]) -> bool
     plain
 }
 
+/// The bit of an act.
+fn bit_of(act: Act) -> u32
+    ensures { result ≡ bit_of act }
+{
+    match act {
+        Act::One => 1,
+        Act::Two => 2,
+        Act::Four => 4,
+        Act::Eight => 8,
+        Act::Text => 16,
+        Act::Vector => 32,
+        Act::Inline => 64,
+        Act::Other => 128,
+    }
+}
+
 /// The step of a field.
 fn step_of(field: &FieldView<'_>) -> Step
     ensures { result ≡ step_of (live_of_view field.now) }
 {
+    let act = act_of(field);
     Step {
-        act: act_of(field),
+        act,
+        bit: bit_of(act),
         required: field.required,
         slot: field.slot,
         size: field.size,

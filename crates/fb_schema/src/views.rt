@@ -32,8 +32,8 @@ pub struct FieldView<'n> {
 
 /// A field of a struct, with what a reader of the struct's bytes needs.
 ///
-/// `place` is its place in the struct, in bytes. `kind` is that of a scalar or struct, or of an array of these, for which
-/// it is the kind of a vector of its elements. `count` is how many an array has, and 1 of all else.
+/// `place` is its place in the struct, in bytes. `kind` is that of a scalar or struct, or of an array of these, for
+/// which it is the kind of a vector of its elements. `count` is how many an array has, and 1 of all else.
 #[derive(Clone, Copy, Debug, PartialEq, Eq)]
 pub struct PartView {
     pub place: u16,
@@ -84,12 +84,14 @@ pub struct Target {
 }
 
 /// A live field of a table in a few bytes: what a reader passes it by. `slot`, `size`, `align` and `required` are those
-/// of its [`FieldView`].
+/// of its [`FieldView`]. `bit` is a bit of its act, so that several acts are asked at once; of a scalar or struct of 1,
+/// 2, 4 or 8 bytes it is their number.
 #[derive(Clone, Copy, Debug, PartialEq, Eq)]
 pub struct Step {
     pub act: Act,
     pub required: bool,
     pub slot: u16,
+    pub bit: u32,
     pub size: u32,
     pub align: u32,
 }

@@ -1,9 +1,12 @@
 -- A table whose fields lead to no table is passed whole.
-use Rattle.std.proofs.Common.{◌≡◌, ℕ, ◌+◌, ◌*◌, ◌^◌, ◌<◌, ◌≤◌, IsTrue, nat_lt, true, List, length, refl, sym, ◌∙◌, ap, arith, Option, Some, None}
+use Rattle.std.proofs.Common.{◌≡◌, ℕ, ◌+◌, ◌*◌, ◌^◌, ◌<◌, ◌≤◌, IsTrue, nat_lt, Bool, true, false, List, length, option_map, refl, sym, ◌∙◌, ap, arith, Option, Some, None, Ok, Err}
 use Rattle.std.proofs.lemmas.Bool.Decides.{nat_tests}
+use Rattle.std.proofs.lemmas.Option.{slice_get-map}
 use Rattle.fb_bytes.specs.Word.{Lent}
 use Rattle.fb_schema.specs.Rows.{Rows, is_table}
 use Rattle.fb_schema.specs.Live.{live_fields}
+use Rattle.fb_schema.specs.Steps.{is_plain, step_of}
+use Rattle.fb_schema.proofs.Numbers.{slice_get_some}
 use Rattle.fb_verify.specs.declared.checks.Checks.{Checks}
 use Rattle.fb_verify.specs.declared.fault.Reason.{Reason}
 use Rattle.fb_verify.specs.declared.table.Table.{Table}
@@ -17,10 +20,10 @@ use Rattle.fb_verify.specs.declared.stack.Walk.{Walk}
 use Rattle.fb_verify.specs.Bounds.{Bounds}
 use Rattle.fb_verify.specs.Places.{target}
 use Rattle.fb_verify.specs.Fields.{Entry, to_table}
-use Rattle.fb_verify.specs.Flat.{came, PassesFlat}
+use Rattle.fb_verify.specs.Flat.{PassesFlat}
 use Rattle.fb_verify.specs.Cost.{head_reads, lead_reads}
 use Rattle.fb_verify.specs.Order.{after, ◌▷◌, head_failure, lead_failure, element_failure}
-use Rattle.fb_verify.specs.OffsetRows.{first_word, word_at, past_first}
+use Rattle.fb_verify.specs.OffsetRows.{first_word, past_first}
 use Rattle.fb_verify.specs.PassesOn.{PassesOn}
 use Rattle.fb_verify.specs.Plain.{tested_by}
 use Rattle.fb_verify.specs.Stack.{opened, Waiting, Origin, IsUnderWay, IsAtTable, work}
@@ -28,15 +31,23 @@ use Rattle.fb_verify.specs.Stops.{budget_failure, reads_failure}
 use Rattle.fb_verify.specs.Told.{told, stopped}
 use Rattle.fb_verify.specs.Way.{Way}
 use Rattle.fb_verify.proofs.Chains.{after_none}
-use Rattle.fb_verify.proofs.LeafRows.{word_told}
+use Rattle.fb_verify.proofs.LeafRows.{all_lead, all_free, all_told}
+use Rattle.fb_verify.proofs.Plains.{never_leads}
 use Rattle.fb_verify.proofs.Refusals.{told_after, told_first}
 use Rattle.fb_verify.proofs.Walking.{table_closed}
+
+-- a field of a table of which none leads on isn't there to lead on
+pub never_on : {w : Walk} {m new : Lent} {under : Waiting} {top past : Frame} {at : ℕ} → is_plain w.schema.now (top.table).object ≡ true → past.table ≡ top.table → PassesOn w m new under top past at (Ok true) → ⊥
+never_on {w} {m} {new} {under} {top} {past} plain same e =
+    let fs = live_fields w.schema.now (top.table).object in
+    let f = slice_get_some fs past.next (rw same at (e.field refl).within) in
+    never_leads fs past.next (step_of f.0) plain (slice_get-map step_of fs past.next ∙ ap (option_map step_of) f.1) (e.open-field refl f.0 f.1)
 
 -- its head holds, and its fields were passed
 module _ (w : Walk) (m mid new : Lent) (under : Waiting) (table : Table) (next at : ℕ) (bytes : mid.bytes ≡ m.bytes) (least : m.count ≤ mid.count) (most : mid.count ≤ m.count + 3)
     (few : length (live_fields w.schema.now table.object) < 2 ^ 32) where
-  pub flat_passed : (result : Option Reason) → PassesOn w mid new under (opened table) (record (opened table) { next = next }) at (came result) → PassesFlat w m new under table.object table.at next at result
-  flat_passed None e = record {
+  pub flat_passed : PassesOn w mid new under (opened table) (record (opened table) { next = next }) at (Ok false) → PassesFlat w m new under table.object table.at next at None
+  flat_passed e = record {
     walking = λ _ rest above is.
         (table_closed w.checks new.bytes w.schema.now w.limits under.start under.frames (record (opened table) { next = next }) w.tables w.deepest new.count (e.walking refl) rest above is refl (e.all refl));
     paid = λ _. omega (arith, e.ends refl, most);
@@ -46,7 +57,15 @@ module _ (w : Walk) (m mid new : Lent) (under : Waiting) (table : Table) (next a
     within = λ _. tt;
     field = λ _. tt;
   }
-  flat_passed (Some reason) e = record {
+
+  -- whatever was told of them
+  pub flat_over : is_plain w.schema.now table.object ≡ true → (more : Bool) → PassesOn w mid new under (opened table) (record (opened table) { next = next }) at (Ok more) → PassesFlat w m new under table.object table.at next at None
+  flat_over plain true e = absurd (never_on plain refl e)
+  flat_over plain false e = flat_passed e
+
+  -- or one fails
+  pub flat_fails : (reason : Reason) → PassesOn w mid new under (opened table) (record (opened table) { next = next }) at (Err reason) → PassesFlat w m new under table.object table.at next at (Some reason)
+  flat_fails reason e = record {
     walking = λ x. absurd cc;
     paid = λ x. absurd cc;
     grows = omega (arith, e.grows, least);
@@ -67,22 +86,18 @@ module _ (w : Walk) (b : List ℕ) (start : Origin) (below : List Frame) (top : 
 
   -- it leads to a table
   word_leads : to_table k ≡ word.lead
-  word_leads = ap (λ l. (word_at b S l (top.row).place).lead) (sym leads)
-
-  -- and reads no type
-  word_free : word.reads ≡ 0
-  word_free = ap (λ l. (word_at b S l (top.row).place).reads) leads
+  word_leads = all_lead w.checks b S w.limits start below top w.tables w.deepest r h (ATable k) leads
 
   module _ (new : ℕ) (at : ℕ) (result : Option Reason) (told : tested_by at new result ≡ after r (lead_failure w.checks b (top.row).place (to_table k))) where
     pub word_tells : tested_by at new result ≡ after r (element_failure w.checks b word)
-    word_tells = word_told w.checks b S w.limits start below top w.tables w.deepest r h (to_table k) word_leads r r (omega (arith, word_free)) (tested_by at new result) told
+    word_tells = all_told w.checks b S w.limits start below top w.tables w.deepest r h (ATable k) leads (tested_by at new result) told
 
     -- where it holds, the walk stands at that table
     pub at_flat : result ≡ None → IsTrue (is_table S k) → new ≡ r + 1 → at ≡ target b (top.row).place → at < 2 ^ 33
         → IsAtTable w b new start below top (r + 4 * (top.row).left) (record { object = k; at = at })
     at_flat none table paid is near = record {
       before = r;
-      count = omega (arith, paid, word_free, ap lead_reads (sym word_leads));
+      count = omega (arith, paid, all_free w.checks b S w.limits start below top w.tables w.deepest r h (ATable k) leads, ap lead_reads (sym word_leads));
       walking = h;
       more = more;
       holds = (after_none r (element_failure w.checks b word)).0 (sym word_tells ∙ ap (tested_by at new) none);

@@ -104,9 +104,6 @@ item_some xs i r x h e =
     let g = subst (λ o. IsItemAt xs i o) e h in
     slice_get-get_or xs i x.now g.3.0 ∙ ap Some (sym (g.4 (omega arith) x.now))
 
-pub item_none : {A : Type 0} (xs : List A) (i : ℕ) (r : Option (Bor A)) → IsItemAt xs i r → r ≡ None → length xs ≤ i
-item_none xs i r h e = let g = subst (λ o. IsItemAt xs i o) e h in g.3
-
 -- Frames.
 
 module _ (c : Checks) (b : List ℕ) (S : Rows) where

@@ -1,9 +1,8 @@
 -- The offset words that are left of a field are passed one by one.
-use Rattle.std.proofs.Common.{◌≡◌, ℕ, ◌+◌, ◌<◌, List, [], ◌∷◌, ◌++◌, refl, sym, ◌∙◌, ap, subst, Option, Some}
+use Rattle.std.proofs.Common.{◌≡◌, ℕ, ◌+◌, ◌<◌, List, [], ◌∷◌, ◌++◌, refl, sym, ◌∙◌, ap, subst, arith, Option, Some}
 use Rattle.fb_schema.specs.Rows.{Rows}
 use Rattle.fb_verify.specs.declared.checks.Checks.{Checks}
-use Rattle.fb_verify.specs.declared.offset_row.Leads.{Leads}
-use Rattle.fb_verify.specs.declared.offset_row.Leads.TheVariants.{All, ByType}
+use Rattle.fb_verify.specs.declared.offset_row.Leads.TheVariants.{All}
 use Rattle.fb_verify.specs.declared.offset_row.Referent.{Referent}
 use Rattle.fb_verify.specs.declared.offset_row.Row.{Row}
 use Rattle.fb_verify.specs.declared.offset_row.Referent.TheVariants.{Text as AText, Table as ATable, Struct as AStruct, Nothing}
@@ -14,7 +13,7 @@ use Rattle.fb_verify.specs.declared.site.Stop.{Stop}
 use Rattle.fb_verify.specs.Bounds.{Bounds}
 use Rattle.fb_verify.specs.Fields.{Lead, Entry}
 use Rattle.fb_verify.specs.Order.{Failure, after, lead_failure, element_failure}
-use Rattle.fb_verify.specs.OffsetRows.{lead_to, first_word, word_at, past_first, leads_after, IsReferent, IsSized, IsLeafLead, AreLeaf}
+use Rattle.fb_verify.specs.OffsetRows.{lead_to, first_word, word_at, past_first, IsLeafLead}
 use Rattle.fb_verify.specs.Stack.{Origin, IsUnderWay, StopsIn}
 use Rattle.fb_verify.specs.Stops.{lead_reads_failure}
 use Rattle.fb_verify.specs.Told.{refused, stopped}
@@ -35,6 +34,17 @@ module _ (c : Checks) (b : List ℕ) (S : Rows) (L : Bounds) (s : Origin) (below
       told ∙ ap (λ k. after k (lead_failure c b (top.row).place lead)) z ∙ ap (λ y. after (m + word.reads) (lead_failure c b (top.row).place y)) e
       ∙ ap (λ p. after (m + word.reads) (lead_failure c b p word.lead)) (sym (first_place b S top.row)) ∙ sym (after_twice m word.reads (lead_failure c b word.place word.lead))
 
+  -- where all that are left refer to the same, none reads a type
+  module _ (referent : Referent) (leads : (top.row).leads ≡ All referent) where
+    pub all_lead : lead_to referent ≡ word.lead
+    all_lead = ap (λ l. (word_at b S l (top.row).place).lead) (sym leads)
+
+    pub all_free : word.reads ≡ 0
+    all_free = ap (λ l. (word_at b S l (top.row).place).reads) leads
+
+    pub all_told : (x : Option Failure) → x ≡ after r (lead_failure c b (top.row).place (lead_to referent)) → x ≡ after r (element_failure c b word)
+    all_told x told = word_told (lead_to referent) all_lead r r (omega (arith, all_free)) x told
+
   -- where it fails
   pub word_fails : (row : Row) → row ≡ past_first top.row → 0 < (top.row).left → (e : Refusal) → (m q : ℕ) → r ≡ m → after m (element_failure c b word) ≡ Some (refused e q) → (stop : Stop) → stop ≡ record { refusal = e; site = record { object = (top.table).object; field = Some top.number } }
       → StopsIn c b S L s (below ++ record { table = top.table; next = top.next; number = top.number; row = row } ∷ []) [] (stopped stop q)
@@ -51,22 +61,3 @@ is_leaf AText n = tt
 is_leaf (ATable k) n = n k refl
 is_leaf (AStruct size align) n = tt
 is_leaf Nothing n = tt
-
--- what can be asked of the schema has an alignment
-pub is_sized : (S : Rows) (referent : Referent) → IsReferent S referent → IsSized referent
-is_sized S AText h = tt
-is_sized S (ATable k) h = tt
-is_sized S (AStruct size align) h = h
-is_sized S Nothing h = tt
-
--- words of which none leads to a table
-pub leaf_word : (b : List ℕ) (S : Rows) (leads : Leads) (p : ℕ) → AreLeaf leads → IsLeafLead (word_at b S leads p).lead
-leaf_word b S (All AText) p h = tt
-leaf_word b S (All (ATable k)) p h = h
-leaf_word b S (All (AStruct size align)) p h = tt
-leaf_word b S (All Nothing) p h = tt
-leaf_word b S (ByType e q) p h = absurd h
-
-pub leaf_after : (leads : Leads) → AreLeaf leads → AreLeaf (leads_after leads)
-leaf_after (All referent) h = h
-leaf_after (ByType e q) h = h

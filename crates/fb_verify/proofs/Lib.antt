@@ -34,7 +34,9 @@ pub mod NextField
 pub mod Absent
 pub mod Plains
 pub mod ByUnits
+pub mod Stepping
 pub mod Passing
+pub mod BySteps
 pub mod LeafRows
 pub mod Members
 pub mod Flats

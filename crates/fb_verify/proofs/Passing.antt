@@ -191,7 +191,7 @@ module _ {w : Walk} {m : Lent} {under : Waiting} {top : Frame} {steps : List Ste
   long = ap length h.all ∙ length-map fields step_of
 
   -- where it stands is where its field does
-  same_slot : (f : Live) → slice_get fields top.next ≡ Some f → step.slot ≡ f.slot
+  pub same_slot : (f : Live) → slice_get fields top.next ≡ Some f → step.slot ≡ f.slot
   same_slot f here = let w : Some found.0 ≡ Some f = sym found.1 ∙ here in let v : found.0 ≡ f = cc in ap (λ (z : Step). z.slot) found.2 ∙ ap (λ (z : Live). z.slot) v
 
   -- it and those after it are absent, and the schema tells that none of them is required

@@ -1,5 +1,5 @@
 -- Fields that lead to no table are passed by their steps.
-use Rattle.std.proofs.Common.{◌≡◌, ℕ, zero, suc, ◌+◌, ◌<◌, ◌≤◌, ◌==◌, ◌%◌, ◌&&◌, ◌||◌, ◌⊎◌, inl, inr, Bool, true, false, not, List, [], ◌∷◌, map, refl, sym, ◌∙◌, ap, subst, arith, Option, Some, None, if◌then◌else◌, IfSome}
+use Rattle.std.proofs.Common.{◌≡◌, ℕ, zero, suc, ◌+◌, ◌<◌, ◌≤◌, ◌==◌, ◌%◌, ◌&&◌, ◌⊎◌, inl, inr, Bool, true, false, List, [], ◌∷◌, map, refl, sym, ◌∙◌, ap, subst, arith, Option, Some, None, if◌then◌else◌}
 use Rattle.std.specs.Prelude.{slice_get}
 use Rattle.std.proofs.lemmas.Bool.Decides.{Decides-eqb, nat_tests}
 use Rattle.fb_schema.specs.declared.kinds.Kind.{Kind}
@@ -10,9 +10,9 @@ use Rattle.fb_schema.specs.declared.views.Step.{Step}
 use Rattle.fb_schema.specs.Rows.{Rows}
 use Rattle.fb_schema.specs.Live.{Live}
 use Rattle.fb_schema.specs.Served.{KindHolds}
-use Rattle.fb_schema.specs.Steps.{inline_act, act_of, is_plain_act, are_plain, step_of}
+use Rattle.fb_schema.specs.Steps.{inline_act, act_of, bit_of, is_plain_act, are_plain, step_of}
 use Rattle.fb_verify.specs.declared.checks.Checks.{Checks}
-use Rattle.fb_verify.specs.Places.{is_aligned, field_place}
+use Rattle.fb_verify.specs.Places.{field_place}
 use Rattle.fb_verify.specs.Fields.{to_string, entry, entries_of, entries_at, entries}
 use Rattle.fb_verify.specs.Cost.{slot_reads, present_reads, reads_at, own_reads}
 use Rattle.fb_verify.specs.Order.{Failure, after, ◌▷◌, table_failure, inline_field_failure, lead_failure, present_failure, failure_at, own_failure}
@@ -92,6 +92,17 @@ is_step S fs i s h e =
     let x = step_at fs i s e in
     subst (λ z. IsStep z z.act) (sym x.2) (kind_step S x.0 (x.0).kind (h x.0 x.1))
 
+-- A step has the bit of its act, and the slot of its field.
+pub has_bit : (fs : List Live) (i : ℕ) (s : Step) → slice_get (map step_of fs) i ≡ Some s → s.bit ≡ bit_of s.act
+has_bit fs i s e =
+    let x = step_at fs i s e in
+    subst (λ z. z.bit ≡ bit_of z.act) (sym x.2) refl
+
+pub is_even : (fs : List Live) (i : ℕ) (s : Step) → ((f : Live) → slice_get fs i ≡ Some f → f.slot % 2 ≡ 0) → slice_get (map step_of fs) i ≡ Some s → s.slot % 2 ≡ 0
+is_even fs i s h e =
+    let x = step_at fs i s e in
+    subst (λ z. z.slot % 2 ≡ 0) (sym x.2) (h x.0 x.1)
+
 -- A step reads four times at most.
 act_few : (act : Act) → step_reads act ≤ 3
 act_few One = omega arith
@@ -143,21 +154,6 @@ place_told t w = go (w == 0) refl where
 
 pub place_none : (t : ℕ) → place_from t t ≡ None
 place_none t = ap (λ y. if y then None else Some t) ((Decides-eqb t t).1 refl)
-
-pub place_near : (t p n : ℕ) → p < n → IfSome (place_from t p) (λ q. q < n)
-place_near t p n h = go (p == t) where
-  go : (x : Bool) → IfSome (if x then None else Some p) (λ q. q < n)
-  go true = tt
-  go false = h
-
--- every position is aligned for a byte
-unaligned : (p : ℕ) (x : Bool) → (not x || (p % 1 == 0)) ≡ true
-unaligned p false = refl
-unaligned p true = (Decides-eqb (p % 1) 0).1 (omega arith)
-
-pub byte_aligned : (c : Checks) (p : ℕ) → is_aligned c p 1 ≡ true
-unfolding is_aligned
-byte_aligned c p = unaligned p c.alignment
 
 -- a field that leads nowhere is tested by itself
 pub record LeadsNowhere (c : Checks) (b : List ℕ) (S : Rows) (t : ℕ) (f : Live) : Type 0 where

@@ -44,6 +44,19 @@ module _ {w then : Walk} {m new : Lent} {under : Waiting} {top past : Frame} (on
     next = ap (λ (x : Frame). x.next) same ∙ next;
   }
 
+  -- or one of them, which leads to no table
+  pub word_passed : (row : Row) (q : Lent) → IsWalking then q under.start under.frames (record past { row = row }) → q.count + 4 * row.left ≤ new.count + 4 * (past.row).left → row.left ≤ (past.row).left → new.count ≤ q.count
+      → q.bytes ≡ new.bytes → IsShort q.count → GoesOn w then m q under top (record past { row = row })
+  word_passed row q h paid less grows bytes short = record {
+    same = on.same;
+    walking = h;
+    table = on.table;
+    falls = omega (arith, on.falls, words_work w.schema.now w.limits under.frames past (record past { row = row }) then.tables new.count q.count refl paid less);
+    grows = omega (arith, on.grows, grows);
+    bytes = bytes ∙ on.bytes;
+    short = short;
+  }
+
 -- the next ones were passed until one leads to a table, which was counted
 pub record Counts (w then counted : Walk) (m new mid : Lent) (under : Waiting) (top past last : Frame) (row : Row) (child : Child) (links : ℕ) : Type 0 where
   pub on : GoesOn w then m new under top past
@@ -73,7 +86,7 @@ module _ {w then counted : Walk} {m new mid : Lent} {under : Waiting} {top past 
   abbrev below : Waiting
   below = record { start = under.start; frames = under.frames ++ waits ∷ [] }
 
-  counted_same : counted ≡ record w { tables = counted.tables; deepest = counted.deepest }
+  pub counted_same : counted ≡ record w { tables = counted.tables; deepest = counted.deepest }
   counted_same =
       h.is ∙ ap (λ (x : Walk). record x { tables = then.tables + 1; deepest = max then.deepest (links + 1) }) (h.on).same
       ∙ sym (ap (λ (x : Walk). record w { tables = x.tables; deepest = x.deepest }) h.is)

@@ -1,5 +1,5 @@
 -- What it takes to pass a table whose fields lead to no table, and what that leaves.
-use Rattle.std.specs.Prelude.{◌≡◌, ℕ, ◌+◌, ◌*◌, ◌<◌, ◌≤◌, List, [], ◌∷◌, ◌++◌, false, Option, Some, None, Result, Ok, Err, IfSome, Bool, length}
+use Rattle.std.specs.Prelude.{◌≡◌, ℕ, ◌+◌, ◌*◌, ◌<◌, ◌≤◌, List, [], ◌∷◌, ◌++◌, Option, Some, None, IfSome, length}
 use Rattle.fb_bytes.specs.Word.{Lent}
 use Rattle.fb_schema.specs.Live.{live_fields}
 use Rattle.fb_verify.specs.declared.fault.Reason.{Reason}
@@ -18,11 +18,6 @@ use Rattle.fb_verify.specs.Told.{stopped, IsHead}
 pub record Going : Type 0 where
   pub walk : Walk
   pub under : Waiting
-
--- the answer of a walk past fields of which none leads on
-abbrev pub came : Option Reason → Result Bool Reason
-came None = Ok false
-came (Some reason) = Err reason
 
 -- the number of no field: the head of a table
 abbrev pub in_head : ℕ

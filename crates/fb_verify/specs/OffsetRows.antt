@@ -66,6 +66,11 @@ leads_after (ByType e q) = ByType e (q + 1)
 abbrev pub past_first : Row → Row
 past_first r = record { leads = leads_after r.leads; place = r.place + 4; left = r.left - 1 }
 
+-- they all refer to the same
+abbrev pub AreAll : Leads → Type 0
+AreAll (All referent) = Unit {0}
+AreAll (ByType e q) = ⊥
+
 abbrev pub AreTypesNear : Leads → Type 0
 AreTypesNear (All referent) = Unit {0}
 AreTypesNear (ByType e q) = q < 2 ^ 36
@@ -100,14 +105,6 @@ IsSized _ = Unit {0}
 abbrev pub IsLeafLead : Lead → Type 0
 IsLeafLead (to_table k) = ⊥
 IsLeafLead _ = Unit {0}
-
--- offset words of which none leads to a table
-abbrev pub AreLeaf : Leads → Type 0
-AreLeaf (All AText) = Unit {0}
-AreLeaf (All (ATable k)) = ⊥
-AreLeaf (All (AStruct size align)) = Unit {0}
-AreLeaf (All Nothing) = Unit {0}
-AreLeaf (ByType e q) = ⊥
 
 -- the types of n offset words lie in the buffer
 abbrev pub AreLeads : List ℕ → Rows → ℕ → Leads → Type 0

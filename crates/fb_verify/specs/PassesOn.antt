@@ -1,15 +1,18 @@
 -- What it takes to pass fields of the top of a walk, and what that leaves.
-use Rattle.std.specs.Prelude.{◌≡◌, ℕ, ◌+◌, ◌-◌, ◌*◌, ◌^◌, ◌<◌, ◌≤◌, Bool, true, false, Result, IfOk, IfErr, length, slice_get, Some}
+use Rattle.std.specs.Prelude.{◌≡◌, ℕ, ◌+◌, ◌-◌, ◌*◌, ◌^◌, ◌<◌, ◌≤◌, Bool, true, false, Result, IfOk, IfErr, length, slice_get, Some, Ok, Err}
 use Rattle.fb_schema.specs.Rows.{Rows}
 use Rattle.fb_schema.specs.declared.views.Act.TheVariants.{Other}
 use Rattle.fb_schema.specs.Live.{Live, live_fields}
 use Rattle.fb_schema.specs.Steps.{act_of}
 use Rattle.fb_bytes.specs.Word.{Lent}
 use Rattle.fb_verify.specs.declared.fault.Reason.{Reason}
+use Rattle.fb_verify.specs.declared.plain.Came.{Came}
+use Rattle.fb_verify.specs.declared.plain.Came.TheVariants.{Past, ToEnd, ToField, ToFault}
 use Rattle.fb_verify.specs.declared.scratch.Frame.{Frame}
 use Rattle.fb_verify.specs.declared.site.Stop.{Stop}
 use Rattle.fb_verify.specs.declared.stack.Walk.{Walk}
 use Rattle.fb_verify.specs.Bounds.{AreAllowed}
+use Rattle.fb_verify.specs.Places.{vtable_size}
 use Rattle.fb_verify.specs.Told.{stopped}
 use Rattle.fb_verify.specs.Stack.{Waiting, frame_work, IsWalking, IsAtField, IsStopped}
 use Rattle.fb_verify.specs.StopsAt.{IsStopAt}
@@ -63,3 +66,26 @@ pub record PassesFields (w : Walk) (m new : Lent) (under : Waiting) (top past : 
   pub grows : IfOk result (λ _. m.count ≤ new.count)
   pub bytes : new.bytes ≡ m.bytes
   pub err : IfErr result (λ s. IsStopped w m under.start under.frames (stopped s new.count))
+
+-- a walk, the frames that wait in it, and the top, of which fields are passed
+pub record Passage : Type 0 where
+  pub walk : Walk
+  pub under : Waiting
+  pub top : Frame
+
+-- fields of the top were passed that lead on nowhere, up to the last, or to one whose slot lies behind the vtable
+pub record EndsBehind (w : Walk) (m new : Lent) (under : Waiting) (top past : Frame) : Type 0 where
+  pub between : IsBetween w new under past
+  pub forth : top.next ≤ past.next
+  pub within : past.next ≤ length (live_fields w.schema.now (top.table).object)
+  pub behind : (f : Live) → slice_get (live_fields w.schema.now (top.table).object) past.next ≡ Some f → vtable_size new.bytes (top.table).at < f.slot + 2
+  pub paid : new.count + 6 * fields_left w.schema.now past ≤ m.count + 6 * fields_left w.schema.now top
+  pub grows : m.count ≤ new.count
+  pub bytes : new.bytes ≡ m.bytes
+
+-- to where fields of the top were passed; the next is that of the past frame
+abbrev pub CameTo : (w : Walk) → (m new : Lent) → (under : Waiting) → (top past : Frame) → (at : ℕ) → Came → Type 0
+CameTo w m new under top past at Past = ⊥
+CameTo w m new under top past at ToEnd = EndsBehind w m new under top past
+CameTo w m new under top past at ToField = PassesOn w m new under top past at (Ok true)
+CameTo w m new under top past at (ToFault reason) = PassesOn w m new under top past at (Err reason)

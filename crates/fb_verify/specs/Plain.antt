@@ -1,13 +1,15 @@
--- Fields that lead to no table, by their steps.
-use Rattle.std.specs.Prelude.{◌≡◌, ℕ, ◌+◌, ◌<◌, ◌==◌, if◌then◌else◌, List, not, Option, Some, None}
+-- Fields, by their steps, up to one that may lead to a table.
+use Rattle.std.specs.Prelude.{◌≡◌, ◌⊎◌, ℕ, ◌+◌, ◌^◌, ◌<◌, ◌==◌, if◌then◌else◌, IsTrue, List, not, Option, Some, None}
 use Rattle.fb_bytes.specs.Word.{Lent}
 use Rattle.fb_schema.specs.declared.views.Act.{Act}
 use Rattle.fb_schema.specs.declared.views.Act.TheVariants.{One, Two, Four, Eight, Inline, Text, Vector, Other}
 use Rattle.fb_schema.specs.declared.views.Step.{Step}
+use Rattle.fb_verify.specs.declared.plain.Came.{Came}
+use Rattle.fb_verify.specs.declared.plain.Came.TheVariants.{Past, ToEnd, ToField, ToFault}
 use Rattle.fb_verify.specs.declared.checks.Checks.{Checks}
 use Rattle.fb_verify.specs.declared.fault.Reason.{Reason}
 use Rattle.fb_verify.specs.declared.fault.Reason.TheVariants.{MissingRequired}
-use Rattle.fb_verify.specs.Places.{field_place}
+use Rattle.fb_verify.specs.Places.{field_place, has_slot, vtable_size}
 use Rattle.fb_verify.specs.Fields.{to_string}
 use Rattle.fb_verify.specs.Cost.{slot_reads}
 use Rattle.fb_verify.specs.Order.{Failure, check, after, ◌▷◌, table_failure, inline_field_failure, vector_field_failure, lead_failure}
@@ -67,3 +69,43 @@ plain_failure c b t s = after (slot_reads b t s.slot) (step_failure_at c b t s (
 
 unfoldable pub plain_reads : List ℕ → ℕ → Step → ℕ
 plain_reads b t s = slot_reads b t s.slot + step_reads_at s (field_place b t s.slot)
+
+-- sizes that are alignments too, and have a bit of their own
+abbrev pub IsSmall : ℕ → Type 0
+IsSmall n = (n ≡ 1) ⊎ (n ≡ 2) ⊎ (n ≡ 4) ⊎ (n ≡ 8)
+
+-- the field of a step was tested in the table at t, and this was found; it isn't one that stands there and may lead to
+-- a table
+pub record StepTested (c : Checks) (m new : Lent) (t : ℕ) (s : Step) (at : ℕ) (result : Option Reason) : Type 0 where
+  pub plain : s.act ≡ Other → field_place m.bytes t s.slot ≡ None
+  pub told : tested_by at new.count result ≡ after m.count (plain_failure c m.bytes t s)
+  pub counted : result ≡ None → new.count ≡ m.count + plain_reads m.bytes t s
+  pub bytes : new.bytes ≡ m.bytes
+  pub base : new.base ≡ m.base
+
+-- its slot lies behind the vtable
+pub record StepBehind (m new : Lent) (t : ℕ) (s : Step) : Type 0 where
+  pub past : vtable_size m.bytes t < s.slot + 2
+  pub same : new ≡ m
+
+-- it stands at this place, and may lead to a table
+pub record StepLeads (m new : Lent) (t : ℕ) (s : Step) (at : ℕ) : Type 0 where
+  pub open-step : s.act ≡ Other
+  pub there : field_place m.bytes t s.slot ≡ Some at
+  pub slot : IsTrue (has_slot m.bytes t s.slot)
+  pub near : at < 2 ^ 34
+  pub counted : new ≡ record m { count = m.count + slot_reads m.bytes t s.slot }
+
+-- what passing a field by its step comes to, that stands at p, once its slot is read
+abbrev pub Filled : Checks → (m new : Lent) → (t : ℕ) → Step → (p at : ℕ) → Came → Type 0
+Filled c m new t s p at Past = (s.act ≡ Other → ⊥) × IsTested m new at (step_failure c m.bytes t s p s.act) (step_reads s.act) None
+Filled c m new t s p at ToEnd = ⊥
+Filled c m new t s p at ToField = (s.act ≡ Other) × (new ≡ m) × (at ≡ p)
+Filled c m new t s p at (ToFault reason) = (s.act ≡ Other → ⊥) × IsTested m new at (step_failure c m.bytes t s p s.act) (step_reads s.act) (Some reason)
+
+-- the same with the reading of its slot before it
+abbrev pub Stepped : Checks → (m new : Lent) → (t : ℕ) → Step → (at : ℕ) → Came → Type 0
+Stepped c m new t s at Past = StepTested c m new t s at None
+Stepped c m new t s at ToEnd = StepBehind m new t s
+Stepped c m new t s at ToField = StepLeads m new t s at
+Stepped c m new t s at (ToFault reason) = StepTested c m new t s at (Some reason)

@@ -1,5 +1,5 @@
 -- What the parts of a walk hand on: refusals, stops and faults, and the head of a table.
-use Rattle.std.specs.Prelude.{◌≡◌, ℕ, ◌+◌, ◌≤◌, ◌<◌, ◌^◌, IsTrue, List, length, Option, Some, None, Result, IfOk, IfErr}
+use Rattle.std.specs.Prelude.{◌%◌, ◌≡◌, ℕ, ◌+◌, ◌≤◌, ◌<◌, ◌^◌, IsTrue, List, length, Option, Some, None, Result, IfOk, IfErr}
 use Rattle.fb_bytes.specs.Word.{Lent}
 use Rattle.fb_verify.specs.declared.checks.Checks.{Checks}
 use Rattle.fb_verify.specs.declared.fault.Fault.{Fault}
@@ -43,6 +43,7 @@ way_at links passed deepest paid site = record { links = links; passed = passed;
 pub record IsVtable (b : List ℕ) (t : ℕ) (h : Head) : Type 0 where
   pub place : h.vtable ≡ vtable b t
   pub size : h.size ≡ vtable_size b t
+  pub even : h.size % 2 ≡ 0
   pub within : h.vtable + h.size ≤ length b
   pub near : h.vtable < 2 ^ 32
 

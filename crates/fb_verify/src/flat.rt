@@ -1,14 +1,15 @@
-// Tables whose fields lead to no table, passed whole by reads that are counted in a register.
+// Fields passed by their steps, and tables of which none leads to a table passed whole, by reads that are counted in a
+// register.
 
-ghost use Rattle.std.specs.Prelude.{◌≡◌, ◌+◌, ◌*◌, ◌^◌, ◌<◌, ◌≤◌, length, map, IsTrue, None, true, false};
+ghost use Rattle.std.specs.Prelude.{◌≡◌, ◌+◌, ◌-◌, ◌*◌, ◌^◌, ◌<◌, ◌≤◌, length, map, drop, IsTrue, None, true, false};
 ghost use Rattle.fb_schema.specs.Rows.{is_table};
 ghost use Rattle.fb_schema.specs.Live.{live_fields};
 ghost use Rattle.fb_schema.specs.Steps.{is_plain, step_of};
 ghost use Rattle.fb_verify.specs.Bounds.{AreAllowed};
 ghost use Rattle.fb_verify.specs.Cost.{head_reads};
-ghost use Rattle.fb_verify.specs.Flat.{came, in_head, frame_at, Going, MayOpen, PassesFlat};
+ghost use Rattle.fb_verify.specs.Flat.{in_head, frame_at, Going, MayOpen, PassesFlat};
 ghost use Rattle.fb_verify.specs.Order.{head_failure};
-ghost use Rattle.fb_verify.specs.PassesOn.{IsBetween, HasRoom, PassesOn};
+ghost use Rattle.fb_verify.specs.PassesOn.{IsBetween, HasRoom, Passage, PassesOn, CameTo};
 ghost use Rattle.fb_verify.specs.Plain.{IsTested};
 ghost use Rattle.fb_verify.specs.Stack.{opened, Waiting, IsWalking};
 ghost use Rattle.fb_verify.specs.StopsAt.{IsStopAt};
@@ -21,9 +22,9 @@ ghost use Rattle.fb_verify.specs.Told.{IsHead};
 
 use crate::checks::{Checks, PUBLISHED};
 use crate::fault::Reason;
-use crate::leaves::{stop_at_word, targets_of};
+use crate::leaves::{first_referent, stop_at_word, targets_of};
 use crate::offset_row::{Referent, Row};
-use crate::plain::{slot_at, test_at, test_head, test_lead};
+use crate::plain::{Came, pass_step, test_head, test_lead};
 use crate::scratch::Frame;
 use crate::site::LastLink;
 use crate::stack::{Turn, Walk};
@@ -34,52 +35,95 @@ use fb_schema::{Schema, Step};
 /// The number of no field: the head of a table is under check.
 pub const IN_HEAD: u32 = 4_294_967_295;
 
-/// Passes the fields of an open table of which none leads to a table, by their steps. Where one fails, the position is
-/// moved to where it does, and its number is written. The walk that is under way, and the frames that wait in it, are
-/// those that the contract speaks of.
+/// Passes fields of the top table by their steps, from its next field on, until one is there that may lead to a table,
+/// or is behind the vtable, or fails; the position is then moved to where it stands, or to where it fails. So many are
+/// left, with that one. The budget allows whatever the fields cost. There is one way back to the loop's head: with
+/// more, the compiler nests loops.
+#[inline(always)]
+fn pass_by(
+    reads: &mut Reads<'_>,
+    checks: Checks,
+    table: Table,
+    steps: &[Step],
+    left: &mut usize,
+    at: &mut u64,
+) -> Came
+    ghost of: { Passage }
+    requires between { IsBetween of.walk reads.old of.under of.top }
+    requires room { HasRoom of.walk reads.old of.top }
+    requires same { checks ≡ of.walk.checks }
+    requires table { table ≡ of.top.table }
+    requires steps { steps.now ≡ drop of.top.next (map step_of (live_fields of.walk.schema.now table.object)) }
+    ensures left { left.new ≤ length steps.now }
+    ensures came { CameTo of.walk reads.old reads.new of.under of.top (record of.top { next = length (live_fields of.walk.schema.now table.object) - left.new }) at.new result }
+{
+    let mut rest = steps;
+    while let Some((step, more)) = rest.split_first() {
+        let mut tested = 0;
+        match pass_step(reads, checks, table, step, &mut tested) {
+            Came::Past => rest = more,
+            came => {
+                *at = tested;
+                *left = rest.len();
+                return came;
+            }
+        }
+    }
+    *left = 0;
+    Came::ToEnd
+}
+
+/// Passes fields of the top table by their steps, from the next one on, until one is there that may lead to a table,
+/// and answers whether one is; the position is then moved to where it stands. Where a test fails, that is the next
+/// field, and the position is moved to where it fails. The budget allows whatever the fields cost. Of the walk under
+/// way, of the frames that wait in it and of its top the contract alone speaks.
 #[inline(always)]
 pub fn pass_steps(
     reads: &mut Reads<'_>,
     checks: Checks,
-    steps: &[Step],
     schema: &Schema<'_>,
     table: Table,
+    steps: &[Step],
     next: &mut u32,
     at: &mut u64,
-) -> Option<Reason>
-    ghost going: { Going }
-    requires between { IsBetween going.walk reads.old going.under (opened table) }
-    requires room { HasRoom going.walk reads.old (opened table) }
-    requires few { reads.old.count < 2 ^ 58 }
-    requires same { checks ≡ going.walk.checks }
-    requires steps { steps.now ≡ map step_of (live_fields going.walk.schema.now table.object) }
-    requires schema { schema.now ≡ going.walk.schema.now }
-    requires plain { is_plain going.walk.schema.now table.object ≡ true }
-    requires few_steps { length steps.now < 2 ^ 32 }
-    ensures { PassesOn going.walk reads.old reads.new going.under (opened table) (record (opened table) { next = next.new }) at.new (came result) }
+) -> Result<bool, Reason>
+    ghost of: { Passage }
+    requires between { IsBetween of.walk reads.old of.under of.top }
+    requires room { HasRoom of.walk reads.old of.top }
+    requires same { checks ≡ of.walk.checks }
+    requires schema { schema.now ≡ of.walk.schema.now }
+    requires table { table ≡ of.top.table }
+    requires next { next.old ≡ of.top.next }
+    requires steps { steps.now ≡ map step_of (live_fields of.walk.schema.now table.object) }
+    requires few { length steps.now < 2 ^ 32 }
+    ensures { PassesOn of.walk reads.old reads.new of.under of.top (record of.top { next = next.new }) at.new result }
 {
-    let mut past = 0;
-    while let Some(step) = steps.get(past) {
-        if table.head.ends_before(step.slot) {
-            let Some(needed) = schema.next_required(table.object, past as u32) else {
+    let mut left = 0;
+    let came = pass_by(
+        reads,
+        checks,
+        table,
+        &steps[*next as usize..],
+        &mut left,
+        at,
+    );
+    *next = (steps.len() - left) as u32;
+    match came {
+        Came::ToField => Ok(true),
+        Came::ToFault(reason) => Err(reason),
+        _ => {
+            if left == 0 {
+                return Ok(false);
+            }
+            let Some(needed) = schema.next_required(table.object, *next) else {
                 *next = steps.len() as u32;
-                return None;
+                return Ok(false);
             };
             *next = needed;
             *at = table.at;
-            return Some(Reason::MissingRequired);
+            Err(Reason::MissingRequired)
         }
-        let mut tested = slot_at(reads, table.at, table.head, step.slot);
-        let failed = test_at(reads, checks, table, &mut tested, step);
-        if let Some(reason) = failed {
-            *next = past as u32;
-            *at = tested;
-            return Some(reason);
-        }
-        past += 1;
     }
-    *next = past as u32;
-    None
 }
 
 /// Passes the table at a position, of an object whose fields lead to no table: its head, and its fields by their steps.
@@ -110,7 +154,7 @@ fn pass_flat(
     requires few_steps { length steps.now < 2 ^ 32 }
     ensures { PassesFlat going.walk reads.old reads.new going.under object at.old next.new at.new result }
 {
-    // Only the contract speaks of the walk, and of the frame above with the row that is left of it.
+    // Of the walk, and of the frame above with what is left of its row, a caller's ghost is made.
     let _walk = walk;
     let _above = above;
     let _row = row;
@@ -127,7 +171,11 @@ fn pass_flat(
         object,
         at: *at,
     };
-    pass_steps(reads, checks, steps, schema, table, next, at)
+    *next = 0;
+    match pass_steps(reads, checks, schema, table, steps, next, at) {
+        Ok(_) => None,
+        Err(reason) => Some(reason),
+    }
 }
 
 /// Opens the frame of the table at a position, of this object, if its head holds; else the position is moved to where
@@ -196,8 +244,8 @@ impl<'s, 'n> Walk<'s, 'n> {
         requires same { checks ≡ self.old.checks }
         ensures { (child : Child) → RowTurned self.old self.new reads.old reads.new under top.old top.new child result }
     {
-        let steps = self.schema.steps_of(object);
         let schema = self.schema;
+        let steps = schema.steps_of(object);
         let cost = 8 + 6 * steps.len() as u64;
         let room = self.limits.short();
         let mut row = top.row;
@@ -208,9 +256,8 @@ impl<'s, 'n> Walk<'s, 'n> {
                 let stop = stop_at_word(top, row, at, reason);
                 return self.stop(stop, waiting + 1, LastLink::Behind);
             }
-            row.advance();
-            self.tables += 1;
-            self.deepest = self.deepest.max(waiting + 2);
+            row.advance_all();
+            self.count_table(waiting + 2);
             let mut next = 0;
             let came = pass_flat(
                 self, top, row, reads, checks, object, steps, schema, &mut next, &mut at,
@@ -228,19 +275,96 @@ impl<'s, 'n> Walk<'s, 'n> {
         }
     }
 
-    /// Whether an offset word is left of a row, and the limits allow to open one more table, for so many reads at most
-    /// behind all these words.
+    /// The same by the published checks, which are constants then, over bytes that are lent on.
+    #[inline(never)]
+    fn pass_flats_by_published(
+        &mut self,
+        reads: &mut Reads<'_>,
+        waiting: u32,
+        object: u32,
+        top: &mut Frame,
+    ) -> Turn
+        ghost under: { Waiting }
+        requires waiting { waiting ≡ length under.frames }
+        requires walking { IsWalking self.old reads.old under.start under.frames top.old }
+        requires leads { (top.old.row).leads ≡ All (ATable object) }
+        requires table { IsTrue (is_table self.old.schema.now object) }
+        requires plain { is_plain self.old.schema.now object ≡ true }
+        requires deep { waiting + 1 < (self.old.limits).depth }
+        requires low { waiting + 1 < 4096 }
+        requires short { IsShort reads.old.count }
+        requires same { record { alignment = true; inline_size = false } ≡ self.old.checks }
+        ensures { (child : Child) → RowTurned self.old self.new reads.old reads.new under top.old top.new child result }
+    {
+        let mut own = reads.lend();
+        let turn = self.pass_flats(PUBLISHED, &mut own, waiting, object, top);
+        reads.settle(own);
+        turn
+    }
+
+    /// The same, whatever the checks are.
+    #[cold]
+    #[inline(never)]
+    fn pass_flats_by_checks(
+        &mut self,
+        reads: &mut Reads<'_>,
+        waiting: u32,
+        object: u32,
+        top: &mut Frame,
+    ) -> Turn
+        ghost under: { Waiting }
+        requires waiting { waiting ≡ length under.frames }
+        requires walking { IsWalking self.old reads.old under.start under.frames top.old }
+        requires leads { (top.old.row).leads ≡ All (ATable object) }
+        requires table { IsTrue (is_table self.old.schema.now object) }
+        requires plain { is_plain self.old.schema.now object ≡ true }
+        requires deep { waiting + 1 < (self.old.limits).depth }
+        requires low { waiting + 1 < 4096 }
+        requires short { IsShort reads.old.count }
+        ensures { (child : Child) → RowTurned self.old self.new reads.old reads.new under top.old top.new child result }
+    {
+        self.pass_flats(self.checks, reads, waiting, object, top)
+    }
+
+    /// The same, by the function for the walk's checks.
+    #[inline(always)]
+    pub fn pass_flats_on(
+        &mut self,
+        checks: Checks,
+        reads: &mut Reads<'_>,
+        waiting: u32,
+        object: u32,
+        top: &mut Frame,
+    ) -> Turn
+        ghost under: { Waiting }
+        requires waiting { waiting ≡ length under.frames }
+        requires walking { IsWalking self.old reads.old under.start under.frames top.old }
+        requires leads { (top.old.row).leads ≡ All (ATable object) }
+        requires table { IsTrue (is_table self.old.schema.now object) }
+        requires plain { is_plain self.old.schema.now object ≡ true }
+        requires deep { waiting + 1 < (self.old.limits).depth }
+        requires low { waiting + 1 < 4096 }
+        requires short { IsShort reads.old.count }
+        requires same { checks ≡ self.old.checks }
+        ensures { (child : Child) → RowTurned self.old self.new reads.old reads.new under top.old top.new child result }
+    {
+        if checks.are_published() {
+            return self.pass_flats_by_published(reads, waiting, object, top);
+        }
+        self.pass_flats_by_checks(reads, waiting, object, top)
+    }
+
+    /// Whether an offset word is left of a row, and the limits allow to pass it and to open one more table behind it,
+    /// for so many reads at most.
     #[inline(always)]
     fn has_member(&self, reads: &Reads<'_>, row: Row, room: u64) -> bool
         requires few { reads.now.count < 2 ^ 57 }
         ensures more { result ≡ true → 0 < row.left }
         ensures fewer { result ≡ true → self.now.tables < (self.now.limits).tables }
         ensures small { result ≡ true → (self.now.limits).tables < 2 ^ 32 }
-        ensures room { result ≡ true → reads.now.count + 4 * row.left + 8 ≤ room }
+        ensures room { result ≡ true → reads.now.count + 8 ≤ room }
     {
-        row.left > 0
-            && self.tables < self.limits.tables()
-            && reads.count() + 4 * u64::from(row.left) + 8 <= room
+        row.left > 0 && self.tables < self.limits.tables() && reads.count() + 8 <= room
     }
 
     /// Passes offset words that are left of the top table's field, each with what it leads to, until one leads to a
@@ -267,34 +391,37 @@ impl<'s, 'n> Walk<'s, 'n> {
         let schema = self.schema;
         let room = self.limits.short();
         let targets = targets_of(schema, top.row.leads);
-        while self.has_member(reads, top.row, room) {
-            let found = match self.pass_words_of(checks, reads, targets, top, top.row) {
-                Ok(found) => found,
-                Err(stop) => return self.stop(stop, waiting + 1, LastLink::Behind),
-            };
-            let Some(found) = found else {
-                return Turn::Up;
-            };
-            top.row.advance();
-            self.tables += 1;
-            self.deepest = self.deepest.max(waiting + 2);
-            let object = found.object;
-            let steps = schema.steps_of(object);
-            if !schema.is_plain(object) || reads.count() + 4 + 6 * steps.len() as u64 > room {
-                child.object = object;
-                child.at = found.at;
-                return Turn::Down;
+        let mut row = top.row;
+        while self.has_member(reads, row, room) {
+            let referent = first_referent(reads, targets, schema, row);
+            let mut at = row.place;
+            let failed = test_lead(reads, checks, &mut at, referent);
+            if let Some(reason) = failed {
+                let stop = stop_at_word(top, row, at, reason);
+                return self.stop(stop, waiting + 1, LastLink::Behind);
             }
-            let mut at = found.at;
-            let mut next = 0;
-            let came = pass_flat(
-                self, top, top.row, reads, checks, object, steps, schema, &mut next, &mut at,
-            );
-            if let Some(reason) = came {
-                return self.stop_in_flat(object, next, at, reason, waiting + 1);
+            row.advance();
+            if let Referent::Table(object) = referent {
+                self.count_table(waiting + 2);
+                let steps = schema.steps_of(object);
+                if !schema.is_plain(object) || reads.count() + 4 + 6 * steps.len() as u64 > room {
+                    top.row = row;
+                    child.object = object;
+                    child.at = at;
+                    return Turn::Down;
+                }
+                let mut next = 0;
+                let came = pass_flat(
+                    self, top, row, reads, checks, object, steps, schema, &mut next, &mut at,
+                );
+                if let Some(reason) = came {
+                    top.row = row;
+                    return self.stop_in_flat(object, next, at, reason, waiting + 1);
+                }
             }
         }
-        if top.row.left == 0 {
+        top.row = row;
+        if row.left == 0 {
             Turn::Up
         } else {
             Turn::Slowly

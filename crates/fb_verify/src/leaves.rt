@@ -1,10 +1,11 @@
 // The offset words by which a field leads on, passed by reads that are counted in a register.
 
-ghost use Rattle.std.specs.Prelude.{◌≡◌, ◌+◌, ◌*◌, ◌^◌, ◌<◌, ◌≤◌, length, [], ◌∷◌, ◌++◌, IfOk, IfErr, IfSome, Some, None};
+ghost use Rattle.std.specs.Prelude.{◌≡◌, ◌+◌, ◌*◌, ◌^◌, ◌<◌, ◌≤◌, length, [], ◌∷◌, ◌++◌, IfOk, IfErr, Some};
 ghost use Rattle.fb_schema.specs.Served.{IsServed};
 ghost use Rattle.fb_verify.specs.Bounds.{AreAllowed};
-ghost use Rattle.fb_verify.specs.OffsetRows.{lead_to, first_word, past_first, AreOfUnion, AreTargetsOf, IsReferent, IsRow, AreTypesNear, AreLeaf};
-ghost use Rattle.fb_verify.specs.Stack.{Waiting, IsWalking, IsAtTable, IsStoppedBehind};
+ghost use Rattle.fb_verify.specs.OffsetRows.{lead_to, first_word, past_first, AreOfUnion, AreTargetsOf, IsLeafLead, IsReferent, IsRow, AreTypesNear};
+ghost use Rattle.fb_verify.specs.Stack.{Waiting, IsWalking, IsStoppedBehind};
+ghost use Rattle.fb_verify.specs.declared.offset_row.Leads.TheVariants.{All};
 ghost use Rattle.fb_verify.specs.Told.{stopped};
 ghost use Rattle.fb_verify.specs.Turns.{IsShort, RowTurned};
 
@@ -37,8 +38,8 @@ pub fn targets_of<'s>(schema: &'s Schema<'_>, leads: Leads) -> Targets<'s>
     }
 }
 
-/// What the first offset word of a row refers to. Where the types of a union tell that, its type is read, and the target
-/// of it is looked up among these.
+/// What the first offset word of a row refers to. Where the types of a union tell that, its type is read, and the
+/// target of it is looked up among these.
 #[inline(always)]
 pub fn first_referent(
     reads: &mut Reads<'_>,
@@ -84,71 +85,62 @@ pub fn stop_at_word(top: &mut Frame, left: Row, at: u64, reason: Reason) -> Stop
 }
 
 impl Walk<'_, '_> {
-    /// Passes offset words that are left of the top table's field, with the strings and structs that they lead to,
-    /// until one leads to a table, and answers that table; none where no word is left. Where one fails, the row is left
-    /// past it. The budget allows whatever they cost. These are the walk's own checks, and the words, of which a caller may
-    /// know constants.
+    /// Passes the offset words that are left of the top table's field, which all refer to this, with the strings or
+    /// structs that they lead to. Where one fails, the row is left past it. The budget allows whatever they cost. These
+    /// are the walk's own checks, and what the words refer to, of which a caller may know constants.
     #[inline(always)]
-    pub fn pass_words_of(
+    fn pass_words_of(
         &self,
         checks: Checks,
         reads: &mut Reads<'_>,
-        targets: Targets<'_>,
+        referent: Referent,
         top: &mut Frame,
-        words: Row,
-    ) -> Result<Option<Child>, Stop>
+    ) -> Result<(), Stop>
         ghost under: { Waiting }
         requires walking { IsWalking self.now reads.old under.start under.frames top.old }
         requires room { AreAllowed (self.now.limits).reads (reads.old.count + 4 * (top.old.row).left) }
         requires few { reads.old.count + 4 * (top.old.row).left ≤ 2 ^ 56 }
-        requires same { words ≡ top.old.row }
+        requires leads { (top.old.row).leads ≡ All referent }
+        requires leaf { IsLeafLead (lead_to referent) }
         requires checks { checks ≡ self.now.checks }
-        requires targets { AreTargetsOf self.now.schema.now targets words.leads }
-        ensures walking { IfOk result (λ o. o ≡ None → IsWalking self.now reads.new under.start under.frames top.new) }
-        ensures table { IfOk result (λ o. IfSome o (λ child. IsAtTable self.now reads.new.bytes reads.new.count under.start under.frames top.new (reads.old.count + 4 * (top.old.row).left) child)) }
+        ensures walking { IfOk result (λ _. IsWalking self.now reads.new under.start under.frames top.new) }
         ensures top { IfOk result (λ _. top.new ≡ record top.old { row = top.new.row }) }
-        ensures fewer { IfOk result (λ _. (top.new.row).left ≤ (top.old.row).left) }
-        ensures none { IfOk result (λ o. o ≡ None → (top.new.row).left ≡ 0) }
-        ensures paid { IfOk result (λ o. o ≡ None → reads.new.count ≤ reads.old.count + 4 * (top.old.row).left) }
+        ensures none { IfOk result (λ _. (top.new.row).left ≡ 0) }
+        ensures paid { IfOk result (λ _. reads.new.count ≤ reads.old.count + 4 * (top.old.row).left) }
         ensures grows { IfOk result (λ _. reads.old.count ≤ reads.new.count) }
         ensures bytes { reads.new.bytes ≡ reads.old.bytes }
-        ensures targets { IfOk result (λ _. AreTargetsOf self.now.schema.now targets.entry (top.new.row).leads) }
-        ensures leaf { IfOk result (λ o. AreLeaf words.leads → o ≡ None) }
         ensures err { IfErr result (λ s. IsStoppedBehind self.now reads.old under.start (under.frames ++ top.new ∷ []) (stopped s reads.new.count)) }
     {
-        let mut row = words;
+        let mut row = top.row;
         while row.left > 0 {
-            let referent = first_referent(reads, targets, self.schema, row);
             let mut at = row.place;
             let failed = test_lead(reads, checks, &mut at, referent);
             if let Some(reason) = failed {
                 return Err(stop_at_word(top, row, at, reason));
             }
-            if let Referent::Table(object) = referent {
-                top.row = row;
-                return Ok(Some(Child { object, at }));
-            }
-            row.advance();
+            row.advance_all();
         }
         top.row = row;
-        Ok(None)
+        Ok(())
     }
 
-    /// Passes the offset words that are left of the top table's field, of which none leads to a table, where the budget
-    /// allows whatever they may cost, four reads each. Where these are texts, that is a constant in the loop.
+    /// Passes the offset words that are left of the top table's field, which all refer to this, and of which none leads
+    /// to a table, where the budget allows whatever they may cost, four reads each. Texts are a constant in the loop.
     #[inline(always)]
     pub fn pass_words(
         &mut self,
         checks: Checks,
         reads: &mut Reads<'_>,
         waiting: u32,
+        referent: Referent,
         top: &mut Frame,
     ) -> Turn
         ghost under: { Waiting }
         requires waiting { waiting ≡ length under.frames }
         requires walking { IsWalking self.old reads.old under.start under.frames top.old }
+        requires leads { (top.old.row).leads ≡ All referent }
+        requires leaf { IsLeafLead (lead_to referent) }
         requires more { 0 < (top.old.row).left }
-        requires leaf { AreLeaf (top.old.row).leads }
         requires short { IsShort reads.old.count }
         requires same { checks ≡ self.old.checks }
         ensures { (child : Child) → RowTurned self.old self.new reads.old reads.new under top.old top.new child result }
@@ -158,44 +150,14 @@ impl Walk<'_, '_> {
             return Turn::Slowly;
         }
         let mut own = reads.lend();
-        let answer = self.pass_leaves(checks, &mut own, top);
+        let answer = match referent {
+            Referent::Text => self.pass_words_of(checks, &mut own, Referent::Text, top),
+            _ => self.pass_words_of(checks, &mut own, referent, top),
+        };
         reads.settle(own);
         match answer {
-            Ok(_) => Turn::Up,
+            Ok(()) => Turn::Up,
             Err(stop) => self.stop(stop, waiting + 1, LastLink::Behind),
         }
-    }
-
-    /// The same, by the loop for these words.
-    #[inline(always)]
-    fn pass_leaves(
-        &self,
-        checks: Checks,
-        reads: &mut Reads<'_>,
-        top: &mut Frame,
-    ) -> Result<Option<Child>, Stop>
-        ghost under: { Waiting }
-        requires walking { IsWalking self.now reads.old under.start under.frames top.old }
-        requires room { AreAllowed (self.now.limits).reads (reads.old.count + 4 * (top.old.row).left) }
-        requires few { reads.old.count + 4 * (top.old.row).left ≤ 2 ^ 56 }
-        requires leaf { AreLeaf (top.old.row).leads }
-        requires checks { checks ≡ self.now.checks }
-        ensures none { IfOk result (λ o. o ≡ None) }
-        ensures walking { IfOk result (λ _. IsWalking self.now reads.new under.start under.frames top.new) }
-        ensures top { IfOk result (λ _. top.new ≡ record top.old { row = top.new.row }) }
-        ensures fewer { IfOk result (λ _. (top.new.row).left ≡ 0) }
-        ensures paid { IfOk result (λ _. reads.new.count ≤ reads.old.count + 4 * (top.old.row).left) }
-        ensures grows { IfOk result (λ _. reads.old.count ≤ reads.new.count) }
-        ensures bytes { reads.new.bytes ≡ reads.old.bytes }
-        ensures err { IfErr result (λ s. IsStoppedBehind self.now reads.old under.start (under.frames ++ top.new ∷ []) (stopped s reads.new.count)) }
-    {
-        if let Leads::All(Referent::Text) = top.row.leads {
-            let texts = Row {
-                leads: Leads::All(Referent::Text),
-                ..top.row
-            };
-            return self.pass_words_of(checks, reads, NO_TARGETS, top, texts);
-        }
-        self.pass_words_of(checks, reads, NO_TARGETS, top, top.row)
     }
 }

@@ -18,7 +18,7 @@ const NO_BUDGET: u128 = u128::MAX;
 const MOST: u128 = 0xFFFF_FFFF_FFFF_FFFF;
 
 /// Fewer reads than this may be counted in 64 bits: no field or row costs so many that they would be too few.
-const SHORT: u128 = 1 << 56;
+const SHORT: u64 = 1 << 56;
 
 /// How many tables may be open at once, 0 to 4,096, how many may be opened in all, and how many reads may be made, if
 /// these are bounded. A table that is visited again counts again, with its reads.
@@ -28,21 +28,23 @@ pub struct Limits {
     tables: u32,
     /// The budget of reads, `NO_BUDGET` where there is none.
     most: u128,
+    /// The budget where a count of 64 bits holds it with room to spare, else as much as it does.
+    short: u64,
 }
 
 impl Model for Limits {
-    ghost use Rattle.std.specs.Prelude.{◌≡◌, ◌≤◌};
+    ghost use Rattle.std.specs.Prelude.{◌≡◌, ◌≤◌, min};
     ghost use Rattle.fb_verify.specs.Bounds.{Bounds, budget_of, most_of};
 
     ghost Value = { Bounds };
 
     ghost view = { λ l. record { depth = l.depth; tables = l.tables; reads = budget_of l.most } };
 
-    ghost inverse = { λ v. record { depth = v.depth; tables = v.tables; most = most_of v.reads } };
+    ghost inverse = { λ v. record { depth = v.depth; tables = v.tables; most = most_of v.reads; short = min (most_of v.reads) 72057594037927936 } };
 
-    ghost inverse_ok = { λ l h i. record { depth = l.depth; tables = l.tables; most = h.1 i } };
+    ghost inverse_ok = { λ l h i. record { depth = l.depth; tables = l.tables; most = h.1.0 i; short = h.1.1 i } };
 
-    ghost invariant = { λ l. (l.depth ≤ 4096) × (most_of (budget_of l.most) ≡ l.most) };
+    ghost invariant = { λ l. (l.depth ≤ 4096) × ((most_of (budget_of l.most) ≡ l.most) × (min (most_of (budget_of l.most)) 72057594037927936 ≡ l.short)) };
 }
 
 /// A depth limit above 4,096.
@@ -65,6 +67,7 @@ impl Limits {
                 depth,
                 tables,
                 most: NO_BUDGET,
+                short: SHORT,
             })
         } else {
             Err(LimitOutOfRange)
@@ -79,6 +82,7 @@ impl Limits {
             depth: 64,
             tables: 1_000_000,
             most: NO_BUDGET,
+            short: SHORT,
         }
     }
 
@@ -89,13 +93,14 @@ impl Limits {
     {
         Limits {
             most: u128::from(most),
+            short: most.min(SHORT),
             ..self
         }
     }
 
-    /// These limits for one buffer of so many bytes, which may take no more than `reads_per_byte` counted reads for each
-    /// of them and 4,096 beside. What a builder writes is read about once, and only what is shared is read again, so a
-    /// short buffer can't ask for the time of a long one.
+    /// These limits for one buffer of so many bytes, which may take no more than `reads_per_byte` counted reads for
+    /// each of them and 4,096 beside. What a builder writes is read about once, and only what is shared is read again,
+    /// so a short buffer can't ask for the time of a long one.
     pub fn of_length(self, reads_per_byte: u32, length: u64) -> Self
         requires short { length < 2 ^ 31 }
         ensures { result ≡ limits_of_length self reads_per_byte length }
@@ -103,6 +108,7 @@ impl Limits {
         let fair = u64::from(reads_per_byte) * length + FREE_READS;
         Limits {
             most: self.most.min(u128::from(fair)),
+            short: self.short.min(fair),
             ..self
         }
     }
@@ -138,7 +144,7 @@ impl Limits {
         ensures allowed { result ≡ true → AreAllowed self.now.reads reads }
         ensures short { result ≡ true → reads < 2 ^ 56 }
     {
-        reads < SHORT && self.allows(reads)
+        reads < u128::from(SHORT) && self.allows(reads)
     }
 
     /// So many reads may be made, and a count of 64 bits holds them with room to spare: the budget where it is short.
@@ -146,7 +152,7 @@ impl Limits {
         ensures allowed { AreAllowed self.now.reads result }
         ensures short { result ≤ 2 ^ 56 }
     {
-        self.most.min(SHORT) as u64
+        self.short
     }
 
     /// Whether so many reads may be made.

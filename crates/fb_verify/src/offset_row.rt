@@ -5,7 +5,7 @@ ghost use Rattle.fb_schema.specs.Rows.{Rows, is_union};
 ghost use Rattle.fb_schema.specs.Members.{member_of};
 ghost use Rattle.fb_schema.specs.Served.{IsServed};
 ghost use Rattle.fb_verify.specs.Fields.{lead_of};
-ghost use Rattle.fb_verify.specs.OffsetRows.{past_first, lead_to, lead_to_goal, AreTypesNear, AreUnionTargets, GoalHolds, IsReferent};
+ghost use Rattle.fb_verify.specs.OffsetRows.{past_first, lead_to, lead_to_goal, AreAll, AreTypesNear, AreUnionTargets, GoalHolds, IsReferent};
 ghost use Rattle.fb_verify.specs.declared.offset_row.Leads.TheVariants.{All};
 
 use fb_schema::{Goal, Schema, Target, Targets};
@@ -70,6 +70,18 @@ impl Row {
         if let Leads::ByType(union, types) = self.leads {
             self.leads = Leads::ByType(union, types + 1);
         }
+        self.place += 4;
+        self.left -= 1;
+    }
+
+    /// The same of words that all refer to the same, so that nothing is asked of them.
+    #[inline(always)]
+    pub fn advance_all(&mut self)
+        requires more { 0 < self.old.left }
+        requires near { self.old.place < 2 ^ 36 }
+        requires all { AreAll self.old.leads }
+        ensures { self.new ≡ past_first self.old }
+    {
         self.place += 4;
         self.left -= 1;
     }

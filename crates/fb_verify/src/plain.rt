@@ -1,15 +1,17 @@
-// The rules of the format: each is tested here, by reads that are counted in a register, but for those of unions.
+// The rules of the format for tables, strings and vectors, by reads that are counted in a register, and how a field is
+// passed by its step. Those of unions stand in `leads.rt`, those of the start in `begin.rt`.
 
-ghost use Rattle.std.specs.Prelude.{◌≡◌, ℕ, ◌+◌, ◌*◌, ◌^◌, ◌<◌, ◌≤◌, length, Some, None, IfSome, MatchOption, IsTrue, true, false};
+ghost use Rattle.std.specs.Prelude.{◌≡◌, ℕ, ◌+◌, ◌*◌, ◌^◌, ◌<◌, ◌≤◌, ◌%◌, ◌==◌, length, Some, None, IfSome, MatchOption, IsTrue, true, false};
 ghost use Rattle.fb_bytes.specs.Word.{word};
-ghost use Rattle.fb_schema.specs.declared.views.Act.TheVariants.{Other};
 ghost use Rattle.fb_verify.specs.Places.{fits, target, has_slot, has_vtable, vtable, field_place};
 ghost use Rattle.fb_verify.specs.Cost.{head_reads, slot_reads, lead_reads};
 ghost use Rattle.fb_verify.specs.Fields.{to_string};
 ghost use Rattle.fb_verify.specs.declared.offset_row.Referent.TheVariants.{Table as ATable};
 ghost use Rattle.fb_verify.specs.OffsetRows.{lead_to, IsSized};
 ghost use Rattle.fb_verify.specs.Order.{after, ◌▷◌, head_failure, table_failure, offset_failure, string_failure, vector_failure, inline_failure, inline_field_failure, vector_field_failure, lead_failure};
-ghost use Rattle.fb_verify.specs.Plain.{tested_by, IsTested, place_from, IsStep, step_failure_at, step_reads_at};
+ghost use Rattle.fb_schema.specs.Steps.{bit_of};
+ghost use Rattle.fb_verify.specs.Plain.{tested_by, IsTested, IsSmall, place_from, IsStep, Filled, Stepped};
+ghost use Rattle.fb_verify.specs.declared.plain.Came.TheVariants.{Past, ToFault};
 ghost use Rattle.fb_verify.specs.Told.{IsVtable, IsHead, IsPlaced};
 
 use crate::checks::Checks;
@@ -18,7 +20,7 @@ use crate::offset_row::Referent;
 use crate::site::is_aligned;
 use crate::table::{Head, Table};
 use fb_bytes::Reads;
-use fb_schema::{Act, Step};
+use fb_schema::Step;
 
 /// A test that fails for this reason. It stands apart, so that what holds is passed without a thought of it.
 #[cold]
@@ -248,19 +250,38 @@ pub fn test_end(
     None
 }
 
-/// Tests a field that is a single byte, which every position is aligned for.
+/// Whether a position is a multiple of one, two, four or eight.
 #[inline(always)]
-#[tactic(auto, using(crate::proofs::Plains::byte_aligned), unfolding(crate::specs::Order::inline_failure))]
-fn test_byte_field(reads: &Reads<'_>, checks: Checks, table: Table, place: u64) -> Option<Reason>
-    requires placed { IsPlaced checks reads.now.bytes table.at table.head place }
-    ensures told { tested_by place reads.now.count result ≡ after reads.now.count (inline_field_failure checks reads.now.bytes table.at place 1 1) }
+fn is_multiple_of_small(at: u64, size: u32) -> bool
+    requires small { IsSmall size }
+    ensures { result ≡ (at % size == 0) }
 {
-    let end = test_end(reads, checks, table, place, 1);
+    at & u64::from(size - 1) == 0
+}
+
+/// Tests a field that is a scalar or struct of one, two, four or eight bytes, aligned to as many.
+#[inline(always)]
+#[tactic(auto, unfolding(crate::specs::Places::is_aligned, crate::specs::Order::inline_failure))]
+fn test_small_field(
+    reads: &Reads<'_>,
+    checks: Checks,
+    table: Table,
+    place: u64,
+    size: u32,
+) -> Option<Reason>
+    requires placed { IsPlaced checks reads.now.bytes table.at table.head place }
+    requires small { IsSmall size }
+    ensures told { tested_by place reads.now.count result ≡ after reads.now.count (inline_field_failure checks reads.now.bytes table.at place size size) }
+{
+    let end = test_end(reads, checks, table, place, size);
     if end.is_some() {
         return end;
     }
-    if !is_inside(reads, place, 1) {
+    if !is_inside(reads, place, u64::from(size)) {
         return fails(Reason::OutOfBuffer);
+    }
+    if checks.alignment && !is_multiple_of_small(place, size) {
+        return fails(Reason::Misaligned);
     }
     None
 }
@@ -383,48 +404,96 @@ fn test_text_field(
     test_text(reads, checks, at)
 }
 
-/// Tests the field of a step, which stands at this position or is absent, with the string or vector that it may lead
-/// to.
+/// To where fields were passed by their steps.
+#[derive(Clone, Copy)]
+pub enum Came {
+    /// Past a field.
+    Past,
+    /// To the end of the vtable, or to that of the steps.
+    ToEnd,
+    /// To a field that stands there and may lead to a table.
+    ToField,
+    /// To a test that fails for this reason.
+    ToFault(Reason),
+}
+
+/// Goes past a field, unless a test of it failed.
 #[inline(always)]
-pub fn test_at(
-    reads: &mut Reads<'_>,
-    checks: Checks,
-    table: Table,
-    at: &mut u64,
-    step: &Step,
-) -> Option<Reason>
-    requires few { reads.old.count < reads.old.base + 2 ^ 60 }
-    requires step { IsStep step.now (step.now).act }
-    requires placed { IsPlaced checks reads.old.bytes table.at table.head at.old }
-    ensures { IsTested reads.old reads.new at.new (step_failure_at checks reads.old.bytes table.at step.now (place_from table.at at.old)) (step_reads_at step.now (place_from table.at at.old)) result }
+fn past(failed: Option<Reason>) -> Came
+    ensures { MatchOption failed (result ≡ Past) (λ reason. result ≡ ToFault reason) }
 {
-    if *at == table.at {
-        if step.required {
-            return fails(Reason::MissingRequired);
-        }
-        return None;
-    }
-    match step.act {
-        Act::One => test_byte_field(reads, checks, table, *at),
-        Act::Two => test_inline_field(reads, checks, table, *at, 2, 2),
-        Act::Four => test_inline_field(reads, checks, table, *at, 4, 4),
-        Act::Eight => test_inline_field(reads, checks, table, *at, 8, 8),
-        Act::Inline => test_inline_field(reads, checks, table, *at, step.size, step.align),
-        Act::Text => test_text_field(reads, checks, table, at),
-        Act::Vector => {
-            let mut many = 0;
-            test_vector_field(reads, checks, table, at, step.size, step.align, &mut many)
-        }
-        Act::Other => None,
+    match failed {
+        None => Came::Past,
+        Some(reason) => Came::ToFault(reason),
     }
 }
 
-/// Whether the field of a step is there and may lead to a table, so that it isn't passed by its step.
+/// Passes the field of a step that stands at a position, with the string or vector that it may lead to, unless it may
+/// lead to a table. Where a test fails, the position is moved to where. The bits of the step are asked one by one: a
+/// jump by its act couldn't be foretold.
 #[inline(always)]
-pub fn leads_on(step: &Step, table: u64, place: u64) -> bool
-    ensures plain { result ≡ false → (step.now).act ≡ Other → place_from table place ≡ None }
-    ensures there { result ≡ true → place_from table place ≡ Some place }
-    ensures open { result ≡ true → (step.now).act ≡ Other }
+fn pass_field(
+    reads: &mut Reads<'_>,
+    checks: Checks,
+    table: Table,
+    step: &Step,
+    at: &mut u64,
+) -> Came
+    requires few { reads.old.count < reads.old.base + 2 ^ 60 }
+    requires step { IsStep step.now (step.now).act }
+    requires bit { (step.now).bit ≡ bit_of (step.now).act }
+    requires placed { IsPlaced checks reads.old.bytes table.at table.head at.old }
+    ensures { Filled checks reads.old reads.new table.at step.now at.old at.new result }
 {
-    place != table && matches!(step.act, Act::Other)
+    let bit = step.bit;
+    if bit & 15 != 0 {
+        return past(test_small_field(reads, checks, table, *at, bit));
+    }
+    if bit & 16 != 0 {
+        return past(test_text_field(reads, checks, table, at));
+    }
+    if bit & 128 != 0 {
+        return Came::ToField;
+    }
+    let size = step.size;
+    let align = step.align;
+    if bit & 32 != 0 {
+        let mut many = 0;
+        return past(test_vector_field(reads, checks, table, at, size, align, &mut many));
+    }
+    past(test_inline_field(reads, checks, table, *at, size, align))
+}
+
+/// Passes a field of a table by its step, unless it stands there and may lead to a table, or its slot lies behind the
+/// vtable. The position is moved to where it stands, or to where a test of it fails.
+#[inline(always)]
+pub fn pass_step(
+    reads: &mut Reads<'_>,
+    checks: Checks,
+    table: Table,
+    step: &Step,
+    at: &mut u64,
+) -> Came
+    requires few { reads.old.count < reads.old.base + 2 ^ 59 }
+    requires step { IsStep step.now (step.now).act }
+    requires bit { (step.now).bit ≡ bit_of (step.now).act }
+    requires even { (step.now).slot % 2 ≡ 0 }
+    requires near { table.at < 2 ^ 33 }
+    requires head { IsHead checks reads.old.bytes table.at table.head }
+    ensures { Stepped checks reads.old reads.new table.at step.now at.new result }
+{
+    *at = table.at;
+    // Both are even, so that this says that a slot of two bytes isn't inside.
+    if step.slot >= table.head.size {
+        return Came::ToEnd;
+    }
+    let distance = reads.u16_at(table.head.vtable + u64::from(step.slot));
+    if distance == 0 {
+        if step.required {
+            return Came::ToFault(Reason::MissingRequired);
+        }
+        return Came::Past;
+    }
+    *at += u64::from(distance);
+    pass_field(reads, checks, table, step, at)
 }

@@ -8,7 +8,7 @@ ghost use Rattle.fb_schema.specs.declared.views.Act.TheVariants.{Other};
 ghost use Rattle.fb_schema.specs.Served.{IsServed};
 ghost use Rattle.fb_verify.specs.Bounds.{AreAllowed};
 ghost use Rattle.fb_verify.specs.Flat.{Going};
-ghost use Rattle.fb_verify.specs.PassesOn.{IsBetween, HasRoom, PassesOn, fields_left};
+ghost use Rattle.fb_verify.specs.PassesOn.{IsBetween, HasRoom, Passage, PassesOn, fields_left};
 ghost use Rattle.fb_verify.specs.Told.{way_at};
 ghost use Rattle.fb_verify.specs.Walked.{TableWalked, ended};
 ghost use Rattle.fb_verify.specs.Stack.{blank, Origin, Waiting, IsWalking, IsAtField, HaltsIn, links_left, opened};
@@ -23,7 +23,7 @@ use crate::fault::Reason;
 use crate::flat::{open_frame, pass_steps};
 use crate::limits::Limits;
 use crate::offset_row::{Leads, Referent, Row};
-use crate::plain::{leads_on, slot_at, test_at, test_end, test_offset};
+use crate::plain::{test_end, test_offset};
 use crate::scratch::Frame;
 use crate::site::{Halt, LastLink, Refusal, Site, Stop};
 use crate::table::{Child, NO_CHILD, Table};
@@ -43,8 +43,8 @@ pub enum Turn {
     Halt,
 }
 
-/// What a walk carries: what it is asked, the tables that it opened, the greatest number of them that were open at once,
-/// and where it stops, once it does.
+/// What a walk carries: what it is asked, the tables that it opened, the greatest number of them that were open at
+/// once, and where it stops, once it does.
 #[derive(Drop)]
 pub struct Walk<'s, 'n> {
     pub schema: &'s Schema<'n>,
@@ -159,7 +159,20 @@ impl<'s, 'n> Walk<'s, 'n> {
             && reads.count() + 8 <= self.limits.short()
     }
 
-    /// Comes to the table to which the first word of the top's row leads.
+    /// Counts a table that is opened, with which so many are open.
+    #[inline(always)]
+    pub fn count_table(&mut self, links: u32)
+        requires few { self.old.tables < 4294967295 }
+        ensures { self.new ≡ record self.old { tables = self.old.tables + 1; deepest = max self.old.deepest links } }
+    {
+        self.tables += 1;
+        if self.deepest < links {
+            self.deepest = links;
+        }
+    }
+
+    /// Comes to the table to which the first word of a row leads, and leaves the top with the row past that word; where
+    /// a limit may be met, with the row as it is.
     #[inline(always)]
     pub fn next_table(
         &mut self,
@@ -167,33 +180,34 @@ impl<'s, 'n> Walk<'s, 'n> {
         reads: &mut Reads<'_>,
         waiting: u32,
         object: u32,
+        row: Row,
         top: &mut Frame,
         child: &mut Child,
     ) -> Turn
         ghost under: { Waiting }
         requires waiting { waiting ≡ length under.frames }
-        requires walking { IsWalking self.old reads.old under.start under.frames top.old }
-        requires leads { (top.old.row).leads ≡ All (ATable object) }
+        requires walking { IsWalking self.old reads.old under.start under.frames (record top.old { row = row }) }
+        requires leads { row.leads ≡ All (ATable object) }
         requires table { IsTrue (is_table self.old.schema.now object) }
-        requires more { 0 < (top.old.row).left }
+        requires more { 0 < row.left }
         requires short { IsShort reads.old.count }
         requires same { checks ≡ self.old.checks }
-        ensures { RowTurned self.old self.new reads.old reads.new under top.old top.new child.new result }
+        ensures { RowTurned self.old self.new reads.old reads.new under (record top.old { row = row }) top.new child.new result }
     {
         let _schema = self.schema;
+        top.row = row;
         if !self.may_open(reads, waiting + 1) {
             return Turn::Slowly;
         }
-        let mut at = top.row.place;
+        let mut at = row.place;
         let failed = test_offset(reads, checks, &mut at);
-        top.row.advance();
+        top.row.advance_all();
         if let Some(reason) = failed {
             let refusal = Refusal { at, reason };
             let site = top.site();
             return self.stop(Stop { refusal, site }, waiting + 1, LastLink::Behind);
         }
-        self.tables += 1;
-        self.deepest = self.deepest.max(waiting + 2);
+        self.count_table(waiting + 2);
         child.object = object;
         child.at = at;
         Turn::Down
@@ -227,17 +241,14 @@ impl<'s, 'n> Walk<'s, 'n> {
             }
             Leads::All(Referent::Table(object)) => {
                 if !self.schema.is_plain(object) {
-                    return self.next_table(checks, reads, waiting, object, top, child);
+                    return self.next_table(checks, reads, waiting, object, top.row, top, child);
                 }
                 if is_deepest {
                     return Turn::Slowly;
                 }
-                let mut own = reads.lend();
-                let turn = self.pass_flats(checks, &mut own, waiting, object, top);
-                reads.settle(own);
-                turn
+                self.pass_flats_on(checks, reads, waiting, object, top)
             }
-            Leads::All(_) => self.pass_words(checks, reads, waiting, top),
+            Leads::All(referent) => self.pass_words(checks, reads, waiting, referent, top),
         }
     }
 
@@ -315,8 +326,8 @@ impl<'s, 'n> Walk<'s, 'n> {
                 return self.stop_in_field(top.table.object, top.next - 1, place, reason, waiting);
             }
             top.number = field.number;
-            top.row = Row::one(Referent::Table(object), place);
-            return self.next_table(checks, reads, waiting, object, top, child);
+            let row = Row::one(Referent::Table(object), place);
+            return self.next_table(checks, reads, waiting, object, row, top, child);
         }
         let failed = self.put_row(reads, top.table, field, &mut place, &mut top.row);
         if let Some(reason) = failed {
@@ -510,8 +521,8 @@ impl<'s, 'n> Walk<'s, 'n> {
         self.walk_by(self.checks, reads, frames, waiting)
     }
 
-    /// Goes on quickly as long as no limit may be met, by bytes that are lent once: by the published checks as constants
-    /// where these are made.
+    /// Goes on quickly as long as no limit may be met, by bytes that are lent once: by the published checks as
+    /// constants where these are made.
     #[inline(never)]
     pub fn walk_on(&mut self, loan: &mut Loan<'_>, frames: &mut [Frame], waiting: &mut u32) -> Turn
         ghost start: { Origin }
@@ -546,46 +557,23 @@ impl<'s, 'n> Walk<'s, 'n> {
         top: &mut Frame,
         at: &mut u64,
     ) -> Result<bool, Reason>
-        ghost under: { Waiting }
-        requires between { IsBetween self.now reads.old under top.old }
+        ghost of: { Passage }
+        requires walk { of.walk ≡ self.now }
+        requires top { of.top ≡ top.old }
+        requires between { IsBetween self.now reads.old of.under top.old }
         requires room { HasRoom self.now reads.old top.old }
         requires same { checks ≡ self.now.checks }
-        ensures { PassesOn self.now reads.old reads.new under top.old top.new at.new result }
+        ensures { PassesOn self.now reads.old reads.new of.under top.old top.new at.new result }
     {
-        let table = top.table;
-        let steps = self.schema.steps_of(table.object);
-        let mut next = top.next as usize;
-        while let Some(step) = steps.get(next) {
-            if table.head.ends_before(step.slot) {
-                let Some(needed) = self.schema.next_required(table.object, next as u32) else {
-                    top.next = steps.len() as u32;
-                    return Ok(false);
-                };
-                top.next = needed;
-                *at = table.at;
-                return Err(Reason::MissingRequired);
-            }
-            let place = slot_at(reads, table.at, table.head, step.slot);
-            if leads_on(step, table.at, place) {
-                top.next = next as u32;
-                *at = place;
-                return Ok(true);
-            }
-            let mut tested = place;
-            let failed = test_at(reads, checks, table, &mut tested, step);
-            if let Some(reason) = failed {
-                top.next = next as u32;
-                *at = tested;
-                return Err(reason);
-            }
-            next += 1;
-        }
-        top.next = next as u32;
-        Ok(false)
+        let steps = self.schema.steps_of(top.table.object);
+        let mut next = top.next;
+        let answer = pass_steps(reads, checks, self.schema, top.table, steps, &mut next, at);
+        top.next = next;
+        answer
     }
 
-    /// Passes the fields of an opened root table of which none leads on, quickly by the published checks where the budget
-    /// allows whatever they may cost.
+    /// Passes the fields of an opened root table of which none leads on, quickly by the published checks where the
+    /// budget allows whatever they may cost.
     #[inline(never)]
     fn pass_root(&mut self, loan: &mut Loan<'_>, table: Table) -> Turn
         ghost going: { Going }
@@ -595,8 +583,8 @@ impl<'s, 'n> Walk<'s, 'n> {
         requires plain { is_plain self.old.schema.now table.object ≡ true }
         ensures { RootTurned self.old self.new loan.old loan.new going.under.start result }
     {
-        let _schema = self.schema;
-        let steps = self.schema.steps_of(table.object);
+        let schema = self.schema;
+        let steps = schema.steps_of(table.object);
         let most = loan.reads() + u128::from(6 * steps.len() as u64);
         if !self.checks.are_published() || !self.limits.allows_short(most) {
             return Turn::Slowly;
@@ -604,19 +592,13 @@ impl<'s, 'n> Walk<'s, 'n> {
         let mut next = 0;
         let mut at = 0;
         let mut reads = loan.lend();
-        let failed = pass_steps(
-            &mut reads,
-            PUBLISHED,
-            steps,
-            self.schema,
-            table,
-            &mut next,
-            &mut at,
+        let passed = pass_steps(
+            &mut reads, PUBLISHED, schema, table, steps, &mut next, &mut at,
         );
         loan.settle(reads);
-        match failed {
-            None => Turn::Up,
-            Some(reason) => self.stop_in_field(table.object, next, at, reason, 0),
+        match passed {
+            Ok(_) => Turn::Up,
+            Err(reason) => self.stop_in_field(table.object, next, at, reason, 0),
         }
     }
 

@@ -99,7 +99,7 @@ pub enum Stop {
     /// There was nothing to check by.
     #[error("{0}")]
     Ask(Unasked),
-    /// The run came to rest, which came to this.
+    /// The run came to rest, with these counts.
     #[error("{0}")]
     Run(RunFault, Tally),
     /// The run over a file came to rest for what ends the whole call, or wasn't begun.

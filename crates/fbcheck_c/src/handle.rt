@@ -22,8 +22,8 @@ pub struct Opaque {
     pub unused: u8,
 }
 
-/// A schema or a room that was put on the heap, or nothing. C sees one pointer, which is null where nothing is held; the
-/// allocator takes no bytes.
+/// A schema or a room that was put on the heap, or nothing. C sees one pointer, which is null where nothing is held;
+/// the allocator takes no bytes.
 #[repr(C)]
 #[derive(Drop)]
 pub struct Handle {

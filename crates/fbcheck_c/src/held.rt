@@ -16,8 +16,8 @@ pub const NO_LINK: Link = Link {
     member: None,
 };
 
-/// Room for the open tables of a check, and for as many links of the way to a fault. A contract sees it as the number of
-/// its levels.
+/// Room for the open tables of a check, and for as many links of the way to a fault. A contract sees it as the number
+/// of its levels.
 #[derive(Drop)]
 pub struct Room {
     pub scratch: Scratch,

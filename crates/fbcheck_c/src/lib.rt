@@ -190,8 +190,8 @@ pub extern "C" fn fbcheck_verify_each_proved(
     all_good(verdicts, spans.len())
 }
 
-/// Checks one buffer as [`fbcheck_verify_proved`] does, and writes where the fault of a bad one is, in words: as much as
-/// there is room for. Tells how long the whole is.
+/// Checks one buffer as [`fbcheck_verify_proved`] does, and writes where the fault of a bad one is, in words: as much
+/// as there is room for. Tells how long the whole is.
 #[unsafe(no_mangle)]
 pub extern "C" fn fbcheck_locate_proved(
     alloc: Global,

@@ -145,8 +145,8 @@ fn locate_in(
     )
 }
 
-/// Checks a buffer by a schema as [`check`](crate::checking::check) does, and writes where the fault of a bad one is, as
-/// much of it as there is room for. How long the whole is, 0 with any other answer than `Bad`.
+/// Checks a buffer by a schema as [`check`](crate::checking::check) does, and writes where the fault of a bad one is,
+/// as much of it as there is room for. How long the whole is, 0 with any other answer than `Bad`.
 pub fn locate(
     alloc: Global,
     held: &Held,

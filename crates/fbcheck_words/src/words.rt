@@ -19,9 +19,9 @@ use std::alloc::{AllocError, Global};
 /// # Errors
 ///
 /// `Usage` where `clap` refuses them, help included, and `BadIdent` where it reads them and the identifier isn't four
-/// bytes long. Then, where they say what doesn't agree, `PathInFilter` for a filter with a path, then `TwoIdents` for an
-/// identifier beside the schema's own, then `TooManyPaths` for more than 16, and then `BareDelimited` for a bare buffer
-/// behind its length. `OutOfMemory` for want of memory.
+/// bytes long. Then, where they say what doesn't agree, `PathInFilter` for a filter with a path, then `TwoIdents` for
+/// an identifier beside the schema's own, then `TooManyPaths` for more than 16, and then `BareDelimited` for a bare
+/// buffer behind its length. `OutOfMemory` for want of memory.
 pub fn settings(alloc: Global, words: &[String]) -> Result<Settings, SettingsFault>
     ensures given { IfOk result (AreGiven (map string_bytes words.now)) }
     ensures ranges { IfOk result AreInRange }

@@ -40,8 +40,9 @@ impl Part for FieldView<'_> {
 /// A step of a table.
 impl Part for Step {
     fn part(&self, alloc: Global) -> Result<String, AllocError> {
-        let (slot, act, size, align) = (self.slot, self.act, self.size, self.align);
-        format!(in alloc; "{slot} {act:?} {size} {align} {}; ", self.required)
+        let (slot, act, bit) = (self.slot, self.act, self.bit);
+        let (size, align) = (self.size, self.align);
+        format!(in alloc; "{slot} {act:?} {bit} {size} {align} {}; ", self.required)
     }
 }
 
@@ -69,11 +70,11 @@ const ACTS: &str = "P struct 4/2: x@0 short; W struct 8/8: x@0 long; \
     T table: a@4 bool, b@6 short, c@8 float, d@10 double, e@12 obj#0, f@14 obj#1, g@16 string required, \
     h@18 [ubyte], i@20 [obj]#1 required, j@22 [string], k@24 obj#2, l@26 [obj]#2, m@28 int gone";
 
-/// The steps of that table: slot, act, size, alignment, and whether the field is required.
+/// The steps of that table: slot, act, its bit, size, alignment, and whether the field is required.
 const STEPS: &str = "\
-    4 One 1 1 false; 6 Two 2 2 false; 8 Four 4 4 false; 10 Eight 8 8 false; 12 Inline 4 2 false; \
-    14 Eight 8 8 false; 16 Text 4 4 true; 18 Vector 1 1 false; 20 Vector 8 8 true; \
-    22 Other 4 4 false; 24 Other 4 4 false; 26 Other 4 4 false; \
+    4 One 1 1 1 false; 6 Two 2 2 2 false; 8 Four 4 4 4 false; 10 Eight 8 8 8 false; 12 Inline 64 4 2 false; \
+    14 Eight 8 8 8 false; 16 Text 16 4 4 true; 18 Vector 32 1 1 false; 20 Vector 32 8 8 true; \
+    22 Other 128 4 4 false; 24 Other 128 4 4 false; 26 Other 128 4 4 false; \
 ";
 
 #[test]
@@ -85,7 +86,8 @@ fn each_live_field_has_its_step(rt: HostRuntime) -> Result<(), Fail> {
     Ok(())
 }
 
-/// Tables whose fields are all in place, strings or vectors of these, with one that is gone, and tables of one field more.
+/// Tables whose fields are all in place, strings or vectors of these, with one that is gone, and tables of one field
+/// more.
 const PLAIN: &str = "S struct 4/4: x@0 int; \
     Empty table: ; Plain table: a@4 int, b@6 obj#0, c@8 string, d@10 [byte], e@12 [obj]#0, f@14 obj#1 gone; \
     Table table: a@4 int, b@6 obj#1; Tables table: a@4 [obj]#1, b@6 int; Texts table: a@4 [string]; \

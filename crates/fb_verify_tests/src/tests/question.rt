@@ -13,7 +13,8 @@ pub fn limits(rt: &impl Abort, depth: u32, tables: u32) -> Limits {
         .expect(rt, "a depth in range")
 }
 
-/// What `walk` answers of a bare buffer of this table within these limits, with any identifier and the published checks.
+/// What `walk` answers of a bare buffer of this table within these limits, with any identifier and the published
+/// checks.
 pub fn answer(
     rt: &impl Abort,
     schema: &Schema<'_>,

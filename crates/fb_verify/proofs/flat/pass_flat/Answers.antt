@@ -10,7 +10,7 @@ use Rattle.fb_verify.specs.Stack.{opened}
 use Rattle.fb_verify.specs.declared.table.Table.{Table}
 use Rattle.fb_verify.proofs.Budgets.{fewer_reads}
 use Rattle.fb_verify.proofs.Chains.{after_none}
-use Rattle.fb_verify.proofs.Flats.{flat_passed}
+use Rattle.fb_verify.proofs.Flats.{flat_over, flat_fails}
 use Rattle.fb_verify.proofs.Frames.{head_few}
 use Rattle.fb_verify.proofs.flat.pass_flat.Goals as goal
 
@@ -32,12 +32,12 @@ pass_steps-requires g c =
           allowed = fewer_reads (w.limits).reads (new.count + 6 * fields_left w.schema.now (opened table)) (m.count + 3 + 6 * length c.args.steps.now) (omega (arith, counted, all, head_few w.checks)) c.requires.1.0;
           short = omega (arith, counted, all, head_few w.checks, c.requires.1.1.0);
         },
-        (omega (arith, counted, head_few w.checks, c.requires.1.1.0), (same, (c.requires.1.1.1.1.1.0, (c.requires.1.1.1.1.1.1.0, (c.requires.1.1.1.1.1.1.1.0, c.requires.1.1.1.1.1.1.1.1))))),
+        (same, (c.requires.1.1.1.1.1.1.0, (refl, (refl, (c.requires.1.1.1.1.1.0, c.requires.1.1.1.1.1.1.1.1))))),
       ),
     )
 
-pub returns : goal.returns
-returns g c =
+pub returns-in-Ok : goal.returns-in-Ok
+returns-in-Ok g c =
     let w = (g.going).walk in
     let e = c.test_head-failed.ensures in
     let none = c.in_default.is in
@@ -47,5 +47,19 @@ returns g c =
     let table : Table = record { head = c.test_head-failed.new.head; object = c.args.object; at = c.args.at.now } in
     let counted : mid.count ≡ m.count + head_reads w.checks = rw same at (e.tested.counted none) in
     let all = ap length c.requires.1.1.1.1.1.0 ∙ length-map (live_fields w.schema.now c.args.object) step_of in
-    flat_passed w m mid c.pass_steps.new.reads (g.going).under table c.pass_steps.new.next c.pass_steps.new.at e.tested.bytes (omega (arith, counted)) (omega (arith, counted, head_few w.checks))
-    (omega (arith, all, c.requires.1.1.1.1.1.1.1.1)) c.pass_steps.result c.pass_steps.ensures
+    flat_over w m mid c.pass_steps.new.reads (g.going).under table c.pass_steps.new.next c.pass_steps.new.at e.tested.bytes (omega (arith, counted)) (omega (arith, counted, head_few w.checks))
+    (omega (arith, all, c.requires.1.1.1.1.1.1.1.1)) c.requires.1.1.1.1.1.1.1.0 c.in-Ok.field-0 (rw c.in-Ok.is at c.pass_steps.ensures)
+
+pub returns-in-Err : goal.returns-in-Err
+returns-in-Err g c =
+    let w = (g.going).walk in
+    let e = c.test_head-failed.ensures in
+    let none = c.in_default.is in
+    let same = c.requires.1.1.1.1.0 in
+    let m = c.args.reads.now in
+    let mid = c.test_head-failed.new.reads in
+    let table : Table = record { head = c.test_head-failed.new.head; object = c.args.object; at = c.args.at.now } in
+    let counted : mid.count ≡ m.count + head_reads w.checks = rw same at (e.tested.counted none) in
+    let all = ap length c.requires.1.1.1.1.1.0 ∙ length-map (live_fields w.schema.now c.args.object) step_of in
+    flat_fails w m mid c.pass_steps.new.reads (g.going).under table c.pass_steps.new.next c.pass_steps.new.at e.tested.bytes (omega (arith, counted)) (omega (arith, counted, head_few w.checks))
+    (omega (arith, all, c.requires.1.1.1.1.1.1.1.1)) c.in-Err.reason (rw c.in-Err.is at c.pass_steps.ensures)

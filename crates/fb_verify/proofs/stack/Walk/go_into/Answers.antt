@@ -19,7 +19,7 @@ use Rattle.fb_verify.proofs.IntoField.{into_askable, into_stops, into_leads, int
 use Rattle.fb_verify.proofs.Plains.{inline_acts}
 use Rattle.fb_verify.proofs.Turns.{halts_in_field}
 use Rattle.fb_verify.proofs.stack.Walk.go_into.Goals as goal
-use Rattle.fb_verify.proofs.stack.Walk.go_into.Goals.{After-one-top, In_default-failed-2}
+use Rattle.fb_verify.proofs.stack.Walk.go_into.Goals.{After-one-row, In_default-failed-2}
 
 -- the field before the one that was the next
 back : (n : ℕ) → n + 1 - 1 ≡ n
@@ -40,45 +40,45 @@ returns-in-Some g c =
     (into_stops o c.requires.1.1.0 f c.requires.1.1.1.0 c.args.at m.count c.in-Some.reason told _ (record { refusal = s.refusal; object = s.object; field = rw back at s.field })))
 
 -- a field that leads to a table holds by itself
-holds : (g : _) (c : After-one-top g) → present_failure c.args.self.now.checks c.args.reads.now.bytes c.args.self.now.schema.now (c.args.top.now.table).at (live_of_view c.args.field.now) c.args.at (c.args.field.now).kind ≡ None
+holds : (g : _) (c : After-one-row g) → present_failure c.args.self.now.checks c.args.reads.now.bytes c.args.self.now.schema.now (c.args.top.now.table).at (live_of_view c.args.field.now) c.args.at (c.args.field.now).kind ≡ None
 holds g c =
     let m = c.args.reads.now in
     rw c.in-Table.is ((after_none m.count _).0 (rw (c.requires.1.1.1.1.1.1.1, c.in_default-failed.is) at (sym c.test_end-failed.ensures.told)))
 
-free : (g : _) (c : After-one-top g) → c.args.reads.now.count ≡ c.args.reads.now.count + present_reads c.args.reads.now.bytes (c.args.top.now.table).at (c.args.field.now).slot (c.args.field.now).kind
+free : (g : _) (c : After-one-row g) → c.args.reads.now.count ≡ c.args.reads.now.count + present_reads c.args.reads.now.bytes (c.args.top.now.table).at (c.args.field.now).slot (c.args.field.now).kind
 free g c = rw c.in-Table.is (omega arith)
 
-table : (g : _) (c : After-one-top g) → IsTrue (is_table c.args.self.now.schema.now c.in-Table.object)
+table : (g : _) (c : After-one-row g) → IsTrue (is_table c.args.self.now.schema.now c.in-Table.object)
 table g c = let a = into_askable c.requires.1.0 c.requires.1.1.0 (live_of_view c.args.field.now) c.requires.1.1.1.0 in rw c.in-Table.is at a.holds
 
-good : (g : _) (c : After-one-top g) → IsRow c.args.reads.now.bytes c.args.self.now.schema.now c.one-top.result
-good g c = rw c.one-top.ensures (record { place = omega (arith, (c.requires.1.0).near); left = omega arith; leads = λ _. table g c })
+good : (g : _) (c : After-one-row g) → IsRow c.args.reads.now.bytes c.args.self.now.schema.now c.one-row.result
+good g c = rw c.one-row.ensures (record { place = omega (arith, (c.requires.1.0).near); left = omega arith; leads = λ _. table g c })
 
-leads : (g : _) (c : After-one-top g)
-    → entries_of c.args.reads.now.bytes c.args.self.now.schema.now (c.args.top.now.table).at (live_of_view c.args.field.now) c.args.at (c.args.field.now).kind ≡ words_of c.args.reads.now.bytes c.args.self.now.schema.now c.one-top.result
+leads : (g : _) (c : After-one-row g)
+    → entries_of c.args.reads.now.bytes c.args.self.now.schema.now (c.args.top.now.table).at (live_of_view c.args.field.now) c.args.at (c.args.field.now).kind ≡ words_of c.args.reads.now.bytes c.args.self.now.schema.now c.one-row.result
 unfolding row
-leads g c = rw (c.in-Table.is, c.one-top.ensures) refl
+leads g c = rw (c.in-Table.is, c.one-row.ensures) refl
 
 pub next_table-requires : goal.next_table-requires
 next_table-requires g c =
-    let d = (goal.at.next_table-requires g c).After-one-top in
-    let one = c.one-top.ensures in
+    let d = (goal.at.next_table-requires g c).After-one-row in
+    let one = c.one-row.ensures in
     let r = c.requires.1.1.1.1.1 in (
       c.requires.0,
       (
-        into_leads c.requires.1.0 c.requires.1.1.0 (live_of_view c.args.field.now) c.requires.1.1.1.0 (holds g d) c.args.reads.now.count (free g d) r.0 c.one-top.result (good g d) (leads g d),
+        into_leads c.requires.1.0 c.requires.1.1.0 (live_of_view c.args.field.now) c.requires.1.1.1.0 (holds g d) c.args.reads.now.count (free g d) r.0 c.one-row.result (good g d) (leads g d),
         (ap (λ (x : Row). x.leads) one, (table g d, (omega (arith, ap (λ (x : Row). x.left) one), (omega (arith, r.1.0), r.1.1)))),
       ),
     )
 
 pub returns-in-Table : goal.returns-in-Table
 returns-in-Table g c =
-    let d = (goal.at.returns-in-Table g c).After-one-top in
+    let d = (goal.at.returns-in-Table g c).After-one-row in
     let w = c.args.self.now in
     let m = c.args.reads.now in
     let new = c.next_table.new in
     into_turned w new.self m m new.reads g.under c.args.top.now _ new.top new.child refl refl
-    (into_work c.requires.1.0 c.requires.1.1.0 (live_of_view c.args.field.now) c.requires.1.1.1.0 (holds g d) m.count (free g d) c.requires.1.1.1.1.1.0 c.one-top.result (good g d)) (omega arith) refl c.next_table.result c.next_table.ensures
+    (into_work c.requires.1.0 c.requires.1.1.0 (live_of_view c.args.field.now) c.requires.1.1.1.0 (holds g d) m.count (free g d) c.requires.1.1.1.1.1.0 c.one-row.result (good g d)) (omega arith) refl c.next_table.result c.next_table.ensures
 
 -- what a step leaves out leads by a vector or by a union, if it leads to no table by itself
 is_far : (f : Live) (kind : Kind) → act_of f kind ≡ Other → ((k : ℕ) → kind ≡ Table k → ⊥) → IsFar kind

@@ -1,4 +1,5 @@
 use Rattle.std.proofs.Common.{◌≡◌, ◌+◌, ◌*◌, max, refl, sym, ◌∙◌, ap, arith}
+use Rattle.fb_verify.specs.declared.stack.Walk.{Walk}
 use Rattle.fb_verify.specs.Cost.{head_reads}
 use Rattle.fb_verify.specs.Fields.{to_table}
 use Rattle.fb_verify.specs.Order.{after, lead_failure}
@@ -16,7 +17,7 @@ returns-in-Some g c =
     let w = c.args.self.now in
     let r = c.args.reads.now.count in
     let new = c.test_offset-failed.new in
-    let top = c.args.top.now in
+    let top = record c.args.top.now { row = c.args.row } in
     let h = c.requires.1.0 in
     let more = c.requires.1.1.1.1.0 in
     let checks = c.requires.1.1.1.1.1.1 in
@@ -25,7 +26,7 @@ returns-in-Some g c =
     let word = word_tells w c.args.reads.now.bytes (g.under).start (g.under).frames top r h c.args.object c.requires.1.1.0 more new.reads.count new.at c.test_offset-failed.result told in
     rw c.stop.ensures.turn
     (halts_behind w c.stop.new.self c.args.reads.now new.reads g.under _ c.args.waiting c.requires.0 e.bytes h.links _ (ap (λ x. x.halt) c.stop.ensures.halt)
-    (word_fails w.checks c.args.reads.now.bytes w.schema.now w.limits (g.under).start (g.under).frames top w.tables w.deepest r h c.advance.new.self c.advance.ensures more (record { at = new.at; reason = c.in-Some.reason }) r new.reads.count refl
+    (word_fails w.checks c.args.reads.now.bytes w.schema.now w.limits (g.under).start (g.under).frames top w.tables w.deepest r h c.advance_all.new.self c.advance_all.ensures more (record { at = new.at; reason = c.in-Some.reason }) r new.reads.count refl
     (sym word ∙ ap (tested_by new.at new.reads.count) c.in-Some.is) _ (ap (λ s. record { refusal = record { at = new.at; reason = c.in-Some.reason }; site = s }) c.site-site.ensures)))
 
 pub returns : goal.returns
@@ -36,8 +37,8 @@ returns g c =
     let new = c.test_offset-failed.new in
     let q = new.reads.count in
     let none = c.in_default.is in
-    let top = c.args.top.now in
-    let row = c.advance.new.self in
+    let top = record c.args.top.now { row = c.args.row } in
+    let row = c.advance_all.new.self in
     let e = c.test_offset-failed.ensures.tested in
     let may = c.may_open.ensures in
     let paid : q ≡ r + 1 = e.counted none in
@@ -45,14 +46,14 @@ returns g c =
     let at : IsAtTable w b q (g.under).start (g.under).frames top (r + 4 * (top.row).left) (record { object = c.args.object; at = new.at }) =
     at_flat w b (g.under).start (g.under).frames top r c.requires.1.0 c.args.object c.requires.1.1.0 c.requires.1.1.1.1.0 q new.at c.test_offset-failed.result told none c.requires.1.1.1.0 paid (c.test_offset-failed.ensures.value none) (c.test_offset-failed.ensures.near none) in
     let two : c.args.waiting + 2 ≡ c.args.waiting + 1 + 1 = omega arith in
-    let deepest : c.max-self.result ≡ max w.deepest (c.args.waiting + 1 + 1) = c.max-self.ensures ∙ ap (max w.deepest) two in
+    let counted : c.count_table.new.self ≡ record w { tables = w.tables + 1; deepest = max w.deepest (c.args.waiting + 1 + 1) } = c.count_table.ensures ∙ ap (λ n. record w { tables = w.tables + 1; deepest = max w.deepest n }) two in
     let yes = c.if-not-may_open.false in
     record {
-      same = refl;
-      down = rw e.bytes (at_child w b q new.reads.base (g.under).start (g.under).frames top _ _ at (c.args.waiting + 1) (omega (arith, c.requires.0)) row c.advance.ensures (may.fewer yes) (may.deep yes) (omega (arith, may.low yes))
-          (fewer_reads (w.limits).reads (q + head_reads w.checks) (r + 8) (omega (arith, paid, head_few w.checks)) (may.room yes)) _ (rw deepest refl));
+      same = rw counted refl;
+      down = rw e.bytes (at_child w b q new.reads.base (g.under).start (g.under).frames top _ _ at (c.args.waiting + 1) (omega (arith, c.requires.0)) row c.advance_all.ensures (may.fewer yes) (may.deep yes) (omega (arith, may.low yes))
+          (fewer_reads (w.limits).reads (q + head_reads w.checks) (r + 8) (omega (arith, paid, head_few w.checks)) (may.room yes)) c.count_table.new.self counted);
       deep = omega (arith, may.deep yes, c.requires.0);
-      falls = down_falls w b q r (g.under).start (g.under).frames top top _ refl (omega arith) at row c.advance.ensures (may.fewer yes);
+      falls = rw (ap (λ (x : Walk). x.tables) counted) (down_falls w b q r (g.under).start (g.under).frames top top _ refl (omega arith) at row c.advance_all.ensures (may.fewer yes));
       grows = omega (arith, paid);
       bytes = e.bytes;
       short = omega (arith, paid, may.short yes);

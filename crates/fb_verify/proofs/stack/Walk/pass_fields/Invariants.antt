@@ -22,7 +22,7 @@ decreases-loop-checks g l = length (live_fields l.fn.self.schema.now (l.fn.top.t
 
 -- the same frames wait
 abbrev pub ghost-pass_plain : goal.ghost-pass_plain
-ghost-pass_plain g a = g.under
+ghost-pass_plain g a = record { walk = (a.self).now; under = g.under; top = (a.top).now }
 
 abbrev pub ghost-go_into : goal.ghost-go_into
 ghost-go_into g a = g.under

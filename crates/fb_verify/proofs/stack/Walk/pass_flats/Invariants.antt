@@ -3,15 +3,15 @@ use Rattle.fb_verify.specs.Turns.{GoesOn}
 use Rattle.fb_verify.proofs.stack.Walk.pass_flats.Given as goal
 
 -- the walk goes on in the same field, between two offset words
-abbrev pub invariant-loop-steps : goal.invariant-loop-steps
-invariant-loop-steps g l = record {
+abbrev pub invariant-loop-schema : goal.invariant-loop-schema
+invariant-loop-schema g l = record {
   on : GoesOn l.fn.self l.self l.fn.reads l.reads g.under l.fn.top (record l.top { row = l.row });
   next : l.top.next ≡ l.fn.top.next;
   leads : (l.row).leads ≡ (l.fn.top.row).leads;
 }
 
-abbrev pub decreases-loop-steps : goal.decreases-loop-steps
-decreases-loop-steps g l = (l.row).left
+abbrev pub decreases-loop-schema : goal.decreases-loop-schema
+decreases-loop-schema g l = (l.row).left
 
 -- the top waits for the table that is passed
 abbrev pub ghost-pass_flat : goal.ghost-pass_flat

@@ -1,90 +1,162 @@
-use Rattle.std.proofs.Common.{◌≡◌, ℕ, ◌≤◌, ◌+◌, ◌*◌, max, length, sym, ◌∙◌, ap, arith}
+use Rattle.std.proofs.Common.{None, ◌≡◌, ℕ, ◌≤◌, ◌+◌, ◌*◌, max, length, refl, sym, ◌∙◌, ap, subst, arith}
 use Rattle.fb_schema.specs.Live.{live_fields}
 use Rattle.fb_schema.specs.Steps.{step_of}
+use Rattle.fb_verify.specs.declared.offset_row.Row.{Row}
 use Rattle.fb_verify.specs.declared.scratch.Frame.{Frame}
 use Rattle.fb_verify.specs.declared.stack.Walk.{Walk}
+use Rattle.fb_verify.specs.declared.table.Child.{Child}
 use Rattle.fb_verify.specs.Bounds.{AreAllowed}
-use Rattle.fb_verify.specs.Stack.{IsAtTable}
+use Rattle.fb_verify.specs.Cost.{lead_reads}
+use Rattle.fb_verify.specs.Fields.{Entry}
+use Rattle.fb_verify.specs.Order.{after, element_failure}
+use Rattle.fb_verify.specs.OffsetRows.{lead_to, first_word, past_first, AreTargetsOf, IsReferent, IsLeafLead}
+use Rattle.fb_verify.specs.Plain.{tested_by}
 use Rattle.fb_verify.proofs.Budgets.{fewer_reads}
-use Rattle.fb_verify.proofs.Children.{word_few}
-use Rattle.fb_verify.proofs.Frames.{length_map}
+use Rattle.fb_verify.proofs.Chains.{after_none}
+use Rattle.fb_verify.proofs.Frames.{first_few, length_map}
+use Rattle.fb_verify.proofs.LeafRows.{word_told, word_fails, is_leaf}
 use Rattle.fb_verify.proofs.Members.{targets_after}
-use Rattle.fb_verify.proofs.RowTurns.{Counts, words_passed, comes_down, goes_down, table_passed, table_halts}
+use Rattle.fb_verify.proofs.RowTurns.{Counts, word_passed, comes_down, counted_same, goes_down, table_passed, table_halts}
+use Rattle.fb_verify.proofs.Turns.{halts_behind}
+use Rattle.fb_verify.proofs.Walking.{leaf_passed}
 use Rattle.fb_verify.proofs.stack.Walk.pass_members.Goals as goal
-use Rattle.fb_verify.proofs.stack.Walk.pass_members.Goals.{After-max-self}
+use Rattle.fb_verify.proofs.stack.Walk.pass_members.Goals.{After-test_lead-failed, After-advance, After-count_table}
 
-pub returns-in_default : goal.returns-in_default
-returns-in_default g c =
-    let e = c.in-Ok.ensures in
-    let none = c.in_default.is in
-    let i = c.loop-schema.invariant in
-    words_passed i.on c.pass_words_of.new.top c.pass_words_of.new.reads (e.walking none) e.top (e.none none) i.next (e.paid none) e.grows e.bytes
-    (omega (arith, e.paid none, c.has_member.ensures.room c.loop-schema-test.true, c.short-room.ensures.short))
+-- the frame with the row that is left
+abbrev top_at : (g : _) → After-test_lead-failed g → Frame
+top_at g c = record c.loop-schema.top { row = c.loop-schema.row }
 
--- the walk, once a table more is counted
-abbrev counted : (g : _) → After-max-self g → Walk
-counted g c = record c.loop-schema.self { tables = c.loop-schema.self.tables + 1; deepest = c.max-self.result }
+-- the first word of that row
+abbrev first : (g : _) → After-test_lead-failed g → Entry
+first g c = first_word c.loop-schema.reads.bytes c.loop-schema.self.schema.now c.loop-schema.row
 
--- the walk stands at the table to which a word leads
-child_at : (g : _) (c : After-max-self g)
-    → IsAtTable c.loop-schema.self c.pass_words_of.new.reads.bytes c.pass_words_of.new.reads.count (g.under).start (g.under).frames c.pass_words_of.new.top (c.loop-schema.reads.count + 4 * (c.loop-schema.top.row).left) c.in-Some.found
-child_at g c = rw c.in-Some.is at c.in-Ok.ensures.table
+-- the walk has one schema
+schema : (g : _) (c : After-test_lead-failed g) → c.loop-schema.self.schema.now ≡ c.args.self.now.schema.now
+schema g c = ap (λ (x : Walk). x.schema.now) ((c.loop-schema.invariant).on).same
 
--- with few reads
-few : (g : _) (c : After-max-self g) → c.pass_words_of.new.reads.count + 3 ≤ c.short-room.result
-few g c =
-    omega (
-      arith,
-      word_few c.loop-schema.self c.pass_words_of.new.reads.bytes c.pass_words_of.new.reads.count (g.under).start (g.under).frames c.pass_words_of.new.top (c.loop-schema.reads.count + 4 * (c.loop-schema.top.row).left) c.in-Some.found (child_at g c),
-      c.has_member.ensures.room c.loop-schema-test.true,
-    )
+-- its checks are those that are made
+checks : (g : _) (c : After-test_lead-failed g) → c.args.checks ≡ c.loop-schema.self.checks
+checks g c = c.requires.1.1.1.1.1.0 ∙ sym (ap (λ (x : Walk). x.checks) ((c.loop-schema.invariant).on).same)
+
+-- the word leads to what was found
+leads : (g : _) (c : After-test_lead-failed g) → lead_to c.first_referent-referent.result ≡ (first g c).lead
+leads g c = rw (sym (schema g c)) at c.first_referent-referent.ensures.lead
+
+-- its type was read
+typed : (g : _) (c : After-test_lead-failed g) → c.first_referent-referent.new.reads.count ≡ c.loop-schema.reads.count + (first g c).reads
+typed g c = rw (sym (schema g c)) at (ap (λ x. x.count) c.first_referent-referent.ensures.counted)
+
+-- what the test of the word tells
+told : (g : _) (c : After-test_lead-failed g)
+    → tested_by c.test_lead-failed.new.at c.test_lead-failed.new.reads.count c.test_lead-failed.result ≡ after c.loop-schema.reads.count (element_failure c.loop-schema.self.checks c.loop-schema.reads.bytes (first g c))
+told g c =
+    let w = c.loop-schema.self in
+    let r = c.loop-schema.reads.count in
+    word_told w.checks c.loop-schema.reads.bytes w.schema.now w.limits (g.under).start (g.under).frames (top_at g c) w.tables w.deepest r ((c.loop-schema.invariant).on).walking (lead_to c.first_referent-referent.result) (leads g c)
+    r c.first_referent-referent.new.reads.count (typed g c) _ (rw (ap (λ x. x.bytes) c.first_referent-referent.ensures.counted, checks g c) at c.test_lead-failed.ensures.told)
+
+-- where it tells nothing, the word holds
+holds : (g : _) (c : After-test_lead-failed g) → c.test_lead-failed.result ≡ None → element_failure c.loop-schema.self.checks c.loop-schema.reads.bytes (first g c) ≡ None
+holds g c none =
+    (after_none c.loop-schema.reads.count (element_failure c.loop-schema.self.checks c.loop-schema.reads.bytes (first g c))).0 (sym (told g c) ∙ ap (tested_by c.test_lead-failed.new.at c.test_lead-failed.new.reads.count) none)
+
+-- and was paid for
+paid : (g : _) (c : After-test_lead-failed g) → c.test_lead-failed.result ≡ None → c.test_lead-failed.new.reads.count ≡ c.loop-schema.reads.count + (first g c).reads + lead_reads (first g c).lead
+paid g c none = omega (arith, c.test_lead-failed.ensures.counted none, ap lead_reads (leads g c), typed g c)
+
+-- by few reads
+few : (g : _) (c : After-test_lead-failed g) → c.test_lead-failed.result ≡ None → c.test_lead-failed.new.reads.count ≤ c.loop-schema.reads.count + 4
+few g c none = omega (arith, paid g c none, first_few c.loop-schema.reads.bytes c.loop-schema.self.schema.now c.loop-schema.row)
+
+-- the bytes stay the same
+kept : (g : _) (c : After-test_lead-failed g) → c.test_lead-failed.new.reads.bytes ≡ c.loop-schema.reads.bytes
+kept g c = c.test_lead-failed.ensures.bytes ∙ ap (λ x. x.bytes) c.first_referent-referent.ensures.counted
+
+-- the words behind it lead to what their types tell
+targets : (g : _) (c : After-advance g) → AreTargetsOf c.args.self.now.schema.now c.targets_of-targets.result c.advance.new.self.leads
+targets g c = rw c.advance.ensures (targets_after c.args.self.now.schema.now c.targets_of-targets.result (c.loop-schema.row).leads (c.loop-schema.invariant).targets)
+
+pub returns-in-Some : goal.returns-in-Some
+returns-in-Some g c =
+    let d = (goal.at.returns-in-Some g c).After-test_lead-failed in
+    let i = (c.loop-schema.invariant).on in
+    let w = c.loop-schema.self in
+    let r = c.loop-schema.reads.count in
+    let new = c.test_lead-failed.new in
+    let fails = word_fails w.checks c.loop-schema.reads.bytes w.schema.now w.limits (g.under).start (g.under).frames (top_at g d) w.tables w.deepest r i.walking (past_first c.loop-schema.row) refl (c.has_member.ensures.more c.loop-schema-test.true)
+    (record { at = new.at; reason = c.in-Some.reason }) r new.reads.count refl (sym (told g d) ∙ ap (tested_by new.at new.reads.count) c.in-Some.is) c.stop_at_word-stop.result c.stop_at_word-stop.ensures.stop in
+    rw c.stop.ensures.turn
+    (halts_behind c.args.self.now c.stop.new.self c.args.reads.now new.reads g.under c.stop_at_word-stop.new.top c.args.waiting c.requires.0 (kept g d ∙ i.bytes) (omega (arith, c.requires.0, c.requires.1.1.0)) c.stop_at_word-stop.result (ap (λ (x : Walk). x.halt) c.stop.ensures.halt)
+    (rw (c.stop_at_word-stop.ensures.past, sym (ap (λ (x : Walk). x.checks) i.same), sym (ap (λ (x : Walk). x.schema) i.same), sym (ap (λ (x : Walk). x.limits) i.same)) (rw i.bytes at fails)))
 
 two : (m : ℕ) → m + 2 ≡ m + 1 + 1
 two m = omega arith
 
--- and counts that table
-counts : (g : _) (c : After-max-self g)
-    → Counts c.args.self.now c.loop-schema.self (counted g c) c.args.reads.now c.loop-schema.reads c.pass_words_of.new.reads g.under c.args.top.now c.loop-schema.top c.pass_words_of.new.top c.advance.new.self c.in-Some.found (c.args.waiting + 1)
+abbrev child_at : (g : _) → After-count_table g → Child
+child_at g c = record { object = c.in-Table.object; at = c.test_lead-failed.new.at }
+
+-- a word that leads to a table is passed, and the table is counted
+counts : (g : _) (c : After-count_table g)
+    → Counts c.args.self.now c.loop-schema.self c.count_table.new.self c.args.reads.now c.loop-schema.reads c.test_lead-failed.new.reads g.under c.args.top.now (top_at g (goal.at.After-count_table g c).After-test_lead-failed) (top_at g (goal.at.After-count_table g c).After-test_lead-failed) c.advance.new.self (child_at g c) (c.args.waiting + 1)
 counts g c =
+    let d = (goal.at.After-count_table g c).After-test_lead-failed in
+    let i = (c.loop-schema.invariant).on in
     let w = c.loop-schema.self in
-    let e = c.in-Ok.ensures in
+    let e = c.test_lead-failed.ensures in
+    let none = c.in_default.is in
+    let found = c.first_referent-referent.ensures in
     record {
-      on = (c.loop-schema.invariant).on;
-      kept = e.bytes;
-      grows = e.grows;
-      at = child_at g c;
-      same = e.top;
-      less = e.fewer;
+      on = i;
+      kept = kept g d;
+      grows = omega (arith, paid g d none);
+      at = rw (kept g d)
+          (record {
+            before = c.loop-schema.reads.count;
+            count = paid g d none;
+            walking = i.walking;
+            more = c.has_member.ensures.more c.loop-schema-test.true;
+            holds = holds g d none;
+            leads = sym (leads g d) ∙ ap lead_to c.in-Table.is;
+            table = rw (schema g d) (subst (λ x. IsReferent c.args.self.now.schema.now x) c.in-Table.is found.referent);
+            at = rw (ap (λ x. x.bytes) found.counted) at (e.value none c.in-Table.object c.in-Table.is);
+            near = e.near none c.in-Table.object c.in-Table.is;
+            paid = omega arith;
+          });
+      same = refl;
+      less = omega arith;
       word = c.advance.ensures;
       many = omega (arith, c.requires.0);
       fewer = c.has_member.ensures.fewer c.loop-schema-test.true;
       deep = c.requires.1.1.0;
       low = c.requires.1.1.1.0;
-      cheap = fewer_reads (c.args.self.now.limits).reads (c.pass_words_of.new.reads.count + 3) c.short-room.result (few g c) c.short-room.ensures.allowed;
-      is = ap (λ deep. record w { tables = w.tables + 1; deepest = deep }) (c.max-self.ensures ∙ ap (max w.deepest) (two c.args.waiting));
+      cheap = fewer_reads (c.args.self.now.limits).reads (c.test_lead-failed.new.reads.count + 3) c.short-room.result (omega (arith, few g d none, c.has_member.ensures.room c.loop-schema-test.true)) c.short-room.ensures.allowed;
+      is = c.count_table.ensures ∙ ap (λ n. record w { tables = w.tables + 1; deepest = max w.deepest n }) (two c.args.waiting);
     }
 
 pub returns-then-not-is_plain : goal.returns-then-not-is_plain
 returns-then-not-is_plain g c =
-    let d = (goal.at.returns-then-not-is_plain g c).After-max-self in
-    goes_down (counts g d) (omega (arith, few g d, c.short-room.ensures.short))
+    let d = (goal.at.returns-then-not-is_plain g c).After-count_table in
+    let e = (goal.at.returns-then-not-is_plain g c).After-test_lead-failed in
+    goes_down (counts g d) (omega (arith, few g e c.in_default.is, c.has_member.ensures.room c.loop-schema-test.true, c.short-room.ensures.short))
 
 pub pass_flat-came-requires : goal.pass_flat-came-requires
 pass_flat-came-requires g c =
-    let d = (goal.at.pass_flat-came-requires g c).After-max-self in
+    let d = (goal.at.pass_flat-came-requires g c).After-count_table in
+    let e = (goal.at.pass_flat-came-requires g c).After-test_lead-failed in
+    let count = c.count.ensures.all (omega (arith, few g e c.in_default.is, c.has_member.ensures.room c.loop-schema-test.true, c.short-room.ensures.short)) in
     let h = comes_down (counts g d) in
-    let i = (c.loop-schema.invariant).on in
-    let w = c.loop-schema.self in
-    let q = c.pass_words_of.new.reads.count in
+    let i = counted_same (counts g d) in
+    let w = c.count_table.new.self in
+    let q = c.test_lead-failed.new.reads.count in
     let room = c.if-count-steps.false in
-    let schema = ap (λ (x : Walk). x.schema.now) i.same in
-    let checks = c.requires.1.1.1.1.1.0 ∙ sym (ap (λ (x : Walk). x.checks) i.same) in
-    let allowed : AreAllowed (w.limits).reads c.short-room.result = rw (ap (λ (x : Walk). x.limits) i.same) c.short-room.ensures.allowed in (
+    let schema = ap (λ (x : Walk). x.schema.now) i in
+    let checks = c.requires.1.1.1.1.1.0 ∙ sym (ap (λ (x : Walk). x.checks) i) in
+    let allowed : AreAllowed (w.limits).reads c.short-room.result = rw (ap (λ (x : Walk). x.limits) i) c.short-room.ensures.allowed in (
       h.opens,
       (
-        fewer_reads (w.limits).reads (q + 3 + 6 * length c.steps_of-steps.result.now) c.short-room.result (omega (arith, room, c.count.ensures)) allowed,
+        fewer_reads (w.limits).reads (q + 3 + 6 * length c.steps_of-steps.result.now) c.short-room.result (omega (arith, room, count)) allowed,
         (
-          omega (arith, room, c.count.ensures, c.short-room.ensures.short),
+          omega (arith, room, count, c.short-room.ensures.short),
           (h.near, (checks, (rw schema c.steps_of-steps.ensures.value, (sym schema, (rw schema (sym c.is_plain.ensures ∙ c.if-not-is_plain.false), c.steps_of-steps.ensures.few))))),
         ),
       ),
@@ -92,24 +164,45 @@ pass_flat-came-requires g c =
 
 pub returns-in-Some-came : goal.returns-in-Some-came
 returns-in-Some-came g c =
-    let d = (goal.at.returns-in-Some-came g c).After-max-self in
+    let d = (goal.at.returns-in-Some-came g c).After-count_table in
     let e = c.stop_in_flat.ensures in
     let came = c.pass_flat-came.new in
     rw e.turn (table_halts (counts g d) came.next came.at c.in-Some-came.reason came.reads c.stop_in_flat.new.self (rw c.in-Some-came.is at c.pass_flat-came.ensures) e.links e.head e.field)
 
-pub loop-schema-preserved : goal.loop-schema-preserved
-loop-schema-preserved g c =
-    let d = (goal.at.loop-schema-preserved g c).After-max-self in
-    let i = c.loop-schema.invariant in
-    let e = c.in-Ok.ensures in
+pub loop-schema-preserved-in_default-came : goal.loop-schema-preserved-in_default-came
+loop-schema-preserved-in_default-came g c =
+    let d = (goal.at.loop-schema-preserved-in_default-came g c).After-count_table in
+    let e = (goal.at.loop-schema-preserved-in_default-came g c).After-test_lead-failed in
+    let count = c.count.ensures.all (omega (arith, few g e c.in_default.is, c.has_member.ensures.room c.loop-schema-test.true, c.short-room.ensures.short)) in
     let p = c.pass_flat-came.ensures in
     let none = c.in_default-came.is in
     let came = c.pass_flat-came.new in
-    let schema = ap (λ (x : Walk). x.schema.now) (i.on).same in
-    let long = ap length c.steps_of-steps.ensures.value ∙ length_map step_of (live_fields c.args.self.now.schema.now c.in-Some.found.object) in
-    let width = ap (λ S. length (live_fields S c.in-Some.found.object)) schema in
+    let long = ap length c.steps_of-steps.ensures.value ∙ length_map step_of (live_fields c.args.self.now.schema.now c.in-Table.object) in
+    let width = ap (λ (x : Walk). length (live_fields x.schema.now c.in-Table.object)) (counted_same (counts g d)) in
     record {
-      on = table_passed (counts g d) came.next came.at came.reads (rw none at p) (omega (arith, p.paid none, long, width, c.if-count-steps.false, c.count.ensures, c.short-room.ensures.short));
-      next = ap (λ (x : Frame). x.next) e.top ∙ i.next;
-      targets = rw c.advance.ensures (targets_after c.args.self.now.schema.now c.targets_of-targets.result (c.pass_words_of.new.top.row).leads (rw schema at e.targets));
+      on = table_passed (counts g d) came.next came.at came.reads (rw none at p) (omega (arith, p.paid none, long, width, c.if-count-steps.false, count, c.short-room.ensures.short));
+      next = (c.loop-schema.invariant).next;
+      targets = targets g (goal.at.loop-schema-preserved-in_default-came g c).After-advance;
+    }
+
+pub loop-schema-preserved : goal.loop-schema-preserved
+loop-schema-preserved g c =
+    let d = (goal.at.loop-schema-preserved g c).After-test_lead-failed in
+    let i = (c.loop-schema.invariant).on in
+    let w = c.loop-schema.self in
+    let b = c.loop-schema.reads.bytes in
+    let none = c.in_default.is in
+    let q = c.test_lead-failed.new.reads in
+    let more = c.has_member.ensures.more c.loop-schema-test.true in
+    let cost = few g d none in
+    let room = c.has_member.ensures.room c.loop-schema-test.true in
+    let left = ap (λ (x : Row). x.left) c.advance.ensures in
+    let leaf = subst (λ x. IsLeafLead x) (leads g d) (is_leaf c.first_referent-referent.result (λ k e. c.in_default-referent.not-Table k e)) in
+    let allowed : AreAllowed (w.limits).reads c.short-room.result = rw (ap (λ (x : Walk). x.limits) i.same) c.short-room.ensures.allowed in
+    let cheap = fewer_reads (w.limits).reads q.count c.short-room.result (omega (arith, cost, room)) allowed in
+    let passed = leaf_passed w.checks b w.schema.now w.limits (g.under).start (g.under).frames (top_at g d) w.tables w.deepest c.loop-schema.reads.count i.walking c.advance.new.self q.count c.advance.ensures more (holds g d none) (paid g d none) leaf cheap in
+    record {
+      on = word_passed i c.advance.new.self q (rw (kept g d) passed) (omega (arith, cost, more, left)) (omega (arith, left)) (omega (arith, paid g d none)) (kept g d) (omega (arith, cost, room, c.short-room.ensures.short));
+      next = (c.loop-schema.invariant).next;
+      targets = targets g (goal.at.loop-schema-preserved g c).After-advance;
     }

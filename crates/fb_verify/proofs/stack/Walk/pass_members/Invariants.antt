@@ -6,17 +6,13 @@ use Rattle.fb_verify.proofs.stack.Walk.pass_members.Given as goal
 -- the walk goes on in the same field, between two offset words
 abbrev pub invariant-loop-schema : goal.invariant-loop-schema
 invariant-loop-schema g l = record {
-  on : GoesOn l.fn.self l.self l.fn.reads l.reads g.under l.fn.top l.top;
+  on : GoesOn l.fn.self l.self l.fn.reads l.reads g.under l.fn.top (record l.top { row = l.row });
   next : l.top.next ≡ l.fn.top.next;
-  targets : AreTargetsOf l.fn.self.schema.now l.targets (l.top.row).leads;
+  targets : AreTargetsOf l.fn.self.schema.now l.targets (l.row).leads;
 }
 
 abbrev pub decreases-loop-schema : goal.decreases-loop-schema
-decreases-loop-schema g l = (l.top.row).left
-
--- the same frames wait
-abbrev pub ghost-pass_words_of : goal.ghost-pass_words_of
-ghost-pass_words_of g a = g.under
+decreases-loop-schema g l = (l.row).left
 
 -- the top waits for the table that is passed
 abbrev pub ghost-pass_flat : goal.ghost-pass_flat

@@ -7,8 +7,8 @@ ghost-pass_members_on g a = g.under
 abbrev pub ghost-next_table : goal.ghost-next_table
 ghost-next_table g a = g.under
 
-abbrev pub ghost-pass_flats : goal.ghost-pass_flats
-ghost-pass_flats g a = g.under
+abbrev pub ghost-pass_flats_on : goal.ghost-pass_flats_on
+ghost-pass_flats_on g a = g.under
 
 abbrev pub ghost-pass_words : goal.ghost-pass_words
 ghost-pass_words g a = g.under

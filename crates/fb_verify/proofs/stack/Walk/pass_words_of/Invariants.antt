@@ -1,5 +1,5 @@
 use Rattle.std.proofs.Common.{◌≡◌, ◌+◌, ◌*◌, ◌≤◌}
-use Rattle.fb_verify.specs.OffsetRows.{AreTargetsOf, AreLeaf}
+use Rattle.fb_verify.specs.declared.offset_row.Leads.TheVariants.{All}
 use Rattle.fb_verify.specs.Stack.{IsWalking}
 use Rattle.fb_verify.proofs.stack.Walk.pass_words_of.Given as goal
 
@@ -9,10 +9,8 @@ invariant-loop-row g l = record {
   bytes : l.reads.bytes ≡ l.fn.reads.bytes;
   same : l.top ≡ l.fn.top;
   grows : l.fn.reads.count ≤ l.reads.count;
-  fewer : (l.row).left ≤ (l.fn.top.row).left;
-  walking : IsWalking l.self l.reads (g.under).start (g.under).frames (record { table = l.fn.top.table; next = l.fn.top.next; number = l.fn.top.number; row = l.row });
-  targets : AreTargetsOf l.self.schema.now l.targets (l.row).leads;
-  leaf : AreLeaf l.fn.words.leads → AreLeaf (l.row).leads;
+  walking : IsWalking l.self l.reads (g.under).start (g.under).frames (record l.fn.top { row = l.row });
+  leads : (l.row).leads ≡ All l.fn.referent;
   paid : l.reads.count + 4 * (l.row).left ≤ l.fn.reads.count + 4 * (l.fn.top.row).left;
 }
 

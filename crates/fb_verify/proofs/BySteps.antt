@@ -1,0 +1,123 @@
+-- A walk goes from field to field of its top by their steps.
+use Rattle.std.proofs.Common.{◌≡◌, ℕ, zero, suc, ◌+◌, ◌*◌, ◌≤◌, List, [], ◌∷◌, true, drop, refl, sym, ◌∙◌, ap, arith, Some, None, Ok, Err}
+use Rattle.std.specs.Prelude.{slice_get}
+use Rattle.fb_bytes.specs.Word.{Lent}
+use Rattle.fb_schema.specs.declared.views.Step.{Step}
+use Rattle.fb_verify.specs.declared.fault.Reason.{Reason}
+use Rattle.fb_verify.specs.declared.plain.Came.{Came}
+use Rattle.fb_verify.specs.declared.plain.Came.TheVariants.{Past, ToEnd, ToField, ToFault}
+use Rattle.fb_verify.specs.declared.scratch.Frame.{Frame}
+use Rattle.fb_verify.specs.declared.stack.Walk.{Walk}
+use Rattle.fb_verify.specs.Plain.{StepTested, StepBehind, StepLeads, Stepped}
+use Rattle.fb_verify.specs.Stack.{Waiting}
+use Rattle.fb_verify.specs.PassesOn.{IsBetween, HasRoom, EndsBehind, PassesOn, CameTo, fields_left}
+use Rattle.fb_verify.proofs.Budgets.{fewer_reads}
+use Rattle.fb_verify.proofs.Frames.{slot_few}
+use Rattle.fb_verify.proofs.Plains.{plain_few}
+use Rattle.fb_verify.proofs.Passing.{AtStep, next_within, leads_open, same_slot, step_passed, step_stops, at_field, told_grows}
+
+-- The first that is left of a list stands at its place, and the others are left behind it.
+pub first_left : {A : Type 0} (xs : List A) (i : ℕ) (x : A) (more : List A) → x ∷ more ≡ drop i xs → slice_get xs i ≡ Some x
+first_left [] zero x more e = absurd cc
+first_left [] (suc i) x more e = absurd cc
+first_left (y ∷ xs) zero x more e = let w : x ≡ y = cc in ap Some (sym w)
+first_left (y ∷ xs) (suc i) x more e = first_left xs i x more e
+
+pub others_left : {A : Type 0} (xs : List A) (i : ℕ) (x : A) (more : List A) → x ∷ more ≡ drop i xs → more ≡ drop (suc i) xs
+others_left [] zero x more e = absurd cc
+others_left [] (suc i) x more e = absurd cc
+others_left (y ∷ xs) zero x more e = cc
+others_left (y ∷ xs) (suc i) x more e = others_left xs i x more e
+
+-- The walk came from the start and the first frame so far by steps.
+pub record GoesBy (w : Walk) (start m : Lent) (first : Frame) (next : ℕ) : Type 0 where
+  pub forth : first.next ≤ next
+  pub grows : start.count ≤ m.count
+  pub bytes : m.bytes ≡ start.bytes
+  pub paid : m.count + 6 * fields_left w.schema.now (record first { next = next }) ≤ start.count + 6 * fields_left w.schema.now first
+  pub room : HasRoom w start first
+
+module _ {w : Walk} {start m : Lent} {under : Waiting} {first : Frame} {next : ℕ} {steps : List Step} {step : Step}
+    (g : GoesBy w start m first next) (h : AtStep w m under (record first { next = next }) steps step) (new : Lent) (at : ℕ) where
+  abbrev top : Frame
+  top = record first { next = next }
+
+  abbrev t : ℕ
+  t = (first.table).at
+
+  -- past a field that leads on nowhere
+  pub step_by : StepTested w.checks m new t step at None → (IsBetween w new under (record first { next = next + 1 })) × (m.count ≤ new.count) × (new.count ≤ m.count + 4) × (new.bytes ≡ m.bytes)
+  step_by e =
+      let few = plain_few m.bytes t step in
+      let within = next_within h in
+      let counted = e.counted refl in
+      let cheap = fewer_reads (w.limits).reads new.count (start.count + 6 * fields_left w.schema.now first) (omega (arith, counted, few, g.paid, within)) (g.room).allowed in (
+        record { walking = rw e.bytes (step_passed h e.plain at m.count new.count None e.told refl new.count counted cheap); rests = h.rests },
+        omega (arith, counted),
+        omega (arith, counted, few),
+        e.bytes,
+      )
+
+  -- to one whose test fails
+  to_fault : (reason : Reason) → StepTested w.checks m new t step at (Some reason) → PassesOn w start new under first top at (Err reason)
+  to_fault reason e =
+      let within = next_within h in
+      let room = fewer_reads (w.limits).reads (m.count + 6) (start.count + 6 * fields_left w.schema.now first) (omega (arith, g.paid, within)) (g.room).allowed in
+      record {
+        walking = tt;
+        field = tt;
+        open-field = tt;
+        same = refl;
+        forth = tt;
+        within = tt;
+        all = tt;
+        ends = tt;
+        paid = tt;
+        grows = omega (arith, told_grows _ e.told, g.grows);
+        bytes = e.bytes ∙ g.bytes;
+        next = omega (arith, within);
+        err = λ stop is. rw g.bytes at (step_stops h e.plain at m.count new.count (Some reason) e.told refl refl room stop is);
+      }
+
+  -- to one that is there and may lead to a table
+  to_field : StepLeads m new t step at → PassesOn w start new under first top at (Ok true)
+  to_field e =
+      let within = next_within h in
+      let few = slot_few m.bytes t step.slot in
+      let count = ap (λ (x : Lent). x.count) e.counted in
+      let bytes = ap (λ (x : Lent). x.bytes) e.counted in
+      record {
+        walking = λ e. absurd cc;
+        field = λ _. rw bytes (at_field h (Some at) (sym e.there) e.slot e.near new.count count);
+        open-field = λ _ f here. leads_open h e.open-step f here;
+        same = refl;
+        forth = g.forth;
+        within = omega (arith, within);
+        all = λ e. absurd cc;
+        ends = λ e. absurd cc;
+        paid = omega (arith, g.paid, few, count);
+        grows = omega (arith, g.grows, count);
+        bytes = bytes ∙ g.bytes;
+        next = tt;
+        err = tt;
+      }
+
+  -- to one whose slot lies behind the vtable
+  to_end : StepBehind m new t step → EndsBehind w start new under first top
+  to_end e =
+      let within = next_within h in
+      rw e.same (record {
+        between = record { walking = h.walking; rests = h.rests };
+        forth = g.forth;
+        within = omega (arith, within);
+        behind = λ f here. rw (same_slot h f here) at e.past;
+        paid = g.paid;
+        grows = g.grows;
+        bytes = g.bytes;
+      })
+
+  pub came_to : (r : Came) → (r ≡ Past → ⊥) → Stepped w.checks m new t step at r → CameTo w start new under first top at r
+  came_to Past n e = absurd (n refl)
+  came_to ToEnd n e = to_end e
+  came_to ToField n e = to_field e
+  came_to (ToFault reason) n e = to_fault reason e

@@ -1,0 +1,91 @@
+-- A field is passed by its step, once its slot is read.
+use Rattle.std.proofs.Common.{◌≡◌, ℕ, ◌+◌, ◌%◌, ◌^◌, ◌<◌, ◌≤◌, ◌==◌, Bool, true, false, List, refl, sym, ◌∙◌, ap, arith, Some, None, if◌then◌else◌}
+use Rattle.std.proofs.lemmas.Bool.Decides.{nat_tests}
+use Rattle.fb_bytes.specs.Word.{word, Lent}
+use Rattle.fb_schema.specs.declared.views.Step.{Step}
+use Rattle.fb_verify.specs.declared.checks.Checks.{Checks}
+use Rattle.fb_verify.specs.declared.fault.Reason.TheVariants.{MissingRequired}
+use Rattle.fb_verify.specs.declared.plain.Came.{Came}
+use Rattle.fb_verify.specs.declared.plain.Came.TheVariants.{Past, ToEnd, ToField, ToFault}
+use Rattle.fb_verify.specs.Places.{vtable, vtable_size, has_slot, field_place}
+use Rattle.fb_verify.specs.Cost.{slot_reads}
+use Rattle.fb_verify.specs.Plain.{tested_by, StepTested, Filled, Stepped}
+use Rattle.fb_verify.proofs.Plains.{plain_told, plain_counted}
+
+-- Of two even numbers the smaller is smaller by two.
+pub even_apart : (a b : ℕ) → a % 2 ≡ 0 → b % 2 ≡ 0 → a < b → a + 2 ≤ b
+even_apart a b x y h = omega arith
+
+pub slot_inside : (b : List ℕ) (t o : ℕ) → o + 2 ≤ vtable_size b t → has_slot b t o ≡ true
+slot_inside b t o h = grind (arith, nat_tests)
+
+-- The slot of the field of a step lies in the vtable, and tells this distance.
+module _ (c : Checks) (m : Lent) (t : ℕ) (s : Step) (d : ℕ) (inside : has_slot m.bytes t s.slot ≡ true) (is : d ≡ word m.bytes (vtable m.bytes t + s.slot) 2) where
+  -- the bytes, with that read
+  abbrev pub slot_read : Lent
+  slot_read = record m { count = m.count + 1 }
+
+  one_read : slot_reads m.bytes t s.slot ≡ 1
+  one_read = ap (λ (x : Bool). if x then 1 else 0) inside
+
+  counted : m.count + 1 ≡ m.count + slot_reads m.bytes t s.slot
+  counted = omega (arith, one_read)
+
+  place_is : field_place m.bytes t s.slot ≡ (if d == 0 then None else Some (t + d))
+  unfolding field_place
+  place_is = ap (λ (x : Bool). if x then (if word m.bytes (vtable m.bytes t + s.slot) 2 == 0 then None else Some (t + word m.bytes (vtable m.bytes t + s.slot) 2)) else None) inside
+      ∙ ap (λ (x : ℕ). if x == 0 then None else Some (t + x)) (sym is)
+
+  is_absent : d ≡ 0 → field_place m.bytes t s.slot ≡ None
+  is_absent none = place_is ∙ ap (λ (x : ℕ). if x == 0 then None else Some (t + x)) none
+
+  is_there : (d == 0) ≡ false → field_place m.bytes t s.slot ≡ Some (t + d)
+  is_there some = place_is ∙ ap (λ (x : Bool). if x then None else Some (t + d)) some
+
+  -- it is absent
+  pub absent_required : d ≡ 0 → s.required ≡ true → StepTested c m slot_read t s t (Some MissingRequired)
+  absent_required none needed = record {
+    plain = λ _. is_absent none;
+    told = plain_told c m.bytes t m.count (m.count + 1) (m.count + 1) s None (sym (is_absent none)) counted (tested_by t (m.count + 1) (Some MissingRequired)) (rw needed (let e : m.count + 1 ≡ m.count + 1 + 0 = omega arith in ap (λ r. tested_by t r (Some MissingRequired)) e));
+    counted = λ e. absurd cc;
+    bytes = refl;
+    base = refl;
+  }
+
+  pub absent_passed : d ≡ 0 → s.required ≡ false → StepTested c m slot_read t s t None
+  absent_passed none free = record {
+    plain = λ _. is_absent none;
+    told = plain_told c m.bytes t m.count (m.count + 1) (m.count + 1) s None (sym (is_absent none)) counted None (rw free refl);
+    counted = λ _. plain_counted c m.bytes t m.count (m.count + 1) (m.count + 1) s None (sym (is_absent none)) counted (omega arith);
+    bytes = refl;
+    base = refl;
+  }
+
+  -- it is there
+  pub there_passed : (d == 0) ≡ false → t + d < 2 ^ 34 → (new : Lent) (at : ℕ) (r : Came) → Filled c slot_read new t s (t + d) at r → Stepped c m new t s at r
+  there_passed some near new at Past h =
+      let here = sym (is_there some) in
+      record {
+        plain = λ e. absurd (h.0 e);
+        told = plain_told c m.bytes t m.count (m.count + 1) new.count s (Some (t + d)) here counted _ (h.1).told;
+        counted = λ e. plain_counted c m.bytes t m.count (m.count + 1) new.count s (Some (t + d)) here counted ((h.1).counted e);
+        bytes = (h.1).bytes;
+        base = (h.1).base;
+      }
+  there_passed some near new at ToEnd h = absurd h
+  there_passed some near new at ToField h = record {
+    open-step = h.0;
+    there = is_there some ∙ ap Some (sym h.2);
+    slot = inside;
+    near = omega (arith, h.2);
+    counted = h.1 ∙ ap (λ n. record m { count = n }) counted;
+  }
+  there_passed some near new at (ToFault reason) h =
+      let here = sym (is_there some) in
+      record {
+        plain = λ e. absurd (h.0 e);
+        told = plain_told c m.bytes t m.count (m.count + 1) new.count s (Some (t + d)) here counted _ (h.1).told;
+        counted = λ e. absurd cc;
+        bytes = (h.1).bytes;
+        base = (h.1).base;
+      }

@@ -1,0 +1,39 @@
+use Rattle.std.proofs.Common.{◌≡◌, ◌+◌, ◌==◌, ◌^◌, ◌<◌, true, false, ◌∙◌, ap, arith}
+use Rattle.std.proofs.lemmas.Bool.Decides.{nat_tests}
+use Rattle.fb_bytes.specs.Word.{word}
+use Rattle.fb_verify.specs.Places.{vtable, has_slot}
+use Rattle.fb_verify.proofs.Stepping.{even_apart, slot_inside, absent_required, absent_passed, there_passed}
+use Rattle.fb_verify.proofs.plain.pass_step.Goals as goal
+use Rattle.fb_verify.proofs.plain.pass_step.Goals.{After-u16_at-distance}
+
+-- the slot lies in the vtable
+inside : (c : After-u16_at-distance) → has_slot c.args.reads.now.bytes (c.args.table).at (c.args.step.now).slot ≡ true
+inside c =
+    let v = (c.requires.head).vtable in
+    slot_inside c.args.reads.now.bytes (c.args.table).at (c.args.step.now).slot (omega (arith, v.size, even_apart (c.args.step.now).slot ((c.args.table).head).size c.requires.even v.even c.if-step-table.false))
+
+-- and tells this distance
+tells : (c : After-u16_at-distance) → c.u16_at-distance.result ≡ word c.args.reads.now.bytes (vtable c.args.reads.now.bytes (c.args.table).at + (c.args.step.now).slot) 2
+tells c =
+    let place : ((c.args.table).head).vtable + c.from.result ≡ vtable c.args.reads.now.bytes (c.args.table).at + (c.args.step.now).slot = omega (arith, ((c.requires.head).vtable).place, c.from.ensures) in
+    c.u16_at-distance.ensures.number ∙ ap (λ p. word c.args.reads.now.bytes p 2) place
+
+pub returns-then-step : goal.returns-then-step
+returns-then-step c =
+    let d = (goal.at.returns-then-step c).After-u16_at-distance in
+    rw c.u16_at-distance.ensures.counted (absent_required c.args.checks c.args.reads.now (c.args.table).at c.args.step.now c.u16_at-distance.result (inside d) (tells d) c.if-distance-eq0.true c.if-step.true)
+
+pub returns-then-distance-eq0 : goal.returns-then-distance-eq0
+returns-then-distance-eq0 c =
+    let d = (goal.at.returns-then-distance-eq0 c).After-u16_at-distance in
+    rw c.u16_at-distance.ensures.counted (absent_passed c.args.checks c.args.reads.now (c.args.table).at c.args.step.now c.u16_at-distance.result (inside d) (tells d) c.if-distance-eq0.true c.if-step.false)
+
+pub returns : goal.returns
+returns c =
+    let d = (goal.at.returns c).After-u16_at-distance in
+    let m = c.args.reads.now in
+    let t = (c.args.table).at in
+    let some : (c.u16_at-distance.result == 0) ≡ false = grind (arith, nat_tests) in
+    let near : t + c.u16_at-distance.result < 2 ^ 34 = omega (arith, c.u16_at-distance.type_inv, c.requires.near) in
+    there_passed c.args.checks m t c.args.step.now c.u16_at-distance.result (inside d) (tells d) some near c.pass_field.new.reads c.pass_field.new.at c.pass_field.result
+    (rw (c.u16_at-distance.ensures.counted, c.from-2.ensures) at c.pass_field.ensures)
