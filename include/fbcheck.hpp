@@ -116,11 +116,16 @@ class StreamError : public std::runtime_error {
     std::uint32_t status;
 };
 
-// A call couldn't be served, and nothing was checked: status is an enum fbcheck_status.
+// A call couldn't be served, and nothing was checked: status is an enum fbcheck_status. With FBCHECK_MISFIT, at is the
+// place of the first path, from 0, that doesn't fit.
 class Misuse : public std::logic_error {
   public:
-    explicit Misuse(std::uint32_t told) : std::logic_error("nothing was checked: " + why(told)), status(told) {}
+    explicit Misuse(std::uint32_t told, std::uint64_t place = 0)
+        : std::logic_error("nothing was checked: " + why(told) +
+                           (told == FBCHECK_MISFIT ? ": paths[" + std::to_string(place) + "]" : "")),
+          status(told), at(place) {}
     std::uint32_t status;
+    std::uint64_t at;
 };
 
 // What was found of a buffer: true where it is good.
@@ -281,7 +286,7 @@ class Schema {
         fbcheck_verdict told;
         const auto status = fbcheck_read(get(), room(scratch), &options, buffer.data(), buffer.size(), paths.data(),
                                          found.data(), Count, &told);
-        if (served(status) != FBCHECK_OK) return {located(buffer, options, scratch), {}};
+        if (served(status, told.at) != FBCHECK_OK) return {located(buffer, options, scratch), {}};
         Reading<Count> reading{Verdict(told, {}), {}};
         std::transform(found.begin(), found.end(), reading.values.begin(),
                        [buffer](const fbcheck_value &value) { return Value(value, buffer); });
@@ -307,8 +312,8 @@ class Schema {
         return Verdict(told, std::move(place));
     }
     static fbcheck_scratch *room(Scratch *scratch) noexcept { return scratch ? scratch->get() : nullptr; }
-    static std::uint32_t served(std::uint32_t status) {
-        if (status != FBCHECK_OK && status != FBCHECK_BAD && status != FBCHECK_TOO_LONG) throw Misuse(status);
+    static std::uint32_t served(std::uint32_t status, std::uint64_t at = 0) {
+        if (status != FBCHECK_OK && status != FBCHECK_BAD && status != FBCHECK_TOO_LONG) throw Misuse(status, at);
         return status;
     }
 

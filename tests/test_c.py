@@ -424,6 +424,25 @@ class LibraryForC(LibraryCase):
                 calls.fbcheck_scratch_free(scratch)
         self.bytes_of_vectors(python, buffer(WHOLE))
 
+    def test_first_misfit(self):
+        """Of several paths the first that doesn't fit is told by its place, whatever the buffer is."""
+        python = module()
+        calls, data, options = python._library(), messages_of(POST)[0], python.Options(prefixed=1)
+        with python.Verifier(ORDERS.read_bytes()) as verifier:
+            fit = [verifier.resolve(path) for path in ("to.name", "items", "first", "price", "floor", "route")]
+            for scratch in (None, calls.fbcheck_scratch_new(64)):
+                for unfit, at in [((2, 4), 2), ((4,), 4), ((5,), 5), ((0, 5), 0), (range(6), 0)]:
+                    paths, values, verdict = (python._Path * 6)(*fit), (python._Value * 6)(), python._Verdict()
+                    for place in unfit:
+                        paths[place] = python._Path(1, 0, ((1, 999),))
+                    for given in (data, b"?" * 99):
+                        got = calls.fbcheck_read(verifier._schema, scratch, options, given, len(given), paths, values,
+                                                 6, verdict)
+                        want = python._Verdict(status=python.Status.MISFIT, field=python.NONE, at=at)
+                        told = (got, bytes(verdict), bytes(values))
+                        self.same(f"of {list(unfit)}, in {len(given)} bytes", told, (19, bytes(want), bytes(40 * 6)))
+                calls.fbcheck_scratch_free(scratch)
+
     def bytes_of_vectors(self, python, data):
         """Of each vector of scalars or structs, the bytes in a row are those of its elements one after another."""
         seen = 0

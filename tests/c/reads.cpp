@@ -41,11 +41,11 @@ static void demand(bool is, const char *what) {
     if (!is) throw std::logic_error(what);
 }
 
-// The status of the Misuse that a call throws, or FBCHECK_OK.
-template <class Call> static std::uint32_t misuse(Call &&call) try {
-    return call(), FBCHECK_OK;
+// The Misuse that a call throws, or one of FBCHECK_OK.
+template <class Call> static fbcheck::Misuse misuse(Call &&call) try {
+    return call(), fbcheck::Misuse(FBCHECK_OK);
 } catch (const fbcheck::Misuse &error) {
-    return error.status;
+    return error;
 }
 
 // Without a message options and paths may be tried, and paths() has what path() has.
@@ -57,9 +57,11 @@ static void try_before(const fbcheck::Schema &schema, const std::string &text) {
         demand(std::memcmp(&one, &path, sizeof path) == 0, "paths() differs");
     demand(!schema.check({nullptr, 0}, options) && !schema.read({nullptr, 0}, twice, options), "no bytes are good");
     twice[1] = {1, 0, {{1, 9999}}};
-    demand(misuse([&] { schema.read({nullptr, 0}, twice); }) == FBCHECK_MISFIT, "a wrong path passes");
+    const auto wrong = misuse([&] { schema.read({nullptr, 0}, twice); });
+    demand(wrong.status == FBCHECK_MISFIT && wrong.at == 1, "a wrong path passes");
+    demand(std::string(wrong.what()).find("from this root: paths[1]") != std::string::npos, "it isn't told in words");
     options.max_depth = FBCHECK_DEEP + 1;
-    demand(misuse([&] { schema.check({nullptr, 0}, options); }) == FBCHECK_OUT_OF_RANGE, "a wrong depth passes");
+    demand(misuse([&] { schema.check({nullptr, 0}, options); }).status == FBCHECK_OUT_OF_RANGE, "a wrong depth passes");
 }
 
 static void tell(const fbcheck::Schema &schema, const std::string &text, fbcheck::Bytes message, bool prefixed) {

@@ -32,7 +32,7 @@ unserved_is_checked l n o b NoSpan h = h
 unserved_is_checked l n o b (BadStream fault) h = h
 unserved_is_checked l n o b (BadPath fault) h = h
 unserved_is_checked l n o b NoRoom h = h
-unserved_is_checked l n o b Misfit h = h
+unserved_is_checked l n o b (Misfit place) h = h
 
 module _ (l : Loaded) (n : ℕ) (o : Options) (b : List ℕ) (root : ℕ) (ident : Ident) (c : CanServe l n o root ident) where
   served : (P : ℕ → Ident → Type 0) → Serves l n o P → P root ident
@@ -53,7 +53,7 @@ module _ (l : Loaded) (n : ℕ) (o : Options) (b : List ℕ) (root : ℕ) (ident
   good_gets_yes y (BadStream fault) w i short h = absurd h
   good_gets_yes y (BadPath fault) w i short h = absurd h
   good_gets_yes y NoRoom w i short h = absurd h
-  good_gets_yes y Misfit w i short h = absurd h
+  good_gets_yes y (Misfit place) w i short h = absurd h
 
   pub bad_gets_no : (a : Answer) → HasNone (question_of l o b root ident) b → length b < 2 ^ 31 → IsChecked l n o b a → (told a).status ≡ 1
   bad_gets_no (Good r) none short h = let good = served (IsGoodFrom l o b r) h.1 in absurd (none good.found good.well_formed good.within)
@@ -69,7 +69,7 @@ module _ (l : Loaded) (n : ℕ) (o : Options) (b : List ℕ) (root : ℕ) (ident
   bad_gets_no (BadStream fault) none short h = absurd h
   bad_gets_no (BadPath fault) none short h = absurd h
   bad_gets_no NoRoom none short h = absurd h
-  bad_gets_no Misfit none short h = absurd h
+  bad_gets_no (Misfit place) none short h = absurd h
 
   pub long_gets_its_number : (a : Answer) → 2 ^ 31 ≤ length b → IsChecked l n o b a → (told a).status ≡ 7
   long_gets_its_number (Good r) long h = let short = h.0 in absurd (omega arith)
@@ -85,4 +85,4 @@ module _ (l : Loaded) (n : ℕ) (o : Options) (b : List ℕ) (root : ℕ) (ident
   long_gets_its_number (BadStream fault) long h = absurd h
   long_gets_its_number (BadPath fault) long h = absurd h
   long_gets_its_number NoRoom long h = absurd h
-  long_gets_its_number Misfit long h = absurd h
+  long_gets_its_number (Misfit place) long h = absurd h

@@ -115,4 +115,4 @@ its_name (BadStream (stream.Oversize number)) name h = unnamed 14 0 name refl h
 its_name (BadStream (stream.Truncated held)) name h = unnamed 15 0 name refl h
 its_name (BadStream stream.Failed) name h = unnamed 16 0 name refl h
 its_name NoRoom name h = unnamed 18 0 name refl h
-its_name Misfit name h = unnamed 19 0 name refl h
+its_name (Misfit place) name h = unnamed 19 0 name refl h

@@ -11,6 +11,7 @@ verdicts_shown = record {
   of_more_reads = refl;
   unserved = refl;
   others = refl;
+  misfit = refl;
   nothing_else = refl;
   no_schema = refl;
   bad_rows = refl;

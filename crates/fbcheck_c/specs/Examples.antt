@@ -49,7 +49,8 @@ pub record Verdicts : Type 0 where
   pub of_no_field : told (Bad (record torn { field = None; reason = TooManyReads })) ≡ record (verdict 1 13 2 4294967295) { at = 28; reads = 7 }
   pub of_more_reads : (told (Bad (record torn { reads = 18446744073709551616 }))).reads ≡ 18446744073709551615
   pub unserved : map status (UnknownOptions ∷ OutOfRange ∷ NoIdent ∷ NoRoot ∷ TooLong ∷ []) ≡ 3 ∷ 4 ∷ 5 ∷ 6 ∷ 7 ∷ []
-  pub others : map status (Done ∷ NoSpan ∷ NoRoom ∷ Misfit ∷ []) ≡ 0 ∷ 12 ∷ 18 ∷ 19 ∷ []
+  pub others : map status (Done ∷ NoSpan ∷ NoRoom ∷ Misfit 0 ∷ []) ≡ 0 ∷ 12 ∷ 18 ∷ 19 ∷ []
+  pub misfit : told (Misfit 4) ≡ record (verdict 19 0 0 4294967295) { at = 4 }
   pub nothing_else : told NoRoot ≡ verdict 6 0 0 4294967295
   pub no_schema : told (NoSchema (load.NotWellFormed torn)) ≡ record (verdict 8 2 2 3) { at = 28; reads = 7 }
   pub bad_rows : told (NoSchema (load.BadSchema (record { code = BadSlot; owner = 5; part = Some 1 }))) ≡ verdict 9 4 5 1

@@ -14,7 +14,7 @@ use Rattle.fbcheck_c.specs.declared.steps.PlainPath.{PlainPath}
 use Rattle.fbcheck_c.specs.declared.values.Value.{Value}
 use Rattle.fbcheck_c.specs.Answered.{IsChecked, Serves}
 use Rattle.fbcheck_c.specs.Asked.{AreKnown, root_asked, start_asked}
-use Rattle.fbcheck_c.specs.Steps.{AllFit, IsPathOf}
+use Rattle.fbcheck_c.specs.Steps.{AllFit, IsFirstMisfit, IsPathOf}
 use Rattle.fbcheck_c.specs.Values.{AreValues}
 
 -- the text resolves from the root to the steps of the path
@@ -57,12 +57,12 @@ abbrev pub AllFitAsked : Loaded → Options → List PlainPath → Type 0
 AllFitAsked l o paths = IsSomeAnd (root_asked l o) (λ root. AllFit l.schema root paths)
 
 -- what is answered where the values in a buffer are asked for: where all paths fit, what a check answers, with the
--- values of a good buffer; else that one doesn't, whatever is in the buffer
+-- values of a good buffer; else the first that doesn't, whatever is in the buffer
 abbrev pub IsRead : Loaded → ℕ → Options → List ℕ → List PlainPath → List Value → List Value → Answer → Type 0
 IsRead l n o b paths v v' (Good r) = IsChecked l n o b (Good r) × AllFitAsked l o paths × IsSomeAnd (root_asked l o) (λ root. AreValues b l.schema (start_asked o) root paths v')
 IsRead l n o b paths v v' (Bad f) = IsChecked l n o b (Bad f) × AllFitAsked l o paths × (v' ≡ v)
 IsRead l n o b paths v v' TooLong = IsChecked l n o b TooLong × AllFitAsked l o paths × (v' ≡ v)
-IsRead l n o b paths v v' Misfit = Serves l n o (λ root ident. AllFit l.schema root paths → ⊥) × (v' ≡ v)
+IsRead l n o b paths v v' (Misfit place) = Serves l n o (λ root ident. IsFirstMisfit l.schema root paths place) × (v' ≡ v)
 IsRead l n o b paths v v' a = IsChecked l n o b a × (v' ≡ v)
 
 abbrev pub IsReadBy : Held → ℕ → Options → List ℕ → List PlainPath → List Value → List Value → Answer → Type 0

@@ -65,6 +65,12 @@ FitsFrom S root p = IsSomeAnd (steps_in p) (FitFrom S (Table root))
 abbrev pub AllFit : Rows → ℕ → List PlainPath → Type 0
 AllFit S root paths = (k : ℕ) → k < length paths → (p : PlainPath) → FitsFrom S root (slice_index_or paths k p)
 
+-- the path at this place is the first that doesn't
+pub record IsFirstMisfit (S : Rows) (root : ℕ) (paths : List PlainPath) (k : ℕ) : Type 0 where
+  pub there : k < length paths
+  pub misfit : (p : PlainPath) → FitsFrom S root (slice_index_or paths k p) → ⊥
+  pub before : (j : ℕ) → j < k → (p : PlainPath) → FitsFrom S root (slice_index_or paths j p)
+
 -- from the root table these steps lead to a spot
 abbrev pub EndAt : List ℕ → Rows → Start → ℕ → List PlainStep → Spot → Type 0
 EndAt b S start root plain q = (path : List Step) × AreSteps plain path × Reaches b S (root_spot b start root) path q

@@ -95,4 +95,4 @@ told NoSpan = blank 12
 told (BadStream fault) = blank (stream_number fault)
 told (BadPath fault) = path_told fault
 told NoRoom = blank 18
-told Misfit = blank 19
+told (Misfit place) = record (blank 19) { at = place }

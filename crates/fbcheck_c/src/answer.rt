@@ -2,7 +2,7 @@
 
 ghost use Rattle.std.specs.Prelude.{◌≡◌, min};
 ghost use Rattle.fb_verify.specs.Reasons.{reason_number};
-ghost use Rattle.fbcheck_c.specs.declared.answer.Answer.TheVariants.{Bad, Good};
+ghost use Rattle.fbcheck_c.specs.declared.answer.Answer.TheVariants.{Bad, Good, Misfit};
 ghost use Rattle.fbcheck_c.specs.Told.{blank, code_number, fault_told, field_number, load_told, low, misplaced, part_number, path_told, stream_number, told};
 
 use fb_access::PathFault;
@@ -41,8 +41,8 @@ pub enum Answer {
     BadPath(PathFault),
     /// 18: there are more steps than there is room for.
     NoRoom,
-    /// 19: a path doesn't fit the schema from the root table.
-    Misfit,
+    /// 19: the path at this place, from 0, is the first that doesn't fit the schema from the root table.
+    Misfit(u64),
     /// 11 and 14 to 16: the stream of a framer isn't one of messages within its limit.
     BadStream(StreamFault),
 }
@@ -66,7 +66,7 @@ pub struct Verdict {
     /// Of a good buffer, the most tables that were open at once, else 0.
     pub depth: u32,
     /// With a reason, the position in bytes from the buffer's first; of a text that is no path, the place in it or the
-    /// number of the step; else 0.
+    /// number of the step; of paths, the place of the first that doesn't fit; else 0.
     pub at: u64,
     /// The reads that were made, of a buffer or of a schema file that isn't well formed; 2^64 - 1 stands for more too.
     pub reads: u64,
@@ -197,6 +197,16 @@ fn path_told(fault: PathFault) -> Verdict
     }
 }
 
+/// The place of the first path that doesn't fit.
+fn misfit_told(place: u64) -> Verdict
+    ensures { result ≡ told (Misfit place) }
+{
+    Verdict {
+        at: place,
+        ..blank(19)
+    }
+}
+
 /// The number of what is wrong with a stream.
 fn stream_number(fault: StreamFault) -> u32
     ensures { result ≡ stream_number fault }
@@ -261,7 +271,7 @@ impl Answer {
             Answer::NoSpan => blank(12),
             Answer::BadPath(fault) => path_told(fault),
             Answer::NoRoom => blank(18),
-            Answer::Misfit => blank(19),
+            Answer::Misfit(place) => misfit_told(place),
             Answer::BadStream(fault) => blank(stream_number(fault)),
         }
     }

@@ -7,7 +7,7 @@ ghost use Rattle.fbcheck_c.specs.declared.answer.Answer.{Answer};
 ghost use Rattle.fbcheck_c.specs.Reached.{IsPath, IsRead, IsReadBy, IsResolved, IsUnresolved};
 
 use crate::answer::{Answer, Verdict, low, tell_bad, tell_blank, tell_good};
-use crate::fits::paths_fit;
+use crate::fits::first_misfit;
 use crate::handle::Handle;
 use crate::held::{Held, Room};
 use crate::options::{DEEPEST, Options};
@@ -226,7 +226,7 @@ pub fn check(
 }
 
 /// Checks a buffer as [`check_shallow`] does, and tells of a good one the values at the ends of these paths. `Misfit`
-/// where one doesn't fit the schema from the root table, whatever the buffer is.
+/// of the first that doesn't fit the schema from the root table, whatever the buffer is.
 fn read_shallow(
     loaded: &Loaded<'static>,
     verdict: &mut Verdict,
@@ -241,8 +241,8 @@ fn read_shallow(
     let Some(begun) = prepare(loaded, SHALLOW, options, buffer.len() as u64) else {
         return tell_unserved(loaded, SHALLOW, options, verdict);
     };
-    if !paths_fit(&loaded.schema, begun.root, paths) {
-        return tell_blank(19, verdict);
+    if let Some(place) = first_misfit(&loaded.schema, begun.root, paths) {
+        return Answer::Misfit(place).tell(verdict);
     }
     let Ok(meter) = Meter::new(buffer) else {
         return tell_blank(7, verdict);
@@ -283,8 +283,8 @@ fn read_in(
     let Some(begun) = prepare(loaded, levels, options, buffer.len() as u64) else {
         return tell_unserved(loaded, levels, options, verdict);
     };
-    if !paths_fit(&loaded.schema, begun.root, paths) {
-        return tell_blank(19, verdict);
+    if let Some(place) = first_misfit(&loaded.schema, begun.root, paths) {
+        return Answer::Misfit(place).tell(verdict);
     }
     let Ok(meter) = Meter::new(buffer) else {
         return tell_blank(7, verdict);

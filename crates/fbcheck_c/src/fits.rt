@@ -1,12 +1,12 @@
 //! Whether paths fit a schema, which no buffer has a part in.
 
-ghost use Rattle.std.specs.Prelude.{◌≡◌, ◌↔◌, IsTrue, option_map};
+ghost use Rattle.std.specs.Prelude.{◌≡◌, ◌↔◌, IsTrue, MatchOption, option_map};
 ghost use Rattle.fb_access.specs.Fitting.{element_kind, next_kind, numbered};
 ghost use Rattle.fb_schema.specs.declared.views.PartView.{PartView};
 ghost use Rattle.fb_schema.specs.Members.{member_of};
 ghost use Rattle.fb_schema.specs.Parts.{part_at};
 ghost use Rattle.fb_schema.specs.declared.kinds.Kind.TheVariants.{Table};
-ghost use Rattle.fbcheck_c.specs.Steps.{AllFit, FitFrom, FitsFrom};
+ghost use Rattle.fbcheck_c.specs.Steps.{AllFit, FitFrom, FitsFrom, IsFirstMisfit};
 
 use crate::steps::{PlainPath, PlainStep};
 use fb_access::Step;
@@ -105,14 +105,14 @@ fn path_fits(schema: &Schema<'_>, root: u32, path: &PlainPath) -> bool
     }
 }
 
-/// Whether each of these paths does.
-pub fn paths_fit(schema: &Schema<'_>, root: u32, paths: &[PlainPath]) -> bool
-    ensures { IsTrue result ↔ AllFit schema.now root paths.now }
+/// The place of the first of these paths that doesn't, none where all do.
+pub fn first_misfit(schema: &Schema<'_>, root: u32, paths: &[PlainPath]) -> Option<u64>
+    ensures { MatchOption result (AllFit schema.now root paths.now) (IsFirstMisfit schema.now root paths.now) }
 {
-    for path in paths {
-        if !path_fits(schema, root, path) {
-            return false;
+    for place in 0..paths.len() {
+        if !path_fits(schema, root, &paths[place]) {
+            return Some(place as u64);
         }
     }
-    true
+    None
 }

@@ -3,11 +3,11 @@ use Rattle.fbcheck_c.specs.declared.answer.Answer.TheVariants.{Good, Bad, Misfit
 use Rattle.fbcheck_c.proofs.checking.read_in.Goals.{in-Ok-verify, in-Err}
 use Rattle.fbcheck_c.proofs.checking.read_in.Goals as goal
 
-pub returns-then-not-paths_fit-clause-told : goal.returns-then-not-paths_fit-clause-told
-returns-then-not-paths_fit-clause-told c = (Misfit, c.tell_blank.ensures.told, search rules)
+pub returns-in-Some-first_misfit-clause-told : goal.returns-in-Some-first_misfit-clause-told
+returns-in-Some-first_misfit-clause-told c = (Misfit c.in-Some-first_misfit.place, c.tell.ensures.told, search rules)
 
 pub returns-in_default-new-clause-told : goal.returns-in_default-new-clause-told
-returns-in_default-new-clause-told c = (TooLong, c.tell_blank-in_default-new.ensures.told, search rules)
+returns-in_default-new-clause-told c = (TooLong, c.tell_blank.ensures.told, search rules)
 
 pub returns-clause-told : goal.returns-clause-told
 returns-clause-told c =
