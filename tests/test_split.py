@@ -11,7 +11,7 @@ import sys
 from tests.support.buffers import POST
 from tests.support.builder import messages_of, prefixed
 from tests.support.cases import Case
-from tests.support.program import FOLDER, TOP, file_of, run
+from tests.support.program import FOLDER, TOP, astray, file_of, run
 
 SPLIT = TOP / "examples/split"
 
@@ -122,7 +122,7 @@ class Split(Case):
         self.same("from where it stands", told, split(3, given=POST))
 
     def test_faults_of_a_stream(self):
-        """They have the program's texts, and the messages before them are in the parts."""
+        """They have the program's texts without options behind them; the messages before them are in the parts."""
         by_post = ["--schema", TOP / "examples/deliveries.bfbs"]
         for name, words, stream, whole in [
             ("a cut message", [], POST[:1500], 5),
@@ -133,7 +133,8 @@ class Split(Case):
             ("a message at a limit", ["--max-bytes", "512"], POST, 6),
         ]:
             ran = run(*by_post, *words, given=stream)
-            want = [line.replace("fbcheck:", "split:") for line in ran.err.decode().splitlines()]
+            told = ran.err.decode().replace(astray(""), "").splitlines()
+            want = [line.replace("fbcheck:", "split:") for line in told]
             for form, call, more in [("runs", split, []), ("dealt", split_pipe, ["--deal"])]:
                 folder = FOLDER / f"{name} {form}"
                 status, lines, told = call(*more, *words, 3, folder, given=stream)
