@@ -13,6 +13,7 @@ _fbcheck_left() { # WORD..
         --delimited) left=${left/ --bare / } ;;&
         --ident) left=${left/ --schema-ident / } ;;&
         --schema-ident) left=${left/ --ident / } ;;&
+        -H) left=${left/ --with-filename / } ;;
         *) left=${left/ "$word" / } ;;
         esac
     done
@@ -21,7 +22,8 @@ _fbcheck_left() { # WORD..
 _fbcheck() {
     local word=${COMP_WORDS[COMP_CWORD]} before=${COMP_WORDS[COMP_CWORD - 1]}
     local left=" --schema --root --ident --schema-ident --path --max-depth --max-tables --max-reads --reads-per-byte \
---max-bytes --bare --delimited --no-alignment --inline-size --quiet --filter --summary --names --json --help --version "
+--max-bytes --bare --delimited --no-alignment --inline-size --quiet --filter --summary --names --json \
+--with-filename --help --version "
     COMPREPLY=()
     # An equals sign is a word of its own.
     [ "$before" != = ] || before=${COMP_WORDS[COMP_CWORD - 2]}

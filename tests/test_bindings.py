@@ -113,8 +113,8 @@ class Binding:
 
     @staticmethod
     def fault(*words):
-        """What the program tells of a fault, without what it adds behind a semicolon."""
-        return run(*words).err.decode().removeprefix("fbcheck: ").partition(";")[0].strip()
+        """What the program tells of a fault, without what it adds behind that."""
+        return re.split("; | in ", run(*words).err.decode().removeprefix("fbcheck: "))[0].strip()
 
     def test_verdicts(self):
         """Those of the program on streams of good and damaged messages, with every reason but a wrong prefix."""

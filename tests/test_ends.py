@@ -5,7 +5,7 @@ from tests.support.buffers import ORC, SEVEN
 from tests.support.builder import spelled
 from tests.support.cases import Case
 from tests.support.preloaded import counted, narrowed
-from tests.support.program import Ran, bad, failed, fieldless, good, lines, refused, rootless, run
+from tests.support.program import NO_BYTES, Ran, bad, failed, fieldless, good, lines, rootless, run, schemaless
 
 FILES = schemas.files()
 BY_M = ("--schema", FILES["M"], "--bare")
@@ -47,7 +47,7 @@ class Ends(Case):
             ("for a root that isn't there", (*BY_N, "--root", "Q"), SEVEN, (rootless("Q", "N"), 0)),
             ("for a path that doesn't fit", (*BY_N, "--path", "x"), SEVEN, (fieldless("v"), 0)),
             ("for a schema file that is none", ("--schema", "/dev/null"), SEVEN,
-             (refused("schema: L1 V2 OutOfBuffer at=4 object=9 field=- reads=0"), 0)),
+             (schemaless("L1 V2 OutOfBuffer at=4 object=9 field=- reads=0", "/dev/null", NO_BYTES), 0)),
         ]:
             self.same(f"byte by byte, {name}", counted(*words, given=given, read=1), want)
 

@@ -10,11 +10,11 @@ from tests.support.buffers import MEMBER, ORC, PLAIN, SEVEN
 from tests.support.builder import changed, prefixed, spelled
 from tests.support.cases import Case
 from tests.support.program import (
-    FOLDER, PROGRAM, SECONDS, Ran, Talk, astray, bad, failed, fieldless, file_of, good, lines, refused, rootless,
-    run, run_broken_off, run_in_shell, run_starved,
+    FOLDER, NO_BYTES, NO_SCHEMA, PROGRAM, SECONDS, Ran, Talk, astray, bad, failed, fieldless, file_of, good, lines,
+    listed, refused, rootless, run, run_broken_off, run_in_shell, run_starved, schemaless,
 )
 from tests.support.schemas import (
-    INT, LONG, SHORT, TEXT, a_struct, a_union, an_object, array, field, schema, table, union,
+    INT, LONG, SHORT, TEXT, U_TYPE, a_struct, a_union, an_object, array, field, schema, table, union, vector,
 )
 
 FILES = schemas.files()
@@ -23,6 +23,11 @@ BY_N = ("--schema", FILES["N"])
 LIKE_JSON = "this looks like JSON"
 LIKE_TEXT = "this looks like a schema's text (.fbs): flatc --binary --schema makes the .bfbs"
 SEVENS = "1 ok tables=1 depth=1 reads=5", "2 ok tables=1 depth=1 reads=5"
+
+
+def identified(ident):
+    """What is told of a schema file with another identifier."""
+    return f"its file identifier is {ident}, where a .bfbs has BFBS"
 
 
 def run_by_pipe(data):
@@ -99,36 +104,41 @@ class Faults(Case):
     def test_schema_files_that_are_no_plain_files(self):
         self.same("a pipe with a schema", run_by_pipe(schemas.M), good("1 ok tables=1 depth=1 reads=8"))
         self.same("a pipe with nothing", run_by_pipe(b""),
-                  refused("schema: L1 V2 OutOfBuffer at=4 object=9 field=- reads=0"))
+                  schemaless("L1 V2 OutOfBuffer at=4 object=9 field=- reads=0", FOLDER / "pipe", NO_BYTES))
         fields = [field(f"field{number}", TEXT, 4 + 2 * number) for number in range(20)]
         others = [table(f"Other{number}", *fields) for number in range(200)]
         large = schema([table("M", field("hp", SHORT, 4, 100), field("name", TEXT, 6)), *others], root="M")
         self.same(f"a pipe with {len(large)} bytes", run_by_pipe(large), good("1 ok tables=1 depth=1 reads=8"))
         self.same("/dev/null", run("--schema", "/dev/null"),
-                  refused("schema: L1 V2 OutOfBuffer at=4 object=9 field=- reads=0"))
+                  schemaless("L1 V2 OutOfBuffer at=4 object=9 field=- reads=0", "/dev/null", NO_BYTES))
         self.same("standard input itself", run("--schema", "/dev/stdin", "--bare", given=schemas.M),
                   bad("1 bad V2 OutOfBuffer at=0 object=0 field=- reads=0"))
 
     def test_schema_files_that_are_not_well_formed(self):
         wrong = "V5 WrongIdentifier at=4 object=9 field=- reads=1"
-        for name, data, want in [
-            ("empty", b"", "V2 OutOfBuffer at=4 object=9 field=- reads=0"),
-            ("the root offset alone", schemas.M[:4], "V2 OutOfBuffer at=4 object=9 field=- reads=0"),
-            ("the head alone", schemas.M[:8], "V2 OutOfBuffer at=24 object=9 field=- reads=2"),
-            ("another identifier", changed(schemas.M, (4, "58")), "V5 WrongIdentifier at=4 object=9 field=- reads=1"),
-            ("behind a prefix", prefixed(schemas.M), "V5 WrongIdentifier at=4 object=9 field=- reads=1"),
-            ("no objects", changed(schemas.M, (12, "0000")), "V9 MissingRequired at=24 object=9 field=0 reads=5"),
-            ("a text", b"table M { hp: short; }", f"{wrong}; {LIKE_TEXT}"),
-            ("a text behind blanks", b"\r\n\t // M\ntable M {}", f"{wrong}; {LIKE_TEXT}"),
-            ("JSON", b'{"hp": 300, "name": "Orc"}', f"{wrong}; {LIKE_JSON}"),
-            ("JSON behind blanks", b'\n\t [{"hp": 300}]', f"{wrong}; {LIKE_JSON}"),
-            ("one byte of JSON", b"{", f"V2 OutOfBuffer at=4 object=9 field=- reads=0; {LIKE_JSON}"),
-            ("16 bytes of JSON, and others", b'{"name": "a\\u0a0' + b"\xff" * 9, f"{wrong}; {LIKE_JSON}"),
-            ("15 bytes of JSON, and another", b'{"name": "Orc",\xff', wrong),
-            ("a byte that no text has", b"table M \x7f { hp: short; }", wrong),
+        short = "V2 OutOfBuffer at=4 object=9 field=- reads=0"
+        for name, data, want, look in [
+            ("empty", b"", short, NO_BYTES),
+            ("the root offset alone", schemas.M[:4], short, NO_SCHEMA),
+            ("the head alone", schemas.M[:8], "V2 OutOfBuffer at=24 object=9 field=- reads=2", ""),
+            ("another identifier", changed(schemas.M, (4, "58")), wrong, identified("XFBS")),
+            ("one that must be escaped", changed(schemas.M, (4, "225c3d20")), wrong, identified('\\"\\\\= ')),
+            ("one that is none", changed(schemas.M, (4, "7f")), wrong, NO_SCHEMA),
+            ("behind a prefix", prefixed(schemas.M), wrong, NO_SCHEMA),
+            ("no objects", changed(schemas.M, (12, "0000")), "V9 MissingRequired at=24 object=9 field=0 reads=5", ""),
+            ("a text", b"table M { hp: short; }", wrong, LIKE_TEXT),
+            ("a text behind blanks", b"\r\n\t // M\ntable M {}", wrong, LIKE_TEXT),
+            ("JSON", b'{"hp": 300, "name": "Orc"}', wrong, LIKE_JSON),
+            ("JSON behind blanks", b'\n\t [{"hp": 300}]', wrong, LIKE_JSON),
+            ("one byte of JSON", b"{", short, LIKE_JSON),
+            ("16 bytes of JSON, and others", b'{"name": "a\\u0a0' + b"\xff" * 9, wrong, LIKE_JSON),
+            ("15 bytes of JSON, and another", b'{"name": "Orc",\xff', wrong, NO_SCHEMA),
+            ("a byte that no text has", b"table M \x7f { hp: short; }", wrong, NO_SCHEMA),
         ]:
-            got = run("--schema", file_of("ill.bfbs", data), "--bare", given=ORC)
-            self.same(name, got, refused(f"schema: L1 {want}"))
+            path = file_of("ill.bfbs", data)
+            self.same(name, run("--schema", path, "--bare", given=ORC), schemaless(f"L1 {want}", path, look))
+        self.same("a name that breaks lines", run("--schema", file_of("a\n", b"")),
+                  schemaless(f"L1 {short}", f"{FOLDER}/a\\x0a", NO_BYTES))
         for length in range(205):
             got = run("--schema", file_of("cut.bfbs", schemas.M[:length]), "--bare", given=ORC)
             told = got.err.startswith(b"fbcheck: schema: L1 V2 OutOfBuffer at=") and got.err.count(b"\n") == 1
@@ -161,10 +171,10 @@ class Faults(Case):
             ("two objects of a name", [plain, plain], [], "C8 NameTwice owner=1 part=-"),
         ]:
             path = file_of("illegal.bfbs", schema(objects, enums, root="T"))
-            self.same(name, run("--schema", path, given=SEVEN), refused(f"schema: L2 {want}"))
+            self.same(name, run("--schema", path, given=SEVEN), schemaless(f"L2 {want}", path))
         path = file_of("type18.bfbs", changed(schemas.M, (156, "12")))
         self.same("a base type that isn't known", run("--schema", path),
-                  refused("schema: L2 C3 Unsupported owner=0 part=0"))
+                  schemaless("L2 C3 Unsupported owner=0 part=0", path))
         legal = schema([table("T", field("v", (14, 14), 4, deprecated=True)),
                         a_struct("S", 8, 4, field("x", array(INT, 2), 0))], root="T")
         self.same("a deprecated vector of vectors",
@@ -177,13 +187,14 @@ class Faults(Case):
         self.same("none, and a path", run("--schema", own, "--path", "name", given=ORC), rootless(None, "M"))
         self.same("none, but one is asked for", run("--schema", own, "--root", "M", "--bare", given=ORC),
                   good("1 ok tables=1 depth=1 reads=8"))
-        listed = refused("schema: L3 RootNotListed")
+        listed = lambda name: schemaless("L3 RootNotListed", FOLDER / name)
         self.same("one of no object", run("--schema", file_of("none.bfbs", changed(schemas.M, (44, "00000000")))),
-                  listed)
+                  listed("none.bfbs"))
         other = schema([table("T", field("v", INT, 4))], root="S")
-        self.same("one that isn't listed", run("--schema", file_of("other.bfbs", other), "--root", "T"), listed)
+        self.same("one that isn't listed", run("--schema", file_of("other.bfbs", other), "--root", "T"),
+                  listed("other.bfbs"))
         struct_root = schema([a_struct("S", 8, 8, field("x", LONG, 0))], root="S")
-        self.same("a struct", run("--schema", file_of("struct.bfbs", struct_root)), listed)
+        self.same("a struct", run("--schema", file_of("struct.bfbs", struct_root)), listed("struct.bfbs"))
 
     def test_names_that_are_told(self):
         fields = [field(f"f{number:02}", INT, 4 + 2 * number) for number in range(11)]
@@ -205,37 +216,77 @@ class Faults(Case):
         self.same("names that break lines", run("--schema", path, "--root", "\x07é"),
                   rootless(r"\x07\xc3\xa9", "T", r'a b\x0a\"'))
 
+    def test_names_that_may_have_been_meant(self):
+        """The first that is one byte away from a name of three bytes at least, or is the same in other letters."""
+        names = ["hitpoints", "Name", "na", "mana", "x"]
+        parts = [field(name, INT, 4 * number) for number, name in enumerate(names)]
+        rows = [field(name, INT, 4 + 2 * number) for number, name in enumerate(names)]
+        path = file_of("meant.bfbs", schema([a_struct("S", 20, 4, *parts), table("T", *rows),
+                                             table("U", field("s", vector(an_object(0)), 4))], root="T"))
+        for asked, meant in {
+            "hitpoint": "hitpoints", "itpoints": "hitpoints", "hitpoints_": "hitpoints", "hitpoinds": "hitpoints",
+            "hitPoints": "hitpoints", "HITPOINTS": "hitpoints", "hitpoinst": "", "hitpoin": "", "HITPOINT": "",
+            "name": "Name", "nameS": "", "NA": "na", "nan": "na", "nb": "", "n": "", "X": "x", "y": "", "xyz": "",
+            "mama": "mana", "manas": "mana", "ana": "na", "ama": "",
+        }.items():
+            self.same(asked, run("--schema", path, "--path", asked), fieldless(*names, meant=meant))
+            inner = run("--schema", path, "--root", "U", "--path", f"s[0].{asked}")
+            self.same(f"{asked} in a struct", inner, fieldless(*names, step=2, meant=meant))
+            later = run("--schema", path, "--root", "U", "--path", f"s[0].{asked}.name")
+            self.same(f"{asked}, and more", later, fieldless(*names, step=2, meant=meant))
+
+    def test_what_there_is_where_a_step_does_not_fit(self):
+        scalars = ["a union's type", "a bool", "a byte", "a ubyte", "a short", "a ushort", "an int", "a uint", "a long",
+                   "a ulong", "a float", "a double"]
+        rows = [field(f"f{base}", (base,), 2 + 2 * base) for base in range(1, 13)]
+        path = file_of("scalars.bfbs", schema([table("T", *rows)], root="T"))
+        for base, told in enumerate(scalars, 1):
+            for step, fault in [(".x", "P6 NotATable"), ("[0]", "P3 NotIndexable"), ("@X", "P4 NotAUnion")]:
+                got = run("--schema", path, "--path", f"f{base}{step}")
+                self.same(f"{told}{step}", got, refused(f"path: {fault} step=1; this is {told}"))
+        for many in (0, 9, 10, 11, 255):
+            names = [f"M{number:03}" for number in range(many)]
+            members = [(name, 255 - number, TEXT) for number, name in enumerate(names)]
+            rows = field("u_type", U_TYPE, 4), field("u", a_union(0), 6)
+            path = file_of("members.bfbs", schema([table("T", *rows)], [union("U", *members)], root="T"))
+            self.same(f"{many} members, in rising value", run("--schema", path, "--path", "u@X"),
+                      refused(f"path: P5 NoSuchMember step=1; this union's members:{listed(names[::-1])}"))
+
     def test_a_schema_file_of_two_gibibytes(self):
         huge = FOLDER / "huge.bfbs"
         with huge.open("wb") as file:
             file.truncate(2**31)
-        self.same("2^31 bytes", run("--schema", huge, given=SEVEN), refused("schema: L5 TooLong"))
+        self.same("2^31 bytes", run("--schema", huge, given=SEVEN), schemaless("L5 TooLong", huge, NO_SCHEMA))
         os.truncate(huge, 2**31 - 1)
         self.same("one fewer", run("--schema", huge, given=SEVEN),
-                  refused("schema: L1 V5 WrongIdentifier at=4 object=9 field=- reads=1"))
+                  schemaless("L1 V5 WrongIdentifier at=4 object=9 field=- reads=1", huge, NO_SCHEMA))
         huge.unlink()
 
     def test_faults_of_paths(self):
-        for root, fault, paths in [
-            ("R", "P1 BadText at", {"": 0, "u..v": 2, "u[01]": 3, "u.": 2, "u ": 1}),
-            ("Q", "P1 BadText at", {"us[4294967296]": 12}),
-            ("R", "P3 NotIndexable step", {"u[0]": 1}),
-            ("Q", "P4 NotAUnion step", {"us@A": 1}),
-            ("R", "P5 NoSuchMember step", {"u@Z": 1, "u@NONE": 1}),
-            ("R", "P6 NotATable step", {"u.v": 1, "u@T.v": 2}),
+        members = "; this union's members: A W T"
+        for root, fault, there, paths in [
+            ("R", "P1 BadText at", "", {"": 0, "u..v": 2, "u[01]": 3, "u.": 2, "u ": 1}),
+            ("Q", "P1 BadText at", "", {"us[4294967296]": 12}),
+            ("R", "P3 NotIndexable step", members, {"u[0]": 1}),
+            ("R", "P3 NotIndexable step", "; this is a struct", {"u@W[0]": 2}),
+            ("Q", "P4 NotAUnion step", "; this is a vector or an array", {"us@A": 1}),
+            ("Q", "P4 NotAUnion step", "; this is a table", {"us[0]@A@A": 3}),
+            ("R", "P5 NoSuchMember step", members, {"u@Z": 1, "u@NONE": 1}),
+            ("R", "P6 NotATable step", members, {"u.v": 1}),
+            ("R", "P6 NotATable step", "; this is a string", {"u@T.v": 2}),
         ]:
             for path, place in paths.items():
                 got = run("--schema", FILES["X"], "--root", root, f"--path={path}", given=MEMBER)
-                self.same(f"{path!r} from {root}", got, refused(f"path: {fault}={place}"))
+                self.same(f"{path!r} from {root}", got, refused(f"path: {fault}={place}{there}"))
         self.same("no such field", run("--schema", FILES["X"], "--root", "R", "--path", "x"), fieldless("u_type", "u"))
         for name, path, field in [("of a member's table", "u@A.x", "v"), ("of a member's struct", "u@W.y", "x")]:
             self.same(f"nor one {name}", run("--schema", FILES["X"], "--root", "R", "--path", path),
                       fieldless(field, step=2))
         for name, paths, text in [
-            ("the first of two", ["u[0]", "u"], "path: P3 NotIndexable step=1 in u[0]"),
+            ("the first of two", ["u[0]", "u"], f"path: P3 NotIndexable step=1 in u[0]{members}"),
             ("the last of two", ["u", "x"], "path: P2 NoSuchField step=0 in x; fields: u_type u"),
             ("a later step of two", ["u", "u@W.y"], "path: P2 NoSuchField step=2 in u@W.y; fields: x"),
-            ("the first wrong one of three", ["u@A", "u@Z", "x"], "path: P5 NoSuchMember step=1 in u@Z"),
+            ("the first wrong one of three", ["u@A", "u@Z", "x"], f"path: P5 NoSuchMember step=1 in u@Z{members}"),
             ("one that would break the line", ["u", 'u\n"'], 'path: P1 BadText at=1 in u\\x0a\\"'),
             ("an empty one", ["u", ""], "path: P1 BadText at=0 in "),
         ]:
@@ -243,7 +294,7 @@ class Faults(Case):
             self.same(f"{name} paths", run("--schema", FILES["X"], "--root", "R", *words, given=MEMBER), refused(text))
         self.same("the root comes before the path", run(*BY_M, "--root", "Q", "--path", "x"), rootless("Q", "M"))
         self.same("the schema comes before the root", run("--schema", "/dev/null", "--root", "Q", "--path", "x"),
-                  refused("schema: L1 V2 OutOfBuffer at=4 object=9 field=- reads=0"))
+                  schemaless("L1 V2 OutOfBuffer at=4 object=9 field=- reads=0", "/dev/null", NO_BYTES))
 
     def test_nothing_is_read_before_a_refusal(self):
         given = file_of("unread", SEVEN)

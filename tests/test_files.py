@@ -12,7 +12,8 @@ from tests.support.buffers import NOTHING, ODD, ORC, SEVEN
 from tests.support.builder import spelled
 from tests.support.cases import Case
 from tests.support.program import (
-    FOLDER, PROGRAM, SECONDS, Ran, Talk, failed, file_of, lines, refused, rootless, run, run_in_shell, run_starved,
+    FOLDER, NO_BYTES, PROGRAM, SECONDS, Ran, Talk, failed, file_of, lines, refused, rootless, run, run_in_shell,
+    run_starved, schemaless,
 )
 
 FILES = schemas.files()
@@ -85,6 +86,8 @@ class Files(Case):
             ("beside an empty stream", (*BY_N, BAD, "/dev/null")),
             ("beside a good file, with --bare", (*BY_M, "--quiet", BAD, orc)),
             ("behind --, where a name begins with a dash", (*BY_N, "--", BAD.name, "-dash.bin")),
+            ("with -H", (*BY_N, "-H", BAD)),
+            ("with --with-filename", (BAD, *BY_N, "--with-filename")),
         ]:
             file_of("-dash.bin", b"")
             ran = run(*words, cwd=FOLDER)
@@ -97,6 +100,28 @@ class Files(Case):
                                  capture_output=True, timeout=SECONDS)
             self.same(f"{name}: the status of xargs", ran.returncode, status)
             self.same(f"{name}: the summaries", ran.stderr.count(b"summary: "), 2)
+
+    def test_names_of_one_file_and_of_standard_input(self):
+        for words in [BY_N, (*BY_N, "--quiet"), (*BY_N, "--names"), (*BY_N, "--path", "v"), (*BY_N, "--filter"),
+                      (*BY_N, "--json"), (*BY_N, "--bare"), (*BY_N, "--quiet", "--summary")]:
+            for name, file in [("good", GOOD), ("bad", BAD), ("mixed", MIXED), ("empty", EMPTY), ("cut", CUT)]:
+                many, given = run(*words, file, MISSING), file.read_bytes()
+                one = run(*words, "-H", file)
+                self.same(f"{name}, {words[2:]}", one.out, many.out)
+                self.same(f"{name}, {words[2:]}, as standard input", run(*words, "-", "-H", given=given).out,
+                          one.out.replace(str(file).encode(), b"-"))
+                self.same(f"{name}, {words[2:]}, where no file is named", run(*words, "-H", given=given).out,
+                          one.out.replace(str(file).encode(), b"-"))
+        self.same("several files have names anyhow", run(*BY_N, "-H", GOOD, BAD), run(*BY_N, GOOD, BAD))
+        self.same("a filter's bad lines", run(*BY_N, "--filter", "-H", given=ODD).err,
+                  lines("-: 1 bad V3 Misaligned at=7 object=0 field=- reads=3"))
+        self.same("a fault of standard input has no name", run(*BY_N, "-H", given=SEVEN + SEVEN[:-1]), failed(
+            "stream: S2 Truncated held=31", "-: 1 ok tables=1 depth=1 reads=5"))
+        self.same("that of the file - has", run(*BY_N, "-H", "-", given=SEVEN + SEVEN[:-1]), failed(
+            "-: stream: S2 Truncated held=31", "-: 1 ok tables=1 depth=1 reads=5"))
+        self.same("as JSON", run(*BY_N, "-H", "--json", given=SEVEN).out,
+                  lines('{"file":"-","message":1,"ok":true,"tables":1,"depth":1,"reads":5}'))
+        self.same("twice", run(*BY_N, "-H", "-H", given=SEVEN).status, 2)
 
     def test_several_files(self):
         self.same("good and bad", run(*BY_N, GOOD, BAD), Ran(1, lines(
@@ -220,7 +245,8 @@ class Files(Case):
 
     def test_what_is_wrong_before_any_file(self):
         for name, words, want in [
-            ("no schema", ("--schema", "/dev/null"), refused("schema: L1 V2 OutOfBuffer at=4 object=9 field=- reads=0")),
+            ("no schema", ("--schema", "/dev/null"),
+             schemaless("L1 V2 OutOfBuffer at=4 object=9 field=- reads=0", "/dev/null", NO_BYTES)),
             ("no root", (*BY_N, "--root", "Q"), rootless("Q", "N")),
         ]:
             self.same(name, run(*words, GOOD, MISSING), want)

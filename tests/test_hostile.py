@@ -8,7 +8,7 @@ import subprocess
 
 from tests.support.builder import messages_of
 from tests.support.cases import Case
-from tests.support.program import TOP, bad, file_of, good, loaded, refused, run
+from tests.support.program import FOLDER, TOP, bad, file_of, good, loaded, run, schemaless
 
 HOSTILE = loaded(TOP / "bench/hostile")
 
@@ -105,7 +105,7 @@ class Hostile(Case):
 
     def test_good_schema_files(self):
         """Those of "equal names" have two fields of one name, which is found when all names are in order."""
-        twice = refused("schema: L2 C8 NameTwice owner=0 part=1")
+        twice = schemaless("L2 C8 NameTwice owner=0 part=1", FOLDER / "shape.bfbs")
         for shape in HOSTILE.FILES:
             made = shape.made(512 if shape.name == "shared values" else 1024)
             ran = run("--schema", file_of("shape.bfbs", made))
@@ -131,8 +131,8 @@ class Hostile(Case):
     def test_the_length_of_a_file_pays_for_its_rows_and_names(self):
         """300 objects of 300 fields are 90,300 rows: 65,536, and one for each four of 99,056 bytes. 32 times as many
         bytes of names are 1,048,576, and 16 for each of 115,064 bytes."""
-        paid = refused("schema: L2 C4 BadSlot owner=0 part=0")
-        shared = refused("schema: L6 TooMuchShared")
+        path = FOLDER / "shared.bfbs"
+        paid, shared = schemaless("L2 C4 BadSlot owner=0 part=0", path), schemaless("L6 TooMuchShared", path)
         for name, size, want in [(1, 99_056, paid), (1, 99_055, shared), (32, 115_064, paid), (32, 115_063, shared)]:
             ran = run("--schema", file_of("shared.bfbs", shared_file(300, name, size)))
             self.same(f"names of {name} in {size} bytes", ran, want)
@@ -148,4 +148,4 @@ class Hostile(Case):
         """Its budget is the default one, whatever the words say of buffers."""
         path = file_of("costly.bfbs", HOSTILE.texts_of_objects(8 * OBJECTS))
         self.same("a schema file past its budget", run("--schema", path, "--reads-per-byte", "4294967295"),
-                  refused(f"schema: L1 V13 TooManyReads at={LINE} object=5 field=6 reads=10249282"))
+                  schemaless(f"L1 V13 TooManyReads at={LINE} object=5 field=6 reads=10249282", path))

@@ -11,13 +11,14 @@ from tests.support.library import LibraryCase
 from tests.support.program import FOLDER, PROGRAM, TOP, run
 
 PAGES = ("README.md", "CHANGELOG.md", "docs/*.md", "bindings/*/README.md", "bindings/node/index.d.ts",
-         "bench/compare.svg", "examples/deliveries.*", "examples/c/*")
+         "bench/compare.svg", "examples/deliveries.*", "examples/c/*", "examples/split", "examples/engines/*")
 PLACES = {
     "bin/fbcheck": 0o755,
     "share/man/man1/fbcheck.1": 0o644,
     "share/bash-completion/completions/fbcheck": 0o644,
     "share/zsh/site-functions/_fbcheck": 0o644,
-    **{f"share/doc/fbcheck/{page.relative_to(TOP)}": 0o644 for pages in PAGES for page in sorted(TOP.glob(pages))},
+    **{f"share/doc/fbcheck/{page.relative_to(TOP)}": 0o755 if page.stat().st_mode & 0o100 else 0o644
+       for pages in PAGES for page in sorted(TOP.glob(pages))},
     "include/fbcheck.h": 0o644,
     "include/fbcheck.hpp": 0o644,
     "lib/libfbcheck.a": 0o644,
@@ -48,7 +49,7 @@ def packages():
 
 def options():
     """The long options of the program, as its help has them."""
-    return re.findall(r"^ +(?:-[hV], )?(--[a-z-]+)", run("--help").out.decode(), re.M)
+    return re.findall(r"^ +(?:-[hHV], )?(--[a-z-]+)", run("--help").out.decode(), re.M)
 
 
 def reasons():
@@ -181,7 +182,7 @@ class Install(LibraryCase):
 
     def test_the_page(self):
         told = PAGE.replace(r"\-", "-").split(".SH OPTIONS")[1].split(".SH LINES")[0]
-        known = re.findall(r"^\.TP\n\.B[IR]? (?:-[hV] \", \" )?(--[a-z-]+)", told, re.M)
+        known = re.findall(r"^\.TP\n\.B[IR]? (?:-[hHV] \", \" )?(--[a-z-]+)", told, re.M)
         self.same("the page has each option in the order of help", known, options())
         page = plain(PAGE)
         for reason in reasons():
@@ -224,5 +225,5 @@ class Install(LibraryCase):
         self.same("and files alone behind --", completed(folder, "--bare", "--", "-"), ["-x.bin"])
         zsh = (TOP / "completions/_fbcheck").read_text()
         self.same("zsh knows each option", re.findall(r"(--[a-z-]+)=?(?:\[|\})", zsh), options())
-        valued = re.findall(r"^ +(?:-[hV], )?(--[a-z-]+) <", run("--help").out.decode(), re.M)
+        valued = re.findall(r"^ +(?:-[hHV], )?(--[a-z-]+) <", run("--help").out.decode(), re.M)
         self.same("and which have a value, behind an equals sign too", re.findall(r"(--[a-z-]+)=\[", zsh), valued)

@@ -14,7 +14,7 @@ import zipfile
 from tests.support.buffers import POST
 from tests.support.builder import Plain, buffer, prefixed
 from tests.support.cases import Case
-from tests.support.program import TOP, Ran, astray, failed, file_of, lines, run
+from tests.support.program import NO_SCHEMA, TOP, Ran, astray, failed, file_of, lines, run
 
 EXAMPLES = TOP / "examples"
 SCHEMA = EXAMPLES / "deliveries.bfbs"
@@ -84,15 +84,17 @@ CALLS = {
     "`--bare` it's `V2` at 559903": [(BY_POST, piped(POST))],
     "a file compressed with `zstd`": [(BY_POST, by_zstd(POST))],
     "a file compressed with `zip`": [(BY_POST, zipped(POST))],
-    "big-endian prefixes, as Java and networks have them": [(BY_POST, turned(POST))],
+    "big-endian prefixes, as Java and networks have them; also S2, or an ok before": [(BY_POST, turned(POST))],
     "a message behind the five bytes of gRPC (a zero, and its size in big-endian)": [(BY_POST, framed(FIRST))],
     "the same with a message below 256 bytes; from 1,024 on it is `S1 Oversize`": [(BY_POST, framed(SECOND))],
     "a bare buffer as a stream: what follows its first four bytes is taken for an offset": [((), BARE)],
-    "with `--bare` a message that has its prefix, which is taken for an offset": [
+    "with `--bare` a message that has its prefix, which is taken for an offset; rarely ok": [
         ((*BY_POST, "--bare"), FIRST), ((*BY_POST, "--bare"), POST)
     ],
     "a prefix before a message that has one already": [(BY_POST, prefixed(FIRST))],
-    "a prefix put before a finished bare buffer, so that all positions moved by four": [((), prefixed(BARE))],
+    "a prefix put before a finished bare buffer (a dump of a socket), so that all positions moved by four": [
+        ((), prefixed(BARE))
+    ],
     "with `--bare` a message whose prefix was taken off": [((*BY_POST, "--bare"), FIRST[4:])],
     "no `--schema`, so that the messages are checked as schema files, whose tables are `object=0` to `9`; often `V9 "
     "MissingRequired`": [((), POST)],
@@ -115,20 +117,25 @@ class Mistakes(Case):
         for line, given in rows():
             for words, stream in CALLS.get(given, []):
                 ran = run(*words, given=stream)
-                told = re.split("; this looks|; no good", (ran.out + ran.err).decode().splitlines()[0])[0]
+                told = re.split(" in |; no good", (ran.out + ran.err).decode().splitlines()[0])[0]
                 self.same(f"{given}: {words}", told, line)
 
     def test_what_is_told_behind_them(self):
         refused = "fbcheck: schema: L1 V5 WrongIdentifier at=4 object=9 field=- reads=1"
         rootless = "fbcheck: no root table post.Spot; tables: post.Delivery post.Letter post.Parcel post.Person"
+        bare = file_of("bare.bin", FIRST[4:])
         text = "this looks like a schema's text (.fbs): flatc --binary --schema makes the .bfbs"
         for words, want in [
-            (["--schema", EXAMPLES / "deliveries.fbs"], f"{refused}; {text}"),
-            (["--schema", EXAMPLES / "deliveries.jsonl"], f"{refused}; this looks like JSON"),
-            (["--schema", EXAMPLES / "deliveries.bin"], refused),
+            (["--schema", EXAMPLES / "deliveries.fbs"], f"{refused} in {EXAMPLES}/deliveries.fbs; {text}"),
+            (["--schema", EXAMPLES / "deliveries.jsonl"],
+             f"{refused} in {EXAMPLES}/deliveries.jsonl; this looks like JSON"),
+            (["--schema", EXAMPLES / "deliveries.bin"], f"{refused} in {EXAMPLES}/deliveries.bin; {NO_SCHEMA}"),
+            (["--schema", bare], f"{refused} in {bare}; its file identifier is POST, where a .bfbs has BFBS"),
             ([*BY_POST, "--root", "post.Spot"], rootless),
-            ([*BY_POST, "--path", "too.name"], "fbcheck: path: P2 NoSuchField step=0; fields: id to from first_type first "
-             "items_type items route stamps notes .."),
+            ([*BY_POST, "--path", "too.name"], "fbcheck: path: P2 NoSuchField step=0; did you mean to?; fields: id to from "
+             "first_type first items_type items route stamps notes .."),
+            ([*BY_POST, "--path", "items[0]@parcel"], "fbcheck: path: P5 NoSuchMember step=2; this union's members: "
+             "Parcel Letter Place Note"),
         ]:
             ran = run(*words, given=POST)
             self.same(str(words), (ran.status, ran.out, ran.err.decode()), (2, b"", f"{want}\n"))

@@ -11,7 +11,8 @@ from tests.support.builder import Plain, buffer, changed, prefixed, spelled
 from tests.support.cases import Case
 from tests.support.preloaded import ALONE, WITH_LATER, Plan, is_front, narrowed, refusing
 from tests.support.program import (
-    PROGRAM, SECONDS, Ran, Talk, astray, bad, failed, file_of, good, lines, refused, run, run_in_shell, run_starved,
+    NO_BYTES, PROGRAM, SECONDS, Ran, Talk, astray, bad, failed, file_of, good, lines, refused, run, run_in_shell,
+    run_starved, schemaless,
 )
 from tests.support.schemas import (
     INT, LONG, TEXT, U_TYPE, a_struct, a_union, an_object, field, schema, table, union, vector,
@@ -519,4 +520,4 @@ class Names(Case):
         self.same("a filter with it takes no path all the same", run(*BY_N, "--filter", "--path", "v", given=SEVEN),
                   refused("a filter takes no path"))
         self.same("a schema file's fault has no place", run("--schema", "/dev/null", "--names", given=SEVEN),
-                  refused("schema: L1 V2 OutOfBuffer at=4 object=9 field=- reads=0"))
+                  schemaless("L1 V2 OutOfBuffer at=4 object=9 field=- reads=0", "/dev/null", NO_BYTES))

@@ -9,7 +9,7 @@ from tests.support.buffers import ASKEW, MEMBER, ODD_MEMBER, ORC, PLAIN, SEVEN, 
 from tests.support.builder import changed, prefixed, spelled
 from tests.support.cases import Case
 from tests.support.program import (
-    SECONDS, TOP, Ran, astray, bad, failed, fieldless, file_of, good, refused, rootless, run,
+    FOLDER, SECONDS, TOP, Ran, astray, bad, failed, fieldless, file_of, good, refused, rootless, run, schemaless,
 )
 
 FILES = schemas.files()
@@ -306,7 +306,7 @@ class Options(Case):
              good("1 ok tables=1 depth=1 reads=7")),
             ("the schema file is aligned all the same",
              ["--schema", file_of("askew.bfbs", b"\x19" + schemas.M[1:]), "--no-alignment"], b"",
-             refused("schema: L1 V3 Misaligned at=25 object=9 field=- reads=2")),
+             schemaless("L1 V3 Misaligned at=25 object=9 field=- reads=2", FOLDER / "askew.bfbs")),
         ])
 
     def test_all_options_together(self):

@@ -89,7 +89,7 @@ class Values(Case):
                   refused("path: P2 NoSuchField step=0 in x; fields: hp name"))
         self.same("and not the one behind it",
                   run(*both[:3], "--path", "hp", "--path", "name[0]", "--path", "x", given=ORC),
-                  refused("path: P3 NotIndexable step=1 in name[0]"))
+                  refused("path: P3 NotIndexable step=1 in name[0]; this is a string"))
 
     def test_values_of_a_schema_file(self):
         for path, want in [

@@ -31,6 +31,11 @@ if not os.access(PROGRAM, os.X_OK):
     print(f"no program at {PROGRAM}: ./build fbcheck builds it", file=sys.stderr)
 
 
+# What is told of a schema file that is empty, and of one that is none.
+NO_BYTES = "this is empty"
+NO_SCHEMA = "this is no binary schema, which flatc --binary --schema makes"
+
+
 class Ran(typing.NamedTuple):
     """How a run ended, and what it wrote."""
 
@@ -101,9 +106,16 @@ def rootless(name, *tables):
     return refused(f"no root table{'' if name is None else ' ' + name}; tables:{listed(tables)}")
 
 
-def fieldless(*fields, step=0):
-    """A run with a path of which this step's name is no field of the table or struct there, which has these."""
-    return refused(f"path: P2 NoSuchField step={step}; fields:{listed(fields)}")
+def fieldless(*fields, step=0, meant=""):
+    """A run with a path of which this step's name is no field of the table or struct there, which has these, and maybe
+    one that may have been meant."""
+    asked = meant and f"; did you mean {meant}?"
+    return refused(f"path: P2 NoSuchField step={step}{asked}; fields:{listed(fields)}")
+
+
+def schemaless(text, path, look=""):
+    """A run whose schema file, the one of this path, gives no schema: why, and what it is where that is told."""
+    return refused(f"schema: {text} in {path}{look and '; ' + look}")
 
 
 def failed(text, *before):

@@ -18,4 +18,5 @@ pub mod Bare
 pub mod Run
 pub mod Prompt
 pub mod Faults
+pub mod FaultText
 pub mod FilterLaws

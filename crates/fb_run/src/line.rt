@@ -7,7 +7,9 @@ ghost use Rattle.fb_run.specs.Line.{field_text, no_text, numbers_text, short_lin
 use crate::checker::{Found, Wrong};
 use fb_verify::{Fault, Report};
 use itoa::{Buffer, write_digits};
+use std::fmt;
 use std::marker::Model;
+use std::str::from_utf8;
 
 /// More bytes than the longest line has, but for a value, and more than the summary.
 const ROOM: usize = 640;
@@ -39,6 +41,16 @@ impl Line {
             room: [0; ROOM],
             start: ROOM,
         }
+    }
+
+    /// The line of this text.
+    pub fn of(text: &str) -> Line
+        requires { length text.now ≤ ROOM }
+        ensures { result ≡ text.now }
+    {
+        let mut line = Line::new();
+        line.put_text(text);
+        line
     }
 
     /// The bytes of the line.
@@ -110,7 +122,7 @@ impl Line {
     }
 
     /// Where in the schema a no is, and its reads.
-    fn put_place(&mut self, fault: &Fault)
+    pub fn put_place(&mut self, fault: &Fault)
         requires empty { self.old ≡ [] }
         ensures text { self.new ≡ numbers_text fault.now }
         ensures short { length self.new ≤ 103 }
@@ -161,6 +173,15 @@ impl Line {
         match field {
             Some(number) => self.put_number(u64::from(number)),
             None => self.put_text("-"),
+        }
+    }
+}
+
+impl fmt::Display for Line {
+    fn fmt<W: fmt::Write>(&self, f: &mut fmt::Formatter<W>) -> fmt::Result {
+        match from_utf8(self.bytes()) {
+            Ok(text) => f.write_str(text),
+            Err(_) => Err(fmt::Error),
         }
     }
 }

@@ -246,6 +246,16 @@ slots_even rows legal k i f e =
     let p = row_of rows legal k i f e in
     subst (λ s. s % 2 ≡ 0) (sym (ap (λ (x : Live). x.slot) p.same)) (row_slot rows legal k i p.object p.field p.row).0
 
+-- the slot of a field follows from its number
+numbered : (s n : ℕ) → s % 2 ≡ 0 → 4 ≤ s → n ≡ (s - 4) / 2 → s ≡ 2 * n + 4
+numbered s n e l h = omega arith
+
+slot_numbered : (rows : Rows) → IsLegal rows → (k i : ℕ) (f : Live) → slice_get (live_fields rows k) i ≡ Some f → f.slot ≡ 2 * f.number + 4
+slot_numbered rows legal k i f e =
+    let p = row_of rows legal k i f e in
+    let s = row_slot rows legal k i p.object p.field p.row in
+    ap (λ (x : Live). x.slot) p.same ∙ numbered (p.field).slot f.number s.0 s.1 (ap (λ (x : Live). x.number) p.same)
+
 same_number : (a b : ℕ) → a % 2 ≡ 0 → 4 ≤ a → b % 2 ≡ 0 → 4 ≤ b → (a - 4) / 2 ≡ (b - 4) / 2 → a ≡ b
 same_number a b e l f m h = omega arith
 
@@ -273,6 +283,7 @@ served_by rows legal few = record {
   sized = field_sized rows;
   rising = fields_rise rows legal;
   even = slots_even rows legal;
+  slots = slot_numbered rows legal;
   numbers = numbers_apart rows legal;
   members = member_holds rows legal;
   parts = parts_fit rows legal;

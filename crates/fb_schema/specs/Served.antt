@@ -1,5 +1,5 @@
 -- What the rows of a schema give a reader of buffers.
-use Rattle.std.specs.Prelude.{◌≡◌, ℕ, ◌+◌, ◌%◌, ◌<◌, ◌≤◌, List, length, slice_get, Option, Some, IsTrue}
+use Rattle.std.specs.Prelude.{◌*◌, ◌≡◌, ℕ, ◌+◌, ◌%◌, ◌<◌, ◌≤◌, List, length, slice_get, Option, Some, IsTrue}
 use Rattle.fb_schema.specs.declared.kinds.Kind.{Kind}
 use Rattle.fb_schema.specs.declared.kinds.Kind.TheVariants.{Scalar, Text, Struct, Table, Union, Scalars, Texts, Structs, Tables, Unions}
 use Rattle.fb_schema.specs.declared.kinds.Scalar.TheVariants.{UType}
@@ -58,6 +58,7 @@ pub record IsServed (rows : Rows) : Type 0 where
   pub sized : (k i : ℕ) (f : Live) → slice_get (live_fields rows k) i ≡ Some f → IsSized rows f
   pub rising : (k i j : ℕ) (f g : Live) → slice_get (live_fields rows k) i ≡ Some f → slice_get (live_fields rows k) j ≡ Some g → i < j → f.slot < g.slot
   pub even : (k i : ℕ) (f : Live) → slice_get (live_fields rows k) i ≡ Some f → f.slot % 2 ≡ 0
+  pub slots : (k i : ℕ) (f : Live) → slice_get (live_fields rows k) i ≡ Some f → f.slot ≡ 2 * f.number + 4
   pub numbers : (k i j : ℕ) (f g : Live) → slice_get (live_fields rows k) i ≡ Some f → slice_get (live_fields rows k) j ≡ Some g → f.number ≡ g.number → i ≡ j
   pub members : (e value : ℕ) → MemberHolds rows (member_of rows e value)
   pub parts : (k i : ℕ) (part : PartView) → part_at rows k i ≡ Some part → PartFits rows (struct_size rows k) part part.kind

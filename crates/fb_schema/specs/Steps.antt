@@ -40,9 +40,19 @@ bit_of Vector = 32
 bit_of Inline = 64
 bit_of Other = 128
 
+-- the bits of a field of this kind: that of its act, and one more where it leads to one table
+abbrev pub bits_of : Live → Kind → ℕ
+bits_of f (Table k) = 384
+bits_of f kind = bit_of (act_of f kind)
+
+-- what its step says of sizes: the object of the one table that it leads to, or the size of its elements or its own
+abbrev pub size_of : Live → Kind → ℕ
+size_of f (Table k) = k
+size_of f kind = f.size
+
 -- the step of a field
 abbrev pub step_of : Live → Step
-step_of f = record { act = act_of f f.kind; required = f.required; slot = f.slot; bit = bit_of (act_of f f.kind); size = f.size; align = f.align }
+step_of f = record { act = act_of f f.kind; required = f.required; slot = f.slot; bit = bits_of f f.kind; size = size_of f f.kind; align = f.align }
 
 -- what leads to no table
 abbrev pub is_plain_act : Act → Bool

@@ -8,6 +8,9 @@ use crate::kinds::Kind;
 use crate::views::{Act, FieldView, Step};
 use std::alloc::{AllocError, Allocator};
 
+/// The bit of a field that leads to one table.
+const TABLE: u32 = 256;
+
 /// What to do at a scalar or struct of this size and alignment.
 fn inline_act(size: u32, align: u32) -> Act
     ensures { result ≡ inline_act size align }
@@ -78,12 +81,16 @@ fn step_of(field: &FieldView<'_>) -> Step
     ensures { result ≡ step_of (live_of_view field.now) }
 {
     let act = act_of(field);
+    let (bit, size) = match field.kind {
+        Kind::Table(object) => (TABLE | bit_of(act), object),
+        _ => (bit_of(act), field.size),
+    };
     Step {
         act,
-        bit: bit_of(act),
+        bit,
         required: field.required,
         slot: field.slot,
-        size: field.size,
+        size,
         align: field.align,
     }
 }

@@ -84,8 +84,9 @@ pub struct Target {
 }
 
 /// A live field of a table in a few bytes: what a reader passes it by. `slot`, `size`, `align` and `required` are those
-/// of its [`FieldView`]. `bit` is a bit of its act, so that several acts are asked at once; of a scalar or struct of 1,
-/// 2, 4 or 8 bytes it is their number.
+/// of its [`FieldView`], but for the `size` of a field that leads to one table, which is the number of its object.
+/// `bit` is a bit of its act, so that several acts are asked at once; of a scalar or struct of 1, 2, 4 or 8 bytes it is
+/// their number, and what leads to one table has the bit 256 beside.
 #[derive(Clone, Copy, Debug, PartialEq, Eq)]
 pub struct Step {
     pub act: Act,

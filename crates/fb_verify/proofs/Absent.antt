@@ -87,13 +87,13 @@ module _ (c : Checks) (b : List ℕ) (S : Rows) (t : ℕ) (f : Live) (past : has
 no_slot : (size o : ℕ) → size < o + 2 → nat_le (o + 2) size ≡ false
 no_slot size o h = grind (arith, nat_tests)
 
-module _ (c : Checks) (b : List ℕ) (S : Rows) (L : Bounds) (s : Origin) (below : List Frame) (top : Frame) (n d r : ℕ) (h : IsUnderWay c b S L s below top n d r) where
+module _ {c : Checks} {b : List ℕ} {S : Rows} {L : Bounds} {s : Origin} {below : List Frame} {top : Frame} {n d r : ℕ} (h : IsUnderWay c b S L s below top n d r) where
   abbrev fields : List Live
   fields = live_fields S (top.table).object
 
   -- the top, with this field next
   abbrev top_at : ℕ → Frame
-  top_at i = record { table = top.table; next = i; number = top.number; row = top.row }
+  top_at i = record top { next = i }
 
   module _ (rests : (top.row).left ≡ 0) (field : Live) (here : slice_get fields top.next ≡ Some field) (past : vtable_size b (top.table).at < field.slot + 2) where
     past_from : (i : ℕ) (f : Live) → top.next ≤ i → slice_get fields i ≡ Some f → field.slot ≤ f.slot
@@ -116,7 +116,7 @@ module _ (c : Checks) (b : List ℕ) (S : Rows) (L : Bounds) (s : Origin) (below
           let none = no_slot_from i x low f in
           let may = free i x low (omega (arith, e)) f in
           passed_from m (i + 1) (omega (arith, e)) (omega (arith, low))
-          (field_skipped c b S L s below (top_at i) n d r g x blank.row top.number r rests f (omega (arith, bare_reads b t x none)) (no_row c b S) g.reads refl (absent_holds c b S t x none may)
+          (field_skipped g x blank.row top.number r rests f (omega (arith, bare_reads b t x none)) (no_row c b S) g.reads refl (absent_holds c b S t x none may)
           (absent_leads c b S t x none may ∙ sym (row_none b S blank.row refl)))
 
       -- the table's fields before that one are passed

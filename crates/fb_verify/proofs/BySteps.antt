@@ -14,7 +14,7 @@ use Rattle.fb_verify.specs.PassesOn.{IsBetween, HasRoom, EndsBehind, PassesOn, C
 use Rattle.fb_verify.proofs.Budgets.{fewer_reads}
 use Rattle.fb_verify.proofs.Frames.{slot_few}
 use Rattle.fb_verify.proofs.Plains.{plain_few}
-use Rattle.fb_verify.proofs.Passing.{AtStep, next_within, leads_open, same_slot, step_passed, step_stops, at_field, told_grows}
+use Rattle.fb_verify.proofs.Passing.{AtStep, next_within, leads_open, same_slot, step_passed, step_stops, at_field, told_grows, stops_here}
 
 -- The first that is left of a list stands at its place, and the others are left behind it.
 pub first_left : {A : Type 0} (xs : List A) (i : ℕ) (x : A) (more : List A) → x ∷ more ≡ drop i xs → slice_get xs i ≡ Some x
@@ -63,21 +63,7 @@ module _ {w : Walk} {start m : Lent} {under : Waiting} {first : Frame} {next : �
   to_fault reason e =
       let within = next_within h in
       let room = fewer_reads (w.limits).reads (m.count + 6) (start.count + 6 * fields_left w.schema.now first) (omega (arith, g.paid, within)) (g.room).allowed in
-      record {
-        walking = tt;
-        field = tt;
-        open-field = tt;
-        same = refl;
-        forth = tt;
-        within = tt;
-        all = tt;
-        ends = tt;
-        paid = tt;
-        grows = omega (arith, told_grows _ e.told, g.grows);
-        bytes = e.bytes ∙ g.bytes;
-        next = omega (arith, within);
-        err = λ stop is. rw g.bytes at (step_stops h e.plain at m.count new.count (Some reason) e.told refl refl room stop is);
-      }
+      stops_here refl (omega (arith, within)) (omega (arith, told_grows _ e.told, g.grows)) (e.bytes ∙ g.bytes) (λ stop is. rw g.bytes at (step_stops h e.plain at m.count new.count (Some reason) e.told refl refl room stop is))
 
   -- to one that is there and may lead to a table
   to_field : StepLeads m new t step at → PassesOn w start new under first top at (Ok true)

@@ -21,7 +21,7 @@ use Rattle.fb_verify.specs.Cost.{slot_reads, reads_if_present, lead_reads}
 use Rattle.fb_verify.specs.WellFormed.{base, prefix_reads, ident_reads, start_reads}
 use Rattle.fb_verify.specs.Stops.{reads_failure, lead_reads_failure}
 use Rattle.fb_verify.specs.Order.{Failure, check, after, ◌▷◌, prefix_failure, ident_failure, offset_failure, start_failure, head_failure, string_failure, vector_failure, inline_failure, table_failure, inline_field_failure, vector_field_failure, unions_field_failure, union_field_failure, present_failure, failure_at, own_failure, lead_failure, element_failure}
-use Rattle.fb_verify.proofs.Price.{few_if_present, slot_price}
+use Rattle.fb_verify.proofs.Frames.{if_present_few, slot_few}
 
 -- the reads of chains that fail
 
@@ -111,14 +111,14 @@ module _ (c : Checks) (b : List ℕ) where
     present_most t f p Text = more 0 5 _ (omega arith) (table_most t p 4)
     present_most t f p (Table k) = more 0 5 _ (omega arith) (table_most t p 4)
     present_most t f p (Union e) =
-        let n = few_if_present 1 (type_place b t f.slot) in
+        let n = if_present_few 1 (type_place b t f.slot) in
         more _ 5 _ (omega arith) (later (1 + reads_if_present 1 (type_place b t f.slot)) 0 _ (union_field_most t p (member_of S e (union_type b (type_place b t f.slot)))))
     present_most t f p (Scalars s) = more 2 5 _ (omega arith) (vector_field_most t p f.size f.align)
     present_most t f p (Structs k) = more 2 5 _ (omega arith) (vector_field_most t p f.size f.align)
     present_most t f p Texts = more 2 5 _ (omega arith) (vector_field_most t p 4 4)
     present_most t f p (Tables k) = more 2 5 _ (omega arith) (vector_field_most t p 4 4)
     present_most t f p (Unions e) =
-        let n = few_if_present 2 (type_place b t f.slot) in
+        let n = if_present_few 2 (type_place b t f.slot) in
         more _ 5 _ (omega arith) (later (1 + reads_if_present 2 (type_place b t f.slot)) 2 _ (unions_field_most t p (type_place b t f.slot)))
 
     at_most : (t : ℕ) (f : Live) (place : Option ℕ) → AtMost 5 (failure_at c b S t f place)
@@ -128,7 +128,7 @@ module _ (c : Checks) (b : List ℕ) where
 
     pub own_most : (t : ℕ) (f : Live) → AtMost 6 (own_failure c b S t f)
     unfolding own_failure
-    own_most t f = more _ 6 _ (omega (arith, slot_price c b S t f.slot)) (later (slot_reads b t f.slot) 5 _ (at_most t f (field_place b t f.slot)))
+    own_most t f = more _ 6 _ (omega (arith, slot_few b t f.slot)) (later (slot_reads b t f.slot) 5 _ (at_most t f (field_place b t f.slot)))
 
   lead_most : (p : ℕ) (lead : Lead) → AtMost (lead_reads lead) (lead_failure c b p lead)
   unfolding AtMost

@@ -1,5 +1,5 @@
 -- A table whose fields lead to no table is passed whole.
-use Rattle.std.proofs.Common.{◌≡◌, ℕ, ◌+◌, ◌*◌, ◌^◌, ◌<◌, ◌≤◌, IsTrue, nat_lt, Bool, true, false, List, length, option_map, refl, sym, ◌∙◌, ap, arith, Option, Some, None, Ok, Err}
+use Rattle.std.proofs.Common.{◌≡◌, ℕ, ◌+◌, ◌*◌, ◌^◌, ◌<◌, ◌≤◌, IsTrue, nat_lt, Bool, true, false, List, length, option_map, refl, sym, ◌∙◌, ap, arith, Option, Some, None, Result, Ok, Err}
 use Rattle.std.proofs.lemmas.Bool.Decides.{nat_tests}
 use Rattle.std.proofs.lemmas.Option.{slice_get-map}
 use Rattle.fb_bytes.specs.Word.{Lent}
@@ -43,13 +43,18 @@ never_on {w} {m} {new} {under} {top} {past} plain same e =
     let f = slice_get_some fs past.next (rw same at (e.field refl).within) in
     never_leads fs past.next (step_of f.0) plain (slice_get-map step_of fs past.next ∙ ap (option_map step_of) f.1) (e.open-field refl f.0 f.1)
 
--- its head holds, and its fields were passed
+-- why passing fields failed
+abbrev pub reason_of : Result Bool Reason → Option Reason
+reason_of (Ok more) = None
+reason_of (Err reason) = Some reason
+
+-- its head holds, and its fields were passed, or one fails
 module _ (w : Walk) (m mid new : Lent) (under : Waiting) (table : Table) (next at : ℕ) (bytes : mid.bytes ≡ m.bytes) (least : m.count ≤ mid.count) (most : mid.count ≤ m.count + 3)
     (few : length (live_fields w.schema.now table.object) < 2 ^ 32) where
-  pub flat_passed : PassesOn w mid new under (opened table) (record (opened table) { next = next }) at (Ok false) → PassesFlat w m new under table.object table.at next at None
-  flat_passed e = record {
-    walking = λ _ rest above is.
-        (table_closed w.checks new.bytes w.schema.now w.limits under.start under.frames (record (opened table) { next = next }) w.tables w.deepest new.count (e.walking refl) rest above is refl (e.all refl));
+  pub flat_came : is_plain w.schema.now table.object ≡ true → (r : Result Bool Reason) → PassesOn w mid new under (opened table) (record (opened table) { next = next }) at r → PassesFlat w m new under table.object table.at next at (reason_of r)
+  flat_came plain (Ok true) e = absurd (never_on plain refl e)
+  flat_came plain (Ok false) e = record {
+    walking = λ _ rest above is. (table_closed (e.walking refl) rest above is refl (e.all refl));
     paid = λ _. omega (arith, e.ends refl, most);
     grows = omega (arith, e.grows, least);
     bytes = e.bytes ∙ bytes;
@@ -57,15 +62,7 @@ module _ (w : Walk) (m mid new : Lent) (under : Waiting) (table : Table) (next a
     within = λ _. tt;
     field = λ _. tt;
   }
-
-  -- whatever was told of them
-  pub flat_over : is_plain w.schema.now table.object ≡ true → (more : Bool) → PassesOn w mid new under (opened table) (record (opened table) { next = next }) at (Ok more) → PassesFlat w m new under table.object table.at next at None
-  flat_over plain true e = absurd (never_on plain refl e)
-  flat_over plain false e = flat_passed e
-
-  -- or one fails
-  pub flat_fails : (reason : Reason) → PassesOn w mid new under (opened table) (record (opened table) { next = next }) at (Err reason) → PassesFlat w m new under table.object table.at next at (Some reason)
-  flat_fails reason e = record {
+  flat_came plain (Err reason) e = record {
     walking = λ x. absurd cc;
     paid = λ x. absurd cc;
     grows = omega (arith, e.grows, least);
@@ -76,7 +73,7 @@ module _ (w : Walk) (m mid new : Lent) (under : Waiting) (table : Table) (next a
   }
 
 -- The first word that is left of a row of words to tables of one object.
-module _ (w : Walk) (b : List ℕ) (start : Origin) (below : List Frame) (top : Frame) (r : ℕ) (h : IsUnderWay w.checks b w.schema.now w.limits start below top w.tables w.deepest r)
+module _ (w : Walk) {b : List ℕ} {start : Origin} {below : List Frame} {top : Frame} {r : ℕ} (h : IsUnderWay w.checks b w.schema.now w.limits start below top w.tables w.deepest r)
     (k : ℕ) (leads : (top.row).leads ≡ All (ATable k)) (more : 0 < (top.row).left) where
   abbrev S : Rows
   S = w.schema.now
@@ -86,18 +83,18 @@ module _ (w : Walk) (b : List ℕ) (start : Origin) (below : List Frame) (top : 
 
   -- it leads to a table
   word_leads : to_table k ≡ word.lead
-  word_leads = all_lead w.checks b S w.limits start below top w.tables w.deepest r h (ATable k) leads
+  word_leads = all_lead h (ATable k) leads
 
   module _ (new : ℕ) (at : ℕ) (result : Option Reason) (told : tested_by at new result ≡ after r (lead_failure w.checks b (top.row).place (to_table k))) where
     pub word_tells : tested_by at new result ≡ after r (element_failure w.checks b word)
-    word_tells = all_told w.checks b S w.limits start below top w.tables w.deepest r h (ATable k) leads (tested_by at new result) told
+    word_tells = all_told h (ATable k) leads (tested_by at new result) told
 
     -- where it holds, the walk stands at that table
     pub at_flat : result ≡ None → IsTrue (is_table S k) → new ≡ r + 1 → at ≡ target b (top.row).place → at < 2 ^ 33
         → IsAtTable w b new start below top (r + 4 * (top.row).left) (record { object = k; at = at })
     at_flat none table paid is near = record {
       before = r;
-      count = omega (arith, paid, all_free w.checks b S w.limits start below top w.tables w.deepest r h (ATable k) leads, ap lead_reads (sym word_leads));
+      count = omega (arith, paid, all_free h (ATable k) leads, ap lead_reads (sym word_leads));
       walking = h;
       more = more;
       holds = (after_none r (element_failure w.checks b word)).0 (sym word_tells ∙ ap (tested_by at new) none);

@@ -1,10 +1,11 @@
 -- What frames keep, and what work is left to them.
-use Rattle.std.proofs.Common.{◌≡◌, ℕ, zero, suc, ◌+◌, ◌*◌, ◌^◌, ◌<◌, ◌≤◌, IsTrue, List, [], ◌∷◌, length, map, refl, sym, ◌∙◌, ap, subst, arith, Option, Some, None, Result, Ok, Err, IfErr}
+use Rattle.std.proofs.Common.{◌≡◌, ℕ, ◌+◌, ◌*◌, ◌^◌, ◌<◌, ◌≤◌, IsTrue, List, length, map, option_map, sym, ◌∙◌, ap, subst, arith, Option, Some, None, Result, Ok, Err, IfErr}
 use Rattle.std.specs.Prelude.{slice_get}
 use Rattle.std.specs.Result.{IsErrAnd}
 use Rattle.std.specs.Borrow.{Bor}
 use Rattle.std.specs.Slice.{IsItemAt}
-use Rattle.std.proofs.lemmas.Option.{slice_get-get_or}
+use Rattle.std.proofs.lemmas.List.{length-map}
+use Rattle.std.proofs.lemmas.Option.{slice_get-get_or, slice_get-map, slice_get_within}
 use Rattle.fb_schema.specs.declared.kinds.Kind.{Kind}
 use Rattle.fb_schema.specs.declared.kinds.Kind.TheVariants.{Scalar, Text, Struct, Table, Union, Scalars, Texts, Structs, Tables, Unions}
 use Rattle.fb_schema.specs.Rows.{Rows, is_table}
@@ -31,7 +32,7 @@ if_err_exit (Err e) x P h p = subst P (sym h) p
 
 -- Reads are few.
 
-lead_few : (lead : Lead) → lead_reads lead ≤ 3
+pub lead_few : (lead : Lead) → lead_reads lead ≤ 3
 lead_few (to_table k) = omega arith
 lead_few (to_struct size align) = omega arith
 lead_few to_string = omega arith
@@ -47,7 +48,7 @@ first_few b S r = word_few b S r.leads r.place
 pub head_few : (c : Checks) → head_reads c ≤ 3
 head_few c = grind arith
 
-if_present_few : (n : ℕ) (place : Option ℕ) → reads_if_present n place ≤ n
+pub if_present_few : (n : ℕ) (place : Option ℕ) → reads_if_present n place ≤ n
 if_present_few n None = omega arith
 if_present_few n (Some q) = omega arith
 
@@ -76,27 +77,14 @@ own_few b t f = omega (arith, slot_few b t f.slot, at_few b t f (field_place b t
 
 -- The fields that a schema lends are the live fields.
 
-get_map : {A B : Type 0} (f : A → B) (xs : List A) (i : ℕ) (x : A) → slice_get xs i ≡ Some x → slice_get (map f xs) i ≡ Some (f x)
-get_map f [] zero x h = absurd cc
-get_map f [] (suc i) x h = absurd cc
-get_map f (y ∷ xs) zero x h = let e : y ≡ x = cc in ap (λ z. Some (f z)) e
-get_map f (y ∷ xs) (suc i) x h = get_map f xs i x h
-
 pub field_at : {A B : Type 0} (f : A → B) (xs : List A) (ys : List B) (i : ℕ) (x : A) → map f xs ≡ ys → slice_get xs i ≡ Some x → slice_get ys i ≡ Some (f x)
-field_at f xs ys i x e h = rw e at (get_map f xs i x h)
-
-get_within : {A : Type 0} (xs : List A) (i : ℕ) (x : A) → slice_get xs i ≡ Some x → i < length xs
-get_within [] zero x h = absurd cc
-get_within [] (suc i) x h = absurd cc
-get_within (y ∷ xs) zero x h = omega arith
-get_within (y ∷ xs) (suc i) x h = omega (arith, get_within xs i x h)
+field_at f xs ys i x e h = rw e at (slice_get-map f xs i ∙ ap (option_map f) h)
 
 pub field_within : {A : Type 0} (xs : List A) (i : ℕ) (x : A) → slice_get xs i ≡ Some x → i + 1 ≤ length xs
-field_within xs i x h = omega (arith, get_within xs i x h)
+field_within xs i x h = omega (arith, slice_get_within xs i x h)
 
 pub length_map : {A B : Type 0} (f : A → B) (xs : List A) → length (map f xs) ≡ length xs
-length_map f [] = refl
-length_map f (x ∷ xs) = ap suc (length_map f xs)
+length_map f xs = length-map xs f
 
 -- what `get` lends of a slice
 pub item_some : {A : Type 0} (xs : List A) (i : ℕ) (r : Option (Bor A)) (x : Bor A) → IsItemAt xs i r → r ≡ Some x → slice_get xs i ≡ Some x.now
@@ -114,13 +102,13 @@ module _ (c : Checks) (b : List ℕ) (S : Rows) where
   pub row_types_near : (r : Row) → 0 < r.left → IsRow b S r → AreTypesNear r.leads
   row_types_near r m h = types_near r.left r.leads m (h.leads m)
 
-  pub frame_on : (fr : Frame) (row : Row) → row ≡ past_first fr.row → 0 < (fr.row).left → IsFrame c b S fr → IsFrame c b S (record { table = fr.table; next = fr.next; number = fr.number; row = row })
+  pub frame_on : (fr : Frame) (row : Row) → row ≡ past_first fr.row → 0 < (fr.row).left → IsFrame c b S fr → IsFrame c b S (record fr { row = row })
   frame_on fr row e l h = record { object = h.object; near = h.near; head = h.head; next = h.next; row = rw e (row_on b S fr.row l h.row) }
 
-  pub frame_passed : (fr : Frame) (number : ℕ) (row : Row) → fr.next + 1 ≤ length (live_fields S (fr.table).object) → IsRow b S row → IsFrame c b S fr → IsFrame c b S (record { table = fr.table; next = fr.next + 1; number = number; row = row })
+  pub frame_passed : (fr : Frame) (number : ℕ) (row : Row) → fr.next + 1 ≤ length (live_fields S (fr.table).object) → IsRow b S row → IsFrame c b S fr → IsFrame c b S (record fr { next = fr.next + 1; number = number; row = row })
   frame_passed fr number row i r h = record { object = h.object; near = h.near; head = h.head; next = i; row = r }
 
-  pub frame_next : (fr : Frame) → fr.next + 1 ≤ length (live_fields S (fr.table).object) → IsFrame c b S fr → IsFrame c b S (record { table = fr.table; next = fr.next + 1; number = fr.number; row = fr.row })
+  pub frame_next : (fr : Frame) → fr.next + 1 ≤ length (live_fields S (fr.table).object) → IsFrame c b S fr → IsFrame c b S (record fr { next = fr.next + 1 })
   frame_next fr i h = record { object = h.object; near = h.near; head = h.head; next = i; row = h.row }
 
   -- the row of a field that leads nowhere

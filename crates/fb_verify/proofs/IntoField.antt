@@ -1,9 +1,8 @@
 -- The walk goes into a field that may lead on, whose slot was the last read.
 use Rattle.std.proofs.Common.{◌≡◌, ℕ, ◌+◌, ◌-◌, ◌≤◌, List, [], refl, sym, ◌∙◌, ap, subst, arith, Option, Some, None}
-use Rattle.std.specs.Prelude.{slice_get}
 use Rattle.fb_bytes.specs.Word.{Lent}
 use Rattle.fb_schema.specs.Rows.{Rows}
-use Rattle.fb_schema.specs.Live.{Live, live_fields}
+use Rattle.fb_schema.specs.Live.{Live}
 use Rattle.fb_verify.specs.declared.checks.Checks.{Checks}
 use Rattle.fb_verify.specs.declared.table.Child.{Child}
 use Rattle.fb_verify.specs.declared.fault.Reason.{Reason}
@@ -21,11 +20,11 @@ use Rattle.fb_verify.specs.Fields.{entries_of, entries_at, entries}
 use Rattle.fb_verify.specs.OffsetRows.{words_of, IsRow, IsAskable}
 use Rattle.fb_verify.specs.Order.{Failure, after, present_failure, failure_at, own_failure}
 use Rattle.fb_verify.specs.Plain.{tested_by}
-use Rattle.fb_verify.specs.Stack.{blank, frame_work, work, Waiting, IsUnderWay, IsAtField, IsStopped}
+use Rattle.fb_verify.specs.Stack.{blank, frame_work, work, Waiting, IsUnderWay, IsStopped}
 use Rattle.fb_verify.specs.Stops.{reads_failure}
 use Rattle.fb_verify.specs.StopsAt.{IsStopAt}
 use Rattle.fb_verify.specs.Told.{refused, stopped}
-use Rattle.fb_verify.specs.Turns.{RowTurned, FieldTurned}
+use Rattle.fb_verify.specs.Turns.{IsAtOpenField, GoesOn, StaysInField, RowTurned, FieldTurned}
 use Rattle.fb_verify.proofs.Budgets.{fewer_reads}
 use Rattle.fb_verify.proofs.Frames.{no_row, own_few}
 use Rattle.fb_verify.proofs.NextField.{AtNext, askable, next_stops}
@@ -35,8 +34,13 @@ use Rattle.fb_verify.proofs.Refusals.{told_after, told_first}
 use Rattle.fb_verify.proofs.Walking.{field_passed, field_work, field_skipped, skip_work}
 use Rattle.fb_verify.proofs.Words.{row_none}
 
-module _ {w : Walk} {b : List ℕ} {r : ℕ} {under : Waiting} {top : Frame} {place : ℕ} (o : IsAtField w b r under.start under.frames top place) (rests : (top.row).left ≡ 0)
-    (f : Live) (here : slice_get (live_fields w.schema.now (top.table).object) top.next ≡ Some f) where
+module _ {w : Walk} {m : Lent} {under : Waiting} {waiting : ℕ} {top : Frame} {place : ℕ} {f : Live} (h : IsAtOpenField w m under waiting top place f) where
+  abbrev b : List ℕ
+  b = m.bytes
+
+  abbrev r : ℕ
+  r = m.count
+
   abbrev S : Rows
   S = w.schema.now
 
@@ -53,63 +57,63 @@ module _ {w : Walk} {b : List ℕ} {r : ℕ} {under : Waiting} {top : Frame} {pl
   chain : own_failure c b S t f ≡ after 1 present
   unfolding own_failure
   chain =
-      let e = o.present f here in
+      let e = (h.at).present f h.here in
       ap (λ x. after (slot_reads b t f.slot) (failure_at c b S t f x)) e.0 ∙ ap (λ n. after n present) (slot_is_one b t f.slot e.1)
 
   counted : own_reads b t f ≡ 1 + present_reads b t f.slot f.kind
   unfolding own_reads
-  counted = let e = o.present f here in ap (λ x. slot_reads b t f.slot + reads_at b t f x) e.0 ∙ ap (λ n. n + present_reads b t f.slot f.kind) (slot_is_one b t f.slot e.1)
+  counted = let e = (h.at).present f h.here in ap (λ x. slot_reads b t f.slot + reads_at b t f x) e.0 ∙ ap (λ n. n + present_reads b t f.slot f.kind) (slot_is_one b t f.slot e.1)
 
   entries_are : entries b S t f ≡ entries_of b S t f place f.kind
   unfolding entries
-  entries_are = ap (entries_at b S t f) (o.present f here).0
+  entries_are = ap (entries_at b S t f) ((h.at).present f h.here).0
 
   -- the walk before that
-  at_next : AtNext w (record { bytes = b; count = o.before; base = 0 }) under top f
-  at_next = record { walking = o.walking; rests = rests; here = here }
+  at_next : AtNext w (record { bytes = b; count = (h.at).before; base = 0 }) under top f
+  at_next = record { walking = (h.at).walking; rests = h.rests; here = h.here }
 
   pub into_askable : IsAskable b S t f f.kind
   into_askable = askable at_next
 
   -- it fails
-  pub into_stops : (at new : ℕ) (reason : Reason) → tested_by at new (Some reason) ≡ after r present → (stop : Stop) → IsStopAt S top at reason stop → IsStopped w (record { bytes = b; count = r; base = 0 }) under.start under.frames (stopped stop new)
+  pub into_stops : (at new : ℕ) (reason : Reason) → tested_by at new (Some reason) ≡ after r present → (stop : Stop) → IsStopAt S top at reason stop → IsStopped w m under.start under.frames (stopped stop new)
   into_stops at new reason told stop is =
       let e : Refusal = record { at = at; reason = reason } in
       let site : Site = record { object = (top.table).object; field = Some f.number } in
       let own = own_failure c b S t f in
-      let x : after o.before own ≡ Some (refused e new) = ap (after o.before) chain ∙ after_twice o.before 1 present ∙ ap (λ n. after n present) (sym o.count) ∙ sym told in
+      let x : after (h.at).before own ≡ Some (refused e new) = ap (after (h.at).before) chain ∙ after_twice (h.at).before 1 present ∙ ap (λ n. after n present) (sym (h.at).count) ∙ sym told in
       let fault = stopped (record { site = site; refusal = e }) new in
-      subst (λ y. IsStopped w (record { bytes = b; count = r; base = 0 }) under.start under.frames y) (stop_is stop e (top.table).object f.number new is.refusal is.object (is.field f here))
-      (next_stops at_next fault (told_first site o.before own (reads_failure w.limits o.before (own_reads b t f) t) fault (told_after site o.before new own e x)))
+      subst (λ y. IsStopped w m under.start under.frames y) (stop_is stop e (top.table).object f.number new is.refusal is.object (is.field f h.here))
+      (next_stops at_next fault (told_first site (h.at).before own (reads_failure w.limits (h.at).before (own_reads b t f) t) fault (told_after site (h.at).before new own e x)))
 
   -- or it holds, after these reads
-  module _ (holds : present ≡ None) (q : ℕ) (paid : q ≡ r + present_reads b t f.slot f.kind) (cheap : AreAllowed (w.limits).reads (r + 7)) where
+  module _ (holds : present ≡ None) (q : ℕ) (paid : q ≡ r + present_reads b t f.slot f.kind) where
     own : own_failure c b S t f ≡ None
     own = chain ∙ ap (after 1) holds
 
-    spent : q ≡ o.before + own_reads b t f
-    spent = omega (arith, paid, o.count, counted)
+    spent : q ≡ (h.at).before + own_reads b t f
+    spent = omega (arith, paid, (h.at).count, counted)
 
     allowed : AreAllowed (w.limits).reads q
-    allowed = fewer_reads (w.limits).reads q (r + 7) (omega (arith, paid, counted, own_few b t f)) cheap
+    allowed = fewer_reads (w.limits).reads q (r + 7) (omega (arith, paid, counted, own_few b t f)) h.room
 
     -- it leads on by these words
     abbrev past : Row → Frame
-    past row = record { table = top.table; next = top.next + 1; number = f.number; row = row }
+    past row = record top { next = top.next + 1; number = f.number; row = row }
 
     pub into_leads : (row : Row) → IsRow b S row → entries_of b S t f place f.kind ≡ words_of b S row → IsUnderWay c b S w.limits under.start under.frames (past row) w.tables w.deepest q
-    into_leads row good leads = field_passed c b S w.limits under.start under.frames top w.tables w.deepest o.before o.walking f row f.number q rests here spent good allowed refl own (entries_are ∙ leads)
+    into_leads row good leads = field_passed (h.at).walking f row f.number q h.rests h.here spent good allowed refl own (entries_are ∙ leads)
 
     pub into_work : (row : Row) → IsRow b S row → q + frame_work S (past row) ≤ r - 1 + frame_work S top
-    into_work row good = omega (arith, o.count, field_work c b S w.limits under.start under.frames top w.tables w.deepest o.before o.walking f row f.number q rests here spent good)
+    into_work row good = omega (arith, (h.at).count, field_work (h.at).walking f row f.number q h.rests h.here spent good)
 
     -- or nowhere
     pub into_over : entries_of b S t f place f.kind ≡ [] → IsUnderWay c b S w.limits under.start under.frames (record top { next = top.next + 1 }) w.tables w.deepest q
     into_over none =
-        field_skipped c b S w.limits under.start under.frames top w.tables w.deepest o.before o.walking f blank.row f.number q rests here spent (no_row c b S) allowed refl own (entries_are ∙ none ∙ sym (row_none b S blank.row refl))
+        field_skipped (h.at).walking f blank.row f.number q h.rests h.here spent (no_row c b S) allowed refl own (entries_are ∙ none ∙ sym (row_none b S blank.row refl))
 
     pub over_work : q + frame_work S (record top { next = top.next + 1 }) ≤ r - 1 + frame_work S top
-    over_work = omega (arith, o.count, skip_work c b S w.limits under.start under.frames top w.tables w.deepest o.before o.walking f blank.row f.number q rests here spent (no_row c b S))
+    over_work = omega (arith, (h.at).count, skip_work (h.at).walking f blank.row f.number q h.rests h.here spent (no_row c b S))
 
 -- what is less for the top is less for the whole stack
 pub on_work : (S : Rows) (L : Bounds) (below : List Frame) (on top : Frame) (n q r : ℕ) → q + frame_work S on ≤ r + frame_work S top → q + work S L below on n ≤ r + work S L below top n
@@ -122,17 +126,11 @@ module _ (w then : Walk) (m mid new : Lent) (under : Waiting) (top on past : Fra
   less : mid.count + work w.schema.now w.limits under.frames on w.tables ≤ m.count - 1 + work w.schema.now w.limits under.frames top w.tables
   less = on_work w.schema.now w.limits under.frames on top w.tables mid.count (m.count - 1) paid
 
+  stays : GoesOn w then mid new under on past → StaysInField w then m new under top past
+  stays e = record { same = e.same; walking = e.walking; table = e.table ∙ table; falls = omega (arith, e.falls, less); bytes = e.bytes ∙ bytes; short = e.short; grows = omega (arith, e.grows, grows) }
+
   pub into_turned : (turn : Turn) → RowTurned w then mid new under on past child turn → FieldTurned w then m new under top past child turn
   into_turned Down e = record { same = e.same; down = e.down; deep = e.deep; falls = omega (arith, e.falls, less); bytes = e.bytes ∙ bytes; short = e.short; grows = omega (arith, e.grows, grows) }
-  into_turned Up e = record {
-    same = (e.on).same;
-    between = record { walking = (e.on).walking; rests = e.rests };
-    table = (e.on).table ∙ table;
-    next = e.next ∙ next;
-    falls = omega (arith, (e.on).falls, less);
-    grows = omega (arith, (e.on).grows, grows);
-    bytes = (e.on).bytes ∙ bytes;
-    short = (e.on).short;
-  }
-  into_turned Slowly e = record { same = e.same; walking = e.walking; table = e.table ∙ table; falls = omega (arith, e.falls, less); bytes = e.bytes ∙ bytes; short = e.short; grows = omega (arith, e.grows, grows) }
+  into_turned Up e = record { on = stays e.on; rests = e.rests; next = e.next ∙ next }
+  into_turned Slowly e = stays e
   into_turned Halted e = record { links = e.links; deep = e.deep; err = rw (sym bytes) e.err; bytes = e.bytes ∙ bytes }

@@ -16,6 +16,7 @@ use Rattle.fb_verify.specs.Way.{Way, way_to_start, way_to_root, way_to_field, wa
 use Rattle.fb_verify.specs.Stops.{in_head, fault_of, budget_failure, reads_failure, fault_at, IsFalseAt, Trail, at_head, at_field, FieldTrail, at_own, at_element, ElementTrail, at_lead, through, IsTrail, IsFieldTrail, IsElementTrail}
 use Rattle.fb_verify.specs.Links.{field_link, element_link, object_led_to, links_of, links_in_field, links_in_element}
 use Rattle.fb_verify.specs.LinkLaws.{EndIn, LinksEndInField}
+use Rattle.fb_verify.proofs.Overruns.{either}
 
 -- a fault at the end of a way has the object and field of the way
 pub of_way : (w : Way) (x : Option Failure) (f : Fault) → fault_of w x ≡ Some f → (w.object ≡ f.object) × (w.field ≡ f.field)
@@ -23,10 +24,6 @@ of_way w None f h = absurd cc
 of_way w (Some e) f h =
     let same : ◌≡◌ {A = Fault} (record { at = e.at; object = w.object; field = w.field; reason = e.reason; reads = w.paid + e.reads }) f = cc in
     (ap (λ (g : Fault). g.object) same, ap (λ (g : Fault). g.field) same)
-
-first_of : (x y : Option Fault) (f : Fault) → x ▷ y ≡ Some f → (x ≡ Some f) ⊎ (y ≡ Some f)
-first_of None y f h = inr h
-first_of (Some e) y f h = inl h
 
 -- no link is left of a fault that names the field by which its table was come to, or the last is to the field that it
 -- names
@@ -39,7 +36,7 @@ module _ (c : Checks) (b : List ℕ) (S : Rows) (L : Bounds) (f : Fault) (n : �
   unfolding fault_at
   in_a_head k t w h =
       let v : Way = record w { object = k; field = None } in
-      elim (first_of (fault_of w (budget_failure L w t)) (fault_of v (head_failure c b t ▷ reads_failure L v.paid (head_reads c) t)) f h.first) [
+      elim (either (fault_of w (budget_failure L w t)) (fault_of v (head_failure c b t ▷ reads_failure L v.paid (head_reads c) t)) f h.first) [
         | inl i ↦ (let r = of_way w (budget_failure L w t) f i in inl (refl, r.0, r.1 ∙ field_is))
         | inr i ↦ (let r = of_way v (head_failure c b t ▷ reads_failure L v.paid (head_reads c) t) f i in absurd (let w : None ≡ Some n = r.1 ∙ field_is in cc))
       ]

@@ -22,7 +22,7 @@ use Rattle.fb_verify.proofs.Refusals.{told_after, told_first}
 use Rattle.fb_verify.proofs.Stopping.{word_stops}
 use Rattle.fb_verify.proofs.Words.{first_place}
 
-module _ (c : Checks) (b : List ℕ) (S : Rows) (L : Bounds) (s : Origin) (below : List Frame) (top : Frame) (n d r : ℕ) (h : IsUnderWay c b S L s below top n d r) where
+module _ {c : Checks} {b : List ℕ} {S : Rows} {L : Bounds} {s : Origin} {below : List Frame} {top : Frame} {n d r : ℕ} (h : IsUnderWay c b S L s below top n d r) where
   -- the first word that is left
   abbrev word : Entry
   word = first_word b S top.row
@@ -47,13 +47,13 @@ module _ (c : Checks) (b : List ℕ) (S : Rows) (L : Bounds) (s : Origin) (below
 
   -- where it fails
   pub word_fails : (row : Row) → row ≡ past_first top.row → 0 < (top.row).left → (e : Refusal) → (m q : ℕ) → r ≡ m → after m (element_failure c b word) ≡ Some (refused e q) → (stop : Stop) → stop ≡ record { refusal = e; site = record { object = (top.table).object; field = Some top.number } }
-      → StopsIn c b S L s (below ++ record { table = top.table; next = top.next; number = top.number; row = row } ∷ []) [] (stopped stop q)
+      → StopsIn c b S L s (below ++ record top { row = row } ∷ []) [] (stopped stop q)
   word_fails row re l e m q z x stop is =
       let site : Site = record { object = (top.table).object; field = Some top.number } in
       let told = ap (λ w. after w (element_failure c b word)) z ∙ x in
       let fault = stopped (record { refusal = e; site = site }) q in
-      subst (λ (y : Stop). StopsIn c b S L s (below ++ record { table = top.table; next = top.next; number = top.number; row = row } ∷ []) [] (stopped y q)) (sym is)
-      (word_stops c b S L s below top n d r h fault row re l (told_first site r (element_failure c b word) (lead_reads_failure L r word word.lead) fault (told_after site r q (element_failure c b word) e told)))
+      subst (λ (y : Stop). StopsIn c b S L s (below ++ record top { row = row } ∷ []) [] (stopped y q)) (sym is)
+      (word_stops h fault row re l (told_first site r (element_failure c b word) (lead_reads_failure L r word word.lead) fault (told_after site r q (element_failure c b word) e told)))
 
 -- what is no table is a leaf
 pub is_leaf : (referent : Referent) → ((k : ℕ) → referent ≡ ATable k → ⊥) → IsLeafLead (lead_to referent)

@@ -18,7 +18,7 @@ use Rattle.fb_verify.specs.Order.{Failure, ◌▷◌, head_failure, own_failure,
 use Rattle.fb_verify.specs.Way.{Way, way_to_field, way_to_element, way_to_table}
 use Rattle.fb_verify.specs.Stops.{budget_failure, reads_failure, lead_reads_failure, fault_of, fault_at, Trail, at_head, at_field, FieldTrail, at_own, at_element, ElementTrail, at_lead, through, IsTrail, IsFieldTrail, IsElementTrail}
 use Rattle.fb_verify.proofs.Budgets.{IsNear, near}
-use Rattle.fb_verify.proofs.Price.{head_price, few_reads}
+use Rattle.fb_verify.proofs.Frames.{head_few, lead_few}
 use Rattle.fb_verify.proofs.ChainReads.{AtMost, more, either, reads_most, lead_reads_most, head_most, own_most, element_most}
 use Rattle.fb_verify.proofs.Frames.{own_few}
 
@@ -95,7 +95,7 @@ module _ (c : Checks) (b : List ℕ) (S : Rows) where
     budget_most w t e h = grind (arith, nat_tests)
 
     pub head_reads_most : (w : Way) (t : ℕ) → AtMost 3 (head_failure c b t ▷ reads_failure L w.paid (head_reads c) t)
-    head_reads_most w t = either 3 _ _ (more 2 3 _ (omega arith) (head_most c b t)) (more (head_reads c) 3 _ (head_price c b S) (reads_most L w.paid (head_reads c) t))
+    head_reads_most w t = either 3 _ _ (more 2 3 _ (omega arith) (head_most c b t)) (more (head_reads c) 3 _ (head_few c) (reads_most L w.paid (head_reads c) t))
 
     pub own_reads_most : (w : Way) (t : ℕ) (g : Live) → AtMost 6 (own_failure c b S t g ▷ reads_failure L w.paid (own_reads b t g) t)
     own_reads_most w t g = either 6 _ _ (own_most c b S t g) (more (own_reads b t g) 6 _ (own_few b t g) (reads_most L w.paid (own_reads b t g) t))
@@ -120,5 +120,5 @@ module _ (c : Checks) (b : List ℕ) (S : Rows) where
 
       element_near : (s : ElementTrail) (x : Entry) (w : Way) (f : Fault) → w.leading ≡ 0 → x.reads ≤ 1 → IsElementTrail s c b S L x w f → IsNear L.reads f.reads
       element_near at_lead x w f l few h =
-          near L.reads (w.paid - w.leading) f.reads (omega (arith, l, few, few_reads x.lead, fault_reads (x.reads + lead_reads x.lead) w _ f (entry_reads_most w x) h.first)) h.within.reads
+          near L.reads (w.paid - w.leading) f.reads (omega (arith, l, few, lead_few x.lead, fault_reads (x.reads + lead_reads x.lead) w _ f (entry_reads_most w x) h.first)) h.within.reads
       element_near (through s) x w f l few h = trail_near s h.0 (target b x.place) (way_to_table x w) f (omega (arith, few)) h.3

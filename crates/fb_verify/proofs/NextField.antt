@@ -7,6 +7,7 @@ use Rattle.fb_schema.specs.Live.{Live, live_fields}
 use Rattle.fb_verify.specs.declared.fault.Fault.{Fault}
 use Rattle.fb_verify.specs.declared.offset_row.Row.{Row}
 use Rattle.fb_verify.specs.declared.scratch.Frame.{Frame}
+use Rattle.fb_verify.specs.declared.site.Stop.{Stop}
 use Rattle.fb_verify.specs.declared.stack.Walk.{Walk}
 use Rattle.fb_verify.specs.Bounds.{AreAllowed}
 use Rattle.fb_verify.specs.Cost.{own_reads}
@@ -16,7 +17,7 @@ use Rattle.fb_verify.specs.Order.{◌▷◌, own_failure}
 use Rattle.fb_verify.specs.PassesOn.{HasPassed, PassesFields}
 use Rattle.fb_verify.specs.Stack.{blank, frame_work, Waiting, IsWalking, IsStopped}
 use Rattle.fb_verify.specs.Stops.{reads_failure}
-use Rattle.fb_verify.specs.Told.{told}
+use Rattle.fb_verify.specs.Told.{told, stopped}
 use Rattle.fb_verify.proofs.Frames.{no_row}
 use Rattle.fb_verify.proofs.Standings.{next_typed}
 use Rattle.fb_verify.proofs.Stopping.{field_stops}
@@ -34,6 +35,10 @@ pub record AtNext (w : Walk) (m : Lent) (under : Waiting) (top : Frame) (field :
   pub rests : (top.row).left ≡ 0
   pub here : slice_get (live_fields w.schema.now (top.table).object) top.next ≡ Some field
 
+-- the walk stops at a field
+pub stops_at_field : {w : Walk} {m new : Lent} {under : Waiting} {top past : Frame} (s : Stop) → new.bytes ≡ m.bytes → IsStopped w m under.start under.frames (stopped s new.count) → PassesFields w m new under top past (Err s)
+stops_at_field s bytes err = record { walking = tt; leads = tt; rests = tt; all = tt; falls = tt; grows = tt; bytes = bytes; err = err }
+
 module _ {w : Walk} {m : Lent} {under : Waiting} {top : Frame} {field : Live} (h : AtNext w m under top field) where
   pub askable : IsAskable m.bytes w.schema.now (top.table).at field field.kind
   askable = record {
@@ -46,20 +51,20 @@ module _ {w : Walk} {m : Lent} {under : Waiting} {top : Frame} {field : Live} (h
   pub next_stops : (f : Fault)
       → told (record { object = (top.table).object; field = Some field.number }) m.count (own_failure w.checks m.bytes w.schema.now (top.table).at field ▷ reads_failure w.limits m.count (own_reads m.bytes (top.table).at field) (top.table).at) ≡ Some f
       → IsStopped w m under.start under.frames f
-  next_stops f e = field_stops w.checks m.bytes w.schema.now w.limits under.start under.frames top w.tables w.deepest m.count h.walking f field h.rests h.here e
+  next_stops f e = field_stops h.walking f field h.rests h.here e
 
   -- or it holds, after these reads; the walk began before it
   module _ (own : own_failure w.checks m.bytes w.schema.now (top.table).at field ≡ None) {q : ℕ} (count : q ≡ m.count + own_reads m.bytes (top.table).at field) (cheap : AreAllowed (w.limits).reads q)
       {began : Lent} {first : Frame} (falls : m.count + frame_work w.schema.now top ≤ began.count + frame_work w.schema.now first) (grows : began.count ≤ q) (bytes : m.bytes ≡ began.bytes) where
     -- it leads on
     pub next_leads : (row : Row) → IsRow m.bytes w.schema.now row × (0 < row.left) → entries m.bytes w.schema.now (top.table).at field ≡ words_of m.bytes w.schema.now row
-        → PassesFields w began (record m { count = q }) under first (record { table = top.table; next = top.next + 1; number = field.number; row = row }) (Ok true)
+        → PassesFields w began (record m { count = q }) under first (record top { next = top.next + 1; number = field.number; row = row }) (Ok true)
     next_leads row good leads = record {
-      walking = field_passed w.checks m.bytes w.schema.now w.limits under.start under.frames top w.tables w.deepest m.count h.walking field row field.number q h.rests h.here count good.0 cheap refl own leads;
+      walking = field_passed h.walking field row field.number q h.rests h.here count good.0 cheap refl own leads;
       leads = λ _. good.1;
       rests = λ e. absurd cc;
       all = λ e. absurd cc;
-      falls = omega (arith, falls, field_work w.checks m.bytes w.schema.now w.limits under.start under.frames top w.tables w.deepest m.count h.walking field row field.number q h.rests h.here count good.0);
+      falls = omega (arith, falls, field_work h.walking field row field.number q h.rests h.here count good.0);
       grows = grows;
       bytes = bytes;
       err = tt;
@@ -70,12 +75,12 @@ module _ {w : Walk} {m : Lent} {under : Waiting} {top : Frame} {field : Live} (h
     next_over table none = record {
       between = record {
         walking =
-            field_skipped w.checks m.bytes w.schema.now w.limits under.start under.frames top w.tables w.deepest m.count h.walking field blank.row field.number q h.rests h.here count (no_row w.checks m.bytes w.schema.now) cheap refl own
+            field_skipped h.walking field blank.row field.number q h.rests h.here count (no_row w.checks m.bytes w.schema.now) cheap refl own
             (none ∙ sym (row_none m.bytes w.schema.now blank.row refl));
         rests = h.rests;
       };
       table = table;
-      falls = omega (arith, falls, skip_work w.checks m.bytes w.schema.now w.limits under.start under.frames top w.tables w.deepest m.count h.walking field blank.row field.number q h.rests h.here count (no_row w.checks m.bytes w.schema.now));
+      falls = omega (arith, falls, skip_work h.walking field blank.row field.number q h.rests h.here count (no_row w.checks m.bytes w.schema.now));
       grows = grows;
       bytes = bytes;
     }

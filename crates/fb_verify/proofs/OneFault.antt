@@ -24,13 +24,10 @@ use Rattle.fb_verify.specs.Links.{links_of, StopsAlong}
 use Rattle.fb_verify.proofs.Chains.{start_none, own_none, through_passes}
 use Rattle.fb_verify.proofs.Unique.{one_kids, one_elements}
 use Rattle.fb_verify.proofs.Budgets.{fewer_reads, not_both}
-use Rattle.fb_verify.proofs.Overruns.{reads_fault, no_lead_fault, kids_at, elements_at, head_overruns, field_overruns, element_overruns, kids_cost_take, elements_cost_take}
+use Rattle.fb_verify.proofs.Overruns.{some_same, reads_fault, no_lead_fault, kids_at, elements_at, head_overruns, field_overruns, element_overruns, kids_cost_take, elements_cost_take}
 use Rattle.fb_verify.proofs.Typed.{get_take}
 
 -- lists
-
-some_same : {A : Type 0} {x y : A} → Some x ≡ Some y → x ≡ y
-some_same h = cc
 
 compare : (m n : ℕ) → (m < n) ⊎ ((m ≡ n) ⊎ (n < m))
 compare zero zero = inr (inl refl)

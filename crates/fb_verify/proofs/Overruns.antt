@@ -22,7 +22,7 @@ use Rattle.fb_verify.proofs.Budgets.{are_too_many, more_reads}
 use Rattle.fb_verify.proofs.Chains.{head_none, own_none, element_passes}
 use Rattle.fb_verify.proofs.Unique.{one_elements, one_element}
 
-some_same : {A : Type 0} {x y : A} → Some x ≡ Some y → x ≡ y
+pub some_same : {A : Type 0} {x y : A} → Some x ≡ Some y → x ≡ y
 some_same h = cc
 
 -- a place whose chain finds nothing has no fault
@@ -31,9 +31,9 @@ no_fault w None f e h = absurd (cc)
 no_fault w (Some x) f e h = absurd (cc)
 
 -- the first of two chains that finds something
-either_fault : (w : Way) (x : Option Failure) (y : Option Fault) (f : Fault) → fault_of w x ▷ y ≡ Some f → (fault_of w x ≡ Some f) ⊎ (y ≡ Some f)
-either_fault w None y f h = inr h
-either_fault w (Some d) y f h = inl h
+pub either : {A : Type 0} (x y : Option A) (e : A) → x ▷ y ≡ Some e → (x ≡ Some e) ⊎ (y ≡ Some e)
+either None y e h = inr h
+either (Some d) y e h = inl h
 
 module _ (L : Bounds) (w : Way) where
   -- the budget of tables finds that it is used up
@@ -147,7 +147,7 @@ module _ (c : Checks) (b : List ℕ) (S : Rows) where
     unfolding fault_at
     head_overruns k t w f h i =
         let v : Way = record w { object = k; field = None } in
-        elim (either_fault w (budget_failure L w t) (fault_of v (head_failure c b t ▷ reads_failure L w.paid (head_reads c) t)) f i.first) [
+        elim (either (fault_of w (budget_failure L w t)) (fault_of v (head_failure c b t ▷ reads_failure L w.paid (head_reads c) t)) f i.first) [
           | inl p ↦ elim (budget_fault L w t f p) [ inl q ↦ inl (q.0, omega (arith, q.1)) | inr q ↦ inr (inl (q.0, omega (arith, q.1))) ]
           | inr p ↦ inr (inr (reads_fault L w v (head_reads c) t (head_failure c b t) f ((head_none c b t).1 h) p))
         ]

@@ -1,5 +1,5 @@
 -- A walk goes on past fields that lead to no table, or stops at one.
-use Rattle.std.proofs.Common.{◌≡◌, ℕ, ◌+◌, ◌-◌, ◌^◌, ◌<◌, ◌≤◌, inl, inr, Bool, true, false, IsTrue, IfSome, if◌then◌else◌, List, [], ◌∷◌, map, length, get_or, option_map, refl, sym, ◌∙◌, ap, subst, arith, Option, Some, None, Ok}
+use Rattle.std.proofs.Common.{◌≡◌, ℕ, ◌+◌, ◌-◌, ◌^◌, ◌<◌, ◌≤◌, inl, inr, Bool, true, false, IsTrue, IfSome, if◌then◌else◌, List, [], ◌∷◌, map, length, get_or, option_map, refl, sym, ◌∙◌, ap, subst, arith, Option, Some, None, Ok, Err}
 use Rattle.std.specs.Prelude.{◌*◌, slice_get}
 use Rattle.std.proofs.lemmas.List.{length-map}
 use Rattle.std.proofs.lemmas.Option.{slice_get-get_or, slice_get-map}
@@ -53,14 +53,14 @@ pub stop_is : (s : Stop) (e : Refusal) (object number reads : ℕ) → s.refusal
 stop_is s e object number reads a b c = rw (a, b, c) refl
 
 -- A field that leads to no table.
-module _ (c : Checks) (b : List ℕ) (S : Rows) (L : Bounds) (s : Origin) (below : List Frame) (top : Frame) (n d r : ℕ) (h : IsUnderWay c b S L s below top n d r)
+module _ {c : Checks} {b : List ℕ} {S : Rows} {L : Bounds} {s : Origin} {below : List Frame} {top : Frame} {n d r : ℕ} (h : IsUnderWay c b S L s below top n d r)
     (rests : (top.row).left ≡ 0) (f : Live) (here : slice_get (live_fields S (top.table).object) top.next ≡ Some f) (plain : act_of f f.kind ≡ Other → field_place b (top.table).at f.slot ≡ None) where
   abbrev t : ℕ
   t = (top.table).at
 
   -- the top, past this field
   abbrev top_over : Frame
-  top_over = record { table = top.table; next = top.next + 1; number = top.number; row = top.row }
+  top_over = record top { next = top.next + 1 }
 
   -- the row of a string's offset word
   abbrev one_word : ℕ → Row
@@ -68,7 +68,7 @@ module _ (c : Checks) (b : List ℕ) (S : Rows) (L : Bounds) (s : Origin) (below
 
   -- the field under check, with that row
   abbrev at_word : ℕ → Frame
-  at_word p = record { table = top.table; next = top.next + 1; number = f.number; row = one_word p }
+  at_word p = record top { next = top.next + 1; number = f.number; row = one_word p }
 
   module _ (p : ℕ) (to : LeadsTo c b S t f p) where
     word_is : entries b S t f ≡ words_of b S (one_word p)
@@ -88,14 +88,14 @@ module _ (c : Checks) (b : List ℕ) (S : Rows) (L : Bounds) (s : Origin) (below
         let count : q ≡ r + own_reads b t f + 0 + 3 = omega (arith, z, to.reads) in
         let none : (past_first (one_word p)).left ≡ 0 = omega arith in
         let on = pass_leaf c b S L s below (at_word p) n d (r + own_reads b t f) (entered parts.0) (past_first (one_word p)) q refl (omega arith) (ap (after 0) lead) tt count in
-        let past : Frame = record { table = top.table; next = top.next + 1; number = f.number; row = past_first (one_word p) } in
+        let past : Frame = record top { next = top.next + 1; number = f.number; row = past_first (one_word p) } in
         record { v = on.v; root = on.root; under = on.under; at = inl (record { none = rests; inside = (at_rest c b S past on.v n d q none on.at).inside }) }
 
   -- a field that holds is passed
   pub plain_passed : (q : ℕ) → q ≡ r + plain_reads b t (step_of f) → AreAllowed L.reads q → plain_failure c b t (step_of f) ≡ None → IsUnderWay c b S L s below top_over n d q
   plain_passed q z cheap ok = elim (comes c b S t f plain) [
-    | inl to ↦ field_skipped c b S L s below top n d r h f blank.row top.number q rests here (z ∙ ap (λ m. r + m) to.reads) (no_row c b S) cheap refl (sym to.chain ∙ ok) (to.none ∙ sym (row_none b S blank.row refl))
-    | inr x ↦ goes_on c b S L s below top n d r h top_over q cheap (frame_next c b S top (field_within _ _ _ here) h.frame) (string_passed x.0 x.1 q z ok)
+    | inl to ↦ field_skipped h f blank.row top.number q rests here (z ∙ ap (λ m. r + m) to.reads) (no_row c b S) cheap refl (sym to.chain ∙ ok) (to.none ∙ sym (row_none b S blank.row refl))
+    | inr x ↦ goes_on h top_over q cheap (frame_next c b S top (field_within _ _ _ here) h.frame) (string_passed x.0 x.1 q z ok)
   ]
 
   -- Where it fails.
@@ -112,17 +112,16 @@ module _ (c : Checks) (b : List ℕ) (S : Rows) (L : Bounds) (s : Origin) (below
     own_stops : after r (own_failure c b S t f) ≡ Some (refused e q) → Stopped
     own_stops x =
         let own = own_failure c b S t f in
-        field_stops c b S L s below top n d r h fault f rests here
-        (told_first site r own (reads_failure L r (own_reads b t f) t) fault (told_after site r q own e x))
+        field_stops h fault f rests here (told_first site r own (reads_failure L r (own_reads b t f) t) fault (told_after site r q own e x))
 
     abbrev link_of_kind : ℕ → ℕ → Kind → Link
     link_of_kind k j kind = record { object = k; field = f.number; element = element_of j kind; member = type_of b t f j kind }
 
     -- the link through a string's word is that to its field
-    text_link : (p : ℕ) → LeadsTo c b S t f p → frame_link b S (record { table = top.table; next = top.next + 1; number = f.number; row = past_first (one_word p) }) ≡ field_link (top.table).object f
+    text_link : (p : ℕ) → LeadsTo c b S t f p → frame_link b S (record top { next = top.next + 1; number = f.number; row = past_first (one_word p) }) ≡ field_link (top.table).object f
     text_link p to =
         let k = (top.table).object in
-        let past : Frame = record { table = top.table; next = top.next + 1; number = f.number; row = past_first (one_word p) } in
+        let past : Frame = record top { next = top.next + 1; number = f.number; row = past_first (one_word p) } in
         let before : top.next + 1 - 1 ≡ top.next = omega arith in
         let j = length (entries b S t f) - (past_first (one_word p)).left - 1 in
         ap (λ i. link_behind b S past (slice_get (live_fields S k) i)) before ∙ ap (link_behind b S past) here
@@ -134,8 +133,8 @@ module _ (c : Checks) (b : List ℕ) (S : Rows) (L : Bounds) (s : Origin) (below
         let m = r + own_reads b t f in
         let word = first_word b S (one_word p) in
         let y : after m (after 0 (lead_failure c b p to_string)) ≡ Some (refused e q) = after_twice m 0 (lead_failure c b p to_string) ∙ ap (λ k. after k (lead_failure c b p to_string)) (let w : m + 0 ≡ m = omega arith in w) ∙ x in
-        let past : Frame = record { table = top.table; next = top.next + 1; number = f.number; row = past_first (one_word p) } in
-        stops_in_field c b S L s below top n d r h fault (frame_link b S past ∷ []) (ap (λ y. y ∷ []) (text_link p to))
+        let past : Frame = record top { next = top.next + 1; number = f.number; row = past_first (one_word p) } in
+        stops_in_field h fault (frame_link b S past ∷ []) (ap (λ y. y ∷ []) (text_link p to))
         (stop_at_element c b S L s below (at_word p) n d m (entered p to own) h.tables h.deepest cheap fault (omega arith)
         (told_first site m (element_failure c b word) (lead_reads_failure L m word word.lead) fault (told_after site m q (element_failure c b word) e y)))
 
@@ -198,18 +197,18 @@ module _ {w : Walk} {m : Lent} {under : Waiting} {top : Frame} {steps : List Ste
   pub rest_absent : vtable_size b table_at < step.slot + 2 → next_required w.schema.now (top.table).object top.next ≡ None → IsWalking w m under.start under.frames (record top { next = length steps })
   rest_absent past none =
       let slot = ap (λ (z : Step). z.slot) found.2 in
-      rw long (none_required w.checks b w.schema.now w.limits under.start under.frames top w.tables w.deepest m.count h.walking h.rests found.0 found.1 (omega (arith, past, slot)) none)
+      rw long (none_required h.walking h.rests found.0 found.1 (omega (arith, past, slot)) none)
 
   -- or which is
   pub before_required : vtable_size b table_at < step.slot + 2 → (place : ℕ) → next_required w.schema.now (top.table).object top.next ≡ Some place → IsWalking w m under.start under.frames (record top { next = place })
   before_required past place some =
       let slot = ap (λ (z : Step). z.slot) found.2 in
-      required_next w.checks b w.schema.now w.limits under.start under.frames top w.tables w.deepest m.count h.walking h.rests found.0 found.1 (omega (arith, past, slot)) place some
+      required_next h.walking h.rests found.0 found.1 (omega (arith, past, slot)) place some
 
   pub required_bare : vtable_size b table_at < step.slot + 2 → (place : ℕ) (f : Live) → top.next ≤ place → slice_get fields place ≡ Some f → has_slot b table_at f.slot ≡ false
   required_bare past place f low at =
       let slot = ap (λ (z : Step). z.slot) found.2 in
-      no_slot_from w.checks b w.schema.now w.limits under.start under.frames top w.tables w.deepest m.count h.walking h.rests found.0 found.1 (omega (arith, past, slot)) place f low at
+      no_slot_from h.walking h.rests found.0 found.1 (omega (arith, past, slot)) place f low at
 
   module _ (plain : step.act ≡ Other → field_place b table_at step.slot ≡ None) (at k new : ℕ) (failed : Option Reason) (told : tested_by at new failed ≡ after k (plain_failure w.checks b table_at step)) where
     abbrev plain_field : act_of found.0 (found.0).kind ≡ Other → field_place b table_at (found.0).slot ≡ None
@@ -223,7 +222,7 @@ module _ {w : Walk} {m : Lent} {under : Waiting} {top : Frame} {steps : List Ste
         → IsUnderWay w.checks b w.schema.now w.limits under.start under.frames (record top { next = top.next + 1 }) w.tables w.deepest q
     step_passed e q z cheap =
         let none = (after_none k (plain_failure w.checks b table_at step)).0 (sym told ∙ ap (tested_by at new) e) in
-        plain_passed w.checks b w.schema.now w.limits under.start under.frames top w.tables w.deepest m.count h.walking h.rests found.0 found.1 plain_field q (z ∙ ap (λ x. m.count + plain_reads b table_at x) found.2) cheap (sym chain_is ∙ none)
+        plain_passed h.walking h.rests found.0 found.1 plain_field q (z ∙ ap (λ x. m.count + plain_reads b table_at x) found.2) cheap (sym chain_is ∙ none)
 
     -- or fails, and the walk stops there
     pub stops_paid : {reason : Reason} → failed ≡ Some reason → m.count ≡ k → AreAllowed (w.limits).reads (m.count + own_reads b table_at found.0) → (stop : Stop) → IsStopAt w.schema.now top at reason stop
@@ -233,7 +232,7 @@ module _ {w : Walk} {m : Lent} {under : Waiting} {top : Frame} {steps : List Ste
         let here = sym told ∙ ap (tested_by at new) e in
         let x = ap (after k) (sym chain_is) ∙ here in
         subst (λ f. IsStopped w m under.start under.frames f) (stop_is stop by (top.table).object (found.0).number new is.refusal is.object (is.field found.0 found.1))
-        (plain_stops w.checks b w.schema.now w.limits under.start under.frames top w.tables w.deepest m.count h.walking h.rests found.0 found.1 plain_field cheap by new (ap (λ x'. after x' (plain_failure w.checks b table_at (step_of found.0))) z ∙ x))
+        (plain_stops h.walking h.rests found.0 found.1 plain_field cheap by new (ap (λ x'. after x' (plain_failure w.checks b table_at (step_of found.0))) z ∙ x))
 
     pub step_stops : {reason : Reason} → failed ≡ Some reason → m.count ≡ k → AreAllowed (w.limits).reads (m.count + 6) → (stop : Stop) → IsStopAt w.schema.now top at reason stop
         → IsStopped w m under.start under.frames (stopped stop new)
@@ -293,6 +292,25 @@ reads_told (Some e) = e.reads
 pub told_grows : {at k new : ℕ} {reason : Reason} (x : Option Failure) → tested_by at new (Some reason) ≡ after k x → k ≤ new
 told_grows None h = absurd cc
 told_grows {at} {k} {new} (Some e) h = omega (arith, ap reads_told h)
+
+-- the next field fails
+pub stops_here : {w : Walk} {m new : Lent} {under : Waiting} {top past : Frame} {place : ℕ} {reason : Reason} → past ≡ record top { next = past.next } → past.next < length (live_fields w.schema.now (top.table).object) → m.count ≤ new.count → new.bytes ≡ m.bytes
+    → ((s : Stop) → IsStopAt w.schema.now past place reason s → IsStopped w m under.start under.frames (stopped s new.count)) → PassesOn w m new under top past place (Err reason)
+stops_here same next grows bytes err = record {
+  walking = tt;
+  field = tt;
+  open-field = tt;
+  same = same;
+  forth = tt;
+  within = tt;
+  all = tt;
+  ends = tt;
+  paid = tt;
+  grows = grows;
+  bytes = bytes;
+  next = next;
+  err = err;
+}
 
 -- no field was left that may lead to a table
 pub none_left : {w : Walk} {m new : Lent} {under : Waiting} {top past : Frame} {place : ℕ} → past ≡ record top { next = past.next } → IsWalking w new under.start under.frames past → top.next ≤ past.next

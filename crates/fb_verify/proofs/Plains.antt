@@ -10,13 +10,13 @@ use Rattle.fb_schema.specs.declared.views.Step.{Step}
 use Rattle.fb_schema.specs.Rows.{Rows}
 use Rattle.fb_schema.specs.Live.{Live}
 use Rattle.fb_schema.specs.Served.{KindHolds}
-use Rattle.fb_schema.specs.Steps.{inline_act, act_of, bit_of, is_plain_act, are_plain, step_of}
+use Rattle.fb_schema.specs.Steps.{inline_act, act_of, bit_of, bits_of, size_of, is_plain_act, are_plain, step_of}
 use Rattle.fb_verify.specs.declared.checks.Checks.{Checks}
 use Rattle.fb_verify.specs.Places.{field_place}
 use Rattle.fb_verify.specs.Fields.{to_string, entry, entries_of, entries_at, entries}
 use Rattle.fb_verify.specs.Cost.{slot_reads, present_reads, reads_at, own_reads}
-use Rattle.fb_verify.specs.Order.{Failure, after, ◌▷◌, table_failure, inline_field_failure, lead_failure, present_failure, failure_at, own_failure}
-use Rattle.fb_verify.specs.Plain.{place_from, step_failure, step_reads, IsStep, step_failure_at, step_reads_at, plain_failure, plain_reads}
+use Rattle.fb_verify.specs.Order.{Failure, after, ◌▷◌, table_failure, inline_field_failure, vector_field_failure, lead_failure, present_failure, failure_at, own_failure}
+use Rattle.fb_verify.specs.Plain.{place_from, step_failure, step_reads, IsStep, HasBit, step_failure_at, step_reads_at, plain_failure, plain_reads}
 use Rattle.fb_verify.proofs.Frames.{slot_few}
 
 -- The step at a place is that of the field there.
@@ -93,10 +93,32 @@ is_step S fs i s h e =
     subst (λ z. IsStep z z.act) (sym x.2) (kind_step S x.0 (x.0).kind (h x.0 x.1))
 
 -- A step has the bit of its act, and the slot of its field.
-pub has_bit : (fs : List Live) (i : ℕ) (s : Step) → slice_get (map step_of fs) i ≡ Some s → s.bit ≡ bit_of s.act
+bit_is : (s : Step) (act : Act) → s.bit ≡ bit_of act → HasBit s act
+bit_is s One e = e
+bit_is s Two e = e
+bit_is s Four e = e
+bit_is s Eight e = e
+bit_is s Inline e = e
+bit_is s AText e = e
+bit_is s Vector e = e
+bit_is s Other e = inl e
+
+bit_at : (s : Step) (f : Live) (kind : Kind) → s.bit ≡ bits_of f kind → HasBit s (act_of f kind)
+bit_at s f (Scalar z) e = bit_is s (inline_act f.size f.align) e
+bit_at s f (Struct z) e = bit_is s (inline_act f.size f.align) e
+bit_at s f Text e = e
+bit_at s f (Table k) e = inr e
+bit_at s f (Union z) e = inl e
+bit_at s f (Scalars z) e = e
+bit_at s f (Structs z) e = e
+bit_at s f Texts e = inl e
+bit_at s f (Tables z) e = inl e
+bit_at s f (Unions z) e = inl e
+
+pub has_bit : (fs : List Live) (i : ℕ) (s : Step) → slice_get (map step_of fs) i ≡ Some s → HasBit s s.act
 has_bit fs i s e =
     let x = step_at fs i s e in
-    subst (λ z. z.bit ≡ bit_of z.act) (sym x.2) refl
+    subst (λ z. HasBit z z.act) (sym x.2) (bit_at (step_of x.0) x.0 (x.0).kind refl)
 
 pub is_even : (fs : List Live) (i : ℕ) (s : Step) → ((f : Live) → slice_get fs i ≡ Some f → f.slot % 2 ≡ 0) → slice_get (map step_of fs) i ≡ Some s → s.slot % 2 ≡ 0
 is_even fs i s h e =
@@ -211,6 +233,13 @@ module _ (c : Checks) (b : List ℕ) (S : Rows) (t : ℕ) (f : Live) where
     unfolding plain_reads
     plain_reads_are = ap (λ o. slot_reads b t f.slot + step_reads_at (step_of f) o) here ∙ ap (λ x. slot_reads b t f.slot + step_reads (act_of f x)) is
 
+    -- of what leads to no table the step has the size
+    inline_is_own : size_of f kind ≡ f.size → step_failure c b t (step_of f) p (inline_act f.size f.align) ≡ inline_field_failure c b t p f.size f.align
+    inline_is_own e = subst (λ n. step_failure c b t (step_of f) p (inline_act n f.align) ≡ inline_field_failure c b t p n f.align) (ap (size_of f) is ∙ e) (inline_step c b t p (step_of f))
+
+    vector_is_own : size_of f kind ≡ f.size → step_failure c b t (step_of f) p Vector ≡ vector_field_failure c b t p f.size f.align
+    vector_is_own e = ap (λ n. vector_field_failure c b t p n f.align) (ap (size_of f) is ∙ e)
+
     nowhere : asked ≡ present_failure c b S t f p kind → entries_of b S t f p kind ≡ [] → step_reads (act_of f kind) ≡ present_reads b t f.slot kind → Comes
     nowhere same none reads = inl (record {
       none = entries_are ∙ none;
@@ -227,8 +256,8 @@ module _ (c : Checks) (b : List ℕ) (S : Rows) (t : ℕ) (f : Live) where
   not_there p here none = absurd (let w : Some p ≡ None = sym here ∙ none in cc)
 
   present : (p : ℕ) → field_place b t f.slot ≡ Some p → (kind : Kind) → f.kind ≡ kind → (act_of f kind ≡ Other → field_place b t f.slot ≡ None) → Comes
-  present p here (Scalar s) e n = nowhere p here (Scalar s) e (inline_step c b t p (step_of f)) refl (inline_free f.size f.align)
-  present p here (Struct k) e n = nowhere p here (Struct k) e (inline_step c b t p (step_of f)) refl (inline_free f.size f.align)
+  present p here (Scalar s) e n = nowhere p here (Scalar s) e (inline_is_own p here (Scalar s) e refl) refl (inline_free f.size f.align)
+  present p here (Struct k) e n = nowhere p here (Struct k) e (inline_is_own p here (Struct k) e refl) refl (inline_free f.size f.align)
   present p here Text e n =
       let slot = slot_reads b t f.slot in
       let own_count : own_reads b t f ≡ slot = own_reads_are p here Text e ∙ omega arith in
@@ -245,8 +274,8 @@ module _ (c : Checks) (b : List ℕ) (S : Rows) (t : ℕ) (f : Live) where
       )
   present p here (Table z) e n = not_there p here (n refl)
   present p here (Union z) e n = not_there p here (n refl)
-  present p here (Scalars s) e n = nowhere p here (Scalars s) e refl refl refl
-  present p here (Structs z) e n = nowhere p here (Structs z) e refl refl refl
+  present p here (Scalars s) e n = nowhere p here (Scalars s) e (vector_is_own p here (Scalars s) e refl) refl refl
+  present p here (Structs z) e n = nowhere p here (Structs z) e (vector_is_own p here (Structs z) e refl) refl refl
   present p here Texts e n = not_there p here (n refl)
   present p here (Tables z) e n = not_there p here (n refl)
   present p here (Unions e') e n = not_there p here (n refl)

@@ -1,6 +1,5 @@
 -- What a tree, and what a way to a fault, costs at most.
 use Rattle.std.proofs.Common.{ℕ, zero, suc, ◌+◌, ◌*◌, ◌≤◌, List, [], ◌∷◌, length, arith, Option, Some, None}
-use Rattle.std.proofs.lemmas.Bool.Decides.{nat_tests}
 use Rattle.fb_bytes.specs.Word.{word}
 use Rattle.fb_schema.specs.declared.kinds.Kind.{Kind}
 use Rattle.fb_schema.specs.declared.kinds.Kind.TheVariants.{Scalar, Text, Struct, Table, Union, Scalars, Texts, Structs, Tables, Unions}
@@ -17,7 +16,8 @@ use Rattle.fb_verify.specs.Fields.{IsPresent, IsPresentOrAbsent, IsField, type_p
 use Rattle.fb_verify.specs.Tree.{Tree, node, Kids, no_kids, kid, Elements, no_elements, element, Element, leaf, table, size, kids_size, elements_size, element_size, kids_length, elements_length}
 use Rattle.fb_verify.specs.Unfolds.{Unfolds, FieldsUnfold, ElementsUnfold, ElementUnfolds}
 use Rattle.fb_verify.specs.WellFormed.{start_reads}
-use Rattle.fb_verify.specs.Cost.{head_reads, slot_reads, reads_if_present, present_reads, reads_at, own_reads, lead_reads, tree_cost, kids_cost, elements_cost, element_cost}
+use Rattle.fb_verify.specs.Cost.{present_reads, reads_at, own_reads, lead_reads, tree_cost, kids_cost, elements_cost, element_cost}
+use Rattle.fb_verify.proofs.Frames.{lead_few, if_present_few, head_few, slot_few}
 
 -- the start
 
@@ -33,30 +33,20 @@ unfoldable pub row_reads : List Entry → ℕ
 row_reads [] = 0
 row_reads (x ∷ xs) = x.reads + lead_reads x.lead + row_reads xs
 
-pub few_reads : (lead : Lead) → lead_reads lead ≤ 3
-few_reads (to_table k) = omega arith
-few_reads (to_struct size align) = omega arith
-few_reads to_string = omega arith
-few_reads to_nothing = omega arith
-
 reads_of_row : (lead : Lead) (p n : ℕ) → row_reads (row lead p n) ≤ 4 * n
 unfolding row row_reads
 reads_of_row lead p zero = omega arith
-reads_of_row lead p (suc n) = omega (arith, few_reads lead, reads_of_row lead (p + 4) n)
+reads_of_row lead p (suc n) = omega (arith, lead_few lead, reads_of_row lead (p + 4) n)
 
 reads_of_union_row : (b : List ℕ) (S : Rows) (e q p n : ℕ) → row_reads (union_row b S e q p n) ≤ 4 * n
 unfolding union_row row_reads
 reads_of_union_row b S e q p zero = omega arith
-reads_of_union_row b S e q p (suc n) = omega (arith, few_reads (lead_of S (member_of S e (word b q 1))), reads_of_union_row b S e (q + 1) (p + 4) n)
+reads_of_union_row b S e q p (suc n) = omega (arith, lead_few (lead_of S (member_of S e (word b q 1))), reads_of_union_row b S e (q + 1) (p + 4) n)
 
 reads_of_union : (S : Rows) (p : ℕ) (member : Option Kind) → row_reads (union_entry S p member) ≤ 3
 unfolding row_reads
 reads_of_union S p None = omega arith
-reads_of_union S p (Some m) = omega (arith, few_reads (lead_of S (Some m)))
-
-pub few_if_present : (n : ℕ) (place : Option ℕ) → reads_if_present n place ≤ n
-few_if_present n None = omega arith
-few_if_present n (Some q) = omega arith
+reads_of_union S p (Some m) = omega (arith, lead_few (lead_of S (Some m)))
 
 module _ (c : Checks) (b : List ℕ) (S : Rows) where
   present_price : (t : ℕ) (f : Live) (p : ℕ) (kind : Kind) → IsPresent c b S t f p kind → present_reads b t f.slot kind + row_reads (entries_of b S t f p kind) ≤ 5 + length b
@@ -65,27 +55,21 @@ module _ (c : Checks) (b : List ℕ) (S : Rows) where
   present_price t f p (Struct k) h = omega arith
   present_price t f p Text h = omega arith
   present_price t f p (Table k) h = omega arith
-  present_price t f p (Union e) h = omega (arith, few_if_present 1 (type_place b t f.slot), reads_of_union S p (member_of S e (union_type b (type_place b t f.slot))))
+  present_price t f p (Union e) h = omega (arith, if_present_few 1 (type_place b t f.slot), reads_of_union S p (member_of S e (union_type b (type_place b t f.slot))))
   present_price t f p (Scalars s) h = omega arith
   present_price t f p (Structs k) h = omega arith
   present_price t f p Texts h = omega (arith, reads_of_row to_string (target b p + 4) (word b (target b p) 4), h.vector.within)
   present_price t f p (Tables k) h = omega (arith, reads_of_row (to_table k) (target b p + 4) (word b (target b p) 4), h.vector.within)
-  present_price t f p (Unions e) h = omega (arith, few_if_present 2 (type_place b t f.slot), reads_of_union_row b S e (types_begin b (type_place b t f.slot)) (target b p + 4) (word b (target b p) 4), h.field.vector.within)
+  present_price t f p (Unions e) h = omega (arith, if_present_few 2 (type_place b t f.slot), reads_of_union_row b S e (types_begin b (type_place b t f.slot)) (target b p + 4) (word b (target b p) 4), h.field.vector.within)
 
   price_at : (t : ℕ) (f : Live) (place : Option ℕ) → IsPresentOrAbsent c b S t f place → reads_at b t f place + row_reads (entries_at b S t f place) ≤ 5 + length b
   unfolding row_reads
   price_at t f None h = omega arith
   price_at t f (Some p) h = present_price t f p f.kind h
 
-  pub slot_price : (t o : ℕ) → slot_reads b t o ≤ 1
-  slot_price t o = grind (arith, nat_tests)
-
   pub field_price : (t : ℕ) (f : Live) → IsField c b S t f → own_reads b t f + row_reads (entries b S t f) ≤ 6 + length b
   unfolding own_reads entries IsField
-  field_price t f h = omega (arith, slot_price t f.slot, price_at t f (field_place b t f.slot) h)
-
-  pub head_price : head_reads c ≤ 3
-  head_price = grind arith
+  field_price t f h = omega (arith, slot_few b t f.slot, price_at t f (field_place b t f.slot) h)
 
   -- with so many reads a field at most, and so many a table
   module _ (P B : ℕ) (each : (t : ℕ) (f : Live) → IsField c b S t f → own_reads b t f + row_reads (entries b S t f) ≤ P) (all : (k : ℕ) → 3 + length (live_fields S k) * P ≤ B) where
@@ -97,7 +81,7 @@ module _ (c : Checks) (b : List ℕ) (S : Rows) where
           let k_is = h.0 in
           let t_is = h.1 in
           let r = kids_price kids t (live_fields S k) h.3 in
-          rw (k_is, t_is) (omega (arith, r, all k, head_price))
+          rw (k_is, t_is) (omega (arith, r, all k, head_few c))
 
       pub kids_price : (kids : Kids) (t : ℕ) (fs : List Live) → FieldsUnfold kids c b S t fs → kids_cost kids c b S t fs ≤ length fs * P + B * kids_size kids
       kids_price no_kids t fs h = omega arith

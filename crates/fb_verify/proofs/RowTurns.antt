@@ -1,18 +1,26 @@
 -- Turns through the words of the top's row.
-use Rattle.std.proofs.Common.{◌≡◌, ℕ, ◌+◌, ◌*◌, ◌<◌, ◌≤◌, max, [], ◌∷◌, ◌++◌, length, take, inl, inr, refl, sym, ◌∙◌, ap, arith, Some, None}
+use Rattle.std.proofs.Common.{◌≡◌, ℕ, ◌+◌, ◌*◌, ◌^◌, ◌<◌, ◌≤◌, true, max, List, [], ◌∷◌, ◌++◌, map, length, take, inl, inr, refl, sym, ◌∙◌, ap, arith, Some, None}
 use Rattle.std.proofs.lemmas.Bool.{cases_eq}
 use Rattle.std.proofs.lemmas.List.{length-append, take_all}
 use Rattle.fb_bytes.specs.Word.{Lent}
+use Rattle.fb_schema.specs.declared.views.Step.{Step}
+use Rattle.fb_schema.specs.Rows.{Rows}
+use Rattle.fb_schema.specs.Live.{live_fields}
+use Rattle.fb_schema.specs.Steps.{is_plain, step_of}
+use Rattle.fb_verify.specs.declared.checks.Checks.{Checks}
 use Rattle.fb_verify.specs.declared.table.Child.{Child}
 use Rattle.fb_verify.specs.declared.fault.Reason.{Reason}
 use Rattle.fb_verify.specs.declared.offset_row.Row.{Row}
 use Rattle.fb_verify.specs.declared.scratch.Frame.{Frame}
 use Rattle.fb_verify.specs.declared.site.LastLink.TheVariants.{Behind, InField}
+use Rattle.fb_verify.specs.declared.site.Stop.{Stop}
 use Rattle.fb_verify.specs.declared.stack.Walk.{Walk}
 use Rattle.fb_verify.specs.Bounds.{AreAllowed}
 use Rattle.fb_verify.specs.Cost.{head_reads}
-use Rattle.fb_verify.specs.Flat.{in_head, frame_at, PassesFlat}
-use Rattle.fb_verify.specs.OffsetRows.{past_first}
+use Rattle.fb_verify.specs.Flat.{in_head, frame_at, MayPass, PassesFlat}
+use Rattle.fb_verify.specs.OffsetRows.{first_word, past_first}
+use Rattle.fb_verify.specs.Order.{after, element_failure}
+use Rattle.fb_verify.specs.Plain.{tested_by}
 use Rattle.fb_verify.specs.Stack.{Waiting, IsAtTable, IsWalking, HaltsIn}
 use Rattle.fb_verify.specs.StopsAt.{IsStopAt}
 use Rattle.fb_verify.specs.Turns.{IsShort, IsAtChild, GoesDown, GoesOn, Rests, Halts}
@@ -20,7 +28,11 @@ use Rattle.fb_verify.proofs.Budgets.{fewer_reads}
 use Rattle.fb_verify.proofs.Children.{words_work}
 use Rattle.fb_verify.proofs.Flats.{flat_work}
 use Rattle.fb_verify.proofs.Frames.{first_few, head_few}
-use Rattle.fb_verify.proofs.Turns.{at_child, down_falls}
+use Rattle.fb_verify.proofs.LeafRows.{word_fails}
+use Rattle.fb_verify.proofs.Turns.{at_child, down_falls, halts_behind}
+
+pub two : (m : ℕ) → m + 2 ≡ m + 1 + 1
+two m = omega arith
 
 -- the walk goes on where it is
 pub stays : (w : Walk) (m : Lent) (under : Waiting) (top : Frame) → IsWalking w m under.start under.frames top → IsShort m.count → GoesOn w w m m under top top
@@ -57,15 +69,24 @@ module _ {w then : Walk} {m new : Lent} {under : Waiting} {top past : Frame} (on
     short = short;
   }
 
+  -- or it fails, and the walk stops behind it
+  pub word_halts : {at : ℕ} {reason : Reason} (q : Lent) (last : Frame) (stop : Stop) (halted : Walk) (links : ℕ) → links ≡ length under.frames → q.bytes ≡ new.bytes → 0 < (past.row).left
+      → tested_by at q.count (Some reason) ≡ after new.count (element_failure then.checks new.bytes (first_word new.bytes then.schema.now past.row))
+      → stop ≡ record { refusal = record { at = at; reason = reason }; site = record { object = (past.table).object; field = Some past.number } }
+      → last ≡ record past { row = past_first past.row } → halted.halt ≡ record { stop = stop; links = links + 1; last = Behind } → Halts w halted m q under last
+  word_halts {at} {reason} q last stop halted links many kept more told is behind halts =
+      let same = on.same in
+      let fails = word_fails on.walking (past_first past.row) refl more (record { at = at; reason = reason }) new.count q.count refl (sym told) stop is in
+      halts_behind many (kept ∙ on.bytes) (rw (ap (λ (x : Walk). x.limits) same) at (on.walking).links) stop halts
+      (rw (behind, sym (ap (λ (x : Walk). x.checks) same), sym (ap (λ (x : Walk). x.schema) same), sym (ap (λ (x : Walk). x.limits) same)) (rw on.bytes at fails))
+
 -- the next ones were passed until one leads to a table, which was counted
-pub record Counts (w then counted : Walk) (m new mid : Lent) (under : Waiting) (top past last : Frame) (row : Row) (child : Child) (links : ℕ) : Type 0 where
+pub record Counts (w then counted : Walk) (m new mid : Lent) (under : Waiting) (top past : Frame) (row : Row) (child : Child) (links : ℕ) : Type 0 where
   pub on : GoesOn w then m new under top past
   pub kept : mid.bytes ≡ new.bytes
   pub grows : new.count ≤ mid.count
-  pub at : IsAtTable then mid.bytes mid.count under.start under.frames last (new.count + 4 * (past.row).left) child
-  pub same : last ≡ record past { row = last.row }
-  pub less : (last.row).left ≤ (past.row).left
-  pub word : row ≡ past_first last.row
+  pub at : IsAtTable then mid.bytes mid.count under.start under.frames past (new.count + 4 * (past.row).left) child
+  pub word : row ≡ past_first past.row
   pub many : links ≡ length under.frames + 1
   pub fewer : then.tables < (then.limits).tables
   pub deep : links < (w.limits).depth
@@ -73,7 +94,7 @@ pub record Counts (w then counted : Walk) (m new mid : Lent) (under : Waiting) (
   pub cheap : AreAllowed (w.limits).reads (mid.count + 3)
   pub is : counted ≡ record then { tables = then.tables + 1; deepest = max then.deepest (links + 1) }
 
-module _ {w then counted : Walk} {m new mid : Lent} {under : Waiting} {top past last : Frame} {row : Row} {child : Child} {links : ℕ} (h : Counts w then counted m new mid under top past last row child links) where
+module _ {w then counted : Walk} {m new mid : Lent} {under : Waiting} {top past : Frame} {row : Row} {child : Child} {links : ℕ} (h : Counts w then counted m new mid under top past row child links) where
   limits : then.limits ≡ w.limits
   limits = ap (λ (x : Walk). x.limits) (h.on).same
 
@@ -81,7 +102,7 @@ module _ {w then counted : Walk} {m new mid : Lent} {under : Waiting} {top past 
   schema = ap (λ (x : Walk). x.schema.now) (h.on).same
 
   abbrev waits : Frame
-  waits = record last { row = row }
+  waits = record past { row = row }
 
   abbrev below : Waiting
   below = record { start = under.start; frames = under.frames ++ waits ∷ [] }
@@ -94,12 +115,12 @@ module _ {w then counted : Walk} {m new mid : Lent} {under : Waiting} {top past 
   -- it is to be opened
   pub comes_down : IsAtChild counted mid under.start below.frames child
   comes_down =
-      at_child then mid.bytes mid.count mid.base under.start under.frames last (new.count + 4 * (past.row).left) child h.at links h.many row h.word h.fewer (rw limits h.deep) h.low
+      at_child mid.base h.at links h.many row h.word h.fewer (rw limits h.deep) h.low
       (fewer_reads (then.limits).reads (mid.count + head_reads then.checks) (mid.count + 3) (omega (arith, head_few then.checks)) (rw limits h.cheap)) counted h.is
 
   pub goes_down : IsShort (mid.count + 3) → GoesDown w counted m mid under top waits child
   goes_down short =
-      let fall = down_falls then mid.bytes mid.count new.count under.start under.frames past last child h.same h.less h.at row h.word h.fewer in
+      let fall = down_falls new.count h.at row h.word h.fewer in
       record {
         same = counted_same;
         down = comes_down;
@@ -110,16 +131,33 @@ module _ {w then counted : Walk} {m new mid : Lent} {under : Waiting} {top past 
         short = short;
       }
 
-  -- or it is passed whole
+  -- or it may be passed, if its fields lead to no table
+  pub flat_comes : {c : Checks} {S : Rows} {steps : List Step} {room : ℕ} → c ≡ w.checks → S ≡ w.schema.now → steps ≡ map step_of (live_fields w.schema.now child.object) → length steps < 2 ^ 32
+      → is_plain w.schema.now child.object ≡ true → AreAllowed (w.limits).reads room → mid.count + 3 + 6 * length steps < room → room ≤ 2 ^ 56 → MayPass (record { walk = counted; under = below }) mid c S child.object child.at steps
+  flat_comes {c} {S} {steps} {room} checks rows its few plain allowed paid short =
+      let same = ap (λ (x : Walk). x.schema.now) counted_same in
+      record {
+        opens = comes_down.opens;
+        room = fewer_reads (counted.limits).reads (mid.count + 3 + 6 * length steps) room (omega arith) (rw (ap (λ (x : Walk). x.limits) counted_same) allowed);
+        short = omega arith;
+        near = comes_down.near;
+        same = checks ∙ sym (ap (λ (x : Walk). x.checks) counted_same);
+        its = rw same its;
+        schema = rows ∙ sym same;
+        plain = rw same plain;
+        few = few;
+      }
+
+  -- which passes it whole
   pub table_passed : (next at : ℕ) (q : Lent) → PassesFlat counted mid q below child.object child.at next at None → IsShort q.count → GoesOn w counted m q under top waits
   table_passed next at q p short =
-      let most : q.count ≤ (h.at).before + 200000 = omega (arith, p.paid refl, (h.at).count, first_few mid.bytes then.schema.now last.row, ((p.walking refl under.frames waits refl).served).few child.object) in
-      let fall = flat_work w.schema.now w.limits under.frames last row then.tables (h.at).before q.count h.word (h.at).more (rw limits at h.fewer) most in
+      let most : q.count ≤ (h.at).before + 200000 = omega (arith, p.paid refl, (h.at).count, first_few mid.bytes then.schema.now past.row, ((p.walking refl under.frames waits refl).served).few child.object) in
+      let fall = flat_work w.schema.now w.limits under.frames past row then.tables (h.at).before q.count h.word (h.at).more (rw limits at h.fewer) most in
       record {
         same = counted_same;
         walking = p.walking refl under.frames waits refl;
-        table = ap (λ (x : Frame). x.table) h.same ∙ (h.on).table;
-        falls = rw (ap (λ (x : Walk). x.tables) h.is) (omega (arith, (h.on).falls, fall, words_work w.schema.now w.limits under.frames past last then.tables new.count (h.at).before h.same (h.at).paid h.less));
+        table = (h.on).table;
+        falls = rw (ap (λ (x : Walk). x.tables) h.is) (omega (arith, (h.on).falls, fall, (h.at).paid));
         grows = omega (arith, (h.on).grows, h.grows, p.grows);
         bytes = p.bytes ∙ h.kept ∙ (h.on).bytes;
         short = short;

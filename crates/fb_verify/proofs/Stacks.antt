@@ -1,10 +1,9 @@
 -- A stack in a row of frames: what is pushed onto it and popped off it.
 use Rattle.std.proofs.Common.{◌≡◌, ℕ, ◌+◌, ◌-◌, ◌≤◌, ◌<◌, List, [], ◌∷◌, ◌++◌, length, take, get_or, sym, ◌∙◌, ap, arith}
 use Rattle.std.proofs.Math.ListN.{set, length-set, get_or-append}
-use Rattle.std.specs.List.{All, sum_by}
-use Rattle.std.proofs.lemmas.List.{take_more, take_more_set, take-take, take-set, take-append-le, set-append_left, get_or-take, get_or-set_same, get_or-append-add, length-take}
+use Rattle.std.specs.List.{sum_by}
+use Rattle.std.proofs.lemmas.List.{take_more, take_more_set, take-set, take-append-le, set-append_left, get_or-set_same, get_or-append-add}
 use Rattle.std.proofs.lemmas.List.Sums.{sum_by_push}
-use Rattle.std.proofs.lemmas.List.Elements.{All-take, All-get_or}
 
 -- the last of the first m
 module _ {X : Type 0} (xs : List X) (m : ℕ) (d : X) (some : 0 < m) (room : m ≤ length xs) where
@@ -13,13 +12,6 @@ module _ {X : Type 0} (xs : List X) (m : ℕ) (d : X) (some : 0 < m) (room : m �
 
   pub sum_last : (f : X → ℕ) → sum_by f (take m xs) ≡ sum_by f (take (m - 1) xs) + f (get_or xs (m - 1) d)
   sum_last f = ap (sum_by f) last_is ∙ sum_by_push f (take (m - 1) xs) (get_or xs (m - 1) d)
-
-  module _ (P : X → Type 0) (holds : All P (take m xs)) where
-    pub all_last : P (get_or xs (m - 1) d)
-    all_last = let l : m - 1 < length (take m xs) = omega (arith, length-take m xs) in rw (get_or-take m xs (m - 1) d (omega arith)) at (All-get_or P (take m xs) (m - 1) d l holds)
-
-    pub all_below : All P (take (m - 1) xs)
-    all_below = rw (take-take (m - 1) m xs (omega arith)) at (All-take P (m - 1) (take m xs) holds)
 
 -- A row in two parts, of which the first ends with the frame that is written.
 module _ {X : Type 0} (xs low high : List X) (m : ℕ) (y : X) (parts : xs ≡ low ++ high) (front : length low ≡ m + 1) where

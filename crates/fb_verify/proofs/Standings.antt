@@ -121,7 +121,7 @@ module _ (c : Checks) (b : List ℕ) (S : Rows) where
 
       -- the top, past the first word that is left
       abbrev pub past_word : Frame
-      past_word = record { table = top.table; next = top.next; number = top.number; row = past_first top.row }
+      past_word = record top { row = past_first top.row }
 
       module _ (few : n ≤ L.tables) (shallow : d ≤ L.depth) (cheap : AreAllowed L.reads r) where
         pub stop_at_element : (f : Fault) → 0 < (top.row).left → told here r (element_failure c b (first_word b S top.row) ▷ lead_reads_failure L r (first_word b S top.row) (first_word b S top.row).lead) ≡ Some f
@@ -167,7 +167,7 @@ module _ (c : Checks) (b : List ℕ) (S : Rows) where
       -- an offset word that leads to no table is passed
       pub pass_leaf : (row : Row) (q : ℕ) → row ≡ past_first top.row → 0 < (top.row).left → element_failure c b (first_word b S top.row) ≡ None → IsLeafLead (first_word b S top.row).lead
           → q ≡ r + (first_word b S top.row).reads + lead_reads (first_word b S top.row).lead
-          → Standing c b S s below (record { table = top.table; next = top.next; number = top.number; row = row }) n d q
+          → Standing c b S s below (record top { row = row }) n d q
       unfolding element_size element_depth element_cost
       pass_leaf row q re l o k z =
           let x = first_word b S top.row in
@@ -180,7 +180,7 @@ module _ (c : Checks) (b : List ℕ) (S : Rows) where
       -- a field is passed
       pub pass_more : (field : Live) (row : Row) (number q : ℕ) → (top.row).left ≡ 0 → slice_get (live_fields S (top.table).object) top.next ≡ Some field → number ≡ field.number
           → own_failure c b S (top.table).at field ≡ None → entries b S (top.table).at field ≡ words_of b S row → q ≡ r + own_reads b (top.table).at field
-          → Standing c b S s below (record { table = top.table; next = top.next + 1; number = number; row = row }) n d q
+          → Standing c b S s below (record top { next = top.next + 1; number = number; row = row }) n d q
       pass_more field row number q l i ne o e z =
           let t = (top.table).at in
           let u = reached h.v (top.table).object None n d r in
@@ -190,23 +190,23 @@ module _ (c : Checks) (b : List ℕ) (S : Rows) where
       -- a field that leads nowhere is passed
       pub pass_over : (field : Live) (row : Row) (q : ℕ) → (top.row).left ≡ 0 → slice_get (live_fields S (top.table).object) top.next ≡ Some field → row.left ≡ 0
           → own_failure c b S (top.table).at field ≡ None → entries b S (top.table).at field ≡ words_of b S row → q ≡ r + own_reads b (top.table).at field
-          → Standing c b S s below (record { table = top.table; next = top.next + 1; number = top.number; row = top.row }) n d q
+          → Standing c b S s below (record top { next = top.next + 1 }) n d q
       pass_over field row q l i none o e z =
-          let y : Frame = record { table = top.table; next = top.next + 1; number = field.number; row = row } in
+          let y : Frame = record top { next = top.next + 1; number = field.number; row = row } in
           let on = pass_more field row field.number q l i refl o e z in
           record { v = on.v; root = on.root; under = on.under; at = inl (record { none = l; inside = (at_rest y on.v n d q none on.at).inside }) }
 
       -- a table is opened
       pub open_more : (m : ℕ) (row : Row) (table : Table) (k q : ℕ) → m ≡ length below + 1 → row ≡ past_first top.row → 0 < (top.row).left → element_failure c b (first_word b S top.row) ≡ None
           → (first_word b S top.row).lead ≡ to_table k → table.object ≡ k → table.at ≡ target b (top.row).place → q ≡ r + (first_word b S top.row).reads + lead_reads (first_word b S top.row).lead → head_failure c b table.at ≡ None
-          → Standing c b S s (below ++ record { table = top.table; next = top.next; number = top.number; row = row } ∷ []) (opened_frame table) (n + 1) (max d (m + 1)) (q + head_reads c)
+          → Standing c b S s (below ++ record top { row = row } ∷ []) (opened_frame table) (n + 1) (max d (m + 1)) (q + head_reads c)
       open_more m row table k q mi re l o e ko p z g =
           let x = first_word b S top.row in
           let offset = table_lead x.place x.lead k e ((element_none c b x).0 o) in
           let u = way_to_table x v' in
           let wait = waits c b S (top.table).object (top.table).at h.v top.next top.number x (words_of b S (past_first top.row)) v' k table.at (middle l) e offset (rw (first_place b S top.row) p) in
           let one : lead_reads x.lead ≡ 1 = rw e refl in
-          let y : Frame = record { table = top.table; next = top.next; number = top.number; row = row } in
+          let y : Frame = record top { row = row } in
           let goes : Goes c b S y h.v k table.at u = rw re wait in
           let push = context_push c b S below y s.object s.position s.way h.v k table.at u h.under goes in
           record { v = u; root = h.root; under = rw ko push; at = inl (fresh table u m n d q (omega (arith, mi, links_is)) refl refl (omega (arith, z, one)) g) }

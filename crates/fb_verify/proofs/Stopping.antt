@@ -32,7 +32,7 @@ pub told_link : (site : Site) (r : ℕ) (e : Option Failure) (f : Fault) → tol
 told_link site r None f h = absurd cc
 told_link site r (Some e) f h = let i : record { at = e.at; object = site.object; field = site.field; reason = e.reason; reads = r + e.reads } ≡ f = cc in ap own_link (sym i)
 
-module _ (c : Checks) (b : List ℕ) (S : Rows) (L : Bounds) (s : Origin) (below : List Frame) (top : Frame) (n d r : ℕ) (h : IsUnderWay c b S L s below top n d r) (f : Fault) where
+module _ {c : Checks} {b : List ℕ} {S : Rows} {L : Bounds} {s : Origin} {below : List Frame} {top : Frame} {n d r : ℕ} (h : IsUnderWay c b S L s below top n d r) (f : Fault) where
   linked : All (IsLinked c b S) below
   linked = let g = h.standing in context_linked c b S h.served below s.object s.position (top.table).object (top.table).at s.way g.v g.under h.frames
 
@@ -42,10 +42,10 @@ module _ (c : Checks) (b : List ℕ) (S : Rows) (L : Bounds) (s : Origin) (below
 
   -- behind a word of the top
   pub stops_behind : (row : Row) → row ≡ past_first top.row → 0 < (top.row).left
-      → LeadsAlong c b S L s.object s.position s.way f (map (frame_link b S) below ++ frame_link b S (record { table = top.table; next = top.next; number = top.number; row = past_first top.row }) ∷ [])
-      → StopsIn c b S L s (below ++ record { table = top.table; next = top.next; number = top.number; row = row } ∷ []) [] f
+      → LeadsAlong c b S L s.object s.position s.way f (map (frame_link b S) below ++ frame_link b S (record top { row = past_first top.row }) ∷ [])
+      → StopsIn c b S L s (below ++ record top { row = row } ∷ []) [] f
   stops_behind row re l way =
-      let past : Frame = record { table = top.table; next = top.next; number = top.number; row = past_first top.row } in
+      let past : Frame = record top { row = past_first top.row } in
       let same : map (frame_link b S) (below ++ past ∷ []) ++ [] ≡ map (frame_link b S) below ++ frame_link b S past ∷ [] = append-nil (map (frame_link b S) (below ++ past ∷ [])) ∙ map-append (frame_link b S) below (past ∷ []) in
       let g = h.standing in
       let m = in_middle c b S top g.v n d r l g.at in
@@ -53,7 +53,7 @@ module _ (c : Checks) (b : List ℕ) (S : Rows) (L : Bounds) (s : Origin) (below
         along = rw same way;
         linked = All-push (IsLinked c b S) below past linked (is_linked c b S past g.v _ (first_word b S top.row) m h.served (frame_on c b S top (past_first top.row) refl l h.frame));
       } in
-      subst (λ (x : Row). StopsIn c b S L s (below ++ record { table = top.table; next = top.next; number = top.number; row = x } ∷ []) [] f) (sym re) base
+      subst (λ (x : Row). StopsIn c b S L s (below ++ record top { row = x } ∷ []) [] f) (sym re) base
 
   abbrev site : Site
   site = record { object = (top.table).object; field = Some top.number }
@@ -67,12 +67,12 @@ module _ (c : Checks) (b : List ℕ) (S : Rows) (L : Bounds) (s : Origin) (below
   module _ (row : Row) (re : row ≡ past_first top.row) (l : 0 < (top.row).left) where
     -- a word of the top fails
     pub word_stops : told site r (element_failure c b (first_word b S top.row) ▷ lead_reads_failure L r (first_word b S top.row) (first_word b S top.row).lead) ≡ Some f
-        → StopsIn c b S L s (below ++ record { table = top.table; next = top.next; number = top.number; row = row } ∷ []) [] f
+        → StopsIn c b S L s (below ++ record top { row = row } ∷ []) [] f
     word_stops e = stops_behind row re l (stop_at_element c b S L s below top n d r h.standing h.tables h.deepest h.reads f l e)
 
     -- a word of the top leads to a table that can't be opened, or has no head
     pub table_stops : (m k t : ℕ) → m ≡ length below + 1 → element_failure c b (first_word b S top.row) ≡ None → (first_word b S top.row).lead ≡ to_table k → t ≡ target b (top.row).place
         → (q : ℕ) → q ≡ r + (first_word b S top.row).reads + lead_reads (first_word b S top.row).lead
         → (told site q (budget_failure L (way_at m n d q site) t) ▷ told (record { object = k; field = None }) q (head_failure c b t ▷ reads_failure L q (head_reads c) t)) ≡ Some f
-        → StopsIn c b S L s (below ++ record { table = top.table; next = top.next; number = top.number; row = row } ∷ []) [] f
+        → StopsIn c b S L s (below ++ record top { row = row } ∷ []) [] f
     table_stops m k t mi o e p q z g = stops_behind row re l (stop_at_table c b S L s below top n d r h.standing h.tables h.deepest h.reads m f k t mi l o e p q z g)

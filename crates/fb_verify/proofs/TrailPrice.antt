@@ -2,6 +2,7 @@
 use Rattle.std.proofs.Common.{◌≡◌, ℕ, zero, suc, ◌+◌, ◌*◌, ◌≤◌, ◌<◌, List, [], ◌∷◌, length, take, refl, ap, arith, Option, Some, None, ◌⊎◌, inl, inr, mul-le-mul_left, mul-le-mul_right, mul_comm, length-take}
 use Rattle.std.specs.Prelude.{slice_get}
 use Rattle.std.proofs.lemmas.Bool.Decides.{nat_tests}
+use Rattle.std.proofs.lemmas.Option.{slice_get_within}
 use Rattle.fb_schema.specs.Rows.{Rows}
 use Rattle.fb_schema.specs.Live.{Live, live_fields, widest}
 use Rattle.fb_schema.proofs.LookLemmas.{within_widest}
@@ -19,7 +20,8 @@ use Rattle.fb_verify.specs.Way.{Way, way_to_start, way_to_root, way_to_field, wa
 use Rattle.fb_verify.specs.Stops.{budget_failure, reads_failure, in_head, fault_at, IsFalseAt, Trail, at_head, at_field, FieldTrail, at_own, at_element, ElementTrail, at_lead, through, IsTrail, IsFieldTrail, IsElementTrail, Stops}
 use Rattle.fb_verify.specs.MostReads.{within_budget, most_reads}
 use Rattle.fb_verify.proofs.Budgets.{no_reads, IsNear, near}
-use Rattle.fb_verify.proofs.Price.{start_price, row_reads, field_price, head_price, kids_price, elements_price, tree_price}
+use Rattle.fb_verify.proofs.Frames.{head_few}
+use Rattle.fb_verify.proofs.Price.{start_price, row_reads, field_price, kids_price, elements_price, tree_price}
 use Rattle.fb_verify.proofs.ChainReads.{either, reads_most, start_most}
 use Rattle.fb_verify.proofs.Overruns.{kids_cost_take, elements_cost_take}
 use Rattle.fb_verify.proofs.Nears.{fault_reads, first_of_two, budget_most, head_reads_most, own_reads_most, entry_reads_most, trail_near}
@@ -28,11 +30,6 @@ use Rattle.fb_verify.proofs.Nears.{fault_reads, first_of_two, budget_most, head_
 
 length_of_take : {A : Type 0} (n : ℕ) (xs : List A) → length (take n xs) ≤ n
 length_of_take n xs = omega (arith, length-take n xs)
-
-below : {A : Type 0} (xs : List A) (n : ℕ) (x : A) → slice_get xs n ≡ Some x → n < length xs
-below [] n x h = absurd (cc)
-below (y ∷ xs) zero x h = omega arith
-below (y ∷ xs) (suc n) x h = omega (arith, below xs n x h)
 
 reads_before : (xs : List Entry) (n : ℕ) (x : Entry) → slice_get xs n ≡ Some x → row_reads (take n xs) + (x.reads + lead_reads x.lead) ≤ row_reads xs
 unfolding row_reads
@@ -69,10 +66,10 @@ module _ (c : Checks) (b : List ℕ) (S : Rows) where
           let r = field_trail_price s t h.0 (way_to_field c b S k t earlier h.0 w) f h.2 in
           let p = kids_price c b S P B each all earlier t (take (kids_length earlier) fs) h.1.passed in
           let q = kids_cost_take c b S earlier t fs in
-          let i = below fs (kids_length earlier) h.0 h.1.next in
+          let i = slice_get_within fs (kids_length earlier) h.0 h.1.next in
           let m = mul-le-mul_right P (length_of_take (kids_length earlier) fs) in
           let n = mul-le-mul_right P i in
-          omega (arith, r, p, q, m, n, all k, head_price c b S)
+          omega (arith, r, p, q, m, n, all k, head_few c)
 
       field_trail_price : (s : FieldTrail) (t : ℕ) (g : Live) (w : Way) (f : Fault) → IsFieldTrail s c b S L t g w f → f.reads + B * w.passed ≤ w.paid + P + B * L.tables
       field_trail_price at_own t g w f h =

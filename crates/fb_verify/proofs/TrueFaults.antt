@@ -23,6 +23,7 @@ use Rattle.fb_verify.specs.Way.{Way, way_to_start, way_to_root, way_to_field, wa
 use Rattle.fb_verify.specs.Stops.{in_start, in_head, fault_of, budget_failure, reads_failure, lead_reads_failure, fault_at, IsFalseAt, Trail, at_head, at_field, FieldTrail, at_own, at_element, ElementTrail, at_lead, through, IsTrail, IsFieldTrail, IsElementTrail}
 use Rattle.fb_verify.specs.TrueReasons.{FailsAtLimit, PrefixIsFalse, IdentIsFalse, OffsetIsFalse, HeadIsFalse, PlacedIsFalse, LeadIsFalse, IsOverBudget, HasEntry, LeadsOn, IsReached, as_root, from_above, FailsAtStart, LimitIsReached, FailsInHead, FailsInField, FailsInElement, FailsAtTable, StopsTruly, PresentIsFalse, opened_on, opened_on_field, opened_on_element, TablesRunOut}
 use Rattle.fb_verify.proofs.Budgets.{are_too_many}
+use Rattle.fb_verify.proofs.Overruns.{either}
 use Rattle.fb_verify.proofs.TrueReasons.{some_same, by_check, by_last, start_false, head_false, own_false, element_false}
 
 -- A fault at the end of a way.
@@ -37,10 +38,6 @@ failure_of w (Some e) f h = (e, refl, some_same h)
 
 not_below : (m n : ℕ) → nat_lt m n ≡ false → n ≤ m
 not_below m n h = grind (arith, nat_tests)
-
-either : (x y : Option Failure) (e : Failure) → x ▷ y ≡ Some e → (x ≡ Some e) ⊎ (y ≡ Some e)
-either None y e h = inr h
-either (Some d) y e h = inl h
 
 module _ (L : Bounds) (w : Way) where
   budget_told : (n p : ℕ) (e : Failure) (holds : Bool) → allowed L.reads (w.paid + n) ≡ holds → check holds TooManyReads p n None ≡ Some e → IsOverBudget L p (as_fault w e)
@@ -76,10 +73,6 @@ module _ (L : Bounds) (w : Way) where
       (λ wrong. (refl, not_below w.links L.depth wrong))
       (λ _ i. by_last (LimitIsReached L t w.links) (nat_lt w.passed L.tables) TooManyTables t 0 e i (λ _. refl))
 
-  first_fault : (x : Option Failure) (y : Option Fault) (f : Fault) → fault_of w x ▷ y ≡ Some f → (fault_of w x ≡ Some f) ⊎ (y ≡ Some f)
-  first_fault None y f h = inr h
-  first_fault (Some e) y f h = inl h
-
   pub limit_fault : (t : ℕ) (f : Fault) → fault_of w (budget_failure L w t) ≡ Some f → FailsAtLimit t w.links w.object w.field L f
   limit_fault t f h =
       let r = failure_of w (budget_failure L w t) f h in
@@ -96,7 +89,7 @@ module _ (c : Checks) (b : List ℕ) (S : Rows) (L : Bounds) where
     unfolding fault_at
     head_fails k t above object field w f reached object_is field_is links h =
         let v : Way = record w { object = k; field = None } in
-        at_reached reached (elim (first_fault L w (budget_failure L w t) (fault_of v (head_failure c b t ▷ reads_failure L v.paid (head_reads c) t)) f h.first) [
+        at_reached reached (elim (either (fault_of w (budget_failure L w t)) (fault_of v (head_failure c b t ▷ reads_failure L v.paid (head_reads c) t)) f h.first) [
           | inl i ↦ (let r = limit_fault L w t f i in inl (record { object_is = r.object_is ∙ object_is; field_is = r.field_is ∙ field_is; because = subst (λ n. LimitIsReached L t n f.reason f.at) links r.because }))
           | inr i ↦ (let r = place_fault L v (HeadIsFalse c b t) (head_failure c b t) (head_reads c) t f (head_false c b t) i in inr (inl (record { object = r.0; field = r.1; because = r.2 })))
         ])
@@ -201,7 +194,7 @@ module _ (c : Checks) (b : List ℕ) (S : Rows) (L : Bounds) where
   unfolding fault_at
   head_runs_out k t w f h is =
       let v : Way = record w { object = k; field = None } in
-      elim (first_fault L w (budget_failure L w t) (fault_of v (head_failure c b t ▷ reads_failure L v.paid (head_reads c) t)) f h.first) [
+      elim (either (fault_of w (budget_failure L w t)) (fault_of v (head_failure c b t ▷ reads_failure L v.paid (head_reads c) t)) f h.first) [
         | inl i ↦ (let r = failure_of w (budget_failure L w t) f i in run_out_at t w r.0 r.1 (ap (λ (g : Fault). g.reason) r.2 ∙ is))
         | inr i ↦ (let r = place_fault L v (HeadIsFalse c b t) (head_failure c b t) (head_reads c) t f (head_false c b t) i in absurd (another (HeadIsFalse c b t) L t f (λ at x. x) is r.2))
       ]

@@ -2,7 +2,6 @@
 use Rattle.std.proofs.Common.{◌≡◌, ℕ, ◌+◌, ◌-◌, ◌≤◌, ◌<◌, List, [], ◌∷◌, ◌++◌, length, take, get_or, refl, sym, ◌∙◌, ap, arith}
 use Rattle.std.proofs.Math.ListN.{set, length-set}
 use Rattle.std.proofs.lemmas.List.{take-take, length-take, length-append}
-use Rattle.std.specs.List.{All}
 use Rattle.fb_bytes.specs.Word.{Lent}
 use Rattle.fb_schema.specs.Live.{live_fields}
 use Rattle.fb_verify.specs.declared.table.Child.{Child}
@@ -10,10 +9,25 @@ use Rattle.fb_verify.specs.declared.scratch.Frame.{Frame}
 use Rattle.fb_verify.specs.declared.stack.Turn.{Turn}
 use Rattle.fb_verify.specs.declared.stack.Turn.TheVariants.{Down, Up, Slowly, Halt as Halted}
 use Rattle.fb_verify.specs.declared.stack.Walk.{Walk}
-use Rattle.fb_verify.specs.Stack.{blank, Origin, frame_work, work, Waiting, IsFrame}
-use Rattle.fb_verify.specs.Turns.{GoesOn, Ends, GoesDown, Halts, GoesOver, WentOn, WentWrong, GoesUp, OpensChild, StopsAtChild, Opened, Turned, FramesTurned, RootTurned, PassedField, FieldTurned}
-use Rattle.fb_verify.proofs.Stacks.{last_is, sum_last, all_last, all_below, below_joined, grown_joined, top_joined, next_joined}
-use Rattle.fb_verify.proofs.Standings.{close_last, close_more}
+use Rattle.fb_verify.specs.Stack.{blank, Origin, frame_work, work, Waiting, IsWalking}
+use Rattle.fb_verify.specs.Turns.{GoesOn, Ends, GoesDown, Halts, GoesOver, WentOn, WentOver, WentWrong, GoesUp, OpensChild, StopsAtChild, Opened, Turned, FramesTurned, RootTurned, PassedField, FieldTurned}
+use Rattle.fb_verify.proofs.Stacks.{last_is, sum_last, below_joined, grown_joined, top_joined, next_joined}
+use Rattle.fb_verify.proofs.Standings.{close_last}
+use Rattle.fb_verify.proofs.Walking.{table_closed}
+
+-- where the fields of its first table are passed, a walk is over
+pub went_over : {w then : Walk} {m new : Lent} (under : Waiting) (past : Frame) → then ≡ record w { tables = then.tables; deepest = then.deepest } → IsWalking then new under.start under.frames past → under.frames ≡ []
+    → (past.row).left ≡ 0 → length (live_fields then.schema.now (past.table).object) ≤ past.next → new.bytes ≡ m.bytes → WentOver w then m new under.start
+went_over {w} {then} {m} {new} under past same h none rests all bytes =
+    let limits = ap (λ (x : Walk). x.limits) same in
+    record {
+      same = same;
+      over = close_last then.checks new.bytes then.schema.now then.limits under.start under.frames past then.tables then.deepest new.count h.standing none rests all;
+      within = rw (sym limits) h.tables;
+      shallow = rw (sym limits) h.deepest;
+      reads = rw (sym limits) h.reads;
+      bytes = bytes;
+    }
 
 module _ (w then : Walk) (m new : Lent) (under : Waiting) (old low high : List Frame) (waiting : ℕ) (top past : Frame) (child : Child) (parts : old ≡ low ++ high) (front : length low ≡ waiting + 1)
     (below : under.frames ≡ take waiting old) (stands : top ≡ get_or old waiting blank) (other : List Frame) where
@@ -59,36 +73,15 @@ module _ (w then : Walk) (m new : Lent) (under : Waiting) (old low high : List F
   unfolding work
   frames_close e =
       let h = e.on.walking in
-      let limits = ap (λ (x : Walk). x.limits) e.on.same in
       let schema = ap (λ (x : Walk). x.schema.now) e.on.same in
       let all : length (live_fields then.schema.now (past.table).object) ≤ past.next = rw schema e.all in
       record {
-        over = λ zero. record {
-          same = e.on.same;
-          over = close_last then.checks new.bytes then.schema.now then.limits under.start under.frames past then.tables then.deepest new.count h.standing (below ∙ rw zero refl) e.rests all;
-          within = rw (sym limits) h.tables;
-          shallow = rw (sym limits) h.deepest;
-          reads = rw (sym limits) h.reads;
-          bytes = e.on.bytes;
-        };
+        over = λ zero. went_over under past e.on.same h (below ∙ rw zero refl) e.rests all e.on.bytes;
         above = λ some.
-            let P = IsFrame then.checks new.bytes then.schema.now in
             let room : waiting ≤ length frames = omega (arith, long) in
-            let holds : All P (take waiting frames) = rw (sym waits) h.frames in
             record {
               same = e.on.same;
-              walking = record {
-                served = h.served;
-                tables = h.tables;
-                deepest = h.deepest;
-                reads = h.reads;
-                links = omega (arith, h.links, ap length waits, length-take waiting frames, length-take (waiting - 1) frames);
-                low = omega (arith, h.low, ap length waits, length-take waiting frames, length-take (waiting - 1) frames);
-                frames = all_below frames waiting blank some room P holds;
-                frame = all_last frames waiting blank some room P holds;
-                standing = close_more then.checks new.bytes then.schema.now then.limits under.start under.frames past then.tables then.deepest new.count h.standing
-                    (take (waiting - 1) frames) (get_or frames (waiting - 1) blank) (waits ∙ last_is frames waiting blank some room) e.rests all;
-              };
+              walking = table_closed h (take (waiting - 1) frames) (get_or frames (waiting - 1) blank) (waits ∙ last_is frames waiting blank some room) e.rests all;
               falls = rw (sym below, sym stands) (omega (arith, e.on.falls, ap (λ zs. work w.schema.now w.limits zs past then.tables) waits, sum_last frames waiting blank some room (frame_work w.schema.now)));
               grows = e.on.grows;
               bytes = e.on.bytes;
@@ -190,18 +183,7 @@ module _ (w mid then : Walk) (m been new : Lent) (under : Waiting) (kept : mid �
     field_turned Halted un h = halts_on h
 
     pub field_over : PassedField mid then been new under t past → GoesOn w then m new under top past × ((past.row).left ≡ 0)
-    field_over h = (
-      record {
-        same = same_on h.same;
-        walking = (h.between).walking;
-        table = h.table ∙ table;
-        falls = omega (arith, (rw (schema_kept, limits_kept) at h.falls), falls);
-        grows = omega (arith, grows, h.grows);
-        bytes = h.bytes ∙ bytes;
-        short = h.short;
-      },
-      (h.between).rests,
-    )
+    field_over h = (field_turned Slowly (λ e. cc) h.on, h.rests)
 
 -- what wasn't passed at the root is as it was
 pub root_kept : (w then : Walk) (m new : Lent) (s : Origin) (turn : Turn) → (turn ≡ Up → ⊥) → (turn ≡ Halted → ⊥) → RootTurned w then m new s turn → (then ≡ w) × (new ≡ m)

@@ -1,5 +1,5 @@
 -- A walk counts the table to which the first word of the top's row leads, and is to open it.
-use Rattle.std.proofs.Common.{◌≡◌, ℕ, ◌+◌, ◌*◌, ◌<◌, ◌≤◌, max, List, [], ◌∷◌, ◌++◌, length, take, refl, sym, ◌∙◌, ap, subst, arith, Some}
+use Rattle.std.proofs.Common.{◌≡◌, ℕ, ◌+◌, ◌*◌, ◌<◌, max, List, [], ◌∷◌, ◌++◌, length, take, refl, sym, ◌∙◌, ap, subst, arith, Some}
 use Rattle.std.proofs.Math.Seq.{take-append_seam}
 use Rattle.std.proofs.lemmas.List.{length-append}
 use Rattle.std.proofs.lemmas.List.Sums.{sum_by_push}
@@ -19,7 +19,7 @@ use Rattle.fb_verify.specs.OffsetRows.{past_first}
 use Rattle.fb_verify.specs.Stack.{Origin, Waiting, IsAtTable, IsStopped, StopsIn, frame_work, work}
 use Rattle.fb_verify.specs.Told.{way_at, stopped}
 use Rattle.fb_verify.specs.Turns.{IsAtChild, Halts, frame_of}
-use Rattle.fb_verify.proofs.Children.{child_opened, child_stops, words_work, word_few}
+use Rattle.fb_verify.proofs.Children.{child_opened, child_stops, word_few}
 use Rattle.fb_verify.proofs.Flats.{head_fails}
 use Rattle.fb_verify.proofs.Pushes.{take_all}
 
@@ -27,11 +27,11 @@ use Rattle.fb_verify.proofs.Pushes.{take_all}
 pub table_is : (t : Table) (k p : ℕ) → t.object ≡ k → t.at ≡ p → t ≡ record { object = k; at = p; head = t.head }
 table_is t k p e f = rw (sym e, sym f) refl
 
-module _ (w : Walk) (b : List ℕ) (q base : ℕ) (s : Origin) (below : List Frame) (top : Frame) (most : ℕ) (child : Child) (o : IsAtTable w b q s below top most child)
+module _ {w : Walk} {b : List ℕ} {q : ℕ} (base : ℕ) {s : Origin} {below : List Frame} {top : Frame} {most : ℕ} {child : Child} (o : IsAtTable w b q s below top most child)
     (m : ℕ) (mi : m ≡ length below + 1) (row : Row) (re : row ≡ past_first top.row) (fewer : w.tables < (w.limits).tables) (deep : m < (w.limits).depth) where
   -- the frame that waits for it
   abbrev waits : Frame
-  waits = record { table = top.table; next = top.next; number = top.number; row = row }
+  waits = record top { row = row }
 
   -- once it is counted, the walk is to open it
   pub at_child : (low : m < 4096) → AreAllowed (w.limits).reads (q + head_reads w.checks) → (then : Walk) → then ≡ record w { tables = w.tables + 1; deepest = max w.deepest (m + 1) }
@@ -39,39 +39,38 @@ module _ (w : Walk) (b : List ℕ) (q base : ℕ) (s : Origin) (below : List Fra
   at_child low cheap then is =
       let site : Site = record { object = (top.table).object; field = Some top.number } in
       let counted : IsAtChild (record w { tables = w.tables + 1; deepest = max w.deepest (m + 1) }) (record { bytes = b; count = q; base = base }) s (below ++ waits ∷ []) child = record {
-        opens = λ table k p head ok. child_opened w b q s below top most child o m mi row re table (table_is table child.object child.at k p) ok fewer deep low head cheap;
+        opens = λ table k p head ok. child_opened o m mi row re table (table_is table child.object child.at k p) ok fewer deep low head cheap;
         table = o.table;
         near = o.near;
         stops = λ at reads reason e.
-            child_stops w b q s below top most child o m mi row re site refl _
+            child_stops o m mi row re site refl _
             (head_fails w.checks b w.limits (way_at m w.tables w.deepest q site) site child.object child.at at q reads reason deep fewer e);
       } in
       subst (λ x. IsAtChild x (record { bytes = b; count = q; base = base }) s (below ++ waits ∷ []) child) (sym is) counted
 
 -- Which leaves less work than where the words before it were passed.
-module _ (w : Walk) (b : List ℕ) (q r : ℕ) (s : Origin) (below : List Frame) (old top : Frame) (child : Child) (same : top ≡ record old { row = top.row }) (less : (top.row).left ≤ (old.row).left)
-    (o : IsAtTable w b q s below top (r + 4 * (old.row).left) child) (row : Row) (re : row ≡ past_first top.row) (fewer : w.tables < (w.limits).tables) where
+module _ {w : Walk} {b : List ℕ} {q : ℕ} (r : ℕ) {s : Origin} {below : List Frame} {top : Frame} {child : Child} (o : IsAtTable w b q s below top (r + 4 * (top.row).left) child)
+    (row : Row) (re : row ≡ past_first top.row) (fewer : w.tables < (w.limits).tables) where
   abbrev S : Rows
   S = w.schema.now
 
-  pub down_falls : q + 3 + work S w.limits (below ++ record { table = top.table; next = top.next; number = top.number; row = row } ∷ []) (frame_of child) (w.tables + 1) < r + work S w.limits below old w.tables
+  pub down_falls : q + 3 + work S w.limits (below ++ record top { row = row } ∷ []) (frame_of child) (w.tables + 1) < r + work S w.limits below top w.tables
   unfolding work
   down_falls =
       omega (
         arith,
-        words_work S w.limits below old top w.tables r o.before same o.paid less,
-        word_few w b q s below top (r + 4 * (old.row).left) child o,
+        word_few o,
         o.more,
         ap (λ (x : Row). x.left) re,
         fewer,
-        sum_by_push (frame_work S) below (record { table = top.table; next = top.next; number = top.number; row = row }),
+        sum_by_push (frame_work S) below (record top { row = row }),
         ((o.walking).served).few child.object,
         o.count,
         o.paid,
       )
 
 -- Where a walk stops.
-module _ (w then : Walk) (m new : Lent) (under : Waiting) (past : Frame) (links : ℕ) (many : links ≡ length under.frames) (bytes : new.bytes ≡ m.bytes) (low : length under.frames < (w.limits).depth) where
+module _ {w then : Walk} {m new : Lent} {under : Waiting} {past : Frame} {links : ℕ} (many : links ≡ length under.frames) (bytes : new.bytes ≡ m.bytes) (low : length under.frames < (w.limits).depth) where
   -- behind a word of the top
   pub halts_behind : (stop : Stop) → then.halt ≡ record { stop = stop; links = links + 1; last = Behind } → StopsIn w.checks m.bytes w.schema.now w.limits under.start (under.frames ++ past ∷ []) [] (stopped stop new.count)
       → Halts w then m new under past

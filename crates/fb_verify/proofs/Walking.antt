@@ -21,18 +21,18 @@ use Rattle.fb_verify.specs.Stack.{IsFrame, frame_work, work, opened, Origin, IsU
 use Rattle.fb_verify.proofs.Frames.{first_few, head_few, own_few, field_within, frame_on, frame_passed, frame_next, frame_opened, work_opened}
 use Rattle.fb_verify.proofs.Standings.{pass_leaf, pass_more, pass_over, open_more, close_more}
 
-module _ (c : Checks) (b : List ℕ) (S : Rows) (L : Bounds) (s : Origin) (below : List Frame) (top : Frame) (n d r : ℕ) (h : IsUnderWay c b S L s below top n d r) where
+module _ {c : Checks} {b : List ℕ} {S : Rows} {L : Bounds} {s : Origin} {below : List Frame} {top : Frame} {n d r : ℕ} (h : IsUnderWay c b S L s below top n d r) where
   -- the top, past its first offset word
   abbrev top_on : Row → Frame
-  top_on row = record { table = top.table; next = top.next; number = top.number; row = row }
+  top_on row = record top { row = row }
 
   -- the top, past its next field
   abbrev top_past : ℕ → Row → Frame
-  top_past number row = record { table = top.table; next = top.next + 1; number = number; row = row }
+  top_past number row = record top { next = top.next + 1; number = number; row = row }
 
   -- the top, past a field that leads nowhere
   abbrev top_over : Frame
-  top_over = record { table = top.table; next = top.next + 1; number = top.number; row = top.row }
+  top_over = record top { next = top.next + 1 }
 
   -- the walk goes on with this frame for the top, after so many reads
   pub goes_on : (next : Frame) (q : ℕ) → AreAllowed L.reads q → IsFrame c b S next → Standing c b S s below next n d q → IsUnderWay c b S L s below next n d q

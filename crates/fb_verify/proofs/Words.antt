@@ -1,12 +1,14 @@
 -- What is left of a row.
 use Rattle.std.proofs.Common.{◌≡◌, ℕ, zero, suc, ◌+◌, ◌-◌, ◌<◌, nat_lt, true, false, List, [], ◌∷◌, refl, sym, ◌∙◌, subst, arith}
 use Rattle.std.proofs.lemmas.Bool.Decides.{nat_tests}
+use Rattle.fb_bytes.specs.Word.{word}
 use Rattle.fb_schema.specs.Rows.{Rows}
 use Rattle.fb_verify.specs.declared.offset_row.Leads.{Leads}
 use Rattle.fb_verify.specs.declared.offset_row.Leads.TheVariants.{All, ByType}
 use Rattle.fb_verify.specs.declared.offset_row.Row.{Row}
 use Rattle.fb_verify.specs.Fields.{row, union_row}
-use Rattle.fb_verify.specs.OffsetRows.{words, words_of, word_at, first_word, leads_after, past_first, AreLeads, IsRow, LeavesRow}
+use Rattle.fb_verify.specs.Places.{target}
+use Rattle.fb_verify.specs.OffsetRows.{words, words_of, word_at, first_word, leads_after, past_first, AreLeads, IsRow, LeavesRow, PutsWords}
 
 module _ (b : List ℕ) (S : Rows) where
   words-front : (leads : Leads) (p n : ℕ) → 0 < n → words b S leads p n ≡ word_at b S leads p ∷ words b S (leads_after leads) (p + 4) (n - 1)
@@ -45,7 +47,7 @@ module _ (b : List ℕ) (S : Rows) where
   row_on r l h = record { place = omega (arith, h.place); left = omega (arith, h.left); leads = λ m. leads_on r.leads r.left (h.leads l) l }
 
   -- so many words were put into a row that was empty, if there are any
-  pub words_left : (leads : Leads) (p n : ℕ) (old new : Row) → old.left ≡ 0 → (n ≡ 0 → new ≡ old) → (0 < n → new ≡ record { leads = leads; place = p; left = n }) → (0 < n → IsRow b S (record { leads = leads; place = p; left = n }))
+  words_left : (leads : Leads) (p n : ℕ) (old new : Row) → old.left ≡ 0 → (n ≡ 0 → new ≡ old) → (0 < n → new ≡ record { leads = leads; place = p; left = n }) → (0 < n → IsRow b S (record { leads = leads; place = p; left = n }))
       → LeavesRow b S (words b S leads p n) old new (nat_lt 0 new.left)
   words_left leads p zero old new rests none some good =
       subst (λ (y : Row). LeavesRow b S (words b S leads p zero) old y (nat_lt 0 y.left)) (sym (none refl))
@@ -53,3 +55,8 @@ module _ (b : List ℕ) (S : Rows) where
   words_left leads p (suc n) old new rests none some good =
       subst (λ (y : Row). LeavesRow b S (words b S leads p (suc n)) old y (nat_lt 0 y.left)) (sym (some (omega arith)))
       (record { none = λ e. absurd (let t : nat_lt 0 (suc n) ≡ true = grind (arith, nat_tests) in let w : true ≡ false = sym t ∙ e in cc); entries = λ _. refl; row = λ _. (good (omega arith), omega arith) })
+
+  -- those of a vector, so far as they are told
+  pub vector_left : {p : ℕ} {leads : Leads} {old new : Row} → PutsWords b p leads old new → old.left ≡ 0 → AreLeads b S (word b (target b p) 4) leads
+      → LeavesRow b S (words b S leads (target b p + 4) (word b (target b p) 4)) old new (nat_lt 0 new.left)
+  vector_left h rests good = words_left _ _ _ _ _ rests h.none h.some (λ _. record { place = omega (arith, h.within); left = omega (arith, h.within); leads = λ _. good })

@@ -1,12 +1,17 @@
 -- What it takes to pass a table whose fields lead to no table, and what that leaves.
-use Rattle.std.specs.Prelude.{◌≡◌, ℕ, ◌+◌, ◌*◌, ◌<◌, ◌≤◌, List, [], ◌∷◌, ◌++◌, Option, Some, None, IfSome, length}
+use Rattle.std.specs.Prelude.{◌≡◌, ℕ, ◌+◌, ◌*◌, ◌^◌, ◌<◌, ◌≤◌, true, List, [], ◌∷◌, ◌++◌, Option, None, IfSome, length, map}
 use Rattle.fb_bytes.specs.Word.{Lent}
+use Rattle.fb_schema.specs.declared.views.Step.{Step}
+use Rattle.fb_schema.specs.Rows.{Rows}
 use Rattle.fb_schema.specs.Live.{live_fields}
+use Rattle.fb_schema.specs.Steps.{is_plain, step_of}
+use Rattle.fb_verify.specs.declared.checks.Checks.{Checks}
 use Rattle.fb_verify.specs.declared.fault.Reason.{Reason}
 use Rattle.fb_verify.specs.declared.table.Table.{Table}
 use Rattle.fb_verify.specs.declared.scratch.Frame.{Frame}
 use Rattle.fb_verify.specs.declared.site.Stop.{Stop}
 use Rattle.fb_verify.specs.declared.stack.Walk.{Walk}
+use Rattle.fb_verify.specs.Bounds.{AreAllowed}
 use Rattle.fb_verify.specs.Cost.{head_reads}
 use Rattle.fb_verify.specs.Order.{after, head_failure}
 use Rattle.fb_verify.specs.Plain.{tested_by}
@@ -32,6 +37,18 @@ abbrev pub MayOpen : Walk → List ℕ → ℕ → Waiting → ℕ → ℕ → T
 MayOpen w b r under k t =
     (table : Table) → table.object ≡ k → table.at ≡ t → IsHead w.checks b t table.head → head_failure w.checks b t ≡ None
     → IsUnderWay w.checks b w.schema.now w.limits under.start under.frames (opened table) w.tables w.deepest (r + head_reads w.checks)
+
+-- such a table, whose fields lead to no table, may be passed by its steps, whatever that costs
+pub record MayPass (going : Going) (m : Lent) (c : Checks) (S : Rows) (k t : ℕ) (steps : List Step) : Type 0 where
+  pub opens : MayOpen going.walk m.bytes m.count going.under k t
+  pub room : AreAllowed (going.walk.limits).reads (m.count + 3 + 6 * length steps)
+  pub short : m.count + 3 + 6 * length steps < 2 ^ 56
+  pub near : t < 2 ^ 33
+  pub same : c ≡ going.walk.checks
+  pub its : steps ≡ map step_of (live_fields going.walk.schema.now k)
+  pub schema : S ≡ going.walk.schema.now
+  pub plain : is_plain going.walk.schema.now k ≡ true
+  pub few : length steps < 2 ^ 32
 
 -- the table at t of the object k was passed whole, and the walk goes on in the frame above it; or its head fails, or a
 -- field of it, at this place, for this reason

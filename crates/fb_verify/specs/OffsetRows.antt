@@ -18,7 +18,8 @@ use Rattle.fb_verify.specs.declared.offset_row.Leads.{Leads}
 use Rattle.fb_verify.specs.declared.offset_row.Leads.TheVariants.{All, ByType}
 use Rattle.fb_verify.specs.declared.offset_row.Row.{Row}
 use Rattle.fb_verify.specs.Places.{target}
-use Rattle.fb_verify.specs.Fields.{type_place, Lead, to_table, to_struct, to_string, to_nothing, lead_of, Entry, entry, row, union_row}
+use Rattle.fb_verify.specs.Cost.{reads_if_present}
+use Rattle.fb_verify.specs.Fields.{type_place, union_type, Lead, to_table, to_struct, to_string, to_nothing, lead_of, Entry, entry, row, union_row}
 
 -- where an offset word leads that refers to this
 abbrev pub lead_to : Referent → Lead
@@ -122,6 +123,24 @@ pub record LeavesRow (b : List ℕ) (S : Rows) (xs : List Entry) (old new : Row)
   pub none : more ≡ false → (xs ≡ []) × (new ≡ old)
   pub entries : more ≡ true → xs ≡ words_of b S new
   pub row : more ≡ true → IsRow b S new × (0 < new.left)
+
+-- the type of the union with this slot
+abbrev pub type_of_slot : List ℕ → ℕ → ℕ → ℕ
+type_of_slot b t o = union_type b (type_place b t o)
+
+-- the reads that tell it
+abbrev pub type_reads : List ℕ → ℕ → ℕ → ℕ
+type_reads b t o = 1 + reads_if_present 1 (type_place b t o)
+
+-- and those that tell where the types of a vector of unions begin, and how many they are
+abbrev pub types_reads : List ℕ → ℕ → ℕ → ℕ
+types_reads b t o = 1 + reads_if_present 2 (type_place b t o)
+
+-- the words of the vector to which the offset at p leads were put into the row, if there are any
+pub record PutsWords (b : List ℕ) (p : ℕ) (leads : Leads) (old new : Row) : Type 0 where
+  pub none : word b (target b p) 4 ≡ 0 → new ≡ old
+  pub some : 0 < word b (target b p) 4 → new ≡ record { leads = leads; place = target b p + 4; left = word b (target b p) 4 }
+  pub within : target b p + 4 + 4 * word b (target b p) 4 < 2 ^ 31
 
 -- the type fields of a union and of a vector of unions were checked before: the types lie in the buffer
 pub record TypeFits (b : List ℕ) (t o : ℕ) : Type 0 where

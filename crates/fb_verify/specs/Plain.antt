@@ -4,6 +4,7 @@ use Rattle.fb_bytes.specs.Word.{Lent}
 use Rattle.fb_schema.specs.declared.views.Act.{Act}
 use Rattle.fb_schema.specs.declared.views.Act.TheVariants.{One, Two, Four, Eight, Inline, Text, Vector, Other}
 use Rattle.fb_schema.specs.declared.views.Step.{Step}
+use Rattle.fb_schema.specs.Steps.{bit_of}
 use Rattle.fb_verify.specs.declared.plain.Came.{Came}
 use Rattle.fb_verify.specs.declared.plain.Came.TheVariants.{Past, ToEnd, ToField, ToFault}
 use Rattle.fb_verify.specs.declared.checks.Checks.{Checks}
@@ -53,6 +54,11 @@ abbrev pub IsStep : Step → Act → Type 0
 IsStep s Inline = 0 < s.align
 IsStep s Vector = 0 < s.align
 IsStep s _ = Unit {0}
+
+-- it has the bit of its act, beside which may stand another of what leads to one table
+abbrev pub HasBit : Step → Act → Type 0
+HasBit s Other = (s.bit ≡ 128) ⊎ (s.bit ≡ 384)
+HasBit s act = s.bit ≡ bit_of act
 
 -- the same of a field that may be absent
 abbrev pub step_failure_at : Checks → List ℕ → ℕ → Step → Option ℕ → Option Failure

@@ -1,13 +1,19 @@
 -- What a turn of a quick walk leaves: it goes on, up or down, or it stops.
-use Rattle.std.specs.Prelude.{◌≡◌, ℕ, ◌+◌, ◌-◌, ◌<◌, ◌≤◌, ◌^◌, List, [], ◌∷◌, ◌++◌, take, length, slice_index_or, IsTrue, Some, None}
+use Rattle.std.specs.Prelude.{◌≡◌, ℕ, ◌+◌, ◌-◌, ◌*◌, ◌<◌, ◌≤◌, ◌^◌, List, [], ◌∷◌, ◌++◌, take, length, slice_get, slice_index_or, IsTrue, Option, Some, None, Result, IfOk, IfErr, IfSome, MatchOption, true}
 use Rattle.fb_bytes.specs.Word.{Lent}
 use Rattle.fb_schema.specs.declared.kinds.Kind.{Kind}
-use Rattle.fb_schema.specs.declared.kinds.Kind.TheVariants.{Union, Texts, Tables, Unions}
+use Rattle.fb_schema.specs.declared.kinds.Kind.TheVariants.{Table as ToTable, Union, Texts, Tables, Unions}
+use Rattle.fb_schema.specs.declared.views.Act.TheVariants.{Other}
+use Rattle.fb_schema.specs.declared.views.Step.{Step}
 use Rattle.fb_schema.specs.Rows.{is_table}
-use Rattle.fb_schema.specs.Live.{live_fields}
+use Rattle.fb_schema.specs.Live.{Live, live_fields, widest}
+use Rattle.fb_schema.specs.Steps.{act_of, is_plain, step_of}
 use Rattle.fb_verify.specs.declared.table.Child.{Child}
 use Rattle.fb_verify.specs.declared.fault.Reason.{Reason}
+use Rattle.fb_verify.specs.declared.offset_row.Leads.TheVariants.{All}
+use Rattle.fb_verify.specs.declared.offset_row.Referent.TheVariants.{Table as ATable}
 use Rattle.fb_verify.specs.declared.scratch.Frame.{Frame}
+use Rattle.fb_verify.specs.declared.site.Halt.{Halt}
 use Rattle.fb_verify.specs.declared.site.LastLink.TheVariants.{Behind}
 use Rattle.fb_verify.specs.declared.stack.Turn.{Turn}
 use Rattle.fb_verify.specs.declared.stack.Turn.TheVariants.{Down, Up, Slowly, Halt as Halted}
@@ -15,9 +21,9 @@ use Rattle.fb_verify.specs.declared.stack.Walk.{Walk}
 use Rattle.fb_verify.specs.Bounds.{AreAllowed}
 use Rattle.fb_verify.specs.Flat.{MayOpen}
 use Rattle.fb_verify.specs.Order.{after, head_failure}
+use Rattle.fb_verify.specs.PassesOn.{HasRoom, fields_left}
 use Rattle.fb_verify.specs.Plain.{tested_by}
-use Rattle.fb_verify.specs.PassesOn.{IsBetween}
-use Rattle.fb_verify.specs.Stack.{blank, opened, Origin, Waiting, work, IsWalking, IsOver, StopsIn, HaltsIn, links_left}
+use Rattle.fb_verify.specs.Stack.{blank, opened, Origin, Waiting, work, IsWalking, IsAtField, IsOver, StopsIn, HaltsIn, links_left}
 
 -- a count that 64 bits hold with room to spare
 abbrev pub IsShort : ℕ → Type 0
@@ -34,6 +40,43 @@ pub record IsAtChild (w : Walk) (m : Lent) (s : Origin) (frames : List Frame) (c
   pub near : child.at < 2 ^ 33
   pub stops : (at reads : ℕ) → (reason : Reason) → tested_by at reads (Some reason) ≡ after m.count (head_failure w.checks m.bytes child.at)
       → StopsIn w.checks m.bytes w.schema.now w.limits s frames [] (record { at = at; object = child.object; field = None; reason = reason; reads = reads })
+
+-- the walk goes on in a row of offset words, over so many frames that wait
+pub record IsInRow (w : Walk) (m : Lent) (under : Waiting) (waiting : ℕ) (top : Frame) : Type 0 where
+  pub many : waiting ≡ length under.frames
+  pub walking : IsWalking w m under.start under.frames top
+  pub more : 0 < (top.row).left
+  pub short : IsShort m.count
+
+-- where the depth allows a table below
+pub record IsAtMembers (w : Walk) (m : Lent) (under : Waiting) (waiting : ℕ) (top : Frame) : Type 0 where
+  pub row : IsInRow w m under waiting top
+  pub deep : waiting + 1 < (w.limits).depth
+  pub low : waiting + 1 < 4096
+
+-- and each word leads to a table of this object, whose fields lead to no table
+pub record IsAtFlats (w : Walk) (m : Lent) (under : Waiting) (waiting : ℕ) (top : Frame) (object : ℕ) : Type 0 where
+  pub down : IsAtMembers w m under waiting top
+  pub leads : (top.row).leads ≡ All (ATable object)
+  pub table : IsTrue (is_table w.schema.now object)
+  pub plain : is_plain w.schema.now object ≡ true
+
+-- the walk goes into this field, whose slot was the last read: it stands at this place, and may lead to a table
+pub record IsAtOpenField (w : Walk) (m : Lent) (under : Waiting) (waiting : ℕ) (top : Frame) (place : ℕ) (f : Live) : Type 0 where
+  pub many : waiting ≡ length under.frames
+  pub at : IsAtField w m.bytes m.count under.start under.frames top place
+  pub rests : (top.row).left ≡ 0
+  pub here : slice_get (live_fields w.schema.now (top.table).object) top.next ≡ Some f
+  pub act : act_of f f.kind ≡ Other
+  pub room : AreAllowed (w.limits).reads (m.count + 7)
+  pub short : IsShort (m.count + 7)
+
+-- the depth and the count of tables allow one more, where so many are open
+pub record AllowsTable (w : Walk) (links : ℕ) : Type 0 where
+  pub deep : links < (w.limits).depth
+  pub low : links < 4096
+  pub fewer : w.tables < (w.limits).tables
+  pub small : (w.limits).tables < 2 ^ 32
 
 -- the walk goes on in the same table
 pub record GoesOn (w then : Walk) (m new : Lent) (under : Waiting) (top past : Frame) : Type 0 where
@@ -88,18 +131,7 @@ Turned w then m new under top past child Up = Ends w then m new under top past
 Turned w then m new under top past child Slowly = GoesOn w then m new under top past
 Turned w then m new under top past child Halted = Halts w then m new under past
 
--- past a field that may lead on, whose slot was the last read
-pub record PassedField (w then : Walk) (m new : Lent) (under : Waiting) (top past : Frame) : Type 0 where
-  pub same : then ≡ record w { tables = then.tables; deepest = then.deepest }
-  pub between : IsBetween then new under past
-  pub table : past.table ≡ top.table
-  pub next : past.next ≡ top.next + 1
-  pub falls : new.count + work w.schema.now w.limits under.frames past then.tables ≤ m.count - 1 + work w.schema.now w.limits under.frames top w.tables
-  pub grows : m.count ≤ new.count
-  pub bytes : new.bytes ≡ m.bytes
-  pub short : IsShort new.count
-
--- the walk goes on in the same table, with the words of that field
+-- after a field that may lead on, whose slot was the last read, the walk goes on in the same table
 pub record StaysInField (w then : Walk) (m new : Lent) (under : Waiting) (top past : Frame) : Type 0 where
   pub same : then ≡ record w { tables = then.tables; deepest = then.deepest }
   pub walking : IsWalking then new under.start under.frames past
@@ -108,6 +140,12 @@ pub record StaysInField (w then : Walk) (m new : Lent) (under : Waiting) (top pa
   pub bytes : new.bytes ≡ m.bytes
   pub short : IsShort new.count
   pub grows : m.count ≤ new.count
+
+-- past that field
+pub record PassedField (w then : Walk) (m new : Lent) (under : Waiting) (top past : Frame) : Type 0 where
+  pub on : StaysInField w then m new under top past
+  pub rests : (past.row).left ≡ 0
+  pub next : past.next ≡ top.next + 1
 
 -- in a table below
 pub record GoesIntoField (w then : Walk) (m new : Lent) (under : Waiting) (top past : Frame) (child : Child) : Type 0 where
@@ -206,6 +244,34 @@ Walked w then m new s old waiting frames left Up = WentOver w then m new s
 Walked w then m new s old waiting frames left Slowly = WentOn w then m new s old waiting frames left
 Walked w then m new s old waiting frames left Halted = WentWrong w then m new s frames
 
+-- a walk over these frames, of which so many wait below the top, whose work that is left a count holds
+pub record IsUnderWayOver (w : Walk) (m : Lent) (s : Origin) (frames : List Frame) (waiting : ℕ) : Type 0 where
+  pub walking : IsWalking w m s (take waiting frames) (slice_index_or frames waiting blank)
+  pub top : waiting < length frames
+  pub few : m.count + work w.schema.now w.limits (take waiting frames) (slice_index_or frames waiting blank) w.tables ≤ 2 ^ 94
+
+-- it went on: it is over, or used these frames up, of which so many wait then, or it stopped
+pub record GoneOn (w then : Walk) (m new : Lent) (s : Origin) (frames : List Frame) (result : Result (Option ℕ) Halt) : Type 0 where
+  pub same : IfOk result (λ _. then ≡ record w { tables = then.tables; deepest = then.deepest })
+  pub walking : IfOk result (λ o. MatchOption o (IsOver then new s) (λ after. IsUnderWayOver then new s frames after))
+  pub used : IfOk result (λ o. IfSome o (λ after. length frames < (w.limits).depth))
+  pub within : IfOk result (λ _. then.tables ≤ (w.limits).tables)
+  pub shallow : IfOk result (λ _. then.deepest ≤ (w.limits).depth)
+  pub reads : IfOk result (λ _. AreAllowed (w.limits).reads new.count)
+  pub bytes : new.bytes ≡ m.bytes
+  pub deep : IfErr result (λ h. h.links + links_left h.last ≤ (w.limits).depth)
+  pub err : IfErr result (λ h. HaltsIn w m s (take h.links frames) h new.count)
+
+-- the budget allows whatever the fields of any table may cost after fewer reads than these
+abbrev pub IsBrim : Walk → ℕ → Type 0
+IsBrim w brim = (n : ℕ) → n < brim → AreAllowed (w.limits).reads (n + 8 + 6 * widest w.schema.now) × IsShort (n + 8 + 6 * widest w.schema.now)
+
+-- the budget allows whatever the other fields of the top may cost, and eight reads for what the last of them leads to
+pub record HasRoomToGo (w : Walk) (m : Lent) (top : Frame) : Type 0 where
+  pub room : HasRoom w m top
+  pub more : AreAllowed (w.limits).reads (m.count + 8 + 6 * fields_left w.schema.now top)
+  pub short : IsShort (m.count + 8 + 6 * fields_left w.schema.now top)
+
 -- what leads on by offset words of a vector, or by that of a union
 abbrev pub IsFar : Kind → Type 0
 IsFar Texts = Unit {0}
@@ -213,3 +279,15 @@ IsFar (Tables k) = Unit {0}
 IsFar (Union e) = Unit {0}
 IsFar (Unions e) = Unit {0}
 IsFar _ = ⊥
+
+-- the walk goes into the field of this step
+abbrev pub IsAtStep : (w : Walk) → (m : Lent) → (under : Waiting) → (waiting : ℕ) → (top : Frame) → (place : ℕ) → Step → Type 0
+IsAtStep w m under waiting top place step = (f : Live) × IsAtOpenField w m under waiting top place f × (step ≡ step_of f)
+
+-- and it leads to one table of this object
+abbrev pub IsAtTableField : (w : Walk) → (m : Lent) → (under : Waiting) → (waiting : ℕ) → (top : Frame) → (place slot object : ℕ) → Type 0
+IsAtTableField w m under waiting top place slot object = (f : Live) × IsAtOpenField w m under waiting top place f × (f.kind ≡ ToTable object) × (f.slot ≡ slot)
+
+-- or on by offset words
+abbrev pub IsAtFarField : (w : Walk) → (m : Lent) → (under : Waiting) → (waiting : ℕ) → (top : Frame) → (place : ℕ) → Type 0
+IsAtFarField w m under waiting top place = (f : Live) × IsAtOpenField w m under waiting top place f × IsFar f.kind

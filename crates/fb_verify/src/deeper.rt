@@ -1,8 +1,9 @@
 //! Where a walk goes on in more frames than it began in.
 
-ghost use Rattle.std.specs.Prelude.{◌≡◌, ◌+◌, ◌^◌, ◌<◌, ◌≤◌, length, List, take, slice_index_or, IfOk, IfErr, IfSome, MatchOption};
+ghost use Rattle.std.specs.Prelude.{◌≡◌, ◌+◌, ◌<◌, ◌≤◌, length, List, IfOk, IfErr};
 ghost use Rattle.fb_verify.specs.Bounds.{AreAllowed};
-ghost use Rattle.fb_verify.specs.Stack.{blank, Origin, work, IsWalking, IsOver, HaltsIn, links_left};
+ghost use Rattle.fb_verify.specs.Stack.{Origin, IsOver, HaltsIn, links_left};
+ghost use Rattle.fb_verify.specs.Turns.{IsUnderWayOver, GoneOn};
 
 use crate::scratch::{BLANK, Frame};
 use crate::site::Halt;
@@ -20,21 +21,8 @@ impl Walk<'_, '_> {
         waiting: u32,
     ) -> Result<Option<u32>, Halt>
         ghost start: { Origin }
-        requires walking { IsWalking self.old loan.old start (take waiting frames.old) (slice_index_or frames.old waiting blank) }
-        requires top { waiting < length frames.old }
-        requires few { loan.old.count + work self.old.schema.now self.old.limits (take waiting frames.old) (slice_index_or frames.old waiting blank) self.old.tables ≤ 2 ^ 94 }
-        ensures same { IfOk result (λ _. self.new ≡ record self.old { tables = self.new.tables; deepest = self.new.deepest }) }
-        ensures walking { IfOk result (λ o. MatchOption o
-            (IsOver self.new loan.new start)
-            (λ after. IsWalking self.new loan.new start (take after frames.new) (slice_index_or frames.new after blank))) }
-        ensures few { IfOk result (λ o. IfSome o (λ after. loan.new.count + work self.old.schema.now self.old.limits (take after frames.new) (slice_index_or frames.new after blank) self.new.tables ≤ 2 ^ 94)) }
-        ensures used { IfOk result (λ o. IfSome o (λ after. (after < length frames.new) × (length frames.new < (self.old.limits).depth))) }
-        ensures within { IfOk result (λ _. self.new.tables ≤ (self.old.limits).tables) }
-        ensures shallow { IfOk result (λ _. self.new.deepest ≤ (self.old.limits).depth) }
-        ensures reads { IfOk result (λ _. AreAllowed (self.old.limits).reads loan.new.count) }
-        ensures bytes { loan.new.bytes ≡ loan.old.bytes }
-        ensures deep { IfErr result (λ h. h.links + links_left h.last ≤ (self.old.limits).depth) }
-        ensures err { IfErr result (λ h. HaltsIn self.old loan.old start (take h.links frames.new) h loan.new.count) }
+        requires { IsUnderWayOver self.old loan.old start frames.old waiting }
+        ensures { GoneOn self.old self.new loan.old loan.new start frames.new result }
     {
         let mut waiting = waiting;
         match self.walk_on(loan, frames, &mut waiting) {
@@ -54,21 +42,8 @@ impl Walk<'_, '_> {
         waiting: u32,
     ) -> Result<Option<u32>, Halt>
         ghost start: { Origin }
-        requires walking { IsWalking self.old loan.old start (take waiting frames.old) (slice_index_or frames.old waiting blank) }
-        requires top { waiting < length frames.old }
-        requires few { loan.old.count + work self.old.schema.now self.old.limits (take waiting frames.old) (slice_index_or frames.old waiting blank) self.old.tables ≤ 2 ^ 94 }
-        ensures same { IfOk result (λ _. self.new ≡ record self.old { tables = self.new.tables; deepest = self.new.deepest }) }
-        ensures walking { IfOk result (λ o. MatchOption o
-            (IsOver self.new loan.new start)
-            (λ after. IsWalking self.new loan.new start (take after frames.new) (slice_index_or frames.new after blank))) }
-        ensures few { IfOk result (λ o. IfSome o (λ after. loan.new.count + work self.old.schema.now self.old.limits (take after frames.new) (slice_index_or frames.new after blank) self.new.tables ≤ 2 ^ 94)) }
-        ensures used { IfOk result (λ o. IfSome o (λ after. (after < length frames.new) × (length frames.new < (self.old.limits).depth))) }
-        ensures within { IfOk result (λ _. self.new.tables ≤ (self.old.limits).tables) }
-        ensures shallow { IfOk result (λ _. self.new.deepest ≤ (self.old.limits).depth) }
-        ensures reads { IfOk result (λ _. AreAllowed (self.old.limits).reads loan.new.count) }
-        ensures bytes { loan.new.bytes ≡ loan.old.bytes }
-        ensures deep { IfErr result (λ h. h.links + links_left h.last ≤ (self.old.limits).depth) }
-        ensures err { IfErr result (λ h. HaltsIn self.old loan.old start (take h.links frames.new) h loan.new.count) }
+        requires { IsUnderWayOver self.old loan.old start frames.old waiting }
+        ensures { GoneOn self.old self.new loan.old loan.new start frames.new result }
     {
         let mut waiting = waiting;
         while waiting as usize + 1 < frames.len() || self.limits.depth() as usize <= frames.len() {
@@ -96,9 +71,7 @@ impl Walk<'_, '_> {
         waiting: u32,
     ) -> Result<(), Halt>
         ghost start: { Origin }
-        requires walking { IsWalking self.old loan.old start (take waiting frames.now) (slice_index_or frames.now waiting blank) }
-        requires few { loan.old.count + work self.old.schema.now self.old.limits (take waiting frames.now) (slice_index_or frames.now waiting blank) self.old.tables ≤ 2 ^ 94 }
-        requires top { waiting < length frames.now }
+        requires goes { IsUnderWayOver self.old loan.old start frames.now waiting }
         requires fewer { length frames.now ≤ 64 }
         requires room { (self.old.limits).depth ≤ 64 }
         ensures same { IfOk result (λ _. self.new ≡ record self.old { tables = self.new.tables; deepest = self.new.deepest }) }

@@ -5,25 +5,23 @@ ghost use Rattle.std.specs.Prelude.{◌≡◌, ◌+◌, ◌-◌, ◌*◌, ◌^�
 ghost use Rattle.fb_schema.specs.Rows.{is_table};
 ghost use Rattle.fb_schema.specs.Live.{live_fields};
 ghost use Rattle.fb_schema.specs.Steps.{is_plain, step_of};
-ghost use Rattle.fb_verify.specs.Bounds.{AreAllowed};
 ghost use Rattle.fb_verify.specs.Cost.{head_reads};
-ghost use Rattle.fb_verify.specs.Flat.{in_head, frame_at, Going, MayOpen, PassesFlat};
+ghost use Rattle.fb_verify.specs.Flat.{in_head, frame_at, Going, MayPass, PassesFlat};
 ghost use Rattle.fb_verify.specs.Order.{head_failure};
 ghost use Rattle.fb_verify.specs.PassesOn.{IsBetween, HasRoom, Passage, PassesOn, CameTo};
 ghost use Rattle.fb_verify.specs.Plain.{IsTested};
-ghost use Rattle.fb_verify.specs.Stack.{opened, Waiting, IsWalking};
+ghost use Rattle.fb_verify.specs.Stack.{opened, Waiting};
 ghost use Rattle.fb_verify.specs.StopsAt.{IsStopAt};
-ghost use Rattle.fb_verify.specs.Turns.{IsShort, RowTurned};
+ghost use Rattle.fb_verify.specs.Turns.{IsAtMembers, IsAtFlats, RowTurned};
+ghost use Rattle.fb_verify.specs.declared.offset_row.Leads.TheVariants.{ByType};
 ghost use Rattle.fb_verify.specs.declared.stack.Turn.TheVariants.{Halt as Halted};
 ghost use Rattle.fb_verify.specs.declared.site.LastLink.TheVariants.{Behind, InField};
-ghost use Rattle.fb_verify.specs.declared.offset_row.Leads.TheVariants.{All};
-ghost use Rattle.fb_verify.specs.declared.offset_row.Referent.TheVariants.{Table as ATable};
 ghost use Rattle.fb_verify.specs.Told.{IsHead};
 
 use crate::checks::{Checks, PUBLISHED};
 use crate::fault::Reason;
 use crate::leaves::{first_referent, stop_at_word, targets_of};
-use crate::offset_row::{Referent, Row};
+use crate::offset_row::{Leads, Referent, Row};
 use crate::plain::{Came, pass_step, test_head, test_lead};
 use crate::scratch::Frame;
 use crate::site::LastLink;
@@ -143,15 +141,7 @@ fn pass_flat(
     at: &mut u64,
 ) -> Option<Reason>
     ghost going: { Going }
-    requires opens { MayOpen going.walk reads.old.bytes reads.old.count going.under object at.old }
-    requires room { AreAllowed (going.walk.limits).reads (reads.old.count + 3 + 6 * length steps.now) }
-    requires few { reads.old.count + 3 + 6 * length steps.now < 2 ^ 56 }
-    requires near { at.old < 2 ^ 33 }
-    requires same { checks ≡ going.walk.checks }
-    requires steps { steps.now ≡ map step_of (live_fields going.walk.schema.now object) }
-    requires schema { schema.now ≡ going.walk.schema.now }
-    requires plain { is_plain going.walk.schema.now object ≡ true }
-    requires few_steps { length steps.now < 2 ^ 32 }
+    requires { MayPass going reads.old checks schema.now object at.old steps.now }
     ensures { PassesFlat going.walk reads.old reads.new going.under object at.old next.new at.new result }
 {
     // Of the walk, and of the frame above with what is left of its row, a caller's ghost is made.
@@ -233,14 +223,7 @@ impl<'s, 'n> Walk<'s, 'n> {
         top: &mut Frame,
     ) -> Turn
         ghost under: { Waiting }
-        requires waiting { waiting ≡ length under.frames }
-        requires walking { IsWalking self.old reads.old under.start under.frames top.old }
-        requires leads { (top.old.row).leads ≡ All (ATable object) }
-        requires table { IsTrue (is_table self.old.schema.now object) }
-        requires plain { is_plain self.old.schema.now object ≡ true }
-        requires deep { waiting + 1 < (self.old.limits).depth }
-        requires low { waiting + 1 < 4096 }
-        requires short { IsShort reads.old.count }
+        requires flats { IsAtFlats self.old reads.old under waiting top.old object }
         requires same { checks ≡ self.old.checks }
         ensures { (child : Child) → RowTurned self.old self.new reads.old reads.new under top.old top.new child result }
     {
@@ -285,14 +268,7 @@ impl<'s, 'n> Walk<'s, 'n> {
         top: &mut Frame,
     ) -> Turn
         ghost under: { Waiting }
-        requires waiting { waiting ≡ length under.frames }
-        requires walking { IsWalking self.old reads.old under.start under.frames top.old }
-        requires leads { (top.old.row).leads ≡ All (ATable object) }
-        requires table { IsTrue (is_table self.old.schema.now object) }
-        requires plain { is_plain self.old.schema.now object ≡ true }
-        requires deep { waiting + 1 < (self.old.limits).depth }
-        requires low { waiting + 1 < 4096 }
-        requires short { IsShort reads.old.count }
+        requires flats { IsAtFlats self.old reads.old under waiting top.old object }
         requires same { record { alignment = true; inline_size = false } ≡ self.old.checks }
         ensures { (child : Child) → RowTurned self.old self.new reads.old reads.new under top.old top.new child result }
     {
@@ -313,14 +289,7 @@ impl<'s, 'n> Walk<'s, 'n> {
         top: &mut Frame,
     ) -> Turn
         ghost under: { Waiting }
-        requires waiting { waiting ≡ length under.frames }
-        requires walking { IsWalking self.old reads.old under.start under.frames top.old }
-        requires leads { (top.old.row).leads ≡ All (ATable object) }
-        requires table { IsTrue (is_table self.old.schema.now object) }
-        requires plain { is_plain self.old.schema.now object ≡ true }
-        requires deep { waiting + 1 < (self.old.limits).depth }
-        requires low { waiting + 1 < 4096 }
-        requires short { IsShort reads.old.count }
+        requires { IsAtFlats self.old reads.old under waiting top.old object }
         ensures { (child : Child) → RowTurned self.old self.new reads.old reads.new under top.old top.new child result }
     {
         self.pass_flats(self.checks, reads, waiting, object, top)
@@ -337,14 +306,7 @@ impl<'s, 'n> Walk<'s, 'n> {
         top: &mut Frame,
     ) -> Turn
         ghost under: { Waiting }
-        requires waiting { waiting ≡ length under.frames }
-        requires walking { IsWalking self.old reads.old under.start under.frames top.old }
-        requires leads { (top.old.row).leads ≡ All (ATable object) }
-        requires table { IsTrue (is_table self.old.schema.now object) }
-        requires plain { is_plain self.old.schema.now object ≡ true }
-        requires deep { waiting + 1 < (self.old.limits).depth }
-        requires low { waiting + 1 < 4096 }
-        requires short { IsShort reads.old.count }
+        requires flats { IsAtFlats self.old reads.old under waiting top.old object }
         requires same { checks ≡ self.old.checks }
         ensures { (child : Child) → RowTurned self.old self.new reads.old reads.new under top.old top.new child result }
     {
@@ -367,31 +329,36 @@ impl<'s, 'n> Walk<'s, 'n> {
         row.left > 0 && self.tables < self.limits.tables() && reads.count() + 8 <= room
     }
 
-    /// Passes offset words that are left of the top table's field, each with what it leads to, until one leads to a
-    /// table of which a field may lead on, which is to be opened. So many frames wait below the top.
+    /// Passes offset words that are left of the top table's field, each with what it leads to by these types of a
+    /// union, until one leads to a table of which a field may lead on, which is to be opened. So many frames wait below
+    /// the top.
     #[inline(always)]
     fn pass_members(
         &mut self,
         checks: Checks,
         reads: &mut Reads<'_>,
         waiting: u32,
+        union: u32,
+        types: u64,
         top: &mut Frame,
         child: &mut Child,
     ) -> Turn
         ghost under: { Waiting }
-        requires waiting { waiting ≡ length under.frames }
-        requires walking { IsWalking self.old reads.old under.start under.frames top.old }
-        requires deep { waiting + 1 < (self.old.limits).depth }
-        requires low { waiting + 1 < 4096 }
-        requires short { IsShort reads.old.count }
+        requires members { IsAtMembers self.old reads.old under waiting top.old }
+        requires leads { (top.old.row).leads ≡ ByType union types }
         requires same { checks ≡ self.old.checks }
-        requires leads { 0 < (top.old.row).left }
         ensures { RowTurned self.old self.new reads.old reads.new under top.old top.new child.new result }
     {
         let schema = self.schema;
         let room = self.limits.short();
-        let targets = targets_of(schema, top.row.leads);
-        let mut row = top.row;
+        // The same words, whose types are known at each turn of the loop then.
+        let leads = Leads::ByType(union, types);
+        let targets = targets_of(schema, leads);
+        let mut row = Row {
+            leads,
+            place: top.row.place,
+            left: top.row.left,
+        };
         while self.has_member(reads, row, room) {
             let referent = first_referent(reads, targets, schema, row);
             let mut at = row.place;
@@ -428,26 +395,27 @@ impl<'s, 'n> Walk<'s, 'n> {
         }
     }
 
-    /// The same by the published checks, which are constants then.
+    /// The same by the published checks, which are constants then, over bytes that are lent on.
     #[inline(never)]
     fn pass_members_by_published(
         &mut self,
         reads: &mut Reads<'_>,
         waiting: u32,
+        union: u32,
+        types: u64,
         top: &mut Frame,
         child: &mut Child,
     ) -> Turn
         ghost under: { Waiting }
-        requires waiting { waiting ≡ length under.frames }
-        requires walking { IsWalking self.old reads.old under.start under.frames top.old }
-        requires deep { waiting + 1 < (self.old.limits).depth }
-        requires low { waiting + 1 < 4096 }
-        requires short { IsShort reads.old.count }
-        requires leads { 0 < (top.old.row).left }
+        requires members { IsAtMembers self.old reads.old under waiting top.old }
+        requires leads { (top.old.row).leads ≡ ByType union types }
         requires same { record { alignment = true; inline_size = false } ≡ self.old.checks }
         ensures { RowTurned self.old self.new reads.old reads.new under top.old top.new child.new result }
     {
-        self.pass_members(PUBLISHED, reads, waiting, top, child)
+        let mut own = reads.lend();
+        let turn = self.pass_members(PUBLISHED, &mut own, waiting, union, types, top, child);
+        reads.settle(own);
+        turn
     }
 
     /// The same, whatever the checks are.
@@ -457,19 +425,17 @@ impl<'s, 'n> Walk<'s, 'n> {
         &mut self,
         reads: &mut Reads<'_>,
         waiting: u32,
+        union: u32,
+        types: u64,
         top: &mut Frame,
         child: &mut Child,
     ) -> Turn
         ghost under: { Waiting }
-        requires waiting { waiting ≡ length under.frames }
-        requires walking { IsWalking self.old reads.old under.start under.frames top.old }
-        requires deep { waiting + 1 < (self.old.limits).depth }
-        requires low { waiting + 1 < 4096 }
-        requires short { IsShort reads.old.count }
-        requires leads { 0 < (top.old.row).left }
+        requires members { IsAtMembers self.old reads.old under waiting top.old }
+        requires leads { (top.old.row).leads ≡ ByType union types }
         ensures { RowTurned self.old self.new reads.old reads.new under top.old top.new child.new result }
     {
-        self.pass_members(self.checks, reads, waiting, top, child)
+        self.pass_members(self.checks, reads, waiting, union, types, top, child)
     }
 
     /// The same, by the function for the walk's checks.
@@ -479,23 +445,21 @@ impl<'s, 'n> Walk<'s, 'n> {
         checks: Checks,
         reads: &mut Reads<'_>,
         waiting: u32,
+        union: u32,
+        types: u64,
         top: &mut Frame,
         child: &mut Child,
     ) -> Turn
         ghost under: { Waiting }
-        requires waiting { waiting ≡ length under.frames }
-        requires walking { IsWalking self.old reads.old under.start under.frames top.old }
-        requires deep { waiting + 1 < (self.old.limits).depth }
-        requires low { waiting + 1 < 4096 }
-        requires short { IsShort reads.old.count }
-        requires leads { 0 < (top.old.row).left }
+        requires members { IsAtMembers self.old reads.old under waiting top.old }
+        requires leads { (top.old.row).leads ≡ ByType union types }
         requires same { checks ≡ self.old.checks }
         ensures { RowTurned self.old self.new reads.old reads.new under top.old top.new child.new result }
     {
         if checks.are_published() {
-            return self.pass_members_by_published(reads, waiting, top, child);
+            return self.pass_members_by_published(reads, waiting, union, types, top, child);
         }
-        self.pass_members_by_checks(reads, waiting, top, child)
+        self.pass_members_by_checks(reads, waiting, union, types, top, child)
     }
 
     /// Stops in a table of this object whose fields lead on nowhere: at its head, or at its next field.

@@ -6,22 +6,24 @@ ghost use Rattle.fb_schema.specs.Rows.{is_union};
 ghost use Rattle.fb_schema.specs.Members.{member_of};
 ghost use Rattle.fb_schema.specs.Live.{live_of_view};
 ghost use Rattle.fb_schema.specs.Served.{IsServed};
-ghost use Rattle.fb_verify.specs.Cost.{present_reads, reads_at, reads_if_present, slot_reads};
-ghost use Rattle.fb_verify.specs.Fields.{entries_of, entries_at, type_place, union_type, type_count, types_begin, union_entry};
-ghost use Rattle.fb_verify.specs.OffsetRows.{IsAskable, LeavesRow, TypeFits, TypesFit};
+ghost use Rattle.fb_verify.specs.Cost.{present_reads, reads_at, slot_reads};
+ghost use Rattle.fb_verify.specs.Fields.{entries_of, entries_at, type_place, type_count, types_begin, union_entry};
+ghost use Rattle.fb_verify.specs.OffsetRows.{IsAskable, LeavesRow, PutsWords, type_of_slot, type_reads, types_reads, TypeFits, TypesFit};
 ghost use Rattle.fb_verify.specs.Order.{after, table_failure, failure_at, present_failure, union_field_failure, unions_field_failure, vector_field_failure};
 ghost use Rattle.fb_verify.specs.Places.{field_place, has_slot, target};
 ghost use Rattle.fb_verify.specs.Plain.{tested_by, IsTested, place_from};
 ghost use Rattle.fb_verify.specs.Told.{IsPlaced, IsVtable};
 ghost use Rattle.fb_verify.specs.declared.offset_row.Leads.TheVariants.{All, ByType};
-ghost use Rattle.fb_verify.specs.Turns.{IsFar};
+ghost use Rattle.fb_verify.specs.Stack.{Waiting};
+ghost use Rattle.fb_verify.specs.Turns.{IsAtFarField, IsAtOpenField, IsFar, FieldTurned};
 
-use crate::checks::Checks;
+use crate::checks::{Checks, PUBLISHED};
 use crate::fault::Reason;
 use crate::offset_row::{Leads, Referent, Row, referent_at};
 use crate::plain::{fails, test_end, test_inline_field, test_vector_field};
-use crate::stack::Walk;
-use crate::table::Table;
+use crate::scratch::Frame;
+use crate::stack::{Turn, Walk};
+use crate::table::{Child, Table};
 use fb_bytes::Reads;
 use fb_schema::{FieldView, Kind, Schema};
 
@@ -50,8 +52,8 @@ fn type_of(reads: &mut Reads<'_>, table: Table, slot: u16) -> u8
     requires head { IsVtable reads.old.bytes table.at table.head }
     requires present { IsTrue (has_slot reads.old.bytes table.at slot) }
     requires typed { TypeFits reads.old.bytes table.at slot }
-    ensures value { result ≡ union_type reads.old.bytes (type_place reads.old.bytes table.at slot) }
-    ensures counted { reads.new ≡ record reads.old { count = reads.old.count + (1 + reads_if_present 1 (type_place reads.old.bytes table.at slot)) } }
+    ensures value { result ≡ type_of_slot reads.old.bytes table.at slot }
+    ensures counted { reads.new ≡ record reads.old { count = reads.old.count + type_reads reads.old.bytes table.at slot } }
 {
     match distance_of(reads, table, slot - 2) {
         0 => 0,
@@ -79,7 +81,7 @@ fn types_of(reads: &mut Reads<'_>, table: Table, slot: u16) -> Types
     ensures count { result.count ≡ type_count reads.old.bytes (type_place reads.old.bytes table.at slot) }
     ensures within { result.at + result.count ≤ length reads.old.bytes }
     ensures near { result.at + result.count < 2 ^ 36 }
-    ensures counted { reads.new ≡ record reads.old { count = reads.old.count + (1 + reads_if_present 2 (type_place reads.old.bytes table.at slot)) } }
+    ensures counted { reads.new ≡ record reads.old { count = reads.old.count + types_reads reads.old.bytes table.at slot } }
 {
     match distance_of(reads, table, slot - 2) {
         0 => Types { at: 0, count: 0 },
@@ -126,9 +128,7 @@ fn put_words(
     requires few { reads.old.count < reads.old.base + 2 ^ 58 }
     requires placed { IsPlaced checks reads.old.bytes table.at table.head at.old }
     ensures tested { IsTested reads.old reads.new at.new (vector_field_failure checks reads.old.bytes table.at at.old 4 4) 2 result }
-    ensures none { result ≡ None → word reads.old.bytes (target reads.old.bytes at.old) 4 ≡ 0 → row.new ≡ row.old }
-    ensures some { result ≡ None → 0 < word reads.old.bytes (target reads.old.bytes at.old) 4 → row.new ≡ record { leads = All referent; place = target reads.old.bytes at.old + 4; left = word reads.old.bytes (target reads.old.bytes at.old) 4 } }
-    ensures within { result ≡ None → target reads.old.bytes at.old + 4 + 4 * word reads.old.bytes (target reads.old.bytes at.old) 4 < 2 ^ 31 }
+    ensures words { result ≡ None → PutsWords reads.old.bytes at.old (All referent) row.old row.new }
 {
     let mut count = 0;
     let failed = test_vector_field(reads, checks, table, at, 4, 4, &mut count);
@@ -161,8 +161,8 @@ fn put_union(
     requires few { reads.old.count < reads.old.base + 2 ^ 58 }
     requires placed { IsPlaced checks reads.old.bytes table.at table.head at }
     requires rests { row.old.left ≡ 0 }
-    ensures tested { IsTested reads.old reads.new at (after (1 + reads_if_present 1 (type_place reads.old.bytes table.at slot)) (union_field_failure checks reads.old.bytes table.at at (member_of schema.now union (union_type reads.old.bytes (type_place reads.old.bytes table.at slot))))) (1 + reads_if_present 1 (type_place reads.old.bytes table.at slot)) result }
-    ensures leads { result ≡ None → LeavesRow reads.old.bytes schema.now (union_entry schema.now at (member_of schema.now union (union_type reads.old.bytes (type_place reads.old.bytes table.at slot)))) row.old row.new (nat_lt 0 row.new.left) }
+    ensures tested { IsTested reads.old reads.new at (after (type_reads reads.old.bytes table.at slot) (union_field_failure checks reads.old.bytes table.at at (member_of schema.now union (type_of_slot reads.old.bytes table.at slot)))) (type_reads reads.old.bytes table.at slot) result }
+    ensures leads { result ≡ None → LeavesRow reads.old.bytes schema.now (union_entry schema.now at (member_of schema.now union (type_of_slot reads.old.bytes table.at slot))) row.old row.new (nat_lt 0 row.new.left) }
 {
     schema.lawful();
     let value = type_of(reads, table, slot);
@@ -188,12 +188,10 @@ fn put_unions(
     requires typed { TypesFit reads.old.bytes table.at slot }
     requires few { reads.old.count < reads.old.base + 2 ^ 58 }
     requires placed { IsPlaced checks reads.old.bytes table.at table.head at.old }
-    ensures tested { IsTested reads.old reads.new at.new (after (1 + reads_if_present 2 (type_place reads.old.bytes table.at slot)) (unions_field_failure checks reads.old.bytes table.at at.old (type_place reads.old.bytes table.at slot))) (1 + reads_if_present 2 (type_place reads.old.bytes table.at slot) + 2) result }
-    ensures none { result ≡ None → word reads.old.bytes (target reads.old.bytes at.old) 4 ≡ 0 → row.new ≡ row.old }
-    ensures some { result ≡ None → 0 < word reads.old.bytes (target reads.old.bytes at.old) 4 → row.new ≡ record { leads = ByType union (types_begin reads.old.bytes (type_place reads.old.bytes table.at slot)); place = target reads.old.bytes at.old + 4; left = word reads.old.bytes (target reads.old.bytes at.old) 4 } }
+    ensures tested { IsTested reads.old reads.new at.new (after (types_reads reads.old.bytes table.at slot) (unions_field_failure checks reads.old.bytes table.at at.old (type_place reads.old.bytes table.at slot))) (types_reads reads.old.bytes table.at slot + 2) result }
+    ensures words { result ≡ None → PutsWords reads.old.bytes at.old (ByType union (types_begin reads.old.bytes (type_place reads.old.bytes table.at slot))) row.old row.new }
     ensures types { result ≡ None → types_begin reads.old.bytes (type_place reads.old.bytes table.at slot) + word reads.old.bytes (target reads.old.bytes at.old) 4 ≤ length reads.old.bytes }
     ensures types_near { result ≡ None → types_begin reads.old.bytes (type_place reads.old.bytes table.at slot) + word reads.old.bytes (target reads.old.bytes at.old) 4 < 2 ^ 36 }
-    ensures within { result ≡ None → target reads.old.bytes at.old + 4 + 4 * word reads.old.bytes (target reads.old.bytes at.old) 4 < 2 ^ 31 }
 {
     let types = types_of(reads, table, slot);
     let mut count = 0;
@@ -218,9 +216,10 @@ fn put_unions(
 impl Walk<'_, '_> {
     /// Tests a present field by itself that leads on by the words of a vector or by that of a union, and puts these, if
     /// there are any. Where a test fails, the position is moved to where.
-    #[inline(never)]
-    pub fn put_row(
+    #[inline(always)]
+    fn put_row_by(
         &self,
+        checks: Checks,
         reads: &mut Reads<'_>,
         table: Table,
         field: &FieldView<'_>,
@@ -233,10 +232,10 @@ impl Walk<'_, '_> {
         requires few { reads.old.count < reads.old.base + 2 ^ 58 }
         requires placed { IsPlaced self.now.checks reads.old.bytes table.at table.head at.old }
         requires rests { row.old.left ≡ 0 }
+        requires same { checks ≡ self.now.checks }
         ensures tested { IsTested reads.old reads.new at.new (present_failure self.now.checks reads.old.bytes self.now.schema.now table.at (live_of_view field.now) at.old (field.now).kind) (present_reads reads.old.bytes table.at (field.now).slot (field.now).kind) result }
         ensures leads { result ≡ None → LeavesRow reads.old.bytes self.now.schema.now (entries_of reads.old.bytes self.now.schema.now table.at (live_of_view field.now) at.old (field.now).kind) row.old row.new (nat_lt 0 row.new.left) }
     {
-        let checks = self.checks;
         match field.kind {
             Kind::Union(union) => {
                 put_union(
@@ -256,6 +255,29 @@ impl Walk<'_, '_> {
             }
             _ => put_words(reads, checks, table, at, Referent::Text, row),
         }
+    }
+
+    /// The same by the walk's checks, whatever these are.
+    #[cold]
+    #[inline(never)]
+    fn put_row(
+        &self,
+        reads: &mut Reads<'_>,
+        table: Table,
+        field: &FieldView<'_>,
+        at: &mut u64,
+        row: &mut Row,
+    ) -> Option<Reason>
+        requires askable { IsAskable reads.old.bytes self.now.schema.now table.at (live_of_view field.now) (field.now).kind }
+        requires far { IsFar (field.now).kind }
+        requires present { IsTrue (has_slot reads.old.bytes table.at (field.now).slot) }
+        requires few { reads.old.count < reads.old.base + 2 ^ 58 }
+        requires placed { IsPlaced self.now.checks reads.old.bytes table.at table.head at.old }
+        requires rests { row.old.left ≡ 0 }
+        ensures tested { IsTested reads.old reads.new at.new (present_failure self.now.checks reads.old.bytes self.now.schema.now table.at (live_of_view field.now) at.old (field.now).kind) (present_reads reads.old.bytes table.at (field.now).slot (field.now).kind) result }
+        ensures leads { result ≡ None → LeavesRow reads.old.bytes self.now.schema.now (entries_of reads.old.bytes self.now.schema.now table.at (live_of_view field.now) at.old (field.now).kind) row.old row.new (nat_lt 0 row.new.left) }
+    {
+        self.put_row_by(self.checks, reads, table, field, at, row)
     }
 
     /// Tests a present field by itself, and puts the words by which it leads on, if there are any. Where a test fails,
@@ -320,5 +342,80 @@ impl Walk<'_, '_> {
             return None;
         }
         self.put_present(reads, table, field, at, row)
+    }
+}
+
+impl<'s, 'n> Walk<'s, 'n> {
+    /// Goes into the top's next field, which stands there and leads on by the words of a vector or by that of a union.
+    #[inline(always)]
+    fn go_far_by(
+        &mut self,
+        checks: Checks,
+        reads: &mut Reads<'_>,
+        waiting: u32,
+        at: u64,
+        field: &FieldView<'_>,
+        top: &mut Frame,
+        child: &mut Child,
+    ) -> Turn
+        ghost under: { Waiting }
+        requires field { IsAtOpenField self.old reads.old under waiting top.old at (live_of_view field.now) }
+        requires far { IsFar (field.now).kind }
+        requires same { checks ≡ self.old.checks }
+        ensures { FieldTurned self.old self.new reads.old reads.new under top.old top.new child.new result }
+    {
+        let _schema = self.schema;
+        top.next += 1;
+        let mut place = at;
+        let failed = self.put_row_by(checks, reads, top.table, field, &mut place, &mut top.row);
+        if let Some(reason) = failed {
+            return self.stop_in_field(top.table.object, top.next - 1, place, reason, waiting);
+        }
+        if top.row.left == 0 {
+            return Turn::Up;
+        }
+        top.number = field.number;
+        self.pass_row(reads, waiting, top, child)
+    }
+
+    /// The same, whatever the checks are.
+    #[cold]
+    #[inline(never)]
+    fn go_far_by_checks(
+        &mut self,
+        reads: &mut Reads<'_>,
+        waiting: u32,
+        at: u64,
+        field: &FieldView<'_>,
+        top: &mut Frame,
+        child: &mut Child,
+    ) -> Turn
+        ghost under: { Waiting }
+        requires field { IsAtOpenField self.old reads.old under waiting top.old at (live_of_view field.now) }
+        requires far { IsFar (field.now).kind }
+        ensures { FieldTurned self.old self.new reads.old reads.new under top.old top.new child.new result }
+    {
+        self.go_far_by(self.checks, reads, waiting, at, field, top, child)
+    }
+
+    /// The same, quickly where the checks are the published ones, which are constants then.
+    #[inline(never)]
+    pub fn go_far(
+        &mut self,
+        reads: &mut Reads<'_>,
+        waiting: u32,
+        at: u64,
+        top: &mut Frame,
+        child: &mut Child,
+    ) -> Turn
+        ghost under: { Waiting }
+        requires { IsAtFarField self.old reads.old under waiting top.old at }
+        ensures { FieldTurned self.old self.new reads.old reads.new under top.old top.new child.new result }
+    {
+        let field = &self.schema.fields_of(top.table.object)[top.next as usize];
+        if !self.checks.are_published() {
+            return self.go_far_by_checks(reads, waiting, at, field, top, child);
+        }
+        self.go_far_by(PUBLISHED, reads, waiting, at, field, top, child)
     }
 }

@@ -1,13 +1,13 @@
 // The offset words by which a field leads on, passed by reads that are counted in a register.
 
-ghost use Rattle.std.specs.Prelude.{◌≡◌, ◌+◌, ◌*◌, ◌^◌, ◌<◌, ◌≤◌, length, [], ◌∷◌, ◌++◌, IfOk, IfErr, Some};
+ghost use Rattle.std.specs.Prelude.{◌≡◌, ◌+◌, ◌*◌, ◌^◌, ◌<◌, ◌≤◌, [], ◌∷◌, ◌++◌, IfOk, IfErr, Some};
 ghost use Rattle.fb_schema.specs.Served.{IsServed};
 ghost use Rattle.fb_verify.specs.Bounds.{AreAllowed};
 ghost use Rattle.fb_verify.specs.OffsetRows.{lead_to, first_word, past_first, AreOfUnion, AreTargetsOf, IsLeafLead, IsReferent, IsRow, AreTypesNear};
 ghost use Rattle.fb_verify.specs.Stack.{Waiting, IsWalking, IsStoppedBehind};
 ghost use Rattle.fb_verify.specs.declared.offset_row.Leads.TheVariants.{All};
 ghost use Rattle.fb_verify.specs.Told.{stopped};
-ghost use Rattle.fb_verify.specs.Turns.{IsShort, RowTurned};
+ghost use Rattle.fb_verify.specs.Turns.{IsInRow, RowTurned};
 
 use crate::checks::Checks;
 use crate::fault::Reason;
@@ -136,12 +136,9 @@ impl Walk<'_, '_> {
         top: &mut Frame,
     ) -> Turn
         ghost under: { Waiting }
-        requires waiting { waiting ≡ length under.frames }
-        requires walking { IsWalking self.old reads.old under.start under.frames top.old }
+        requires row { IsInRow self.old reads.old under waiting top.old }
         requires leads { (top.old.row).leads ≡ All referent }
         requires leaf { IsLeafLead (lead_to referent) }
-        requires more { 0 < (top.old.row).left }
-        requires short { IsShort reads.old.count }
         requires same { checks ≡ self.old.checks }
         ensures { (child : Child) → RowTurned self.old self.new reads.old reads.new under top.old top.new child result }
     {

@@ -9,8 +9,7 @@ ghost use Rattle.fb_verify.specs.Fields.{to_string};
 ghost use Rattle.fb_verify.specs.declared.offset_row.Referent.TheVariants.{Table as ATable};
 ghost use Rattle.fb_verify.specs.OffsetRows.{lead_to, IsSized};
 ghost use Rattle.fb_verify.specs.Order.{after, ◌▷◌, head_failure, table_failure, offset_failure, string_failure, vector_failure, inline_failure, inline_field_failure, vector_field_failure, lead_failure};
-ghost use Rattle.fb_schema.specs.Steps.{bit_of};
-ghost use Rattle.fb_verify.specs.Plain.{tested_by, IsTested, IsSmall, place_from, IsStep, Filled, Stepped};
+ghost use Rattle.fb_verify.specs.Plain.{tested_by, IsTested, IsSmall, place_from, IsStep, HasBit, Filled, Stepped};
 ghost use Rattle.fb_verify.specs.declared.plain.Came.TheVariants.{Past, ToFault};
 ghost use Rattle.fb_verify.specs.Told.{IsVtable, IsHead, IsPlaced};
 
@@ -441,7 +440,7 @@ fn pass_field(
 ) -> Came
     requires few { reads.old.count < reads.old.base + 2 ^ 60 }
     requires step { IsStep step.now (step.now).act }
-    requires bit { (step.now).bit ≡ bit_of (step.now).act }
+    requires bit { HasBit step.now (step.now).act }
     requires placed { IsPlaced checks reads.old.bytes table.at table.head at.old }
     ensures { Filled checks reads.old reads.new table.at step.now at.old at.new result }
 {
@@ -476,7 +475,7 @@ pub fn pass_step(
 ) -> Came
     requires few { reads.old.count < reads.old.base + 2 ^ 59 }
     requires step { IsStep step.now (step.now).act }
-    requires bit { (step.now).bit ≡ bit_of (step.now).act }
+    requires bit { HasBit step.now (step.now).act }
     requires even { (step.now).slot % 2 ≡ 0 }
     requires near { table.at < 2 ^ 33 }
     requires head { IsHead checks reads.old.bytes table.at table.head }

@@ -1,18 +1,17 @@
 // The walk: a loop over the frames of the open tables, by reads that are lent once.
 
-ghost use Rattle.std.specs.Prelude.{[], ◌≡◌, ◌+◌, ◌*◌, ◌^◌, ◌<◌, ◌≤◌, max, min, length, List, take, slice_get, slice_index_or, IfOk, IfErr, IsTrue, Some, None, true};
+ghost use Rattle.std.specs.Prelude.{[], ◌≡◌, ◌+◌, ◌*◌, ◌^◌, ◌<◌, ◌≤◌, max, min, length, List, map, take, slice_get, slice_index_or, IfOk, IfErr, IsTrue, Some, None, true};
 ghost use Rattle.fb_schema.specs.Rows.{is_table};
-ghost use Rattle.fb_schema.specs.Live.{Live, live_fields, live_of_view};
-ghost use Rattle.fb_schema.specs.Steps.{act_of, is_plain};
-ghost use Rattle.fb_schema.specs.declared.views.Act.TheVariants.{Other};
+ghost use Rattle.fb_schema.specs.Live.{Live, live_fields};
+ghost use Rattle.fb_schema.specs.Steps.{is_plain, step_of};
 ghost use Rattle.fb_schema.specs.Served.{IsServed};
 ghost use Rattle.fb_verify.specs.Bounds.{AreAllowed};
 ghost use Rattle.fb_verify.specs.Flat.{Going};
-ghost use Rattle.fb_verify.specs.PassesOn.{IsBetween, HasRoom, Passage, PassesOn, fields_left};
+ghost use Rattle.fb_verify.specs.PassesOn.{IsBetween, HasRoom, Passage, PassesOn};
 ghost use Rattle.fb_verify.specs.Told.{way_at};
 ghost use Rattle.fb_verify.specs.Walked.{TableWalked, ended};
-ghost use Rattle.fb_verify.specs.Stack.{blank, Origin, Waiting, IsWalking, IsAtField, HaltsIn, links_left, opened};
-ghost use Rattle.fb_verify.specs.Turns.{IsShort, IsAtChild, RowTurned, FieldTurned, Turned, Opened, FramesTurned, RootTurned, Walked};
+ghost use Rattle.fb_verify.specs.Stack.{blank, Origin, Waiting, IsWalking, HaltsIn, links_left, opened};
+ghost use Rattle.fb_verify.specs.Turns.{IsShort, IsAtChild, IsAtStep, IsAtTableField, AllowsTable, IsBrim, IsInRow, HasRoomToGo, RowTurned, FieldTurned, Turned, Opened, FramesTurned, RootTurned, Walked};
 ghost use Rattle.fb_verify.specs.declared.offset_row.Leads.TheVariants.{All};
 ghost use Rattle.fb_verify.specs.declared.offset_row.Referent.TheVariants.{Table as ATable};
 ghost use Rattle.fb_verify.specs.declared.stack.Turn.TheVariants.{Halt as Halted};
@@ -28,7 +27,7 @@ use crate::scratch::Frame;
 use crate::site::{Halt, LastLink, Refusal, Site, Stop};
 use crate::table::{Child, NO_CHILD, Table};
 use fb_bytes::{Loan, Reads};
-use fb_schema::{FieldView, Kind, Schema};
+use fb_schema::{Schema, Step};
 
 /// How a walk goes on, once it was a while in the top table.
 #[derive(Clone, Copy, PartialEq, Eq)]
@@ -53,6 +52,15 @@ pub struct Walk<'s, 'n> {
     pub tables: u32,
     pub deepest: u32,
     pub halt: Halt,
+}
+
+/// Whether there is a frame for a table below the top, below which so many wait, or the depth allows none there.
+#[inline(always)]
+fn has_frame_below(frames: &[Frame], depth: usize, waiting: u32) -> bool
+    requires { waiting < 4294967295 }
+    ensures { result ≡ true → min depth (waiting + 2) ≤ length frames.now }
+{
+    waiting as usize + 1 < frames.len() || depth <= frames.len()
 }
 
 impl<'s, 'n> Walk<'s, 'n> {
@@ -128,16 +136,37 @@ impl<'s, 'n> Walk<'s, 'n> {
         }
     }
 
+    /// How many reads there may be so that the budget allows whatever the fields of any table may cost: it is asked of
+    /// the fields that are left only from there on.
+    #[inline(always)]
+    fn brim(&self) -> u64
+        ensures { IsBrim self.now result }
+    {
+        let most = 7 + 6 * u64::from(self.schema.widest());
+        self.limits.short().saturating_sub(most)
+    }
+
     /// Whether the budget allows whatever the other fields of the top table may cost by themselves, with the strings
     /// that they may lead to: six reads each, and eight for what the last of them may lead to.
     #[inline(always)]
-    fn has_room(&self, reads: &Reads<'_>, top: &Frame) -> bool
+    fn has_room(&self, reads: &Reads<'_>, brim: u64, top: &Frame) -> bool
         requires table { IsTrue (is_table self.now.schema.now (top.now.table).object) }
         requires next { top.now.next ≤ length (live_fields self.now.schema.now (top.now.table).object) }
         requires few { IsShort reads.now.count }
-        ensures room { result ≡ true → HasRoom self.now reads.now top.now }
-        ensures more { result ≡ true → AreAllowed (self.now.limits).reads (reads.now.count + 8 + 6 * fields_left self.now.schema.now top.now) }
-        ensures short { result ≡ true → IsShort (reads.now.count + 8 + 6 * fields_left self.now.schema.now top.now) }
+        requires brim { IsBrim self.now brim }
+        ensures { result ≡ true → HasRoomToGo self.now reads.now top.now }
+    {
+        reads.count() < brim || self.has_room_left(reads, top)
+    }
+
+    /// The same by the fields that are left.
+    #[cold]
+    #[inline(never)]
+    fn has_room_left(&self, reads: &Reads<'_>, top: &Frame) -> bool
+        requires table { IsTrue (is_table self.now.schema.now (top.now.table).object) }
+        requires next { top.now.next ≤ length (live_fields self.now.schema.now (top.now.table).object) }
+        requires few { IsShort reads.now.count }
+        ensures { result ≡ true → HasRoomToGo self.now reads.now top.now }
     {
         let left = self.schema.steps_of(top.table.object).len() as u64 - u64::from(top.next);
         reads.count() + 8 + 6 * left <= self.limits.short()
@@ -145,18 +174,21 @@ impl<'s, 'n> Walk<'s, 'n> {
 
     /// Whether one more table may be opened, where so many are open, and eight reads may be made for it.
     #[inline(always)]
-    pub fn may_open(&self, reads: &Reads<'_>, links: u32) -> bool
+    fn may_open(&self, reads: &Reads<'_>, links: u32) -> bool
         requires few { IsShort reads.now.count }
-        ensures deep { result ≡ true → links < (self.now.limits).depth }
-        ensures low { result ≡ true → links < 4096 }
-        ensures fewer { result ≡ true → self.now.tables < (self.now.limits).tables }
-        ensures small { result ≡ true → (self.now.limits).tables < 2 ^ 32 }
+        ensures limits { result ≡ true → AllowsTable self.now links }
         ensures room { result ≡ true → AreAllowed (self.now.limits).reads (reads.now.count + 8) }
         ensures short { result ≡ true → IsShort (reads.now.count + 8) }
     {
-        links < self.limits.depth()
-            && self.tables < self.limits.tables()
-            && reads.count() + 8 <= self.limits.short()
+        self.allows_table(links) && reads.count() + 8 <= self.limits.short()
+    }
+
+    /// The same, but for the reads.
+    #[inline(always)]
+    fn allows_table(&self, links: u32) -> bool
+        ensures { result ≡ true → AllowsTable self.now links }
+    {
+        links < self.limits.depth() && self.tables < self.limits.tables()
     }
 
     /// Counts a table that is opened, with which so many are open.
@@ -171,10 +203,10 @@ impl<'s, 'n> Walk<'s, 'n> {
         }
     }
 
-    /// Comes to the table to which the first word of a row leads, and leaves the top with the row past that word; where
-    /// a limit may be met, with the row as it is.
+    /// Comes to the table to which the first word of a row leads, and leaves the top with the row past that word. The
+    /// limits allow it.
     #[inline(always)]
-    pub fn next_table(
+    fn take_word(
         &mut self,
         checks: Checks,
         reads: &mut Reads<'_>,
@@ -185,22 +217,19 @@ impl<'s, 'n> Walk<'s, 'n> {
         child: &mut Child,
     ) -> Turn
         ghost under: { Waiting }
-        requires waiting { waiting ≡ length under.frames }
-        requires walking { IsWalking self.old reads.old under.start under.frames (record top.old { row = row }) }
+        requires row { IsInRow self.old reads.old under waiting (record top.old { row = row }) }
         requires leads { row.leads ≡ All (ATable object) }
         requires table { IsTrue (is_table self.old.schema.now object) }
-        requires more { 0 < row.left }
-        requires short { IsShort reads.old.count }
+        requires limits { AllowsTable self.old (waiting + 1) }
+        requires room { AreAllowed (self.old.limits).reads (reads.old.count + 4) }
+        requires short { IsShort (reads.old.count + 4) }
         requires same { checks ≡ self.old.checks }
         ensures { RowTurned self.old self.new reads.old reads.new under (record top.old { row = row }) top.new child.new result }
     {
         let _schema = self.schema;
-        top.row = row;
-        if !self.may_open(reads, waiting + 1) {
-            return Turn::Slowly;
-        }
         let mut at = row.place;
         let failed = test_offset(reads, checks, &mut at);
+        top.row = row;
         top.row.advance_all();
         if let Some(reason) = failed {
             let refusal = Refusal { at, reason };
@@ -211,6 +240,34 @@ impl<'s, 'n> Walk<'s, 'n> {
         child.object = object;
         child.at = at;
         Turn::Down
+    }
+
+    /// Comes to the table to which the first word of a row leads, and leaves the top with the row past that word; where
+    /// a limit may be met, with the row as it is.
+    #[inline(always)]
+    fn next_table(
+        &mut self,
+        checks: Checks,
+        reads: &mut Reads<'_>,
+        waiting: u32,
+        object: u32,
+        row: Row,
+        top: &mut Frame,
+        child: &mut Child,
+    ) -> Turn
+        ghost under: { Waiting }
+        requires row { IsInRow self.old reads.old under waiting (record top.old { row = row }) }
+        requires leads { row.leads ≡ All (ATable object) }
+        requires table { IsTrue (is_table self.old.schema.now object) }
+        requires same { checks ≡ self.old.checks }
+        ensures { RowTurned self.old self.new reads.old reads.new under (record top.old { row = row }) top.new child.new result }
+    {
+        let _schema = self.schema;
+        if !self.may_open(reads, waiting + 1) {
+            top.row = row;
+            return Turn::Slowly;
+        }
+        self.take_word(checks, reads, waiting, object, row, top, child)
     }
 
     /// Passes the words of the top's row until one leads to a table that is to be opened.
@@ -224,20 +281,17 @@ impl<'s, 'n> Walk<'s, 'n> {
         child: &mut Child,
     ) -> Turn
         ghost under: { Waiting }
-        requires waiting { waiting ≡ length under.frames }
-        requires walking { IsWalking self.old reads.old under.start under.frames top.old }
-        requires leads { 0 < (top.old.row).left }
-        requires short { IsShort reads.old.count }
+        requires row { IsInRow self.old reads.old under waiting top.old }
         requires same { checks ≡ self.old.checks }
         ensures { RowTurned self.old self.new reads.old reads.new under top.old top.new child.new result }
     {
         let is_deepest = waiting + 1 >= self.limits.depth();
         match top.row.leads {
-            Leads::ByType(_, _) => {
+            Leads::ByType(union, types) => {
                 if is_deepest {
                     return Turn::Slowly;
                 }
-                self.pass_members_on(checks, reads, waiting, top, child)
+                self.pass_members_on(checks, reads, waiting, union, types, top, child)
             }
             Leads::All(Referent::Table(object)) => {
                 if !self.schema.is_plain(object) {
@@ -263,10 +317,7 @@ impl<'s, 'n> Walk<'s, 'n> {
         child: &mut Child,
     ) -> Turn
         ghost under: { Waiting }
-        requires waiting { waiting ≡ length under.frames }
-        requires walking { IsWalking self.old reads.old under.start under.frames top.old }
-        requires leads { 0 < (top.old.row).left }
-        requires short { IsShort reads.old.count }
+        requires { IsInRow self.old reads.old under waiting top.old }
         ensures { RowTurned self.old self.new reads.old reads.new under top.old top.new child.new result }
     {
         self.pass_row_by(self.checks, reads, waiting, top, child)
@@ -282,10 +333,7 @@ impl<'s, 'n> Walk<'s, 'n> {
         child: &mut Child,
     ) -> Turn
         ghost under: { Waiting }
-        requires waiting { waiting ≡ length under.frames }
-        requires walking { IsWalking self.old reads.old under.start under.frames top.old }
-        requires leads { 0 < (top.old.row).left }
-        requires short { IsShort reads.old.count }
+        requires { IsInRow self.old reads.old under waiting top.old }
         ensures { RowTurned self.old self.new reads.old reads.new under top.old top.new child.new result }
     {
         if !self.checks.are_published() {
@@ -294,7 +342,40 @@ impl<'s, 'n> Walk<'s, 'n> {
         self.pass_row_by(PUBLISHED, reads, waiting, top, child)
     }
 
-    /// Goes into the field before the top's next one, which stands there and may lead on.
+    /// Goes into the top's next field, which stands there and leads to one table of this object.
+    #[inline(always)]
+    fn go_to_table(
+        &mut self,
+        checks: Checks,
+        reads: &mut Reads<'_>,
+        waiting: u32,
+        at: u64,
+        step: &Step,
+        top: &mut Frame,
+        child: &mut Child,
+    ) -> Turn
+        ghost under: { Waiting }
+        requires field { IsAtTableField self.old reads.old under waiting top.old at (step.now).slot (step.now).size }
+        requires same { checks ≡ self.old.checks }
+        ensures { FieldTurned self.old self.new reads.old reads.new under top.old top.new child.new result }
+    {
+        let _schema = self.schema;
+        let failed = test_end(reads, checks, top.table, at, 4);
+        if let Some(reason) = failed {
+            return self.stop_in_field(top.table.object, top.next, at, reason, waiting);
+        }
+        top.next += 1;
+        top.number = (step.slot - 4) / 2;
+        let row = Row::one(Referent::Table(step.size), at);
+        // The budget was asked with the fields.
+        if !self.allows_table(waiting + 1) {
+            top.row = row;
+            return Turn::Slowly;
+        }
+        self.take_word(checks, reads, waiting, step.size, row, top, child)
+    }
+
+    /// Goes into the top's next field, which stands there and may lead on.
     #[inline(always)]
     fn go_into(
         &mut self,
@@ -302,42 +383,20 @@ impl<'s, 'n> Walk<'s, 'n> {
         reads: &mut Reads<'_>,
         waiting: u32,
         at: u64,
-        field: &FieldView<'_>,
+        step: &Step,
         top: &mut Frame,
         child: &mut Child,
     ) -> Turn
         ghost under: { Waiting }
-        requires waiting { waiting ≡ length under.frames }
-        requires at { IsAtField self.old reads.old.bytes reads.old.count under.start under.frames top.old at }
-        requires rests { (top.old.row).left ≡ 0 }
-        requires field { slice_get (live_fields self.old.schema.now (top.old.table).object) top.old.next ≡ Some (live_of_view field.now) }
-        requires open { act_of (live_of_view field.now) (field.now).kind ≡ Other }
-        requires room { AreAllowed (self.old.limits).reads (reads.old.count + 7) }
-        requires short { IsShort (reads.old.count + 7) }
+        requires field { IsAtStep self.old reads.old under waiting top.old at step.now }
         requires same { checks ≡ self.old.checks }
         ensures { FieldTurned self.old self.new reads.old reads.new under top.old top.new child.new result }
     {
         let _schema = self.schema;
-        top.next += 1;
-        let mut place = at;
-        if let Kind::Table(object) = field.kind {
-            let failed = test_end(reads, checks, top.table, place, 4);
-            if let Some(reason) = failed {
-                return self.stop_in_field(top.table.object, top.next - 1, place, reason, waiting);
-            }
-            top.number = field.number;
-            let row = Row::one(Referent::Table(object), place);
-            return self.next_table(checks, reads, waiting, object, row, top, child);
+        if step.bit & 256 != 0 {
+            return self.go_to_table(checks, reads, waiting, at, step, top, child);
         }
-        let failed = self.put_row(reads, top.table, field, &mut place, &mut top.row);
-        if let Some(reason) = failed {
-            return self.stop_in_field(top.table.object, top.next - 1, place, reason, waiting);
-        }
-        if top.row.left == 0 {
-            return Turn::Up;
-        }
-        top.number = field.number;
-        self.pass_row(reads, waiting, top, child)
+        self.go_far(reads, waiting, at, top, child)
     }
 
     /// Goes on with the fields of the top table until one leads to a table that is to be opened.
@@ -346,6 +405,7 @@ impl<'s, 'n> Walk<'s, 'n> {
         &mut self,
         checks: Checks,
         reads: &mut Reads<'_>,
+        brim: u64,
         waiting: u32,
         top: &mut Frame,
         child: &mut Child,
@@ -354,20 +414,22 @@ impl<'s, 'n> Walk<'s, 'n> {
         requires waiting { waiting ≡ length under.frames }
         requires between { IsBetween self.old reads.old under top.old }
         requires short { IsShort reads.old.count }
+        requires brim { IsBrim self.old brim }
         requires same { checks ≡ self.old.checks }
         ensures { Turned self.old self.new reads.old reads.new under top.old top.new child.new result }
     {
+        let steps = self.schema.steps_of(top.table.object);
         let mut at = 0;
-        while self.has_room(reads, top) {
-            match self.pass_plain(checks, reads, top, &mut at) {
+        while self.has_room(reads, brim, top) {
+            match self.pass_plain(checks, reads, steps, top, &mut at) {
                 Ok(true) => {}
                 Ok(false) => return Turn::Up,
                 Err(reason) => {
                     return self.stop_in_field(top.table.object, top.next, at, reason, waiting);
                 }
             }
-            let field = &self.schema.fields_of(top.table.object)[top.next as usize];
-            match self.go_into(checks, reads, waiting, at, field, top, child) {
+            let step = &steps[top.next as usize];
+            match self.go_into(checks, reads, waiting, at, step, top, child) {
                 Turn::Up => {}
                 turn => return turn,
             }
@@ -381,6 +443,7 @@ impl<'s, 'n> Walk<'s, 'n> {
         &mut self,
         checks: Checks,
         reads: &mut Reads<'_>,
+        brim: u64,
         waiting: u32,
         top: &mut Frame,
         child: &mut Child,
@@ -389,6 +452,7 @@ impl<'s, 'n> Walk<'s, 'n> {
         requires waiting { waiting ≡ length under.frames }
         requires walking { IsWalking self.old reads.old under.start under.frames top.old }
         requires short { IsShort reads.old.count }
+        requires brim { IsBrim self.old brim }
         requires same { checks ≡ self.old.checks }
         ensures { Turned self.old self.new reads.old reads.new under top.old top.new child.new result }
     {
@@ -399,7 +463,7 @@ impl<'s, 'n> Walk<'s, 'n> {
                 turn => return turn,
             }
         }
-        self.pass_fields(checks, reads, waiting, top, child)
+        self.pass_fields(checks, reads, brim, waiting, top, child)
     }
 
     /// Opens the frame of a table that was counted, below a frame that waits for it, and so many in all.
@@ -438,8 +502,10 @@ impl<'s, 'n> Walk<'s, 'n> {
         &mut self,
         checks: Checks,
         reads: &mut Reads<'_>,
+        brim: u64,
         frames: &mut [Frame],
         waiting: u32,
+        child: &mut Child,
     ) -> Turn
         ghost under: { Waiting }
         requires under { under.frames ≡ take waiting frames.old }
@@ -447,6 +513,7 @@ impl<'s, 'n> Walk<'s, 'n> {
         requires room { min (self.old.limits).depth (waiting + 2) ≤ length frames.old }
         requires top { waiting < length frames.old }
         requires short { IsShort reads.old.count }
+        requires brim { IsBrim self.old brim }
         requires same { checks ≡ self.old.checks }
         ensures { FramesTurned self.old self.new reads.old reads.new under.start frames.old frames.new waiting result }
     {
@@ -454,9 +521,8 @@ impl<'s, 'n> Walk<'s, 'n> {
         let at = waiting as usize;
         let (low, room) = frames.split_at_mut(at + 1);
         let top = &mut low[at];
-        let mut child = NO_CHILD;
-        match self.pass_top(checks, reads, waiting, top, &mut child) {
-            Turn::Down => self.open_child(checks, reads, waiting + 1, top, child, &mut room[0]),
+        match self.pass_top(checks, reads, brim, waiting, top, child) {
+            Turn::Down => self.open_child(checks, reads, waiting + 1, top, *child, &mut room[0]),
             turn => turn,
         }
     }
@@ -481,10 +547,16 @@ impl<'s, 'n> Walk<'s, 'n> {
     {
         let _schema = self.schema;
         let depth = self.limits.depth() as usize;
+        let brim = self.brim();
+        let mut child = NO_CHILD;
         let mut at = *waiting;
-        while at as usize + 1 < frames.len() || depth <= frames.len() {
-            match self.turn(checks, reads, frames, at) {
-                Turn::Down => at += 1,
+        let mut has_below = has_frame_below(frames, depth, at);
+        while has_below {
+            match self.turn(checks, reads, brim, frames, at, &mut child) {
+                Turn::Down => {
+                    at += 1;
+                    has_below = has_frame_below(frames, depth, at);
+                }
                 Turn::Up => {
                     if at == 0 {
                         return Turn::Up;
@@ -554,10 +626,12 @@ impl<'s, 'n> Walk<'s, 'n> {
         &self,
         checks: Checks,
         reads: &mut Reads<'_>,
+        steps: &[Step],
         top: &mut Frame,
         at: &mut u64,
     ) -> Result<bool, Reason>
         ghost of: { Passage }
+        requires steps { steps.now ≡ map step_of (live_fields self.now.schema.now (top.old.table).object) }
         requires walk { of.walk ≡ self.now }
         requires top { of.top ≡ top.old }
         requires between { IsBetween self.now reads.old of.under top.old }
@@ -565,7 +639,6 @@ impl<'s, 'n> Walk<'s, 'n> {
         requires same { checks ≡ self.now.checks }
         ensures { PassesOn self.now reads.old reads.new of.under top.old top.new at.new result }
     {
-        let steps = self.schema.steps_of(top.table.object);
         let mut next = top.next;
         let answer = pass_steps(reads, checks, self.schema, top.table, steps, &mut next, at);
         top.next = next;

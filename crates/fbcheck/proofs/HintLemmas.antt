@@ -1,7 +1,9 @@
 -- Names in a row.
-use Rattle.std.proofs.Common.{◌≡◌, ◌∙◌, ℕ, zero, suc, ◌+◌, Bool, true, false, List, [], ◌∷◌, ◌++◌, Option, Some, None, refl, sym, ap, drop, option_map, slice_get, add-one, append_assoc, arith, codes, ◌-◌, ◌<◌, append-nil, length, map}
+use Rattle.std.proofs.Common.{◌≡◌, ◌∙◌, ℕ, zero, suc, ◌+◌, Bool, true, false, List, [], ◌∷◌, ◌++◌, Option, Some, None, OnOk, Result, refl, sym, ap, drop, option_map, slice_get, add-one, append_assoc, arith, codes, ◌-◌, ◌<◌, append-nil, find, length, map}
 use Rattle.std.proofs.lemmas.Option.{slice_get-map, slice_get_past, slice_get_read}
+use Rattle.std.proofs.lemmas.Result.{on_ok_weaker}
 use Rattle.std.specs.Borrow.{Bor}
+use Rattle.std.specs.List.{cons_option, filter_map, range_with_len}
 use Rattle.std.specs.Slice.{IsItemAt}
 use Rattle.fb_schema.specs.Heads.{Head, head_of, head_of_view}
 use Rattle.fb_schema.specs.Live.{Live, live_fields, live_of_view}
@@ -12,7 +14,8 @@ use Rattle.fb_schema.specs.declared.kinds.Kind.TheVariants.{Struct, Table}
 use Rattle.fb_schema.specs.declared.rows.FieldRow.{FieldRow}
 use Rattle.fb_schema.specs.declared.views.FieldView.{FieldView}
 use Rattle.fb_schema.specs.declared.views.ObjectView.{ObjectView}
-use Rattle.fbcheck.specs.Hints.{fields_at, listed, named, tables_in}
+use Rattle.fb_schema.specs.Members.{member_name}
+use Rattle.fbcheck.specs.Hints.{fields_at, listed, members_from, named, tables_in}
 
 -- what is left behind an object of this kind and name
 abbrev left_behind : Bool → List ℕ → List Object → List (List ℕ)
@@ -123,3 +126,57 @@ pub more_names_told : (text all : List ℕ) (names : List (List ℕ)) (i left : 
     → text ++ listed left (drop i names) ≡ all → text ++ codes " .." ≡ all
 more_names_told text all names i left name is none told =
     ap (λ l. text ++ listed 0 l) (sym (one_more names i name is)) ∙ ap (λ m. text ++ listed m (drop i names)) (sym none) ∙ told
+
+-- the first name that passes among those that are left: not this one, or this one
+pub find_on : (p : List ℕ → Bool) (names : List (List ℕ)) (i : ℕ) (name : List ℕ) → slice_get names i ≡ Some name → p name ≡ false → find p (drop i names) ≡ find p (drop (i + 1) names)
+find_on p names i name is fails = rw (one_more names i name is, fails, add-one) refl
+
+pub find_here : (p : List ℕ → Bool) (names : List (List ℕ)) (i : ℕ) (name : List ℕ) → slice_get names i ≡ Some name → p name ≡ true → find p (drop i names) ≡ Some name
+find_here p names i name is passes = rw (one_more names i name is, passes) refl
+
+-- what is left behind a value without a member, and with one
+from_next : (rows : Rows) (e v : ℕ) → v < 256 → members_from rows e v ≡ cons_option (member_name rows e v) (members_from rows e (v + 1))
+unfolding members_from
+from_next rows e v within =
+    let more : 256 - v ≡ suc (256 - (v + 1)) = omega (arith, within) in
+    ap (λ n. filter_map (member_name rows e) (range_with_len v n)) more
+
+nameless_next : (rows : Rows) (e v : ℕ) → v < 256 → member_name rows e v ≡ None → members_from rows e v ≡ members_from rows e (v + 1)
+nameless_next rows e v within none = from_next rows e v within ∙ ap (λ o. cons_option o (members_from rows e (v + 1))) none
+
+named_next : (rows : Rows) (e v : ℕ) (name : List ℕ) → v < 256 → member_name rows e v ≡ Some name → members_from rows e v ≡ name ∷ members_from rows e (v + 1)
+named_next rows e v name within is = from_next rows e v within ∙ ap (λ o. cons_option o (members_from rows e (v + 1))) is
+
+-- behind the last value there is none
+none_from : (rows : Rows) (e : ℕ) → members_from rows e 256 ≡ []
+unfolding members_from
+none_from rows e = refl
+
+-- the text after a value without a member
+pub nameless_told : (text all : List ℕ) (rows : Rows) (e v left : ℕ) → v < 256 → member_name rows e v ≡ None → text ++ listed left (members_from rows e v) ≡ all
+    → text ++ listed left (members_from rows e (v + 1)) ≡ all
+nameless_told text all rows e v left within none told = ap (λ l. text ++ listed left l) (sym (nameless_next rows e v within none)) ∙ told
+
+-- and after one whose name was added
+pub member_told : (text text' all : List ℕ) (rows : Rows) (e v left : ℕ) (name : List ℕ) → v < 256 → member_name rows e v ≡ Some name → 0 < left → text' ≡ text ++ named name
+    → text ++ listed left (members_from rows e v) ≡ all → text' ++ listed (left - 1) (members_from rows e (v + 1)) ≡ all
+member_told text text' all rows e v zero name within is some grown told = absurd (omega (arith, some))
+member_told text text' all rows e v (suc left) name within is some grown told =
+    let rest = listed left (members_from rows e (v + 1)) in
+    let one : suc left - 1 ≡ left = omega arith in
+    ap (λ m. text' ++ listed m (members_from rows e (v + 1))) one ∙ ap (λ (t : List ℕ). t ++ rest) grown ∙ append_assoc text (named name) rest
+    ∙ ap (λ l. text ++ listed (suc left) l) (sym (named_next rows e v name within is)) ∙ told
+
+-- where no more are told, and behind the last value
+pub more_members_told : (text all : List ℕ) (rows : Rows) (e v left : ℕ) (name : List ℕ) → v < 256 → member_name rows e v ≡ Some name → left ≡ 0
+    → text ++ listed left (members_from rows e v) ≡ all → text ++ codes " .." ≡ all
+more_members_told text all rows e v zero name within is none told = ap (λ l. text ++ listed zero l) (sym (named_next rows e v name within is)) ∙ told
+more_members_told text all rows e v (suc left) name within is none told = absurd (omega (arith, none))
+
+pub members_told : (text all : List ℕ) (rows : Rows) (e v left : ℕ) → v ≡ 256 → text ++ listed left (members_from rows e v) ≡ all → text ≡ all
+members_told text all rows e v left end told =
+    sym (append-nil text) ∙ ap (λ l. text ++ listed left l) (sym (ap (members_from rows e) end ∙ none_from rows e)) ∙ told
+
+-- what was added behind a text that was added itself
+pub told_behind : {E : Type 0} (r : Result (Unit {0}) E) (text mid new first rest : List ℕ) → mid ≡ text ++ first → OnOk r (new ≡ mid ++ rest) → OnOk r (new ≡ text ++ (first ++ rest))
+told_behind r text mid new first rest is told = on_ok_weaker r (λ now. now ∙ ap (λ (t : List ℕ). t ++ rest) is ∙ append_assoc text first rest) told

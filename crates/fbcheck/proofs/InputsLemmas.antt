@@ -15,7 +15,9 @@ use Rattle.fb_run.specs.declared.fault.RunFault.TheVariants as run
 use Rattle.fb_run.specs.declared.run.Ran.{Ran}
 use Rattle.fb_run.specs.declared.tally.Tally.{Tally}
 use Rattle.fbcheck.specs.Hints.{run_hint}
-use Rattle.fbcheck.specs.Inputs.{Folder, HaltsAmong, IsBehind, IsBehindFault, IsBehindRun, IsNotedOf, Passes, PassesAll, Stand, Tries, are_several, course_with, fault_line, is_final, is_standard, label_of, with_label, standard_after, sum_of_counts, sums}
+use Rattle.fbcheck.specs.Texts.{run_text}
+use Rattle.std.specs.declared.io.ErrorKind.{ErrorKind}
+use Rattle.fbcheck.specs.Inputs.{Folder, HaltsAmong, IsBehind, IsBehindFault, IsBehindRun, IsNotedOf, Passes, PassesAll, Stand, Tries, course_with, fault_line, is_final, is_standard, label_of, with_label, standard_after, sum_of_counts, sums, are_named}
 use Rattle.fbcheck.specs.declared.files.FileFault.TheVariants as file
 use Rattle.fbcheck.specs.declared.inputs.Course.{Course}
 use Rattle.fbcheck.specs.declared.inputs.Missed.{Missed}
@@ -81,7 +83,7 @@ module _ (folder : Folder) where
 
   -- one of them ended it all
   pub halts_among : (job : Job) (names front left rest : List (List ℕ)) (name : List ℕ) (a b c : Stand) (fault : RunFault) → names ≡ front ++ left → left ≡ name ∷ rest
-      → PassesAll folder job (are_several names) front a b → Tries folder (with_label (label_of (are_several names) name) job) name b c (Err fault)
+      → PassesAll folder job (are_named job.label names) front a b → Tries folder (with_label (label_of (are_named job.label names) name) job) name b c (Err fault)
       → HaltsAmong folder job names a c fault
   halts_among job names front left rest name a b c fault are next passes tries = record {
     front = front;
@@ -125,12 +127,14 @@ turns_on calls Unread new first before after kept spent now then = subst (λ s. 
 turns_on calls Spent new first before after kept spent now then = subst (λ s. calls s ≤ calls first + 4294967296) (sym (spent refl).1) then
 
 -- behind a fault that doesn't end it all stands its line
-pub behind_noted : (name : List ℕ) (tally : Tally) (end : End) (fault : RunFault) (before after : Writer) (answer : End) (why behind : List ℕ) → end ≡ Err fault → is_final fault ≡ false
-    → behind ≡ run_hint fault tally → IsNotedOf (fault_line name why behind) before after answer → IsBehindRun name tally end before after answer
-behind_noted name tally end fault before after answer why behind is isnt hint noted =
-    subst (λ (e : End). IsBehindRun name tally e before after answer) (sym is)
-    (subst (λ (b : Bool). IsBehindFault b name tally fault before after answer) (sym isnt)
-    (why, subst (λ (b : List ℕ). IsNotedOf (fault_line name why b) before after answer) hint noted))
+pub behind_noted : (name : List ℕ) (tally : Tally) (end : End) (cause : Option ErrorKind) (fault : RunFault) (before after : Writer) (answer : End) (why behind : List ℕ) → end ≡ Err fault
+    → is_final fault ≡ false → why ≡ run_text cause fault → behind ≡ run_hint fault tally → IsNotedOf (fault_line name why behind) before after answer
+    → IsBehindRun name tally end cause before after answer
+behind_noted name tally end cause fault before after answer why behind is isnt text hint noted =
+    subst (λ (e : End). IsBehindRun name tally e cause before after answer) (sym is)
+    (subst (λ (b : Bool). IsBehindFault b name tally fault cause before after answer) (sym isnt)
+    (subst (λ (t : List ℕ). IsNotedOf (fault_line name t (run_hint fault tally)) before after answer) text
+    (subst (λ (b : List ℕ). IsNotedOf (fault_line name why b) before after answer) hint noted)))
 
 -- what is asked, with another label
 pub relabelled : (rows : Rows) (options : Options) (job : Job) (label : Option (Vec ℕ Global)) (old text : Option (List ℕ)) → job_of rows options ≡ with_label old job
@@ -144,29 +148,29 @@ IsTurns (Ok done) = ⊥
 IsTurns (Err run.TooManyTurns) = Unit {0}
 IsTurns (Err fault) = ⊥
 
-behind_run_never : (name : List ℕ) (tally : Tally) (ran end : End) (before after : Writer) → IsBehindRun name tally ran before after end → IsTurns end → ⊥
+behind_run_never : (name : List ℕ) (tally : Tally) (ran end : End) (cause : Option ErrorKind) (before after : Writer) → IsBehindRun name tally ran cause before after end → IsTurns end → ⊥
 unfolding IsTurns
-behind_run_never name tally (Ok done) end before after (is, same) turns = subst IsTurns is turns
-behind_run_never name tally (Err (run.WriteFault written)) end before after (is, same) turns = subst IsTurns is turns
-behind_run_never name tally (Err (run.NoteFault written)) end before after (is, same) turns = subst IsTurns is turns
-behind_run_never name tally (Err run.OutOfMemory) end before after (is, same) turns = subst IsTurns is turns
-behind_run_never name tally (Err fault) (Ok done) before after told turns = turns
-behind_run_never name tally (Err fault) (Err (run.NoteFault written)) before after told turns = turns
-behind_run_never name tally (Err fault) (Err run.OutOfMemory) before after told turns = turns
-behind_run_never name tally (Err fault) (Err run.TooManyTurns) before after (why, never) turns = never
-behind_run_never name tally (Err fault) (Err other) before after told turns = turns
+behind_run_never name tally (Ok done) end cause before after (is, same) turns = subst IsTurns is turns
+behind_run_never name tally (Err (run.WriteFault written)) end cause before after (is, same) turns = subst IsTurns is turns
+behind_run_never name tally (Err (run.NoteFault written)) end cause before after (is, same) turns = subst IsTurns is turns
+behind_run_never name tally (Err run.OutOfMemory) end cause before after (is, same) turns = subst IsTurns is turns
+behind_run_never name tally (Err fault) (Ok done) cause before after told turns = turns
+behind_run_never name tally (Err fault) (Err (run.NoteFault written)) cause before after told turns = turns
+behind_run_never name tally (Err fault) (Err run.OutOfMemory) cause before after told turns = turns
+behind_run_never name tally (Err fault) (Err run.TooManyTurns) cause before after never turns = never
+behind_run_never name tally (Err fault) (Err other) cause before after told turns = turns
 
 -- nothing behind a file is an end for too many calls
-pub behind_never : (name : List ℕ) (came : Result Ran Missed) (end : End) (before after : Writer) → IsBehind name came before after end → IsTurns end → ⊥
+pub behind_never : (name : List ℕ) (came : Result Ran Missed) (end : End) (cause : Option ErrorKind) (before after : Writer) → IsBehind name came cause before after end → IsTurns end → ⊥
 unfolding IsTurns
-behind_never name (Ok ran) end before after told turns = behind_run_never name ran.tally ran.end end before after told turns
-behind_never name (Err (missed.File file.OutOfMemory)) end before after (is, same) turns = subst IsTurns is turns
-behind_never name (Err (missed.File (file.Unreadable cause))) (Ok done) before after told turns = turns
-behind_never name (Err (missed.File (file.Unreadable cause))) (Err run.TooManyTurns) before after told turns = told
-behind_never name (Err (missed.File (file.Unreadable cause))) (Err other) before after told turns = turns
-behind_never name (Err missed.Again) (Ok done) before after told turns = turns
-behind_never name (Err missed.Again) (Err run.TooManyTurns) before after told turns = told
-behind_never name (Err missed.Again) (Err other) before after told turns = turns
+behind_never name (Ok ran) end cause before after told turns = behind_run_never name ran.tally ran.end end cause before after told turns
+behind_never name (Err (missed.File file.OutOfMemory)) end cause before after (is, same) turns = subst IsTurns is turns
+behind_never name (Err (missed.File (file.Unreadable why))) (Ok done) cause before after told turns = turns
+behind_never name (Err (missed.File (file.Unreadable why))) (Err run.TooManyTurns) cause before after told turns = told
+behind_never name (Err (missed.File (file.Unreadable why))) (Err other) cause before after told turns = turns
+behind_never name (Err missed.Again) (Ok done) cause before after told turns = turns
+behind_never name (Err missed.Again) (Err run.TooManyTurns) cause before after told turns = told
+behind_never name (Err missed.Again) (Err other) cause before after told turns = turns
 
 pub is_turns : (end : End) → end ≡ Err run.TooManyTurns → IsTurns end
 unfolding IsTurns

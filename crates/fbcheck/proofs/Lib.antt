@@ -1,3 +1,4 @@
+mod AlikeLemmas
 mod AskedLemmas
 mod HintLemmas
 mod InputsLemmas
@@ -5,4 +6,6 @@ mod NoteLemmas
 mod OneAsk
 mod PathLemmas
 mod ServingLemmas
+mod TextLemmas
 pub mod ShownInputs
+pub mod ShownTexts

@@ -1,4 +1,4 @@
--- Two texts that are noted one behind the other.
+-- Two texts that are noted one behind the other, and the line that tells a fault.
 use Rattle.std.proofs.Common.{◌≡◌, ◌∙◌, ℕ, ◌+◌, ◌<◌, ◌≤◌, List, ◌++◌, Option, sym, ap, subst, length, take, arith}
 use mathlib.Core.Logic.{inl, inr}
 use Rattle.std.specs.Io.KnownBytes.{Appends}
@@ -6,7 +6,15 @@ use Rattle.std.proofs.KnownBytes.{Appends-trans}
 use Rattle.std.proofs.Math.Nat.{eq-or-lt_of_le}
 use Rattle.std.proofs.Math.Seq.{take-append-add, take-length}
 use Rattle.std.proofs.lemmas.List.{length-append}
-use Rattle.fbcheck.specs.Serving.{IsNoted}
+use Rattle.std.proofs.Common.{Err, refl, codes}
+use Rattle.std.specs.Global.{Global}
+use Rattle.std.specs.Prelude.{String}
+use Rattle.std.specs.declared.io.ErrorKind.{ErrorKind}
+use Rattle.fb_run.specs.Ends.{Writer}
+use Rattle.fbcheck.specs.Serving.{Complains, IsNoted, behind}
+use Rattle.fbcheck.specs.Texts.{stop_text}
+use Rattle.fbcheck.specs.declared.stop.Stop.{Stop}
+use Rattle.fbcheck.specs.declared.stop.Stop.TheVariants as stop
 
 -- the first text stands written, and of the second so many bytes
 both_wrote : (text behind : List ℕ) (n m n' : Option (List ℕ)) (first second : ℕ) → first ≡ length text → Appends n m (take first text) → Appends m n' (take second behind)
@@ -41,3 +49,15 @@ second_noted text behind n m n' k l k' first second whole wrote same le more fai
   | inl all ↦ both_whole text behind n m n' k l k' first second whole wrote same all more (unfailed all)
   | inr cut ↦ second_cut text behind n m n' k l k' first second whole wrote same le more (failed cut)
 ]
+
+-- what isn't the text of `clap` is told by a line of its own
+own_line : (cause : Option ErrorKind) (fault : Stop) (before after : Writer) → ((text : String Global) → fault ≡ stop.Usage text → ⊥)
+    → IsNoted ((codes "fbcheck: " ++ stop_text cause fault) ++ behind fault) before after → Complains cause (Err fault) before after
+own_line cause (stop.Usage text) before after other noted = absurd (other text refl)
+own_line cause fault before after other noted = noted
+
+pub line_told : (cause : Option ErrorKind) (fault : Stop) (before after : Writer) (line more : List ℕ) → ((text : String Global) → fault ≡ stop.Usage text → ⊥)
+    → line ≡ codes "fbcheck: " ++ stop_text cause fault → more ≡ behind fault → IsNoted (line ++ more) before after → Complains cause (Err fault) before after
+line_told cause fault before after line more other is same noted =
+    own_line cause fault before after other
+    (subst (λ (l : List ℕ). IsNoted (l ++ behind fault) before after) is (subst (λ (b : List ℕ). IsNoted (line ++ b) before after) same noted))

@@ -17,7 +17,8 @@ use Rattle.fb_bfbs.specs.declared.load_fault.LoadFault.TheVariants as load
 use Rattle.fb_bfbs.specs.LoadLaws.{Applies, IsSameLoad, ident_bytes}
 use Rattle.fb_bfbs.specs.declared.loading.Loaded.{Loaded}
 use Rattle.fb_run.specs.Job.{Job, job_of}
-use Rattle.fbcheck.specs.Asked.{ArePaths, AsksBy, IsAsked, IsPath, IsPathFault, HasPathFault, LacksIdent, Own, asked_root, options_of, path_texts}
+use Rattle.fbcheck.specs.Asked.{ArePaths, AsksBy, IsAsked, IsPath, IsPathFault, HasPathFault, LacksIdent, Own, asked_root, options_of, own_label, path_texts}
+use Rattle.fbcheck.specs.Inputs.{with_label}
 use Rattle.fbcheck.specs.Checking.{Asks, IsSchema, IsNoSchema, own_of, schema_limits}
 use Rattle.fbcheck_words.specs.declared.choices.Settings.{Settings}
 use Rattle.fbcheck.specs.declared.fault.AskFault.{AskFault}
@@ -75,8 +76,9 @@ module _ (rows : Rows) (own : Own) (settings : Settings) where
       let s = one_paths rows i.root texts h.paths.items i.paths.items (subst (λ n. ArePaths rows n texts h.paths.items) r h.paths_are) i.paths_are in
       let w : Some h.ident ≡ Some i.ident = sym h.ident_is ∙ i.ident_is in
       let a : h.ident ≡ i.ident = cc in
-      h.job_is ∙ ap (λ n. job_of rows (options_of settings n h.paths h.ident)) r ∙ same_job i.root h.ident h.paths i.paths s
-      ∙ ap (λ d. job_of rows (options_of settings i.root i.paths d)) a ∙ sym i.job_is
+      let same = ap (λ n. job_of rows (options_of settings n h.paths h.ident)) r ∙ same_job i.root h.ident h.paths i.paths s
+      ∙ ap (λ d. job_of rows (options_of settings i.root i.paths d)) a in
+      h.job_is ∙ ap (λ (j : Job). with_label (own_label settings) j) same ∙ sym i.job_is
 
   job_or_no_ident : (x : Job) → IsAsked rows own settings x → LacksIdent rows own settings → ⊥
   job_or_no_ident x h i = let w : Some h.ident ≡ None = sym h.ident_is ∙ i.none in cc

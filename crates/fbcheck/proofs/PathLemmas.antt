@@ -59,7 +59,7 @@ module _ (rows : Rows) (root : ℕ) where
 
     -- and what is told behind that
     pub path_told : (paths : List Wanted) (fault : AskFault) (at : Option Kind) (hint : List ℕ) → ArePaths rows root (map string_bytes (take i texts)) paths → PathFails rows root (string_bytes text) fault
-        → IsMisfitAt rows root (string_bytes text) at → hint ≡ path_hint rows (label_of (are_several (map string_bytes texts)) (string_bytes text)) fault at → IsPathHint rows root (map string_bytes texts) fault hint
+        → IsMisfitAt rows root (string_bytes text) at → hint ≡ path_hint rows (label_of (are_several (map string_bytes texts)) (string_bytes text)) (string_bytes text) fault at → IsPathHint rows root (map string_bytes texts) fault hint
     path_told paths (Path fault) at hint h fails stands told = record {
       front = map string_bytes (take i texts);
       text = string_bytes text;

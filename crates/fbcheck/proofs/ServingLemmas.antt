@@ -2,6 +2,7 @@
 use Rattle.std.proofs.Common.{◌≡◌, ◌≢◌, ◌==◌, ◌≤◌, ◌^◌, ◌∙◌, arith, ℕ, Bool, true, false, true≢false, List, [], ◌∷◌, Option, Some, None, Result, Ok, Err, ap, length, refl, take, sym, subst}
 use mathlib.Core.Logic.{◌⊎◌, inl, inr}
 use Rattle.std.specs.Borrow.{Bor}
+use Rattle.std.specs.declared.io.ErrorKind.{ErrorKind}
 use Rattle.std.specs.Io.KnownBytes.{Appends}
 use Rattle.std.specs.Prelude.{String, Vec, map, option_map, string_bytes, vec_items}
 use Rattle.std.proofs.KnownBytes.{Keeps-refl}
@@ -12,7 +13,7 @@ use Rattle.clap.specs.Walk.{Text}
 use Rattle.fbcheck_words.specs.Refusal.{Refuses}
 use Rattle.fbcheck.specs.Checking.{IsPromptAmongAsked, IsPromptAsAsked, IsPromptOverAsked, RunsAsAsked, ServesAsAsked, names_in}
 use Rattle.fbcheck.specs.Faults.{IsFile}
-use Rattle.fbcheck.specs.Inputs.{Folder, IsPromptAmong, IsPromptOver}
+use Rattle.fbcheck.specs.Inputs.{Folder, IsPromptAmong, IsPromptOver, Seen, with_cause}
 use Rattle.fb_run.specs.Job.{Job}
 use Rattle.fb_run.specs.Ends.{Ends, Reader, Writer, beside}
 use Rattle.fb_run.specs.Faults.{End, EndsBeside}
@@ -33,16 +34,17 @@ use Rattle.fbcheck.specs.declared.stop.WordsFault.{WordsFault}
 
 module _ (folder : Folder) where
   -- the words give no settings
-  pub comes_unserved : (given : List Text) (reader : Reader) (writer writer' notes : Writer) (fault : SettingsFault) (outcome : Result Ending Stop) → Refuses given fault → Unserved fault writer writer' outcome
-      → ComesBy folder given (beside reader (record { writer = writer; notes = notes })) (beside reader (record { writer = writer'; notes = notes })) None outcome
-  comes_unserved given reader writer writer' notes fault (Ok (Checked tally)) refuses never = absurd never
-  comes_unserved given reader writer writer' notes fault (Ok (Passed course)) refuses never = absurd never
-  comes_unserved given reader writer writer' notes fault (Err (stop.Run cause tally)) refuses never = absurd never
-  comes_unserved given reader writer writer' notes fault (Err (stop.Halted cause)) refuses never = absurd never
-  comes_unserved given reader writer writer' notes fault (Err (stop.Ask cause)) refuses never = absurd never
-  comes_unserved given reader writer writer' notes fault (Err (stop.File cause hint)) refuses never = absurd never
-  comes_unserved given reader writer writer' notes fault (Err (stop.Unsummed written)) refuses never = absurd never
-  comes_unserved given reader writer writer' notes fault outcome refuses unserved = ((fault, refuses, Keeps-refl reader.left, unserved, Keeps-refl notes.bytes), refl)
+  pub comes_unserved : (given : List Text) (reader : Reader) (writer writer' notes : Writer) (cause : Option ErrorKind) (fault : SettingsFault) (outcome : Result Ending Stop)
+      → Refuses given fault → Unserved fault writer writer' outcome
+      → ComesBy folder given (with_cause (beside reader (record { writer = writer; notes = notes })) cause) (with_cause (beside reader (record { writer = writer'; notes = notes })) cause) None outcome
+  comes_unserved given reader writer writer' notes cause fault (Ok (Checked tally)) refuses never = absurd never
+  comes_unserved given reader writer writer' notes cause fault (Ok (Passed course)) refuses never = absurd never
+  comes_unserved given reader writer writer' notes cause fault (Err (stop.Run why tally)) refuses never = absurd never
+  comes_unserved given reader writer writer' notes cause fault (Err (stop.Halted why)) refuses never = absurd never
+  comes_unserved given reader writer writer' notes cause fault (Err (stop.Ask why)) refuses never = absurd never
+  comes_unserved given reader writer writer' notes cause fault (Err (stop.File why hint)) refuses never = absurd never
+  comes_unserved given reader writer writer' notes cause fault (Err (stop.Unsummed written)) refuses never = absurd never
+  comes_unserved given reader writer writer' notes cause fault outcome refuses unserved = ((fault, refuses, Keeps-refl reader.left, unserved, Keeps-refl notes.bytes), refl)
 
   -- what holds by the settings, and by what a read of the file of the words gave
   pub holds_given : (given : List Text) (settings : Settings) (file : Option (Bor (List ℕ))) (bytes : Option (List ℕ)) (Holds : Option (Bor (List ℕ)) → Settings → Type 0)
@@ -64,19 +66,19 @@ module _ (folder : Folder) where
       holds_given given settings file bytes _ are lent is (none, subst (λ (e : End). RunsAsAsked file settings before after tally e) same ran, counted)
 
   -- files were gone through by these settings
-  pub passes_given : (given : List Text) (settings : Settings) (file : Option (Bor (List ℕ))) (bytes : Option (List ℕ)) (before after : Ends) (course : Course) (sums : Option Sums)
+  pub passes_given : (given : List Text) (settings : Settings) (file : Option (Bor (List ℕ))) (bytes : Option (List ℕ)) (before after : Seen) (course : Course) (sums : Option Sums)
       (end end' : End) → end ≡ end' → AreGiven given settings → lent_bytes file ≡ bytes → IsFile folder.gives (option_map string_bytes settings.schema) bytes
       → names_in settings ≢ [] → ServesAsAsked folder file settings before after course end → sums ≡ summed settings course.tally → PassesAsGiven folder given before after sums course end'
   passes_given given settings file bytes before after course sums end end' same are lent is some served counted =
       holds_given given settings file bytes _ are lent is (some, subst (λ (e : End). ServesAsAsked folder file settings before after course e) same served, counted)
 
   -- the program ends by the end of the run, or of the files
-  pub comes_run : (given : List Text) (before after : Ends) (sums : Option Sums) (tally : Tally) (end : End) (outcome : Result Ending Stop) → outcome ≡ run_ending tally end
-      → ChecksAsGiven folder given before after sums tally end → ComesBy folder given before after sums outcome
+  pub comes_run : (given : List Text) (before after : Seen) (sums : Option Sums) (tally : Tally) (end : End) (outcome : Result Ending Stop) → outcome ≡ run_ending tally end
+      → ChecksAsGiven folder given before.ends after.ends sums tally end → ComesBy folder given before after sums outcome
   comes_run given before after sums tally (Ok done) outcome is checks = subst (λ (o : Result Ending Stop). ComesBy folder given before after sums o) (sym is) checks
   comes_run given before after sums tally (Err fault) outcome is checks = subst (λ (o : Result Ending Stop). ComesBy folder given before after sums o) (sym is) checks
 
-  pub comes_files : (given : List Text) (before after : Ends) (sums : Option Sums) (course : Course) (end : End) (outcome : Result Ending Stop) → outcome ≡ files_ending course end
+  pub comes_files : (given : List Text) (before after : Seen) (sums : Option Sums) (course : Course) (end : End) (outcome : Result Ending Stop) → outcome ≡ files_ending course end
       → PassesAsGiven folder given before after sums course end → ComesBy folder given before after sums outcome
   comes_files given before after sums course (Ok done) outcome is passes = subst (λ (o : Result Ending Stop). ComesBy folder given before after sums o) (sym is) passes
   comes_files given before after sums course (Err fault) outcome is passes = subst (λ (o : Result Ending Stop). ComesBy folder given before after sums o) (sym is) (course, passes)
@@ -106,7 +108,7 @@ module _ (folder : Folder) where
   prompt_among file settings before now some (job, asks, among) = (job, asks, over_some job (names_in settings) before now some among)
 
   -- the words could be read
-  pub comes_read : {A B : Type 0} (given : Result (Vec (String A) B) WordsFault) (words : Vec (String A) B) (slice : List (String A)) (before after : Ends) (sums : Option Sums) (outcome : Result Ending Stop)
+  pub comes_read : {A B : Type 0} (given : Result (Vec (String A) B) WordsFault) (words : Vec (String A) B) (slice : List (String A)) (before after : Seen) (sums : Option Sums) (outcome : Result Ending Stop)
       → given ≡ Ok words → slice ≡ vec_items words → ComesBy folder (map string_bytes slice) before after sums outcome → ComesTo folder (words_of given) before after sums outcome
   comes_read {A} {B} given words slice before after sums outcome is same comes =
       subst (λ (g : Result (Vec (String A) B) WordsFault). ComesTo folder (words_of g) before after sums outcome) (sym is)

@@ -1,5 +1,5 @@
 -- What the settings ask, by a schema that has a root table of its own, or none.
-use Rattle.std.specs.Prelude.{◌≡◌, ℕ, Bool, true, false, List, Option, Some, None, Result, Ok, Err, Vec, option_map, map, string_bytes, [], ◌∷◌, ◌⊎◌, if◌then◌else◌}
+use Rattle.std.specs.Prelude.{◌≡◌, ℕ, Bool, true, false, List, Option, Some, None, Result, Ok, Err, Vec, option_map, map, string_bytes, [], ◌∷◌, ◌⊎◌, codes, if◌then◌else◌}
 use Rattle.std.specs.Global.{Global}
 use Rattle.std.specs.List.{AllZip}
 use Rattle.fb_schema.specs.Rows.{Rows, table_named}
@@ -23,6 +23,7 @@ use Rattle.fb_run.specs.declared.options.Places.TheVariants.{Numbers, Words}
 use Rattle.fb_run.specs.declared.options.Prefix.{Prefix}
 use Rattle.fb_run.specs.declared.options.Prefix.TheVariants.{Part, Apart}
 use Rattle.fb_run.specs.declared.options.Options.{Options}
+use Rattle.fbcheck.specs.Inputs.{label_of, with_label}
 use Rattle.fbcheck.specs.declared.fault.AskFault.{AskFault}
 use Rattle.fbcheck.specs.declared.fault.AskFault.TheVariants.{Path, NoRoot, NoIdent, OutOfMemory}
 
@@ -107,6 +108,10 @@ options_of settings root paths ident = record {
   form = form_of settings.form;
 }
 
+-- what lines of standard input begin with where no file is named: its name, where names are asked for
+abbrev pub own_label : Settings → Option (List ℕ)
+own_label settings = label_of settings.with_filename (codes "-")
+
 -- the buffers are checked from the root, with the paths and by the identifier that the settings ask for
 pub record IsAsked (rows : Rows) (own : Own) (settings : Settings) (job : Job) : Type 0 where
   pub root : ℕ
@@ -115,7 +120,7 @@ pub record IsAsked (rows : Rows) (own : Own) (settings : Settings) (job : Job) :
   pub paths_are : ArePaths rows root (path_texts settings) paths.items
   pub ident : Ident
   pub ident_is : asked_ident own settings ≡ Some ident
-  pub job_is : job ≡ job_of rows (options_of settings root paths ident)
+  pub job_is : job ≡ with_label (own_label settings) (job_of rows (options_of settings root paths ident))
 
 -- the settings ask for a root and paths, and for the schema's own identifier, which has neither no bytes nor four
 pub record LacksIdent (rows : Rows) (own : Own) (settings : Settings) : Type 0 where

@@ -15,7 +15,7 @@ use Rattle.fb_bfbs.specs.declared.load_fault.LoadFault.TheVariants as load
 use Rattle.fb_bfbs.specs.LoadLaws.{ident_bytes}
 use Rattle.fbcheck.specs.Asked.{ArePaths, AsksBy, Own, asked_root, path_texts}
 use Rattle.fbcheck.specs.Hints.{hint_text, path_hint, root_hint, schema_hint}
-use Rattle.fbcheck.specs.Inputs.{Folder, IsPromptAmong, IsPromptOver, ServesEach, are_several, at_first, label_of, stand}
+use Rattle.fbcheck.specs.Inputs.{Folder, IsPromptAmong, IsPromptOver, Seen, ServesEach, are_several, at_first, label_of, stand}
 use Rattle.fb_run.specs.Ends.{Ends, Unwritten}
 use Rattle.fb_run.specs.Job.{Job}
 use Rattle.fb_run.specs.Prompt.{IsPrompt}
@@ -86,7 +86,7 @@ pub record TellsPath (rows : Rows) (root : ℕ) (texts : List (List ℕ)) (fault
   pub fault_is : IsFault rows root text fault
   pub at : Option Kind
   pub at_is : IsMisfitAt rows root text at
-  pub hint_is : hint ≡ path_hint rows (label_of (are_several texts) text) (Path fault) at
+  pub hint_is : hint ≡ path_hint rows (label_of (are_several texts) text) text (Path fault) at
 
 abbrev pub IsPathHint : Rows → ℕ → List (List ℕ) → AskFault → List ℕ → Type 0
 IsPathHint rows root texts (Path fault) hint = TellsPath rows root texts fault hint
@@ -94,7 +94,7 @@ IsPathHint rows root texts _ hint = hint ≡ codes "\n"
 
 -- this is told behind a fault of what a schema file, or none, and the settings ask
 abbrev pub IsHint : Option (Bor (List ℕ)) → Settings → AskFault → List ℕ → Type 0
-IsHint file settings (Load fault) text = text ≡ schema_hint file
+IsHint file settings (Load fault) text = text ≡ schema_hint (option_map string_bytes settings.schema) file
 IsHint file settings NoRoot text = (rows : Rows) × (own : Own) × IsSchema file rows own × (text ≡ root_hint rows (option_map string_bytes settings.root))
 IsHint file settings (Path fault) text = (rows : Rows) × (own : Own) × (root : ℕ) × IsSchema file rows own × (asked_root rows own settings ≡ Some root) × TellsPath rows root (path_texts settings) fault text
 IsHint file settings _ text = text ≡ codes "\n"
@@ -128,14 +128,14 @@ abbrev pub names_in : Settings → List (List ℕ)
 names_in settings = map string_bytes settings.files.items
 
 -- what came of these files, gone through as was asked for, and what was read, written and noted
-abbrev pub ServesAsAsked : Folder → Option (Bor (List ℕ)) → Settings → Ends → Ends → Course → End → Type 0
+abbrev pub ServesAsAsked : Folder → Option (Bor (List ℕ)) → Settings → Seen → Seen → Course → End → Type 0
 ServesAsAsked folder file settings before after course end =
     (job : Job) × Asks file settings (Ok job) × ServesEach folder job (names_in settings) (at_first before) (stand after course) end
 
 -- the same where it may be that none was begun
-abbrev pub IsServedEach : Folder → Option (Bor (List ℕ)) → Settings → Ends → Ends → Result Passed Unasked → Type 0
+abbrev pub IsServedEach : Folder → Option (Bor (List ℕ)) → Settings → Seen → Seen → Result Passed Unasked → Type 0
 IsServedEach folder file settings before after (Ok passed) = ServesAsAsked folder file settings before after passed.course passed.end
-IsServedEach folder file settings before after (Err unasked) = IsUntold file settings unasked × IsIdle before after
+IsServedEach folder file settings before after (Err unasked) = IsUntold file settings unasked × IsIdle before.ends after.ends
 
 -- there was nothing to check by
 abbrev pub IsUnasked : CheckFault → Type 0

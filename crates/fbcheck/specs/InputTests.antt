@@ -3,7 +3,7 @@ use Rattle.std.specs.Prelude.{◌≡◌, [], ◌∷◌, Some, None, Ok, Err, cod
 use Rattle.fb_run.specs.Sums.{no_tally}
 use Rattle.fb_run.specs.declared.fault.RunFault.TheVariants.{ReadFault}
 use Rattle.fb_run.specs.declared.run.Ran.{Ran}
-use Rattle.fbcheck.specs.Inputs.{are_several, course_with, fault_line, label_of}
+use Rattle.fbcheck.specs.Inputs.{are_named, course_with, fault_line, label_of}
 use Rattle.fbcheck.specs.declared.inputs.Course.{Course}
 use Rattle.fbcheck.specs.declared.inputs.Standard.TheVariants.{Unread, Spent}
 use Rattle.fbcheck.specs.declared.inputs.Missed.TheVariants.{Again}
@@ -31,8 +31,9 @@ pub record Courses : Type 0 where
   pub both : (course_with (codes "b") (Ok good) (course_with (codes "a") (Ok bad) none)).tally ≡ record no_tally { yes = 2; no = 1; bytes = 92 }
   pub spent : (course_with (codes "a") (Ok good) (course_with (codes "-") (Ok bad) none)).standard ≡ Spent
 
--- lines begin with names where there are several files, and those of faults do always
+-- lines begin with names where there are several files, or where those of standard input do; those of faults always
 pub record Labels : Type 0 where
-  pub of_two : label_of (are_several (codes "a" ∷ codes "b" ∷ [])) (codes "a") ≡ Some (codes "a")
-  pub of_one : label_of (are_several (codes "a" ∷ [])) (codes "a") ≡ None
+  pub of_two : label_of (are_named None (codes "a" ∷ codes "b" ∷ [])) (codes "a") ≡ Some (codes "a")
+  pub of_one : label_of (are_named None (codes "a" ∷ [])) (codes "a") ≡ None
+  pub of_one_named : label_of (are_named (Some (codes "-")) (codes "a" ∷ [])) (codes "a") ≡ Some (codes "a")
   pub of_a_fault : fault_line (codes "a.bin") (codes "no such file") (codes "\n") ≡ codes "fbcheck: a.bin: no such file\n"

@@ -1,14 +1,16 @@
 -- What the program does, from its words to its exit status.
 use Rattle.std.specs.Prelude.{◌≡◌, ◌≢◌, ℕ, ◌+◌, ◌<◌, ◌≤◌, ◌^◌, ◌⊎◌, ◌++◌, length, if◌then◌else◌, List, [], Option, Some, None, Result, Ok, Err, Vec, String, codes, map, option_map, string_bytes, string_len, vec_items}
 use Rattle.std.specs.Borrow.{Bor}
+use Rattle.std.specs.declared.io.ErrorKind.{ErrorKind}
 use Rattle.std.specs.Io.KnownBytes.{Appends, Keeps}
 use Rattle.clap.specs.Walk.{Text}
 use Rattle.clap.specs.Faults.{fault_of}
 use Rattle.fbcheck.specs.Asked.{form_of}
 use Rattle.fbcheck.specs.Checking.{IsIdle, IsPromptOverAsked, IsUntold, RunsAsAsked, ServesAsAsked, names_in}
 use Rattle.fbcheck.specs.Hints.{file_hint, hint_text, run_hint}
+use Rattle.fbcheck.specs.Texts.{stop_text}
 use Rattle.fbcheck.specs.Faults.{HasFileFault, IsFile, ask_status}
-use Rattle.fbcheck.specs.Inputs.{Folder}
+use Rattle.fbcheck.specs.Inputs.{Folder, Seen, renoted}
 use Rattle.fbcheck_words.specs.CommandLine.{program}
 use Rattle.fb_run.specs.Ends.{Ends, Writer, with_notes}
 use Rattle.fb_run.specs.Faults.{End, EndsBeside, IsUnfailed, failures_of, status_of}
@@ -65,7 +67,7 @@ ChecksAsGiven folder given before after sums tally end =
     HoldsAsGiven folder given (λ file settings. (names_in settings ≡ []) × RunsAsAsked file settings before after tally end × (sums ≡ summed settings tally))
 
 -- files were gone through as the words ask, they came to this, and these numbers are to be told
-abbrev pub PassesAsGiven : Folder → List Text → Ends → Ends → Option Sums → Course → End → Type 0
+abbrev pub PassesAsGiven : Folder → List Text → Seen → Seen → Option Sums → Course → End → Type 0
 PassesAsGiven folder given before after sums course end =
     HoldsAsGiven folder given (λ file settings. (names_in settings ≢ []) × ServesAsAsked folder file settings before after course end × (sums ≡ summed settings course.tally))
 
@@ -107,21 +109,21 @@ IsUnserved given before after outcome =
     × Unserved fault before.outs.writer after.outs.writer outcome × Keeps before.outs.notes.bytes after.outs.notes.bytes
 
 -- what the program came to by these words, what it read, wrote and noted by then, and the numbers that are to be told
-abbrev pub ComesBy : Folder → List Text → Ends → Ends → Option Sums → Result Ending Stop → Type 0
-ComesBy folder given before after sums (Ok (Checked tally)) = ChecksAsGiven folder given before after sums tally (Ok tt)
-ComesBy folder given before after sums (Err (stop.Run fault tally)) = ChecksAsGiven folder given before after sums tally (Err fault)
+abbrev pub ComesBy : Folder → List Text → Seen → Seen → Option Sums → Result Ending Stop → Type 0
+ComesBy folder given before after sums (Ok (Checked tally)) = ChecksAsGiven folder given before.ends after.ends sums tally (Ok tt)
+ComesBy folder given before after sums (Err (stop.Run fault tally)) = ChecksAsGiven folder given before.ends after.ends sums tally (Err fault)
 ComesBy folder given before after sums (Ok (Passed course)) = PassesAsGiven folder given before after sums course (Ok tt)
 ComesBy folder given before after sums (Err (stop.Halted fault)) = (course : Course) × PassesAsGiven folder given before after sums course (Err fault)
 ComesBy folder given before after sums (Err (stop.Ask unasked)) =
-    HoldsAsGiven folder given (λ file settings. IsUntold file settings unasked) × IsIdle before after × (sums ≡ None)
+    HoldsAsGiven folder given (λ file settings. IsUntold file settings unasked) × IsIdle before.ends after.ends × (sums ≡ None)
 ComesBy folder given before after sums (Err (stop.File fault hint)) =
-    (fault_of program given ≡ []) × IsFileFault folder.gives (text_of (codes "schema") given) fault hint.items × IsIdle before after × (sums ≡ None)
-ComesBy folder given before after sums outcome = IsUnserved given before after outcome × (sums ≡ None)
+    (fault_of program given ≡ []) × IsFileFault folder.gives (text_of (codes "schema") given) fault hint.items × IsIdle before.ends after.ends × (sums ≡ None)
+ComesBy folder given before after sums outcome = IsUnserved given before.ends after.ends outcome × (sums ≡ None)
 
 -- the same where it may be that the words could not be read
-abbrev pub ComesTo : Folder → Result (List Text) WordsFault → Ends → Ends → Option Sums → Result Ending Stop → Type 0
+abbrev pub ComesTo : Folder → Result (List Text) WordsFault → Seen → Seen → Option Sums → Result Ending Stop → Type 0
 ComesTo folder (Ok given) before after sums outcome = ComesBy folder given before after sums outcome
-ComesTo folder (Err fault) before after sums (Err (stop.Words told)) = (told ≡ fault) × IsIdle before after × (sums ≡ None)
+ComesTo folder (Err fault) before after sums (Err (stop.Words told)) = (told ≡ fault) × IsIdle before.ends after.ends × (sums ≡ None)
 ComesTo folder (Err fault) before after sums _ = ⊥
 
 -- how it ended, with so many reads at most: a run by its end or its cause, help by whether a write failed; of files that
@@ -166,11 +168,12 @@ behind (stop.Ask unasked) = hint_text unasked.hint
 behind (stop.Run fault tally) = run_hint fault tally
 behind _ = codes "\n"
 
--- nothing is told of a good end; of a stop the text of `clap`, or else a line that begins with the program's name
-abbrev pub Complains : Result Ending Stop → Writer → Writer → Type 0
-Complains (Ok ending) before after = Keeps before.bytes after.bytes × (after.failures ≡ before.failures)
-Complains (Err (stop.Usage text)) before after = IsNoted (string_bytes text) before after
-Complains (Err cause) before after = (why : List ℕ) × IsNoted ((codes "fbcheck: " ++ why) ++ behind cause) before after
+-- nothing is told of a good end; of a stop the text of `clap`, or else a line of its own behind the program's name,
+-- where this is why a read of standard input failed, if one did
+abbrev pub Complains : Option ErrorKind → Result Ending Stop → Writer → Writer → Type 0
+Complains cause (Ok ending) before after = Keeps before.bytes after.bytes × (after.failures ≡ before.failures)
+Complains cause (Err (stop.Usage text)) before after = IsNoted (string_bytes text) before after
+Complains cause (Err fault) before after = IsNoted ((codes "fbcheck: " ++ stop_text cause fault) ++ behind fault) before after
 
 -- the exit status of a stop
 abbrev pub stop_status : Stop → ℕ
@@ -196,15 +199,15 @@ exit_status (Err cause) = stop_status cause
 -- The program did what its words ask with at most so many reads, told behind its notes the numbers that they ask for and
 -- why it came to rest if it did, and ended with the status of that. Behind what it came to the notes were `between`, and
 -- behind the numbers `behind`. So many calls were made of the writer and the notes in the end.
-pub record IsServed (folder : Folder) (given : Result (List Text) WordsFault) (before after : Ends) (turns writes notes status : ℕ) : Type 0 where
+pub record IsServed (folder : Folder) (given : Result (List Text) WordsFault) (before after : Seen) (turns writes notes status : ℕ) : Type 0 where
   pub outcome : Result Ending Stop
   pub sums : Option Sums
   pub between : Writer
-  pub comes : ComesTo folder given before (with_notes after between) sums outcome
-  pub ends : EndsSo before (with_notes after between) turns outcome
+  pub comes : ComesTo folder given before (renoted after between) sums outcome
+  pub ends : EndsSo before.ends (with_notes after.ends between) turns outcome
   pub crowded : IsCrowded writes notes outcome
   pub ending : Result Ending Stop
   pub behind : Writer
   pub summed : SumsUp sums between behind outcome ending
-  pub told : Complains ending behind after.outs.notes
+  pub told : Complains after.cause ending behind after.ends.outs.notes
   pub status_is : status ≡ exit_status ending

@@ -15,6 +15,7 @@ ghost use Rattle.fb_schema.specs.declared.kinds.Kind.TheVariants.{Table};
 
 use crate::fault::AskFault;
 use crate::hint::{Unasked, path_hint, root_hint, schema_hint};
+use crate::inputs::{STANDARD, label};
 use fb_access::{Path, misfit_at};
 use fb_bfbs::{Loaded, load, own_ident, reflection};
 use fb_run::{AskedPath, Form, Mode, Options, Places, Prefix};
@@ -107,8 +108,9 @@ fn find_paths(
             Ok(path) => path,
             Err(fault) => {
                 let told = told_path(several, text);
-                let at = misfit_at(schema, root, text.as_bytes());
-                let hint = path_hint(alloc, schema, told, fault, at);
+                let bytes = text.as_bytes();
+                let at = misfit_at(schema, root, bytes);
+                let hint = path_hint(alloc, schema, told, bytes, fault, at);
                 return Err(Unasked::new(fault, hint));
             }
         };
@@ -191,9 +193,15 @@ fn prefix(settings: &Settings) -> Prefix
     }
 }
 
-/// What the settings ask of each buffer, from this root, with these paths and this identifier.
-fn options(settings: &Settings, root: u32, paths: Vec<AskedPath>, ident: Ident) -> Options
-    ensures { result ≡ options_of settings.now root paths ident }
+/// What the settings ask of each buffer, from this root, with these paths, this identifier and this label.
+fn options(
+    settings: &Settings,
+    root: u32,
+    paths: Vec<AskedPath>,
+    ident: Ident,
+    label: Option<Vec<u8>>,
+) -> Options
+    ensures { result ≡ record (options_of settings.now root paths ident) { label = label } }
 {
     Options {
         root,
@@ -207,18 +215,18 @@ fn options(settings: &Settings, root: u32, paths: Vec<AskedPath>, ident: Ident) 
         checks: settings.checks,
         mode: mode(settings),
         names: places(settings),
-        label: None,
+        label,
         form: form(settings),
     }
 }
 
-/// Why a file gives no schema, with what it looks like.
-fn schemaless(alloc: Global, fault: AskFault, file: Option<&[u8]>) -> Unasked
+/// Why a file gives no schema, with its name and what it looks like.
+fn schemaless(alloc: Global, fault: AskFault, file: Option<&[u8]>, settings: &Settings) -> Unasked
     requires { LacksSchema file fault }
-    ensures { (settings : Settings) → IsUntold file.entry settings result }
+    ensures { IsUntold file.entry settings.now result }
 {
     match fault {
-        AskFault::Load(_) => Unasked::new(fault, schema_hint(alloc, file)),
+        AskFault::Load(_) => Unasked::new(fault, schema_hint(alloc, &settings.schema, file)),
         _ => Unasked::plain(fault),
     }
 }
@@ -255,7 +263,7 @@ pub fn asked_of<'b>(
         ident,
     } = match schema_of(alloc, schema_bytes) {
         Ok(loaded) => loaded,
-        Err(fault) => return Err(schemaless(alloc, fault, schema_bytes)),
+        Err(fault) => return Err(schemaless(alloc, fault, schema_bytes, settings)),
     };
     let Some(root) = find_root(&schema, &settings.root, root) else {
         let hint = root_hint(alloc, &schema, &settings.root);
@@ -265,6 +273,9 @@ pub fn asked_of<'b>(
     let Some(ident) = find_ident(settings, ident) else {
         return Err(Unasked::plain(AskFault::NoIdent));
     };
-    let options = options(settings, root, paths, ident);
+    let Ok(label) = label(alloc, settings.with_filename, STANDARD) else {
+        return Err(Unasked::plain(AskFault::OutOfMemory));
+    };
+    let options = options(settings, root, paths, ident, label);
     Ok(Asked { schema, options })
 }

@@ -3,7 +3,7 @@
 ghost use Rattle.std.specs.Prelude.{Err, IfErr, IfOk, OnErr, length, ◌≡◌, ◌⊎◌, ◌+◌, ◌<◌, ◌≤◌, ◌^◌};
 ghost use Rattle.fbcheck_words.specs.Ranges.{AreInRange};
 ghost use Rattle.fbcheck.specs.Checking.{EndsChecked, IsChecked, IsCheckedBeside, IsPromptAmongAsked, IsPromptAsAsked, IsServedEach, IsUnasked};
-ghost use Rattle.fbcheck.specs.Inputs.{folder_of};
+ghost use Rattle.fbcheck.specs.Inputs.{folder_of, seen_of};
 ghost use Rattle.fb_run.specs.Faults.{EndsBeside};
 ghost use Rattle.fb_run.specs.declared.fault.RunFault.TheVariants.{TooManyTurns};
 ghost use Rattle.fb_run.specs.Ends.{HasCallsLeft, HasLeave, ends_of, noteless};
@@ -79,10 +79,10 @@ pub fn check_files<F: Files, S: Input<K, N> + Explains, K: Sink, N: Sink>(
 ) -> Result<Passed, Unasked>
     requires ranges { AreInRange settings.now }
     requires few { HasCallsLeft S.Input K.Sink N.Sink reader.old writer.old notes.old }
-    requires leave { HasLeave S.Input (ends_of S.Input K.Sink N.Sink reader.old writer.old notes.old) (IsPromptAmongAsked (folder_of F.Files F.Opened.Source files.now) schema_bytes settings.now) }
+    requires leave { HasLeave S.Input (ends_of S.Input K.Sink N.Sink reader.old writer.old notes.old) (IsPromptAmongAsked (folder_of F.Files F.Opened.Source F.Opened.Explains files.now) schema_bytes settings.now) }
 
-    ensures served { IsServedEach (folder_of F.Files F.Opened.Source files.now) schema_bytes.entry settings.now (ends_of S.Input K.Sink N.Sink reader.old writer.old notes.old)
-        (ends_of S.Input K.Sink N.Sink reader.new writer.new notes.new) result }
+    ensures served { IsServedEach (folder_of F.Files F.Opened.Source F.Opened.Explains files.now) schema_bytes.entry settings.now (seen_of S.Input S.Explains K.Sink N.Sink reader.old writer.old notes.old)
+        (seen_of S.Input S.Explains K.Sink N.Sink reader.new writer.new notes.new) result }
     ensures places { IfOk result (λ passed. length passed.course.tally.reasons ≡ 13) }
     ensures unread { OnErr result (reader.new ≡ reader.old) }
     ensures unwritten { OnErr result (writer.new ≡ writer.old) }

@@ -1,8 +1,9 @@
-//! What follows from the definitions of what is asked, and of files one behind another, alone. These functions have no
-//! body: their contracts are the theorems.
+//! What follows from the definitions of what is asked, of files one behind another and of texts alone. These functions
+//! have no body: their contracts are the theorems.
 
 ghost use Rattle.fbcheck.specs.CheckLaws.{AsksOnce};
 ghost use Rattle.fbcheck.specs.InputTests.{Courses, Labels};
+ghost use Rattle.fbcheck.specs.TextTests.{AskTexts, LoadTexts, RunTexts, StopTexts};
 
 /// A schema file, or none, and the settings ask at most one thing: that the buffers are checked by one job, or that
 /// nothing is checked, for one cause: the file gives no schema, there is no root table, the path isn't one from
@@ -17,4 +18,13 @@ pub fn settings_ask_once()
 pub fn files()
     ensures courses { Courses }
     ensures labels { Labels }
+{}
+
+/// The texts of faults, by example.
+#[tactic(auto, using(crate::proofs::ShownTexts::run_texts_shown, crate::proofs::ShownTexts::load_texts_shown, crate::proofs::ShownTexts::ask_texts_shown, crate::proofs::ShownTexts::stop_texts_shown))]
+pub fn fault_texts()
+    ensures run { RunTexts }
+    ensures load { LoadTexts }
+    ensures ask { AskTexts }
+    ensures stop { StopTexts }
 {}

@@ -4,31 +4,34 @@ ghost use Rattle.std.specs.Prelude.{◌≡◌};
 ghost use Rattle.fbcheck.specs.Faults.{ask_status, load_fault, path_fault};
 ghost use Rattle.fbcheck.specs.declared.fault.AskFault.TheVariants.{OutOfMemory};
 
+use crate::texts::ask_text;
 use fb_access::PathFault;
 use fb_bfbs::LoadFault;
 use fb_run::RunFault;
 use std::alloc::AllocError;
+use std::fmt;
 use thiserror::Error;
 
 /// Why there is nothing to check buffers by.
 #[derive(Clone, Copy, Debug, PartialEq, Eq, Error)]
 pub enum AskFault {
     /// The schema file gives no schema. It is never that fault's own `OutOfMemory`, which is told as this type's.
-    #[error("schema: {0}")]
     Load(LoadFault),
     /// The schema has no table of the root's name, or no root was given and the schema file has none.
-    #[error("no root table")]
     NoRoot,
     /// The path isn't one from the root table. It is never that fault's own `OutOfMemory`, which is told as this
     /// type's.
-    #[error("path: {0}")]
     Path(PathFault),
     /// The schema's own identifier is asked for, and it has neither no bytes nor four.
-    #[error("the schema's identifier isn't four bytes")]
     NoIdent,
     /// Memory was refused.
-    #[error("out of memory")]
     OutOfMemory,
+}
+
+impl fmt::Display for AskFault {
+    fn fmt<W: fmt::Write>(&self, f: &mut fmt::Formatter<W>) -> fmt::Result {
+        write!(f, "{}", ask_text(self))
+    }
 }
 
 /// Why a check came to rest before its end.

@@ -1,15 +1,19 @@
 //! What is told behind a fault, to the end of its line.
 
-ghost use Rattle.std.specs.Prelude.{IfOk, IfSome, OnOk, Some, ◌≡◌, ◌++◌, option_map, slice_get, string_bytes};
+ghost use Rattle.std.specs.Prelude.{IfOk, IfSome, OnOk, Some, ◌≡◌, ◌≤◌, ◌++◌, length, option_map, slice_get, string_bytes, codes, find, take};
 ghost use Rattle.std.specs.List.{list_all};
 ghost use Rattle.fb_access.specs.Kept.{IsThere};
-ghost use Rattle.fbcheck.specs.Hints.{fields_at, file_hint, front_hint, hint_text, in_path, is_blank, is_plain, listed, named, opens, path_hint, reason_text, root_hint, run_hint, schema_hint, tables_in, with_hint};
+ghost use Rattle.fbcheck.specs.Hints.{fields_at, file_hint, front_hint, hint_text, is_blank, is_plain, known_reason, listed, named, opens, path_hint, reason_text, root_hint, run_hint, schema_hint, tables_in, with_hint, has_ident, ident_hint, ident_in, in_which, kind_text, meant, members_from, misfit_hint, other_ident, scalar_text, what_hint};
+ghost use Rattle.fb_access.specs.declared.path_fault.PathFault.TheVariants.{NoSuchField};
+ghost use Rattle.fb_schema.specs.declared.kinds.Kind.TheVariants.{Union};
+ghost use Rattle.fbcheck.specs.Alike.{is_alike};
 
+use crate::alike::{is_alike, step_name};
 use crate::fault::AskFault;
 use crate::files::FileFault;
 use fb_access::PathFault;
 use fb_run::{RunFault, Tally, put_bytes};
-use fb_schema::{Kind, Schema};
+use fb_schema::{Kind, Scalar, Schema};
 use std::alloc::{AllocError, Global};
 use std::io::ErrorKind;
 use thiserror::Error;
@@ -19,6 +23,9 @@ const MOST: usize = 10;
 
 /// By how many of its first bytes a file is taken for a text.
 const FRONT: usize = 16;
+
+/// How many values a union's type has.
+const VALUES: u16 = 256;
 
 /// Why there is nothing to check buffers by, and what is told behind that.
 #[derive(Debug, Drop, Error)]
@@ -124,18 +131,228 @@ fn put_fields(text: &mut Vec<u8>, schema: &Schema<'_>, kind: Kind) -> Result<(),
     }
 }
 
+/// How many fields a table or a struct has that can be named.
+fn field_count(schema: &Schema<'_>, kind: Kind) -> usize
+    requires { IsThere schema.now kind }
+    ensures { result ≡ length (fields_at schema.now kind) }
+{
+    match kind {
+        Kind::Table(table) => schema.fields_of(table).len(),
+        Kind::Struct(object) => schema.parts_of(object).len(),
+        _ => 0,
+    }
+}
+
+/// The first name of a field of a table or a struct that is nearly this one.
+fn alike_field<'s>(schema: &'s Schema<'_>, kind: Kind, asked: &[u8]) -> Option<&'s [u8]>
+    requires { IsThere schema.now kind }
+    ensures { option_map (λ name. name.now) result ≡ find (is_alike asked.now) (fields_at schema.now kind) }
+{
+    for place in 0..field_count(schema, kind) {
+        let Some(name) = field_name(schema, kind, place) else {
+            return None;
+        };
+        if is_alike(asked, name) {
+            return Some(name);
+        }
+    }
+    None
+}
+
+/// Adds the name of a field that may have been meant, where there is one.
+fn put_meant(
+    text: &mut Vec<u8>,
+    schema: &Schema<'_>,
+    kind: Kind,
+    asked: &[u8],
+) -> Result<(), AllocError>
+    requires { IsThere schema.now kind }
+    ensures { OnOk result (text.new.items ≡ text.old.items ++ meant (find (is_alike asked.now) (fields_at schema.now kind))) }
+{
+    match alike_field(schema, kind, asked) {
+        Some(name) => put_question(text, name),
+        None => Ok(()),
+    }
+}
+
+/// Asks whether this name was meant.
+fn put_question(text: &mut Vec<u8>, name: &[u8]) -> Result<(), AllocError>
+    ensures { OnOk result (text.new.items ≡ text.old.items ++ meant (Some name.now)) }
+{
+    text.extend_from_slice(b"; did you mean")?;
+    put_name(text, name)?;
+    text.extend_from_slice(b"?")
+}
+
+/// Adds the names of the members of a union, of which there may be more than are told.
+fn put_members(text: &mut Vec<u8>, schema: &Schema<'_>, union: u32) -> Result<(), AllocError>
+    ensures { OnOk result (text.new.items ≡ text.old.items ++ listed 10 (members_from schema.now union 0)) }
+{
+    let mut left = MOST;
+    for value in 0..VALUES {
+        let Some(name) = schema.member_name(union, value as u8) else {
+            continue;
+        };
+        if left == 0 {
+            return text.extend_from_slice(b" ..");
+        }
+        put_name(text, name)?;
+        left -= 1;
+    }
+    Ok(())
+}
+
+/// A scalar by its name in a schema's text.
+fn scalar_text(scalar: Scalar) -> &'static [u8]
+    ensures { result.now ≡ scalar_text scalar }
+{
+    match scalar {
+        Scalar::UType => b"a union's type",
+        Scalar::Bool => b"a bool",
+        Scalar::Byte => b"a byte",
+        Scalar::UByte => b"a ubyte",
+        Scalar::Short => b"a short",
+        Scalar::UShort => b"a ushort",
+        Scalar::Int => b"an int",
+        Scalar::UInt => b"a uint",
+        Scalar::Long => b"a long",
+        Scalar::ULong => b"a ulong",
+        Scalar::Float => b"a float",
+        Scalar::Double => b"a double",
+    }
+}
+
+/// What a value of this kind is.
+fn kind_text(kind: Kind) -> &'static [u8]
+    ensures { result.now ≡ kind_text kind }
+{
+    match kind {
+        Kind::Scalar(scalar) => scalar_text(scalar),
+        Kind::Text => b"a string",
+        Kind::Struct(_) => b"a struct",
+        Kind::Table(_) => b"a table",
+        Kind::Union(_) => b"a union",
+        _ => b"a vector or an array",
+    }
+}
+
+/// Adds the members of a union, or what else this is.
+fn put_what(text: &mut Vec<u8>, schema: &Schema<'_>, kind: Kind) -> Result<(), AllocError>
+    ensures { OnOk result (text.new.items ≡ text.old.items ++ what_hint schema.now kind) }
+{
+    match kind {
+        Kind::Union(union) => put_union(text, schema, union),
+        _ => {
+            text.extend_from_slice(b"; this is ")?;
+            text.extend_from_slice(kind_text(kind))
+        }
+    }
+}
+
+/// Adds the members of a union.
+fn put_union(text: &mut Vec<u8>, schema: &Schema<'_>, union: u32) -> Result<(), AllocError>
+    ensures { OnOk result (text.new.items ≡ text.old.items ++ what_hint schema.now (Union union)) }
+{
+    text.extend_from_slice(b"; this union's members:")?;
+    put_members(text, schema, union)
+}
+
+/// Adds the fields of a table or a struct where a step of this path names none of them.
+fn put_fieldless(
+    text: &mut Vec<u8>,
+    schema: &Schema<'_>,
+    path: &[u8],
+    step: u64,
+    kind: Kind,
+) -> Result<(), AllocError>
+    requires { IsThere schema.now kind }
+    ensures { OnOk result (text.new.items ≡ text.old.items ++ misfit_hint schema.now path.now (NoSuchField step) kind) }
+{
+    put_meant(text, schema, kind, step_name(path, step))?;
+    text.extend_from_slice(b"; fields:")?;
+    put_fields(text, schema, kind)
+}
+
+/// Adds what there is at this kind, where a step of this path doesn't fit.
+fn put_misfit(
+    text: &mut Vec<u8>,
+    schema: &Schema<'_>,
+    path: &[u8],
+    fault: PathFault,
+    kind: Kind,
+) -> Result<(), AllocError>
+    requires { IsThere schema.now kind }
+    ensures { OnOk result (text.new.items ≡ text.old.items ++ misfit_hint schema.now path.now fault kind) }
+{
+    match fault {
+        PathFault::NoSuchField { step } => put_fieldless(text, schema, path, step, kind),
+        PathFault::NotIndexable { .. }
+        | PathFault::NotAUnion { .. }
+        | PathFault::NoSuchMember { .. }
+        | PathFault::NotATable { .. } => put_what(text, schema, kind),
+        PathFault::BadText { .. } | PathFault::OutOfMemory => Ok(()),
+    }
+}
+
+/// Why the system refuses an open or a read, by the words that are told.
+pub fn known_reason(cause: ErrorKind) -> Option<&'static str>
+    ensures text { option_map (λ t. t.now) result ≡ known_reason cause }
+    ensures short { IfSome result (λ t. length t.now ≤ 60) }
+{
+    let text = match cause {
+        ErrorKind::NotFound => "no such file",
+        ErrorKind::PermissionDenied => "permission denied",
+        ErrorKind::IsADirectory => "is a directory",
+        ErrorKind::NotADirectory => "not a directory",
+        ErrorKind::InvalidFilename => "invalid file name",
+        ErrorKind::FilesystemLoop => "too many links",
+        ErrorKind::WouldBlock => "operation would block",
+        ErrorKind::Interrupted => "operation interrupted",
+        ErrorKind::InvalidInput => "invalid input parameter",
+        ErrorKind::Unsupported => "unsupported",
+        ErrorKind::ResourceBusy => "resource busy",
+        ErrorKind::OutOfMemory => "out of memory",
+        ErrorKind::StaleNetworkFileHandle => "stale network file handle",
+        ErrorKind::TimedOut => "timed out",
+        ErrorKind::NotConnected => "not connected",
+        ErrorKind::ConnectionReset => "connection reset",
+        ErrorKind::ConnectionRefused => "connection refused",
+        ErrorKind::ConnectionAborted => "connection aborted",
+        ErrorKind::HostUnreachable => "host unreachable",
+        ErrorKind::NetworkUnreachable => "network unreachable",
+        ErrorKind::NetworkDown => "network down",
+        ErrorKind::AddrInUse => "address in use",
+        ErrorKind::AddrNotAvailable => "address not available",
+        ErrorKind::BrokenPipe => "broken pipe",
+        ErrorKind::AlreadyExists => "entity already exists",
+        ErrorKind::DirectoryNotEmpty => "directory not empty",
+        ErrorKind::ReadOnlyFilesystem => "read-only filesystem or storage medium",
+        ErrorKind::InvalidData => "invalid data",
+        ErrorKind::WriteZero => "write zero",
+        ErrorKind::StorageFull => "no storage space",
+        ErrorKind::NotSeekable => "seek on unseekable file",
+        ErrorKind::QuotaExceeded => "quota exceeded",
+        ErrorKind::FileTooLarge => "file too large",
+        ErrorKind::ExecutableFileBusy => "executable file busy",
+        ErrorKind::Deadlock => "deadlock",
+        ErrorKind::CrossesDevices => "cross-device link or rename",
+        ErrorKind::TooManyLinks => "too many links",
+        ErrorKind::ArgumentListTooLong => "argument list too long",
+        ErrorKind::UnexpectedEof => "unexpected end of file",
+        ErrorKind::InProgress => "in progress",
+        ErrorKind::Other => "other error",
+        ErrorKind::Uncategorized => return None,
+    };
+    Some(text)
+}
+
 /// Why the system gives no file.
 pub fn reason(cause: ErrorKind) -> &'static [u8]
     ensures { result.now ≡ reason_text cause }
 {
-    match cause {
-        ErrorKind::NotFound => b"no such file",
-        ErrorKind::PermissionDenied => b"permission denied",
-        ErrorKind::IsADirectory => b"is a directory",
-        ErrorKind::NotADirectory => b"not a directory",
-        ErrorKind::InvalidFilename => b"invalid file name",
-        ErrorKind::FilesystemLoop => b"too many links",
-        _ => b"a read failed",
+    match known_reason(cause) {
+        Some(text) => text.as_bytes(),
+        None => b"a read failed",
     }
 }
 
@@ -175,46 +392,46 @@ pub fn root_hint(
     Ok(text)
 }
 
-/// What is told behind the fault of a path: which it is, where that is to be told, and where a name is no field's, the
-/// fields that there are at this kind.
+/// What is told behind the fault of a path of this text: which it is, where that is to be told, and what there is at
+/// this kind, where its step doesn't fit.
 pub fn path_hint(
     alloc: Global,
     schema: &Schema<'_>,
-    path: Option<&[u8]>,
+    told: Option<&[u8]>,
+    path: &[u8],
     fault: AskFault,
     at: Option<Kind>,
 ) -> Result<Vec<u8>, AllocError>
     requires { IfSome at (IsThere schema.now) }
-    ensures { IfOk result (λ hint. hint.items ≡ path_hint schema.now (option_map (λ p. p.now) path.entry) fault at) }
+    ensures { IfOk result (λ hint. hint.items ≡ path_hint schema.now (option_map (λ p. p.now) told.entry) path.now fault at) }
 {
     let mut text = Vec::new(alloc);
     if let AskFault::Path(fault) = fault {
-        put_path(&mut text, path)?;
-        if let (PathFault::NoSuchField { .. }, Some(kind)) = (fault, at) {
-            text.extend_from_slice(b"; fields:")?;
-            put_fields(&mut text, schema, kind)?;
+        put_which(&mut text, told)?;
+        if let Some(kind) = at {
+            put_misfit(&mut text, schema, path, fault, kind)?;
         }
     }
     text.extend_from_slice(b"\n")?;
     Ok(text)
 }
 
-/// Adds which path it is, where that is told.
-fn put_path(text: &mut Vec<u8>, path: Option<&[u8]>) -> Result<(), AllocError>
-    ensures { OnOk result (text.new.items ≡ text.old.items ++ in_path (option_map (λ p. p.now) path.entry)) }
+/// Adds which path or file it is, where that is told.
+fn put_which(text: &mut Vec<u8>, name: Option<&[u8]>) -> Result<(), AllocError>
+    ensures { OnOk result (text.new.items ≡ text.old.items ++ in_which (option_map (λ p. p.now) name.entry)) }
 {
-    match path {
-        Some(path) => put_in(text, path),
+    match name {
+        Some(name) => put_in(text, name),
         None => Ok(()),
     }
 }
 
 /// The same, where there is one.
-fn put_in(text: &mut Vec<u8>, path: &[u8]) -> Result<(), AllocError>
-    ensures { OnOk result (text.new.items ≡ text.old.items ++ in_path (Some path.now)) }
+fn put_in(text: &mut Vec<u8>, name: &[u8]) -> Result<(), AllocError>
+    ensures { OnOk result (text.new.items ≡ text.old.items ++ in_which (Some name.now)) }
 {
     text.extend_from_slice(b" in")?;
-    put_name(text, path)?;
+    put_name(text, name)?;
     Ok(())
 }
 
@@ -251,29 +468,100 @@ fn opens(bytes: &[u8]) -> bool
     false
 }
 
-/// What a file looks like that begins so.
-fn front_hint(front: &[u8]) -> &'static [u8]
-    ensures { result.now ≡ front_hint front.now }
+/// The bytes of a file's identifier, as many as there are.
+fn ident_in(front: &[u8]) -> &[u8]
+    ensures { result.now ≡ ident_in front.now }
 {
-    if front.is_empty() || !are_plain(front) {
-        b"\n"
-    } else if opens(front) {
-        b"; this looks like JSON\n"
+    &front[front.len().min(4)..front.len().min(8)]
+}
+
+/// Whether a file that begins so has an identifier, behind an offset below 2^24.
+fn has_ident(front: &[u8]) -> bool
+    ensures { result ≡ has_ident front.now }
+{
+    front.len() >= 8 && front[3] == 0 && are_plain(ident_in(front))
+}
+
+/// Adds an identifier that isn't that of schema files.
+fn put_other(text: &mut Vec<u8>, ident: &[u8]) -> Result<(), AllocError>
+    ensures { OnOk result (text.new.items ≡ text.old.items ++ other_ident ident.now) }
+{
+    text.extend_from_slice(b"; its file identifier is")?;
+    put_name(text, ident)?;
+    text.extend_from_slice(b", where a .bfbs has BFBS")
+}
+
+/// Adds, of a file that is no text and begins so, whether its identifier is that of schema files.
+fn put_ident(text: &mut Vec<u8>, front: &[u8]) -> Result<(), AllocError>
+    ensures { OnOk result (text.new.items ≡ text.old.items ++ ident_hint front.now) }
+{
+    let ident = ident_in(front);
+    if ident == b"BFBS".as_slice() {
+        Ok(())
+    } else if has_ident(front) {
+        put_other(text, ident)
     } else {
-        b"; this looks like a schema's text (.fbs): flatc --binary --schema makes the .bfbs\n"
+        text.extend_from_slice(b"; this is no binary schema, which flatc --binary --schema makes")
     }
 }
 
-/// What is told of a file that gives no schema, by its first bytes.
-pub fn schema_hint(alloc: Global, file: Option<&[u8]>) -> Result<Vec<u8>, AllocError>
-    ensures { IfOk result (λ hint. hint.items ≡ schema_hint file.entry) }
+/// Adds what a file looks like that begins so.
+fn put_front(text: &mut Vec<u8>, front: &[u8]) -> Result<(), AllocError>
+    ensures { OnOk result (text.new.items ≡ text.old.items ++ front_hint front.now) }
+{
+    if front.is_empty() {
+        text.extend_from_slice(b"; this is empty")
+    } else if !are_plain(front) {
+        put_ident(text, front)
+    } else if opens(front) {
+        text.extend_from_slice(b"; this looks like JSON")
+    } else {
+        text.extend_from_slice(
+            b"; this looks like a schema's text (.fbs): flatc --binary --schema makes the .bfbs",
+        )
+    }
+}
+
+/// What is told of a file that gives no schema: its name, where it has one, and what it is by its first bytes.
+pub fn schema_hint(
+    alloc: Global,
+    name: &Option<String>,
+    file: Option<&[u8]>,
+) -> Result<Vec<u8>, AllocError>
+    ensures { IfOk result (λ hint. hint.items ≡ schema_hint (option_map string_bytes name.now) file.entry) }
 {
     let mut text = Vec::new(alloc);
     match file {
-        Some(bytes) => text.extend_from_slice(front_hint(&bytes[..bytes.len().min(FRONT)]))?,
+        Some(bytes) => put_look(&mut text, name, bytes)?,
         None => text.extend_from_slice(b"\n")?,
     }
     Ok(text)
+}
+
+/// Adds which file it is, where it has a name, and what it is by its first bytes, to the end of the line.
+fn put_look(text: &mut Vec<u8>, name: &Option<String>, bytes: &[u8]) -> Result<(), AllocError>
+    ensures { OnOk result (text.new.items ≡ text.old.items ++ in_which (option_map string_bytes name.now) ++ front_hint (take 16 bytes.now) ++ codes "\n") }
+{
+    put_file(text, name)?;
+    put_front(text, front_of(bytes))?;
+    text.extend_from_slice(b"\n")
+}
+
+/// The bytes by which a file is taken for a text, as many as there are.
+fn front_of(bytes: &[u8]) -> &[u8]
+    ensures { result.now ≡ take 16 bytes.now }
+{
+    &bytes[..bytes.len().min(FRONT)]
+}
+
+/// Adds which file it is, where it has a name.
+fn put_file(text: &mut Vec<u8>, name: &Option<String>) -> Result<(), AllocError>
+    ensures { OnOk result (text.new.items ≡ text.old.items ++ in_which (option_map string_bytes name.now)) }
+{
+    match name {
+        Some(name) => put_in(text, name.as_bytes()),
+        None => Ok(()),
+    }
 }
 
 /// What is told behind the fault of a run that came to this: of a stream of which no message was good, which options

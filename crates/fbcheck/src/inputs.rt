@@ -6,30 +6,26 @@ ghost use Rattle.fb_run.specs.Sums.{no_tally};
 ghost use Rattle.fb_run.specs.Job.{Serves, job_of};
 ghost use Rattle.fb_run.specs.Prompt.{IsPrompt};
 ghost use Rattle.fb_run.specs.declared.fault.RunFault.TheVariants.{TooManyTurns};
-ghost use Rattle.fbcheck.specs.Inputs.{ComesOf, IsBehind, IsBehindRun, IsNotedOf, IsPromptAmong, ServesEach, Tries, at_first, course_with, fault_line, folder_of, is_final, is_standard, label_of, stand, standard_after, sum_of, sums};
+ghost use Rattle.fbcheck.specs.Inputs.{ComesOf, IsBehind, IsBehindRun, IsNotedOf, IsPromptAmong, ServesEach, Tries, at_first, course_with, fault_line, folder_of, is_final, is_standard, label_of, seen_of, stand, standard_after, sum_of, sums, are_named};
 ghost use Rattle.fbcheck.specs.declared.inputs.Standard.TheVariants.{Unread, Spent};
 
 use crate::files::{FileFault, Files};
 use crate::hint::{reason, run_hint};
-use crate::reading::{Explained, Explains};
-use arrayvec::ArrayString;
+use crate::reading::Explains;
+use crate::texts::run_text;
 use fb_bytes::Sink;
 use fb_run::{
     Input, MOST_TURNS, Options, Ran, RunFault, Tally, push_all, put_bytes, run_beside, status,
 };
 use fb_schema::Schema;
 use std::alloc::{AllocError, Global};
-use std::fmt::Write;
 use std::io::ErrorKind;
 
 /// The name of standard input.
-const STANDARD: &str = "-";
+pub const STANDARD: &str = "-";
 
 /// The most calls that a writer or the notes may have had before a run.
 const MOST_CALLS: u128 = 0x1_0000_0000_0000_0000;
-
-/// More bytes than the fault of any run has to tell.
-const ROOM: usize = 256;
 
 /// Whether standard input was among the files.
 #[derive(Clone, Copy, Debug, PartialEq, Eq)]
@@ -77,8 +73,8 @@ pub struct Passed {
 }
 
 /// Checks the buffers of files, one behind another, and writes what is told of each, as
-/// [`run_beside`](fb_run::run_beside) does. Where they are several, each line begins with the name of its file. `-` is
-/// standard input, which the reader is, and is read once.
+/// [`run_beside`](fb_run::run_beside) does. Where they are several, or the options have a label, each line begins with
+/// the name of its file. `-` is standard input, which the reader is, and is read once.
 ///
 /// A file that can't be read to its end is told with its name on the notes, and the next one is gone on with.
 ///
@@ -98,20 +94,20 @@ pub fn pass_files<F: Files, S: Input<K, N> + Explains, K: Sink, N: Sink>(
 ) -> Passed
     requires serves { Serves schema.now options.old }
     requires few { HasCallsLeft S.Input K.Sink N.Sink reader.old writer.old notes.old }
-    requires leave { HasLeave S.Input (ends_of S.Input K.Sink N.Sink reader.old writer.old notes.old) (IsPromptAmong (folder_of F.Files F.Opened.Source files.now) (job_of schema.now options.old) (map string_bytes names.now)) }
+    requires leave { HasLeave S.Input (ends_of S.Input K.Sink N.Sink reader.old writer.old notes.old) (IsPromptAmong (folder_of F.Files F.Opened.Source F.Opened.Explains files.now) (job_of schema.now options.old) (map string_bytes names.now)) }
 
-    ensures serves { ServesEach (folder_of F.Files F.Opened.Source files.now) (job_of schema.now options.old) (map string_bytes names.now)
-        (at_first (ends_of S.Input K.Sink N.Sink reader.old writer.old notes.old)) (stand (ends_of S.Input K.Sink N.Sink reader.new writer.new notes.new) result.course) result.end }
+    ensures serves { ServesEach (folder_of F.Files F.Opened.Source F.Opened.Explains files.now) (job_of schema.now options.old) (map string_bytes names.now)
+        (at_first (seen_of S.Input S.Explains K.Sink N.Sink reader.old writer.old notes.old)) (stand (seen_of S.Input S.Explains K.Sink N.Sink reader.new writer.new notes.new) result.course) result.end }
     ensures places { length result.course.tally.reasons ≡ 13 }
     ensures noted { N.calls notes.new < 2 ^ 98 }
     ensures turns { S.calls reader.new ≤ S.calls reader.old + MOST_TURNS }
     ensures crowded { result.end ≡ Err TooManyTurns → (2 ^ 64 ≤ K.calls writer.new) ⊎ (2 ^ 64 ≤ N.calls notes.new) }
 {
-    let several = names.len() > 1;
+    let named = are_named(options, names);
     let mut course = Course::new();
     for name in names {
         let name = name.as_str();
-        let Ok(label) = label(alloc, several, name) else {
+        let Ok(label) = label(alloc, named, name) else {
             return Passed {
                 course,
                 end: Err(RunFault::OutOfMemory),
@@ -142,11 +138,18 @@ pub fn pass_files<F: Files, S: Input<K, N> + Explains, K: Sink, N: Sink>(
     }
 }
 
-/// The name that each line begins with, where there are several files.
-fn label(alloc: Global, several: bool, name: &str) -> Result<Option<Vec<u8>>, AllocError>
-    ensures { IfOk result (λ label. option_map vec_items label ≡ label_of several name.now) }
+/// Whether lines tell of which file they are: where there are several, or lines of standard input do by themselves.
+fn are_named(options: &Options, names: &[String]) -> bool
+    ensures { result ≡ are_named (option_map vec_items options.now.label) (map string_bytes names.now) }
 {
-    if !several {
+    options.label.is_some() || names.len() > 1
+}
+
+/// The name that each line begins with, where lines tell it.
+pub fn label(alloc: Global, named: bool, name: &str) -> Result<Option<Vec<u8>>, AllocError>
+    ensures { IfOk result (λ label. option_map vec_items label ≡ label_of named name.now) }
+{
+    if !named {
         return Ok(None);
     }
     let mut label = Vec::new(alloc);
@@ -172,8 +175,8 @@ fn pass_file<F: Files, S: Input<K, N> + Explains, K: Sink, N: Sink>(
     requires reads { course.old.standard ≡ Unread → S.calls reader.old < 2 ^ 64 }
     requires leave { is_standard name.now ≡ true → course.old.standard ≡ Unread → HasLeave S.Input (ends_of S.Input K.Sink N.Sink reader.old writer.old notes.old) (IsPrompt (job_of schema.now options.now)) }
 
-    ensures tries { Tries (folder_of F.Files F.Opened.Source files.now) (job_of schema.now options.now) name.now
-        (stand (ends_of S.Input K.Sink N.Sink reader.old writer.old notes.old) course.old) (stand (ends_of S.Input K.Sink N.Sink reader.new writer.new notes.new) course.new) result }
+    ensures tries { Tries (folder_of F.Files F.Opened.Source F.Opened.Explains files.now) (job_of schema.now options.now) name.now
+        (stand (seen_of S.Input S.Explains K.Sink N.Sink reader.old writer.old notes.old) course.old) (stand (seen_of S.Input S.Explains K.Sink N.Sink reader.new writer.new notes.new) course.new) result }
     ensures places { length course.new.tally.reasons ≡ 13 }
     ensures noted { N.calls notes.new < 2 ^ 98 }
     ensures turns { S.calls reader.new ≤ S.calls reader.old + MOST_TURNS }
@@ -209,7 +212,7 @@ fn run_file<F: Files, S: Input<K, N> + Explains, K: Sink, N: Sink>(
     requires reads { standard ≡ Unread → S.calls reader.old < 2 ^ 64 }
     requires leave { is_standard name.now ≡ true → standard ≡ Unread → HasLeave S.Input (ends_of S.Input K.Sink N.Sink reader.old writer.old notes.old) (IsPrompt (job_of schema.now options.now)) }
 
-    ensures comes { ComesOf (folder_of F.Files F.Opened.Source files.now) (job_of schema.now options.now) name.now standard (ends_of S.Input K.Sink N.Sink reader.old writer.old notes.old) (ends_of S.Input K.Sink N.Sink reader.new writer.new notes.new) result.what }
+    ensures comes { ComesOf (folder_of F.Files F.Opened.Source F.Opened.Explains files.now) (job_of schema.now options.now) name.now standard (seen_of S.Input S.Explains K.Sink N.Sink reader.old writer.old notes.old) (seen_of S.Input S.Explains K.Sink N.Sink reader.new writer.new notes.new) result.what result.cause }
     ensures places { IfOk result.what (λ ran. length ran.tally.reasons ≡ 13) }
     ensures pushes { N.calls notes.new ≤ N.calls notes.old + 2 ^ 96 }
     ensures turns { S.calls reader.new ≤ S.calls reader.old + MOST_TURNS }
@@ -237,7 +240,8 @@ fn run_file<F: Files, S: Input<K, N> + Explains, K: Sink, N: Sink>(
 impl Came {
     /// What this run over a reader came to.
     fn by<S: Explains>(ran: Ran, reader: &S) -> Came
-        ensures { result.what ≡ Ok ran }
+        ensures what { result.what ≡ Ok ran }
+        ensures cause { result.cause ≡ S.cause reader.now }
     {
         Came {
             what: Ok(ran),
@@ -341,7 +345,7 @@ fn tell_behind<N: Sink>(
     notes: &mut N,
 ) -> Result<(), RunFault>
     requires { N.calls notes.old < 2 ^ 99 }
-    ensures told { IsBehind name.now came.now.what (writer_of N.Sink notes.old) (writer_of N.Sink notes.new) result }
+    ensures told { IsBehind name.now came.now.what came.now.cause (writer_of N.Sink notes.old) (writer_of N.Sink notes.new) result }
     ensures calls { N.calls notes.new ≤ N.calls notes.old + 2 ^ 64 }
 {
     match &came.what {
@@ -366,7 +370,7 @@ fn tell_run<N: Sink>(
     notes: &mut N,
 ) -> Result<(), RunFault>
     requires { N.calls notes.old < 2 ^ 99 }
-    ensures told { IsBehindRun name.now ran.now.tally ran.now.end (writer_of N.Sink notes.old) (writer_of N.Sink notes.new) result }
+    ensures told { IsBehindRun name.now ran.now.tally ran.now.end cause (writer_of N.Sink notes.old) (writer_of N.Sink notes.new) result }
     ensures calls { N.calls notes.new ≤ N.calls notes.old + 2 ^ 64 }
 {
     let Err(fault) = &ran.end else {
@@ -376,10 +380,8 @@ fn tell_run<N: Sink>(
         return Err(*fault);
     }
     let behind = run_hint(fault, &ran.tally);
-    let mut why = ArrayString::<ROOM>::new();
-    let fault = *fault;
-    let _ = write!(why, "{}", Explained { fault, cause });
-    tell_fault(alloc, name, why.as_str().as_bytes(), behind, notes)
+    let why = run_text(fault, cause);
+    tell_fault(alloc, name, why.bytes(), behind, notes)
 }
 
 /// Whether a fault ends it all: a failed write or note, or want of memory.

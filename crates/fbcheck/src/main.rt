@@ -9,6 +9,7 @@
 
 ghost use Rattle.std.specs.Prelude.{⊤};
 
+mod alike;
 mod asked;
 mod check;
 mod check_laws;
@@ -19,6 +20,7 @@ mod inputs;
 mod reading;
 mod serve;
 mod stop;
+mod texts;
 
 use fb_bytes::Counted;
 use files::{FileFault, Files};

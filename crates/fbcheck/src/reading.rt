@@ -1,12 +1,15 @@
 //! Readers that keep why a read failed.
 
-ghost use Rattle.std.specs.Prelude.{◌≡◌, Option, None, false};
+ghost use Rattle.std.specs.Prelude.{◌≡◌, ◌+◌, ◌<◌, ◌^◌, IfErr, Option, None, Some, false};
+ghost use Rattle.std.specs.Io.{ReadsAtMost};
+ghost use Rattle.std.specs.Io.KnownBytes.{ReadConsumes};
+ghost use Rattle.std.specs.IoError.{error_kind};
+ghost use Rattle.fb_bytes.specs.Ends.{failed, told_end};
 ghost use Rattle.std.specs.declared.io.ErrorKind.{ErrorKind};
 
 use fb_bytes::{Counted, Source};
-use fb_run::RunFault;
+use std::io;
 use std::io::{ErrorKind, Read};
-use std::{fmt, io};
 
 /// A reader that knows why a read failed.
 pub trait Explains {
@@ -53,7 +56,15 @@ impl<I: Read> Source for Reading<I> {
 
     ghost ended = { λ r. r.counted.ended };
 
-    fn pull(&mut self, piece: &mut [u8]) -> io::Result<usize> {
+    fn pull(&mut self, piece: &mut [u8]) -> io::Result<usize>
+        requires { self.old.counted.calls < 2 ^ 100 }
+        ensures bound { ReadsAtMost result piece.new }
+        ensures bytes { ReadConsumes (I.remaining self.old.counted.inner) (I.remaining self.new.counted.inner) result piece.new }
+        ensures counted { self.new.counted.calls ≡ self.old.counted.calls + 1 }
+        ensures failure { self.new.counted.failures ≡ self.old.counted.failures + failed result }
+        ensures end { self.new.counted.ended ≡ told_end self.old.counted.ended result piece.new }
+        ensures cause { IfErr result (λ error. self.new.cause ≡ Some (error_kind error)) }
+    {
         let answer = self.counted.pull(piece);
         if let Err(error) = &answer {
             self.cause = Some(error.kind());
@@ -71,23 +82,5 @@ impl<I: Read> Source for Reading<I> {
 
     fn ended(&self) -> bool {
         self.counted.ended()
-    }
-}
-
-/// The text of a run's fault, with the system's reason behind that of a failed read, where it gives one.
-#[derive(Clone, Copy, Debug, PartialEq, Eq)]
-pub struct Explained {
-    pub fault: RunFault,
-    pub cause: Option<ErrorKind>,
-}
-
-impl fmt::Display for Explained {
-    fn fmt<W: fmt::Write>(&self, f: &mut fmt::Formatter<W>) -> fmt::Result {
-        match (self.fault, self.cause) {
-            (RunFault::ReadFault, Some(cause)) if cause != ErrorKind::Uncategorized => {
-                write!(f, "{}: {cause}", self.fault)
-            }
-            _ => write!(f, "{}", self.fault),
-        }
     }
 }

@@ -2,7 +2,7 @@
 
 ghost use Rattle.std.specs.Prelude.{IfOk, IfSome, ◌≡◌, ◌+◌, ◌<◌, ◌≤◌, ◌^◌, ℕ, length, string_len};
 ghost use Rattle.fb_run.specs.Ends.{HasCallsLeft, HasLeave, Reader, Writer, beside, ends_of, writer_of};
-ghost use Rattle.fbcheck.specs.Inputs.{folder_of};
+ghost use Rattle.fbcheck.specs.Inputs.{folder_of, seen_of};
 ghost use Rattle.fbcheck.specs.Serving.{ComesTo, EndsSo, IsCrowded, IsPromptAsGiven, IsServed, Unserved, files_ending, run_ending, summed, words_of};
 
 use crate::asked::form;
@@ -31,10 +31,10 @@ pub fn serve<F: Files, S: Input<K, N> + Explains, K: Sink, N: Sink>(
     notes: &mut N,
 ) -> u8
     requires few { HasCallsLeft S.Input K.Sink N.Sink reader.old writer.old notes.old }
-    requires leave { HasLeave S.Input (ends_of S.Input K.Sink N.Sink reader.old writer.old notes.old) (IsPromptAsGiven (folder_of F.Files F.Opened.Source files.now) (words_of words)) }
+    requires leave { HasLeave S.Input (ends_of S.Input K.Sink N.Sink reader.old writer.old notes.old) (IsPromptAsGiven (folder_of F.Files F.Opened.Source F.Opened.Explains files.now) (words_of words)) }
 
-    ensures served { IsServed (folder_of F.Files F.Opened.Source files.now) (words_of words) (ends_of S.Input K.Sink N.Sink reader.old writer.old notes.old)
-        (ends_of S.Input K.Sink N.Sink reader.new writer.new notes.new) MOST_TURNS (K.calls writer.new) (N.calls notes.new) result }
+    ensures served { IsServed (folder_of F.Files F.Opened.Source F.Opened.Explains files.now) (words_of words) (seen_of S.Input S.Explains K.Sink N.Sink reader.old writer.old notes.old)
+        (seen_of S.Input S.Explains K.Sink N.Sink reader.new writer.new notes.new) MOST_TURNS (K.calls writer.new) (N.calls notes.new) result }
     ensures turns { S.calls reader.new ≤ S.calls reader.old + MOST_TURNS }
 {
     let mut sums = None;
@@ -55,10 +55,10 @@ fn come_to<F: Files, S: Input<K, N> + Explains, K: Sink, N: Sink>(
     sums: &mut Option<Sums>,
 ) -> Result<Ending, Stop>
     requires few { HasCallsLeft S.Input K.Sink N.Sink reader.old writer.old notes.old }
-    requires leave { HasLeave S.Input (ends_of S.Input K.Sink N.Sink reader.old writer.old notes.old) (IsPromptAsGiven (folder_of F.Files F.Opened.Source files.now) (words_of words)) }
+    requires leave { HasLeave S.Input (ends_of S.Input K.Sink N.Sink reader.old writer.old notes.old) (IsPromptAsGiven (folder_of F.Files F.Opened.Source F.Opened.Explains files.now) (words_of words)) }
 
-    ensures comes { ComesTo (folder_of F.Files F.Opened.Source files.now) (words_of words) (ends_of S.Input K.Sink N.Sink reader.old writer.old notes.old)
-        (ends_of S.Input K.Sink N.Sink reader.new writer.new notes.new) sums.new result }
+    ensures comes { ComesTo (folder_of F.Files F.Opened.Source F.Opened.Explains files.now) (words_of words) (seen_of S.Input S.Explains K.Sink N.Sink reader.old writer.old notes.old)
+        (seen_of S.Input S.Explains K.Sink N.Sink reader.new writer.new notes.new) sums.new result }
     ensures places { IfSome sums.new (λ told. length told.tally.reasons ≡ 13) }
     ensures ends { EndsSo (ends_of S.Input K.Sink N.Sink reader.old writer.old notes.old) (ends_of S.Input K.Sink N.Sink reader.new writer.new notes.new) MOST_TURNS result }
     ensures turns { S.calls reader.new ≤ S.calls reader.old + MOST_TURNS }

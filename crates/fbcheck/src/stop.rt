@@ -5,42 +5,39 @@ ghost use Rattle.std.specs.IoError.{error_kind};
 ghost use Rattle.fb_run.specs.Ends.{writer_of};
 ghost use Rattle.fbcheck.specs.Faults.{words_fault};
 ghost use Rattle.fbcheck.specs.Serving.{behind, Complains, IsNoted, SumsUp, exit_status, stop_status};
+ghost use Rattle.fbcheck.specs.Texts.{stop_text};
 ghost use Rattle.fbcheck_words.specs.declared.choices.SettingsFault.TheVariants as refusal;
 ghost use Rattle.fbcheck.specs.declared.stop.Stop.TheVariants as stop;
 
 use crate::files::FileFault;
 use crate::hint::{Unasked, run_hint};
 use crate::inputs::Course;
-use crate::reading::Explained;
-use arrayvec::ArrayString;
+use crate::texts::{ask_text, file_text, run_text, unsummed_text, words_text};
 use fb_bytes::Sink;
 use fb_run::summary::summary;
-use fb_run::{Form, RunFault, Tally, push_all, status};
+use fb_run::{Form, Line, RunFault, Tally, push_all, status};
 use fbcheck_words::SettingsFault;
 use std::alloc::AllocError;
-use std::fmt::Write;
-use std::io;
 use std::io::ErrorKind;
+use std::{fmt, io};
 use thiserror::Error;
 
 /// How a line begins that tells why the program comes to rest.
 const NAME: &str = "fbcheck: ";
 
-/// More bytes than any stop has to tell, but for the text of `clap`.
-const ROOM: usize = 256;
-
-/// That with the program's name before it.
-const LINE: usize = ROOM + NAME.len();
-
 /// Why the words of the command line can't be read.
 #[derive(Clone, Copy, Debug, PartialEq, Eq, Error)]
 pub enum WordsFault {
     /// A word isn't a text: the first such one by its number, the program's name being 0.
-    #[error("a word is not UTF-8: number {number}")]
     NotText { number: usize },
     /// Memory was refused.
-    #[error("out of memory")]
     OutOfMemory,
+}
+
+impl fmt::Display for WordsFault {
+    fn fmt<W: fmt::Write>(&self, f: &mut fmt::Formatter<W>) -> fmt::Result {
+        write!(f, "{}", words_text(self))
+    }
 }
 
 impl WordsFault {
@@ -79,31 +76,22 @@ pub enum Ending {
 #[derive(Debug, Drop, Error)]
 pub enum Stop {
     /// The words can't be read.
-    #[error("{0}")]
     Words(WordsFault),
     /// `clap` refuses the words, by this text.
-    #[error("{0}")]
     Usage(String),
     /// The words give no settings for another cause.
-    #[error("{0}")]
     Settings(SettingsFault),
     /// Help was asked for, and the writer took only its first `written` bytes.
-    #[error("write failed after {written} bytes")]
     CutOff { written: usize },
     /// The run came to its end, and of its summary only the first `written` bytes were taken.
-    #[error("write to standard error failed after {written} bytes of the summary")]
     Unsummed { written: usize },
     /// The schema file can't be read, and this is told behind the cause.
-    #[error("{0}")]
     File(FileFault, Vec<u8>),
     /// There was nothing to check by.
-    #[error("{0}")]
     Ask(Unasked),
     /// The run came to rest, with these counts.
-    #[error("{0}")]
     Run(RunFault, Tally),
     /// The run over a file came to rest for what ends the whole call, or wasn't begun.
-    #[error("{0}")]
     Halted(RunFault),
 }
 
@@ -120,6 +108,15 @@ impl From<Unasked> for Stop {
 
     fn from(cause: Unasked) -> Self {
         Self::Ask(cause)
+    }
+}
+
+impl fmt::Display for Stop {
+    fn fmt<W: fmt::Write>(&self, f: &mut fmt::Formatter<W>) -> fmt::Result {
+        match self {
+            Stop::Usage(text) => f.write_str(text.as_str()),
+            _ => write!(f, "{}", self.text(None)),
+        }
     }
 }
 
@@ -153,33 +150,41 @@ impl Stop {
         }
     }
 
+    /// Its text, but for that of `clap`, where this is why a read of standard input failed, if one did.
+    fn text(&self, cause: Option<ErrorKind>) -> Line
+        ensures text { result ≡ stop_text cause self.now }
+        ensures short { length result ≤ 200 }
+    {
+        match self {
+            Stop::Words(fault) => words_text(fault),
+            Stop::Usage(_) => Line::new(),
+            Stop::Settings(fault) => Line::of(fault.text()),
+            Stop::CutOff { written } => RunFault::WriteFault {
+                written: *written as u128,
+            }
+            .text(),
+            Stop::Unsummed { written } => unsummed_text(*written),
+            Stop::File(fault, _) => file_text(fault),
+            Stop::Ask(unasked) => ask_text(&unasked.fault),
+            Stop::Run(fault, _) => run_text(fault, cause),
+            Stop::Halted(fault) => fault.text(),
+        }
+    }
+
     /// Writes the text of `clap`, or else a line that begins with the program's name, where this is why a read of
     /// standard input failed, if one did. What can't be written is left.
     fn tell<N: Sink>(&self, cause: Option<ErrorKind>, notes: &mut N)
         requires { N.calls notes.old < 2 ^ 99 }
-        ensures told { Complains (Err self.now) (writer_of N.Sink notes.old) (writer_of N.Sink notes.new) }
+        ensures told { Complains cause (Err self.now) (writer_of N.Sink notes.old) (writer_of N.Sink notes.new) }
         ensures more { N.calls notes.old ≤ N.calls notes.new }
     {
         if let Stop::Usage(text) = self {
             note(notes, text.as_bytes());
             return;
         }
-        let mut why = ArrayString::<ROOM>::new();
-        let _ = match self {
-            Stop::Run(fault, _) => write!(
-                why,
-                "{}",
-                Explained {
-                    fault: *fault,
-                    cause
-                }
-            ),
-            _ => write!(why, "{self}"),
-        };
-        let mut line = ArrayString::<LINE>::new();
-        line.push_str(NAME);
-        line.push_str(why.as_str());
-        note_both(notes, line.as_str().as_bytes(), self.behind());
+        let mut line = self.text(cause);
+        line.put_text(NAME);
+        note_both(notes, line.bytes(), self.behind());
     }
 }
 
@@ -234,7 +239,7 @@ pub fn sum_up<N: Sink>(
 /// input failed, if one did.
 pub fn tell<N: Sink>(outcome: &Result<Ending, Stop>, cause: Option<ErrorKind>, notes: &mut N)
     requires { N.calls notes.old < 2 ^ 99 }
-    ensures told { Complains outcome.now (writer_of N.Sink notes.old) (writer_of N.Sink notes.new) }
+    ensures told { Complains cause outcome.now (writer_of N.Sink notes.old) (writer_of N.Sink notes.new) }
     ensures more { N.calls notes.old ≤ N.calls notes.new }
 {
     if let Err(stop) = outcome {

@@ -55,6 +55,10 @@ bytes_rule = number_rule (codes "max-bytes") 8 2147483647 (codes "67108864")
 abbrev pub flag_rule : Text → Rule
 flag_rule name = record (new_rule name) { long = Some name; action = Some SetTrue }
 
+-- the same, for which one letter stands too
+abbrev pub letter_rule : Text → ℕ → Rule
+letter_rule name letter = record (flag_rule name) { short = Some letter }
+
 -- the program by its name, which tells its version
 abbrev pub named : App
 named = on_top (λ s. record s { has_version = true; has_long_version = true }) (new_app (codes "fbcheck"))
@@ -76,4 +80,4 @@ outputs = with_rule (with_rule (with_rule (with_rule (with_rule inputs (flag_rul
     (flag_rule (codes "json"))
 
 abbrev pub program : App
-program = with_rule outputs (words_rule (codes "files"))
+program = with_rule (with_rule outputs (letter_rule (codes "with-filename") 72)) (words_rule (codes "files"))

@@ -32,6 +32,7 @@ pub record Say (given : List Text) (settings : Settings) : Type 0 where
   pub summary : IsTrue settings.summary ↔ IsGiven (codes "summary") given
   pub names : IsTrue settings.names ↔ IsGiven (codes "names") given
   pub json : (settings.form ≡ Json) ↔ IsGiven (codes "json") given
+  pub with_filename : IsTrue settings.with_filename ↔ IsGiven (codes "with-filename") given
   pub files : map string_bytes settings.files.items ≡ texts_of (codes "files") given
 
 -- what is refused of settings that don't agree with one another, the first of these

@@ -11,7 +11,7 @@ use Rattle.fbcheck_words.specs.Given.{Say, contradiction}
 use Rattle.fbcheck_words.specs.Values.{text_of}
 use Rattle.fbcheck_words.specs.declared.choices.Settings.{Settings}
 use Rattle.fbcheck_words.specs.declared.choices.SettingsFault.{SettingsFault}
-use Rattle.fbcheck_words.specs.declared.choices.SettingsFault.TheVariants.{Usage, BadIdent, OutOfMemory}
+use Rattle.fbcheck_words.specs.declared.choices.SettingsFault.TheVariants.{Usage, BadIdent, PathInFilter, TwoIdents, TooManyPaths, BareDelimited, OutOfMemory}
 
 -- `clap` refuses the words by an error of that kind; or it reads them, and the identifier isn't four bytes long; or they
 -- say settings that don't agree; or there was no memory
@@ -32,3 +32,13 @@ abbrev pub refusal_status : SettingsFault → ℕ
 refusal_status (Usage error) = usage_status (kind_of error)
 refusal_status OutOfMemory = 3
 refusal_status _ = 2
+
+-- the text of a refusal; `clap` has its own
+abbrev pub refusal_text : SettingsFault → List ℕ
+refusal_text (Usage error) = []
+refusal_text BadIdent = codes "ident must be four bytes"
+refusal_text PathInFilter = codes "a filter takes no path"
+refusal_text TwoIdents = codes "ident and schema-ident exclude each other"
+refusal_text TooManyPaths = codes "more than 16 paths"
+refusal_text BareDelimited = codes "bare and delimited exclude each other"
+refusal_text OutOfMemory = codes "out of memory"

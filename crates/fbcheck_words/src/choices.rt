@@ -1,12 +1,13 @@
 //! What the command line may ask for.
 
-ghost use Rattle.std.specs.Prelude.{◌≡◌};
-ghost use Rattle.fbcheck_words.specs.Refusal.{refusal_status};
+ghost use Rattle.std.specs.Prelude.{◌≡◌, ◌≤◌, length};
+ghost use Rattle.fbcheck_words.specs.Refusal.{refusal_status, refusal_text};
 ghost use Rattle.fbcheck_words.specs.declared.choices.SettingsFault.TheVariants.{OutOfMemory};
 
 use clap::Error;
 use fb_verify::{Checks, Limits};
 use std::alloc::AllocError;
+use std::fmt;
 use thiserror::Error as DeriveError;
 
 /// How many paths may be asked for.
@@ -60,6 +61,8 @@ pub struct Settings {
     pub names: bool,
     /// How lines are written (`--json`).
     pub form: Form,
+    /// Whether each line begins with the name of its file, also where that is the only one (`-H`, `--with-filename`).
+    pub with_filename: bool,
     /// The files to be read, one behind another, of which `-` is standard input (`FILE`); none stands for that alone.
     pub files: Vec<String>,
 }
@@ -68,25 +71,18 @@ pub struct Settings {
 #[derive(Debug, Drop, DeriveError)]
 pub enum SettingsFault {
     /// `clap` refuses the words, or they ask for its help.
-    #[error(transparent)]
     Usage(Error),
     /// The words are read, and the text of `--ident` isn't four bytes long.
-    #[error("ident must be four bytes")]
     BadIdent,
     /// The words are read, and ask for a filter together with a path.
-    #[error("a filter takes no path")]
     PathInFilter,
     /// The words are read, and ask for an identifier and for the schema's own.
-    #[error("ident and schema-ident exclude each other")]
     TwoIdents,
     /// The words are read, and ask for more than 16 paths.
-    #[error("more than 16 paths")]
     TooManyPaths,
     /// The words are read, and ask for a bare buffer and for messages behind their lengths.
-    #[error("bare and delimited exclude each other")]
     BareDelimited,
     /// No memory was to be had.
-    #[error("out of memory")]
     OutOfMemory,
 }
 
@@ -105,6 +101,31 @@ impl SettingsFault {
             | SettingsFault::TooManyPaths
             | SettingsFault::BareDelimited => 2,
             SettingsFault::OutOfMemory => 3,
+        }
+    }
+
+    /// The text of a refusal, which is none where `clap` has its own.
+    pub fn text(&self) -> &'static str
+        ensures text { result.now ≡ refusal_text self.now }
+        ensures short { length result.now ≤ 100 }
+    {
+        match self {
+            SettingsFault::Usage(_) => "",
+            SettingsFault::BadIdent => "ident must be four bytes",
+            SettingsFault::PathInFilter => "a filter takes no path",
+            SettingsFault::TwoIdents => "ident and schema-ident exclude each other",
+            SettingsFault::TooManyPaths => "more than 16 paths",
+            SettingsFault::BareDelimited => "bare and delimited exclude each other",
+            SettingsFault::OutOfMemory => "out of memory",
+        }
+    }
+}
+
+impl fmt::Display for SettingsFault {
+    fn fmt<W: fmt::Write>(&self, f: &mut fmt::Formatter<W>) -> fmt::Result {
+        match self {
+            SettingsFault::Usage(error) => write!(f, "{error}"),
+            _ => f.write_str(self.text()),
         }
     }
 }

@@ -24,6 +24,8 @@ enum Takes<'a> {
     Number(ValueParser<'a>, &'a str),
     /// Nothing: the option is given or not.
     Nothing,
+    /// The same, and this letter stands for it too.
+    Letter(char),
     /// Words that stand by themselves, with no option's name before them.
     Words(&'a str),
 }
@@ -38,7 +40,7 @@ struct Choice<'a> {
 
 /// All options, in the order of help. As a constant they would be built anew in the loop's function, text by text,
 /// which is dear to prove.
-static CHOICES: [Choice<'static>; 20] = [
+static CHOICES: [Choice<'static>; 21] = [
     Choice {
         name: "schema",
         takes: Takes::Text("FILE"),
@@ -135,6 +137,11 @@ static CHOICES: [Choice<'static>; 20] = [
         help: "Write each line as a JSON object",
     },
     Choice {
+        name: "with-filename",
+        takes: Takes::Letter('H'),
+        help: "Begin lines with the file's name, also where there is one file alone",
+    },
+    Choice {
         name: "files",
         takes: Takes::Words("FILE"),
         help: "The files to be read, - for standard input; without any, standard input",
@@ -159,6 +166,10 @@ fn choice_arg<'a>(alloc: Global, choice: Choice<'a>) -> Arg<'a>
             .default_value(default)
             .action(ArgAction::Set),
         Takes::Nothing => arg.long(choice.name).action(ArgAction::SetTrue),
+        Takes::Letter(letter) => arg
+            .long(choice.name)
+            .short(letter)
+            .action(ArgAction::SetTrue),
         Takes::Words(value) => arg.value_name(value).action(ArgAction::Append),
     }
 }

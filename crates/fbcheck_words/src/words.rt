@@ -68,6 +68,7 @@ fn said(alloc: Global, matches: &ArgMatches<'_>) -> Result<Settings, SettingsFau
         summary: flag(matches, "summary"),
         names: flag(matches, "names"),
         form: form(matches),
+        with_filename: flag(matches, "with-filename"),
         files,
     })
 }

@@ -188,3 +188,19 @@ fn the_messages_are_the_streams_however_it_is_cut(rt: HostRuntime) -> Result<(),
     }
     Ok(())
 }
+
+#[test]
+fn texts_of_the_faults(rt: HostRuntime) -> Result<(), Fail> {
+    for (fault, text) in [
+        (
+            StreamFault::Oversize { declared: 65 },
+            "S1 Oversize declared=65",
+        ),
+        (StreamFault::Truncated { held: 31 }, "S2 Truncated held=31"),
+        (StreamFault::OutOfMemory, "S3 OutOfMemory"),
+        (StreamFault::Failed, "S4 Failed"),
+    ] {
+        assert_eq!(rt; fault.to_string(rt.alloc())?.as_str(), text);
+    }
+    Ok(())
+}

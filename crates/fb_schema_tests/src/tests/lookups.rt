@@ -70,11 +70,12 @@ const ACTS: &str = "P struct 4/2: x@0 short; W struct 8/8: x@0 long; \
     T table: a@4 bool, b@6 short, c@8 float, d@10 double, e@12 obj#0, f@14 obj#1, g@16 string required, \
     h@18 [ubyte], i@20 [obj]#1 required, j@22 [string], k@24 obj#2, l@26 [obj]#2, m@28 int gone";
 
-/// The steps of that table: slot, act, its bit, size, alignment, and whether the field is required.
+/// The steps of that table: slot, act, its bits, size, alignment, and whether the field is required. Of what leads to
+/// one table the size is the number of its object.
 const STEPS: &str = "\
     4 One 1 1 1 false; 6 Two 2 2 2 false; 8 Four 4 4 4 false; 10 Eight 8 8 8 false; 12 Inline 64 4 2 false; \
     14 Eight 8 8 8 false; 16 Text 16 4 4 true; 18 Vector 32 1 1 false; 20 Vector 32 8 8 true; \
-    22 Other 128 4 4 false; 24 Other 128 4 4 false; 26 Other 128 4 4 false; \
+    22 Other 128 4 4 false; 24 Other 384 2 4 false; 26 Other 128 4 4 false; \
 ";
 
 #[test]

@@ -24,7 +24,6 @@ stands g c = first_left (map step_of (fields g c)) (place g c) c.in-Some.step.no
 
 pub pass_step-requires-clause-even : goal.pass_step-requires-clause-even
 pass_step-requires-clause-even g c =
-    let S = (g.of).walk.schema.now in
     let d = (goal.at.pass_step-requires-clause-even g c).In-Some in
     is_even (fields g d) (place g d) c.in-Some.step.now (((((c.loop-step.invariant).between).walking).served).even (c.args.table).object (place g d)) (stands g d)
 

@@ -13,7 +13,7 @@ use Rattle.fb_verify.specs.declared.stack.Walk.{Walk}
 use Rattle.fb_verify.specs.declared.table.Table.{Table}
 use Rattle.fb_verify.specs.PassesOn.{EndsBehind, CameTo}
 use Rattle.fb_verify.specs.Stack.{Waiting}
-use Rattle.fb_verify.proofs.Passing.{AtStep, none_left, rest_absent, required_within, required_stops}
+use Rattle.fb_verify.proofs.Passing.{AtStep, none_left, rest_absent, required_within, required_stops, stops_here}
 use Rattle.fb_verify.proofs.flat.pass_steps.Goals as goal
 use Rattle.fb_verify.proofs.flat.pass_steps.Goals.{After-next_required}
 
@@ -74,21 +74,7 @@ returns-in-Some g c =
     let e = behind g d in
     let s = here g d in
     let some = sym (looks g d) ∙ c.in-Some.is in
-    rw c.requires.1.1.1.1.0 (record {
-      walking = tt;
-      field = tt;
-      open-field = tt;
-      same = refl;
-      forth = tt;
-      within = tt;
-      all = tt;
-      ends = tt;
-      paid = tt;
-      grows = e.grows;
-      bytes = e.bytes;
-      next = required_within s c.in-Some.needed some;
-      err = λ stop is. rw e.bytes at (required_stops s (e.behind _ (first g d).1) c.in-Some.needed some stop is);
-    })
+    rw c.requires.1.1.1.1.0 (stops_here refl (required_within s c.in-Some.needed some) e.grows e.bytes (λ stop is. rw e.bytes at (required_stops s (e.behind _ (first g d).1) c.in-Some.needed some stop is)))
 
 pub returns-in-ToFault : goal.returns-in-ToFault
 returns-in-ToFault g c = rw (ap length c.requires.1.1.1.1.1.1.0 ∙ length-map (live_fields (g.of).walk.schema.now (c.args.table).object) step_of) (rw c.in-ToFault.is at c.pass_by-came.ensures.came)

@@ -1,16 +1,15 @@
-use Rattle.std.proofs.Common.{◌≡◌, ◌+◌, [], ◌∷◌, refl, sym, ◌∙◌, ap, arith, None, Some}
+use Rattle.std.proofs.Common.{◌≡◌, [], ◌∷◌, refl, sym, ◌∙◌, ap, arith, None, Some}
 use Rattle.fb_schema.specs.Members.{member_of}
 use Rattle.fb_schema.proofs.ToldKinds.{told_of}
-use Rattle.fb_verify.specs.Fields.{entry, lead_of, type_place, union_type, row}
-use Rattle.fb_verify.specs.Cost.{reads_if_present}
-use Rattle.fb_verify.specs.OffsetRows.{lead_to}
+use Rattle.fb_verify.specs.Fields.{entry, lead_of, row}
+use Rattle.fb_verify.specs.OffsetRows.{lead_to, type_of_slot, type_reads}
 use Rattle.fb_verify.specs.Order.{table_failure}
 use Rattle.fb_verify.proofs.Members.{no_member, some_member}
 use Rattle.fb_verify.proofs.Plains.{after_twice}
 use Rattle.fb_verify.proofs.leads.put_union.Goals as goal
 
 -- the type of the union has no member
-none : (c : goal.In-Nothing) → member_of c.args.schema.now c.args.union (union_type c.args.reads.now.bytes (type_place c.args.reads.now.bytes c.args.table.at c.args.slot)) ≡ None
+none : (c : goal.In-Nothing) → member_of c.args.schema.now c.args.union (type_of_slot c.args.reads.now.bytes c.args.table.at c.args.slot) ≡ None
 none c =
     let member = member_of c.args.schema.now c.args.union c.type_of-value.result in
     let lead = (c.referent_at-referent.ensures).lead in
@@ -37,7 +36,7 @@ returns c =
     let failure = table_failure c.args.checks c.args.reads.now.bytes c.args.table.at c.args.at 4 in
     record {
       tested = record {
-        told = rw (sym value, some.1, counted) (rw counted at c.put_word.ensures.told ∙ sym (after_twice c.args.reads.now.count (1 + reads_if_present 1 (type_place c.args.reads.now.bytes c.args.table.at c.args.slot)) failure));
+        told = rw (sym value, some.1, counted) (rw counted at c.put_word.ensures.told ∙ sym (after_twice c.args.reads.now.count (type_reads c.args.reads.now.bytes c.args.table.at c.args.slot) failure));
         counted = λ _. ap (λ m. m.count) counted;
         bytes = ap (λ m. m.bytes) counted;
         base = ap (λ m. m.base) counted;

@@ -1,7 +1,9 @@
-use Rattle.std.proofs.Common.{IfErr, Result, refl, rules, subst, sym, ◌∙◌}
+use Rattle.std.proofs.Common.{IfErr, List, Option, Result, ap, ℕ, refl, rules, subst, sym, ◌∙◌}
 use Rattle.fbcheck.specs.declared.asked.Asked.{Asked}
 use Rattle.fbcheck.specs.declared.hint.Unasked.{Unasked}
-use Rattle.fbcheck.specs.Asked.{LacksIdent}
+use Rattle.fbcheck.specs.Asked.{LacksIdent, options_of}
+use Rattle.fbcheck.specs.Inputs.{with_label}
+use Rattle.fb_run.specs.Job.{job_of}
 use Rattle.fbcheck.specs.Checking.{IsUntold, own_of}
 use Rattle.fb_run.proofs.RunLemmas.{err_exit}
 use Rattle.fbcheck.proofs.AskedLemmas.{untold_path}
@@ -20,7 +22,8 @@ returns-clause-job c =
         paths_are = rw c.as_slice.ensures.value at c.in_ok-paths.ensures.paths;
         ident = c.in-Some-find_ident.ident;
         ident_is = sym (c.find_ident.ensures loaded.root) ∙ c.in-Some-find_ident.is;
-        job_is = search rules;
+        job_is = ap (job_of loaded.schema) c.options-options.ensures ∙ ap (λ (label : Option (List ℕ)). with_label label (job_of loaded.schema (options_of c.args.settings.now c.in-Some.root c.in_ok-paths.paths
+            c.in-Some-find_ident.ident))) c.in-Ok-label.ensures;
       },
     )
 
@@ -38,7 +41,7 @@ returns-in_default-find_ident-clause-none c =
     (record { lacks = (loaded.schema, own_of loaded, c.in-Ok.ensures.schema, lacks); hint = refl })
 
 pub returns-in-Err-clause-none : goal.returns-in-Err-clause-none
-returns-in-Err-clause-none c = c.schemaless.ensures c.args.settings.now
+returns-in-Err-clause-none c = c.schemaless.ensures
 
 pub returns-in_err-paths-clause-none : goal.returns-in_err-paths-clause-none
 returns-in_err-paths-clause-none c =

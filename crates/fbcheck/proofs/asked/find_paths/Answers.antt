@@ -37,5 +37,5 @@ returns-in-Err-clause-hint c =
     let several : nat_lt 1 (length c.args.texts.now) ≡ are_several (map string_bytes c.args.texts.now) = ap (λ n. nat_lt 1 n) (sym (length-map c.args.texts.now string_bytes)) in
     hinted_told c.args.schema.now c.args.root (map string_bytes c.args.texts.now) c.in-Err.fault c.path_hint-hint.result c.new.result c.new.ensures
     (IfOk-weaker c.path_hint-hint.result _ _ (λ h is. path_told c.args.schema.now c.args.root c.args.texts.now c.loop-text.text-index c.text-item.result (search rules) c.text-item.is
-    c.loop-text.paths.items c.in-Err.fault c.misfit_at-at.result h.items c.loop-text.invariant.named c.in-Err.ensures.fault (rw c.as_bytes.ensures.value at c.misfit_at-at.ensures.kind)
-    (is ∙ ap (λ p. path_hint c.args.schema.now p c.in-Err.fault c.misfit_at-at.result) (c.told_path-told.ensures ∙ ap (λ b. label_of b text) several))) c.path_hint-hint.ensures)
+    c.loop-text.paths.items c.in-Err.fault c.misfit_at-at.result h.items c.loop-text.invariant.named c.in-Err.ensures.fault (rw c.as_bytes-bytes.ensures.value at c.misfit_at-at.ensures.kind)
+    (is ∙ ap (λ p. path_hint c.args.schema.now p text c.in-Err.fault c.misfit_at-at.result) (c.told_path-told.ensures ∙ ap (λ b. label_of b text) several))) (rw c.as_bytes-bytes.ensures.value at c.path_hint-hint.ensures))

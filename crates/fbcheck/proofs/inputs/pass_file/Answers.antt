@@ -1,16 +1,17 @@
 use Rattle.std.proofs.Common.{◌∙◌, ap, refl, sym}
-use Rattle.fb_run.specs.Ends.{ends_of, writer_of}
+use Rattle.fb_run.specs.Ends.{writer_of}
 use Rattle.fb_run.specs.Job.{job_of}
 use Rattle.fbcheck.specs.declared.inputs.Course.{Course}
 use Rattle.fbcheck.proofs.InputsLemmas.{after_spent, after_unread, behind_never, is_turns, standard_with, tries_of}
-use Rattle.fbcheck.specs.Inputs.{folder_of}
+use Rattle.fbcheck.specs.Inputs.{folder_of, seen_of}
 use Rattle.fbcheck.proofs.inputs.pass_file.Goals as goal
 
 pub returns-clause-tries : goal.returns-clause-tries
 returns-clause-tries g c =
-    tries_of (folder_of g.F.Files g.F.Opened.Source c.args.files.now) (job_of c.args.schema.now c.args.options.now) c.args.name.now _ _ c.tell_behind.result (record {
+    tries_of (folder_of g.F.Files g.F.Opened.Source g.F.Opened.Explains c.args.files.now) (job_of c.args.schema.now c.args.options.now) c.args.name.now _ _ c.tell_behind.result (record {
       came = c.run_file-came.result.what;
-      between = ends_of g.S.Input g.K.Sink g.N.Sink c.run_file-came.new.reader c.run_file-came.new.writer c.run_file-came.new.notes;
+      cause = c.run_file-came.result.cause;
+      between = seen_of g.S.Input g.S.Explains g.K.Sink g.N.Sink c.run_file-came.new.reader c.run_file-came.new.writer c.run_file-came.new.notes;
       comes = c.run_file-came.ensures.comes;
       told = c.tell_behind.ensures.told;
       others = refl;
@@ -31,5 +32,5 @@ returns-clause-spent g c old = (
 
 pub returns-clause-crowded : goal.returns-clause-crowded
 returns-clause-crowded g c is =
-    absurd (behind_never c.args.name.now c.run_file-came.result.what c.tell_behind.result (writer_of g.N.Sink c.run_file-came.new.notes) (writer_of g.N.Sink c.tell_behind.new.notes)
+    absurd (behind_never c.args.name.now c.run_file-came.result.what c.tell_behind.result c.run_file-came.result.cause (writer_of g.N.Sink c.run_file-came.new.notes) (writer_of g.N.Sink c.tell_behind.new.notes)
     c.tell_behind.ensures.told (is_turns c.tell_behind.result is))

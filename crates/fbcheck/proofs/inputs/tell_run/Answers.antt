@@ -4,5 +4,5 @@ use Rattle.fbcheck.proofs.inputs.tell_run.Goals as goal
 
 pub returns-clause-told : goal.returns-clause-told
 returns-clause-told g c =
-    behind_noted c.args.name.now c.args.ran.now.tally c.args.ran.now.end c.in-Err.fault _ _ c.tell_fault.result _ _ c.in-Err.is (sym c.is_final.ensures ∙ c.if-is_final.false) c.run_hint-behind.ensures
-    c.tell_fault.ensures.told
+    behind_noted c.args.name.now c.args.ran.now.tally c.args.ran.now.end c.args.cause c.in-Err.fault _ _ c.tell_fault.result _ _ c.in-Err.is (sym c.is_final.ensures ∙ c.if-is_final.false)
+    (c.bytes.ensures ∙ c.run_text-why.ensures.text) c.run_hint-behind.ensures c.tell_fault.ensures.told

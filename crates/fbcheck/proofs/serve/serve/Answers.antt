@@ -1,5 +1,7 @@
-use Rattle.std.proofs.Common.{arith}
+use Rattle.std.proofs.Common.{Option, arith, subst}
+use Rattle.std.specs.declared.io.ErrorKind.{ErrorKind}
 use Rattle.fb_run.specs.Ends.{writer_of}
+use Rattle.fbcheck.specs.Serving.{Complains}
 use Rattle.fbcheck.proofs.ServingLemmas.{crowded_on}
 use Rattle.fbcheck.proofs.serve.serve.Goals as goal
 
@@ -14,6 +16,6 @@ returns-clause-served g c = record {
   ending = c.sum_up-ending.result;
   behind = writer_of g.N.Sink c.sum_up-ending.new.notes;
   summed = c.sum_up-ending.ensures.summed;
-  told = c.tell.ensures.told;
+  told = subst (λ (cause : Option ErrorKind). Complains cause c.sum_up-ending.result (writer_of g.N.Sink c.sum_up-ending.new.notes) (writer_of g.N.Sink c.tell.new.notes)) c.cause.ensures c.tell.ensures.told;
   status_is = c.exit_status.ensures;
 }

@@ -46,5 +46,6 @@ returns-clause-says c words read = record {
   summary = given_by_words _ _ (codes "summary") _ read c.flag-8.ensures;
   names = given_by_words _ _ (codes "names") _ read c.flag-9.ensures;
   json = given_by_words _ _ (codes "json") _ read c.form.ensures;
+  with_filename = given_by_words _ _ (codes "with-filename") _ read c.flag-10.ensures;
   files = c.in_ok-files.ensures ∙ texts_of_words _ _ (codes "files") read;
 }

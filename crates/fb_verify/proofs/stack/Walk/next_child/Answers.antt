@@ -6,10 +6,8 @@ use Rattle.fb_verify.proofs.stack.Walk.next_child.Goals as goal
 
 pub returns-in-Err-clause-err : goal.returns-in-Err-clause-err
 returns-in-Err-clause-err g c =
-    let w = c.args.self.now in
-    let m = c.args.loan.now in
     let h = c.requires.0 in
-    word_stops w.checks m.bytes w.schema.now w.limits (g.under).start (g.under).frames c.args.top.now w.tables w.deepest m.count h _ c.advance.new.self c.advance.ensures c.requires.1.0 (rw c.site-site.ensures at c.in-Err.ensures.err)
+    word_stops h _ c.advance.new.self c.advance.ensures c.requires.1.0 (rw c.site-site.ensures at c.in-Err.ensures.err)
 
 pub returns-in-Some-clause-table : goal.returns-in-Some-clause-table
 returns-in-Some-clause-table g c =
@@ -36,10 +34,8 @@ advance-requires-clause-types g c =
 
 pub returns-clause-walking : goal.returns-clause-walking
 returns-clause-walking g c _ =
-    let w = c.args.self.now in
-    let m = c.args.loan.now in
     let e = c.in-Ok.ensures in
     let leaf = rw c.in_default.is at e.child in
     rw e.bytes
-    (leaf_passed w.checks m.bytes w.schema.now w.limits (g.under).start (g.under).frames c.args.top.now w.tables w.deepest m.count c.requires.0
+    (leaf_passed c.requires.0
     c.advance-2.new.self _ c.advance-2.ensures c.requires.1.0 e.ok (ap (λ x. x.count) e.counted) leaf (e.reads c.in_default.is))

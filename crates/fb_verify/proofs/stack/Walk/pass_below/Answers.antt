@@ -9,8 +9,6 @@ of_three (Err e) P Q R X f p q r = tt
 
 pub returns-clause-ends : goal.returns-clause-ends
 returns-clause-ends g c =
-    let m = c.pass_each.new.loan in
-    let w = c.args.self.now in
     let e = c.pass_each.ensures in
     of_three c.pass_each.result _ _ _ _ (λ more walking rests all ended rest above.
-    table_closed w.checks m.bytes w.schema.now w.limits (g.under).start (g.under).frames c.pass_each.new.top w.tables w.deepest m.count walking rest c.args.above.now above (rests ended) (all ended)) e.walking e.rests e.all
+    table_closed walking rest c.args.above.now above (rests ended) (all ended)) e.walking e.rests e.all

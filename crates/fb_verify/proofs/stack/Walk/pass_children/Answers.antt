@@ -24,7 +24,7 @@ open_table-requires g c =
     let i = c.loop-top.invariant in
     let w = c.loop-top.self in
     let o = rw c.in-Some.is at c.in-Ok.ensures.table in
-    let few = word_few w c.next_child.new.loan.bytes c.next_child.new.loan.count (g.under).start (g.under).frames c.next_child.new.top _ c.in-Some.child o in
+    let few = word_few o in
     omega (arith, few, i.budget, c.requires.1.1.1.1, (((i.walking).frame).row).left)
 
 pub returns-in-Err-open_table-clause-err : goal.returns-in-Err-open_table-clause-err
@@ -38,7 +38,7 @@ returns-in-Err-open_table-clause-err g c =
     let bytes = c.in-Ok.ensures.bytes ∙ i.bytes in
     rw c.halt-in-Err-open_table.ensures
     (rw (sym checks, sym schema, sym limits, sym bytes)
-    (child_stops w c.next_child.new.loan.bytes c.next_child.new.loan.count (g.under).start (g.under).frames c.next_child.new.top _ c.in-Some.child o
+    (child_stops o
     (c.args.waiting + 1) (omega (arith, c.requires.0)) c.advance.new.self c.advance.ensures c.site-site.result c.site-site.ensures _ c.in-Err-open_table.ensures.err))
 
 pub pass_below-requires : goal.pass_below-requires
@@ -48,10 +48,10 @@ pass_below-requires g c =
     let e = c.in-Ok.ensures in
     let t = c.in-Ok-open_table.ensures in
     let m = c.next_child.new.loan in
-    let less = opening_falls w c.args.self.now.schema.now c.args.self.now.limits (ap (λ (x : Walk). x.schema.now) i.same) (ap (λ (x : Walk). x.limits) i.same) m.bytes m.count c.loop-top.loan.count (g.under).start (g.under).frames c.loop-top.top c.next_child.new.top c.in-Some.child e.top e.fewer (rw c.in-Some.is at e.table)
+    let less = opening_falls (ap (λ (x : Walk). x.schema.now) i.same) (ap (λ (x : Walk). x.limits) i.same) c.loop-top.loan.count c.loop-top.top e.top e.fewer (rw c.in-Some.is at e.table)
     (c.args.waiting + 1) (omega (arith, c.requires.0)) c.advance.new.self c.advance.ensures c.in-Ok-open_table.table t.table t.ok t.fewer t.shallow t.low in (
       rw (t.opened, t.counted)
-          (child_opened w m.bytes m.count (g.under).start (g.under).frames c.next_child.new.top _ c.in-Some.child (rw c.in-Some.is at e.table) (c.args.waiting + 1) (omega (arith, c.requires.0)) c.advance.new.self c.advance.ensures c.in-Ok-open_table.table t.table t.ok t.fewer t.shallow t.low
+          (child_opened (rw c.in-Some.is at e.table) (c.args.waiting + 1) (omega (arith, c.requires.0)) c.advance.new.self c.advance.ensures c.in-Ok-open_table.table t.table t.ok t.fewer t.shallow t.low
           t.head (rw t.counted at t.reads)),
       rw t.counted (omega (arith, less, i.budget, c.requires.1.1.1.1)),
     )
@@ -84,7 +84,7 @@ returns-in-Ok-true-clause-falls g c _ =
     let t = c.in-Ok-open_table.ensures in
     let m = c.next_child.new.loan in
     let limits = ap (λ (x : Walk). x.limits.depth) i.same in
-    let less = leading_falls w c.args.self.now.schema.now c.args.self.now.limits (ap (λ (x : Walk). x.schema.now) i.same) (ap (λ (x : Walk). x.limits) i.same) m.bytes m.count c.loop-top.loan.count (g.under).start (g.under).frames c.loop-top.top c.next_child.new.top c.in-Some.child e.top e.fewer (rw c.in-Some.is at e.table)
+    let less = leading_falls (ap (λ (x : Walk). x.schema.now) i.same) (ap (λ (x : Walk). x.limits) i.same) c.loop-top.loan.count c.loop-top.top e.top e.fewer (rw c.in-Some.is at e.table)
     (c.args.waiting + 1) (omega (arith, c.requires.0)) c.advance.new.self c.advance.ensures c.in-Ok-open_table.table t.table t.ok t.fewer t.shallow t.low
     c.pass_below.new.below c.pass_below.new.loan.count (rw (t.opened, t.counted) at (c.in-Ok-true.ensures.falls c.in-Ok-true.field-0-test)) in
     let first = get_or-set_same c.loop-top.room 0 c.pass_below.new.below blank (omega (arith, t.shallow, limits, i.room, c.requires.1.1.1.0)) in
@@ -98,7 +98,7 @@ loop-top-preserved-in-Ok-false g c =
     let e = c.in-Ok.ensures in
     let t = c.in-Ok-open_table.ensures in
     let m = c.next_child.new.loan in
-    let less = closing_falls w c.args.self.now.schema.now c.args.self.now.limits (ap (λ (x : Walk). x.schema.now) i.same) (ap (λ (x : Walk). x.limits) i.same) m.bytes m.count c.loop-top.loan.count (g.under).start (g.under).frames c.loop-top.top c.next_child.new.top c.in-Some.child e.top e.fewer (rw c.in-Some.is at e.table)
+    let less = closing_falls (ap (λ (x : Walk). x.schema.now) i.same) (ap (λ (x : Walk). x.limits) i.same) c.loop-top.loan.count c.loop-top.top e.top e.fewer (rw c.in-Some.is at e.table)
     (c.args.waiting + 1) (omega (arith, c.requires.0)) c.advance.new.self c.advance.ensures c.in-Ok-open_table.table t.table t.ok t.fewer t.shallow t.low
     _ (rw (t.opened, t.counted) at (c.in-Ok-false.ensures.least none)) in
     record {

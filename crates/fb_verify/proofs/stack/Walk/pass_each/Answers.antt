@@ -6,7 +6,7 @@ use Rattle.fb_schema.specs.Steps.{step_of}
 use Rattle.fb_verify.specs.Places.{vtable_size}
 use Rattle.fb_verify.specs.PassesOn.{PassesFields}
 use Rattle.fb_verify.proofs.Frames.{item_some, field_at, length_map}
-use Rattle.fb_verify.proofs.NextField.{err_exit, AtNext, askable, next_stops, next_leads, next_over}
+use Rattle.fb_verify.proofs.NextField.{err_exit, AtNext, askable, next_stops, stops_at_field, next_leads, next_over}
 use Rattle.fb_verify.proofs.Passing.{AtStep, long, rest_absent, required_within, required_stops}
 use Rattle.fb_verify.proofs.stack.Walk.pass_each.Goals as goal
 use Rattle.fb_verify.proofs.stack.Walk.pass_each.Goals.{In-Some}
@@ -33,7 +33,7 @@ returns-in_err-pass_field g c =
     let i = c.loop-field.invariant in
     let e = c.in_err-pass_field.ensures.asked in
     err_exit c.from_residual.result _ (λ r. PassesFields c.args.self.now c.args.loan.now c.pass_field.new.loan g.under c.args.top.now (record c.loop-field.top { next = c.loop-field.top.next + 1; row = c.pass_field.new.row }) r) c.from_residual.ensures.1
-    (record { walking = tt; leads = tt; rests = tt; all = tt; falls = tt; grows = tt; bytes = e.bytes ∙ i.bytes; err = rw i.bytes at (next_stops h _ e.err) })
+    (stops_at_field _ (e.bytes ∙ i.bytes) (rw i.bytes at (next_stops h _ e.err)))
 
 -- its step
 stepped : (g : _) (c : In-Some g) → AtStep c.args.self.now c.loop-field.loan g.under c.loop-field.top (map step_of (live_fields c.args.self.now.schema.now (c.loop-field.top.table).object)) (step_of (live_of_view c.in-Some.field.now))
@@ -71,16 +71,7 @@ returns-then-ends_before g c =
     let e = c.stop_at.ensures in
     let past : vtable_size c.loop-field.loan.bytes (c.loop-field.top.table).at < (c.in-Some.field.now).slot + 2 = omega (arith, below _ _ (sym c.ends_before.ensures ∙ c.if-ends_before.true), ((((h.walking).frame).head).vtable).size) in
     let some = sym c.next_required.ensures ∙ c.in-Some-next_required.is in
-    record {
-      walking = tt;
-      leads = tt;
-      rests = tt;
-      all = tt;
-      falls = tt;
-      grows = tt;
-      bytes = i.bytes;
-      err = rw i.bytes at (required_stops s past c.in-Some-next_required.needed some c.stop_at.result (record { refusal = e.refusal; object = e.object; field = e.field }));
-    }
+    stops_at_field c.stop_at.result i.bytes (rw i.bytes at (required_stops s past c.in-Some-next_required.needed some c.stop_at.result (record { refusal = e.refusal; object = e.object; field = e.field })))
 
 pub stop_at-requires-clause-next : goal.stop_at-requires-clause-next
 stop_at-requires-clause-next g c =

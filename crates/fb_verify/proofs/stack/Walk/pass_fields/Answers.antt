@@ -1,10 +1,17 @@
-use Rattle.std.proofs.Common.{◌+◌, ◌-◌, ◌<◌, ◌≤◌, length, sym, ◌∙◌, ap, arith}
-use Rattle.fb_schema.specs.Live.{live_fields, live_of_view}
+use Rattle.std.proofs.Common.{◌≡◌, ℕ, List, map, Some, get_or, ◌+◌, ◌-◌, ◌<◌, ◌≤◌, length, sym, ◌∙◌, ap, arith}
+use Rattle.fb_schema.specs.Live.{Live, live_fields}
+use Rattle.std.specs.Prelude.{slice_get}
+use Rattle.fb_schema.specs.declared.views.Step.{Step}
+use Rattle.fb_schema.specs.Steps.{step_of}
 use Rattle.std.proofs.lemmas.Option.{slice_get-get_or}
+use Rattle.fb_bytes.specs.Word.{Lent}
+use Rattle.fb_verify.specs.declared.scratch.Frame.{Frame}
 use Rattle.fb_verify.specs.declared.stack.Walk.{Walk}
-use Rattle.fb_verify.specs.Stack.{work, IsAtField}
+use Rattle.fb_verify.specs.Stack.{work, IsAtField, Waiting}
+use Rattle.fb_verify.specs.Turns.{IsAtOpenField, IsAtStep}
 use Rattle.fb_verify.proofs.Budgets.{fewer_reads}
-use Rattle.fb_verify.proofs.Frames.{field_at, length_map}
+use Rattle.fb_verify.proofs.Frames.{length_map}
+use Rattle.fb_verify.proofs.Plains.{step_at}
 use Rattle.fb_verify.specs.declared.table.Table.{Table}
 use Rattle.fb_verify.proofs.Turning.{halts_on, field_turned, field_over}
 use Rattle.fb_verify.proofs.Turns.{halts_in_field}
@@ -12,15 +19,15 @@ use Rattle.fb_verify.proofs.stack.Walk.pass_fields.Goals as goal
 use Rattle.fb_verify.proofs.stack.Walk.pass_fields.Goals.{In-Ok-true}
 
 -- what the loop over plain fields came to
-come : (g : _) (c : In-Ok-true g) → IsAtField c.loop-checks.self c.pass_plain.new.reads.bytes c.pass_plain.new.reads.count (g.under).start (g.under).frames c.pass_plain.new.top c.pass_plain.new.at
+come : (g : _) (c : In-Ok-true g) → IsAtField c.loop-steps.self c.pass_plain.new.reads.bytes c.pass_plain.new.reads.count (g.under).start (g.under).frames c.pass_plain.new.top c.pass_plain.new.at
 come g c = (rw c.in-Ok-true.is at c.pass_plain.ensures.field) c.in-Ok-true.field-0-test
 
 -- after work that left room for it
-falls : (g : _) (c : In-Ok-true g) → c.pass_plain.new.reads.count - 1 + work c.args.self.now.schema.now c.args.self.now.limits (g.under).frames c.pass_plain.new.top c.loop-checks.self.tables
+falls : (g : _) (c : In-Ok-true g) → c.pass_plain.new.reads.count - 1 + work c.args.self.now.schema.now c.args.self.now.limits (g.under).frames c.pass_plain.new.top c.loop-steps.self.tables
     ≤ c.args.reads.now.count + work c.args.self.now.schema.now c.args.self.now.limits (g.under).frames c.args.top.now c.args.self.now.tables
 unfolding work
 falls g c =
-    let i = c.loop-checks.invariant in
+    let i = c.loop-steps.invariant in
     let p = c.pass_plain.ensures in
     let S = c.args.self.now.schema.now in
     let schema = ap (λ (x : Walk). x.schema.now) i.same in
@@ -34,7 +41,7 @@ falls g c =
 pub returns-in-Ok-false : goal.returns-in-Ok-false
 unfolding work
 returns-in-Ok-false g c =
-    let i = c.loop-checks.invariant in
+    let i = c.loop-steps.invariant in
     let p = c.pass_plain.ensures in
     let S = c.args.self.now.schema.now in
     let ok = c.in-Ok-false.is in
@@ -52,7 +59,7 @@ returns-in-Ok-false g c =
         falls = omega (arith, ends, (rw ok at p.forth), (rw schema at (rw ok at p.within)), long, left, i.falls);
         grows = omega (arith, p.grows, i.grows);
         bytes = p.bytes ∙ i.bytes;
-        short = omega (arith, (rw ok at p.forth), ends, (rw schema at (c.has_room.ensures.short c.loop-checks-test.true)));
+        short = omega (arith, (rw ok at p.forth), ends, (rw schema at (c.has_room.ensures c.loop-steps-test.true).short));
       };
       rests = left ∙ (i.between).rests;
       all = omega (arith, all, long);
@@ -60,59 +67,61 @@ returns-in-Ok-false g c =
 
 pub returns-in-Err : goal.returns-in-Err
 returns-in-Err g c =
-    let i = c.loop-checks.invariant in
+    let i = c.loop-steps.invariant in
     let p = c.pass_plain.ensures in
     let e = c.stop_in_field.ensures in
-    let w = c.loop-checks.self in
+    let w = c.loop-steps.self in
     let stops = (rw c.in-Err.is at p.err) (c.stop_in_field.new.self.halt).stop (record { refusal = e.refusal; object = e.object; field = e.field }) in
     rw e.turn
-    (halts_on c.args.self.now w c.stop_in_field.new.self c.args.reads.now c.loop-checks.reads c.pass_plain.new.reads g.under i.same i.bytes
-    (halts_in_field w c.stop_in_field.new.self c.loop-checks.reads c.pass_plain.new.reads g.under c.pass_plain.new.top c.args.waiting c.requires.0 p.bytes ((i.between).walking).links e.links e.last stops))
+    (halts_on c.args.self.now w c.stop_in_field.new.self c.args.reads.now c.loop-steps.reads c.pass_plain.new.reads g.under i.same i.bytes
+    (halts_in_field c.requires.0 p.bytes ((i.between).walking).links e.links e.last stops))
+
+-- the field of the step at the next place
+at_step : {w : Walk} {m : Lent} {under : Waiting} {waiting : ℕ} {top : Frame} {place : ℕ} (steps : List Step) (d : Step) → steps ≡ map step_of (live_fields w.schema.now (top.table).object)
+    → top.next < length (live_fields w.schema.now (top.table).object) → ((f : Live) → slice_get (live_fields w.schema.now (top.table).object) top.next ≡ Some f → IsAtOpenField w m under waiting top place f)
+    → IsAtStep w m under waiting top place (get_or steps top.next d)
+at_step {w} {m} {under} {waiting} {top} {place} steps d its within field =
+    let fs = live_fields w.schema.now (top.table).object in
+    let many : top.next < length steps = omega (arith, within, ap length its, length_map step_of fs) in
+    let found = step_at fs top.next (get_or steps top.next d) (ap (λ xs. slice_get xs top.next) (sym its) ∙ slice_get-get_or steps top.next d many) in
+    (found.0, field found.0 found.1, found.2)
 
 pub go_into-requires : goal.go_into-requires
 go_into-requires g c =
     let d = (goal.at.go_into-requires g c).In-Ok-true in
-    let i = c.loop-checks.invariant in
+    let i = c.loop-steps.invariant in
     let p = c.pass_plain.ensures in
     let ok = c.in-Ok-true.is in
     let yes = c.in-Ok-true.field-0-test in
-    let S = c.loop-checks.self.schema.now in
+    let S = c.loop-steps.self.schema.now in
     let o = come g d in
     let schema = ap (λ (x : Walk). x.schema.now) i.same in
     let table = ap (λ x. x.table) p.same in
-    let fields = c.fields_of.result.now in
-    let many : c.pass_plain.new.top.next < length fields = omega (arith, o.within, ap length c.fields_of.ensures.value, length_map live_of_view fields) in
-    let here = field_at live_of_view fields _ _ _ c.fields_of.ensures.value (slice_get-get_or fields c.pass_plain.new.top.next _ many) in
+    let steps = c.steps_of-steps.result.now in
+    let its : steps ≡ map step_of (live_fields S (c.pass_plain.new.top.table).object) = rw (schema, table ∙ i.table) c.steps_of-steps.ensures.value in
     let paid = rw ok at p.paid in
     let within = rw ok at p.within in
     let long = ap (λ x. length (live_fields S (x.table).object)) p.same in
-    let room = c.has_room.ensures.more c.loop-checks-test.true in
-    let act = ((rw ok at p.open-field) yes) _ (rw (ap (λ (x : Table). live_fields S x.object) table) at here) in (
-      c.requires.0,
-      (
-        o,
-        (
-          ap (λ x. (x.row).left) p.same ∙ (i.between).rests,
-          (
-            here,
-            (
-              act,
-              (
-                fewer_reads (c.loop-checks.self.limits).reads _ _ (omega (arith, paid, within, long)) room,
-                (omega (arith, paid, within, long, c.has_room.ensures.short c.loop-checks-test.true), c.requires.1.1.1 ∙ sym (ap (λ (x : Walk). x.checks) i.same)),
-              ),
-            ),
-          ),
-        ),
-      ),
+    let room = c.has_room.ensures c.loop-steps-test.true in (
+      at_step steps _ its o.within (λ f here.
+          record {
+            many = c.requires.0;
+            at = o;
+            rests = ap (λ x. (x.row).left) p.same ∙ (i.between).rests;
+            here = here;
+            act = ((rw ok at p.open-field) yes) f (rw (ap (λ (x : Table). live_fields S x.object) table) at here);
+            room = fewer_reads (c.loop-steps.self.limits).reads _ _ (omega (arith, paid, within, long)) room.more;
+            short = omega (arith, paid, within, long, room.short);
+          }),
+      c.requires.1.1.1.1 ∙ sym (ap (λ (x : Walk). x.checks) i.same),
     )
 
-pub loop-checks-preserved : goal.loop-checks-preserved
-loop-checks-preserved g c =
-    let d = (goal.at.loop-checks-preserved g c).In-Ok-true in
-    let i = c.loop-checks.invariant in
+pub loop-steps-preserved : goal.loop-steps-preserved
+loop-steps-preserved g c =
+    let d = (goal.at.loop-steps-preserved g c).In-Ok-true in
+    let i = c.loop-steps.invariant in
     let p = c.pass_plain.ensures in
-    let over = field_over c.args.self.now c.loop-checks.self c.go_into.new.self c.args.reads.now c.pass_plain.new.reads c.go_into.new.reads g.under i.same (p.bytes ∙ i.bytes) c.args.top.now c.pass_plain.new.top c.go_into.new.top c.go_into.new.child
+    let over = field_over c.args.self.now c.loop-steps.self c.go_into.new.self c.args.reads.now c.pass_plain.new.reads c.go_into.new.reads g.under i.same (p.bytes ∙ i.bytes) c.args.top.now c.pass_plain.new.top c.go_into.new.top c.go_into.new.child
     (ap (λ x. x.table) p.same ∙ i.table) (omega (arith, p.grows, i.grows)) (falls g d) (rw c.in-Up.is at c.go_into.ensures) in
     let on = over.0 in
     record {
@@ -128,7 +137,7 @@ loop-checks-preserved g c =
 pub returns-in_default : goal.returns-in_default
 returns-in_default g c =
     let d = (goal.at.returns-in_default g c).In-Ok-true in
-    let i = c.loop-checks.invariant in
+    let i = c.loop-steps.invariant in
     let p = c.pass_plain.ensures in
-    field_turned c.args.self.now c.loop-checks.self c.go_into.new.self c.args.reads.now c.pass_plain.new.reads c.go_into.new.reads g.under i.same (p.bytes ∙ i.bytes) c.args.top.now c.pass_plain.new.top c.go_into.new.top c.go_into.new.child
+    field_turned c.args.self.now c.loop-steps.self c.go_into.new.self c.args.reads.now c.pass_plain.new.reads c.go_into.new.reads g.under i.same (p.bytes ∙ i.bytes) c.args.top.now c.pass_plain.new.top c.go_into.new.top c.go_into.new.child
     (ap (λ x. x.table) p.same ∙ i.table) (omega (arith, p.grows, i.grows)) (falls g d) c.go_into.result c.in_default.not-Up c.go_into.ensures

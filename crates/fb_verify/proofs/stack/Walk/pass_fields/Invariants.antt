@@ -6,8 +6,8 @@ use Rattle.fb_verify.specs.Turns.{IsShort}
 use Rattle.fb_verify.proofs.stack.Walk.pass_fields.Given as goal
 
 -- the walk goes on in the same table, between two fields
-abbrev pub invariant-loop-checks : goal.invariant-loop-checks
-invariant-loop-checks g l = record {
+abbrev pub invariant-loop-steps : goal.invariant-loop-steps
+invariant-loop-steps g l = record {
   same : l.self ≡ record l.fn.self { tables = l.self.tables; deepest = l.self.deepest };
   between : IsBetween l.self l.reads g.under l.top;
   table : l.top.table ≡ l.fn.top.table;
@@ -17,8 +17,8 @@ invariant-loop-checks g l = record {
   short : IsShort l.reads.count;
 }
 
-abbrev pub decreases-loop-checks : goal.decreases-loop-checks
-decreases-loop-checks g l = length (live_fields l.fn.self.schema.now (l.fn.top.table).object) - l.top.next
+abbrev pub decreases-loop-steps : goal.decreases-loop-steps
+decreases-loop-steps g l = length (live_fields l.fn.self.schema.now (l.fn.top.table).object) - l.top.next
 
 -- the same frames wait
 abbrev pub ghost-pass_plain : goal.ghost-pass_plain

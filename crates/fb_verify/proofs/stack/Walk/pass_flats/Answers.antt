@@ -1,4 +1,4 @@
-use Rattle.std.proofs.Common.{◌≡◌, ℕ, ◌≤◌, ◌+◌, ◌*◌, max, length, refl, sym, ◌∙◌, ap, arith}
+use Rattle.std.proofs.Common.{◌≡◌, ◌≤◌, ◌+◌, ◌*◌, max, length, refl, sym, ◌∙◌, ap, arith}
 use Rattle.fb_schema.specs.Live.{live_fields}
 use Rattle.fb_schema.specs.Steps.{step_of}
 use Rattle.fb_verify.specs.declared.table.Child.{Child}
@@ -7,17 +7,14 @@ use Rattle.fb_verify.specs.declared.offset_row.Leads.TheVariants.{All}
 use Rattle.fb_verify.specs.declared.offset_row.Referent.TheVariants.{Table as ATable}
 use Rattle.fb_verify.specs.declared.scratch.Frame.{Frame}
 use Rattle.fb_verify.specs.declared.stack.Walk.{Walk}
-use Rattle.fb_verify.specs.Bounds.{AreAllowed}
 use Rattle.fb_verify.specs.Fields.{to_table}
 use Rattle.fb_verify.specs.Order.{after, lead_failure}
-use Rattle.fb_verify.specs.OffsetRows.{past_first, leads_after}
+use Rattle.fb_verify.specs.OffsetRows.{leads_after}
 use Rattle.fb_verify.specs.Plain.{tested_by}
 use Rattle.fb_verify.proofs.Budgets.{fewer_reads}
 use Rattle.fb_verify.proofs.Flats.{at_flat, word_tells}
 use Rattle.fb_verify.proofs.Frames.{length_map}
-use Rattle.fb_verify.proofs.LeafRows.{word_fails}
-use Rattle.fb_verify.proofs.RowTurns.{Counts, comes_down, counted_same, table_passed, table_halts}
-use Rattle.fb_verify.proofs.Turns.{halts_behind}
+use Rattle.fb_verify.proofs.RowTurns.{two, Counts, counted_same, flat_comes, table_passed, table_halts, word_halts}
 use Rattle.fb_verify.proofs.stack.Walk.pass_flats.Goals as goal
 use Rattle.fb_verify.proofs.stack.Walk.pass_flats.Goals.{After-test_lead-failed, After-count_table}
 
@@ -26,11 +23,11 @@ abbrev top_at : (g : _) → After-test_lead-failed g → Frame
 top_at g c = record c.loop-schema.top { row = c.loop-schema.row }
 
 leads : (g : _) (c : After-test_lead-failed g) → (c.loop-schema.row).leads ≡ All (ATable c.args.object)
-leads g c = (c.loop-schema.invariant).leads ∙ c.requires.1.1.0
+leads g c = (c.loop-schema.invariant).leads ∙ (c.requires.0).leads
 
 -- the walk's checks are those that are made
 checks : (g : _) (c : After-test_lead-failed g) → c.args.checks ≡ c.loop-schema.self.checks
-checks g c = c.requires.1.1.1.1.1.1.1.1 ∙ sym (ap (λ (x : Walk). x.checks) ((c.loop-schema.invariant).on).same)
+checks g c = c.requires.1 ∙ sym (ap (λ (x : Walk). x.checks) ((c.loop-schema.invariant).on).same)
 
 -- what the test of its first word tells
 told : (g : _) (c : After-test_lead-failed g)
@@ -41,19 +38,12 @@ pub returns-in-Some : goal.returns-in-Some
 returns-in-Some g c child =
     let d = (goal.at.returns-in-Some g c).After-test_lead-failed in
     let i = (c.loop-schema.invariant).on in
-    let w = c.loop-schema.self in
     let more = c.has_flat.ensures.more c.loop-schema-test.true in
-    let r = c.loop-schema.reads.count in
     let new = c.test_lead-failed.new in
-    let word = word_tells w c.loop-schema.reads.bytes (g.under).start (g.under).frames (top_at g d) r i.walking c.args.object (leads g d) more new.reads.count new.at c.test_lead-failed.result (told g d) in
-    let fails = word_fails w.checks c.loop-schema.reads.bytes w.schema.now w.limits (g.under).start (g.under).frames (top_at g d) w.tables w.deepest r i.walking (past_first c.loop-schema.row) refl more (record { at = new.at; reason = c.in-Some.reason }) r new.reads.count refl
-    (sym word ∙ ap (tested_by new.at new.reads.count) c.in-Some.is) c.stop_at_word-stop.result c.stop_at_word-stop.ensures.stop in
+    let word = word_tells c.loop-schema.self i.walking c.args.object (leads g d) more new.reads.count new.at c.test_lead-failed.result (told g d) in
     rw c.stop.ensures.turn
-    (halts_behind c.args.self.now c.stop.new.self c.args.reads.now new.reads g.under c.stop_at_word-stop.new.top c.args.waiting c.requires.0 (c.test_lead-failed.ensures.bytes ∙ i.bytes) (omega (arith, c.requires.0, c.requires.1.1.1.1.1.0)) c.stop_at_word-stop.result (ap (λ (x : Walk). x.halt) c.stop.ensures.halt)
-    (rw (c.stop_at_word-stop.ensures.past, sym (ap (λ (x : Walk). x.checks) i.same), sym (ap (λ (x : Walk). x.schema) i.same), sym (ap (λ (x : Walk). x.limits) i.same)) (rw i.bytes at fails)))
-
-two : (m : ℕ) → m + 2 ≡ m + 1 + 1
-two m = omega arith
+    (word_halts i new.reads c.stop_at_word-stop.new.top c.stop_at_word-stop.result c.stop.new.self c.args.waiting (((c.requires.0).down).row).many c.test_lead-failed.ensures.bytes more (rw c.in-Some.is at word)
+    c.stop_at_word-stop.ensures.stop c.stop_at_word-stop.ensures.past (ap (λ (x : Walk). x.halt) c.stop.ensures.halt))
 
 -- the walk, once a table more is counted
 abbrev counted : (g : _) → After-count_table g → Walk
@@ -70,7 +60,7 @@ room g c = omega (arith, c.has_flat.ensures.room c.loop-schema-test.true)
 
 -- where its word holds, the table is counted
 counts : (g : _) (c : After-count_table g)
-    → Counts c.args.self.now c.loop-schema.self (counted g c) c.args.reads.now c.loop-schema.reads c.test_lead-failed.new.reads g.under c.args.top.now (top_at g (goal.at.After-count_table g c).After-test_lead-failed) (top_at g (goal.at.After-count_table g c).After-test_lead-failed) c.advance_all.new.self (child_at g c) (c.args.waiting + 1)
+    → Counts c.args.self.now c.loop-schema.self (counted g c) c.args.reads.now c.loop-schema.reads c.test_lead-failed.new.reads g.under c.args.top.now (top_at g (goal.at.After-count_table g c).After-test_lead-failed) c.advance_all.new.self (child_at g c) (c.args.waiting + 1)
 counts g c =
     let d = (goal.at.After-count_table g c).After-test_lead-failed in
     let i = (c.loop-schema.invariant).on in
@@ -79,21 +69,19 @@ counts g c =
     let new = c.test_lead-failed.new in
     let r = c.loop-schema.reads.count in
     let none = c.in_default.is in
-    let table = rw (sym (ap (λ (x : Walk). x.schema.now) i.same)) at c.requires.1.1.1.0 in
-    let at = at_flat w c.loop-schema.reads.bytes (g.under).start (g.under).frames (top_at g d) r i.walking c.args.object (leads g d) (c.has_flat.ensures.more c.loop-schema-test.true) new.reads.count new.at c.test_lead-failed.result (told g d)
+    let table = rw (sym (ap (λ (x : Walk). x.schema.now) i.same)) at (c.requires.0).table in
+    let at = at_flat w i.walking c.args.object (leads g d) (c.has_flat.ensures.more c.loop-schema-test.true) new.reads.count new.at c.test_lead-failed.result (told g d)
     none table (e.counted none) (e.value none c.args.object refl) (e.near none c.args.object refl) in
     record {
       on = i;
       kept = e.bytes;
       grows = omega (arith, paid g c);
       at = rw e.bytes at;
-      same = refl;
-      less = omega arith;
       word = c.advance_all.ensures;
-      many = omega (arith, c.requires.0);
+      many = omega (arith, (((c.requires.0).down).row).many);
       fewer = c.has_flat.ensures.fewer c.loop-schema-test.true;
-      deep = c.requires.1.1.1.1.1.0;
-      low = c.requires.1.1.1.1.1.1.0;
+      deep = ((c.requires.0).down).deep;
+      low = ((c.requires.0).down).low;
       cheap = fewer_reads (c.args.self.now.limits).reads (new.reads.count + 3) c.short-room.result (omega (arith, paid g c, room g c)) c.short-room.ensures.allowed;
       is = c.count_table.ensures ∙ ap (λ n. record w { tables = w.tables + 1; deepest = max w.deepest n }) (two c.args.waiting);
     }
@@ -101,18 +89,8 @@ counts g c =
 pub pass_flat-came-requires : goal.pass_flat-came-requires
 pass_flat-came-requires g c =
     let d = (goal.at.pass_flat-came-requires g c).After-count_table in
-    let h = counts g d in
-    let w = c.count_table.new.self in
-    let q = c.test_lead-failed.new.reads.count in
-    let schema = ap (λ (x : Walk). x.schema.now) (counted_same h) in
-    let same = c.requires.1.1.1.1.1.1.1.1 ∙ sym (ap (λ (x : Walk). x.checks) (counted_same h)) in
-    let allowed : AreAllowed (w.limits).reads c.short-room.result = rw (ap (λ (x : Walk). x.limits) (counted_same h)) c.short-room.ensures.allowed in (
-      (comes_down h).opens,
-      (
-        fewer_reads (w.limits).reads (q + 3 + 6 * length c.steps_of-steps.result.now) c.short-room.result (omega (arith, paid g d, room g d)) allowed,
-        (omega (arith, paid g d, room g d, c.short-room.ensures.short), ((comes_down h).near, (same, (rw schema c.steps_of-steps.ensures.value, (sym schema, (rw schema c.requires.1.1.1.1.0, c.steps_of-steps.ensures.few)))))),
-      ),
-    )
+    let steps = c.steps_of-steps.ensures in
+    flat_comes (counts g d) c.requires.1 refl steps.value steps.few (c.requires.0).plain c.short-room.ensures.allowed (omega (arith, paid g d, room g d)) c.short-room.ensures.short
 
 pub returns-in-Some-came : goal.returns-in-Some-came
 returns-in-Some-came g c child =
@@ -132,5 +110,5 @@ loop-schema-preserved g c =
     record {
       on = table_passed (counts g d) came.next came.at came.reads (rw none at p) (omega (arith, p.paid none, paid g d, long, width, room g d, c.short-room.ensures.short));
       next = (c.loop-schema.invariant).next;
-      leads = ap (λ (x : Row). x.leads) c.advance_all.ensures ∙ ap leads_after (leads g (goal.at.After-count_table g d).After-test_lead-failed) ∙ sym c.requires.1.1.0;
+      leads = ap (λ (x : Row). x.leads) c.advance_all.ensures ∙ ap leads_after (leads g (goal.at.After-count_table g d).After-test_lead-failed) ∙ sym (c.requires.0).leads;
     }

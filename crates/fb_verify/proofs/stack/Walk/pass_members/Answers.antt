@@ -1,4 +1,4 @@
-use Rattle.std.proofs.Common.{None, ◌≡◌, ℕ, ◌≤◌, ◌+◌, ◌*◌, max, length, refl, sym, ◌∙◌, ap, subst, arith}
+use Rattle.std.proofs.Common.{None, ◌≡◌, ◌≤◌, ◌+◌, max, length, refl, sym, ◌∙◌, ap, subst, arith}
 use Rattle.fb_schema.specs.Live.{live_fields}
 use Rattle.fb_schema.specs.Steps.{step_of}
 use Rattle.fb_verify.specs.declared.offset_row.Row.{Row}
@@ -9,15 +9,14 @@ use Rattle.fb_verify.specs.Bounds.{AreAllowed}
 use Rattle.fb_verify.specs.Cost.{lead_reads}
 use Rattle.fb_verify.specs.Fields.{Entry}
 use Rattle.fb_verify.specs.Order.{after, element_failure}
-use Rattle.fb_verify.specs.OffsetRows.{lead_to, first_word, past_first, AreTargetsOf, IsReferent, IsLeafLead}
+use Rattle.fb_verify.specs.OffsetRows.{lead_to, first_word, AreTargetsOf, IsReferent, IsLeafLead}
 use Rattle.fb_verify.specs.Plain.{tested_by}
 use Rattle.fb_verify.proofs.Budgets.{fewer_reads}
 use Rattle.fb_verify.proofs.Chains.{after_none}
 use Rattle.fb_verify.proofs.Frames.{first_few, length_map}
-use Rattle.fb_verify.proofs.LeafRows.{word_told, word_fails, is_leaf}
+use Rattle.fb_verify.proofs.LeafRows.{word_told, is_leaf}
 use Rattle.fb_verify.proofs.Members.{targets_after}
-use Rattle.fb_verify.proofs.RowTurns.{Counts, word_passed, comes_down, counted_same, goes_down, table_passed, table_halts}
-use Rattle.fb_verify.proofs.Turns.{halts_behind}
+use Rattle.fb_verify.proofs.RowTurns.{two, Counts, word_passed, counted_same, flat_comes, goes_down, table_passed, table_halts, word_halts}
 use Rattle.fb_verify.proofs.Walking.{leaf_passed}
 use Rattle.fb_verify.proofs.stack.Walk.pass_members.Goals as goal
 use Rattle.fb_verify.proofs.stack.Walk.pass_members.Goals.{After-test_lead-failed, After-advance, After-count_table}
@@ -36,7 +35,7 @@ schema g c = ap (λ (x : Walk). x.schema.now) ((c.loop-schema.invariant).on).sam
 
 -- its checks are those that are made
 checks : (g : _) (c : After-test_lead-failed g) → c.args.checks ≡ c.loop-schema.self.checks
-checks g c = c.requires.1.1.1.1.1.0 ∙ sym (ap (λ (x : Walk). x.checks) ((c.loop-schema.invariant).on).same)
+checks g c = c.requires.1.1 ∙ sym (ap (λ (x : Walk). x.checks) ((c.loop-schema.invariant).on).same)
 
 -- the word leads to what was found
 leads : (g : _) (c : After-test_lead-failed g) → lead_to c.first_referent-referent.result ≡ (first g c).lead
@@ -50,9 +49,8 @@ typed g c = rw (sym (schema g c)) at (ap (λ x. x.count) c.first_referent-refere
 told : (g : _) (c : After-test_lead-failed g)
     → tested_by c.test_lead-failed.new.at c.test_lead-failed.new.reads.count c.test_lead-failed.result ≡ after c.loop-schema.reads.count (element_failure c.loop-schema.self.checks c.loop-schema.reads.bytes (first g c))
 told g c =
-    let w = c.loop-schema.self in
     let r = c.loop-schema.reads.count in
-    word_told w.checks c.loop-schema.reads.bytes w.schema.now w.limits (g.under).start (g.under).frames (top_at g c) w.tables w.deepest r ((c.loop-schema.invariant).on).walking (lead_to c.first_referent-referent.result) (leads g c)
+    word_told ((c.loop-schema.invariant).on).walking (lead_to c.first_referent-referent.result) (leads g c)
     r c.first_referent-referent.new.reads.count (typed g c) _ (rw (ap (λ x. x.bytes) c.first_referent-referent.ensures.counted, checks g c) at c.test_lead-failed.ensures.told)
 
 -- where it tells nothing, the word holds
@@ -79,25 +77,16 @@ targets g c = rw c.advance.ensures (targets_after c.args.self.now.schema.now c.t
 pub returns-in-Some : goal.returns-in-Some
 returns-in-Some g c =
     let d = (goal.at.returns-in-Some g c).After-test_lead-failed in
-    let i = (c.loop-schema.invariant).on in
-    let w = c.loop-schema.self in
-    let r = c.loop-schema.reads.count in
-    let new = c.test_lead-failed.new in
-    let fails = word_fails w.checks c.loop-schema.reads.bytes w.schema.now w.limits (g.under).start (g.under).frames (top_at g d) w.tables w.deepest r i.walking (past_first c.loop-schema.row) refl (c.has_member.ensures.more c.loop-schema-test.true)
-    (record { at = new.at; reason = c.in-Some.reason }) r new.reads.count refl (sym (told g d) ∙ ap (tested_by new.at new.reads.count) c.in-Some.is) c.stop_at_word-stop.result c.stop_at_word-stop.ensures.stop in
     rw c.stop.ensures.turn
-    (halts_behind c.args.self.now c.stop.new.self c.args.reads.now new.reads g.under c.stop_at_word-stop.new.top c.args.waiting c.requires.0 (kept g d ∙ i.bytes) (omega (arith, c.requires.0, c.requires.1.1.0)) c.stop_at_word-stop.result (ap (λ (x : Walk). x.halt) c.stop.ensures.halt)
-    (rw (c.stop_at_word-stop.ensures.past, sym (ap (λ (x : Walk). x.checks) i.same), sym (ap (λ (x : Walk). x.schema) i.same), sym (ap (λ (x : Walk). x.limits) i.same)) (rw i.bytes at fails)))
-
-two : (m : ℕ) → m + 2 ≡ m + 1 + 1
-two m = omega arith
+    (word_halts (c.loop-schema.invariant).on c.test_lead-failed.new.reads c.stop_at_word-stop.new.top c.stop_at_word-stop.result c.stop.new.self c.args.waiting ((c.requires.0).row).many (kept g d) (c.has_member.ensures.more c.loop-schema-test.true)
+    (rw c.in-Some.is at (told g d)) c.stop_at_word-stop.ensures.stop c.stop_at_word-stop.ensures.past (ap (λ (x : Walk). x.halt) c.stop.ensures.halt))
 
 abbrev child_at : (g : _) → After-count_table g → Child
 child_at g c = record { object = c.in-Table.object; at = c.test_lead-failed.new.at }
 
 -- a word that leads to a table is passed, and the table is counted
 counts : (g : _) (c : After-count_table g)
-    → Counts c.args.self.now c.loop-schema.self c.count_table.new.self c.args.reads.now c.loop-schema.reads c.test_lead-failed.new.reads g.under c.args.top.now (top_at g (goal.at.After-count_table g c).After-test_lead-failed) (top_at g (goal.at.After-count_table g c).After-test_lead-failed) c.advance.new.self (child_at g c) (c.args.waiting + 1)
+    → Counts c.args.self.now c.loop-schema.self c.count_table.new.self c.args.reads.now c.loop-schema.reads c.test_lead-failed.new.reads g.under c.args.top.now (top_at g (goal.at.After-count_table g c).After-test_lead-failed) c.advance.new.self (child_at g c) (c.args.waiting + 1)
 counts g c =
     let d = (goal.at.After-count_table g c).After-test_lead-failed in
     let i = (c.loop-schema.invariant).on in
@@ -122,13 +111,11 @@ counts g c =
             near = e.near none c.in-Table.object c.in-Table.is;
             paid = omega arith;
           });
-      same = refl;
-      less = omega arith;
       word = c.advance.ensures;
-      many = omega (arith, c.requires.0);
+      many = omega (arith, ((c.requires.0).row).many);
       fewer = c.has_member.ensures.fewer c.loop-schema-test.true;
-      deep = c.requires.1.1.0;
-      low = c.requires.1.1.1.0;
+      deep = (c.requires.0).deep;
+      low = (c.requires.0).low;
       cheap = fewer_reads (c.args.self.now.limits).reads (c.test_lead-failed.new.reads.count + 3) c.short-room.result (omega (arith, few g d none, c.has_member.ensures.room c.loop-schema-test.true)) c.short-room.ensures.allowed;
       is = c.count_table.ensures ∙ ap (λ n. record w { tables = w.tables + 1; deepest = max w.deepest n }) (two c.args.waiting);
     }
@@ -144,23 +131,8 @@ pass_flat-came-requires g c =
     let d = (goal.at.pass_flat-came-requires g c).After-count_table in
     let e = (goal.at.pass_flat-came-requires g c).After-test_lead-failed in
     let count = c.count.ensures.all (omega (arith, few g e c.in_default.is, c.has_member.ensures.room c.loop-schema-test.true, c.short-room.ensures.short)) in
-    let h = comes_down (counts g d) in
-    let i = counted_same (counts g d) in
-    let w = c.count_table.new.self in
-    let q = c.test_lead-failed.new.reads.count in
-    let room = c.if-count-steps.false in
-    let schema = ap (λ (x : Walk). x.schema.now) i in
-    let checks = c.requires.1.1.1.1.1.0 ∙ sym (ap (λ (x : Walk). x.checks) i) in
-    let allowed : AreAllowed (w.limits).reads c.short-room.result = rw (ap (λ (x : Walk). x.limits) i) c.short-room.ensures.allowed in (
-      h.opens,
-      (
-        fewer_reads (w.limits).reads (q + 3 + 6 * length c.steps_of-steps.result.now) c.short-room.result (omega (arith, room, count)) allowed,
-        (
-          omega (arith, room, count, c.short-room.ensures.short),
-          (h.near, (checks, (rw schema c.steps_of-steps.ensures.value, (sym schema, (rw schema (sym c.is_plain.ensures ∙ c.if-not-is_plain.false), c.steps_of-steps.ensures.few))))),
-        ),
-      ),
-    )
+    let steps = c.steps_of-steps.ensures in
+    flat_comes (counts g d) c.requires.1.1 refl steps.value steps.few (sym c.is_plain.ensures ∙ c.if-not-is_plain.false) c.short-room.ensures.allowed (omega (arith, c.if-count-steps.false, count)) c.short-room.ensures.short
 
 pub returns-in-Some-came : goal.returns-in-Some-came
 returns-in-Some-came g c =
@@ -200,7 +172,7 @@ loop-schema-preserved g c =
     let leaf = subst (λ x. IsLeafLead x) (leads g d) (is_leaf c.first_referent-referent.result (λ k e. c.in_default-referent.not-Table k e)) in
     let allowed : AreAllowed (w.limits).reads c.short-room.result = rw (ap (λ (x : Walk). x.limits) i.same) c.short-room.ensures.allowed in
     let cheap = fewer_reads (w.limits).reads q.count c.short-room.result (omega (arith, cost, room)) allowed in
-    let passed = leaf_passed w.checks b w.schema.now w.limits (g.under).start (g.under).frames (top_at g d) w.tables w.deepest c.loop-schema.reads.count i.walking c.advance.new.self q.count c.advance.ensures more (holds g d none) (paid g d none) leaf cheap in
+    let passed = leaf_passed i.walking c.advance.new.self q.count c.advance.ensures more (holds g d none) (paid g d none) leaf cheap in
     record {
       on = word_passed i c.advance.new.self q (rw (kept g d) passed) (omega (arith, cost, more, left)) (omega (arith, left)) (omega (arith, paid g d none)) (kept g d) (omega (arith, cost, room, c.short-room.ensures.short));
       next = (c.loop-schema.invariant).next;

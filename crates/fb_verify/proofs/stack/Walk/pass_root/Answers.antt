@@ -7,23 +7,14 @@ use Rattle.fb_verify.specs.PassesOn.{PassesOn}
 use Rattle.fb_verify.specs.Stack.{opened, Waiting}
 use Rattle.fb_verify.specs.Turns.{WentOver}
 use Rattle.fb_verify.proofs.Flats.{never_on}
-use Rattle.fb_verify.proofs.Standings.{close_last}
+use Rattle.fb_verify.proofs.Turning.{went_over}
 use Rattle.fb_verify.proofs.stack.Walk.pass_root.Goals as goal
 
 -- a root table of which no field leads on is passed whole
 root_over : (w : Walk) (m new : Lent) (under : Waiting) (table : Table) (next at : ℕ) → under.frames ≡ [] → is_plain w.schema.now table.object ≡ true → (more : Bool)
     → PassesOn w m new under (opened table) (record (opened table) { next = next }) at (Ok more) → WentOver w w m new under.start
 root_over w m new under table next at none plain true p = absurd (never_on plain refl p)
-root_over w m new under table next at none plain false p =
-    let h = p.walking refl in
-    record {
-      same = refl;
-      over = close_last w.checks new.bytes w.schema.now w.limits under.start under.frames _ w.tables w.deepest new.count h.standing none refl (p.all refl);
-      within = h.tables;
-      shallow = h.deepest;
-      reads = h.reads;
-      bytes = p.bytes;
-    }
+root_over w m new under table next at none plain false p = went_over under _ refl (p.walking refl) none refl (p.all refl) p.bytes
 
 pub returns-in-Ok : goal.returns-in-Ok
 returns-in-Ok g c =

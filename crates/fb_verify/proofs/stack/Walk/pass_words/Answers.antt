@@ -12,7 +12,7 @@ rests : (g : _) (c : After-lend-own g) (top : Frame) (own : Lent) → IsWalking 
     → own.count ≤ c.lend-own.result.count + 4 * (c.args.top.now.row).left → c.lend-own.result.count ≤ own.count → own.bytes ≡ c.lend-own.result.bytes → Rests c.args.self.now c.args.self.now c.args.reads.now own g.under c.args.top.now top
 rests g c top own walking same none paid grows bytes =
     let began = ap (λ (x : Lent). x.count) c.lend-own.ensures.lent in
-    let on = stays c.args.self.now c.args.reads.now g.under c.args.top.now c.requires.1.0 c.requires.1.1.1.1.1.0 in
+    let on = stays c.args.self.now c.args.reads.now g.under c.args.top.now (c.requires.0).walking (c.requires.0).short in
     words_passed on top own walking same none refl (omega (arith, paid, began)) (omega (arith, grows, began)) (rw c.lend-own.ensures.lent at bytes) (omega (arith, paid, began, c.if-count-from.false, c.short.ensures.short, c.count.ensures, c.from.ensures))
 
 pub returns-in-Ok : goal.returns-in-Ok

@@ -25,28 +25,24 @@ first g c = first_word c.loop-row.reads.bytes c.args.self.now.schema.now c.loop-
 -- the word leads to what all refer to
 lead : (g : _) (c : After-test_lead-failed g) → lead_to c.args.referent ≡ (first g c).lead
 lead g c =
-    let w = c.args.self.now in
     let i = c.loop-row.invariant in
-    all_lead w.checks c.loop-row.reads.bytes w.schema.now w.limits (g.under).start (g.under).frames (top_at g c) w.tables w.deepest c.loop-row.reads.count i.walking c.args.referent i.leads
+    all_lead i.walking c.args.referent i.leads
 
 -- what its test tells
 told : (g : _) (c : After-test_lead-failed g)
     → tested_by c.test_lead-failed.new.at c.test_lead-failed.new.reads.count c.test_lead-failed.result ≡ after c.loop-row.reads.count (element_failure c.args.self.now.checks c.loop-row.reads.bytes (first g c))
 told g c =
-    let w = c.args.self.now in
     let i = c.loop-row.invariant in
-    all_told w.checks c.loop-row.reads.bytes w.schema.now w.limits (g.under).start (g.under).frames (top_at g c) w.tables w.deepest c.loop-row.reads.count i.walking c.args.referent i.leads _
-    (rw c.requires.1.1.1.1.1 at c.test_lead-failed.ensures.told)
+    all_told i.walking c.args.referent i.leads _ (rw c.requires.1.1.1.1.1 at c.test_lead-failed.ensures.told)
 
 pub returns-in-Some-clause-err : goal.returns-in-Some-clause-err
 returns-in-Some-clause-err g c =
     let d = (goal.at.returns-in-Some-clause-err g c).After-test_lead-failed in
     let i = c.loop-row.invariant in
-    let w = c.args.self.now in
     let new = c.test_lead-failed.new in
     let r = c.loop-row.reads.count in
     rw (c.stop_at_word.ensures.past, i.same) (rw i.bytes at
-    (word_fails w.checks c.loop-row.reads.bytes w.schema.now w.limits (g.under).start (g.under).frames (top_at g d) w.tables w.deepest r i.walking (past_first c.loop-row.row) refl c.loop-row-test.true (record { at = new.at; reason = c.in-Some.reason }) r new.reads.count refl
+    (word_fails i.walking (past_first c.loop-row.row) refl c.loop-row-test.true (record { at = new.at; reason = c.in-Some.reason }) r new.reads.count refl
     (sym (told g d) ∙ ap (tested_by new.at new.reads.count) c.in-Some.is) c.stop_at_word.result (rw i.same at c.stop_at_word.ensures.stop)))
 
 pub loop-row-preserved : goal.loop-row-preserved
@@ -58,7 +54,7 @@ loop-row-preserved g c =
     let none = c.in_default.is in
     let q = c.test_lead-failed.new.reads.count in
     let r = c.loop-row.reads.count in
-    let free = all_free w.checks b w.schema.now w.limits (g.under).start (g.under).frames (top_at g d) w.tables w.deepest r i.walking c.args.referent i.leads in
+    let free = all_free i.walking c.args.referent i.leads in
     let cost : q ≡ r + (first g d).reads + lead_reads (first g d).lead = omega (arith, c.test_lead-failed.ensures.counted none, ap lead_reads (lead g d), free) in
     let few = first_few b w.schema.now c.loop-row.row in
     let more = c.loop-row-test.true in
@@ -72,7 +68,7 @@ loop-row-preserved g c =
       bytes = kept ∙ i.bytes;
       same = i.same;
       grows = omega (arith, cost, i.grows);
-      walking = rw kept (leaf_passed w.checks b w.schema.now w.limits (g.under).start (g.under).frames (top_at g d) w.tables w.deepest r i.walking c.advance_all.new.self q row more holds cost leaf cheap);
+      walking = rw kept (leaf_passed i.walking c.advance_all.new.self q row more holds cost leaf cheap);
       leads = ap (λ (x : Row). x.leads) row ∙ ap leads_after i.leads;
       paid = omega (arith, cost, few, i.paid, more, left);
     }

@@ -85,7 +85,9 @@ go_on-requires g c =
     let new = work_opened c.args.self.now.checks c.args.loan.now.bytes c.args.self.now.schema.now table c.requires.1.0 in
     let some : 0 < length xs = omega (arith, c.in-Ok.ensures.shallow, c.requires.1.1.1.1.0) in
     let top = get_or-set_same xs 0 c.opened.result blank some in
-    rw (k.0, k.1, c.in-Ok.ensures.opened, c.in-Ok.ensures.counted, top, c.opened.ensures) (
-      (rw (c.in-Ok.ensures.opened, c.in-Ok.ensures.counted) at (begun g d)),
-      (omega (arith, length-set xs 0 (opened table), some), omega (arith, new, head_few c.args.self.now.checks, c.requires.1.1.1.1.1.1.1.1.1, c.in-Ok.ensures.fewer, c.in-Ok.ensures.few_tables)),
-    )
+    rw (k.0, k.1, c.in-Ok.ensures.opened, c.in-Ok.ensures.counted)
+    (record {
+      walking = rw (top, c.opened.ensures) (rw (c.in-Ok.ensures.opened, c.in-Ok.ensures.counted) at (begun g d));
+      top = omega (arith, length-set xs 0 c.opened.result, some);
+      few = rw (top, c.opened.ensures) (omega (arith, new, head_few c.args.self.now.checks, c.requires.1.1.1.1.1.1.1.1.1, c.in-Ok.ensures.fewer, c.in-Ok.ensures.few_tables));
+    })

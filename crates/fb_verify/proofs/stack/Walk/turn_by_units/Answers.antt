@@ -2,10 +2,11 @@ use Rattle.std.proofs.Common.{◌≡◌, ◌+◌, ◌-◌, ◌<◌, ◌≤◌, L
 use Rattle.std.proofs.Math.ListN.{set, length-set}
 use Rattle.std.proofs.lemmas.List.{length-take, take-set-le}
 use Rattle.fb_verify.specs.declared.scratch.Frame.{Frame}
-use Rattle.fb_verify.specs.Stack.{blank, IsFrame, IsWalking, work, frame_work}
+use Rattle.fb_verify.specs.Stack.{blank, IsWalking, work, frame_work}
 use Rattle.fb_verify.proofs.Frames.{if_err_exit}
-use Rattle.fb_verify.proofs.Stacks.{last_is, sum_last, all_last, all_below, top_is, joined, below_joined, grown_joined, top_joined, next_joined}
-use Rattle.fb_verify.proofs.Standings.{close_last, close_more}
+use Rattle.fb_verify.proofs.Stacks.{last_is, sum_last, top_is, joined, below_joined, grown_joined, top_joined, next_joined}
+use Rattle.fb_verify.proofs.Standings.{close_last}
+use Rattle.fb_verify.proofs.Walking.{table_closed}
 use Rattle.fb_verify.proofs.stack.Walk.turn_by_units.Goals.{Else-waiting-eq0, Joined-top-eq0, After-pass_children, then-top-eq0+in-Ok+else-not-leads, else-top-eq0}
 use Rattle.fb_verify.proofs.stack.Walk.turn_by_units.Goals as goal
 
@@ -39,26 +40,10 @@ returns-then-waiting-eq0-clause-walking g c =
 pub returns-then-not-leads-clause-walking : goal.returns-then-not-leads-clause-walking
 returns-then-not-leads-clause-walking g c =
     let d = (goal.at.returns-then-not-leads-clause-walking g c).Else-waiting-eq0 in
-    let h = c.in-Ok.ensures.walking in
     let m = c.args.waiting in
     let ys = stack g d in
-    let S = c.args.self.now.schema.now in
-    let P = IsFrame c.args.self.now.checks c.pass_each.new.loan.bytes S in
-    let waits = below g d in
-    let all = rw waits at h.frames in
     rw (whole g d)
-    (record {
-      served = h.served;
-      tables = h.tables;
-      deepest = h.deepest;
-      reads = h.reads;
-      links = omega (arith, h.links, ap length waits, length-take m ys, length-take (m - 1) ys);
-      low = omega (arith, h.low, ap length waits, length-take m ys, length-take (m - 1) ys);
-      frames = all_below ys m blank (some g d) (room g d) P all;
-      frame = all_last ys m blank (some g d) (room g d) P all;
-      standing = close_more c.args.self.now.checks c.pass_each.new.loan.bytes S c.args.self.now.limits (g.under).start (g.under).frames c.pass_each.new.top c.args.self.now.tables c.args.self.now.deepest c.pass_each.new.loan.count h.standing
-          (take (m - 1) ys) (get_or ys (m - 1) blank) (waits ∙ last_is ys m blank (some g d) (room g d)) (c.in-Ok.ensures.rests c.if-not-leads.true) (c.in-Ok.ensures.all c.if-not-leads.true);
-    })
+    (table_closed c.in-Ok.ensures.walking (take (m - 1) ys) (get_or ys (m - 1) blank) (below g d ∙ last_is ys m blank (some g d) (room g d)) (c.in-Ok.ensures.rests c.if-not-leads.true) (c.in-Ok.ensures.all c.if-not-leads.true))
 
 pub returns-then-not-leads-clause-falls : goal.returns-then-not-leads-clause-falls
 unfolding work
@@ -74,13 +59,15 @@ top_was : (g : _) (c : Joined-top-eq0 g) → get_or c.split_at_mut-low.result.0.
 top_was g c =
     top_is c.args.frames.now c.split_at_mut-low.result.0.now c.split_at_mut-low.result.1.now c.args.waiting (get_or c.args.frames.now c.args.waiting blank) c.split_at_mut-low.ensures.value c.split_at_mut-low.ensures.front_len blank
 
--- no more reads were made before than work was left to it
-less : (g : _) (c : Joined-top-eq0 g) → c.if-top-eq0.loan.count + frame_work c.args.self.now.schema.now c.if-top-eq0.top ≤ c.args.loan.now.count + frame_work c.args.self.now.schema.now (get_or c.args.frames.now c.args.waiting blank)
-less g c =
+-- once its fields were passed, or before: its row leads on, and no more reads were made than work was left to it
+came : (g : _) (c : Joined-top-eq0 g)
+    → (0 < (c.if-top-eq0.top.row).left) × IsWalking c.args.self.now c.if-top-eq0.loan (g.under).start (g.under).frames c.if-top-eq0.top
+    × (c.if-top-eq0.loan.count + frame_work c.args.self.now.schema.now c.if-top-eq0.top ≤ c.args.loan.now.count + frame_work c.args.self.now.schema.now (get_or c.args.frames.now c.args.waiting blank)) × (c.if-top-eq0.loan.bytes ≡ c.args.loan.now.bytes)
+came g c =
     let top = top_was g c in
     elim c.if-top-eq0.branch [
-      | then-top-eq0+in-Ok+else-not-leads w ↦ rw (w.loan-is, w.top-is, sym top) w.in-Ok.ensures.falls
-      | else-top-eq0 w ↦ rw (w.loan-is, w.top-is, sym top) (omega arith)
+      | then-top-eq0+in-Ok+else-not-leads w ↦ let e = w.in-Ok.ensures in rw (w.loan-is, w.top-is, sym top) (e.leads w.if-not-leads.false, e.walking, e.falls, e.bytes)
+      | else-top-eq0 w ↦ rw (w.loan-is, w.top-is, top) (omega (arith, w.if-top-eq0.false, ap (λ (x : Frame). (x.row).left) top), c.requires.1.0, omega arith, refl)
     ]
 
 -- it follows those that wait
@@ -90,42 +77,26 @@ grown g c = grown_joined c.args.frames.now c.split_at_mut-low.result.0.now c.spl
 pub pass_children-requires : goal.pass_children-requires
 unfolding work
 pass_children-requires g c =
-    let j = c.if-top-eq0 in
-    let d = (goal.at.pass_children-requires g c).Joined-top-eq0 in
-    let leads : 0 < (j.top.row).left =
-    elim c.if-top-eq0.branch [
-      | then-top-eq0+in-Ok+else-not-leads w ↦ rw w.top-is (w.in-Ok.ensures.leads w.if-not-leads.false)
-      | else-top-eq0 w ↦ rw w.top-is (omega (arith, w.if-top-eq0.false))
-    ] in
-    let walks : IsWalking c.args.self.now j.loan (g.under).start (g.under).frames j.top =
-    elim c.if-top-eq0.branch [
-      | then-top-eq0+in-Ok+else-not-leads w ↦ rw (w.loan-is, w.top-is) w.in-Ok.ensures.walking
-      | else-top-eq0 w ↦ rw (w.loan-is, w.top-is, top_was g d) c.requires.1.0
-    ] in
+    let e = came g (goal.at.pass_children-requires g c).Joined-top-eq0 in
     let frames = ap length c.requires.0 in
-    (omega (arith, frames, length-take c.args.waiting c.args.frames.now, (c.requires.1.0).links, c.requires.1.1.0), (walks, (leads, (omega (arith, c.requires.1.1.0, c.split_at_mut-low.ensures.back_len), omega (arith, less g d, c.requires.1.1.1)))))
+    (omega (arith, frames, length-take c.args.waiting c.args.frames.now, (c.requires.1.0).links, c.requires.1.1.0), (e.1, (e.0, (omega (arith, c.requires.1.1.0, c.split_at_mut-low.ensures.back_len), omega (arith, e.2, c.requires.1.1.1)))))
 
 pub returns-in_err-pass_children-clause-err : goal.returns-in_err-pass_children-clause-err
 returns-in_err-pass_children-clause-err g c =
-    let j = c.if-top-eq0 in
-    let bytes : j.loan.bytes ≡ c.args.loan.now.bytes =
-    elim c.if-top-eq0.branch [
-      | then-top-eq0+in-Ok+else-not-leads w ↦ rw w.loan-is w.in-Ok.ensures.bytes
-      | else-top-eq0 w ↦ rw w.loan-is refl
-    ] in
+    let d = goal.at.returns-in_err-pass_children-clause-err g c in
     let e = c.in_err-pass_children.ensures in
-    if_err_exit _ _ _ c.from_residual.ensures.1 (rw (e.links, grown g (goal.at.returns-in_err-pass_children-clause-err g c).After-pass_children, sym c.requires.0, sym bytes) e.err)
+    if_err_exit _ _ _ c.from_residual.ensures.1 (rw (e.links, grown g d.After-pass_children, sym c.requires.0, sym (came g d.Joined-top-eq0).3) e.err)
 
 pub returns-then-branch-clause-falls : goal.returns-then-branch-clause-falls
 unfolding work
 returns-then-branch-clause-falls g c =
     let d = goal.at.returns-then-branch-clause-falls g c in
     let next = next_joined c.args.frames.now c.split_at_mut-low.result.0.now c.split_at_mut-low.result.1.now c.args.waiting c.pass_children.new.top c.split_at_mut-low.ensures.value c.split_at_mut-low.ensures.front_len c.pass_children.new.room blank in
-    rw (grown g d.After-pass_children, next, sym c.requires.0) (omega (arith, less g d.Joined-top-eq0, c.in_ok-pass_children.ensures.falls c.if-branch.true))
+    rw (grown g d.After-pass_children, next, sym c.requires.0) (omega (arith, (came g d.Joined-top-eq0).2, c.in_ok-pass_children.ensures.falls c.if-branch.true))
 
 pub returns-clause-falls : goal.returns-clause-falls
 unfolding work
 returns-clause-falls g c =
     let waits = below_joined c.args.frames.now c.split_at_mut-low.result.0.now c.split_at_mut-low.result.1.now c.args.waiting c.pass_children.new.top c.split_at_mut-low.ensures.value c.split_at_mut-low.ensures.front_len c.pass_children.new.room blank in
     let top = top_joined c.args.frames.now c.split_at_mut-low.result.0.now c.split_at_mut-low.result.1.now c.args.waiting c.pass_children.new.top c.split_at_mut-low.ensures.value c.split_at_mut-low.ensures.front_len c.pass_children.new.room blank in
-    rw (waits, top, sym c.requires.0) (omega (arith, less g (goal.at.returns-clause-falls g c).Joined-top-eq0, c.in_ok-pass_children.ensures.least c.if-branch.false))
+    rw (waits, top, sym c.requires.0) (omega (arith, (came g (goal.at.returns-clause-falls g c).Joined-top-eq0).2, c.in_ok-pass_children.ensures.least c.if-branch.false))

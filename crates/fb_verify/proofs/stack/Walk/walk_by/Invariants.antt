@@ -1,4 +1,4 @@
-use Rattle.std.proofs.Common.{◌≡◌, ◌+◌, ◌<◌, ◌≤◌, length, take, slice_index_or}
+use Rattle.std.proofs.Common.{true, min, ◌≡◌, ◌+◌, ◌<◌, ◌≤◌, length, take, slice_index_or}
 use Rattle.fb_verify.specs.Stack.{blank, IsWalking, work}
 use Rattle.fb_verify.specs.Turns.{IsShort}
 use Rattle.fb_verify.proofs.stack.Walk.walk_by.Given as goal
@@ -8,8 +8,8 @@ abbrev pub ghost-turn : goal.ghost-turn
 ghost-turn g a = record { start = g.start; frames = take a.waiting a.frames.now }
 
 -- each turn leaves less work, by more than the reads that it makes
-abbrev pub invariant-loop-at : goal.invariant-loop-at
-invariant-loop-at g l = record {
+abbrev pub invariant-loop-has_below : goal.invariant-loop-has_below
+invariant-loop-has_below g l = record {
   same : l.self ≡ record l.fn.self { tables = l.self.tables; deepest = l.self.deepest };
   walking : IsWalking l.self l.reads g.start (take l.at l.frames) (slice_index_or l.frames l.at blank);
   top : l.at < length l.frames;
@@ -17,8 +17,9 @@ invariant-loop-at g l = record {
   grows : l.fn.reads.count ≤ l.reads.count;
   bytes : l.reads.bytes ≡ l.fn.reads.bytes;
   short : IsShort l.reads.count;
+  below : l.has_below ≡ true → min (l.fn.self.limits).depth (l.at + 2) ≤ length l.frames;
   length : length l.frames ≡ length l.fn.frames;
 }
 
-abbrev pub decreases-loop-at : goal.decreases-loop-at
-decreases-loop-at g l = work l.fn.self.schema.now l.fn.self.limits (take l.at l.frames) (slice_index_or l.frames l.at blank) l.self.tables
+abbrev pub decreases-loop-has_below : goal.decreases-loop-has_below
+decreases-loop-has_below g l = work l.fn.self.schema.now l.fn.self.limits (take l.at l.frames) (slice_index_or l.frames l.at blank) l.self.tables

@@ -1,0 +1,8 @@
+use Rattle.fb_verify.proofs.stack.Walk.go_far.Given as goal
+
+-- the same frames wait
+abbrev pub ghost-go_far_by : goal.ghost-go_far_by
+ghost-go_far_by g a = g.under
+
+abbrev pub ghost-go_far_by_checks : goal.ghost-go_far_by_checks
+ghost-go_far_by_checks g a = g.under

@@ -1,0 +1,40 @@
+use Rattle.std.proofs.Common.{◌≡◌, ℕ, refl}
+use Rattle.fb_schema.specs.declared.kinds.Kind.{Kind}
+use Rattle.fb_schema.specs.declared.kinds.Kind.TheVariants.{Scalar, Text, Struct, Table, Union, Scalars, Texts, Structs, Tables, Unions}
+use Rattle.fb_verify.specs.Turns.{IsFar}
+use Rattle.fb_verify.proofs.Words.{vector_left}
+use Rattle.fb_verify.proofs.stack.Walk.put_row_by.Goals as goal
+
+pub returns-in-Unions-clause-leads : goal.returns-in-Unions-clause-leads
+returns-in-Unions-clause-leads c =
+    let e = c.put_unions.ensures in
+    let holds = rw c.in-Unions.is at c.requires.askable.holds in
+    λ ok. rw c.in-Unions.is (vector_left c.args.reads.now.bytes c.args.self.now.schema.now (e.words ok) c.requires.rests (holds, e.types ok, e.types_near ok))
+
+pub returns-in-Tables-clause-leads : goal.returns-in-Tables-clause-leads
+returns-in-Tables-clause-leads c =
+    let holds = rw c.in-Tables.is at c.requires.askable.holds in
+    λ ok. rw c.in-Tables.is (vector_left c.args.reads.now.bytes c.args.self.now.schema.now (c.put_words.ensures.words ok) c.requires.rests holds)
+
+-- what is none of the others is a vector of strings
+texts : (kind : Kind) → IsFar kind → ((x : ℕ) → kind ≡ Union x → ⊥) → ((x : ℕ) → kind ≡ Tables x → ⊥) → ((x : ℕ) → kind ≡ Unions x → ⊥) → kind ≡ Texts
+texts (Scalar s) far a b c = absurd far
+texts Text far a b c = absurd far
+texts (Struct k) far a b c = absurd far
+texts (Table k) far a b c = absurd far
+texts (Union e) far a b c = absurd (a e refl)
+texts (Scalars s) far a b c = absurd far
+texts Texts far a b c = refl
+texts (Structs k) far a b c = absurd far
+texts (Tables k) far a b c = absurd (b k refl)
+texts (Unions e) far a b c = absurd (c e refl)
+
+pub returns-in_default : goal.returns-in_default
+returns-in_default c =
+    let e = c.put_words-in_default.ensures in
+    let d = c.in_default in
+    let is = texts (c.args.field.now).kind c.requires.far d.not-Union d.not-Tables d.not-Unions in
+    record {
+      tested = rw (is, ← c.requires.same) e.tested;
+      leads = λ ok. rw is (vector_left c.args.reads.now.bytes c.args.self.now.schema.now (e.words ok) c.requires.rests tt);
+    }
