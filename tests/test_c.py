@@ -630,7 +630,7 @@ class LibraryForC(LibraryCase):
         }.items():
             want = run("--schema",
                        str(file_of("wrong.bfbs", given))).err.decode().removeprefix("fbcheck: schema: ").strip()
-            want = want.partition(";")[0]
+            want = want.partition(";")[0].partition(" in ")[0]
             try:
                 python.Verifier(given)
                 got = "a schema"

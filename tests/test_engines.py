@@ -207,6 +207,12 @@ def until(fact):
     return found
 
 
+def told(error):
+    """What the script and split tell, without what Dask's own loop logs where a worker is lost while it closes."""
+    lines = error.splitlines()
+    return "\n".join(line for line in lines if line.startswith(("dask_check: ", "split: ")))
+
+
 def reader_of(pipe, processes):
     """The process that has this pipe open."""
     for process in processes:
@@ -255,7 +261,8 @@ class OnDask(LibraryCase):
                     other.write(whole)
                 out, err = running.communicate(timeout=PATIENCE)
             lines = [f"{name}: {line}" for name in names for line in want]
-            self.same("each verdict comes once, in order", (running.returncode, out.splitlines(), err), (1, lines, ""))
+            self.same("each verdict comes once, in order", (running.returncode, out.splitlines(), told(err)),
+                      (1, lines, ""))
             self.same("one worker was killed", [worker.poll() for worker in workers if worker.poll() is not None], [-9])
             for name, given, status, text in [("stream", whole, 1, ""), ("good", messages_of(POST)[0] * 40, 0, ""),
                                               ("cut", whole[:-1], 3, "S2 Truncated held=199")]:
@@ -263,7 +270,8 @@ class OnDask(LibraryCase):
                 words = [*script, "--scheduler", address, "--parts", "5", BY_POST, file_of(name, given)]
                 ran = subprocess.run(words, env=environment, capture_output=True, text=True, timeout=PATIENCE)
                 self.same(f"{name}: by one worker", (ran.returncode, ran.stdout.splitlines()), (status, lines))
-                self.holds(f"{name}: what is told", text in ran.stderr and bool(text) == bool(ran.stderr), ran.stderr)
+                own = told(ran.stderr)
+                self.holds(f"{name}: what is told", text in own and bool(text) == bool(own), ran.stderr)
             for path in (first, last):
                 path.unlink()
             first.write_bytes(whole[:7])
