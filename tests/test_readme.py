@@ -73,10 +73,3 @@ class Readme(unittest.TestCase):
             targets = re.findall(r"\]\(((?!http)[^)#]+)", page.read_text())
             missing = [target for target in targets if not (page.parent / target).exists()]
             self.assertEqual((page.name, missing), (page.name, []))
-
-    def test_naive_checker_alone(self):
-        """The naive checker uses the types of rows, and nothing else of the crates that are held against it."""
-        texts = [path.read_text() for path in (TOP / "crates/evidence/src/naive").glob("*.rt")]
-        self.assertGreater(len(texts), 1)
-        for named in {word for text in texts for word in re.findall(r"\b(?:fb_\w+|case_text|crate)\b.*", text)}:
-            self.assertRegex(named, r"\Afb_schema::(?:\w+Row|\{\w+Row(?:, \w+Row)*\});\Z")

@@ -8,7 +8,7 @@ limits and checks, but for what these words say: `root=Name`, `prefixed`, `want=
 
 import re
 
-from tests.support import buffers, edges, schemas
+from tests.support import buffers, edges, schemas, widths
 from tests.support.case_text import bytes_of, rows_of
 from tests.support.every_kind import words_of
 from tests.support.judge import first_broken
@@ -33,7 +33,7 @@ SAMPLES = {
     "UNION_INLINE": "0c000000 08000b00 04000800 08000000 02000000 04000000 07000000 00000000",
     "SHARED_LIST": "1c000000 0c000000 08000c00 04000800 08000000 08000000 04000000 00000000",
     "64_LEVELS": buffers.levels(64).hex(), "100_LEVELS": buffers.levels(100).hex(),
-    "11_PAIRS": buffers.doubling(11).hex(), **edges.SAMPLES,
+    "11_PAIRS": buffers.doubling(11).hex(), **edges.SAMPLES, **widths.SAMPLES,
 }
 
 MONSTER = "M table: hp@4 short default=100, name@6 string"
@@ -458,7 +458,7 @@ class WorkedCases(LibraryCase):
 
     def test_values(self):
         python = module()
-        for rows, words, table in VALUES:
+        for rows, words, table in [*VALUES, *widths.VALUES]:
             asked = Asked(python, rows, words)
             for path, text, want in cases(table):
                 data, path = bytes_of(SAMPLES, text), path_of(path)

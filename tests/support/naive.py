@@ -86,8 +86,9 @@ class Walk:
         self.alignment, self.inline_size = alignment, inline_size
         self.reads = self.tables = self.open = self.deepest = 0
         self.where = root, None
-        # what is under check, step by step from the root table
-        self.steps = []
+        # what is under check, step by step from the root table: in words, and the numbers of the object, the field, the
+        # element and the member
+        self.steps, self.links = [], []
 
     def fits(self, at, size, place):
         if at < 0 or at + size > len(self.data):
@@ -154,8 +155,10 @@ class Walk:
         for field in self.schema.tables[number]:
             self.where = number, (field.slot - 4) // 2
             self.steps.append(field.name)
+            self.links.append((*self.where, None, None))
             self.field(at, vtable, size, inline, field)
             self.steps.pop()
+            self.links.pop()
         self.where = before
         self.open -= 1
 
@@ -199,6 +202,7 @@ class Walk:
             self.passed(at)
             if field.base == UNION:
                 self.steps[-1] += f"@{member.name}"
+                self.links[-1] = (*self.where, None, types)
             self.value(place, member if field.base == UNION else field)
 
     def types_of(self, at, vtable, field, is_unions):
@@ -258,11 +262,14 @@ class Walk:
             kind = kind_of(field.element, field.index)
             for number in range(count):
                 self.steps[-1] = f"{field.name}[{number}]"
+                self.links[-1] = (*self.where, number, None)
                 self.value(at + 4 + 4 * number, kind)
 
     def unions(self, at, count, field, types):
         for number in range(count):
-            member = self.schema.unions[field.index].get(self.read("B", types + 4 + number))
+            kind = self.read("B", types + 4 + number)
+            member = self.schema.unions[field.index].get(kind)
+            self.links[-1] = (*self.where, number, kind)
             self.steps[-1] = f"{field.name}[{number}]" + (f"@{member.name}" if member else "")
             if member:
                 self.value(at + 4 + 4 * number, member)

@@ -4,5 +4,4 @@ mod get;
 mod grammar;
 mod locations;
 mod paths;
-mod values;
 mod worked;

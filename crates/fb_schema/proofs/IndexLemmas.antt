@@ -3,12 +3,12 @@ use Rattle.std.proofs.Common.{◌≡◌, ℕ, zero, suc, ◌+◌, ◌<◌, ◌�
 use Rattle.std.proofs.lemmas.List.{length-map, map-append, get_or-take, get_or-map, length-take-le}
 use Rattle.std.proofs.lemmas.List.Folds.{list_any-from_Any}
 use Rattle.std.proofs.lemmas.Option.{slice_get-get_or}
-use Rattle.std.proofs.lemmas.Bool.Decides.{Decides-eqb, nat_tests}
+use Rattle.std.proofs.lemmas.Bool.Decides.{Decides-eqb}
 use Rattle.std.proofs.lemmas.Grind.{take_at_read}
 use Rattle.fb_schema.specs.declared.fault.Code.TheVariants.{BadSlot}
 use Rattle.fb_schema.specs.declared.rows.FieldRow.{FieldRow}
 use Rattle.fb_schema.specs.Demands.{Demand, IsLegal, demands_of_object, demands_of_table_field, demands_of_struct_field, stands_before, same_slot}
-use Rattle.fb_schema.specs.Live.{Live, AreApart, AreSpaced, live_rows, required_end_of, widest_of}
+use Rattle.fb_schema.specs.Live.{Live, AreApart, AreSpaced, live_rows, widest_of}
 use Rattle.fb_schema.specs.Matched.{AreMatched}
 use Rattle.fb_schema.specs.Steps.{act_of, is_plain_act, are_plain}
 use Rattle.fb_schema.specs.Rows.{Rows, Field, Object, field_of}
@@ -108,30 +108,6 @@ pub value_step : {X Y : Type 0} (g : X → Y) (xs : List X) (i : ℕ) (x : X) (o
 value_step g xs i x old new y lt is h e r =
     e ∙ ap (λ zs. zs ++ y ∷ []) h ∙ ap (λ z. map g (take i xs) ++ z ∷ []) (r ∙ ap g is)
     ∙ sym (map-append g (take i xs) (get_or xs i x ∷ [])) ∙ ap (map g) (sym (take_at_read xs i x lt).1)
-
-above_zero : (n : ℕ) → nat_lt 0 (suc n) ≡ true
-above_zero n = grind (arith, nat_tests)
-
--- one field more, behind the others
-required_more : (fs : List Live) (f : Live) (b : Bool) → f.required ≡ b → required_end_of (fs ++ f ∷ []) ≡ if b then suc (length fs) else required_end_of fs
-required_more [] f true e = ap (λ b. if b || nat_lt 0 0 then 1 + 0 else 0) e
-required_more [] f false e = ap (λ b. if b || nat_lt 0 0 then 1 + 0 else 0) e
-required_more (g ∷ gs) f true e = ap (λ n. if g.required || nat_lt 0 n then 1 + n else 0) (required_more gs f true e) ∙ go g.required where
-  go : (b : Bool) → (if b || nat_lt 0 (suc (length gs)) then 1 + suc (length gs) else 0) ≡ suc (suc (length gs))
-  go true = omega arith
-  go false = ap (λ b. if b then 1 + suc (length gs) else 0) (above_zero (length gs)) ∙ omega arith
-required_more (g ∷ gs) f false e = ap (λ n. if g.required || nat_lt 0 n then 1 + n else 0) (required_more gs f false e)
-
-pub required_step : {X : Type 0} (v : X → Live) (xs : List X) (i : ℕ) (d : X) (b : Bool) → i < length xs → (v (get_or xs i d)).required ≡ b
-    → required_end_of (map v (take (i + 1) xs)) ≡ if b then i + 1 else required_end_of (map v (take i xs))
-required_step v xs i d b lt e =
-    let x = get_or xs i d in
-    let long : length (map v (take i xs)) ≡ i = length-map (take i xs) v ∙ length-take-le i xs (omega arith) in
-    ap (λ zs. required_end_of (map v zs)) (take_at_read xs i d lt).1 ∙ ap required_end_of (map-append v (take i xs) (x ∷ []))
-    ∙ required_more (map v (take i xs)) (v x) b e ∙ go b long where
-      go : (b : Bool) → length (map v (take i xs)) ≡ i → (if b then suc (length (map v (take i xs))) else required_end_of (map v (take i xs))) ≡ if b then i + 1 else required_end_of (map v (take i xs))
-      go true l = omega (arith, l)
-      go false l = refl
 
 pub kept_read : {X Y : Type 0} (f : X → Y) (xs : List X) (i : ℕ) (d : X) → i < length xs → slice_get (map f xs) i ≡ Some (f (get_or xs i d))
 kept_read f xs i d lt = mapped_at f xs i (get_or xs i d) (slice_get-get_or xs i d lt)

@@ -2,7 +2,7 @@
 use Rattle.std.proofs.Common.{◌≡◌, Bool, ℕ, ℤ, pos, negsuc, Bor, Option, option_map, refl, zero, suc, ◌<◌, ◌≤◌, ◌^◌, List, [], ◌∷◌, length, get_or, slice_get, map, Some, None, IsTrue, sym, ◌∙◌, ap, arith}
 use Rattle.std.proofs.lemmas.Option.{slice_get-map}
 use Rattle.fb_schema.specs.declared.views.Step.{Step}
-use Rattle.fb_schema.specs.Live.{Live, live_of, live_in, live_rows, live_fields, required_end, required_end_of, widest, widest_of}
+use Rattle.fb_schema.specs.Live.{Live, live_of, live_in, live_rows, live_fields, widest, widest_of}
 use Rattle.fb_schema.specs.Rows.{Rows, Object, entry_at, is_table, is_some_table}
 use Rattle.fb_schema.specs.Steps.{step_of, are_plain, is_plain}
 use Rattle.fb_schema.proofs.Kept.{kept_fewer}
@@ -24,16 +24,6 @@ read_steps rows (o ∷ os) (suc n) y e = read_steps rows os n y e
 pub steps_read : (rows : Rows) (lists : List (List Step)) (n : ℕ) (y : List Step) → lists ≡ map (λ o. map step_of (live_in rows (Some o))) rows.objects → slice_get lists n ≡ Some y → y ≡ map step_of (live_fields rows n)
 unfolding live_fields
 steps_read rows lists n y e at = read_steps rows rows.objects n y (ap (λ ls. slice_get ls n) (sym e) ∙ at)
-
-read_end : (rows : Rows) (objects : List Object) (n e : ℕ) → IsTrue (is_some_table (slice_get objects n)) → e ≡ get_or (map (λ o. required_end_of (live_in rows (Some o))) objects) n e → e ≡ required_end_of (live_in rows (slice_get objects n))
-read_end rows [] n e t h = absurd cc
-read_end rows (o ∷ os) zero e t h = h
-read_end rows (o ∷ os) (suc n) e t h = read_end rows os n e t h
-
--- how many live fields the index tells up to the last required one
-pub end_read : (rows : Rows) (ends : List ℕ) (n e : ℕ) → ends ≡ map (λ o. required_end_of (live_in rows (Some o))) rows.objects → IsTrue (is_table rows n) → e ≡ get_or ends n e → e ≡ required_end rows n
-unfolding live_fields
-end_read rows ends n e h t at = read_end rows rows.objects n e t (at ∙ ap (λ xs. get_or xs n e) h)
 
 read_plain : (rows : Rows) (objects : List Object) (n : ℕ) (x : Bool) → IsTrue (is_some_table (slice_get objects n)) → x ≡ get_or (map (λ o. are_plain (live_in rows (Some o))) objects) n x → x ≡ are_plain (live_in rows (slice_get objects n))
 read_plain rows [] n x t h = absurd cc

@@ -9,7 +9,7 @@ use Rattle.fb_schema.specs.declared.index.LiveIndex.{LiveIndex}
 use Rattle.fb_schema.specs.declared.index.MemberIndex.{MemberIndex}
 use Rattle.fb_schema.specs.Flat.{part}
 use Rattle.fb_schema.specs.FlatLists.{lists_of}
-use Rattle.fb_schema.specs.Live.{Live, live_of_view, live_in, required_end_of, widest_of}
+use Rattle.fb_schema.specs.Live.{Live, live_of_view, live_in, widest_of}
 use Rattle.fb_schema.specs.Matched.{AreMatched}
 use Rattle.fb_schema.specs.Steps.{step_of, are_plain}
 use Rattle.fb_schema.specs.Sorting.{IsOrderOf, name_cmp, member_cmp, member_key}
@@ -25,13 +25,12 @@ pub record AreNextRequired (fields : List Live) (places : List ℕ) : Type 0 whe
   pub long : length places ≡ length fields
   pub at : (i : ℕ) → i < length fields → slice_index_or places i 0 ≡ i + position_or_len (λ (f : Live). f.required) (drop i fields)
 
--- the live fields of these objects among the rows, each list with the order of its names, its steps, the end of what
--- is required, whether it is plain and the places of what is required, and the longest
+-- the live fields of these objects among the rows, each list with the order of its names, its steps, whether it is
+-- plain and the places of what is required, and the longest
 pub record IsLiveIndex {A : Type 0} (rows : Rows) (objects : List Object) (index : LiveIndex A) : Type 0 where
   pub live : map (map live_of_view) (lists_of index.fields) ≡ map (λ o. live_in rows (Some o)) objects
   pub names : AreMatched (λ fields order. IsOrderOf name_cmp (map view_name fields) order) (lists_of index.fields) (lists_of index.names)
   pub steps : lists_of index.steps ≡ map (λ o. map step_of (live_in rows (Some o))) objects
-  pub required : index.required.items ≡ map (λ o. required_end_of (live_in rows (Some o))) objects
   pub plain : index.plain.items ≡ map (λ o. are_plain (live_in rows (Some o))) objects
   pub next_required : AreMatched (λ o places. AreNextRequired (live_in rows (Some o)) places) objects (lists_of index.next_required)
   pub widest : index.widest ≡ widest_of objects

@@ -1,5 +1,5 @@
 -- The live fields of a table in rising slot, with what a reader of buffers needs.
-use Rattle.std.specs.Prelude.{◌≡◌, ◌<◌, ◌≤◌, slice_index_or, ℕ, ◌+◌, ◌*◌, ◌-◌, ◌/◌, ℤ, Bool, not, ◌||◌, nat_le, nat_lt, ◌==◌, if◌then◌else◌, List, [], ◌∷◌, filter, length, drop, max, position, slice_get, Option, Some, None, IsSome, option_map}
+use Rattle.std.specs.Prelude.{◌≡◌, ◌<◌, ◌≤◌, slice_index_or, ℕ, ◌+◌, ◌*◌, ◌-◌, ◌/◌, ℤ, Bool, not, nat_le, ◌==◌, if◌then◌else◌, List, [], ◌∷◌, filter, length, drop, max, position, slice_get, Option, Some, None, IsSome, option_map}
 use Rattle.std.specs.List.{filter_map}
 use Rattle.std.specs.Str.{bytes_eq}
 use Rattle.fb_schema.specs.declared.kinds.Kind.{Kind}
@@ -76,15 +76,6 @@ live_in rows (Some o) = filter_map (live_of rows (live_rows o)) (live_rows o)
 -- the live fields of table n in rising slot; none where n is no table
 unfoldable pub live_fields : Rows → ℕ → List Live
 live_fields rows n = live_in rows (slice_get rows.objects n)
-
--- how many of these fields there are up to and with the last required one, 0 where none is
-abbrev pub required_end_of : List Live → ℕ
-required_end_of [] = 0
-required_end_of (f ∷ fs) = if f.required || nat_lt 0 (required_end_of fs) then 1 + required_end_of fs else 0
-
--- the same of the live fields of table n
-abbrev pub required_end : Rows → ℕ → ℕ
-required_end rows n = required_end_of (live_fields rows n)
 
 -- the place of the next required one of these fields, at this place or behind it; none where no such field is required
 abbrev pub next_required_of : List Live → ℕ → Option ℕ

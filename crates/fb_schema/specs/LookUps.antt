@@ -4,7 +4,7 @@ use Rattle.fb_schema.specs.declared.kinds.Scalar.TheVariants.{UType, Bool as AsB
 use Rattle.fb_schema.specs.declared.kinds.Kind.{Kind}
 use Rattle.fb_schema.specs.declared.kinds.Kind.TheVariants.{Scalar, Text, Struct, Table, Union, Scalars, Texts, Structs, Tables, Unions}
 use Rattle.fb_schema.specs.Rows.{Field, Rows}
-use Rattle.fb_schema.specs.Live.{Live, live_fields, required_end, next_required, widest, field_named}
+use Rattle.fb_schema.specs.Live.{Live, live_fields, next_required, widest, field_named}
 use Rattle.fb_schema.specs.Members.{member_of, member_named, member_name}
 use Rattle.fb_schema.specs.Builders.{type_of_one, type_of_vector, plain_field, plain_table, struct_of, plain_member, union_of, enum_of_values}
 use Rattle.fb_schema.specs.Examples.{type_byte, type_bytes, text, object, objects, union, unions, unused, with_objects}
@@ -111,8 +111,6 @@ pub record KindFields : Type 0 where
       ∷ [])
   pub of_a_struct : live_fields of_kinds 1 ≡ []
   pub of_no_object : live_fields of_kinds 3 ≡ []
-  pub past_the_required : required_end of_kinds 0 ≡ 2
-  pub none_required : required_end of_kinds 2 ≡ 0
   pub required_before : next_required of_kinds 0 0 ≡ Some 1
   pub required_here : next_required of_kinds 0 1 ≡ Some 1
   pub required_no_more : next_required of_kinds 0 2 ≡ None

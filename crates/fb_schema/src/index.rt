@@ -4,15 +4,13 @@ use crate::lists::Lists;
 use crate::views::{FieldView, Step, Target};
 use std::alloc::Allocator;
 
-/// The live fields of each object in rising slot, the order of their names, their steps, how many there are up to and
-/// with the last required one, whether none of them leads to a table, at each the place of the next required one, and
-/// the length of the longest list.
+/// The live fields of each object in rising slot, the order of their names, their steps, whether none of them leads to a
+/// table, at each the place of the next required one, and the length of the longest list.
 #[derive(Drop)]
 pub struct LiveIndex<'n, A: Allocator> {
     pub fields: Lists<FieldView<'n>, A>,
     pub names: Lists<(&'n [u8], u32), A>,
     pub steps: Lists<Step, A>,
-    pub required: Vec<u32, A>,
     pub plain: Vec<bool, A>,
     pub next_required: Lists<u32, A>,
     pub widest: u32,

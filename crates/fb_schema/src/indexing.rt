@@ -8,7 +8,7 @@ ghost use Rattle.fb_schema.specs.Rows.{member_of_row};
 ghost use Rattle.fb_schema.specs.Index.{kept_members, view_name, AreNextRequired, IsLiveIndex, IsMemberIndex};
 ghost use Rattle.fb_schema.specs.Kinds.{kind_of};
 ghost use Rattle.fb_schema.specs.Demands.{IsLegal};
-ghost use Rattle.fb_schema.specs.Live.{live_of_view, required_end_of};
+ghost use Rattle.fb_schema.specs.Live.{live_of_view};
 
 use crate::flat::RowLists;
 use crate::index::{LiveIndex, MemberIndex};
@@ -21,20 +21,6 @@ use crate::steps::{are_plain, field_steps};
 use crate::targets::enum_targets;
 use crate::views::FieldView;
 use std::alloc::{AllocError, Allocator};
-
-/// How many fields there are up to and with the last required one, 0 where none is.
-fn required_end(fields: &[FieldView]) -> u32
-    requires { length fields.now < 2 ^ 31 }
-    ensures { result ≡ required_end_of (map live_of_view fields.now) }
-{
-    let mut end = 0;
-    for (p, field) in fields.iter().enumerate() {
-        if field.required {
-            end = p as u32 + 1;
-        }
-    }
-    end
-}
 
 /// At each field the place of the next required one, at its place or behind it; how many fields there are where none
 /// is.
@@ -93,7 +79,6 @@ impl<'n, A: Allocator + Copy> LiveIndex<'n, A> {
         self.fields.push(&fields)?;
         self.names.push(&names)?;
         self.steps.push(&steps)?;
-        self.required.push(required_end(&fields))?;
         self.plain.push(are_plain(&fields))?;
         let next = next_required(alloc, &fields)?;
         self.next_required.push(&next)?;
@@ -138,7 +123,6 @@ pub fn live_index<'n, A: Allocator + Copy>(
         fields: Lists::with_capacity(alloc, tables, fields)?,
         names: Lists::with_capacity(alloc, tables, fields)?,
         steps: Lists::with_capacity(alloc, tables, fields)?,
-        required: Vec::with_capacity(alloc, tables)?,
         plain: Vec::with_capacity(alloc, tables)?,
         next_required: Lists::with_capacity(alloc, tables, fields)?,
         widest: 0,

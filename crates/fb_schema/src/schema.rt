@@ -7,7 +7,7 @@ ghost use Rattle.std.specs.Str.{bytes_eq};
 ghost use Rattle.fb_schema.specs.declared.rows.FieldRow.{FieldRow};
 ghost use Rattle.fb_schema.specs.Rows.{AreFew, rows_of, is_table, is_union, table_named, field_of, member_of_row};
 ghost use Rattle.fb_schema.specs.Heads.{head_of, head_of_view};
-ghost use Rattle.fb_schema.specs.Live.{live_fields, live_of_view, field_named, required_end, next_required, widest};
+ghost use Rattle.fb_schema.specs.Live.{live_fields, live_of_view, field_named, next_required, widest};
 ghost use Rattle.fb_schema.specs.Members.{member_of, member_named, member_name};
 ghost use Rattle.fb_schema.specs.Demands.{IsLegal, Refuses};
 ghost use Rattle.fb_schema.specs.Parts.{part_at, part_named, parts_of};
@@ -215,15 +215,6 @@ impl<'n, A: Allocator + Copy> Schema<'n, A> {
         ensures { slice_get (live_fields self.now n) i ≡ Some (live_of_view result) }
     {
         self.fields_of(n)[i as usize]
-    }
-
-    /// How many live fields a table has up to and with the last required one, 0 where none is: those behind it may be
-    /// absent.
-    pub fn required_end(&self, n: u32) -> u32
-        requires { IsTrue (is_table self.now n) }
-        ensures { result ≡ required_end self.now n }
-    {
-        self.live.required[n as usize]
     }
 
     /// Whether no live field of a table leads to a table, or to more than one string.

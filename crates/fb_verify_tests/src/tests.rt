@@ -3,4 +3,5 @@ mod limits;
 mod question;
 mod reasons;
 mod schemas;
+mod sweep;
 mod trees;

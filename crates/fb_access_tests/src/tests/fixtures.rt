@@ -13,20 +13,19 @@ use std::test::Fail;
 pub const MONSTERS: &str = "M table: hp@4 short default=100, name@6 string";
 
 /// `table A { v: int; } struct W { x: long; } union U { A = 1, W = 2, T: string = 3 } table R { u: U; }
-/// table Q { us: [U]; } table L { ws: [W]; tables: [A]; }`
+/// table Q { us: [U]; }`
 ///
 /// The default of `u_type` is 1.
 pub const UNIONS: &str =
     "A table: v@4 int; W struct 8/8: x@0 long; R table: u_type@4 utype default=1, u@6 union#0; \
-    Q table: us_type@4 [utype], us@6 [union]#0; L table: ws@4 [obj]#1, tables@6 [obj]#0; \
+    Q table: us_type@4 [utype], us@6 [union]#0; \
     U union: A=1 obj#0, W=2 obj#1, T=3 string";
 
-/// By the rows of which schema a buffer is read, and how it is verified before.
+/// By the rows of which schema a bare buffer is read, and how it is verified before.
 #[derive(Clone, Copy)]
 pub struct Reading<'n> {
     pub rows: &'n str,
     pub root: u32,
-    pub start: Start,
     pub alignment: bool,
 }
 
@@ -35,7 +34,6 @@ pub fn bare(rows: &str, root: u32) -> Reading<'_> {
     Reading {
         rows,
         root,
-        start: Start::Bare,
         alignment: true,
     }
 }
@@ -59,7 +57,7 @@ fn verified_as<'b, 's, 'n>(
         meter,
         schema,
         reading.root,
-        reading.start,
+        Start::Bare,
         Ident::Any,
         Limits::published(),
         checks,

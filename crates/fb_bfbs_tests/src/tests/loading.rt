@@ -1,10 +1,11 @@
-//! Schema files that are loaded, and why others are not.
+//! Schema files that are loaded, and why others are not. What is copied out of them is listed from outside
+//! (`tests/test_schema_files.py`).
 
 use super::fixtures::SAMPLES;
 use case_text::buffer::bytes_of;
 use case_text::columns;
-use fb_bfbs::{LoadFault, Loaded, load};
-use fb_schema::{Code, FieldView, Kind, Scalar, Schema, SchemaFault};
+use fb_bfbs::{LoadFault, load};
+use fb_schema::{Code, SchemaFault};
 use fb_verify::{Fault, Limits, Reason};
 use std::alloc::Global;
 use std::process::Abort;
@@ -15,113 +16,34 @@ fn file(alloc: Global, text: &str) -> Result<Vec<u8>, Fail> {
     bytes_of(alloc, &SAMPLES, text)
 }
 
-/// Asserts that the root is this one.
-fn has_root(rt: &impl Abort, loaded: &Loaded, want: Option<u32>) {
-    assert_eq!(rt; loaded.root, want);
-}
-
-/// Asserts that an object of this name has this number.
-fn is_named(rt: &impl Abort, schema: &Schema, name: &[u8], want: u32) {
-    assert_eq!(rt; schema.object_named(name), Some(want));
-}
-
-fn has_kind(rt: &impl Abort, field: &FieldView, want: Kind) {
-    assert_eq!(rt; field.kind, want);
-}
-
-/// The live fields of the table `M`.
-fn fields_of_m(rt: &impl Abort, schema: &Schema) {
-    is_named(rt, schema, b"M", 0);
-    assert!(rt; schema.is_table(0));
-    let fields = schema.fields_of(0);
-    assert!(rt; fields.len() == 2);
-    let (hp, name) = (&fields[0], &fields[1]);
-    assert!(rt; hp.name == b"hp".as_slice());
-    assert!(rt; hp.slot == 4 && hp.default == 100);
-    has_kind(rt, hp, Kind::Scalar(Scalar::Short));
-    assert!(rt; name.name == b"name".as_slice());
-    assert!(rt; name.slot == 6 && !name.required);
-    has_kind(rt, name, Kind::Text);
-}
-
-#[test]
-fn a_table_with_a_default_is_loaded(rt: HostRuntime) -> Result<(), Fail> {
-    let bytes = file(rt.alloc(), "FILE")?;
-    let loaded = load(rt.alloc(), &bytes, Limits::published())?;
-    has_root(&rt, &loaded, Some(0));
-    assert!(rt; loaded.ident.is_none());
-    assert!(rt; loaded.schema.object_count() == 1);
-    fields_of_m(&rt, &loaded.schema);
+/// Asserts that a file is loaded, with this root, this identifier and so many objects.
+fn is_loaded(
+    rt: &impl Abort,
+    alloc: Global,
+    text: &str,
+    want: (Option<u32>, Option<&[u8]>, u32),
+) -> Result<(), Fail> {
+    let bytes = file(alloc, text)?;
+    let loaded = load(alloc, &bytes, Limits::published())?;
+    let told = (loaded.root, loaded.ident, loaded.schema.object_count());
+    assert_eq!(rt; told, want, "{text}");
     Ok(())
 }
 
-// The numbers of the objects and of the union in `OF_FLATC`.
-const A: u32 = 0;
-
-const Q: u32 = 1;
-
-const W: u32 = 2;
-
-const U: u32 = 1;
-
-/// The objects of `OF_FLATC`.
-fn objects_of_flatc(rt: &impl Abort, schema: &Schema) {
-    is_named(rt, schema, b"A", A);
-    is_named(rt, schema, b"Q", Q);
-    is_named(rt, schema, b"W", W);
-    assert!(rt; schema.is_table(A) && schema.is_table(Q) && !schema.is_table(W));
-    assert!(rt; schema.object_count() == 3);
-    let shape = schema.object(W);
-    assert!(rt; shape.bytesize == 8 && shape.minalign == 8);
+#[test]
+fn a_schema_file_may_have_no_identifier(rt: HostRuntime) -> Result<(), Fail> {
+    is_loaded(&rt, rt.alloc(), "FILE", (Some(0), None, 1))
 }
 
-/// The live fields of `Q` in `OF_FLATC`: us_type, us, e, n and o; d is deprecated.
-fn fields_of_flatc(rt: &impl Abort, schema: &Schema) {
-    assert!(rt; schema.is_table(Q));
-    let fields = schema.fields_of(Q);
-    assert!(rt; fields.len() == 5);
-    let (us, e) = (&fields[1], &fields[2]);
-    assert!(rt; us.name == b"us".as_slice());
-    assert_eq!(rt; us.companion, Some(0));
-    has_kind(rt, us, Kind::Unions(U));
-    has_kind(rt, e, Kind::Scalar(Scalar::UByte));
-    assert!(rt; e.default == 2);
-    assert!(rt; fields[3].required && fields[4].optional);
+#[test]
+fn a_schema_may_have_no_root(rt: HostRuntime) -> Result<(), Fail> {
+    is_loaded(&rt, rt.alloc(), "FILE 20=0000", (None, None, 1))
 }
 
 #[test]
 fn what_flatc_writes_is_loaded(rt: HostRuntime) -> Result<(), Fail> {
-    let bytes = file(rt.alloc(), "OF_FLATC")?;
-    let loaded = load(rt.alloc(), &bytes, Limits::published())?;
-    has_root(&rt, &loaded, Some(Q));
-    assert_eq!(rt; loaded.ident, Some(b"TEST".as_slice()));
-    objects_of_flatc(&rt, &loaded.schema);
-    fields_of_flatc(&rt, &loaded.schema);
-    Ok(())
-}
-
-/// Asserts what the member of this value of `U` is.
-fn member_is(rt: &impl Abort, schema: &Schema, value: u8, want: Option<Kind>) {
-    assert!(rt; schema.is_union(U));
-    assert_eq!(rt; schema.member_of(U, value), want);
-}
-
-/// The members of `U` in `OF_FLATC`.
-fn members_of_flatc(rt: &impl Abort, schema: &Schema) {
-    assert!(rt; schema.is_union(U));
-    assert_eq!(rt; schema.member_named(U, b"A"), Some(1));
-    member_is(rt, schema, 1, Some(Kind::Table(A)));
-    member_is(rt, schema, 2, Some(Kind::Struct(W)));
-    member_is(rt, schema, 3, Some(Kind::Text));
-    member_is(rt, schema, 4, None);
-}
-
-#[test]
-fn a_union_of_flatc_has_its_members(rt: HostRuntime) -> Result<(), Fail> {
-    let bytes = file(rt.alloc(), "OF_FLATC")?;
-    let loaded = load(rt.alloc(), &bytes, Limits::published())?;
-    members_of_flatc(&rt, &loaded.schema);
-    Ok(())
+    let want = (Some(1), Some(b"TEST".as_slice()), 3);
+    is_loaded(&rt, rt.alloc(), "OF_FLATC", want)
 }
 
 /// What each file shows, the file, and why it isn't loaded.
@@ -154,15 +76,6 @@ fn a_file_that_is_no_schema_is_refused(rt: HostRuntime) -> Result<(), Fail> {
         let (_shows, text, want) = columns::three(line)?;
         is_refused(&rt, rt.alloc(), text, Limits::published(), want)?;
     }
-    Ok(())
-}
-
-#[test]
-fn a_schema_may_have_no_root(rt: HostRuntime) -> Result<(), Fail> {
-    let bytes = file(rt.alloc(), "FILE 20=0000")?;
-    let loaded = load(rt.alloc(), &bytes, Limits::published())?;
-    has_root(&rt, &loaded, None);
-    assert!(rt; loaded.schema.object_count() == 1);
     Ok(())
 }
 

@@ -31,11 +31,6 @@ fn answer(rt: &impl Abort, alloc: Global, before: &str, rows: &str) -> Result<St
     Ok(told(alloc, rows.built(alloc)?.err())?)
 }
 
-/// Asserts that what is told is what is wanted.
-pub fn same(rt: &impl Abort, told: &str, want: &str, shows: &str) {
-    assert_eq!(rt; told, want, "{shows}");
-}
-
 /// Asserts that these rows behind others are answered so.
 fn answered_so(
     rt: &impl Abort,

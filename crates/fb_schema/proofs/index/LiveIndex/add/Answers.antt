@@ -2,7 +2,7 @@ use Rattle.std.proofs.Common.{◌<◌, slice_index_or, ◌≡◌, slice_get, [],
 use Rattle.std.proofs.lemmas.List.{length-map}
 use Rattle.fb_schema.specs.Index.{view_name, AreNextRequired}
 use Rattle.fb_schema.specs.FlatLists.{lists_of}
-use Rattle.fb_schema.specs.Live.{required_end_of, live_in, live_of_view, by_slot, is_live, AreKinded, AreSpaced}
+use Rattle.fb_schema.specs.Live.{live_in, live_of_view, by_slot, is_live, AreKinded, AreSpaced}
 use Rattle.fb_schema.specs.Sorting.{IsOrderOf, name_cmp}
 use Rattle.fb_schema.specs.FlatRows.{borrowed_rows, object_in}
 use Rattle.fb_schema.specs.Rows.{Object}
@@ -64,13 +64,11 @@ returns g c =
       steps = value_step (λ o. map step_of (live_in rows (Some o))) (map told objects) i o (lists_of c.args.self.now.steps) _ c.deref-5.result.now low is c.requires.before.steps c.in_ok-push-3.ensures
           (c.deref-5.ensures.value ∙ c.in_ok-steps.ensures ∙ mapped_twice step_of live_of_view c.deref-2.result.now
           ∙ ap (λ fields. map step_of (map live_of_view fields)) c.deref-2.ensures.value ∙ ap (map step_of) c.in_ok-fields.ensures.value);
-      required = value_step (λ o. required_end_of (live_in rows (Some o))) (map told objects) i o c.args.self.now.required.items _ c.required_end.result low is c.requires.before.required c.in_ok-push-4.ensures.items
-          (c.required_end.ensures ∙ ap (λ fields. required_end_of (map live_of_view fields)) c.deref-6.ensures.value ∙ ap required_end_of c.in_ok-fields.ensures.value);
-      plain = value_step (λ o. are_plain (live_in rows (Some o))) (map told objects) i o c.args.self.now.plain.items _ c.are_plain.result low is c.requires.before.plain c.in_ok-push-5.ensures.items
-          (c.are_plain.ensures ∙ ap (λ fields. are_plain (map live_of_view fields)) c.deref-7.ensures.value ∙ ap are_plain c.in_ok-fields.ensures.value);
-      next_required = matched_step (λ o places. AreNextRequired (live_in rows (Some o)) places) (map told objects) i o (lists_of c.args.self.now.next_required) _ c.deref-9.result.now low is c.requires.before.next_required c.in_ok-push-6.ensures
-          (subst (λ fields. AreNextRequired fields c.deref-9.result.now) (ap (map live_of_view) c.deref-8.ensures.value ∙ c.in_ok-fields.ensures.value)
-          (subst (AreNextRequired (map live_of_view c.deref-8.result.now)) (sym c.deref-9.ensures.value) c.in_ok-next.ensures));
+      plain = value_step (λ o. are_plain (live_in rows (Some o))) (map told objects) i o c.args.self.now.plain.items _ c.are_plain.result low is c.requires.before.plain c.in_ok-push-4.ensures.items
+          (c.are_plain.ensures ∙ ap (λ fields. are_plain (map live_of_view fields)) c.deref-6.ensures.value ∙ ap are_plain c.in_ok-fields.ensures.value);
+      next_required = matched_step (λ o places. AreNextRequired (live_in rows (Some o)) places) (map told objects) i o (lists_of c.args.self.now.next_required) _ c.deref-8.result.now low is c.requires.before.next_required c.in_ok-push-5.ensures
+          (subst (λ fields. AreNextRequired fields c.deref-8.result.now) (ap (map live_of_view) c.deref-7.ensures.value ∙ c.in_ok-fields.ensures.value)
+          (subst (AreNextRequired (map live_of_view c.deref-7.result.now)) (sym c.deref-8.ensures.value) c.in_ok-next.ensures));
       widest = widest_step (map told objects) i o c.args.self.now.widest c.max-self.result c.len.result low is c.requires.before.widest c.max-self.ensures
           (c.len.ensures ∙ c.in_ok-fields.fields.ok.0 ∙ sym (length-map views live_of_view) ∙ ap length c.in_ok-fields.ensures.value
           ∙ live_long rows c.requires.legal i o (object_there g (goal.at.returns g c).Start));

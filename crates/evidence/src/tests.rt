@@ -1,3 +1,0 @@
-mod damage;
-mod engine;
-mod fixtures;
