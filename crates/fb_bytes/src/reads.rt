@@ -11,8 +11,8 @@ use std::mem;
 ///
 /// A contract sees it as its bytes, all reads that were made of them, and how many of these were made before the count
 /// in 64 bits began. There is no way to the bytes but by a counted read: nothing seals them. The count goes with the
-/// bytes, so that whichever loan takes them back has every read that was made of them. [`crate::Loan::lend`] makes
-/// one, and [`crate::Loan::settle`] takes it back.
+/// bytes, so that whichever loan takes them back has every read that was made of them, and those that were counted
+/// again without being made. [`crate::Loan::lend`] makes one, and [`crate::Loan::settle`] takes it back.
 #[derive(Drop)]
 pub struct Reads<'a> {
     window: Window<'a>,
@@ -81,6 +81,15 @@ impl<'a> Reads<'a> {
         ensures all { self.now.count < 2 ^ 57 → result ≡ self.now.count }
     {
         self.count
+    }
+
+    /// Counts `n` reads more of bytes that were read before, and reads none.
+    #[inline(always)]
+    pub fn count_again(&mut self, n: u64)
+        requires few { self.old.count + n < self.old.base + 2 ^ 63 }
+        ensures { self.new ≡ record self.old { count = self.old.count + n } }
+    {
+        self.count += n;
     }
 
     /// How many bytes there are.

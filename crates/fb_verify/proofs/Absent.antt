@@ -1,12 +1,17 @@
 -- Fields behind the end of a table's vtable, of which none is required: they are passed without a read.
-use Rattle.std.proofs.Common.{◌≡◌, ℕ, zero, suc, ◌+◌, ◌-◌, ◌<◌, ◌≤◌, inl, inr, Bool, true, false, nat_le, nat_lt, List, [], length, get_or, drop, option_map, cond, length-drop, refl, sym, ◌∙◌, ap, subst, arith, Some, None}
+use Rattle.std.proofs.Common.{◌≡◌, ℕ, zero, suc, ◌+◌, ◌-◌, ◌<◌, ◌≤◌, inl, inr, Bool, true, false, nat_le, nat_lt, List, [], ◌∷◌, map, length, get_or, drop, option_map, cond, length-drop, refl, sym, ◌∙◌, ap, subst, arith, Some, None}
 use Rattle.std.specs.Prelude.{slice_get}
-use Rattle.std.specs.List.{position_or_len}
 use Rattle.std.proofs.Math.Nat.{eq-or-lt_of_le}
 use Rattle.std.proofs.lemmas.Bool.Decides.{nat_tests}
 use Rattle.std.proofs.lemmas.Option.{slice_get-get_or, slice_get_within, get_or_from_slice_get}
 use Rattle.std.proofs.lemmas.List.{get_or-drop}
-use Rattle.std.proofs.lemmas.List.Sums.{passes_at_first, fails_before_first}
+use Rattle.std.proofs.lemmas.List.Sums.{passes_at_first, fails_before_first, sum_by-le}
+use Rattle.std.specs.List.{All, position_or_len}
+use Rattle.std.proofs.lemmas.List.Elements.{All-cons, All-nil}
+use Rattle.fb_schema.specs.declared.views.Step.{Step}
+use Rattle.fb_schema.specs.Steps.{step_of}
+use Rattle.fb_verify.specs.Plain.{plain_failure, plain_reads, StepsHold, steps_reads}
+use Rattle.fb_verify.proofs.Plains.{step_at}
 use Rattle.fb_schema.specs.Rows.{Rows}
 use Rattle.fb_schema.specs.Live.{Live, live_fields, next_required, next_required_of}
 use Rattle.fb_verify.specs.declared.checks.Checks.{Checks}
@@ -84,6 +89,21 @@ module _ (c : Checks) (b : List ℕ) (S : Rows) (t : ℕ) (f : Live) (past : has
   unfolding entries field_place
   absent_leads = rw past refl
 
+  step_holds : plain_failure c b t (step_of f) ≡ None
+  unfolding plain_failure field_place
+  step_holds = rw (past, free) refl
+
+  step_free : plain_reads b t (step_of f) ≡ 0
+  unfolding plain_reads field_place
+  step_free = rw past refl
+
+-- what holds of each item from a place on holds of those that are left
+all_from : {X : Type 0} (P : X → Type 0) (xs : List X) (i : ℕ) → ((j : ℕ) (x : X) → i ≤ j → slice_get xs j ≡ Some x → P x) → All P (drop i xs)
+all_from P [] zero h = All-nil P
+all_from P [] (suc i) h = All-nil P
+all_from P (x ∷ xs) zero h = All-cons P x xs (h 0 x (omega arith) refl) (all_from P xs zero (λ j y low e. h (suc j) y (omega arith) e))
+all_from P (x ∷ xs) (suc i) h = all_from P xs i (λ j y low e. h (suc j) y (omega (arith, low)) e)
+
 no_slot : (size o : ℕ) → size < o + 2 → nat_le (o + 2) size ≡ false
 no_slot size o h = grind (arith, nat_tests)
 
@@ -132,3 +152,19 @@ module _ {c : Checks} {b : List ℕ} {S : Rows} {L : Bounds} {s : Origin} {below
     required_next place some =
         let found = some_found fields top.next place some field in
         absent_to place found.0 (λ i f low lt at. some_free fields top.next place some i f low lt at) found.1
+
+    -- so that the steps of these hold, and cost nothing
+    module _ (none : next_required S (top.table).object top.next ≡ None) where
+      abbrev rest : List Step
+      rest = drop top.next (map step_of fields)
+
+      bare : (P : Step → Type 0) → ((f : Live) → has_slot b (top.table).at f.slot ≡ false → f.required ≡ false → P (step_of f)) → All P rest
+      bare P h' = all_from P (map step_of fields) top.next (λ j s low e.
+          let x = step_at fields j s e in
+          subst P (sym x.2) (h' x.0 (no_slot_from j x.0 low x.1) (none_free fields top.next none j x.0 low x.1)))
+
+      pub rest_holds : StepsHold c b (top.table).at rest
+      rest_holds = bare (λ s'. plain_failure c b (top.table).at s' ≡ None) (λ f past' free. step_holds c b S (top.table).at f past' free)
+
+      pub rest_free : steps_reads b (top.table).at rest ≡ 0
+      rest_free = omega (arith, sum_by-le (plain_reads b (top.table).at) 0 rest (bare (λ s'. plain_reads b (top.table).at s' ≤ 0) (λ f past' free. omega (arith, step_free c b S (top.table).at f past' free))))

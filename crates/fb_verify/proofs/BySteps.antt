@@ -1,16 +1,19 @@
 -- A walk goes from field to field of its top by their steps.
-use Rattle.std.proofs.Common.{◌≡◌, ℕ, zero, suc, ◌+◌, ◌*◌, ◌≤◌, List, [], ◌∷◌, true, drop, refl, sym, ◌∙◌, ap, arith, Some, None, Ok, Err}
+use Rattle.std.proofs.Common.{◌≡◌, ℕ, zero, suc, ◌+◌, ◌*◌, ◌≤◌, List, [], ◌∷◌, true, map, drop, refl, sym, ◌∙◌, ap, arith, Some, None, Ok, Err}
 use Rattle.std.specs.Prelude.{slice_get}
 use Rattle.fb_bytes.specs.Word.{Lent}
 use Rattle.fb_schema.specs.declared.views.Step.{Step}
+use Rattle.fb_schema.specs.Live.{live_fields}
+use Rattle.fb_schema.specs.Steps.{step_of}
 use Rattle.fb_verify.specs.declared.fault.Reason.{Reason}
 use Rattle.fb_verify.specs.declared.plain.Came.{Came}
 use Rattle.fb_verify.specs.declared.plain.Came.TheVariants.{Past, ToEnd, ToField, ToFault}
 use Rattle.fb_verify.specs.declared.scratch.Frame.{Frame}
 use Rattle.fb_verify.specs.declared.stack.Walk.{Walk}
-use Rattle.fb_verify.specs.Plain.{StepTested, StepBehind, StepLeads, Stepped}
+use Rattle.fb_verify.specs.declared.table.Table.{Table}
+use Rattle.fb_verify.specs.Plain.{StepsHold, steps_reads, StepTested, StepBehind, StepLeads, Stepped}
 use Rattle.fb_verify.specs.Stack.{Waiting}
-use Rattle.fb_verify.specs.PassesOn.{IsBetween, HasRoom, EndsBehind, PassesOn, CameTo, fields_left}
+use Rattle.fb_verify.specs.PassesOn.{StepsPass, IsBetween, HasRoom, EndsBehind, PassesOn, CameTo, fields_left}
 use Rattle.fb_verify.proofs.Budgets.{fewer_reads}
 use Rattle.fb_verify.proofs.Frames.{slot_few}
 use Rattle.fb_verify.proofs.Plains.{plain_few}
@@ -29,6 +32,15 @@ others_left [] (suc i) x more e = absurd cc
 others_left (y ∷ xs) zero x more e = cc
 others_left (y ∷ xs) (suc i) x more e = others_left xs i x more e
 
+-- What is known of the steps that are left, in a list.
+pub steps_pass : {w : Walk} {start m : Lent} {first : Frame} (table : Table) (steps rest : List Step) (next : ℕ) → table ≡ first.table → steps ≡ drop first.next (map step_of (live_fields w.schema.now table.object)) → rest ≡ drop next (map step_of (live_fields w.schema.now table.object))
+    → (StepsHold w.checks start.bytes (first.table).at rest → StepsHold w.checks start.bytes (first.table).at steps) → m.count + steps_reads start.bytes (first.table).at rest ≡ start.count + steps_reads start.bytes (first.table).at steps
+    → StepsPass w start m first (record first { next = next })
+steps_pass {w} {start} {m} {first} table steps rest next same all left hold counted = record {
+  hold = rw (left ∙ ap (λ (t : Table). drop next (map step_of (live_fields w.schema.now t.object))) same, all ∙ ap (λ (t : Table). drop first.next (map step_of (live_fields w.schema.now t.object))) same) at hold;
+  counted = rw (left ∙ ap (λ (t : Table). drop next (map step_of (live_fields w.schema.now t.object))) same, all ∙ ap (λ (t : Table). drop first.next (map step_of (live_fields w.schema.now t.object))) same) at counted;
+}
+
 -- The walk came from the start and the first frame so far by steps.
 pub record GoesBy (w : Walk) (start m : Lent) (first : Frame) (next : ℕ) : Type 0 where
   pub forth : first.next ≤ next
@@ -36,6 +48,7 @@ pub record GoesBy (w : Walk) (start m : Lent) (first : Frame) (next : ℕ) : Typ
   pub bytes : m.bytes ≡ start.bytes
   pub paid : m.count + 6 * fields_left w.schema.now (record first { next = next }) ≤ start.count + 6 * fields_left w.schema.now first
   pub room : HasRoom w start first
+  pub steps : StepsPass w start m first (record first { next = next })
 
 module _ {w : Walk} {start m : Lent} {under : Waiting} {first : Frame} {next : ℕ} {steps : List Step} {step : Step}
     (g : GoesBy w start m first next) (h : AtStep w m under (record first { next = next }) steps step) (new : Lent) (at : ℕ) where
@@ -81,6 +94,8 @@ module _ {w : Walk} {start m : Lent} {under : Waiting} {first : Frame} {next : �
         within = omega (arith, within);
         all = λ e. absurd cc;
         ends = λ e. absurd cc;
+        hold = λ e. absurd cc;
+        counted = λ e. absurd cc;
         paid = omega (arith, g.paid, few, count);
         grows = omega (arith, g.grows, count);
         bytes = bytes ∙ g.bytes;
@@ -96,6 +111,7 @@ module _ {w : Walk} {start m : Lent} {under : Waiting} {first : Frame} {next : �
         between = record { walking = h.walking; rests = h.rests };
         forth = g.forth;
         within = omega (arith, within);
+        steps = g.steps;
         behind = λ f here. rw (same_slot h f here) at e.past;
         paid = g.paid;
         grows = g.grows;

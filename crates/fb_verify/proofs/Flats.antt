@@ -1,5 +1,5 @@
 -- A table whose fields lead to no table is passed whole.
-use Rattle.std.proofs.Common.{◌≡◌, ℕ, ◌+◌, ◌*◌, ◌^◌, ◌<◌, ◌≤◌, IsTrue, nat_lt, Bool, true, false, List, length, option_map, refl, sym, ◌∙◌, ap, arith, Option, Some, None, Result, Ok, Err}
+use Rattle.std.proofs.Common.{◌≡◌, ℕ, ◌+◌, ◌*◌, ◌^◌, ◌<◌, ◌≤◌, IsTrue, nat_lt, Bool, true, false, List, map, length, option_map, refl, sym, ◌∙◌, ap, arith, Option, Some, None, Result, Ok, Err}
 use Rattle.std.proofs.lemmas.Bool.Decides.{nat_tests}
 use Rattle.std.proofs.lemmas.Option.{slice_get-map}
 use Rattle.fb_bytes.specs.Word.{Lent}
@@ -20,18 +20,19 @@ use Rattle.fb_verify.specs.declared.stack.Walk.{Walk}
 use Rattle.fb_verify.specs.Bounds.{Bounds}
 use Rattle.fb_verify.specs.Places.{target}
 use Rattle.fb_verify.specs.Fields.{Entry, to_table}
-use Rattle.fb_verify.specs.Flat.{PassesFlat}
+use Rattle.fb_verify.specs.Flat.{in_head, PassesFlat}
 use Rattle.fb_verify.specs.Cost.{head_reads, lead_reads}
 use Rattle.fb_verify.specs.Order.{after, ◌▷◌, head_failure, lead_failure, element_failure}
 use Rattle.fb_verify.specs.OffsetRows.{first_word, past_first}
 use Rattle.fb_verify.specs.PassesOn.{PassesOn}
-use Rattle.fb_verify.specs.Plain.{tested_by}
+use Rattle.fb_verify.specs.Plain.{tested_by, StepsHold, steps_reads}
 use Rattle.fb_verify.specs.Stack.{opened, Waiting, Origin, IsUnderWay, IsAtTable, work}
 use Rattle.fb_verify.specs.Stops.{budget_failure, reads_failure}
 use Rattle.fb_verify.specs.Told.{told, stopped}
 use Rattle.fb_verify.specs.Way.{Way}
 use Rattle.fb_verify.proofs.Chains.{after_none}
 use Rattle.fb_verify.proofs.LeafRows.{all_lead, all_free, all_told}
+use Rattle.fb_verify.proofs.Passing.{told_grows}
 use Rattle.fb_verify.proofs.Plains.{never_leads}
 use Rattle.fb_verify.proofs.Refusals.{told_after, told_first}
 use Rattle.fb_verify.proofs.Walking.{table_closed}
@@ -71,6 +72,24 @@ module _ (w : Walk) (m mid new : Lent) (under : Waiting) (table : Table) (next a
     within = λ _. e.next;
     field = λ _ s is. rw (sym bytes) (e.err s (record { refusal = is.refusal; object = is.object; field = is.field }));
   }
+
+-- its fields were passed: they hold, for so many reads
+pub flat_kept : {w : Walk} {m new : Lent} {under : Waiting} {table : Table} {next at : ℕ} → is_plain w.schema.now table.object ≡ true → (more : Bool) → PassesOn w m new under (opened table) (record (opened table) { next = next }) at (Ok more)
+    → StepsHold w.checks m.bytes table.at (map step_of (live_fields w.schema.now table.object)) × (new.count ≡ m.count + steps_reads m.bytes table.at (map step_of (live_fields w.schema.now table.object))) × (new.count ≤ m.count + 6 * length (live_fields w.schema.now table.object))
+flat_kept plain true e = absurd (never_on plain refl e)
+flat_kept plain false e = (e.hold refl, e.counted refl, omega (arith, e.ends refl))
+
+-- its head fails
+pub head_flat : {w : Walk} {m new : Lent} {under : Waiting} {k t at : ℕ} {reason : Reason} → tested_by at new.count (Some reason) ≡ after m.count (head_failure w.checks m.bytes t) → new.bytes ≡ m.bytes → PassesFlat w m new under k t in_head at (Some reason)
+head_flat {w} {m} {new} {under} {k} {t} told bytes = record {
+  walking = λ x. absurd cc;
+  paid = λ x. absurd cc;
+  grows = told_grows (head_failure w.checks m.bytes t) told;
+  bytes = bytes;
+  head = λ _. told;
+  within = λ no. absurd (no refl);
+  field = λ no. absurd (no refl);
+}
 
 -- The first word that is left of a row of words to tables of one object.
 module _ (w : Walk) {b : List ℕ} {start : Origin} {below : List Frame} {top : Frame} {r : ℕ} (h : IsUnderWay w.checks b w.schema.now w.limits start below top w.tables w.deepest r)

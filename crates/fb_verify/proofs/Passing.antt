@@ -29,10 +29,10 @@ use Rattle.fb_verify.specs.Fields.{to_string, entries, row}
 use Rattle.fb_verify.specs.Cost.{slot_reads, own_reads}
 use Rattle.fb_verify.specs.Order.{Failure, after, ◌▷◌, lead_failure, own_failure, element_failure}
 use Rattle.fb_verify.specs.OffsetRows.{words_of, first_word, past_first}
-use Rattle.fb_verify.specs.Plain.{tested_by, plain_failure, plain_reads}
+use Rattle.fb_verify.specs.Plain.{tested_by, plain_failure, plain_reads, StepsHold, steps_reads}
 use Rattle.fb_verify.specs.Stack.{blank, frame_link, link_behind, own_link, Origin, Waiting, IsUnderWay, IsWalking, IsAtField, IsStopped, Standing, StopsIn}
 use Rattle.fb_verify.specs.StopsAt.{IsStopAt}
-use Rattle.fb_verify.specs.PassesOn.{fields_left, PassesOn}
+use Rattle.fb_verify.specs.PassesOn.{fields_left, steps_left, PassesOn}
 use Rattle.fb_verify.specs.Stops.{reads_failure, lead_reads_failure}
 use Rattle.fb_verify.specs.Links.{element_of, type_of, field_link}
 use Rattle.fb_verify.specs.Told.{refused, stopped}
@@ -306,6 +306,8 @@ stops_here same next grows bytes err = record {
   all = tt;
   ends = tt;
   paid = tt;
+  hold = tt;
+  counted = tt;
   grows = grows;
   bytes = bytes;
   next = next;
@@ -315,8 +317,8 @@ stops_here same next grows bytes err = record {
 -- no field was left that may lead to a table
 pub none_left : {w : Walk} {m new : Lent} {under : Waiting} {top past : Frame} {place : ℕ} → past ≡ record top { next = past.next } → IsWalking w new under.start under.frames past → top.next ≤ past.next
     → past.next ≤ length (live_fields w.schema.now (top.table).object) → length (live_fields w.schema.now (top.table).object) ≤ past.next → new.count + 6 * fields_left w.schema.now past ≤ m.count + 6 * fields_left w.schema.now top
-    → m.count ≤ new.count → new.bytes ≡ m.bytes → PassesOn w m new under top past place (Ok false)
-none_left same walking forth within all ends grows bytes = record {
+    → StepsHold w.checks m.bytes (top.table).at (steps_left w.schema.now top) → new.count ≡ m.count + steps_reads m.bytes (top.table).at (steps_left w.schema.now top) → m.count ≤ new.count → new.bytes ≡ m.bytes → PassesOn w m new under top past place (Ok false)
+none_left same walking forth within all ends hold counted grows bytes = record {
   walking = λ _. walking;
   field = λ e. absurd cc;
   open-field = λ e. absurd cc;
@@ -326,6 +328,8 @@ none_left same walking forth within all ends grows bytes = record {
   all = λ _. all;
   ends = λ _. ends;
   paid = omega arith;
+  hold = λ _. hold;
+  counted = λ _. counted;
   grows = grows;
   bytes = bytes;
   next = tt;

@@ -31,6 +31,7 @@ pub mod Stack
 pub mod StopsAt
 pub mod PassesOn
 pub mod Flat
+pub mod Alike
 pub mod Turns
 pub mod Told
 pub mod Walked

@@ -1,6 +1,6 @@
 -- The offset words that are left of a field, as a walk keeps them.
 use Rattle.std.specs.Prelude.{◌≡◌, ℕ, ◌+◌, ◌-◌, ◌*◌, ◌<◌, ◌≤◌, ◌^◌, List, [], length, Some, Bool, true, false, IsTrue}
-use Rattle.fb_bytes.specs.Word.{word}
+use Rattle.fb_bytes.specs.Word.{Lent, word}
 use Rattle.fb_schema.specs.declared.kinds.Kind.{Kind}
 use Rattle.fb_schema.specs.declared.kinds.Kind.TheVariants.{Union, Unions}
 use Rattle.fb_schema.specs.declared.views.Goal.{Goal}
@@ -12,11 +12,14 @@ use Rattle.fb_schema.specs.Members.{member_of}
 use Rattle.fb_schema.specs.Live.{Live}
 use Rattle.fb_schema.specs.Targets.{target_at, target_of}
 use Rattle.fb_schema.specs.Served.{IsServed, KindHolds}
+use Rattle.fb_verify.specs.declared.checks.Checks.{Checks}
+use Rattle.fb_verify.specs.declared.table.Table.{Table}
 use Rattle.fb_verify.specs.declared.offset_row.Referent.{Referent}
 use Rattle.fb_verify.specs.declared.offset_row.Referent.TheVariants.{Text as AText, Table as ATable, Struct as AStruct, Nothing}
 use Rattle.fb_verify.specs.declared.offset_row.Leads.{Leads}
 use Rattle.fb_verify.specs.declared.offset_row.Leads.TheVariants.{All, ByType}
 use Rattle.fb_verify.specs.declared.offset_row.Row.{Row}
+use Rattle.fb_verify.specs.Told.{IsPlaced}
 use Rattle.fb_verify.specs.Places.{target}
 use Rattle.fb_verify.specs.Cost.{reads_if_present}
 use Rattle.fb_verify.specs.Fields.{type_place, union_type, Lead, to_table, to_struct, to_string, to_nothing, lead_of, Entry, entry, row, union_row}
@@ -163,3 +166,10 @@ pub record IsAskable (b : List ℕ) (S : Rows) (t : ℕ) (f : Live) (kind : Kind
   pub served : IsServed S
   pub holds : KindHolds S f kind
   pub typed : IsTyped b t f.slot kind
+
+-- a field of this table may be tested that stands at p, and its words put in place of this row
+pub record MayPut (c : Checks) (m : Lent) (S : Rows) (table : Table) (f : Live) (kind : Kind) (p : ℕ) (old : Row) : Type 0 where
+  pub askable : IsAskable m.bytes S table.at f kind
+  pub few : m.count < m.base + 2 ^ 58
+  pub placed : IsPlaced c m.bytes table.at table.head p
+  pub rests : old.left ≡ 0

@@ -1,9 +1,10 @@
 -- What it takes to pass fields of the top of a walk, and what that leaves.
-use Rattle.std.specs.Prelude.{◌≡◌, ℕ, ◌+◌, ◌-◌, ◌*◌, ◌^◌, ◌<◌, ◌≤◌, Bool, true, false, Result, IfOk, IfErr, length, slice_get, Some, Ok, Err}
+use Rattle.std.specs.Prelude.{◌≡◌, ℕ, ◌+◌, ◌-◌, ◌*◌, ◌^◌, ◌<◌, ◌≤◌, Bool, true, false, Result, IfOk, IfErr, List, length, map, drop, slice_get, Some, Ok, Err}
 use Rattle.fb_schema.specs.Rows.{Rows}
 use Rattle.fb_schema.specs.declared.views.Act.TheVariants.{Other}
 use Rattle.fb_schema.specs.Live.{Live, live_fields}
-use Rattle.fb_schema.specs.Steps.{act_of}
+use Rattle.fb_schema.specs.Steps.{act_of, step_of}
+use Rattle.fb_schema.specs.declared.views.Step.{Step}
 use Rattle.fb_bytes.specs.Word.{Lent}
 use Rattle.fb_verify.specs.declared.fault.Reason.{Reason}
 use Rattle.fb_verify.specs.declared.plain.Came.{Came}
@@ -13,6 +14,7 @@ use Rattle.fb_verify.specs.declared.site.Stop.{Stop}
 use Rattle.fb_verify.specs.declared.stack.Walk.{Walk}
 use Rattle.fb_verify.specs.Bounds.{AreAllowed}
 use Rattle.fb_verify.specs.Places.{vtable_size}
+use Rattle.fb_verify.specs.Plain.{StepsHold, steps_reads}
 use Rattle.fb_verify.specs.Told.{stopped}
 use Rattle.fb_verify.specs.Stack.{Waiting, frame_work, IsWalking, IsAtField, IsStopped}
 use Rattle.fb_verify.specs.StopsAt.{IsStopAt}
@@ -39,6 +41,15 @@ pub record HasPassed (w : Walk) (m new : Lent) (under : Waiting) (top past : Fra
   pub grows : m.count ≤ new.count
   pub bytes : new.bytes ≡ m.bytes
 
+-- the steps of the frame's fields that aren't passed
+abbrev pub steps_left : Rows → Frame → List Step
+steps_left S fr = drop fr.next (map step_of (live_fields S (fr.table).object))
+
+-- what tells of the fields that aren't passed of this frame tells of those of that one, and of their reads
+pub record StepsPass (w : Walk) (m new : Lent) (top past : Frame) : Type 0 where
+  pub hold : StepsHold w.checks m.bytes (top.table).at (steps_left w.schema.now past) → StepsHold w.checks m.bytes (top.table).at (steps_left w.schema.now top)
+  pub counted : new.count + steps_reads m.bytes (top.table).at (steps_left w.schema.now past) ≡ m.count + steps_reads m.bytes (top.table).at (steps_left w.schema.now top)
+
 -- fields of the top that lead to no table were passed, for six reads each at most, until one was there that may lead to
 -- a table, at this place, or none was left (more tells which); or the next one fails, at this place, for this reason
 pub record PassesOn (w : Walk) (m new : Lent) (under : Waiting) (top past : Frame) (place : ℕ) (result : Result Bool Reason) : Type 0 where
@@ -51,6 +62,8 @@ pub record PassesOn (w : Walk) (m new : Lent) (under : Waiting) (top past : Fram
   pub all : IfOk result (λ more. more ≡ false → length (live_fields w.schema.now (top.table).object) ≤ past.next)
   pub ends : IfOk result (λ more. more ≡ false → new.count + 6 * fields_left w.schema.now past ≤ m.count + 6 * fields_left w.schema.now top)
   pub paid : IfOk result (λ _. new.count + 6 * fields_left w.schema.now past ≤ m.count + 6 * fields_left w.schema.now top + 1)
+  pub hold : IfOk result (λ more. more ≡ false → StepsHold w.checks m.bytes (top.table).at (steps_left w.schema.now top))
+  pub counted : IfOk result (λ more. more ≡ false → new.count ≡ m.count + steps_reads m.bytes (top.table).at (steps_left w.schema.now top))
   pub grows : m.count ≤ new.count
   pub bytes : new.bytes ≡ m.bytes
   pub next : IfErr result (λ _. past.next < length (live_fields w.schema.now (top.table).object))
@@ -78,6 +91,7 @@ pub record EndsBehind (w : Walk) (m new : Lent) (under : Waiting) (top past : Fr
   pub between : IsBetween w new under past
   pub forth : top.next ≤ past.next
   pub within : past.next ≤ length (live_fields w.schema.now (top.table).object)
+  pub steps : StepsPass w m new top past
   pub behind : (f : Live) → slice_get (live_fields w.schema.now (top.table).object) past.next ≡ Some f → vtable_size new.bytes (top.table).at < f.slot + 2
   pub paid : new.count + 6 * fields_left w.schema.now past ≤ m.count + 6 * fields_left w.schema.now top
   pub grows : m.count ≤ new.count

@@ -1,5 +1,6 @@
 -- Fields, by their steps, up to one that may lead to a table.
-use Rattle.std.specs.Prelude.{◌≡◌, ◌⊎◌, ℕ, ◌+◌, ◌^◌, ◌<◌, ◌==◌, if◌then◌else◌, IsTrue, List, not, Option, Some, None}
+use Rattle.std.specs.Prelude.{◌≡◌, ◌⊎◌, ℕ, ◌+◌, ◌^◌, ◌<◌, ◌%◌, ◌==◌, ◌&&◌, nat_le, if◌then◌else◌, IsTrue, List, not, Option, Some, None, Result, IfOk, IfErr}
+use Rattle.std.specs.List.{All, sum_by}
 use Rattle.fb_bytes.specs.Word.{Lent}
 use Rattle.fb_schema.specs.declared.views.Act.{Act}
 use Rattle.fb_schema.specs.declared.views.Act.TheVariants.{One, Two, Four, Eight, Inline, Text, Vector, Other}
@@ -9,8 +10,8 @@ use Rattle.fb_verify.specs.declared.plain.Came.{Came}
 use Rattle.fb_verify.specs.declared.plain.Came.TheVariants.{Past, ToEnd, ToField, ToFault}
 use Rattle.fb_verify.specs.declared.checks.Checks.{Checks}
 use Rattle.fb_verify.specs.declared.fault.Reason.{Reason}
-use Rattle.fb_verify.specs.declared.fault.Reason.TheVariants.{MissingRequired}
-use Rattle.fb_verify.specs.Places.{field_place, has_slot, vtable_size}
+use Rattle.fb_verify.specs.declared.fault.Reason.TheVariants.{OutOfBuffer, Misaligned, BadVtable, MissingRequired}
+use Rattle.fb_verify.specs.Places.{fits, is_aligned, has_vtable, vtable, field_place, has_slot, vtable_size}
 use Rattle.fb_verify.specs.Fields.{to_string}
 use Rattle.fb_verify.specs.Cost.{slot_reads}
 use Rattle.fb_verify.specs.Order.{Failure, check, after, ◌▷◌, table_failure, inline_field_failure, vector_field_failure, lead_failure}
@@ -25,6 +26,35 @@ tested_by at reads (Some reason) = Some (record { reason = reason; at = at; read
 pub record IsTested (m new : Lent) (at : ℕ) (chain : Option Failure) (n : ℕ) (result : Option Reason) : Type 0 where
   pub told : tested_by at new.count result ≡ after m.count chain
   pub counted : result ≡ None → new.count ≡ m.count + n
+  pub bytes : new.bytes ≡ m.bytes
+  pub base : new.base ≡ m.base
+
+-- the first word of the table at t, which leads to its vtable
+unfoldable pub first_word_failure : Checks → List ℕ → ℕ → Option Failure
+first_word_failure c b t =
+    check (fits b t 4) OutOfBuffer t 0
+    (check (is_aligned c t 4) Misaligned t 0
+    (check (has_vtable b t) OutOfBuffer t 1 None))
+
+-- and then the vtable
+unfoldable pub vtable_failure : Checks → List ℕ → ℕ → Option Failure
+vtable_failure c b t =
+    check (fits b (vtable b t) 2) OutOfBuffer t 0
+    (check (is_aligned c (vtable b t) 2) Misaligned (vtable b t) 0
+    (check ((vtable_size b t % 2 == 0) && nat_le 4 (vtable_size b t)) BadVtable (vtable b t) 1
+    (check (fits b (vtable b t) (vtable_size b t)) OutOfBuffer (vtable b t) 1 None)))
+
+-- its size, and the inline size where that is checked
+abbrev pub vtable_reads : Checks → ℕ
+vtable_reads c = if c.inline_size then 2 else 1
+
+-- the first word of the table at t was tested and read: the vtable stands there, or a test fails
+pub record FindsVtable (c : Checks) (m new : Lent) (t : ℕ) (result : Result ℕ Reason) : Type 0 where
+  pub holds : IfOk result (λ v. first_word_failure c m.bytes t ≡ None)
+  pub value : IfOk result (λ v. v ≡ vtable m.bytes t)
+  pub near : IfOk result (λ v. v < 2 ^ 32)
+  pub counted : IfOk result (λ v. new.count ≡ m.count + 1)
+  pub told : IfErr result (λ reason. tested_by t new.count (Some reason) ≡ after m.count (first_word_failure c m.bytes t))
   pub bytes : new.bytes ≡ m.bytes
   pub base : new.base ≡ m.base
 
@@ -75,6 +105,14 @@ plain_failure c b t s = after (slot_reads b t s.slot) (step_failure_at c b t s (
 
 unfoldable pub plain_reads : List ℕ → ℕ → Step → ℕ
 plain_reads b t s = slot_reads b t s.slot + step_reads_at s (field_place b t s.slot)
+
+-- the fields of these steps hold in the table at t
+abbrev pub StepsHold : Checks → List ℕ → ℕ → List Step → Type 0
+StepsHold c b t steps = All (λ s. plain_failure c b t s ≡ None) steps
+
+-- and their reads
+abbrev pub steps_reads : List ℕ → ℕ → List Step → ℕ
+steps_reads b t steps = sum_by (plain_reads b t) steps
 
 -- sizes that are alignments too, and have a bit of their own
 abbrev pub IsSmall : ℕ → Type 0

@@ -10,6 +10,7 @@ use Rattle.fb_schema.specs.Live.{Live, live_fields, widest}
 use Rattle.fb_schema.specs.Steps.{act_of, is_plain, step_of}
 use Rattle.fb_verify.specs.declared.table.Child.{Child}
 use Rattle.fb_verify.specs.declared.fault.Reason.{Reason}
+use Rattle.fb_verify.specs.declared.offset_row.Row.{Row}
 use Rattle.fb_verify.specs.declared.offset_row.Leads.TheVariants.{All}
 use Rattle.fb_verify.specs.declared.offset_row.Referent.TheVariants.{Table as ATable}
 use Rattle.fb_verify.specs.declared.scratch.Frame.{Frame}
@@ -47,6 +48,12 @@ pub record IsInRow (w : Walk) (m : Lent) (under : Waiting) (waiting : ℕ) (top 
   pub walking : IsWalking w m under.start under.frames top
   pub more : 0 < (top.row).left
   pub short : IsShort m.count
+
+-- in this row, of words that each lead to a table of this object
+pub record IsAtWord (w : Walk) (m : Lent) (under : Waiting) (waiting : ℕ) (top : Frame) (row : Row) (object : ℕ) : Type 0 where
+  pub in-row : IsInRow w m under waiting (record top { row = row })
+  pub leads : row.leads ≡ All (ATable object)
+  pub table : IsTrue (is_table w.schema.now object)
 
 -- where the depth allows a table below
 pub record IsAtMembers (w : Walk) (m : Lent) (under : Waiting) (waiting : ℕ) (top : Frame) : Type 0 where

@@ -5,6 +5,9 @@ ghost use Rattle.std.specs.Prelude.{◌≡◌, ◌+◌, ◌-◌, ◌*◌, ◌^�
 ghost use Rattle.fb_schema.specs.Rows.{is_table};
 ghost use Rattle.fb_schema.specs.Live.{live_fields};
 ghost use Rattle.fb_schema.specs.Steps.{is_plain, step_of};
+ghost use Rattle.std.specs.List.{All};
+ghost use Rattle.fb_verify.specs.Alike.{IsSmallStep, IsKept};
+ghost use Rattle.fb_verify.specs.declared.passed.Sizes.TheVariants.{Small};
 ghost use Rattle.fb_verify.specs.Cost.{head_reads};
 ghost use Rattle.fb_verify.specs.Flat.{in_head, frame_at, Going, MayPass, PassesFlat};
 ghost use Rattle.fb_verify.specs.Order.{head_failure};
@@ -22,7 +25,8 @@ use crate::checks::{Checks, PUBLISHED};
 use crate::fault::Reason;
 use crate::leaves::{first_referent, stop_at_word, targets_of};
 use crate::offset_row::{Leads, Referent, Row};
-use crate::plain::{Came, pass_step, test_head, test_lead};
+use crate::passed::{Passed, Sizes, sizes_of};
+use crate::plain::{Came, pass_step, test_first_word, test_head, test_lead, test_vtable};
 use crate::scratch::Frame;
 use crate::site::LastLink;
 use crate::stack::{Turn, Walk};
@@ -168,6 +172,69 @@ fn pass_flat(
     }
 }
 
+/// The same of the next table of a row. Where the one that was passed before tells that it holds, no more than its
+/// first word is read, and its other reads are counted again.
+#[inline(always)]
+fn pass_alike(
+    walk: &Walk<'_, '_>,
+    above: &Frame,
+    row: Row,
+    reads: &mut Reads<'_>,
+    checks: Checks,
+    object: u32,
+    steps: &[Step],
+    schema: &Schema<'_>,
+    passed: &mut Passed,
+    next: &mut u32,
+    at: &mut u64,
+) -> Option<Reason>
+    ghost going: { Going }
+    requires may { MayPass going reads.old checks schema.now object at.old steps.now }
+    requires kept { IsKept checks reads.old.bytes steps.now passed.old }
+    ensures passes { PassesFlat going.walk reads.old reads.new going.under object at.old next.new at.new result }
+    ensures kept { result ≡ None → IsKept checks reads.old.bytes steps.now passed.new }
+{
+    // Of the walk, and of the frame above with what is left of its row, a caller's ghost is made.
+    let _walk = walk;
+    let _above = above;
+    let _row = row;
+    let vtable = match test_first_word(reads, checks, *at) {
+        Ok(vtable) => vtable,
+        Err(reason) => {
+            *next = IN_HEAD;
+            return Some(reason);
+        }
+    };
+    if passed.tells_of(*at, vtable) {
+        reads.count_again(passed.reads);
+        return None;
+    }
+    let begun = reads.count();
+    let mut head = NO_HEAD;
+    let mut tested = *at;
+    let failed = test_vtable(reads, checks, vtable, &mut tested, &mut head);
+    if let Some(reason) = failed {
+        *next = IN_HEAD;
+        *at = tested;
+        return Some(reason);
+    }
+    let table = Table {
+        head,
+        object,
+        at: *at,
+    };
+    *next = 0;
+    match pass_steps(reads, checks, schema, table, steps, next, at) {
+        Ok(_) => {
+            passed.at = table.at;
+            passed.vtable = vtable;
+            passed.reads = reads.count() - begun;
+            None
+        }
+        Err(reason) => Some(reason),
+    }
+}
+
 /// Opens the frame of the table at a position, of this object, if its head holds; else the position is moved to where
 /// that fails.
 #[inline(always)]
@@ -214,17 +281,19 @@ impl<'s, 'n> Walk<'s, 'n> {
     /// lead to no table: as many as the limits allow to open, so that the budget allows whatever each may cost. So many
     /// frames wait below the top.
     #[inline(always)]
-    pub fn pass_flats(
+    fn pass_flats(
         &mut self,
         checks: Checks,
         reads: &mut Reads<'_>,
         waiting: u32,
         object: u32,
+        sizes: Sizes,
         top: &mut Frame,
     ) -> Turn
         ghost under: { Waiting }
         requires flats { IsAtFlats self.old reads.old under waiting top.old object }
         requires same { checks ≡ self.old.checks }
+        requires small { sizes ≡ Small → All IsSmallStep (map step_of (live_fields self.old.schema.now object)) }
         ensures { (child : Child) → RowTurned self.old self.new reads.old reads.new under top.old top.new child result }
     {
         let schema = self.schema;
@@ -232,6 +301,7 @@ impl<'s, 'n> Walk<'s, 'n> {
         let cost = 8 + 6 * steps.len() as u64;
         let room = self.limits.short();
         let mut row = top.row;
+        let mut passed = Passed::none(sizes);
         while self.has_flat(reads, row, cost, room) {
             let mut at = row.place;
             let failed = test_lead(reads, checks, &mut at, Referent::Table(object));
@@ -242,8 +312,18 @@ impl<'s, 'n> Walk<'s, 'n> {
             row.advance_all();
             self.count_table(waiting + 2);
             let mut next = 0;
-            let came = pass_flat(
-                self, top, row, reads, checks, object, steps, schema, &mut next, &mut at,
+            let came = pass_alike(
+                self,
+                top,
+                row,
+                reads,
+                checks,
+                object,
+                steps,
+                schema,
+                &mut passed,
+                &mut next,
+                &mut at,
             );
             if let Some(reason) = came {
                 top.row = row;
@@ -273,7 +353,28 @@ impl<'s, 'n> Walk<'s, 'n> {
         ensures { (child : Child) → RowTurned self.old self.new reads.old reads.new under top.old top.new child result }
     {
         let mut own = reads.lend();
-        let turn = self.pass_flats(PUBLISHED, &mut own, waiting, object, top);
+        let turn = self.pass_flats(PUBLISHED, &mut own, waiting, object, Sizes::Any, top);
+        reads.settle(own);
+        turn
+    }
+
+    /// The same where each of the tables has small fields alone.
+    #[inline(never)]
+    fn pass_small_by_published(
+        &mut self,
+        reads: &mut Reads<'_>,
+        waiting: u32,
+        object: u32,
+        top: &mut Frame,
+    ) -> Turn
+        ghost under: { Waiting }
+        requires flats { IsAtFlats self.old reads.old under waiting top.old object }
+        requires same { record { alignment = true; inline_size = false } ≡ self.old.checks }
+        requires small { All IsSmallStep (map step_of (live_fields self.old.schema.now object)) }
+        ensures { (child : Child) → RowTurned self.old self.new reads.old reads.new under top.old top.new child result }
+    {
+        let mut own = reads.lend();
+        let turn = self.pass_flats(PUBLISHED, &mut own, waiting, object, Sizes::Small, top);
         reads.settle(own);
         turn
     }
@@ -292,7 +393,7 @@ impl<'s, 'n> Walk<'s, 'n> {
         requires { IsAtFlats self.old reads.old under waiting top.old object }
         ensures { (child : Child) → RowTurned self.old self.new reads.old reads.new under top.old top.new child result }
     {
-        self.pass_flats(self.checks, reads, waiting, object, top)
+        self.pass_flats(self.checks, reads, waiting, object, Sizes::Any, top)
     }
 
     /// The same, by the function for the walk's checks.
@@ -311,6 +412,9 @@ impl<'s, 'n> Walk<'s, 'n> {
         ensures { (child : Child) → RowTurned self.old self.new reads.old reads.new under top.old top.new child result }
     {
         if checks.are_published() {
+            if top.row.left > 1 && matches!(sizes_of(self.schema.steps_of(object)), Sizes::Small) {
+                return self.pass_small_by_published(reads, waiting, object, top);
+            }
             return self.pass_flats_by_published(reads, waiting, object, top);
         }
         self.pass_flats_by_checks(reads, waiting, object, top)

@@ -8,7 +8,7 @@ ghost use Rattle.fb_schema.specs.Live.{live_of_view};
 ghost use Rattle.fb_schema.specs.Served.{IsServed};
 ghost use Rattle.fb_verify.specs.Cost.{present_reads, reads_at, slot_reads};
 ghost use Rattle.fb_verify.specs.Fields.{entries_of, entries_at, type_place, type_count, types_begin, union_entry};
-ghost use Rattle.fb_verify.specs.OffsetRows.{IsAskable, LeavesRow, PutsWords, type_of_slot, type_reads, types_reads, TypeFits, TypesFit};
+ghost use Rattle.fb_verify.specs.OffsetRows.{MayPut, LeavesRow, PutsWords, type_of_slot, type_reads, types_reads, TypeFits, TypesFit};
 ghost use Rattle.fb_verify.specs.Order.{after, table_failure, failure_at, present_failure, union_field_failure, unions_field_failure, vector_field_failure};
 ghost use Rattle.fb_verify.specs.Places.{field_place, has_slot, target};
 ghost use Rattle.fb_verify.specs.Plain.{tested_by, IsTested, place_from};
@@ -226,12 +226,9 @@ impl Walk<'_, '_> {
         at: &mut u64,
         row: &mut Row,
     ) -> Option<Reason>
-        requires askable { IsAskable reads.old.bytes self.now.schema.now table.at (live_of_view field.now) (field.now).kind }
+        requires may { MayPut self.now.checks reads.old self.now.schema.now table (live_of_view field.now) (field.now).kind at.old row.old }
         requires far { IsFar (field.now).kind }
         requires present { IsTrue (has_slot reads.old.bytes table.at (field.now).slot) }
-        requires few { reads.old.count < reads.old.base + 2 ^ 58 }
-        requires placed { IsPlaced self.now.checks reads.old.bytes table.at table.head at.old }
-        requires rests { row.old.left ≡ 0 }
         requires same { checks ≡ self.now.checks }
         ensures tested { IsTested reads.old reads.new at.new (present_failure self.now.checks reads.old.bytes self.now.schema.now table.at (live_of_view field.now) at.old (field.now).kind) (present_reads reads.old.bytes table.at (field.now).slot (field.now).kind) result }
         ensures leads { result ≡ None → LeavesRow reads.old.bytes self.now.schema.now (entries_of reads.old.bytes self.now.schema.now table.at (live_of_view field.now) at.old (field.now).kind) row.old row.new (nat_lt 0 row.new.left) }
@@ -268,12 +265,9 @@ impl Walk<'_, '_> {
         at: &mut u64,
         row: &mut Row,
     ) -> Option<Reason>
-        requires askable { IsAskable reads.old.bytes self.now.schema.now table.at (live_of_view field.now) (field.now).kind }
+        requires may { MayPut self.now.checks reads.old self.now.schema.now table (live_of_view field.now) (field.now).kind at.old row.old }
         requires far { IsFar (field.now).kind }
         requires present { IsTrue (has_slot reads.old.bytes table.at (field.now).slot) }
-        requires few { reads.old.count < reads.old.base + 2 ^ 58 }
-        requires placed { IsPlaced self.now.checks reads.old.bytes table.at table.head at.old }
-        requires rests { row.old.left ≡ 0 }
         ensures tested { IsTested reads.old reads.new at.new (present_failure self.now.checks reads.old.bytes self.now.schema.now table.at (live_of_view field.now) at.old (field.now).kind) (present_reads reads.old.bytes table.at (field.now).slot (field.now).kind) result }
         ensures leads { result ≡ None → LeavesRow reads.old.bytes self.now.schema.now (entries_of reads.old.bytes self.now.schema.now table.at (live_of_view field.now) at.old (field.now).kind) row.old row.new (nat_lt 0 row.new.left) }
     {
@@ -290,11 +284,8 @@ impl Walk<'_, '_> {
         at: &mut u64,
         row: &mut Row,
     ) -> Option<Reason>
-        requires askable { IsAskable reads.old.bytes self.now.schema.now table.at (live_of_view field.now) (field.now).kind }
+        requires may { MayPut self.now.checks reads.old self.now.schema.now table (live_of_view field.now) (field.now).kind at.old row.old }
         requires present { IsTrue (has_slot reads.old.bytes table.at (field.now).slot) }
-        requires few { reads.old.count < reads.old.base + 2 ^ 58 }
-        requires placed { IsPlaced self.now.checks reads.old.bytes table.at table.head at.old }
-        requires rests { row.old.left ≡ 0 }
         ensures tested { IsTested reads.old reads.new at.new (present_failure self.now.checks reads.old.bytes self.now.schema.now table.at (live_of_view field.now) at.old (field.now).kind) (present_reads reads.old.bytes table.at (field.now).slot (field.now).kind) result }
         ensures leads { result ≡ None → LeavesRow reads.old.bytes self.now.schema.now (entries_of reads.old.bytes self.now.schema.now table.at (live_of_view field.now) at.old (field.now).kind) row.old row.new (nat_lt 0 row.new.left) }
     {
@@ -326,11 +317,8 @@ impl Walk<'_, '_> {
         at: &mut u64,
         row: &mut Row,
     ) -> Option<Reason>
-        requires askable { IsAskable reads.old.bytes self.now.schema.now table.at (live_of_view field.now) (field.now).kind }
+        requires may { MayPut self.now.checks reads.old self.now.schema.now table (live_of_view field.now) (field.now).kind at.old row.old }
         requires present { IfSome (place_from table.at at.old) (λ _. IsTrue (has_slot reads.old.bytes table.at (field.now).slot)) }
-        requires few { reads.old.count < reads.old.base + 2 ^ 58 }
-        requires placed { IsPlaced self.now.checks reads.old.bytes table.at table.head at.old }
-        requires rests { row.old.left ≡ 0 }
         ensures tested { IsTested reads.old reads.new at.new (failure_at self.now.checks reads.old.bytes self.now.schema.now table.at (live_of_view field.now) (place_from table.at at.old)) (reads_at reads.old.bytes table.at (live_of_view field.now) (place_from table.at at.old)) result }
         ensures leads { result ≡ None → LeavesRow reads.old.bytes self.now.schema.now (entries_at reads.old.bytes self.now.schema.now table.at (live_of_view field.now) (place_from table.at at.old)) row.old row.new (nat_lt 0 row.new.left) }
     {

@@ -17,6 +17,7 @@ pub mod link_laws;
 mod links;
 mod most;
 mod offset_row;
+mod passed;
 mod plain;
 mod scratch;
 mod shallow;

@@ -9,7 +9,7 @@ ghost use Rattle.fb_verify.specs.Fields.{to_string};
 ghost use Rattle.fb_verify.specs.declared.offset_row.Referent.TheVariants.{Table as ATable};
 ghost use Rattle.fb_verify.specs.OffsetRows.{lead_to, IsSized};
 ghost use Rattle.fb_verify.specs.Order.{after, ◌▷◌, head_failure, table_failure, offset_failure, string_failure, vector_failure, inline_failure, inline_field_failure, vector_field_failure, lead_failure};
-ghost use Rattle.fb_verify.specs.Plain.{tested_by, IsTested, IsSmall, place_from, IsStep, HasBit, Filled, Stepped};
+ghost use Rattle.fb_verify.specs.Plain.{tested_by, vtable_failure, vtable_reads, FindsVtable, IsTested, IsSmall, place_from, IsStep, HasBit, Filled, Stepped};
 ghost use Rattle.fb_verify.specs.declared.plain.Came.TheVariants.{Past, ToFault};
 ghost use Rattle.fb_verify.specs.Told.{IsVtable, IsHead, IsPlaced};
 
@@ -20,6 +20,17 @@ use crate::site::is_aligned;
 use crate::table::{Head, Table};
 use fb_bytes::Reads;
 use fb_schema::Step;
+
+/// The bits of a step ([`Step::bit`]) that a walk asks: of a scalar or struct of 1, 2, 4 or 8 bytes.
+const SMALL: u32 = 15;
+/// Of a string.
+const TEXT: u32 = 16;
+/// Of a vector of scalars or structs.
+const VECTOR: u32 = 32;
+/// Of what may lead to a table.
+const LEADS_ON: u32 = 128;
+/// Beside it of what leads to one table.
+pub const TO_TABLE: u32 = 256;
 
 /// A test that fails for this reason. It stands apart, so that what holds is passed without a thought of it.
 #[cold]
@@ -161,9 +172,73 @@ fn vtable_at(reads: &mut Reads<'_>, at: u64) -> Option<u64>
     if place < 0 { None } else { Some(place as u64) }
 }
 
+/// Tests the first word of the table at a position, and reads where its vtable stands.
+#[inline(always)]
+#[tactic(auto, unfolding(crate::specs::Plain::first_word_failure, crate::specs::Order::inline_failure))]
+pub fn test_first_word(reads: &mut Reads<'_>, checks: Checks, at: u64) -> Result<u64, Reason>
+    requires few { reads.old.count < reads.old.base + 2 ^ 61 }
+    requires near { at < 2 ^ 33 }
+    ensures { FindsVtable checks reads.old reads.new at result }
+{
+    let word = test_inline(reads, checks, at, 4, 4);
+    if let Some(reason) = word {
+        return Err(reason);
+    }
+    match vtable_at(reads, at) {
+        Some(vtable) => Ok(vtable),
+        None => Err(Reason::OutOfBuffer),
+    }
+}
+
+/// Tests the vtable, at this place, of the table at a position, and writes the table's head. Where it fails, the
+/// position is moved to where it does.
+#[inline(always)]
+#[tactic(auto, unfolding(crate::specs::Plain::vtable_failure))]
+pub fn test_vtable(
+    reads: &mut Reads<'_>,
+    checks: Checks,
+    place: u64,
+    at: &mut u64,
+    head: &mut Head,
+) -> Option<Reason>
+    requires few { reads.old.count < reads.old.base + 2 ^ 61 }
+    requires near { place < 2 ^ 32 }
+    requires its { place ≡ vtable reads.old.bytes at.old }
+    ensures tested { IsTested reads.old reads.new at.new (vtable_failure checks reads.old.bytes at.old) (vtable_reads checks) result }
+    ensures head { result ≡ None → IsHead checks reads.old.bytes at.old head.new }
+    ensures same { result ≡ None → at.new ≡ at.old }
+{
+    if !reads.fits(place, 2) {
+        return fails(Reason::OutOfBuffer);
+    }
+    if !is_aligned(checks, place, 2) {
+        *at = place;
+        return fails(Reason::Misaligned);
+    }
+    let size = reads.u16_at(place);
+    if size % 2 != 0 || size < 4 {
+        *at = place;
+        return fails(Reason::BadVtable);
+    }
+    if !reads.fits(place, u64::from(size)) {
+        *at = place;
+        return fails(Reason::OutOfBuffer);
+    }
+    let inline = if checks.inline_size {
+        reads.u16_at(place + 2)
+    } else {
+        0
+    };
+    *head = Head {
+        vtable: place,
+        size,
+        inline,
+    };
+    None
+}
+
 /// Tests the head of the table at a position, and writes it. Where it fails, the position is moved to where it does.
 #[inline(always)]
-#[tactic(auto, unfolding(crate::specs::Order::head_failure, crate::specs::Order::inline_failure))]
 pub fn test_head(
     reads: &mut Reads<'_>,
     checks: Checks,
@@ -176,40 +251,10 @@ pub fn test_head(
     ensures head { result ≡ None → IsHead checks reads.old.bytes at.old head.new }
     ensures same { result ≡ None → at.new ≡ at.old }
 {
-    let word = test_inline(reads, checks, *at, 4, 4);
-    if word.is_some() {
-        return word;
+    match test_first_word(reads, checks, *at) {
+        Ok(vtable) => test_vtable(reads, checks, vtable, at, head),
+        Err(reason) => Some(reason),
     }
-    let Some(vtable) = vtable_at(reads, *at) else {
-        return fails(Reason::OutOfBuffer);
-    };
-    if !reads.fits(vtable, 2) {
-        return fails(Reason::OutOfBuffer);
-    }
-    if !is_aligned(checks, vtable, 2) {
-        *at = vtable;
-        return fails(Reason::Misaligned);
-    }
-    let size = reads.u16_at(vtable);
-    if size % 2 != 0 || size < 4 {
-        *at = vtable;
-        return fails(Reason::BadVtable);
-    }
-    if !reads.fits(vtable, u64::from(size)) {
-        *at = vtable;
-        return fails(Reason::OutOfBuffer);
-    }
-    let inline = if checks.inline_size {
-        reads.u16_at(vtable + 2)
-    } else {
-        0
-    };
-    *head = Head {
-        vtable,
-        size,
-        inline,
-    };
-    None
 }
 
 /// Reads where the field with this slot stands, the table's own position where it is absent.
@@ -445,18 +490,18 @@ fn pass_field(
     ensures { Filled checks reads.old reads.new table.at step.now at.old at.new result }
 {
     let bit = step.bit;
-    if bit & 15 != 0 {
+    if bit & SMALL != 0 {
         return past(test_small_field(reads, checks, table, *at, bit));
     }
-    if bit & 16 != 0 {
+    if bit & TEXT != 0 {
         return past(test_text_field(reads, checks, table, at));
     }
-    if bit & 128 != 0 {
+    if bit & LEADS_ON != 0 {
         return Came::ToField;
     }
     let size = step.size;
     let align = step.align;
-    if bit & 32 != 0 {
+    if bit & VECTOR != 0 {
         let mut many = 0;
         return past(test_vector_field(reads, checks, table, at, size, align, &mut many));
     }

@@ -11,7 +11,7 @@ ghost use Rattle.fb_verify.specs.PassesOn.{IsBetween, HasRoom, Passage, PassesOn
 ghost use Rattle.fb_verify.specs.Told.{way_at};
 ghost use Rattle.fb_verify.specs.Walked.{TableWalked, ended};
 ghost use Rattle.fb_verify.specs.Stack.{blank, Origin, Waiting, IsWalking, HaltsIn, links_left, opened};
-ghost use Rattle.fb_verify.specs.Turns.{IsShort, IsAtChild, IsAtStep, IsAtTableField, AllowsTable, IsBrim, IsInRow, HasRoomToGo, RowTurned, FieldTurned, Turned, Opened, FramesTurned, RootTurned, Walked};
+ghost use Rattle.fb_verify.specs.Turns.{IsShort, IsAtChild, IsAtStep, IsAtTableField, AllowsTable, IsAtWord, IsBrim, IsInRow, HasRoomToGo, RowTurned, FieldTurned, Turned, Opened, FramesTurned, RootTurned, Walked};
 ghost use Rattle.fb_verify.specs.declared.offset_row.Leads.TheVariants.{All};
 ghost use Rattle.fb_verify.specs.declared.offset_row.Referent.TheVariants.{Table as ATable};
 ghost use Rattle.fb_verify.specs.declared.stack.Turn.TheVariants.{Halt as Halted};
@@ -22,7 +22,7 @@ use crate::fault::Reason;
 use crate::flat::{open_frame, pass_steps};
 use crate::limits::Limits;
 use crate::offset_row::{Leads, Referent, Row};
-use crate::plain::{test_end, test_offset};
+use crate::plain::{TO_TABLE, test_end, test_offset};
 use crate::scratch::Frame;
 use crate::site::{Halt, LastLink, Refusal, Site, Stop};
 use crate::table::{Child, NO_CHILD, Table};
@@ -217,9 +217,7 @@ impl<'s, 'n> Walk<'s, 'n> {
         child: &mut Child,
     ) -> Turn
         ghost under: { Waiting }
-        requires row { IsInRow self.old reads.old under waiting (record top.old { row = row }) }
-        requires leads { row.leads ≡ All (ATable object) }
-        requires table { IsTrue (is_table self.old.schema.now object) }
+        requires word { IsAtWord self.old reads.old under waiting top.old row object }
         requires limits { AllowsTable self.old (waiting + 1) }
         requires room { AreAllowed (self.old.limits).reads (reads.old.count + 4) }
         requires short { IsShort (reads.old.count + 4) }
@@ -256,9 +254,7 @@ impl<'s, 'n> Walk<'s, 'n> {
         child: &mut Child,
     ) -> Turn
         ghost under: { Waiting }
-        requires row { IsInRow self.old reads.old under waiting (record top.old { row = row }) }
-        requires leads { row.leads ≡ All (ATable object) }
-        requires table { IsTrue (is_table self.old.schema.now object) }
+        requires word { IsAtWord self.old reads.old under waiting top.old row object }
         requires same { checks ≡ self.old.checks }
         ensures { RowTurned self.old self.new reads.old reads.new under (record top.old { row = row }) top.new child.new result }
     {
@@ -393,7 +389,7 @@ impl<'s, 'n> Walk<'s, 'n> {
         ensures { FieldTurned self.old self.new reads.old reads.new under top.old top.new child.new result }
     {
         let _schema = self.schema;
-        if step.bit & 256 != 0 {
+        if step.bit & TO_TABLE != 0 {
             return self.go_to_table(checks, reads, waiting, at, step, top, child);
         }
         self.go_far(reads, waiting, at, top, child)

@@ -1,13 +1,18 @@
-use Rattle.std.proofs.Common.{◌≡◌, ◌+◌, ◌-◌, ℕ, suc, length, map, drop, List, sym, ◌∙◌, ap, subst, arith, slice_get, Some}
+use Rattle.std.proofs.Common.{◌≡◌, ◌+◌, ◌-◌, ℕ, suc, length, map, drop, List, sym, ◌∙◌, ap, subst, arith, slice_get, Option, Some, None, refl}
 use Rattle.std.proofs.lemmas.List.{length-map, length-drop}
+use Rattle.std.proofs.lemmas.List.Elements.{All-cons}
+use Rattle.std.proofs.lemmas.List.Sums.{sum_by-cons}
+use Rattle.fb_verify.specs.declared.fault.Reason.{Reason}
 use Rattle.std.proofs.lemmas.Option.{slice_get_within}
 use Rattle.fb_schema.specs.Live.{Live, live_fields}
 use Rattle.fb_schema.specs.Steps.{step_of}
 use Rattle.fb_verify.specs.declared.table.Table.{Table}
-use Rattle.fb_verify.specs.PassesOn.{IsBetween, fields_left}
+use Rattle.fb_verify.specs.PassesOn.{StepsPass, IsBetween, fields_left}
+use Rattle.fb_verify.specs.Plain.{plain_failure, plain_reads, steps_reads}
+use Rattle.fb_verify.proofs.Chains.{after_none}
 use Rattle.fb_verify.proofs.Plains.{is_step, has_bit, is_even}
 use Rattle.fb_verify.proofs.Passing.{AtStep}
-use Rattle.fb_verify.proofs.BySteps.{first_left, others_left, GoesBy, step_by, came_to}
+use Rattle.fb_verify.proofs.BySteps.{steps_pass, first_left, others_left, GoesBy, step_by, came_to}
 use Rattle.fb_verify.proofs.flat.pass_by.Goals as goal
 use Rattle.fb_verify.proofs.flat.pass_by.Goals.{In-Some}
 
@@ -68,6 +73,7 @@ goes g c =
       bytes = i.bytes;
       paid = omega (arith, now_left g c, i.paid);
       room = c.requires.1.0;
+      steps = steps_pass c.args.table c.args.steps.now c.loop-step.rest.now (place g c) c.requires.1.1.1.0 c.requires.1.1.1.1 i.rest i.hold i.counted;
     }
 
 pub returns-in_default-pass_step : goal.returns-in_default-pass_step
@@ -85,6 +91,9 @@ loop-step-preserved g c =
     let passed = rw (c.requires.1.1.0, c.requires.1.1.1.0, c.in-Past.is) at c.pass_step.ensures in
     let on = step_by (goes g d) (here g d) c.pass_step.new.reads c.pass_step.new.at passed in
     let rest = c.in-Some.ensures.cases in
+    let b = c.args.reads.now.bytes in
+    let t = ((g.of).top.table).at in
+    let ok : plain_failure (g.of).walk.checks b t c.in-Some.step.now ≡ None = (after_none c.loop-step.reads.count (plain_failure (g.of).walk.checks b t c.in-Some.step.now)).0 (rw i.bytes at (sym passed.told)) in
     let next : place g d + 1 ≡ length (fields g d) - length c.in-Some.more.now = omega (arith, rest.1, all_left g d, ap length (its g d), i.within) in
     let up : suc (place g d) ≡ length (fields g d) - length c.in-Some.more.now = omega (arith, next) in
     record {
@@ -94,6 +103,8 @@ loop-step-preserved g c =
       within = omega (arith, rest.1, i.within);
       rest = others_left (map step_of (fields g d)) (place g d) c.in-Some.step.now c.in-Some.more.now (sym rest.0 ∙ i.rest) ∙ ap (λ n. drop n (map step_of (fields g d))) up;
       between = subst (λ n. IsBetween (g.of).walk c.pass_step.new.reads (g.of).under (record (g.of).top { next = n })) next on.0;
+      hold = λ more. i.hold (rw rest.0 (All-cons (λ s. plain_failure (g.of).walk.checks b t s ≡ None) c.in-Some.step.now c.in-Some.more.now ok more));
+      counted = omega (arith, rw i.bytes at (passed.counted (let none : ◌≡◌ {A = Option Reason} None None = refl in none)), ap (steps_reads b t) rest.0, sum_by-cons (plain_reads b t) c.in-Some.step.now c.in-Some.more.now, i.counted);
       paid = omega (arith, on.2, rest.1, i.paid);
     }
 
@@ -109,6 +120,7 @@ returns-clause-came g c =
       between = subst (λ n. IsBetween (g.of).walk c.loop-step.reads (g.of).under (record (g.of).top { next = n })) all i.between;
       forth = omega (arith, ap length same, (((c.requires.0).walking).frame).next);
       within = omega (arith, ap length same);
+      steps = subst (λ n. StepsPass (g.of).walk c.args.reads.now c.loop-step.reads (g.of).top (record (g.of).top { next = n })) all (steps_pass c.args.table c.args.steps.now c.loop-step.rest.now (length fs - length c.loop-step.rest.now) c.requires.1.1.1.0 c.requires.1.1.1.1 i.rest i.hold i.counted);
       behind = λ f here. absurd (omega (arith, ap length same, slice_get_within own _ _ here));
       paid = omega (arith, ap length same, none, i.paid);
       grows = i.grows;

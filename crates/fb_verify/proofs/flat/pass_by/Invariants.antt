@@ -2,6 +2,7 @@ use Rattle.std.proofs.Common.{◌≡◌, ◌+◌, ◌-◌, ◌*◌, ◌≤◌, l
 use Rattle.fb_schema.specs.Live.{live_fields}
 use Rattle.fb_schema.specs.Steps.{step_of}
 use Rattle.fb_verify.specs.PassesOn.{IsBetween, fields_left}
+use Rattle.fb_verify.specs.Plain.{StepsHold, steps_reads}
 use Rattle.fb_verify.proofs.flat.pass_by.Given as goal
 
 -- the walk goes on in the same table, between two fields, of which so many are left
@@ -14,6 +15,8 @@ invariant-loop-step g l =
       within : length l.rest ≤ length l.fn.steps;
       rest : l.rest ≡ drop (length (live_fields (g.of).walk.schema.now (l.fn.table).object) - length l.rest) (map step_of (live_fields (g.of).walk.schema.now (l.fn.table).object));
       between : IsBetween (g.of).walk l.reads (g.of).under (record (g.of).top { next = length (live_fields (g.of).walk.schema.now (l.fn.table).object) - length l.rest });
+      hold : StepsHold (g.of).walk.checks l.fn.reads.bytes ((g.of).top.table).at l.rest → StepsHold (g.of).walk.checks l.fn.reads.bytes ((g.of).top.table).at l.fn.steps;
+      counted : l.reads.count + steps_reads l.fn.reads.bytes ((g.of).top.table).at l.rest ≡ l.fn.reads.count + steps_reads l.fn.reads.bytes ((g.of).top.table).at l.fn.steps;
       paid : l.reads.count + 6 * length l.rest ≤ l.fn.reads.count + 6 * fields_left (g.of).walk.schema.now (g.of).top;
     }
 

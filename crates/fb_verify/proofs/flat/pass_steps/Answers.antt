@@ -1,4 +1,4 @@
-use Rattle.std.proofs.Common.{◌≡◌, ℕ, ◌-◌, map, length, option_map, slice_get, refl, sym, ◌∙◌, ap, arith, Some}
+use Rattle.std.proofs.Common.{◌≡◌, ℕ, ◌+◌, ◌-◌, map, length, option_map, slice_get, refl, sym, ◌∙◌, ap, arith, Some, None}
 use Rattle.std.proofs.lemmas.List.{length-map, length-drop}
 use Rattle.std.proofs.lemmas.Option.{slice_get-map}
 use Rattle.fb_bytes.specs.Word.{Lent}
@@ -11,7 +11,9 @@ use Rattle.fb_verify.specs.declared.plain.Came.TheVariants.{Past, ToEnd, ToField
 use Rattle.fb_verify.specs.declared.scratch.Frame.{Frame}
 use Rattle.fb_verify.specs.declared.stack.Walk.{Walk}
 use Rattle.fb_verify.specs.declared.table.Table.{Table}
-use Rattle.fb_verify.specs.PassesOn.{EndsBehind, CameTo}
+use Rattle.fb_verify.specs.PassesOn.{steps_left, EndsBehind, CameTo}
+use Rattle.fb_verify.specs.Plain.{StepsHold, steps_reads}
+use Rattle.fb_verify.proofs.Absent.{rest_holds, rest_free}
 use Rattle.fb_verify.specs.Stack.{Waiting}
 use Rattle.fb_verify.proofs.Passing.{AtStep, none_left, rest_absent, required_within, required_stops, stops_here}
 use Rattle.fb_verify.proofs.flat.pass_steps.Goals as goal
@@ -60,13 +62,25 @@ here g c =
 looks : (g : _) (c : After-next_required g) → c.next_required.result ≡ next_required (g.of).walk.schema.now ((g.of).top.table).object (past g c).next
 looks g c = rw (c.requires.1.1.1.0, c.requires.1.1.1.1.0, many g c) at c.next_required.ensures
 
+-- where none of these is required, those of all hold, and no read was made for them
+rest_none : (g : _) (c : After-next_required g) → c.next_required.result ≡ None → (StepsHold (g.of).walk.checks c.args.reads.now.bytes ((g.of).top.table).at (steps_left (g.of).walk.schema.now (g.of).top))
+    × (c.pass_by-came.new.reads.count ≡ c.args.reads.now.count + steps_reads c.args.reads.now.bytes ((g.of).top.table).at (steps_left (g.of).walk.schema.now (g.of).top))
+rest_none g c none =
+    let e = behind g c in
+    let f = first g c in
+    let past_slot = e.behind f.0 f.1 in
+    let why = sym (looks g c) ∙ none in
+    let hold = rw e.bytes at (rest_holds (e.between).walking (e.between).rests f.0 f.1 past_slot why) in
+    let free = rw e.bytes at (rest_free (e.between).walking (e.between).rests f.0 f.1 past_slot why) in
+    ((e.steps).hold hold, omega (arith, (e.steps).counted, free))
+
 pub returns-in_default-next_required : goal.returns-in_default-next_required
 returns-in_default-next_required g c =
     let d = (goal.at.returns-in_default-next_required g c).After-next_required in
     let e = behind g d in
     let s = here g d in
     let all = many g d ∙ ap length (same g d) in
-    none_left refl (rest_absent s (e.behind _ (first g d).1) (sym (looks g d) ∙ c.in_default-next_required.is)) (omega (arith, e.forth, e.within, all)) (omega (arith, all)) (omega (arith, all)) (omega (arith, e.paid, all)) e.grows e.bytes
+    none_left refl (rest_absent s (e.behind _ (first g d).1) (sym (looks g d) ∙ c.in_default-next_required.is)) (omega (arith, e.forth, e.within, all)) (omega (arith, all)) (omega (arith, all)) (omega (arith, e.paid, all)) (rest_none g d c.in_default-next_required.is).0 (rest_none g d c.in_default-next_required.is).1 e.grows e.bytes
 
 pub returns-in-Some : goal.returns-in-Some
 returns-in-Some g c =

@@ -22,12 +22,14 @@ put_row_by-failed-requires g c =
     let f = live_of_view c.args.field.now in
     let r = c.requires.0 in
     record {
-      askable = into_askable c.requires.0;
+      may = record {
+        askable = into_askable c.requires.0;
+        few = omega (arith, r.short);
+        placed = record { table = ((o.walking).frame).near; place = o.near; head = ((o.walking).frame).head };
+        rests = (c.requires.0).rests;
+      };
       far = c.requires.1.0;
       present = (o.present f (c.requires.0).here).1;
-      few = omega (arith, r.short);
-      placed = record { table = ((o.walking).frame).near; place = o.near; head = ((o.walking).frame).head };
-      rests = (c.requires.0).rests;
       same = c.requires.1.1;
     }
 

@@ -102,7 +102,7 @@ take_word-requires g c =
     let n = c.args.reads.now.count in
     let room = fewer_reads (c.args.self.now.limits).reads (n + 4) (n + 7) (omega arith) r.room in
     let short : n + 4 ≤ 2 ^ 56 = omega (arith, r.short) in
-    (into g d, (ap (λ (x : Row). x.leads) c.one-row.ensures, (table g d, (c.allows_table.ensures c.if-not-allows_table.false, (room, (short, c.requires.1))))))
+    (record { in-row = into g d; leads = ap (λ (x : Row). x.leads) c.one-row.ensures; table = table g d }, (c.allows_table.ensures c.if-not-allows_table.false, (room, (short, c.requires.1))))
 
 pub returns : goal.returns
 returns g c =

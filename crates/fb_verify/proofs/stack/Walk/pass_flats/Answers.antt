@@ -27,7 +27,7 @@ leads g c = (c.loop-schema.invariant).leads ∙ (c.requires.0).leads
 
 -- the walk's checks are those that are made
 checks : (g : _) (c : After-test_lead-failed g) → c.args.checks ≡ c.loop-schema.self.checks
-checks g c = c.requires.1 ∙ sym (ap (λ (x : Walk). x.checks) ((c.loop-schema.invariant).on).same)
+checks g c = c.requires.1.0 ∙ sym (ap (λ (x : Walk). x.checks) ((c.loop-schema.invariant).on).same)
 
 -- what the test of its first word tells
 told : (g : _) (c : After-test_lead-failed g)
@@ -86,29 +86,33 @@ counts g c =
       is = c.count_table.ensures ∙ ap (λ n. record w { tables = w.tables + 1; deepest = max w.deepest n }) (two c.args.waiting);
     }
 
-pub pass_flat-came-requires : goal.pass_flat-came-requires
-pass_flat-came-requires g c =
-    let d = (goal.at.pass_flat-came-requires g c).After-count_table in
+pub pass_alike-came-requires : goal.pass_alike-came-requires
+pass_alike-came-requires g c =
+    let d = (goal.at.pass_alike-came-requires g c).After-count_table in
     let steps = c.steps_of-steps.ensures in
-    flat_comes (counts g d) c.requires.1 refl steps.value steps.few (c.requires.0).plain c.short-room.ensures.allowed (omega (arith, paid g d, room g d)) c.short-room.ensures.short
+    let e = c.test_lead-failed.ensures in (
+      flat_comes (counts g d) c.requires.1.0 refl steps.value steps.few (c.requires.0).plain c.short-room.ensures.allowed (omega (arith, paid g d, room g d)) c.short-room.ensures.short,
+      rw (e.bytes, steps.value) (c.loop-schema.invariant).kept,
+    )
 
 pub returns-in-Some-came : goal.returns-in-Some-came
 returns-in-Some-came g c child =
     let d = (goal.at.returns-in-Some-came g c).After-count_table in
     let e = c.stop_in_flat.ensures in
-    let came = c.pass_flat-came.new in
-    rw e.turn (table_halts (counts g d) came.next came.at c.in-Some-came.reason came.reads c.stop_in_flat.new.self (rw c.in-Some-came.is at c.pass_flat-came.ensures) e.links e.head e.field)
+    let came = c.pass_alike-came.new in
+    rw e.turn (table_halts (counts g d) came.next came.at c.in-Some-came.reason came.reads c.stop_in_flat.new.self (rw c.in-Some-came.is at c.pass_alike-came.ensures.passes) e.links e.head e.field)
 
 pub loop-schema-preserved : goal.loop-schema-preserved
 loop-schema-preserved g c =
     let d = (goal.at.loop-schema-preserved g c).After-count_table in
-    let p = c.pass_flat-came.ensures in
+    let p = c.pass_alike-came.ensures.passes in
     let none = c.in_default-came.is in
-    let came = c.pass_flat-came.new in
+    let came = c.pass_alike-came.new in
     let long = ap length c.steps_of-steps.ensures.value ∙ length_map step_of (live_fields c.args.self.now.schema.now c.args.object) in
     let width = ap (λ (x : Walk). length (live_fields x.schema.now c.args.object)) (counted_same (counts g d)) in
     record {
       on = table_passed (counts g d) came.next came.at came.reads (rw none at p) (omega (arith, p.paid none, paid g d, long, width, room g d, c.short-room.ensures.short));
       next = (c.loop-schema.invariant).next;
+      kept = rw (sym p.bytes, c.steps_of-steps.ensures.value) at (c.pass_alike-came.ensures.kept none);
       leads = ap (λ (x : Row). x.leads) c.advance_all.ensures ∙ ap leads_after (leads g (goal.at.After-count_table g d).After-test_lead-failed) ∙ sym (c.requires.0).leads;
     }

@@ -8,13 +8,13 @@ use Rattle.fb_verify.proofs.stack.Walk.put_row_by.Goals as goal
 pub returns-in-Unions-clause-leads : goal.returns-in-Unions-clause-leads
 returns-in-Unions-clause-leads c =
     let e = c.put_unions.ensures in
-    let holds = rw c.in-Unions.is at c.requires.askable.holds in
-    λ ok. rw c.in-Unions.is (vector_left c.args.reads.now.bytes c.args.self.now.schema.now (e.words ok) c.requires.rests (holds, e.types ok, e.types_near ok))
+    let holds = rw c.in-Unions.is at c.requires.may.askable.holds in
+    λ ok. rw c.in-Unions.is (vector_left c.args.reads.now.bytes c.args.self.now.schema.now (e.words ok) c.requires.may.rests (holds, e.types ok, e.types_near ok))
 
 pub returns-in-Tables-clause-leads : goal.returns-in-Tables-clause-leads
 returns-in-Tables-clause-leads c =
-    let holds = rw c.in-Tables.is at c.requires.askable.holds in
-    λ ok. rw c.in-Tables.is (vector_left c.args.reads.now.bytes c.args.self.now.schema.now (c.put_words.ensures.words ok) c.requires.rests holds)
+    let holds = rw c.in-Tables.is at c.requires.may.askable.holds in
+    λ ok. rw c.in-Tables.is (vector_left c.args.reads.now.bytes c.args.self.now.schema.now (c.put_words.ensures.words ok) c.requires.may.rests holds)
 
 -- what is none of the others is a vector of strings
 texts : (kind : Kind) → IsFar kind → ((x : ℕ) → kind ≡ Union x → ⊥) → ((x : ℕ) → kind ≡ Tables x → ⊥) → ((x : ℕ) → kind ≡ Unions x → ⊥) → kind ≡ Texts
@@ -36,5 +36,5 @@ returns-in_default c =
     let is = texts (c.args.field.now).kind c.requires.far d.not-Union d.not-Tables d.not-Unions in
     record {
       tested = rw (is, ← c.requires.same) e.tested;
-      leads = λ ok. rw is (vector_left c.args.reads.now.bytes c.args.self.now.schema.now (e.words ok) c.requires.rests tt);
+      leads = λ ok. rw is (vector_left c.args.reads.now.bytes c.args.self.now.schema.now (e.words ok) c.requires.may.rests tt);
     }

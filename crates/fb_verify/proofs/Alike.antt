@@ -1,0 +1,208 @@
+-- What holds of a table whose fields are small holds of those below it that have its vtable and are aligned alike.
+use Rattle.std.proofs.Common.{◌≡◌, ℕ, suc, ◌+◌, ◌*◌, ◌<◌, ◌≤◌, ◌==◌, ◌%◌, ◌&&◌, ◌||◌, ◌⊎◌, inl, inr, Bool, true, false, not, IsTrue, nat_le, List, [], ◌∷◌, map, drop, length, refl, sym, ◌∙◌, ap, subst, arith, Option, Some, None, Ok, if◌then◌else◌}
+use Rattle.std.specs.List.{All}
+use Rattle.std.proofs.lemmas.Bool.Decides.{nat_tests}
+use Rattle.std.proofs.lemmas.List.{length-map, length-drop}
+use Rattle.std.proofs.lemmas.List.Elements.{All-nil, All-cons, All-head, All-tail}
+use Rattle.std.proofs.lemmas.List.Sums.{sum_by-cons}
+use Rattle.fb_bytes.specs.Word.{Lent, word}
+use Rattle.fb_schema.specs.declared.views.Act.{Act}
+use Rattle.fb_schema.specs.declared.views.Act.TheVariants.{One, Two, Four, Eight, Other}
+use Rattle.fb_schema.specs.declared.views.Step.{Step}
+use Rattle.fb_schema.specs.Live.{Live, live_fields}
+use Rattle.fb_schema.specs.Steps.{step_of}
+use Rattle.fb_verify.specs.declared.checks.Checks.{Checks}
+use Rattle.fb_verify.specs.declared.fault.Reason.TheVariants.{OutOfBuffer, Misaligned, BadVtable, MissingRequired}
+use Rattle.fb_verify.specs.declared.passed.Passed.{Passed}
+use Rattle.fb_verify.specs.declared.scratch.Frame.{Frame}
+use Rattle.fb_verify.specs.declared.stack.Walk.{Walk}
+use Rattle.fb_verify.specs.declared.table.Table.{Table}
+use Rattle.fb_verify.specs.declared.table.Head.{Head}
+use Rattle.fb_verify.specs.Alike.{IsSmallStep, IsLike, IsPassed}
+use Rattle.fb_verify.specs.Bounds.{AreAllowed}
+use Rattle.fb_verify.specs.Cost.{head_reads, slot_reads}
+use Rattle.fb_verify.specs.Flat.{MayOpen, PassesFlat}
+use Rattle.fb_verify.specs.Order.{check, after, head_failure, table_failure, inline_failure, inline_field_failure}
+use Rattle.fb_verify.specs.Places.{fits, is_aligned, vtable, vtable_size, inline_size, has_slot, field_place, ends_in_table}
+use Rattle.fb_verify.specs.Plain.{tested_by, FindsVtable, first_word_failure, vtable_failure, step_failure, step_reads, step_failure_at, step_reads_at, plain_failure, plain_reads, StepsHold, steps_reads}
+use Rattle.fb_verify.specs.Stack.{opened, Waiting, IsWalking}
+use Rattle.fb_verify.specs.Told.{IsHead}
+use Rattle.fb_verify.proofs.BySteps.{first_left, others_left}
+use Rattle.fb_verify.proofs.Budgets.{fewer_reads}
+use Rattle.fb_verify.proofs.Chains.{after_none, both_none, head_none, table_none, inline_none}
+use Rattle.fb_verify.proofs.Heads.{head_parts, head_reads_parts}
+use Rattle.fb_verify.proofs.Passing.{AtStep, step_passed}
+use Rattle.fb_verify.proofs.Walking.{table_closed}
+
+-- A vtable that holds for one table holds for another.
+quiet : (f g e w : Bool) (p t v : ℕ) → check f OutOfBuffer p 0 (check g Misaligned v 0 (check e BadVtable v 1 (check w OutOfBuffer v 1 None))) ≡ None → check f OutOfBuffer t 0 (check g Misaligned v 0 (check e BadVtable v 1 (check w OutOfBuffer v 1 None))) ≡ None
+quiet false g e w p t v h = absurd cc
+quiet true false e w p t v h = absurd cc
+quiet true true false w p t v h = absurd cc
+quiet true true true false p t v h = absurd cc
+quiet true true true true p t v h = refl
+
+-- A small field is of one of four acts.
+by_act : (P : Act → Type 0) → P One → P Two → P Four → P Eight → (act : Act) → (act ≡ One) ⊎ (act ≡ Two) ⊎ (act ≡ Four) ⊎ (act ≡ Eight) → P act
+by_act P one two four eight act (inl e) = subst P (sym e) one
+by_act P one two four eight act (inr (inl e)) = subst P (sym e) two
+by_act P one two four eight act (inr (inr (inl e))) = subst P (sym e) four
+by_act P one two four eight act (inr (inr (inr e))) = subst P (sym e) eight
+
+no_other : (act : Act) → (act ≡ One) ⊎ (act ≡ Two) ⊎ (act ≡ Four) ⊎ (act ≡ Eight) → act ≡ Other → ⊥
+no_other act small = by_act (λ act. act ≡ Other → ⊥) (λ e. absurd cc) (λ e. absurd cc) (λ e. absurd cc) (λ e. absurd cc) act small
+
+reads_free : (s : Step) (place : Option ℕ) → IsSmallStep s → step_reads_at s place ≡ 0
+reads_free s None small = refl
+reads_free s (Some p) small = by_act (λ act. step_reads act ≡ 0) refl refl refl refl s.act small
+
+module _ (c : Checks) (b : List ℕ) (p t : ℕ) (same : vtable b t ≡ vtable b p) where
+  vtable_alike : vtable_failure c b p ≡ None → vtable_failure c b t ≡ None
+  unfolding vtable_failure
+  vtable_alike h =
+      let v = vtable b p in
+      rw same (quiet (fits b v 2) (is_aligned c v 2) ((word b v 2 % 2 == 0) && nat_le 4 (word b v 2)) (fits b v (word b v 2)) p t v h)
+
+  pub head_alike : head_failure c b p ≡ None → first_word_failure c b t ≡ None → head_failure c b t ≡ None
+  head_alike h first =
+      let parts = (both_none (first_word_failure c b p) (after 1 (vtable_failure c b p))).0 (sym (head_parts c b p) ∙ h) in
+      let rest = vtable_alike ((after_none 1 (vtable_failure c b p)).0 parts.1) in
+      head_parts c b t ∙ (both_none (first_word_failure c b t) (after 1 (vtable_failure c b t))).1 (first, (after_none 1 (vtable_failure c b t)).1 rest)
+
+  -- slots are the same
+  slot_alike : (o : ℕ) → has_slot b t o ≡ has_slot b p o
+  slot_alike o = ap (λ v. nat_le (o + 2) (word b v 2)) same
+
+  slot_reads_alike : (o : ℕ) → slot_reads b t o ≡ slot_reads b p o
+  slot_reads_alike o = ap (λ x. if x then 1 else 0) (slot_alike o)
+
+  module _ (below : t < p) (aligned : t % 8 ≡ p % 8) where
+    ends_alike : (d n : ℕ) → IsTrue (ends_in_table c b p (p + d) n) → IsTrue (ends_in_table c b t (t + d) n)
+    unfolding ends_in_table
+    ends_alike d n h = go c.inline_size h where
+      go : (x : Bool) → IsTrue (not x || nat_le (p + d + n) (p + inline_size b p)) → IsTrue (not x || nat_le (t + d + n) (t + inline_size b t))
+      go false h = refl
+      go true h = let size : inline_size b t ≡ inline_size b p = ap (λ v. word b (v + 2) 2) same in grind (arith, nat_tests)
+
+    aligned_alike : (d n : ℕ) → ((p + d) % n ≡ 0 → (t + d) % n ≡ 0) → IsTrue (is_aligned c (p + d) n) → IsTrue (is_aligned c (t + d) n)
+    unfolding is_aligned
+    aligned_alike d n mods h = go c.alignment h where
+      go : (x : Bool) → IsTrue (not x || ((p + d) % n == 0)) → IsTrue (not x || ((t + d) % n == 0))
+      go false h = refl
+      go true h = grind (arith, nat_tests, mods)
+
+    inline_alike : (d n : ℕ) → ((p + d) % n ≡ 0 → (t + d) % n ≡ 0) → inline_field_failure c b p (p + d) n n ≡ None → inline_field_failure c b t (t + d) n n ≡ None
+    inline_alike d n mods h =
+        let parts = (both_none (table_failure c b p (p + d) n) (inline_failure c b (p + d) n n)).0 h in
+        let ends = (table_none c b p (p + d) n).0 parts.0 in
+        let value = (inline_none c b (p + d) n n).0 parts.1 in
+        (both_none (table_failure c b t (t + d) n) (inline_failure c b (t + d) n n)).1 (
+          (table_none c b t (t + d) n).1 (ends_alike d n ends),
+          (inline_none c b (t + d) n n).1 (record { within = omega (arith, value.within, below); aligned = aligned_alike d n mods value.aligned }),
+        )
+
+    act_alike : (s : Step) (d : ℕ) → IsSmallStep s → step_failure c b p s (p + d) s.act ≡ None → step_failure c b t s (t + d) s.act ≡ None
+    act_alike s d small = by_act (λ act. step_failure c b p s (p + d) act ≡ None → step_failure c b t s (t + d) act ≡ None)
+        (inline_alike d 1 (λ e. omega (arith, e, aligned))) (inline_alike d 2 (λ e. omega (arith, e, aligned))) (inline_alike d 4 (λ e. omega (arith, e, aligned))) (inline_alike d 8 (λ e. omega (arith, e, aligned))) s.act small
+
+    absent_alike : (needed : Bool) → check (not needed) MissingRequired p 0 None ≡ None → check (not needed) MissingRequired t 0 None ≡ None
+    absent_alike true h = absurd cc
+    absent_alike false h = refl
+
+    place_alike : (s : Step) → IsSmallStep s → step_failure_at c b p s (field_place b p s.slot) ≡ None → step_failure_at c b t s (field_place b t s.slot) ≡ None
+    unfolding field_place
+    place_alike s small h =
+        let d = word b (vtable b p + s.slot) 2 in
+        rw same (go d (has_slot b p s.slot) (d == 0) h) where
+          go : (d : ℕ) (x z : Bool) → step_failure_at c b p s (if x then (if z then None else Some (p + d)) else None) ≡ None → step_failure_at c b t s (if x then (if z then None else Some (t + d)) else None) ≡ None
+          go d false z h = absent_alike s.required h
+          go d true true h = absent_alike s.required h
+          go d true false h = act_alike s d small h
+
+    plain_alike : (s : Step) → IsSmallStep s → plain_failure c b p s ≡ None → plain_failure c b t s ≡ None
+    unfolding plain_failure
+    plain_alike s small h =
+        (after_none (slot_reads b t s.slot) (step_failure_at c b t s (field_place b t s.slot))).1
+        (place_alike s small ((after_none (slot_reads b p s.slot) (step_failure_at c b p s (field_place b p s.slot))).0 h))
+
+    reads_alike : (s : Step) → IsSmallStep s → plain_reads b t s ≡ plain_reads b p s
+    unfolding plain_reads
+    reads_alike s small = omega (arith, slot_reads_alike s.slot, reads_free s (field_place b t s.slot) small, reads_free s (field_place b p s.slot) small)
+
+    pub hold_alike : (steps : List Step) → All IsSmallStep steps → StepsHold c b p steps → StepsHold c b t steps
+    hold_alike [] small h = All-nil _
+    hold_alike (s ∷ steps) small h =
+        All-cons (λ s. plain_failure c b t s ≡ None) s steps (plain_alike s (All-head IsSmallStep s steps small) (All-head (λ s. plain_failure c b p s ≡ None) s steps h))
+        (hold_alike steps (All-tail IsSmallStep s steps small) (All-tail (λ s. plain_failure c b p s ≡ None) s steps h))
+
+    pub all_reads_alike : (steps : List Step) → All IsSmallStep steps → steps_reads b t steps ≡ steps_reads b p steps
+    all_reads_alike [] small = refl
+    all_reads_alike (s ∷ steps) small =
+        omega (arith, sum_by-cons (plain_reads b t) s steps, sum_by-cons (plain_reads b p) s steps, reads_alike s (All-head IsSmallStep s steps small), all_reads_alike steps (All-tail IsSmallStep s steps small))
+
+-- A walk goes through the fields of its top, where each of them holds.
+module _ (w : Walk) (m : Lent) (under : Waiting) (top : Frame) (rests : (top.row).left ≡ 0) where
+  abbrev fields : List Live
+  fields = live_fields w.schema.now (top.table).object
+
+  abbrev steps : List Step
+  steps = map step_of fields
+
+  abbrev Comes : ℕ → ℕ → Type 0
+  Comes next count = IsWalking w (record m { count = count }) under.start under.frames (record top { next = next })
+
+  through : (rest : List Step) (i r : ℕ) → rest ≡ drop i steps → Comes i r → All IsSmallStep rest → StepsHold w.checks m.bytes (top.table).at rest
+      → AreAllowed (w.limits).reads (r + steps_reads m.bytes (top.table).at rest) → Comes (length fields) (r + steps_reads m.bytes (top.table).at rest)
+  through [] i r left h small hold cheap =
+      let none : i ≡ length fields = omega (arith, ap length left, length-drop i steps, length-map fields step_of, (h.frame).next) in
+      let same : r ≡ r + steps_reads m.bytes (top.table).at [] = omega arith in
+      subst (λ n. Comes n (r + steps_reads m.bytes (top.table).at [])) none (subst (λ q. Comes i q) same h)
+  through (s ∷ rest) i r left h small hold cheap =
+      let b = m.bytes in
+      let t = (top.table).at in
+      let ok = All-head (λ s. plain_failure w.checks b t s ≡ None) s rest hold in
+      let sum = sum_by-cons (plain_reads b t) s rest in
+      let q = r + plain_reads b t s in
+      let all : r + steps_reads b t (s ∷ rest) ≡ q + steps_reads b t rest = omega (arith, sum) in
+      let next : i + 1 ≡ suc i = omega arith in
+      let here : AtStep w (record m { count = r }) under (record top { next = i }) steps s = record { walking = h; rests = rests; all = refl; got = first_left steps i s rest left } in
+      let told : tested_by t r None ≡ after r (plain_failure w.checks b t s) = sym ((after_none r (plain_failure w.checks b t s)).1 ok) in
+      let on = step_passed here (λ e. absurd (no_other s.act (All-head IsSmallStep s rest small) e)) t r r None told refl q refl (fewer_reads (w.limits).reads q (r + steps_reads b t (s ∷ rest)) (omega (arith, all)) cheap) in
+      subst (λ n. Comes (length fields) n) (sym all)
+      (through rest (i + 1) q (others_left steps i s rest left ∙ ap (λ n. drop n steps) (sym next)) on (All-tail IsSmallStep s rest small) (All-tail (λ s. plain_failure w.checks b t s ≡ None) s rest hold) (subst (λ n. AreAllowed (w.limits).reads n) all cheap))
+
+-- So a table is passed that is like the one before.
+module _ (w : Walk) (m mid new : Lent) (under : Waiting) (k t v : ℕ) (passed : Passed) where
+  abbrev all : List Step
+  all = map step_of (live_fields w.schema.now k)
+
+  pub alike_passes : MayOpen w m.bytes m.count under k t → FindsVtable w.checks m mid t (Ok v) → AreAllowed (w.limits).reads (m.count + 3 + 6 * length all) → All IsSmallStep all → IsPassed w.checks m.bytes all passed
+      → IsLike passed t v → new ≡ record mid { count = mid.count + passed.reads } → (next at : ℕ) → PassesFlat w m new under k t next at None
+  alike_passes opens finds room small kept like is next at =
+      let b = m.bytes in
+      let same : vtable b t ≡ vtable b passed.at = sym finds.value ∙ like.same ∙ kept.vtable in
+      let head = head_alike w.checks b passed.at t same kept.head finds.holds in
+      let table_is = (head_none w.checks b t).0 head in
+      let read : Head = record { vtable = vtable b t; size = vtable_size b t; inline = inline_size b t } in
+      let table : Table = record { head = read; object = k; at = t } in
+      let has : IsHead w.checks b t read = record {
+        vtable = record { place = refl; size = refl; even = table_is.size_even; within = table_is.vtable_whole; near = omega (arith, finds.near, finds.value) };
+        inline = λ _. refl;
+      } in
+      let r = m.count + head_reads w.checks in
+      let hold = hold_alike w.checks b passed.at t same like.below like.aligned all small kept.hold in
+      let count : new.count ≡ r + steps_reads b t all = omega (arith, ap (λ (x : Lent). x.count) is, finds.counted, kept.reads, head_reads_parts w.checks, all_reads_alike w.checks b passed.at t same like.below like.aligned all small) in
+      let paid : new.count ≤ m.count + 3 + 6 * length all = omega (arith, ap (λ (x : Lent). x.count) is, finds.counted, kept.few) in
+      let cheap = fewer_reads (w.limits).reads (r + steps_reads b t all) (m.count + 3 + 6 * length all) (omega (arith, count, paid)) room in
+      let end = through w m under (opened table) refl all 0 r refl (opens table refl refl has head) small hold cheap in
+      let bytes : new.bytes ≡ b = ap (λ (x : Lent). x.bytes) is ∙ finds.bytes in
+      let over : IsWalking w new under.start under.frames (record (opened table) { next = length (live_fields w.schema.now k) }) = rw (bytes, count) end in
+      record {
+        walking = λ _ rest above e. table_closed over rest above e refl (omega arith);
+        paid = λ _. omega (arith, paid, length-map (live_fields w.schema.now k) step_of);
+        grows = omega (arith, count);
+        bytes = bytes;
+        head = λ _. tt;
+        within = λ _. tt;
+        field = λ _. tt;
+      }
