@@ -10,7 +10,7 @@ from tests.support.cases import Case
 from tests.support.every_kind import FILE, LITTLE, OBJECTS, OPTIONS, UNION, WHOLE, variants, words_of
 from tests.support.json_lines import names_of, read, said
 from tests.support.naive import Reader, Schema, Walk
-from tests.support.program import Ran, file_of, run
+from tests.support.program import UNSCHEMED, Ran, file_of, lines, run
 from tests.support.schemas import an_object, field, table
 
 ALL = Schema(OBJECTS, [UNION])
@@ -51,6 +51,13 @@ A_SCHEMA = {
 ROWS = [TYPE, ATTRIBUTES[0], A_VALUE, AN_ENUM, A_FIELD, AN_OBJECT, A_CALL, A_SERVICE, A_SCHEMA[7][0], A_SCHEMA]
 
 
+def told_behind(by, wants):
+    """What is told behind these verdicts, of which not all have one reason: that no schema file is named, where none is
+    good."""
+    none = "--schema" not in by and not any(want.startswith("ok") for want in wants)
+    return [f"fbcheck: no message was good: {UNSCHEMED}"] if none else []
+
+
 class BesideNaive(Case):
     def told_alike(self, name, by, schema_and_root, given, options):
         """One stream of all these buffers, and what the walk says of each."""
@@ -60,7 +67,8 @@ class BesideNaive(Case):
         walks = [Walk(*schema_and_root, prefixed(data), **options) for data in given]
         wants = [walk.verdict(ident) for walk in walks]
         got = ran.out.decode().splitlines()
-        self.same(f"{name}: a line for each of {len(given)} buffers", (len(got), ran.err), (len(given), b""))
+        told = told_behind(by, wants)
+        self.same(f"{name}: a line for each of {len(given)} buffers", (len(got), ran.err), (len(given), lines(*told)))
         differing = [(line, want) for line, want in zip(got, wants) if line.partition(" ")[2] != want]
         self.same(f"{name}: lines that differ, with what is expected", differing[:5], [])
         self.same(f"{name}: their number", len(differing), 0)
@@ -69,17 +77,17 @@ class BesideNaive(Case):
         placed = [want + (walk.place() if want.startswith("bad") else "") for walk, want in zip(walks, wants)]
         self.named(name, by, given, options, placed)
         ran = run(*by, "--json", *words_of(options), given=b"".join(map(prefixed, given)))
-        self.as_json(name, schema_and_root[0], ran, placed)
+        self.as_json(name, schema_and_root[0], ran, placed, told=told)
         return wants
 
-    def as_json(self, name, schema, ran, wants, paths=()):
+    def as_json(self, name, schema, ran, wants, paths=(), told=()):
         """Each line of JSON says to a reader of JSON what the walk says of its buffer."""
         names = names_of(schema)
         wanted = [said(f"{number} {want}".encode(), names, paths) for number, want in enumerate(wants, 1)]
         got = [read(line) for line in ran.out.split(b"\n")[:-1]]
         differing = [pair for pair in zip(got, wanted) if pair[0] != pair[1]]
         self.same(f"{name}: lines of JSON that differ, with what is expected", differing[:3], [])
-        self.same(f"{name}: as many lines of JSON", (len(got), ran.err), (len(wanted), b""))
+        self.same(f"{name}: as many lines of JSON", (len(got), ran.err), (len(wanted), lines(*told)))
 
     def named(self, name, by, given, options, wants):
         """The same stream with the places in words: each bad line ends with the way that the walk went."""
@@ -98,7 +106,7 @@ class BesideNaive(Case):
         good = b"".join(prefixed(data) for data, want in zip(given, wants) if want.startswith("ok"))
         notes = [f"{number} {want}" for number, want in enumerate(wants, 1) if want.startswith("bad")]
         self.holds(f"{name}: the good ones are passed on", ran.out == good)
-        self.same(f"{name}: and the others are noted", ran.err.decode().splitlines(), notes)
+        self.same(f"{name}: and the others are noted", ran.err, lines(*notes, *told_behind(by, wants)))
 
     def test_buffers_of_every_kind(self):
         told = []

@@ -5,7 +5,9 @@ from tests.support.buffers import ORC, SEVEN
 from tests.support.builder import spelled
 from tests.support.cases import Case
 from tests.support.preloaded import counted, narrowed
-from tests.support.program import NO_BYTES, Ran, bad, failed, fieldless, good, lines, rootless, run, schemaless
+from tests.support.program import (
+    NO_BYTES, Ran, bad, failed, fieldless, good, lines, overlong, oversize, rootless, run, schemaless,
+)
 
 FILES = schemas.files()
 BY_M = ("--schema", FILES["M"], "--bare")
@@ -41,9 +43,9 @@ class Ends(Case):
     def test_reads_that_are_not_made(self):
         for name, words, given, want in [
             ("past a prefix that declares too much", BY_N, SEVEN + spelled("ffffffff") + SEVEN,
-             (failed("stream: S1 Oversize declared=4294967295", SEVENS[0]), 36)),
+             (failed(oversize(4294967295), SEVENS[0]), 36)),
             ("past the limit of a bare input", (*BY_M, "--max-bytes", "8"), bytes(32),
-             (failed("input longer than 8 bytes"), 9)),
+             (failed(overlong(8)), 9)),
             ("for a root that isn't there", (*BY_N, "--root", "Q"), SEVEN, (rootless("Q", "N"), 0)),
             ("for a path that doesn't fit", (*BY_N, "--path", "x"), SEVEN, (fieldless("v"), 0)),
             ("for a schema file that is none", ("--schema", "/dev/null"), SEVEN,

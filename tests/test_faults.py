@@ -10,8 +10,9 @@ from tests.support.buffers import MEMBER, ORC, PLAIN, SEVEN
 from tests.support.builder import changed, prefixed, spelled
 from tests.support.cases import Case
 from tests.support.program import (
-    FOLDER, NO_BYTES, NO_SCHEMA, PROGRAM, SECONDS, Ran, Talk, astray, bad, failed, fieldless, file_of, good, lines,
-    listed, refused, rootless, run, run_broken_off, run_in_shell, run_starved, schemaless,
+    CLOSED, FOLDER, FULL, NOT_UTF_8, NO_BYTES, NO_SCHEMA, PROGRAM, SECONDS, Ran, Talk, astray, bad, failed, fieldless,
+    file_of, good, lines, listed, overlong, oversize, refused, rootless, run, run_broken_off, run_in_shell, run_starved,
+    schemaless,
 )
 from tests.support.schemas import (
     INT, LONG, SHORT, TEXT, U_TYPE, a_struct, a_union, an_object, array, field, schema, table, union, vector,
@@ -20,7 +21,8 @@ from tests.support.schemas import (
 FILES = schemas.files()
 BY_M = ("--schema", FILES["M"], "--bare")
 BY_N = ("--schema", FILES["N"])
-LIKE_JSON = "this looks like JSON"
+NO_TEXT = "this is text, and no binary schema, which flatc --binary --schema makes"
+LIKE_JSON = "this looks like JSON, and no binary schema, which flatc --binary --schema makes"
 LIKE_TEXT = "this looks like a schema's text (.fbs): flatc --binary --schema makes the .bfbs"
 SEVENS = "1 ok tables=1 depth=1 reads=5", "2 ok tables=1 depth=1 reads=5"
 
@@ -62,16 +64,17 @@ class Faults(Case):
             self.same(name, run(*words, given=given), want)
 
     def test_faults_of_words(self):
-        for name, number, words in [
-            ("in place of a name", 2, [b"--root", b"\xff"]),
-            ("in place of an option", 1, [b"\xc3\x28"]),
-            ("cut off", 2, ["--path", b"\xe2\x82"]),
-            ("before help", 1, [b"\x80", "--help"]),
-            ("two of them", 3, ["--path", "a", b"--\x80", b"\xff"]),
-            ("a long one", 2, ["a" * 5_000, "ü".encode() * 40_000 + b"\xff"]),
+        for name, number, words, told in [
+            ("in place of a name", 2, [b"--root", b"\xff"], r"\xff"),
+            ("in place of an option", 1, [b"\xc3\x28"], r"\xc3("),
+            ("cut off", 2, ["--path", b"\xe2\x82"], r"\xe2\x82"),
+            ("before help", 1, [b"\x80", "--help"], r"\x80"),
+            ("two of them", 3, ["--path", "a", b"--\x80", b"\xff"], r"--\x80"),
+            ("a long one", 2, ["a" * 5_000, "ü".encode() * 40_000 + b"\xff"], r"\xc3\xbc" * 40_000 + r"\xff"),
+            ("a file's name in Latin-1", 3, [*BY_M[:2], "größe.bin".encode("latin-1")], r"gr\xf6\xdfe.bin"),
         ]:
             self.same(f"a word that isn't UTF-8, {name}", run(*words, given=SEVEN),
-                      refused(f"a word is not UTF-8: number {number}"))
+                      refused(f"a word is not UTF-8: number {number}, {told}; {NOT_UTF_8}"))
         named = file_of("größe-表.bfbs", schemas.M)
         self.same("words that are UTF-8", run("--schema", named, "--bare", given=ORC),
                   good("1 ok tables=1 depth=1 reads=8"))
@@ -128,6 +131,10 @@ class Faults(Case):
             ("no objects", changed(schemas.M, (12, "0000")), "V9 MissingRequired at=24 object=9 field=0 reads=5", ""),
             ("a text", b"table M { hp: short; }", wrong, LIKE_TEXT),
             ("a text behind blanks", b"\r\n\t // M\ntable M {}", wrong, LIKE_TEXT),
+            ("a word and no more", b"enum ", short, LIKE_TEXT),
+            ("another text", b"<html><head></head></html>", wrong, NO_TEXT),
+            ("a word of no schema", b"tables of contents", wrong, NO_TEXT),
+            ("blanks alone", b" \n\t \r\n   ", wrong, NO_TEXT),
             ("JSON", b'{"hp": 300, "name": "Orc"}', wrong, LIKE_JSON),
             ("JSON behind blanks", b'\n\t [{"hp": 300}]', wrong, LIKE_JSON),
             ("one byte of JSON", b"{", short, LIKE_JSON),
@@ -308,12 +315,12 @@ class Faults(Case):
         seven = SEVENS[0]
         for name, words, given, want in [
             ("a prefix past the limit", BY_N, SEVEN + spelled("ffffffff"),
-             failed("stream: S1 Oversize declared=4294967295", seven)),
+             failed(oversize(4294967295), seven)),
             ("a stream that ends in mid-message", BY_N, SEVEN + SEVEN[:-1],
              failed("stream: S2 Truncated held=31", seven)),
             ("one that ends in mid-prefix", BY_N, SEVEN + b"\0", failed("stream: S2 Truncated held=1", seven)),
             ("one whose prefix alone is there", BY_N, SEVEN[:4], failed(astray("stream: S2 Truncated held=4"))),
-            ("a bare input that is too long", (*BY_M, "--max-bytes", "31"), ORC, failed("input longer than 31 bytes")),
+            ("a bare input that is too long", (*BY_M, "--max-bytes", "31"), ORC, failed(overlong(31))),
         ]:
             self.same(name, run(*words, given=given), want)
         self.same("a folder as standard input", run_in_shell("<.", *BY_N), failed("read failed: is a directory"))
@@ -345,7 +352,6 @@ class Faults(Case):
         self.same("too little for a schema file", run_starved("--schema", large), failed("out of memory"))
 
     def test_an_output_that_takes_no_more(self):
-        unwritten = b"fbcheck: write failed after 0 bytes\n"
         for name, redirections, words, given in [
             ("a full device", ">/dev/full", BY_N, SEVEN),
             ("a full device, bare", ">/dev/full", BY_M, ORC),
@@ -356,7 +362,8 @@ class Faults(Case):
             ("closed standard output, help", ">&-", ["--help"], b""),
             ("standard output that can't be written", "1</dev/null", BY_N, SEVEN),
         ]:
-            self.same(name, run_in_shell(redirections, *words, given=given), Ran(3, b"", unwritten))
+            self.same(name, run_in_shell(redirections, *words, given=given),
+                      Ran(3, b"", lines(FULL if "full" in redirections else CLOSED)))
         self.same("a full device, and nothing to write", run_in_shell(">/dev/full", *BY_N), good())
         self.same("a full device, and a refusal", run_in_shell(">/dev/full", "--ident", "ABC"),
                   refused("ident must be four bytes"))
@@ -372,7 +379,7 @@ class Faults(Case):
             talk.run.stdin.write(SEVEN)
             talk.run.stdin.close()
             self.same("the second can't be written", (talk.run.stderr.read(), talk.run.wait(SECONDS)),
-                      (b"fbcheck: write failed after 30 bytes\n", 3))
+                      (b"fbcheck: write failed after 30 bytes: broken pipe\n", 3))
         with Talk("--help") as talk:
             talk.run.stdout.close()
             talk.run.stdin.close()
@@ -383,7 +390,7 @@ class Faults(Case):
             ["sh", "-c", '{ "$0" "$@"; echo "status $?" >&2; } | head -c 100', PROGRAM, *BY_N],
             input=SEVEN * 20000, capture_output=True, timeout=SECONDS,
         )
-        told = re.fullmatch(rb"fbcheck: write failed after [0-9]+ bytes\nstatus 3\n", ran.stderr)
+        told = re.fullmatch(rb"fbcheck: write failed after [0-9]+ bytes: broken pipe\nstatus 3\n", ran.stderr)
         self.holds("a pipe whose reader leaves after 100 bytes", told, ran.stderr)
         self.same("what it read is the front of the lines", ran.stdout,
                   lines(*[f"{n} ok tables=1 depth=1 reads=5" for n in range(1, 6)])[:100])

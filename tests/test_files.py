@@ -12,8 +12,8 @@ from tests.support.buffers import NOTHING, ODD, ORC, SEVEN
 from tests.support.builder import spelled
 from tests.support.cases import Case
 from tests.support.program import (
-    FOLDER, NO_BYTES, PROGRAM, SECONDS, Ran, Talk, failed, file_of, lines, refused, rootless, run, run_in_shell,
-    run_starved, schemaless,
+    FOLDER, FULL, NOT_UTF_8, NO_BYTES, PROGRAM, SECONDS, SHIFTED, Ran, Talk, failed, file_of, lines, overlong, refused,
+    rootless, run, run_in_shell, run_starved, schemaless,
 )
 
 FILES = schemas.files()
@@ -21,7 +21,7 @@ BY_M = ("--schema", FILES["M"], "--bare")
 BY_N = ("--schema", FILES["N"])
 
 GOOD = file_of("good.bin", SEVEN)
-BAD = file_of("bad.bin", ODD)
+BAD = file_of("bad.bin", NOTHING)
 CUT = file_of("cut.bin", SEVEN + ODD + SEVEN[:-1])
 LONG = file_of("long.bin", SEVEN + spelled("ffffffff") + SEVEN)
 EMPTY = file_of("empty.bin", b"")
@@ -113,8 +113,8 @@ class Files(Case):
                 self.same(f"{name}, {words[2:]}, where no file is named", run(*words, "-H", given=given).out,
                           one.out.replace(str(file).encode(), b"-"))
         self.same("several files have names anyhow", run(*BY_N, "-H", GOOD, BAD), run(*BY_N, GOOD, BAD))
-        self.same("a filter's bad lines", run(*BY_N, "--filter", "-H", given=ODD).err,
-                  lines("-: 1 bad V3 Misaligned at=7 object=0 field=- reads=3"))
+        self.same("a filter's bad lines", run(*BY_N, "--filter", "-H", given=NOTHING).err,
+                  lines("-: 1 bad V2 OutOfBuffer at=4 object=0 field=- reads=1"))
         self.same("a fault of standard input has no name", run(*BY_N, "-H", given=SEVEN + SEVEN[:-1]), failed(
             "stream: S2 Truncated held=31", "-: 1 ok tables=1 depth=1 reads=5"))
         self.same("that of the file - has", run(*BY_N, "-H", "-", given=SEVEN + SEVEN[:-1]), failed(
@@ -126,7 +126,7 @@ class Files(Case):
     def test_several_files(self):
         self.same("good and bad", run(*BY_N, GOOD, BAD), Ran(1, lines(
             f"{GOOD}: 1 ok tables=1 depth=1 reads=5",
-            f"{BAD}: 1 bad V3 Misaligned at=7 object=0 field=- reads=3"), b""))
+            f"{BAD}: 1 bad V2 OutOfBuffer at=4 object=0 field=- reads=1"), b""))
         self.same("messages are numbered anew", run(*BY_N, MIXED, GOOD, MIXED).out.count(b": 1 ok "), 3)
         every = [GOOD, BAD, CUT, LONG, EMPTY, MIXED, MISSING, FOLDER]
         for words in [BY_N, (*BY_N, "--filter"), (*BY_N, "--quiet"), (*BY_N, "--names"), (*BY_N, "--path", "v"),
@@ -149,17 +149,18 @@ class Files(Case):
             self.same(f"case {case}", run(*words, *names, given=given), each(words, names, given))
 
     def test_names_that_would_break_a_line(self):
-        odd = [file_of(name, ODD) for name in
+        odd = [file_of(name, NOTHING) for name in
                ["a b", "line\nbreak", "tab\t", "quote\"", "back\\slash", "J\u00fcrg", "\x7f", "\x1b[31m", "-n", ": "]]
         for name in odd:
             self.same(f"{name.name!r}", run(*BY_N, name, EMPTY), Ran(1, lines(
-                f"{told(name)}: 1 bad V3 Misaligned at=7 object=0 field=- reads=3"), b""))
+                f"{told(name)}: 1 bad V2 OutOfBuffer at=4 object=0 field=- reads=1"), b""))
             self.same(f"{name.name!r} that isn't there", run(*BY_N, f"{name}/x", EMPTY),
                       failed(f"{told(name)}/x: not a directory"))
         self.same("an empty name", run(*BY_N, "", EMPTY), failed(": no such file"))
         self.same("one that begins as an option", run(*BY_N, "--", "-n", GOOD, cwd=FOLDER), Ran(1, lines(
-            "-n: 1 bad V3 Misaligned at=7 object=0 field=- reads=3", f"{GOOD}: 1 ok tables=1 depth=1 reads=5"), b""))
-        self.same("one that isn't UTF-8", run(*BY_N, b"\xff", GOOD), refused("a word is not UTF-8: number 3"))
+            "-n: 1 bad V2 OutOfBuffer at=4 object=0 field=- reads=1", f"{GOOD}: 1 ok tables=1 depth=1 reads=5"), b""))
+        self.same("one that isn't UTF-8", run(*BY_N, b"\xff", GOOD), refused(
+            rf"a word is not UTF-8: number 3, \xff; {NOT_UTF_8}"))
 
     def test_files_that_cannot_be_read(self):
         loop = FOLDER / "loop"
@@ -179,7 +180,7 @@ class Files(Case):
             self.same(name, run(*BY_N, file), failed(text))
             self.same(f"{name}, among others", run(*BY_N, GOOD, file, BAD), Ran(3, lines(
                 f"{GOOD}: 1 ok tables=1 depth=1 reads=5",
-                f"{BAD}: 1 bad V3 Misaligned at=7 object=0 field=- reads=3"), lines(f"fbcheck: {text}")))
+                f"{BAD}: 1 bad V2 OutOfBuffer at=4 object=0 field=- reads=1"), lines(f"fbcheck: {text}")))
         self.same("one whose reads fail", run(*BY_N, "/proc/self/mem", GOOD),
                   failed("/proc/self/mem: read failed", f"{GOOD}: 1 ok tables=1 depth=1 reads=5"))
 
@@ -189,9 +190,9 @@ class Files(Case):
                 self.same(f"{names}, {len(given)} bytes", run(*BY_N, *names, given=given), each(BY_N, names, given))
         again = "fbcheck: -: standard input was read before"
         self.same("twice", run(*BY_N, "-", "-", given=SEVEN), Ran(3, lines("-: 1 ok tables=1 depth=1 reads=5"), lines(again)))
-        self.same("twice, with files between", run(*BY_N, "-", GOOD, "-", BAD, given=ODD), Ran(3, lines(
-            "-: 1 bad V3 Misaligned at=7 object=0 field=- reads=3", f"{GOOD}: 1 ok tables=1 depth=1 reads=5",
-            f"{BAD}: 1 bad V3 Misaligned at=7 object=0 field=- reads=3"), lines(again)))
+        self.same("twice, with files between", run(*BY_N, "-", GOOD, "-", BAD, given=NOTHING), Ran(3, lines(
+            "-: 1 bad V2 OutOfBuffer at=4 object=0 field=- reads=1", f"{GOOD}: 1 ok tables=1 depth=1 reads=5",
+            f"{BAD}: 1 bad V2 OutOfBuffer at=4 object=0 field=- reads=1"), lines(again)))
         self.same("none of it where it isn't named", run_in_shell("<&-", *BY_N, GOOD),
                   Ran(0, lines("1 ok tables=1 depth=1 reads=5"), b""))
         with Talk(*BY_N, GOOD, "-", BAD) as talk:
@@ -199,7 +200,18 @@ class Files(Case):
             talk.say(SEVEN)
             self.same("its lines come at once", talk.hear(), lines("-: 1 ok tables=1 depth=1 reads=5"))
             self.same("the rest behind its end", talk.end(), Ran(1, lines(
-                f"{BAD}: 1 bad V3 Misaligned at=7 object=0 field=- reads=3"), b""))
+                f"{BAD}: 1 bad V2 OutOfBuffer at=4 object=0 field=- reads=1"), b""))
+
+    def test_files_of_misaligned_messages(self):
+        odd, both = file_of("odd.bin", ODD + ODD), file_of("both.bin", ODD + NOTHING)
+        wrong = "bad V3 Misaligned at=7 object=0 field=- reads=3"
+        self.same("it alone", run(*BY_N, "--quiet", odd), Ran(1, lines(f"1 {wrong}", f"2 {wrong}"),
+                                                              lines(f"fbcheck: {odd}: {SHIFTED}")))
+        self.same("among others", run(*BY_N, "--filter", GOOD, odd, both), Ran(1, SEVEN, lines(
+            f"{odd}: 1 {wrong}", f"{odd}: 2 {wrong}", f"fbcheck: {odd}: {SHIFTED}", f"{both}: 1 {wrong}",
+            f"{both}: 2 bad V2 OutOfBuffer at=4 object=0 field=- reads=1")))
+        self.same("where that can't be told", run_in_shell("2>/dev/full", *BY_N, odd, GOOD), Ran(1, lines(
+            f"{odd}: 1 {wrong}", f"{odd}: 2 {wrong}", f"{GOOD}: 1 ok tables=1 depth=1 reads=5"), b""))
 
     def test_bare_files(self):
         orc, half = file_of("orc.bin", ORC), file_of("half.bin", ORC[:31])
@@ -212,7 +224,7 @@ class Files(Case):
             f"{half}: 1 bad V2 OutOfBuffer at=28 object=0 field=1 reads=7")))
         self.same("too long ones", run(*BY_M, "--max-bytes", "31", orc, half), Ran(3, lines(
             f"{half}: 1 bad V2 OutOfBuffer at=28 object=0 field=1 reads=7"),
-            lines(f"fbcheck: {orc}: input longer than 31 bytes")))
+            lines(f"fbcheck: {orc}: {overlong(31)}")))
 
     def test_sums(self):
         every = [GOOD, BAD, MIXED, EMPTY, CUT, MISSING, LONG, GOOD]
@@ -231,11 +243,11 @@ class Files(Case):
                       want._replace(err=want.err + lines(line)))
 
     def test_what_ends_it_all(self):
-        unwritten = Ran(3, b"", lines("fbcheck: write failed after 0 bytes"))
+        unwritten = Ran(3, b"", lines(FULL))
         self.same("a failed write", run_in_shell(">/dev/full", *BY_N, GOOD, BAD), unwritten)
         self.same("none behind it", run_in_shell(">/dev/full", *BY_N, GOOD, MISSING), unwritten)
         self.same("what was told before", run_in_shell(">/dev/full", *BY_N, MISSING, GOOD, MISSING),
-                  Ran(3, b"", lines(f"fbcheck: {TOLD_MISSING}", "fbcheck: write failed after 0 bytes")))
+                  Ran(3, b"", lines(f"fbcheck: {TOLD_MISSING}", FULL)))
         self.same("a fault that can't be told", run_in_shell("2>/dev/full", *BY_N, GOOD, MISSING, GOOD),
                   Ran(3, lines(f"{GOOD}: 1 ok tables=1 depth=1 reads=5"), b""))
         self.same("a failed note of a filter", run_in_shell("2>/dev/full", *BY_N, "--filter", GOOD, BAD, GOOD),

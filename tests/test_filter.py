@@ -4,7 +4,9 @@ from tests.support import schemas
 from tests.support.buffers import BY_POST, NOTHING, ODD, ORC, POST, SEVEN
 from tests.support.builder import messages_of, prefixed, spelled
 from tests.support.cases import Case
-from tests.support.program import SECONDS, Ran, Talk, astray, lines, refused, rootless, run, run_in_shell
+from tests.support.program import (
+    CLOSED, FULL, SECONDS, SHIFTED, Ran, Talk, astray, lines, overlong, oversize, refused, rootless, run, run_in_shell,
+)
 
 FILES = schemas.files()
 BY_M = ("--schema", FILES["M"], "--filter")
@@ -29,7 +31,7 @@ class Filter(Case):
         for name, given, want in [
             ("nothing", b"", passed(b"")),
             ("a good one", SEVEN, passed(SEVEN)),
-            ("a bad one", ODD, passed(b"", odd(1))),
+            ("a bad one", NOTHING, passed(b"", nothing(1))),
             ("good ones", SEVEN * 3, passed(SEVEN * 3)),
             ("bad ones", ODD + NOTHING + ODD, passed(b"", odd(1), nothing(2), odd(3))),
             ("both in turn", SEVEN + ODD + SEVEN + NOTHING + SEVEN, passed(SEVEN * 3, odd(2), nothing(4))),
@@ -42,6 +44,7 @@ class Filter(Case):
                       run(*BY_N, given=given).err, b"".join(
                           line for line in lined.out.splitlines(keepends=True) if b" bad " in line))
             self.same(f"{name}: and its status", run(*BY_N, given=given).status, lined.status)
+        self.same("misaligned ones", run(*BY_N, given=ODD * 2), passed(b"", odd(1), odd(2), f"fbcheck: {SHIFTED}"))
         several = [SEVEN[:4] + SEVEN[4:-8] + bytes([number]) + SEVEN[-7:] for number in range(200)]
         self.same("in their order", run(*BY_N, given=b"".join(several)), passed(b"".join(several)))
         long = prefixed(ORC + bytes(200_000))
@@ -61,7 +64,7 @@ class Filter(Case):
     def test_what_is_passed_before_a_fault(self):
         for name, words, given, want in [
             ("a prefix past the limit", BY_N, SEVEN + ODD + spelled("ffffffff"),
-             passed(SEVEN, odd(2), "fbcheck: stream: S1 Oversize declared=4294967295", status=3)),
+             passed(SEVEN, odd(2), f"fbcheck: {oversize(4294967295)}", status=3)),
             ("an end in mid-message", BY_N, ODD + SEVEN + SEVEN[:-1],
              passed(SEVEN, odd(1), "fbcheck: stream: S2 Truncated held=31", status=3)),
             ("an end in mid-prefix", BY_N, SEVEN + b"\0",
@@ -88,7 +91,7 @@ class Filter(Case):
             ("a good one with bytes behind it", BY_M, ORC + b"more", passed(ORC + b"more")),
             ("a bad one", BY_M, ORC[:31], passed(b"", "1 bad V2 OutOfBuffer at=28 object=0 field=1 reads=7")),
             ("one that is too long", (*BY_M, "--max-bytes", "31"), ORC,
-             passed(b"", "fbcheck: input longer than 31 bytes", status=3)),
+             passed(b"", f"fbcheck: {overlong(31)}", status=3)),
             ("a long one", BY_M, ORC + bytes(300_000), passed(ORC + bytes(300_000))),
         ]:
             self.same(name, run(*words, "--bare", given=given), want)
@@ -113,13 +116,14 @@ class Filter(Case):
             self.same("byte by byte", talk.end(), passed(SEVEN, odd(1)))
 
     def test_outputs_that_take_no_more(self):
-        unwritten = "fbcheck: write failed after 0 bytes"
-        for name, redirections in [("a full device", ">/dev/full"), ("closed standard output", ">&-")]:
+        for name, redirections, unwritten in [
+            ("a full device", ">/dev/full", FULL), ("closed standard output", ">&-", CLOSED),
+        ]:
             self.same(name, run_in_shell(redirections, *BY_N, given=SEVEN), passed(b"", unwritten, status=3))
             self.same(f"{name}, with a bad message behind", run_in_shell(redirections, *BY_N, given=SEVEN + ODD),
                       passed(b"", unwritten, status=3))
-            self.same(f"{name}, and only bad messages", run_in_shell(redirections, *BY_N, given=ODD),
-                      passed(b"", odd(1)))
+            self.same(f"{name}, and only bad messages", run_in_shell(redirections, *BY_N, given=NOTHING),
+                      passed(b"", nothing(1)))
             self.same(f"{name}, bare", run_in_shell(redirections, *BY_M, "--bare", given=ORC),
                       passed(b"", unwritten, status=3))
         for name, redirections in [("full standard error", "2>/dev/full"), ("closed standard error", "2>&-")]:
@@ -136,7 +140,7 @@ class Filter(Case):
             talk.run.stdin.write(SEVEN)
             talk.run.stdin.close()
             self.same("the second can't be written", (talk.run.stderr.read(), talk.run.wait(SECONDS)),
-                      (b"fbcheck: write failed after 32 bytes\n", 3))
+                      (b"fbcheck: write failed after 32 bytes: broken pipe\n", 3))
         with Talk(*BY_N) as talk:
             talk.run.stderr.close()
             talk.run.stdin.write(SEVEN + ODD + SEVEN)

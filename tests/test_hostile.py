@@ -8,7 +8,7 @@ import subprocess
 
 from tests.support.builder import messages_of
 from tests.support.cases import Case
-from tests.support.program import FOLDER, TOP, bad, file_of, good, loaded, run, schemaless
+from tests.support.program import FOLDER, TOP, file_of, good, loaded, run, schemaless, unschemed
 
 HOSTILE = loaded(TOP / "bench/hostile")
 
@@ -140,7 +140,7 @@ class Hostile(Case):
     def test_a_buffer_past_the_default_budget(self):
         data = HOSTILE.texts_of_objects(8 * OBJECTS)
         self.same("a buffer past the default budget", run("--bare", given=data),
-                  bad(f"1 bad V13 TooManyReads at={LINE} object=5 field=6 reads=10249281"))
+                  unschemed(f"1 bad V13 TooManyReads at={LINE} object=5 field=6 reads=10249281"))
         self.same("within a larger one", run("--bare", "--max-reads", str(READS), "--reads-per-byte", "7500", given=data),
                   good(f"1 ok tables={1 + OBJECTS} depth=2 reads={READS}"))
 

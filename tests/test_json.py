@@ -2,6 +2,7 @@
 
 import json
 import math
+import os
 import re
 import shutil
 import struct
@@ -15,7 +16,7 @@ from tests.support.cases import Case
 from tests.support.every_kind import FILE, LITTLE, OBJECTS, UNION, WHOLE, variants
 from tests.support.json_lines import names_of, read, said
 from tests.support.naive import Schema
-from tests.support.program import TOP, Ran, file_of, lines, run
+from tests.support.program import FOLDER, PROGRAM, TOP, Ran, file_of, lines, run
 from tests.test_beside_naive import PATHS
 
 FILES = schemas.files()
@@ -88,7 +89,7 @@ class Json(Case):
         """Sums of buffers that are bent in many ways: the object has the plain line's names and numbers, in order."""
         data = buffer(WHOLE, b"KIND", prefix=True)[4:]
         stream = b"".join(map(prefixed, variants(data, [1, 252])))
-        halves = [file_of(f"{which}.bin", part) for which, part in [("good", SEVEN * 3), ("bad", ODD)]]
+        halves = [file_of(f"{which}.bin", part) for which, part in [("good", SEVEN * 3), ("bad", NOTHING)]]
         for name, words, given in [
             ("of nothing", BY_N, b""), ("of one", BY_N, SEVEN), ("of many", BY_ALL, stream), ("cut off", BY_N, ODD + SEVEN[:5]),
             ("within a depth", (*BY_ALL, "--max-depth", "1"), stream), ("of files", (*BY_N, *halves), b""),
@@ -113,22 +114,19 @@ class Json(Case):
 
 @unittest.skipIf(shutil.which("jq") is None, "jq isn't there")
 class Recipes(Case):
-    """The page's recipes for jq do what it says of them."""
+    """The page's recipes for jq do what it says of them, and so does the file that they include."""
 
     PAGE = (TOP / "docs/REFERENCE.md").read_text()
+    NUMBER = re.search(r"'(include .*?;)\n", PAGE)[1]
 
     def picked(self, kind, numbers, form, recipe):
         """Which of these numbers, each a field of a message, jq passes on by a recipe of the page."""
         by = file_of("by.bfbs", schemas.schema([schemas.table("T", schemas.field("hp", kind, 4))], root="T"))
         stream = b"".join(prefixed(buffer({} if number is None else {0: (form, number)})) for number in numbers)
         told = run("--schema", by, "--json", "--path", "hp", "--no-alignment", given=stream + prefixed(b"bad")).out
-        ran = subprocess.run(["jq", "-c", recipe], input=told, capture_output=True, timeout=60)
+        ran = subprocess.run(["jq", "-L", TOP / "examples", "-c", recipe], input=told, capture_output=True, timeout=60)
         self.same("jq has nothing to say", (ran.returncode, ran.stderr), (0, b""))
         return [json.loads(line) for line in ran.stdout.splitlines()]
-
-    def number(self):
-        """The page's `number`."""
-        return re.search(r"```jq\n(def number: .*?)```", self.PAGE, re.S)[1]
 
     def test_floats(self):
         for kind, form, bits, top in [(schemas.FLOAT, "f", 23, 127), (schemas.DOUBLE, "d", 52, 1023)]:
@@ -136,19 +134,39 @@ class Recipes(Case):
             least = normal * 2.0**-bits
             numbers = [0.0, -0.0, 1.0, 1.5, -2.0, 50.001, 1e-30, -3e30, least, least * 5, normal - least, normal, most]
             numbers = [struct.unpack(form, struct.pack(form, number))[0] for number in numbers]
-            got = self.picked(kind, numbers, form, self.number() + '.values | select(.) | [.hp | number]')
+            got = self.picked(kind, numbers, form, self.NUMBER + '.values | select(.) | [.hp | number]')
             self.same(f"{form}: as many", len(got), len(numbers))
             for number, told in zip(numbers, got):
                 self.holds(f"{form}: {number}", len(told) == 1 and math.isclose(told[0], number, rel_tol=1e-16), told)
             ends = self.picked(kind, [math.inf, -math.inf, math.nan, None], form,
-                               self.number() + '.values | select(.) | [.hp | number] | map(. > 0, . == -infinite)')
-            self.same(f"{form}: no numbers", ends, [[True, False], [False, True], [], []])
+                               self.NUMBER + '.values | select(.) | [.hp | number | . > 0, . == -infinite, . == null]')
+            self.same(f"{form}: no numbers", ends,
+                      [[True, False, False], [False, True, False], [False, False, True], [False, False, True]])
             recipe = re.search(r"floats as `(.*?)`", self.PAGE)[1].replace("pos.lat", "hp")
-            got = self.picked(kind, [50.0, 51.0, -1e9, None, math.nan], form, f"{self.number()} {recipe} | .message")
+            got = self.picked(kind, [50.0, 51.0, -1e9, None, math.nan], form, f"{self.NUMBER} {recipe} | .message")
             self.same(f"{form}: compared", got, [1, 3])
             default = re.search(r"`(if \. == null .*?)`", self.PAGE)[1]
-            got = self.picked(kind, [1.5, None], form, f"{self.number()} select(.ok).values.hp | {default}")
+            got = self.picked(kind, [1.5, None], form, f"{self.NUMBER} select(.ok).values.hp | {default}")
             self.same(f"{form}: left out", got, [1.5, 0])
+
+    def test_no_floats(self):
+        """What is no float is null, so that a row keeps its columns; so is a NaN with its sign."""
+        values = [None, True, 5, "0000c03f", {"struct": "0000c03f"}, {"absent": "no-element"}, {"union": 1},
+                  {"float": "000080ff"}, {"float": "0000c0ff"}, {"float": "ffffffffffffffff"}]
+        given = "\n".join(map(json.dumps, values))
+        ran = subprocess.run(["jq", "-L", TOP / "examples", "-c", self.NUMBER + "[1, number, 2]"], input=given,
+                             capture_output=True, text=True, timeout=60)
+        ends = ["[1,-1.7976931348623157e+308,2]" if value == {"float": "000080ff"} else "[1,null,2]" for value in values]
+        self.same("each", (ran.returncode, ran.stdout.split(), ran.stderr), (0, ends, ""))
+
+    def test_the_use_that_the_file_tells(self):
+        line = re.search(r"#   fbcheck (.*) <in \| jq -L examples '(.*)'\n", (TOP / "examples/number.jq").read_text())
+        by = file_of("by.bfbs", schemas.schema([schemas.table("T", schemas.field("lat", schemas.FLOAT, 4))], root="T"))
+        words = line[1].replace("my.bfbs", str(by)).replace("pos.lat", "lat").split()
+        told = run(*words, given=prefixed(buffer({0: ("f", 50.25)}))).out
+        ran = subprocess.run(["jq", "-L", TOP / "examples", line[2].replace("pos.lat", "lat")], input=told,
+                             capture_output=True)
+        self.same("a float", (ran.returncode, ran.stdout, ran.stderr), (0, b"50.25\n", b""))
 
     def test_whole_numbers(self):
         recipe = re.search(r"whole numbers as `(.*?)`", self.PAGE)[1]
@@ -163,9 +181,37 @@ class Recipes(Case):
         ran = subprocess.run(["sh", "-c", recipe], input=told, capture_output=True, timeout=60)
         self.same("counted", ran.stdout.split(), [b"2", b"Misaligned", b"1", b"OutOfBuffer"])
 
-    def test_rows(self):
-        """The recipe for rows: of a good message its values, of a bad one its reason and place."""
-        recipe = re.search(r"jq -r '(if \.ok then.*?)'\n", self.PAGE, re.S)[1]
-        told = run(*BY_N, "--json", "--path", "v", given=SEVEN + ODD).out
-        ran = subprocess.run(["jq", "-r", recipe], input=told, capture_output=True, timeout=60)
-        self.same("rows", (ran.stdout, ran.stderr), (b"1\t7\n2\tV3\t.\n", b""))
+    def csv(self, *changes):
+        """What the page's program for CSV makes, with these changes of its text."""
+        script = re.search(r"```sh\n(set -o pipefail\n.*?@csv'\n)", self.PAGE, re.S)[1]
+        for old, new in changes:
+            self.holds(f"the program has {old}", script.count(old) == 1, script)
+            script = script.replace(old, str(new))
+        (FOLDER / "path").mkdir(exist_ok=True)
+        if not (FOLDER / "path/fbcheck").exists():
+            (FOLDER / "path/fbcheck").symlink_to(PROGRAM)
+        ran = subprocess.run(["bash", "-c", script], cwd=TOP, capture_output=True, text=True, timeout=60,
+                             env={**os.environ, "PATH": f"{FOLDER / 'path'}:{os.environ['PATH']}"})
+        return ran.returncode, ran.stdout.splitlines(), ran.stderr
+
+    def test_csv(self):
+        """The program for CSV, as it is printed: a row for each good message, whose columns all stand."""
+        rows = ['"1","Ada",2.5,3', '"18446744073709551615","Eve",,', '"3","Fay",,', '"4","Gus",-0.5,', '"5","Hal",,']
+        self.same("of the examples", self.csv(), (1, rows, ""))
+        shown = re.findall(r"^# (\".*)$", self.PAGE.split("@csv'\n")[1].split("```")[0], re.M)
+        self.same("the rows that are printed below it are the first", shown, rows[:len(shown)])
+        self.holds("there are some", len(shown) > 1, shown)
+        told = json.loads(subprocess.run(["jq", "."], input=str(2**53 + 1), capture_output=True, text=True).stdout)
+        version = subprocess.run(["jq", "--version"], capture_output=True, text=True).stdout
+        self.holds("jq 1.6 rounds, as the page says", told == 2**53 or "1.6" not in version, told)
+
+    def test_csv_of_odd_values(self):
+        """A text that isn't UTF-8, one with quotes, a float that is no number, and messages that are bad."""
+        def delivery(name, price):
+            person = {0: Plain(name + b"\0", 1, len(name))}
+            return prefixed(buffer({0: ("Q", 2**53 + 1), 1: person, 11: ("f", price)}))
+        stream = b"".join([delivery(b"\xc3", 1.0), delivery(b'"id":7', math.nan), prefixed(b"bad"), delivery(b"", -2.0)])
+        words = ("--schema", "--no-alignment --schema"), ("examples/deliveries.bin", file_of("odd.bin", stream))
+        number = f'"{2**53 + 1}"'
+        rows = [f'{number},{rest}' for rest in ['"{""bytes"":""c3""}",1,', '"""id"":7",,', '"",-2,']]
+        self.same("rows", self.csv(*words), (1, rows, ""))

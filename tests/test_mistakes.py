@@ -14,7 +14,7 @@ import zipfile
 from tests.support.buffers import POST
 from tests.support.builder import Plain, buffer, prefixed
 from tests.support.cases import Case
-from tests.support.program import NO_SCHEMA, TOP, Ran, astray, failed, file_of, lines, run
+from tests.support.program import NO_SCHEMA, TOP, Ran, astray, failed, file_of, lines, overlong, oversize, run
 
 EXAMPLES = TOP / "examples"
 SCHEMA = EXAMPLES / "deliveries.bfbs"
@@ -78,17 +78,20 @@ CALLS = {
     ],
     "as the schema an empty file": [(("--schema", file_of("empty.bfbs", b"")), POST)],
     "a root without its namespace (`--root Delivery`), or a struct": [((*BY_POST, "--root", "Delivery"), POST)],
-    "JSON; any text declares more than 100,000,000": [(BY_POST, JSON)],
+    'JSON: its `{"id` read as a number; any text declares more than 100,000,000': [(BY_POST, JSON)],
     "a file compressed with `gzip`": [(BY_POST, gzipped(POST))],
     "what `gzip` packed from a pipe: `held=` is all there is; from 559,907 bytes on the first message is bad; with "
     "`--bare` it's `V2` at 559903": [(BY_POST, piped(POST))],
     "a file compressed with `zstd`": [(BY_POST, by_zstd(POST))],
     "a file compressed with `zip`": [(BY_POST, zipped(POST))],
     "big-endian prefixes, as Java and networks have them; also S2, or an ok before": [(BY_POST, turned(POST))],
+    "a message above `--max-bytes 511`; with `--bare` it's `input longer than 511 bytes`": [
+        ((*BY_POST, "--max-bytes", "511"), FIRST)
+    ],
     "a message behind the five bytes of gRPC (a zero, and its size in big-endian)": [(BY_POST, framed(FIRST))],
     "the same with a message below 256 bytes; from 1,024 on it is `S1 Oversize`": [(BY_POST, framed(SECOND))],
     "a bare buffer as a stream: what follows its first four bytes is taken for an offset": [((), BARE)],
-    "with `--bare` a message that has its prefix, which is taken for an offset; rarely ok": [
+    "with `--bare` a message that has its prefix, which is taken for an offset (`at=` is the length less 4); rarely ok": [
         ((*BY_POST, "--bare"), FIRST), ((*BY_POST, "--bare"), POST)
     ],
     "a prefix before a message that has one already": [(BY_POST, prefixed(FIRST))],
@@ -117,7 +120,7 @@ class Mistakes(Case):
         for line, given in rows():
             for words, stream in CALLS.get(given, []):
                 ran = run(*words, given=stream)
-                told = re.split(" in |; no good", (ran.out + ran.err).decode().splitlines()[0])[0]
+                told = re.split(" in |; (?:no good|the |--max-bytes)", (ran.out + ran.err).decode().splitlines()[0])[0]
                 self.same(f"{given}: {words}", told, line)
 
     def test_what_is_told_behind_them(self):
@@ -128,7 +131,7 @@ class Mistakes(Case):
         for words, want in [
             (["--schema", EXAMPLES / "deliveries.fbs"], f"{refused} in {EXAMPLES}/deliveries.fbs; {text}"),
             (["--schema", EXAMPLES / "deliveries.jsonl"],
-             f"{refused} in {EXAMPLES}/deliveries.jsonl; this looks like JSON"),
+             f"{refused} in {EXAMPLES}/deliveries.jsonl; this looks like JSON, and no binary schema, which flatc --binary --schema makes"),
             (["--schema", EXAMPLES / "deliveries.bin"], f"{refused} in {EXAMPLES}/deliveries.bin; {NO_SCHEMA}"),
             (["--schema", bare], f"{refused} in {bare}; its file identifier is POST, where a .bfbs has BFBS"),
             ([*BY_POST, "--root", "post.Spot"], rootless),
@@ -139,19 +142,23 @@ class Mistakes(Case):
         ]:
             ran = run(*words, given=POST)
             self.same(str(words), (ran.status, ran.out, ran.err.decode()), (2, b"", f"{want}\n"))
-        oversize = "stream: S1 Oversize declared=1684611707"
+        bare = "stream: S1 Oversize declared=1684611707"
+        like_json = f"{bare}; the input looks like JSON, of which flatc --binary makes buffers (--size-prefixed: messages)"
         for name, words, stream, want in [
-            ("JSON", BY_POST, JSON, failed(astray(oversize))),
-            ("JSON behind a message", BY_POST, FIRST + JSON, failed(oversize, GOOD)),
-            ("JSON, with --delimited", [*BY_POST, "--delimited"], JSON, failed(astray(oversize))),
+            ("JSON", BY_POST, JSON, failed(like_json)),
+            ("JSON behind a message", BY_POST, FIRST + JSON, failed(oversize(1684611707), GOOD)),
+            ("JSON, with --delimited", [*BY_POST, "--delimited"], JSON, failed(like_json)),
             ("JSON behind a bad message", [*BY_POST, "--max-reads", "0"], FIRST + JSON,
-             failed(astray(oversize), "1 bad V13 TooManyReads at=4 object=1 field=- reads=2")),
-            ("a good message that is left out", [*BY_POST, "--quiet"], FIRST + JSON, failed(oversize)),
+             failed(astray(bare), "1 bad V13 TooManyReads at=4 object=1 field=- reads=2")),
+            ("a good message that is left out", [*BY_POST, "--quiet"], FIRST + JSON, failed(oversize(1684611707))),
+            ("size-prefixed messages, with --delimited", [*BY_POST, "--delimited"], FIRST * 2, Ran(
+                1, lines(*[f"{number} bad V3 Misaligned at=92 object=1 field=0 reads=4" for number in (1, 2)]), lines(
+                    "fbcheck: each message is misaligned: without --delimited prefixes are part of the buffers"))),
         ]:
             self.same(name, run(*words, given=stream), want)
         names = file_of("json", JSON), file_of("both", FIRST + JSON)
         self.same("of files", run(*BY_POST, *names), Ran(3, lines(f"{names[1]}: {GOOD}"), lines(
-            f"fbcheck: {names[0]}: {astray(oversize)}", f"fbcheck: {names[1]}: {oversize}")))
+            f"fbcheck: {names[0]}: {like_json}", f"fbcheck: {names[1]}: {oversize(1684611707)}")))
 
     def test_what_is_said_beside_them(self):
         for name, words, stream, want in [
@@ -163,10 +170,20 @@ class Mistakes(Case):
             ("a text that begins with the least of characters", BY_POST, b"\t\t\t\t", 3),
             ("gRPC before 1,024 bytes", BY_POST, framed(bytes(1024)), 3),
             ("what the recipe makes of big-endian prefixes", BY_POST, recipe(turned(FIRST + SECOND)), 0),
+            ("of those outside the buffers, with --delimited", ["--delimited"], recipe(turned(prefixed(BARE))), 0),
+            ("of these without a recipe", ["--delimited"], turned(prefixed(BARE)), 3),
         ]:
             ran = run(*words, given=stream)
             self.same(name, ran.status, want)
             self.same(f"{name}: S1", b"S1 Oversize" in ran.err, want == 3)
+        shifted = run(given=recipe(turned(prefixed(BARE)))).out
+        self.holds("of those outside the buffers, without --delimited", shifted.startswith(b"1 bad V3 "), shifted)
+        self.same("a bare input above the limit", run(*BY_POST, "--bare", "--max-bytes", "511", given=FIRST),
+                  failed(overlong(511)))
+        for message in (FIRST, SECOND):
+            told = run(*BY_POST, "--bare", given=message).out
+            self.same("a prefix with --bare", told.split(b" object")[0], b"1 bad V2 OutOfBuffer at=%d" % (len(message) - 4))
+        self.same("JSON's number", struct.unpack("<I", b'{"id')[0], 1_684_611_707)
         declared = struct.unpack("<I", b"\t\t\t\t")[0]
         self.holds("the least that a text declares", declared > 100_000_000, declared)
         self.same("the recipe turns prefixes and nothing else", recipe(turned(POST)), POST)

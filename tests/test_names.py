@@ -1,5 +1,6 @@
 """Lines of bad buffers that end with the place in words: `--names`."""
 
+import functools
 import re
 import struct
 
@@ -11,8 +12,8 @@ from tests.support.builder import Plain, buffer, changed, prefixed, spelled
 from tests.support.cases import Case
 from tests.support.preloaded import ALONE, WITH_LATER, Plan, is_front, narrowed, refusing
 from tests.support.program import (
-    NO_BYTES, PROGRAM, SECONDS, Ran, Talk, astray, bad, failed, file_of, good, lines, refused, run, run_in_shell,
-    run_starved, schemaless,
+    CLOSED, FULL, NO_BYTES, PROGRAM, SECONDS, Ran, Talk, astray, bad, failed, file_of, good, lines, refused, run,
+    run_in_shell, run_starved, schemaless, shifted, unschemed,
 )
 from tests.support.schemas import (
     INT, LONG, TEXT, U_TYPE, a_struct, a_union, an_object, field, schema, table, union, vector,
@@ -171,8 +172,12 @@ class Names(Case):
              "1 bad V3 Misaligned at=132 object=4 field=4 reads=32 in objects[0].fields[0].default_integer"
              " [reflection.Field.default_integer]"),
         ]:
-            self.same(name, run(*words, "--names", given=given), bad(want))
-            self.same(f"{name}, without the option", run(*words, given=given), bad(want.partition(" in ")[0]))
+            schema = "--schema" in words
+            ran = bad if schema else unschemed
+            if "V3" in want and "--bare" not in words:
+                ran = functools.partial(shifted, schema=schema)
+            self.same(name, run(*words, "--names", given=given), ran(want))
+            self.same(f"{name}, without the option", run(*words, given=given), ran(want.partition(" in ")[0]))
         self.same("the example", run(*BY_POST, "--names", given=POST).out.splitlines()[4],
                   b"5 bad V10 NoTerminator at=314 object=1 field=6 reads=63 in items[1]@Note [post.Delivery.items]")
         self.same("good buffers have no place", run(*BY_N, given=SEVEN * 2), good(f"1 {YES}", f"2 {YES}"))
@@ -333,9 +338,10 @@ class Names(Case):
 
     def test_outputs_that_take_no_more(self):
         first = lines(f"1 {NO[ODD]}")
-        for name, redirections in [("a full device", ">/dev/full"), ("closed standard output", ">&-")]:
-            self.same(name, run_in_shell(redirections, *BY_N, given=ODD),
-                      Ran(3, b"", b"fbcheck: write failed after 0 bytes\n"))
+        for name, redirections, want in [
+            ("a full device", ">/dev/full", FULL), ("closed standard output", ">&-", CLOSED),
+        ]:
+            self.same(name, run_in_shell(redirections, *BY_N, given=ODD), Ran(3, b"", lines(want)))
         for name, redirections in [("full standard error", "2>/dev/full"), ("closed standard error", "2>&-")]:
             self.same(name, run_in_shell(redirections, *BY_N, "--filter", given=SEVEN + ODD), Ran(3, SEVEN, b""))
         with Talk(*BY_N) as talk:
@@ -345,7 +351,7 @@ class Names(Case):
             talk.run.stdin.write(ODD)
             talk.run.stdin.close()
             self.same("the second can't be written", (talk.run.stderr.read(), talk.run.wait(SECONDS)),
-                      (f"fbcheck: write failed after {len(first)} bytes\n".encode(), 3))
+                      (f"fbcheck: write failed after {len(first)} bytes: broken pipe\n".encode(), 3))
         whole = told(ODD, PAST)
         for room in range(len(whole)):
             self.same(f"room for {room} bytes", narrowed(*BY_N, given=ODD + PAST, room=room),

@@ -9,7 +9,8 @@ from tests.support.buffers import ASKEW, MEMBER, ODD_MEMBER, ORC, PLAIN, SEVEN, 
 from tests.support.builder import changed, prefixed, spelled
 from tests.support.cases import Case
 from tests.support.program import (
-    FOLDER, SECONDS, TOP, Ran, astray, bad, failed, fieldless, file_of, good, refused, rootless, run, schemaless,
+    FOLDER, SECONDS, TOP, Ran, astray, bad, failed, fieldless, file_of, good, overlong, refused, rootless, run,
+    schemaless, shifted, unschemed,
 )
 
 FILES = schemas.files()
@@ -58,7 +59,7 @@ class Options(Case):
             ("good by its own schema", bare("M"), ORC, good("1 ok tables=1 depth=1 reads=8")),
             ("a no by another", bare("N"), ORC, bad("1 bad V3 Misaligned at=20 object=0 field=0 reads=4")),
             ("without one, a schema file", ["--bare"], schemas.M, good("1 ok tables=11 depth=4 reads=90")),
-            ("without one, a buffer", ["--bare"], PLAIN, bad("1 bad V9 MissingRequired at=8 object=9 field=0 reads=3")),
+            ("without one, a buffer", ["--bare"], PLAIN, unschemed("1 bad V9 MissingRequired at=8 object=9 field=0 reads=3")),
             ("a schema file, by itself", bare("M"), schemas.M,
              bad("1 bad V10 NoTerminator at=44 object=0 field=1 reads=8")),
         ])
@@ -83,7 +84,7 @@ class Options(Case):
             ("without a schema, the usual root by name", ["--bare", "--root", "reflection.Schema"], schemas.M,
              good("1 ok tables=11 depth=4 reads=90")),
             ("without a schema, a short name", ["--bare", "--root", "Schema"], schemas.M,
-             rootless("Schema", *REFLECTION)),
+             rootless("Schema", *REFLECTION, schema=False)),
         ])
 
     def test_the_identifier_is_wanted(self):
@@ -91,15 +92,15 @@ class Options(Case):
             ("the one that stands there", ["--bare", "--ident", "BFBS"], schemas.M,
              good("1 ok tables=11 depth=4 reads=91")),
             ("another", ["--bare", "--ident", "BFBX"], schemas.M,
-             bad("1 bad V5 WrongIdentifier at=4 object=9 field=- reads=1")),
+             unschemed("1 bad V5 WrongIdentifier at=4 object=9 field=- reads=1")),
             ("another case", ["--bare", "--ident=bfbs"], schemas.M,
-             bad("1 bad V5 WrongIdentifier at=4 object=9 field=- reads=1")),
+             unschemed("1 bad V5 WrongIdentifier at=4 object=9 field=- reads=1")),
             ("in a stream, behind prefix and offset", by("N", "--ident", "ABCD"), SEVEN,
              bad("1 bad V5 WrongIdentifier at=8 object=0 field=- reads=2")),
             ("a buffer too short for one", bare("M", "--ident", "ABCD"), spelled("04000000 0400"),
              bad("1 bad V2 OutOfBuffer at=4 object=0 field=- reads=0")),
             ("two letters of two bytes each", ["--bare", "--ident", "éé"], schemas.M,
-             bad("1 bad V5 WrongIdentifier at=4 object=9 field=- reads=1")),
+             unschemed("1 bad V5 WrongIdentifier at=4 object=9 field=- reads=1")),
             ("three bytes", ["--ident", "ABC"], b"", refused("ident must be four bytes")),
             ("five bytes", ["--ident", "ABCDE"], b"", refused("ident must be four bytes")),
             ("four letters of five bytes", ["--ident", "ABCé"], b"", refused("ident must be four bytes")),
@@ -130,7 +131,7 @@ class Options(Case):
             ("without a schema, that of schema files", ["--bare", "--schema-ident"], schemas.M,
              good("1 ok tables=11 depth=4 reads=91")),
             ("and another", ["--bare", "--schema-ident"], changed(schemas.M, (4, "58")),
-             bad("1 bad V5 WrongIdentifier at=4 object=9 field=- reads=1")),
+             unschemed("1 bad V5 WrongIdentifier at=4 object=9 field=- reads=1")),
             ("an identifier of five bytes that isn't asked for", ("--schema", declared("KINDS"), "--bare"), empty("KIND"),
              good("1 ok tables=1 depth=1 reads=3")),
             ("the root comes first", (*own("KINDS"), "--root", "Q"), empty(), rootless("Q", "M")),
@@ -254,7 +255,7 @@ class Options(Case):
             ("a message of the length", by("N", "--max-bytes", "32"), SEVEN, seven),
             ("one less", by("N", "--max-bytes", "31"), SEVEN, failed(astray("stream: S1 Oversize declared=28"))),
             ("a bare input of the length", bare("M", "--max-bytes", "32"), ORC, good("1 ok tables=1 depth=1 reads=8")),
-            ("one less, bare", bare("M", "--max-bytes", "31"), ORC, failed("input longer than 31 bytes")),
+            ("one less, bare", bare("M", "--max-bytes", "31"), ORC, failed(overlong(31))),
             ("eight, the least", by("M", "--max-bytes", "8"), spelled("04000000 04000000"),
              bad("1 bad V2 OutOfBuffer at=8 object=0 field=- reads=2")),
             ("nine", by("M", "--max-bytes", "8"), spelled("05000000 04000000 00"),
@@ -289,7 +290,7 @@ class Options(Case):
             ("alignment is checked", askew, ASKEW, bad("1 bad V3 Misaligned at=28 object=0 field=0 reads=6")),
             ("or not", (*askew, "--no-alignment"), ASKEW, good("1 ok tables=1 depth=1 reads=6")),
             ("of a prefixed schema file too", [], schema_file,
-             bad("1 bad V3 Misaligned at=132 object=4 field=4 reads=32")),
+             shifted("1 bad V3 Misaligned at=132 object=4 field=4 reads=32", schema=False)),
             ("or not, of that", ["--no-alignment"], schema_file, good("1 ok tables=11 depth=4 reads=91")),
             ("ranges stay", bare("M", "--no-alignment"), changed(PLAIN, (8, "03000000")),
              bad("1 bad V2 OutOfBuffer at=5 object=0 field=- reads=3")),
@@ -321,7 +322,7 @@ class Options(Case):
 
     def test_each_option_left_out_of_all(self):
         for name, want in [
-            ("--schema", rootless("R", *REFLECTION)),
+            ("--schema", rootless("R", *REFLECTION, schema=False)),
             ("--root", fieldless("us_type", "us")),
             ("--ident", good("1 ok tables=2 depth=2 reads=14 5")),
             ("--path", good("1 ok tables=2 depth=2 reads=15")),
@@ -330,7 +331,7 @@ class Options(Case):
             ("--max-reads", good("1 ok tables=2 depth=2 reads=15 5")),
             ("--reads-per-byte", good("1 ok tables=2 depth=2 reads=15 5")),
             ("--max-bytes", good("1 ok tables=2 depth=2 reads=15 5")),
-            ("--no-alignment", bad("1 bad V3 Misaligned at=45 object=0 field=0 reads=15")),
+            ("--no-alignment", shifted("1 bad V3 Misaligned at=45 object=0 field=0 reads=15")),
             ("--inline-size", good("1 ok tables=2 depth=2 reads=13 5")),
         ]:
             rest = {other: value for other, value in CALL.items() if other != name}

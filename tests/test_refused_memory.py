@@ -9,7 +9,7 @@ from tests.support.cases import Case
 from tests.support.preloaded import (
     ALONE, WHOLE, WITH_LATER, Plan, is_front, is_front_of_messages, is_nothing, refusing, sweep,
 )
-from tests.support.program import PROGRAM, TOP, built
+from tests.support.program import PROGRAM, TOP, built, oversize
 
 EXAMPLES = TOP / "examples"
 SCHEMA = EXAMPLES / "deliveries.bfbs"
@@ -140,8 +140,8 @@ class RefusedMemory(Case):
         words = [PROGRAM, *LOADED]
         for most in 1, 511, 512, 513, WHOLE:
             alone = refusing(words, MESSAGES[0], most=most)
-            oversize = refusing(words, MESSAGES[0] + b"\xff" * 4, most=most)
+            too_long = refusing(words, MESSAGES[0] + b"\xff" * 4, most=most)
             self.same(f"the message alone, by {most} bytes", (alone.status, alone.err), (0, b""))
-            told = oversize.status, oversize.err, oversize.out, oversize.asked
+            told = too_long.status, too_long.err, too_long.out, too_long.asked
             self.same(f"with the prefix, by {most} bytes", told,
-                      (3, b"fbcheck: stream: S1 Oversize declared=4294967295\n", alone.out, alone.asked))
+                      (3, f"fbcheck: {oversize(4294967295)}\n".encode(), alone.out, alone.asked))

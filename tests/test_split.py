@@ -11,7 +11,7 @@ import sys
 from tests.support.buffers import POST
 from tests.support.builder import messages_of, prefixed
 from tests.support.cases import Case
-from tests.support.program import FOLDER, TOP, astray, file_of, run
+from tests.support.program import FOLDER, TOP, file_of, run
 
 SPLIT = TOP / "examples/split"
 
@@ -133,7 +133,7 @@ class Split(Case):
             ("a message at a limit", ["--max-bytes", "512"], POST, 6),
         ]:
             ran = run(*by_post, *words, given=stream)
-            told = ran.err.decode().replace(astray(""), "").splitlines()
+            told = [line.partition(";")[0] for line in ran.err.decode().splitlines()]
             want = [line.replace("fbcheck:", "split:") for line in told]
             for form, call, more in [("runs", split, []), ("dealt", split_pipe, ["--deal"])]:
                 folder = FOLDER / f"{name} {form}"

@@ -8,7 +8,9 @@ from tests.support import schemas
 from tests.support.buffers import BY_POST, NOTHING, ORC, POST, SEVEN, named
 from tests.support.builder import prefixed, spelled
 from tests.support.cases import Case
-from tests.support.program import SECONDS, Ran, Talk, astray, bad, failed, file_of, good, lines, run, run_in_shell
+from tests.support.program import (
+    SECONDS, Ran, Talk, astray, bad, failed, file_of, good, lines, overlong, oversize, run, run_in_shell,
+)
 
 FILES = schemas.files()
 BY_M = ("--schema", FILES["M"])
@@ -54,11 +56,11 @@ class Streams(Case):
             self.same("the line before", talk.hear(), lines(seven(1)))
             talk.run.stdin.write(b"\xff")
             self.same("a prefix that declares too much, while the pipe stays open", talk.ended(),
-                      failed("stream: S1 Oversize declared=4294967295"))
+                      failed(oversize(4294967295)))
         with Talk(*BY_M, "--bare", "--max-bytes", "31") as talk:
             talk.run.stdin.write(ORC)
             self.same("a bare input that is too long, while the pipe stays open", talk.ended(),
-                      failed("input longer than 31 bytes"))
+                      failed(overlong(31)))
 
     def test_a_bare_input_waits_for_its_end(self):
         with Talk(*BY_M, "--bare", "--path", "name") as talk:
@@ -76,7 +78,7 @@ class Streams(Case):
             ("messages and a cut one", BY_N, NOTHING + SEVEN + SEVEN[:30],
              failed("stream: S2 Truncated held=30", wrong(1), seven(2))),
             ("a message and one too long", BY_N, SEVEN + spelled("fdffff03"),
-             failed("stream: S1 Oversize declared=67108861", seven(1))),
+             failed(oversize(67108861), seven(1))),
             ("a bare buffer", (*BY_M, "--bare"), ORC, good("1 ok tables=1 depth=1 reads=8")),
             ("the stream of the examples", to_names, POST, by_post),
         ]:
@@ -150,7 +152,7 @@ class Streams(Case):
             self.same(f"{length} bytes and no more are allowed", run(*bare, "--max-bytes", str(length), given=data),
                       good(told))
             self.same(f"{length} bytes are one too many", run(*bare, "--max-bytes", str(length - 1), given=data),
-                      failed(f"input longer than {length - 1} bytes"))
+                      failed(overlong(length - 1)))
 
     def test_the_default_limit_at_both_sides(self):
         length = 67_108_864
@@ -160,7 +162,7 @@ class Streams(Case):
         self.same("64 MiB, bare", run(*BY_M, "--bare", given=named(length, prefix=False)),
                   good("1 ok tables=1 depth=1 reads=8"))
         self.same("one byte more, bare", run(*BY_M, "--bare", given=named(length + 1, prefix=False)),
-                  failed(f"input longer than {length} bytes"))
+                  failed(overlong(length)))
 
     def test_empty_messages(self):
         count = 70_000

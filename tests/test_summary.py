@@ -6,8 +6,8 @@ from tests.support.builder import changed, prefixed, spelled
 from tests.support.cases import Case
 from tests.support.preloaded import ALONE, WITH_LATER, narrowed, sweep
 from tests.support.program import (
-    PROGRAM, SECONDS, Ran, Talk, fieldless, lines, refused, rootless, run, run_broken_off, run_in_shell, run_starved,
-    waiting,
+    FULL, PROGRAM, SECONDS, Ran, Talk, fieldless, lines, overlong, oversize, refused, rootless, run, run_broken_off,
+    run_in_shell, run_starved, waiting,
 )
 
 FILES = schemas.files()
@@ -50,7 +50,7 @@ class Summary(Case):
             ("nothing", [], EMPTY),
             ("one yes", [SEVEN], ONE),
             ("three", [SEVEN] * 3, "summary: messages=3 yes=3 no=0 bytes=96 tables=3 reads=15"),
-            ("one no", [ODD], "summary: messages=1 yes=0 no=1 V3=1 bytes=32 tables=0 reads=3"),
+            ("one no", [NOTHING], "summary: messages=1 yes=0 no=1 V2=1 bytes=4 tables=0 reads=1"),
             ("each in turn", [SEVEN, ODD, SEVEN, NOTHING, ODD, SEVEN, NO_OFFSET],
              "summary: messages=7 yes=3 no=4 V2=1 V3=2 V4=1 bytes=196 tables=3 reads=24"),
             ("the same in another order", [NO_OFFSET, NOTHING, ODD, SEVEN, ODD, SEVEN, SEVEN],
@@ -100,14 +100,14 @@ class Summary(Case):
             ("passed on", (*BY_M, "--filter"), ORC,
              Ran(0, ORC, lines("summary: messages=1 yes=1 no=0 bytes=32 tables=1 reads=8"))),
             ("one that is too long", (*BY_M, "--max-bytes", "31"), ORC,
-             Ran(3, b"", lines(EMPTY, "fbcheck: input longer than 31 bytes"))),
+             Ran(3, b"", lines(EMPTY, f"fbcheck: {overlong(31)}"))),
         ]:
             self.same(f"bare: {name}", run(*words, given=given), want)
 
     def test_after_a_fault(self):
         two = "summary: messages=2 yes=1 no=1 V3=1 bytes=64 tables=1 reads=8"
         for name, given, fault in [
-            ("a prefix past the limit", SEVEN + ODD + spelled("ffffffff"), "stream: S1 Oversize declared=4294967295"),
+            ("a prefix past the limit", SEVEN + ODD + spelled("ffffffff"), oversize(4294967295)),
             ("an end in mid-message", SEVEN + ODD + SEVEN[:-1], "stream: S2 Truncated held=31"),
             ("an end in mid-prefix", SEVEN + ODD + b"\0", "stream: S2 Truncated held=1"),
         ]:
@@ -125,7 +125,7 @@ class Summary(Case):
                       lines("summary: messages=1 yes=1 no=0 bytes=36 tables=1 reads=9", "fbcheck: out of memory")))
         self.same("standard output that takes nothing: the message that was to be told is counted",
                   run_in_shell(">/dev/full", *BY_N, given=SEVEN),
-                  Ran(3, b"", lines(ONE, "fbcheck: write failed after 0 bytes")))
+                  Ran(3, b"", lines(ONE, FULL)))
 
     def test_a_long_line_that_is_cut(self):
         """It is written while it is made. Where a write fails within it, its message is counted, and none behind it; so

@@ -52,7 +52,7 @@ type Verdict struct {
 	OK       bool
 	Tables   uint32 // of a good message: the tables visited
 	Depth    uint32 // of a good message: the most tables open at once
-	Reads    uint64 // the reads made; of a bad message those up to its fault
+	Reads    uint64 // the reads counted; of a bad message those up to its fault
 	Reason   Reason // of a bad message: why it's refused
 	Position uint64 // of a bad message: the position in bytes from the first one
 	Object   uint32 // of a bad message: the number of the object under check, which ObjectName names

@@ -101,9 +101,12 @@ def listed(names):
     return "".join(f" {name}" for name in names[:10]) + " .." * (len(names) > 10)
 
 
-def rootless(name, *tables):
-    """A run without a root table: the name that was asked for, or none, and the tables that there are."""
-    return refused(f"no root table{'' if name is None else ' ' + name}; tables:{listed(tables)}")
+def rootless(name, *tables, schema=True):
+    """A run without a root table: the name that was asked for, or none, the tables that there are, and whose these are
+    where no schema file is named."""
+    told = "" if schema else ("; these are of schema files, which input is taken for without --schema: "
+                              "flatc --binary --schema makes the .bfbs")
+    return refused(f"no root table{'' if name is None else ' ' + name}; tables:{listed(tables)}{told}")
 
 
 def fieldless(*fields, step=0, meant=""):
@@ -123,10 +126,48 @@ def failed(text, *before):
     return Ran(3, lines(*before), lines(f"fbcheck: {text}"))
 
 
-def astray(text):
+def astray(text, *, delimited=False):
     """The text of a stream's fault, where no good message came before."""
-    return (f"{text}; no good message came before: --bare is for a buffer without a prefix, "
-            "--delimited for prefixes outside the buffers")
+    return (f"{text}; no good message came before: --bare is for a buffer without a prefix"
+            + ", --delimited for prefixes outside the buffers" * (not delimited)
+            + ", --max-bytes for longer messages" * is_allowed(text.partition("declared=")[2]))
+
+
+def is_allowed(declared):
+    """Whether some limit allows a message of this length, and it isn't four characters."""
+    if not declared or int(declared) > 2_147_483_643:
+        return False
+    return not all(byte in b"\t\n\r" or 32 <= byte <= 126 for byte in int(declared).to_bytes(4, "little"))
+
+
+def oversize(declared):
+    """The text where a message is too long behind a good one."""
+    return f"stream: S1 Oversize declared={declared}" + "; --max-bytes allows longer messages" * is_allowed(str(declared))
+
+
+def overlong(most):
+    """The text of a bare input that is too long."""
+    return f"input longer than {most} bytes; --max-bytes allows longer ones"
+
+
+NOT_UTF_8 = "nothing was checked: words must be UTF-8, and a file of any name can be standard input"
+
+
+# what is told of a stream of which each message is misaligned, and of an output that takes nothing
+UNSCHEMED = "without --schema the tables are those of schema files"
+SHIFTED = "each message is misaligned: --delimited is for prefixes outside the buffers"
+FULL = "fbcheck: write failed after 0 bytes: no storage space"
+CLOSED = "fbcheck: write failed after 0 bytes"
+
+
+def shifted(*told, schema=True):
+    """A run of which these lines are all, each message being misaligned."""
+    return Ran(1, lines(*told), lines(f"fbcheck: {SHIFTED}{'' if schema else '; ' + UNSCHEMED}"))
+
+
+def unschemed(*told):
+    """A run without a schema file, of which these lines are all, and no message is good."""
+    return Ran(1, lines(*told), lines(f"fbcheck: no message was good: {UNSCHEMED}"))
 
 
 FOLDER = pathlib.Path(tempfile.mkdtemp(prefix="fbcheck-tests-"))

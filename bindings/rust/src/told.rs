@@ -14,7 +14,7 @@ pub struct Report {
     pub tables: u32,
     /// The most tables open at once.
     pub depth: u32,
-    /// The reads made.
+    /// The reads counted.
     pub reads: u64,
 }
 
@@ -119,7 +119,7 @@ pub struct Fault {
     pub object: u32,
     /// The number of its field, unless it's the whole object.
     pub field: Option<u32>,
-    /// The reads made by then.
+    /// The reads counted by then.
     pub reads: u64,
     /// The place in words, as `in items[2].name [game.Item.name]`; at most 1,024 bytes of it.
     pub place: String,

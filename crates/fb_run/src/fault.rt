@@ -9,11 +9,9 @@ use crate::line::Line;
 use crate::tally::Tally;
 use fb_bytes::StreamFault;
 use std::alloc::AllocError;
-use std::fmt;
-use thiserror::Error;
 
 /// Why a run came to rest before its end.
-#[derive(Clone, Copy, Debug, PartialEq, Eq, Error)]
+#[derive(Clone, Copy, Debug, PartialEq, Eq)]
 pub enum RunFault {
     /// The reader failed.
     ReadFault,
@@ -67,12 +65,6 @@ impl RunFault {
             RunFault::OutOfMemory => Line::of("out of memory"),
             RunFault::BareTooLong { limit } => counted("input longer than ", u128::from(*limit)),
         }
-    }
-}
-
-impl fmt::Display for RunFault {
-    fn fmt<W: fmt::Write>(&self, f: &mut fmt::Formatter<W>) -> fmt::Result {
-        write!(f, "{}", self.text())
     }
 }
 

@@ -7,9 +7,7 @@ ghost use Rattle.fb_run.specs.Line.{field_text, no_text, numbers_text, short_lin
 use crate::checker::{Found, Wrong};
 use fb_verify::{Fault, Report};
 use itoa::{Buffer, write_digits};
-use std::fmt;
 use std::marker::Model;
-use std::str::from_utf8;
 
 /// More bytes than the longest line has, but for a value, and more than the summary.
 const ROOM: usize = 640;
@@ -173,15 +171,6 @@ impl Line {
         match field {
             Some(number) => self.put_number(u64::from(number)),
             None => self.put_text("-"),
-        }
-    }
-}
-
-impl fmt::Display for Line {
-    fn fmt<W: fmt::Write>(&self, f: &mut fmt::Formatter<W>) -> fmt::Result {
-        match from_utf8(self.bytes()) {
-            Ok(text) => f.write_str(text),
-            Err(_) => Err(fmt::Error),
         }
     }
 }

@@ -3,6 +3,7 @@ use Rattle.std.proofs.Common.{◌≡◌, ◌∙◌, ℕ, zero, suc, ◌+◌, Boo
 use Rattle.std.proofs.lemmas.Option.{slice_get-map, slice_get_past, slice_get_read}
 use Rattle.std.proofs.lemmas.Result.{on_ok_weaker}
 use Rattle.std.specs.Borrow.{Bor}
+use Rattle.std.specs.Prelude.{Ok, Err, is_ok, if◌then◌else◌}
 use Rattle.std.specs.List.{cons_option, filter_map, range_with_len}
 use Rattle.std.specs.Slice.{IsItemAt}
 use Rattle.fb_schema.specs.Heads.{Head, head_of, head_of_view}
@@ -15,7 +16,7 @@ use Rattle.fb_schema.specs.declared.rows.FieldRow.{FieldRow}
 use Rattle.fb_schema.specs.declared.views.FieldView.{FieldView}
 use Rattle.fb_schema.specs.declared.views.ObjectView.{ObjectView}
 use Rattle.fb_schema.specs.Members.{member_name}
-use Rattle.fbcheck.specs.Hints.{fields_at, listed, members_from, named, tables_in}
+use Rattle.fbcheck.specs.Hints.{fields_at, front_hint, listed, members_from, named, tables_in}
 
 -- what is left behind an object of this kind and name
 abbrev left_behind : Bool → List ℕ → List Object → List (List ℕ)
@@ -180,3 +181,10 @@ members_told text all rows e v left end told =
 -- what was added behind a text that was added itself
 pub told_behind : {E : Type 0} (r : Result (Unit {0}) E) (text mid new first rest : List ℕ) → mid ≡ text ++ first → OnOk r (new ≡ mid ++ rest) → OnOk r (new ≡ text ++ (first ++ rest))
 told_behind r text mid new first rest is told = on_ok_weaker r (λ now. now ∙ ap (λ (t : List ℕ). t ++ rest) is ∙ append_assoc text first rest) told
+
+-- what a file that gives no schema looks like, behind its name
+pub look_told : {E : Type 0} (r : Result (Unit {0}) E) (text mid behind new name front start : List ℕ) → mid ≡ text ++ name → behind ≡ mid ++ front_hint front → front ≡ start
+    → new ≡ (if is_ok r then behind ++ codes "\n" else behind) → OnOk r (new ≡ text ++ name ++ front_hint start ++ codes "\n")
+look_told (Ok done) text mid behind new name front start named looked same told =
+    told ∙ ap (λ (t : List ℕ). t ++ codes "\n") (looked ∙ ap (λ (t : List ℕ). t ++ front_hint front) named ∙ ap (λ (f : List ℕ). text ++ name ++ front_hint f) same)
+look_told (Err none) text mid behind new name front start named looked same told = tt

@@ -1,5 +1,5 @@
 -- Files that are gone through one behind another.
-use Rattle.std.proofs.Common.{◌≡◌, ◌∙◌, ℕ, zero, suc, ◌+◌, ◌<◌, ◌≤◌, List, [], ◌∷◌, ◌++◌, Bool, true, false, Option, Result, Ok, Err, length, take, drop, drop-cons, get_or, append_assoc, add-one, arith, refl, sym, ap, subst}
+use Rattle.std.proofs.Common.{◌≡◌, ◌∙◌, ℕ, zero, suc, ◌+◌, ◌<◌, ◌≤◌, List, [], ◌∷◌, ◌++◌, Bool, true, false, Option, None, Some, Result, Ok, Err, length, take, drop, drop-cons, get_or, append_assoc, add-one, arith, refl, sym, ap, subst}
 use Rattle.std.proofs.Math.ListN.{set}
 use Rattle.std.proofs.lemmas.List.{append-nil}
 use Rattle.std.specs.Global.{Global}
@@ -14,10 +14,12 @@ use Rattle.fb_run.specs.declared.fault.RunFault.{RunFault}
 use Rattle.fb_run.specs.declared.fault.RunFault.TheVariants as run
 use Rattle.fb_run.specs.declared.run.Ran.{Ran}
 use Rattle.fb_run.specs.declared.tally.Tally.{Tally}
-use Rattle.fbcheck.specs.Hints.{run_hint}
-use Rattle.fbcheck.specs.Texts.{run_text}
+use Rattle.fbcheck.specs.Framing.{end_hint, run_hint}
+use Rattle.fbcheck.specs.declared.framing.By.TheVariants.{Named}
+use Rattle.fbcheck.specs.declared.framing.Framing.{Framing}
+use Rattle.fbcheck.specs.Texts.{of_read, run_text}
 use Rattle.std.specs.declared.io.ErrorKind.{ErrorKind}
-use Rattle.fbcheck.specs.Inputs.{Folder, HaltsAmong, IsBehind, IsBehindFault, IsBehindRun, IsNotedOf, Passes, PassesAll, Stand, Tries, course_with, fault_line, is_final, is_standard, label_of, with_label, standard_after, sum_of_counts, sums, are_named}
+use Rattle.fbcheck.specs.Inputs.{Folder, HaltsAmong, IsBehind, IsBehindEnd, IsBehindFault, IsBehindRun, IsNotedOf, Passes, PassesAll, Stand, Tries, course_with, fault_line, is_final, is_standard, label_of, with_label, standard_after, sum_of_counts, sums, are_named}
 use Rattle.fbcheck.specs.declared.files.FileFault.TheVariants as file
 use Rattle.fbcheck.specs.declared.inputs.Course.{Course}
 use Rattle.fbcheck.specs.declared.inputs.Missed.{Missed}
@@ -127,13 +129,13 @@ turns_on calls Unread new first before after kept spent now then = subst (λ s. 
 turns_on calls Spent new first before after kept spent now then = subst (λ s. calls s ≤ calls first + 4294967296) (sym (spent refl).1) then
 
 -- behind a fault that doesn't end it all stands its line
-pub behind_noted : (name : List ℕ) (tally : Tally) (end : End) (cause : Option ErrorKind) (fault : RunFault) (before after : Writer) (answer : End) (why behind : List ℕ) → end ≡ Err fault
-    → is_final fault ≡ false → why ≡ run_text cause fault → behind ≡ run_hint fault tally → IsNotedOf (fault_line name why behind) before after answer
-    → IsBehindRun name tally end cause before after answer
-behind_noted name tally end cause fault before after answer why behind is isnt text hint noted =
-    subst (λ (e : End). IsBehindRun name tally e cause before after answer) (sym is)
-    (subst (λ (b : Bool). IsBehindFault b name tally fault cause before after answer) (sym isnt)
-    (subst (λ (t : List ℕ). IsNotedOf (fault_line name t (run_hint fault tally)) before after answer) text
+pub behind_noted : (name : List ℕ) (framing : Framing) (tally : Tally) (end : End) (cause : Option ErrorKind) (fault : RunFault) (before after : Writer) (answer : End) (why behind : List ℕ) → end ≡ Err fault
+    → is_final fault ≡ false → why ≡ run_text (of_read cause) fault → behind ≡ run_hint framing fault tally → IsNotedOf (fault_line name why behind) before after answer
+    → IsBehindRun name framing tally end cause before after answer
+behind_noted name framing tally end cause fault before after answer why behind is isnt text hint noted =
+    subst (λ (e : End). IsBehindRun name framing tally e cause before after answer) (sym is)
+    (subst (λ (b : Bool). IsBehindFault b name framing tally fault cause before after answer) (sym isnt)
+    (subst (λ (t : List ℕ). IsNotedOf (fault_line name t (run_hint framing fault tally)) before after answer) text
     (subst (λ (b : List ℕ). IsNotedOf (fault_line name why b) before after answer) hint noted)))
 
 -- what is asked, with another label
@@ -148,29 +150,36 @@ IsTurns (Ok done) = ⊥
 IsTurns (Err run.TooManyTurns) = Unit {0}
 IsTurns (Err fault) = ⊥
 
-behind_run_never : (name : List ℕ) (tally : Tally) (ran end : End) (cause : Option ErrorKind) (before after : Writer) → IsBehindRun name tally ran cause before after end → IsTurns end → ⊥
+behind_end_never : (name : List ℕ) (hint : Option (List ℕ)) (end : End) (before after : Writer) → IsBehindEnd name hint before after end → IsTurns end → ⊥
 unfolding IsTurns
-behind_run_never name tally (Ok done) end cause before after (is, same) turns = subst IsTurns is turns
-behind_run_never name tally (Err (run.WriteFault written)) end cause before after (is, same) turns = subst IsTurns is turns
-behind_run_never name tally (Err (run.NoteFault written)) end cause before after (is, same) turns = subst IsTurns is turns
-behind_run_never name tally (Err run.OutOfMemory) end cause before after (is, same) turns = subst IsTurns is turns
-behind_run_never name tally (Err fault) (Ok done) cause before after told turns = turns
-behind_run_never name tally (Err fault) (Err (run.NoteFault written)) cause before after told turns = turns
-behind_run_never name tally (Err fault) (Err run.OutOfMemory) cause before after told turns = turns
-behind_run_never name tally (Err fault) (Err run.TooManyTurns) cause before after never turns = never
-behind_run_never name tally (Err fault) (Err other) cause before after told turns = turns
+behind_end_never name None end before after (is, same) turns = subst IsTurns is turns
+behind_end_never name (Some hint) (Ok done) before after told turns = turns
+behind_end_never name (Some hint) (Err run.TooManyTurns) before after never turns = never
+behind_end_never name (Some hint) (Err other) before after told turns = turns
+
+behind_run_never : (name : List ℕ) (framing : Framing) (tally : Tally) (ran end : End) (cause : Option ErrorKind) (before after : Writer) → IsBehindRun name framing tally ran cause before after end → IsTurns end → ⊥
+unfolding IsTurns
+behind_run_never name framing tally (Ok done) end cause before after told turns = behind_end_never name (end_hint Named framing tally) end before after told turns
+behind_run_never name framing tally (Err (run.WriteFault written)) end cause before after (is, same) turns = subst IsTurns is turns
+behind_run_never name framing tally (Err (run.NoteFault written)) end cause before after (is, same) turns = subst IsTurns is turns
+behind_run_never name framing tally (Err run.OutOfMemory) end cause before after (is, same) turns = subst IsTurns is turns
+behind_run_never name framing tally (Err fault) (Ok done) cause before after told turns = turns
+behind_run_never name framing tally (Err fault) (Err (run.NoteFault written)) cause before after told turns = turns
+behind_run_never name framing tally (Err fault) (Err run.OutOfMemory) cause before after told turns = turns
+behind_run_never name framing tally (Err fault) (Err run.TooManyTurns) cause before after never turns = never
+behind_run_never name framing tally (Err fault) (Err other) cause before after told turns = turns
 
 -- nothing behind a file is an end for too many calls
-pub behind_never : (name : List ℕ) (came : Result Ran Missed) (end : End) (cause : Option ErrorKind) (before after : Writer) → IsBehind name came cause before after end → IsTurns end → ⊥
+pub behind_never : (name : List ℕ) (framing : Framing) (came : Result Ran Missed) (end : End) (cause : Option ErrorKind) (before after : Writer) → IsBehind name framing came cause before after end → IsTurns end → ⊥
 unfolding IsTurns
-behind_never name (Ok ran) end cause before after told turns = behind_run_never name ran.tally ran.end end cause before after told turns
-behind_never name (Err (missed.File file.OutOfMemory)) end cause before after (is, same) turns = subst IsTurns is turns
-behind_never name (Err (missed.File (file.Unreadable why))) (Ok done) cause before after told turns = turns
-behind_never name (Err (missed.File (file.Unreadable why))) (Err run.TooManyTurns) cause before after told turns = told
-behind_never name (Err (missed.File (file.Unreadable why))) (Err other) cause before after told turns = turns
-behind_never name (Err missed.Again) (Ok done) cause before after told turns = turns
-behind_never name (Err missed.Again) (Err run.TooManyTurns) cause before after told turns = told
-behind_never name (Err missed.Again) (Err other) cause before after told turns = turns
+behind_never name framing (Ok ran) end cause before after told turns = behind_run_never name framing ran.tally ran.end end cause before after told turns
+behind_never name framing (Err (missed.File file.OutOfMemory)) end cause before after (is, same) turns = subst IsTurns is turns
+behind_never name framing (Err (missed.File (file.Unreadable why))) (Ok done) cause before after told turns = turns
+behind_never name framing (Err (missed.File (file.Unreadable why))) (Err run.TooManyTurns) cause before after told turns = told
+behind_never name framing (Err (missed.File (file.Unreadable why))) (Err other) cause before after told turns = turns
+behind_never name framing (Err missed.Again) (Ok done) cause before after told turns = turns
+behind_never name framing (Err missed.Again) (Err run.TooManyTurns) cause before after told turns = told
+behind_never name framing (Err missed.Again) (Err other) cause before after told turns = turns
 
 pub is_turns : (end : End) → end ≡ Err run.TooManyTurns → IsTurns end
 unfolding IsTurns

@@ -9,9 +9,10 @@ use Rattle.std.proofs.lemmas.List.{length-append}
 use Rattle.std.proofs.Common.{Err, refl, codes}
 use Rattle.std.specs.Global.{Global}
 use Rattle.std.specs.Prelude.{String}
-use Rattle.std.specs.declared.io.ErrorKind.{ErrorKind}
+use Rattle.fbcheck.specs.declared.causes.Causes.{Causes}
 use Rattle.fb_run.specs.Ends.{Writer}
-use Rattle.fbcheck.specs.Serving.{Complains, IsNoted, behind}
+use Rattle.fbcheck.specs.Inputs.{IsNoted}
+use Rattle.fbcheck.specs.Serving.{Complains, behind}
 use Rattle.fbcheck.specs.Texts.{stop_text}
 use Rattle.fbcheck.specs.declared.stop.Stop.{Stop}
 use Rattle.fbcheck.specs.declared.stop.Stop.TheVariants as stop
@@ -51,12 +52,12 @@ second_noted text behind n m n' k l k' first second whole wrote same le more fai
 ]
 
 -- what isn't the text of `clap` is told by a line of its own
-own_line : (cause : Option ErrorKind) (fault : Stop) (before after : Writer) → ((text : String Global) → fault ≡ stop.Usage text → ⊥)
+own_line : (cause : Causes) (fault : Stop) (before after : Writer) → ((text : String Global) → fault ≡ stop.Usage text → ⊥)
     → IsNoted ((codes "fbcheck: " ++ stop_text cause fault) ++ behind fault) before after → Complains cause (Err fault) before after
 own_line cause (stop.Usage text) before after other noted = absurd (other text refl)
 own_line cause fault before after other noted = noted
 
-pub line_told : (cause : Option ErrorKind) (fault : Stop) (before after : Writer) (line more : List ℕ) → ((text : String Global) → fault ≡ stop.Usage text → ⊥)
+pub line_told : (cause : Causes) (fault : Stop) (before after : Writer) (line more : List ℕ) → ((text : String Global) → fault ≡ stop.Usage text → ⊥)
     → line ≡ codes "fbcheck: " ++ stop_text cause fault → more ≡ behind fault → IsNoted (line ++ more) before after → Complains cause (Err fault) before after
 line_told cause fault before after line more other is same noted =
     own_line cause fault before after other

@@ -12,7 +12,11 @@ use Rattle.std.proofs.Math.Seq.{take-length}
 use Rattle.clap.specs.Walk.{Text}
 use Rattle.fbcheck_words.specs.Refusal.{Refuses}
 use Rattle.fbcheck.specs.Checking.{IsPromptAmongAsked, IsPromptAsAsked, IsPromptOverAsked, RunsAsAsked, ServesAsAsked, names_in}
+use Rattle.fbcheck.specs.Asked.{manner_in}
 use Rattle.fbcheck.specs.Faults.{IsFile}
+use Rattle.fbcheck.specs.Framing.{by_of}
+use Rattle.fbcheck.specs.declared.framing.By.{By}
+use Rattle.fbcheck.specs.declared.framing.Manner.{Manner}
 use Rattle.fbcheck.specs.Inputs.{Folder, IsPromptAmong, IsPromptOver, Seen, with_cause}
 use Rattle.fb_run.specs.Job.{Job}
 use Rattle.fb_run.specs.Ends.{Ends, Reader, Writer, beside}
@@ -37,9 +41,9 @@ module _ (folder : Folder) where
   pub comes_unserved : (given : List Text) (reader : Reader) (writer writer' notes : Writer) (cause : Option ErrorKind) (fault : SettingsFault) (outcome : Result Ending Stop)
       → Refuses given fault → Unserved fault writer writer' outcome
       → ComesBy folder given (with_cause (beside reader (record { writer = writer; notes = notes })) cause) (with_cause (beside reader (record { writer = writer'; notes = notes })) cause) None outcome
-  comes_unserved given reader writer writer' notes cause fault (Ok (Checked tally)) refuses never = absurd never
-  comes_unserved given reader writer writer' notes cause fault (Ok (Passed course)) refuses never = absurd never
-  comes_unserved given reader writer writer' notes cause fault (Err (stop.Run why tally)) refuses never = absurd never
+  comes_unserved given reader writer writer' notes cause fault (Ok (Checked tally manner)) refuses never = absurd never
+  comes_unserved given reader writer writer' notes cause fault (Ok (Passed course by)) refuses never = absurd never
+  comes_unserved given reader writer writer' notes cause fault (Err (stop.Run why tally manner)) refuses never = absurd never
   comes_unserved given reader writer writer' notes cause fault (Err (stop.Halted why)) refuses never = absurd never
   comes_unserved given reader writer writer' notes cause fault (Err (stop.Ask why)) refuses never = absurd never
   comes_unserved given reader writer writer' notes cause fault (Err (stop.File why hint)) refuses never = absurd never
@@ -59,40 +63,42 @@ module _ (folder : Folder) where
   }
 
   -- the buffers were checked by these settings
-  pub checks_given : (given : List Text) (settings : Settings) (file : Option (Bor (List ℕ))) (bytes : Option (List ℕ)) (before after : Ends) (tally : Tally) (sums : Option Sums)
+  pub checks_given : (given : List Text) (settings : Settings) (file : Option (Bor (List ℕ))) (bytes : Option (List ℕ)) (before after : Ends) (tally : Tally) (manner : Manner) (sums : Option Sums)
       (end end' : End) → end ≡ end' → AreGiven given settings → lent_bytes file ≡ bytes → IsFile folder.gives (option_map string_bytes settings.schema) bytes
-      → names_in settings ≡ [] → RunsAsAsked file settings before after tally end → sums ≡ summed settings tally → ChecksAsGiven folder given before after sums tally end'
-  checks_given given settings file bytes before after tally sums end end' same are lent is none ran counted =
-      holds_given given settings file bytes _ are lent is (none, subst (λ (e : End). RunsAsAsked file settings before after tally e) same ran, counted)
+      → names_in settings ≡ [] → RunsAsAsked file settings before after tally end → manner ≡ manner_in settings → sums ≡ summed settings tally
+      → ChecksAsGiven folder given before after sums tally manner end'
+  checks_given given settings file bytes before after tally manner sums end end' same are lent is none ran stands counted =
+      holds_given given settings file bytes _ are lent is (none, subst (λ (e : End). RunsAsAsked file settings before after tally e) same ran, stands, counted)
 
   -- files were gone through by these settings
-  pub passes_given : (given : List Text) (settings : Settings) (file : Option (Bor (List ℕ))) (bytes : Option (List ℕ)) (before after : Seen) (course : Course) (sums : Option Sums)
+  pub passes_given : (given : List Text) (settings : Settings) (file : Option (Bor (List ℕ))) (bytes : Option (List ℕ)) (before after : Seen) (course : Course) (by : By) (sums : Option Sums)
       (end end' : End) → end ≡ end' → AreGiven given settings → lent_bytes file ≡ bytes → IsFile folder.gives (option_map string_bytes settings.schema) bytes
-      → names_in settings ≢ [] → ServesAsAsked folder file settings before after course end → sums ≡ summed settings course.tally → PassesAsGiven folder given before after sums course end'
-  passes_given given settings file bytes before after course sums end end' same are lent is some served counted =
-      holds_given given settings file bytes _ are lent is (some, subst (λ (e : End). ServesAsAsked folder file settings before after course e) same served, counted)
+      → names_in settings ≢ [] → ServesAsAsked folder file settings before after course end → by ≡ by_of settings.schema → sums ≡ summed settings course.tally
+      → PassesAsGiven folder given before after sums course by end'
+  passes_given given settings file bytes before after course by sums end end' same are lent is some served stands counted =
+      holds_given given settings file bytes _ are lent is (some, subst (λ (e : End). ServesAsAsked folder file settings before after course e) same served, stands, counted)
 
   -- the program ends by the end of the run, or of the files
-  pub comes_run : (given : List Text) (before after : Seen) (sums : Option Sums) (tally : Tally) (end : End) (outcome : Result Ending Stop) → outcome ≡ run_ending tally end
-      → ChecksAsGiven folder given before.ends after.ends sums tally end → ComesBy folder given before after sums outcome
-  comes_run given before after sums tally (Ok done) outcome is checks = subst (λ (o : Result Ending Stop). ComesBy folder given before after sums o) (sym is) checks
-  comes_run given before after sums tally (Err fault) outcome is checks = subst (λ (o : Result Ending Stop). ComesBy folder given before after sums o) (sym is) checks
+  pub comes_run : (given : List Text) (before after : Seen) (sums : Option Sums) (manner : Manner) (tally : Tally) (end : End) (outcome : Result Ending Stop) → outcome ≡ run_ending manner tally end
+      → ChecksAsGiven folder given before.ends after.ends sums tally manner end → ComesBy folder given before after sums outcome
+  comes_run given before after sums manner tally (Ok done) outcome is checks = subst (λ (o : Result Ending Stop). ComesBy folder given before after sums o) (sym is) checks
+  comes_run given before after sums manner tally (Err fault) outcome is checks = subst (λ (o : Result Ending Stop). ComesBy folder given before after sums o) (sym is) checks
 
-  pub comes_files : (given : List Text) (before after : Seen) (sums : Option Sums) (course : Course) (end : End) (outcome : Result Ending Stop) → outcome ≡ files_ending course end
-      → PassesAsGiven folder given before after sums course end → ComesBy folder given before after sums outcome
-  comes_files given before after sums course (Ok done) outcome is passes = subst (λ (o : Result Ending Stop). ComesBy folder given before after sums o) (sym is) passes
-  comes_files given before after sums course (Err fault) outcome is passes = subst (λ (o : Result Ending Stop). ComesBy folder given before after sums o) (sym is) (course, passes)
+  pub comes_files : (given : List Text) (before after : Seen) (sums : Option Sums) (by : By) (course : Course) (end : End) (outcome : Result Ending Stop) → outcome ≡ files_ending by course end
+      → PassesAsGiven folder given before after sums course by end → ComesBy folder given before after sums outcome
+  comes_files given before after sums by course (Ok done) outcome is passes = subst (λ (o : Result Ending Stop). ComesBy folder given before after sums o) (sym is) passes
+  comes_files given before after sums by course (Err fault) outcome is passes = subst (λ (o : Result Ending Stop). ComesBy folder given before after sums o) (sym is) (course, by, passes)
 
   -- the end of files says nothing of the counts
-  pub files_end_so : (before after : Ends) (turns : ℕ) (course : Course) (end : End) (outcome : Result Ending Stop) → outcome ≡ files_ending course end → EndsSo before after turns outcome
-  files_end_so before after turns course (Ok done) outcome is = subst (λ (o : Result Ending Stop). EndsSo before after turns o) (sym is) tt
-  files_end_so before after turns course (Err fault) outcome is = subst (λ (o : Result Ending Stop). EndsSo before after turns o) (sym is) tt
+  pub files_end_so : (before after : Ends) (turns : ℕ) (by : By) (course : Course) (end : End) (outcome : Result Ending Stop) → outcome ≡ files_ending by course end → EndsSo before after turns outcome
+  files_end_so before after turns by course (Ok done) outcome is = subst (λ (o : Result Ending Stop). EndsSo before after turns o) (sym is) tt
+  files_end_so before after turns by course (Err fault) outcome is = subst (λ (o : Result Ending Stop). EndsSo before after turns o) (sym is) tt
 
   -- and that of a run what the run does
-  pub run_ends_so : (before after : Ends) (turns : ℕ) (tally : Tally) (end : End) (outcome : Result Ending Stop) → outcome ≡ run_ending tally end → EndsBeside before after turns end
+  pub run_ends_so : (before after : Ends) (turns : ℕ) (manner : Manner) (tally : Tally) (end : End) (outcome : Result Ending Stop) → outcome ≡ run_ending manner tally end → EndsBeside before after turns end
       → EndsSo before after turns outcome
-  run_ends_so before after turns tally (Ok done) outcome is ends = subst (λ (o : Result Ending Stop). EndsSo before after turns o) (sym is) ends
-  run_ends_so before after turns tally (Err fault) outcome is ends = subst (λ (o : Result Ending Stop). EndsSo before after turns o) (sym is) ends
+  run_ends_so before after turns manner tally (Ok done) outcome is ends = subst (λ (o : Result Ending Stop). EndsSo before after turns o) (sym is) ends
+  run_ends_so before after turns manner tally (Err fault) outcome is ends = subst (λ (o : Result Ending Stop). EndsSo before after turns o) (sym is) ends
 
   -- all that was read is told, where no file is named, and among files
   pub prompt_alone : (file : Option (Bor (List ℕ))) (settings : Settings) (before now : Ends) → names_in settings ≡ [] → IsPromptAsAsked file settings before now
@@ -147,13 +153,13 @@ crowded_on writes notes more (Ok ending) le crowded = tt
 crowded_on writes notes more (Err cause) le crowded = tt
 
 -- files that ended so
-pub files_crowded : (writes notes : ℕ) (course : Course) (end : End) (outcome : Result Ending Stop) → outcome ≡ files_ending course end
+pub files_crowded : (writes notes : ℕ) (by : By) (course : Course) (end : End) (outcome : Result Ending Stop) → outcome ≡ files_ending by course end
     → (end ≡ Err run.TooManyTurns → (2 ^ 64 ≤ writes) ⊎ (2 ^ 64 ≤ notes)) → IsCrowded writes notes outcome
-files_crowded writes notes course (Ok done) outcome is crowded = subst (λ (o : Result Ending Stop). IsCrowded writes notes o) (sym is) tt
-files_crowded writes notes course (Err run.TooManyTurns) outcome is crowded = subst (λ (o : Result Ending Stop). IsCrowded writes notes o) (sym is) (crowded refl)
-files_crowded writes notes course (Err fault) outcome is crowded = subst (λ (o : Result Ending Stop). IsCrowded writes notes o) (sym is) tt
+files_crowded writes notes by course (Ok done) outcome is crowded = subst (λ (o : Result Ending Stop). IsCrowded writes notes o) (sym is) tt
+files_crowded writes notes by course (Err run.TooManyTurns) outcome is crowded = subst (λ (o : Result Ending Stop). IsCrowded writes notes o) (sym is) (crowded refl)
+files_crowded writes notes by course (Err fault) outcome is crowded = subst (λ (o : Result Ending Stop). IsCrowded writes notes o) (sym is) tt
 
 -- and a run
-pub run_crowded : (writes notes : ℕ) (tally : Tally) (end : End) (outcome : Result Ending Stop) → outcome ≡ run_ending tally end → IsCrowded writes notes outcome
-run_crowded writes notes tally (Ok done) outcome is = subst (λ (o : Result Ending Stop). IsCrowded writes notes o) (sym is) tt
-run_crowded writes notes tally (Err fault) outcome is = subst (λ (o : Result Ending Stop). IsCrowded writes notes o) (sym is) tt
+pub run_crowded : (writes notes : ℕ) (manner : Manner) (tally : Tally) (end : End) (outcome : Result Ending Stop) → outcome ≡ run_ending manner tally end → IsCrowded writes notes outcome
+run_crowded writes notes manner tally (Ok done) outcome is = subst (λ (o : Result Ending Stop). IsCrowded writes notes o) (sym is) tt
+run_crowded writes notes manner tally (Err fault) outcome is = subst (λ (o : Result Ending Stop). IsCrowded writes notes o) (sym is) tt

@@ -9,7 +9,7 @@ use Rattle.fb_access.specs.Resolving.{Resolves, IsFault}
 use Rattle.fb_verify.specs.declared.start.Ident.{Ident}
 use Rattle.fb_verify.specs.declared.start.Ident.TheVariants.{Any, Want}
 use Rattle.fb_bfbs.specs.LoadLaws.{own_ident}
-use Rattle.fb_run.specs.Job.{Job, job_of}
+use Rattle.fb_run.specs.Job.{Job, job_of, start_of}
 use Rattle.fb_run.specs.Wanted.{Wanted}
 use Rattle.fbcheck_words.specs.declared.choices.Form as asked
 use Rattle.fbcheck_words.specs.declared.choices.Form.TheVariants as words
@@ -23,6 +23,9 @@ use Rattle.fb_run.specs.declared.options.Places.TheVariants.{Numbers, Words}
 use Rattle.fb_run.specs.declared.options.Prefix.{Prefix}
 use Rattle.fb_run.specs.declared.options.Prefix.TheVariants.{Part, Apart}
 use Rattle.fb_run.specs.declared.options.Options.{Options}
+use Rattle.fbcheck.specs.Framing.{by_of, framing_of}
+use Rattle.fbcheck.specs.declared.framing.Framing.{Framing}
+use Rattle.fbcheck.specs.declared.framing.Manner.{Manner}
 use Rattle.fbcheck.specs.Inputs.{label_of, with_label}
 use Rattle.fbcheck.specs.declared.fault.AskFault.{AskFault}
 use Rattle.fbcheck.specs.declared.fault.AskFault.TheVariants.{Path, NoRoot, NoIdent, OutOfMemory}
@@ -89,6 +92,14 @@ places_of false words.Plain = Numbers
 abbrev pub prefix_of : Bool → Prefix
 prefix_of true = Apart
 prefix_of false = Part
+
+-- how messages stand in an input
+abbrev pub framing_in : Settings → Framing
+framing_in settings = framing_of settings.bare (start_of settings.bare (prefix_of settings.delimited))
+
+-- and by what they are checked
+abbrev pub manner_in : Settings → Manner
+manner_in settings = record { framing = framing_in settings; by = by_of settings.schema }
 
 -- what the settings ask of each buffer, from this root, with these paths and this identifier
 abbrev pub options_of : Settings → ℕ → Vec Wanted Global → Ident → Options

@@ -95,7 +95,7 @@ IsPathHint rows root texts _ hint = hint ≡ codes "\n"
 -- this is told behind a fault of what a schema file, or none, and the settings ask
 abbrev pub IsHint : Option (Bor (List ℕ)) → Settings → AskFault → List ℕ → Type 0
 IsHint file settings (Load fault) text = text ≡ schema_hint (option_map string_bytes settings.schema) file
-IsHint file settings NoRoot text = (rows : Rows) × (own : Own) × IsSchema file rows own × (text ≡ root_hint rows (option_map string_bytes settings.root))
+IsHint file settings NoRoot text = (rows : Rows) × (own : Own) × IsSchema file rows own × (text ≡ root_hint rows (option_map string_bytes settings.root) (option_map string_bytes settings.schema))
 IsHint file settings (Path fault) text = (rows : Rows) × (own : Own) × (root : ℕ) × IsSchema file rows own × (asked_root rows own settings ≡ Some root) × TellsPath rows root (path_texts settings) fault text
 IsHint file settings _ text = text ≡ codes "\n"
 

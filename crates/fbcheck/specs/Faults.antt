@@ -9,15 +9,18 @@ use Rattle.std.specs.declared.io.ErrorKind.TheVariants as kind
 use Rattle.fbcheck.specs.declared.files.FileFault.{FileFault}
 use Rattle.fbcheck.specs.declared.files.FileFault.TheVariants as file
 use Rattle.fbcheck.specs.declared.stop.WordsFault.{WordsFault}
+use Rattle.fbcheck.specs.declared.stop.WrongWord.{WrongWord}
+use Rattle.std.specs.declared.alloc.AllocError.{AllocError}
 use Rattle.fbcheck.specs.declared.stop.WordsFault.TheVariants as words
 use Rattle.fbcheck.specs.declared.fault.AskFault.{AskFault}
 use Rattle.fbcheck.specs.declared.fault.AskFault.TheVariants.{Load, Path, OutOfMemory}
 
--- an error of this kind, where the words were read, of which the first that is no text has this number, and where a
--- schema file was
-abbrev pub words_fault : ErrorKind → ℕ → WordsFault
-words_fault kind.OutOfMemory number = words.OutOfMemory
-words_fault _ number = words.NotText number
+-- an error of this kind, where the words were read, of which this is the first that is no text or there was no memory
+-- for it, and where a schema file was
+abbrev pub words_fault : ErrorKind → Result WrongWord AllocError → WordsFault
+words_fault kind.OutOfMemory word = words.OutOfMemory
+words_fault _ (Err none) = words.OutOfMemory
+words_fault _ (Ok word) = words.NotText word
 
 abbrev pub file_fault : ErrorKind → FileFault
 file_fault kind.OutOfMemory = file.OutOfMemory

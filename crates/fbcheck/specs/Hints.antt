@@ -9,9 +9,6 @@ use Rattle.std.specs.declared.io.ErrorKind.TheVariants as kind
 use Rattle.fb_access.specs.declared.path_fault.PathFault.{PathFault}
 use Rattle.fb_access.specs.declared.path_fault.PathFault.TheVariants.{BadText, NoSuchField, OutOfMemory as NoRoom}
 use Rattle.fb_run.specs.AnswerText.{byte_text}
-use Rattle.fb_run.specs.declared.fault.RunFault.{RunFault}
-use Rattle.fb_run.specs.declared.fault.RunFault.TheVariants.{Stream}
-use Rattle.fb_run.specs.declared.tally.Tally.{Tally}
 use Rattle.fb_schema.specs.declared.kinds.Kind.{Kind}
 use Rattle.fb_schema.specs.declared.kinds.Kind.TheVariants.{Scalar, Struct, Table, Text, Union}
 use Rattle.fb_schema.specs.declared.kinds.Scalar as scalars
@@ -27,6 +24,8 @@ use Rattle.fbcheck.specs.declared.files.FileFault.{FileFault}
 use Rattle.fbcheck.specs.declared.hint.Unasked.{Unasked}
 use Rattle.std.specs.declared.alloc.AllocError.{AllocError}
 use Rattle.fbcheck.specs.declared.files.FileFault.TheVariants as file
+use Rattle.fbcheck.specs.declared.stop.WordsFault.{WordsFault}
+use Rattle.fbcheck.specs.declared.stop.WordsFault.TheVariants as words
 
 -- a name behind a space, with what isn't printable as in texts
 abbrev pub named : List ℕ → List ℕ
@@ -92,6 +91,15 @@ or_failed (Some reason) = reason
 abbrev pub reason_text : ErrorKind → List ℕ
 reason_text cause = or_failed (known_reason cause)
 
+-- a word that is no text, and what can be done about a name
+abbrev pub word_hint : List ℕ → List ℕ
+word_hint word = codes "," ++ named word ++ codes "; nothing was checked: words must be UTF-8, and a file of any name can be standard input" ++ codes "\n"
+
+-- behind the fault of words that can't be read stands the first that is no text
+abbrev pub words_hint : WordsFault → List ℕ
+words_hint (words.NotText word) = word_hint word.bytes.items
+words_hint words.OutOfMemory = codes "\n"
+
 -- the name of a file that can't be read, and why
 abbrev pub file_hint : FileFault → Option (List ℕ) → List ℕ
 file_hint (file.Unreadable cause) (Some name) = named name ++ codes ": " ++ reason_text cause ++ codes "\n"
@@ -104,10 +112,25 @@ is_blank b = b == 9 || b == 10 || b == 13 || b == 32
 abbrev pub is_plain : ℕ → Bool
 is_plain b = is_blank b || (nat_le 33 b && nat_le b 126)
 
--- the first byte that is no blank opens an object or a list of JSON
+-- a text from its first byte on that is no blank
+abbrev pub past_blanks : List ℕ → List ℕ
+past_blanks [] = []
+past_blanks (b ∷ bytes) = if is_blank b then past_blanks bytes else b ∷ bytes
+
+-- it opens an object or a list of JSON
 abbrev pub opens : List ℕ → Bool
 opens [] = false
-opens (b ∷ bytes) = if is_blank b then opens bytes else (b == 123 || b == 91)
+opens (b ∷ bytes) = b == 123 || b == 91
+
+-- it begins as a schema's text does: with a comment, or with a word of its language
+abbrev pub begins : List ℕ → List ℕ → Bool
+begins text word = bytes_eq word (take (length word) text)
+
+abbrev pub begins_schema : List ℕ → Bool
+begins_schema text =
+    begins text (codes "//") || begins text (codes "/*") || begins text (codes "namespace ") || begins text (codes "table ")
+    || begins text (codes "struct ") || begins text (codes "enum ") || begins text (codes "union ") || begins text (codes "include ")
+    || begins text (codes "root_type ") || begins text (codes "attribute ") || begins text (codes "file_") || begins text (codes "native_include ")
 
 -- which one it is, where that is told
 abbrev pub in_which : Option (List ℕ) → List ℕ
@@ -133,13 +156,19 @@ ident_hint front =
     else if has_ident front then other_ident (ident_in front)
     else codes "; this is no binary schema, which flatc --binary --schema makes"
 
--- what a file looks like that begins so: nothing, a text in JSON, another, or none
+-- what a text looks like that begins so
+abbrev pub text_hint : List ℕ → List ℕ
+text_hint text =
+    if opens text then codes "; this looks like JSON, and no binary schema, which flatc --binary --schema makes"
+    else if begins_schema text then codes "; this looks like a schema's text (.fbs): flatc --binary --schema makes the .bfbs"
+    else codes "; this is text, and no binary schema, which flatc --binary --schema makes"
+
+-- what a file looks like that begins so: nothing, a text, or none
 abbrev pub front_hint : List ℕ → List ℕ
 front_hint front =
     if length front == 0 then codes "; this is empty"
     else if not (list_all is_plain front) then ident_hint front
-    else if opens front then codes "; this looks like JSON"
-    else codes "; this looks like a schema's text (.fbs): flatc --binary --schema makes the .bfbs"
+    else text_hint (past_blanks front)
 
 -- which file gives no schema, and what it looks like by its first 16 bytes
 abbrev pub schema_hint : Option (List ℕ) → Option (Bor (List ℕ)) → List ℕ
@@ -157,10 +186,15 @@ fields_at rows (Table k) = map (λ (f : Live). f.name) (live_fields rows k)
 fields_at rows (Struct k) = map (λ (f : Field). f.name) (parts_of rows k)
 fields_at rows kind = []
 
+-- whose tables these are where no schema file is named, and where one comes from
+abbrev pub schemaless : Option (List ℕ) → List ℕ
+schemaless None = codes "; these are of schema files, which input is taken for without --schema: flatc --binary --schema makes the .bfbs"
+schemaless (Some schema) = []
+
 -- the name that isn't a table's, where one was asked for, and the tables that there are, up to ten
-abbrev pub root_hint : Rows → Option (List ℕ) → List ℕ
-root_hint rows None = codes "; tables:" ++ listed 10 (tables_in rows.objects) ++ codes "\n"
-root_hint rows (Some name) = named name ++ codes "; tables:" ++ listed 10 (tables_in rows.objects) ++ codes "\n"
+abbrev pub root_hint : Rows → Option (List ℕ) → Option (List ℕ) → List ℕ
+root_hint rows None schema = codes "; tables:" ++ listed 10 (tables_in rows.objects) ++ schemaless schema ++ codes "\n"
+root_hint rows (Some name) schema = named name ++ codes "; tables:" ++ listed 10 (tables_in rows.objects) ++ schemaless schema ++ codes "\n"
 
 -- a scalar by its name in a schema's text
 abbrev pub scalar_text : scalars.Scalar → List ℕ
@@ -224,10 +258,3 @@ hint_text (Some hint) = hint.items
 abbrev pub with_hint : AskFault → Result (Vec ℕ Global) AllocError → Unasked
 with_hint fault (Ok hint) = record { fault = fault; hint = Some hint }
 with_hint fault (Err none) = record { fault = OutOfMemory; hint = None }
-
--- behind the fault of a stream of which no message was good stands which options other input needs
-abbrev pub run_hint : RunFault → Tally → List ℕ
-run_hint (Stream cause) tally =
-    if tally.yes == 0 then codes "; no good message came before: --bare is for a buffer without a prefix, --delimited for prefixes outside the buffers\n"
-    else codes "\n"
-run_hint fault tally = codes "\n"

@@ -18,10 +18,13 @@ use Rattle.fb_run.specs.declared.fault.RunFault.TheVariants.{WriteFault, NoteFau
 use Rattle.fb_run.specs.declared.run.Ran.{Ran}
 use Rattle.fb_run.specs.declared.tally.Tally.{Tally}
 use Rattle.std.specs.declared.io.ErrorKind.{ErrorKind}
-use Rattle.fbcheck.specs.Hints.{reason_text, run_hint}
-use Rattle.fbcheck.specs.Texts.{run_text}
+use Rattle.fbcheck.specs.Hints.{reason_text}
+use Rattle.fbcheck.specs.Texts.{of_read, run_text}
+use Rattle.fbcheck.specs.Framing.{end_hint, framing_of, run_hint}
+use Rattle.fbcheck.specs.declared.framing.By.TheVariants.{Named}
+use Rattle.fbcheck.specs.declared.framing.Framing.{Framing}
 use Rattle.fbcheck.specs.declared.files.Files as files
-use Rattle.fbcheck.specs.declared.reading.Explains as explains
+use Rattle.fbcheck.specs.declared.causes.Explains as explains
 use Rattle.fbcheck.specs.declared.files.FileFault.{FileFault}
 use Rattle.fbcheck.specs.declared.files.FileFault.TheVariants as file
 use Rattle.fbcheck.specs.declared.inputs.Course.{Course}
@@ -161,6 +164,18 @@ IsNotedOf line before after (Err (NoteFault written)) = WritesFront line before.
 IsNotedOf line before after (Err OutOfMemory) = after ≡ before
 IsNotedOf line before after (Err _) = ⊥
 
+-- this text was noted, or a front of it in a write that failed, as the count of such writes before and after tells
+abbrev pub IsNoted : List ℕ → Writer → Writer → Type 0
+IsNoted text before after =
+    (Appends before.bytes after.bytes text × (after.failures ≡ before.failures))
+    ⊎ ((written : ℕ) × WritesFront text before.bytes after.bytes 0 written × (after.failures ≡ before.failures + 1))
+
+-- a hint was noted so; or nothing for want of memory, and that ends it all
+abbrev pub IsHintOf : List ℕ → Writer → Writer → End → Type 0
+IsHintOf line before after (Ok done) = IsNoted line before after
+IsHintOf line before after (Err OutOfMemory) = after ≡ before
+IsHintOf line before after (Err _) = ⊥
+
 -- whether this ends it all: a failed write or note, or want of memory
 abbrev pub is_final : RunFault → Bool
 is_final (WriteFault written) = true
@@ -169,21 +184,26 @@ is_final OutOfMemory = true
 is_final fault = false
 
 -- behind a fault of a run, of which this is the cause: nothing, where that ends it all; else its text is noted
-abbrev pub IsBehindFault : Bool → List ℕ → Tally → RunFault → Option ErrorKind → Writer → Writer → End → Type 0
-IsBehindFault true name tally fault cause before after end = (end ≡ Err fault) × (after ≡ before)
-IsBehindFault false name tally fault cause before after end = IsNotedOf (fault_line name (run_text cause fault) (run_hint fault tally)) before after end
+abbrev pub IsBehindFault : Bool → List ℕ → Framing → Tally → RunFault → Option ErrorKind → Writer → Writer → End → Type 0
+IsBehindFault true name framing tally fault cause before after end = (end ≡ Err fault) × (after ≡ before)
+IsBehindFault false name framing tally fault cause before after end = IsNotedOf (fault_line name (run_text (of_read cause) fault) (run_hint framing fault tally)) before after end
+
+-- behind a run that came to its end: what is told of it, where there is something
+abbrev pub IsBehindEnd : List ℕ → Option (List ℕ) → Writer → Writer → End → Type 0
+IsBehindEnd name None before after end = (end ≡ Ok tt) × (after ≡ before)
+IsBehindEnd name (Some hint) before after end = IsHintOf (fault_line name hint []) before after end
 
 -- behind a run
-abbrev pub IsBehindRun : List ℕ → Tally → End → Option ErrorKind → Writer → Writer → End → Type 0
-IsBehindRun name tally (Ok done) cause before after end = (end ≡ Ok tt) × (after ≡ before)
-IsBehindRun name tally (Err fault) cause before after end = IsBehindFault (is_final fault) name tally fault cause before after end
+abbrev pub IsBehindRun : List ℕ → Framing → Tally → End → Option ErrorKind → Writer → Writer → End → Type 0
+IsBehindRun name framing tally (Ok done) cause before after end = IsBehindEnd name (end_hint Named framing tally) before after end
+IsBehindRun name framing tally (Err fault) cause before after end = IsBehindFault (is_final fault) name framing tally fault cause before after end
 
 -- the same where there may have been no run
-abbrev pub IsBehind : List ℕ → Result Ran Missed → Option ErrorKind → Writer → Writer → End → Type 0
-IsBehind name (Ok ran) cause before after end = IsBehindRun name ran.tally ran.end cause before after end
-IsBehind name (Err (missed.File file.OutOfMemory)) cause before after end = (end ≡ Err OutOfMemory) × (after ≡ before)
-IsBehind name (Err (missed.File (file.Unreadable why))) cause before after end = IsNotedOf (fault_line name (reason_text why) (codes "\n")) before after end
-IsBehind name (Err missed.Again) cause before after end = IsNotedOf (fault_line name (codes "standard input was read before") (codes "\n")) before after end
+abbrev pub IsBehind : List ℕ → Framing → Result Ran Missed → Option ErrorKind → Writer → Writer → End → Type 0
+IsBehind name framing (Ok ran) cause before after end = IsBehindRun name framing ran.tally ran.end cause before after end
+IsBehind name framing (Err (missed.File file.OutOfMemory)) cause before after end = (end ≡ Err OutOfMemory) × (after ≡ before)
+IsBehind name framing (Err (missed.File (file.Unreadable why))) cause before after end = IsNotedOf (fault_line name (reason_text why) (codes "\n")) before after end
+IsBehind name framing (Err missed.Again) cause before after end = IsNotedOf (fault_line name (codes "standard input was read before") (codes "\n")) before after end
 
 -- standard input once this file was gone through
 abbrev pub standard_after : Bool → Standard → Standard
@@ -221,7 +241,7 @@ pub record Passes (folder : Folder) (job : Job) (name : List ℕ) (before after 
   pub cause : Option ErrorKind
   pub between : Seen
   pub comes : ComesOf folder job name before.course.standard before.seen between came cause
-  pub told : IsBehind name came cause between.ends.outs.notes after.seen.ends.outs.notes end
+  pub told : IsBehind name (framing_of job.bare job.start) came cause between.ends.outs.notes after.seen.ends.outs.notes end
   pub others : after.seen ≡ renoted between after.seen.ends.outs.notes
   pub course_is : after.course ≡ course_with name came before.course
 

@@ -3,6 +3,7 @@ pub mod Faults
 pub mod Asked
 pub mod Alike
 pub mod Hints
+pub mod Framing
 pub mod Texts
 pub mod Inputs
 pub mod Checking

@@ -5,12 +5,15 @@ use Rattle.std.specs.declared.io.ErrorKind.{ErrorKind}
 use Rattle.std.specs.Io.KnownBytes.{Appends, Keeps}
 use Rattle.clap.specs.Walk.{Text}
 use Rattle.clap.specs.Faults.{fault_of}
-use Rattle.fbcheck.specs.Asked.{form_of}
+use Rattle.fbcheck.specs.Asked.{form_of, manner_in}
 use Rattle.fbcheck.specs.Checking.{IsIdle, IsPromptOverAsked, IsUntold, RunsAsAsked, ServesAsAsked, names_in}
-use Rattle.fbcheck.specs.Hints.{file_hint, hint_text, run_hint}
+use Rattle.fbcheck.specs.Hints.{file_hint, hint_text, words_hint}
 use Rattle.fbcheck.specs.Texts.{stop_text}
+use Rattle.fbcheck.specs.Framing.{by_hint, by_of, end_hint, run_hint}
+use Rattle.fbcheck.specs.declared.framing.By.{By}
+use Rattle.fbcheck.specs.declared.framing.Manner.{Manner}
 use Rattle.fbcheck.specs.Faults.{HasFileFault, IsFile, ask_status}
-use Rattle.fbcheck.specs.Inputs.{Folder, Seen, renoted}
+use Rattle.fbcheck.specs.Inputs.{Folder, IsNoted, Seen, renoted}
 use Rattle.fbcheck_words.specs.CommandLine.{program}
 use Rattle.fb_run.specs.Ends.{Ends, Writer, with_notes}
 use Rattle.fb_run.specs.Faults.{End, EndsBeside, IsUnfailed, failures_of, status_of}
@@ -27,6 +30,7 @@ use Rattle.fbcheck.specs.declared.files.FileFault.TheVariants as file_fault
 use Rattle.fbcheck.specs.declared.inputs.Course.{Course}
 use Rattle.fb_run.specs.declared.fault.RunFault.TheVariants.{TooManyTurns, WriteFault}
 use Rattle.fb_run.specs.declared.tally.Tally.{Tally}
+use Rattle.fbcheck.specs.declared.causes.Causes.{Causes}
 use Rattle.fbcheck.specs.declared.stop.Ending.{Ending}
 use Rattle.fbcheck.specs.declared.stop.Ending.TheVariants.{Helped, Checked, Passed}
 use Rattle.fbcheck.specs.declared.stop.Stop.{Stop}
@@ -60,25 +64,25 @@ pub record HoldsAsGiven (folder : Folder) (given : List Text) (Holds : Option (B
 abbrev pub summed : Settings → Tally → Option Sums
 summed settings tally = if settings.summary then Some (record { form = form_of settings.form; tally = tally }) else None
 
--- the buffers of standard input were checked as the words ask, which name no files, this was counted, and these numbers
--- are to be told
-abbrev pub ChecksAsGiven : Folder → List Text → Ends → Ends → Option Sums → Tally → End → Type 0
-ChecksAsGiven folder given before after sums tally end =
-    HoldsAsGiven folder given (λ file settings. (names_in settings ≡ []) × RunsAsAsked file settings before after tally end × (sums ≡ summed settings tally))
+-- the buffers of standard input were checked as the words ask, which name no files, in this manner, this was counted, and
+-- these numbers are to be told
+abbrev pub ChecksAsGiven : Folder → List Text → Ends → Ends → Option Sums → Tally → Manner → End → Type 0
+ChecksAsGiven folder given before after sums tally manner end = HoldsAsGiven folder given
+    (λ file settings. (names_in settings ≡ []) × RunsAsAsked file settings before after tally end × (manner ≡ manner_in settings) × (sums ≡ summed settings tally))
 
--- files were gone through as the words ask, they came to this, and these numbers are to be told
-abbrev pub PassesAsGiven : Folder → List Text → Seen → Seen → Option Sums → Course → End → Type 0
-PassesAsGiven folder given before after sums course end =
-    HoldsAsGiven folder given (λ file settings. (names_in settings ≢ []) × ServesAsAsked folder file settings before after course end × (sums ≡ summed settings course.tally))
+-- files were gone through as the words ask, they came to this, by what they were checked, and these numbers are to be told
+abbrev pub PassesAsGiven : Folder → List Text → Seen → Seen → Option Sums → Course → By → End → Type 0
+PassesAsGiven folder given before after sums course by end = HoldsAsGiven folder given
+    (λ file settings. (names_in settings ≢ []) × ServesAsAsked folder file settings before after course end × (by ≡ by_of settings.schema) × (sums ≡ summed settings course.tally))
 
 -- how the program ends by the end of a run, and of files
-abbrev pub run_ending : Tally → End → Result Ending Stop
-run_ending tally (Ok done) = Ok (Checked tally)
-run_ending tally (Err fault) = Err (stop.Run fault tally)
+abbrev pub run_ending : Manner → Tally → End → Result Ending Stop
+run_ending manner tally (Ok done) = Ok (Checked tally manner)
+run_ending manner tally (Err fault) = Err (stop.Run fault tally manner)
 
-abbrev pub files_ending : Course → End → Result Ending Stop
-files_ending course (Ok done) = Ok (Passed course)
-files_ending course (Err fault) = Err (stop.Halted fault)
+abbrev pub files_ending : By → Course → End → Result Ending Stop
+files_ending by course (Ok done) = Ok (Passed course by)
+files_ending by course (Err fault) = Err (stop.Halted fault)
 
 -- all that was read by now is told, of a run that the words ask for; they could be read
 abbrev pub IsPromptAsGiven : Folder → Result (List Text) WordsFault → Ends → Ends → Type 0
@@ -110,10 +114,10 @@ IsUnserved given before after outcome =
 
 -- what the program came to by these words, what it read, wrote and noted by then, and the numbers that are to be told
 abbrev pub ComesBy : Folder → List Text → Seen → Seen → Option Sums → Result Ending Stop → Type 0
-ComesBy folder given before after sums (Ok (Checked tally)) = ChecksAsGiven folder given before.ends after.ends sums tally (Ok tt)
-ComesBy folder given before after sums (Err (stop.Run fault tally)) = ChecksAsGiven folder given before.ends after.ends sums tally (Err fault)
-ComesBy folder given before after sums (Ok (Passed course)) = PassesAsGiven folder given before after sums course (Ok tt)
-ComesBy folder given before after sums (Err (stop.Halted fault)) = (course : Course) × PassesAsGiven folder given before after sums course (Err fault)
+ComesBy folder given before after sums (Ok (Checked tally manner)) = ChecksAsGiven folder given before.ends after.ends sums tally manner (Ok tt)
+ComesBy folder given before after sums (Err (stop.Run fault tally manner)) = ChecksAsGiven folder given before.ends after.ends sums tally manner (Err fault)
+ComesBy folder given before after sums (Ok (Passed course by)) = PassesAsGiven folder given before after sums course by (Ok tt)
+ComesBy folder given before after sums (Err (stop.Halted fault)) = (course : Course) × (by : By) × PassesAsGiven folder given before after sums course by (Err fault)
 ComesBy folder given before after sums (Err (stop.Ask unasked)) =
     HoldsAsGiven folder given (λ file settings. IsUntold file settings unasked) × IsIdle before.ends after.ends × (sums ≡ None)
 ComesBy folder given before after sums (Err (stop.File fault hint)) =
@@ -123,15 +127,16 @@ ComesBy folder given before after sums outcome = IsUnserved given before.ends af
 -- the same where it may be that the words could not be read
 abbrev pub ComesTo : Folder → Result (List Text) WordsFault → Seen → Seen → Option Sums → Result Ending Stop → Type 0
 ComesTo folder (Ok given) before after sums outcome = ComesBy folder given before after sums outcome
-ComesTo folder (Err fault) before after sums (Err (stop.Words told)) = (told ≡ fault) × IsIdle before.ends after.ends × (sums ≡ None)
+ComesTo folder (Err fault) before after sums (Err (stop.Words told hint)) = (told ≡ fault) × (hint.items ≡ words_hint fault) × IsIdle before.ends after.ends × (sums ≡ None)
+ComesTo folder (Err fault) before after sums (Err (stop.Settings refusal.OutOfMemory)) = IsIdle before.ends after.ends × (sums ≡ None)
 ComesTo folder (Err fault) before after sums _ = ⊥
 
 -- how it ended, with so many reads at most: a run by its end or its cause, help by whether a write failed; of files that
 -- stands with each of them
 abbrev pub EndsSo : Ends → Ends → ℕ → Result Ending Stop → Type 0
-EndsSo before after turns (Ok (Checked tally)) = EndsBeside before after turns (Ok tt)
-EndsSo before after turns (Err (stop.Run fault tally)) = EndsBeside before after turns (Err fault)
-EndsSo before after turns (Ok (Passed course)) = Unit {0}
+EndsSo before after turns (Ok (Checked tally manner)) = EndsBeside before after turns (Ok tt)
+EndsSo before after turns (Err (stop.Run fault tally manner)) = EndsBeside before after turns (Err fault)
+EndsSo before after turns (Ok (Passed course by)) = Unit {0}
 EndsSo before after turns (Err (stop.Halted fault)) = Unit {0}
 EndsSo before after turns (Err (stop.CutOff written)) = EndsBeside before after turns (Err (WriteFault written))
 EndsSo before after turns _ = IsUnfailed (failures_of before) (failures_of after)
@@ -141,16 +146,10 @@ abbrev pub IsCrowded : ℕ → ℕ → Result Ending Stop → Type 0
 IsCrowded writes notes (Err (stop.Halted TooManyTurns)) = (2 ^ 64 ≤ writes) ⊎ (2 ^ 64 ≤ notes)
 IsCrowded writes notes outcome = Unit {0}
 
--- this text was noted, or a front of it in a write that failed, as the count of such writes before and after tells
-abbrev pub IsNoted : List ℕ → Writer → Writer → Type 0
-IsNoted text before after =
-    (Appends before.bytes after.bytes text × (after.failures ≡ before.failures))
-    ⊎ ((written : ℕ) × WritesFront text before.bytes after.bytes 0 written × (after.failures ≡ before.failures + 1))
-
 -- a run that came to its end stops for want of its summary; all else ends as it would without
 abbrev pub unsummed : Result Ending Stop → ℕ → Result Ending Stop
-unsummed (Ok (Checked tally)) written = Err (stop.Unsummed written)
-unsummed (Ok (Passed course)) written = Err (stop.Unsummed written)
+unsummed (Ok (Checked tally manner)) written = Err (stop.Unsummed written)
+unsummed (Ok (Passed course by)) written = Err (stop.Unsummed written)
 unsummed outcome written = outcome
 
 -- where numbers are to be told, their line is noted, in the form that is asked for, or a front of it in a write that
@@ -163,22 +162,34 @@ SumsUp (Some sums) before after outcome ending =
 
 -- what stands behind the text of a stop, to the end of its line
 abbrev pub behind : Stop → List ℕ
+behind (stop.Words fault hint) = hint.items
 behind (stop.File fault hint) = hint.items
 behind (stop.Ask unasked) = hint_text unasked.hint
-behind (stop.Run fault tally) = run_hint fault tally
+behind (stop.Run fault tally manner) = run_hint manner.framing fault tally
 behind _ = codes "\n"
 
--- nothing is told of a good end; of a stop the text of `clap`, or else a line of its own behind the program's name,
--- where this is why a read of standard input failed, if one did
-abbrev pub Complains : Option ErrorKind → Result Ending Stop → Writer → Writer → Type 0
-Complains cause (Ok ending) before after = Keeps before.bytes after.bytes × (after.failures ≡ before.failures)
-Complains cause (Err (stop.Usage text)) before after = IsNoted (string_bytes text) before after
-Complains cause (Err fault) before after = IsNoted ((codes "fbcheck: " ++ stop_text cause fault) ++ behind fault) before after
+-- a text is noted behind the program's name, where there is one
+abbrev pub IsHinted : Option (List ℕ) → Writer → Writer → Type 0
+IsHinted None before after = Keeps before.bytes after.bytes × (after.failures ≡ before.failures)
+IsHinted (Some text) before after = IsNoted (codes "fbcheck: " ++ text) before after
+
+-- what is told of a good end
+abbrev pub ending_hint : Ending → Option (List ℕ)
+ending_hint Helped = None
+ending_hint (Checked tally manner) = end_hint manner.by manner.framing tally
+ending_hint (Passed course by) = by_hint by course.tally
+
+-- that is told of it; of a stop the text of `clap`, or else a line of its own behind the program's name, where this is
+-- why a read of standard input or a write failed, if one did
+abbrev pub Complains : Causes → Result Ending Stop → Writer → Writer → Type 0
+Complains causes (Ok ending) before after = IsHinted (ending_hint ending) before after
+Complains causes (Err (stop.Usage text)) before after = IsNoted (string_bytes text) before after
+Complains causes (Err fault) before after = IsNoted ((codes "fbcheck: " ++ stop_text causes fault) ++ behind fault) before after
 
 -- the exit status of a stop
 abbrev pub stop_status : Stop → ℕ
-stop_status (stop.Words (words_fault.NotText number)) = 2
-stop_status (stop.Words words_fault.OutOfMemory) = 3
+stop_status (stop.Words (words_fault.NotText word) hint) = 2
+stop_status (stop.Words words_fault.OutOfMemory hint) = 3
 stop_status (stop.Usage text) = 2
 stop_status (stop.Settings fault) = refusal_status fault
 stop_status (stop.CutOff written) = 3
@@ -186,20 +197,21 @@ stop_status (stop.Unsummed written) = 3
 stop_status (stop.File (file_fault.Unreadable cause) hint) = 2
 stop_status (stop.File file_fault.OutOfMemory hint) = 3
 stop_status (stop.Ask unasked) = ask_status unasked.fault
-stop_status (stop.Run fault tally) = status_of (Err fault)
+stop_status (stop.Run fault tally manner) = status_of (Err fault)
 stop_status (stop.Halted fault) = status_of (Err fault)
 
 -- the exit status
 abbrev pub exit_status : Result Ending Stop → ℕ
 exit_status (Ok Helped) = 0
-exit_status (Ok (Checked tally)) = status_of (Ok tally)
-exit_status (Ok (Passed course)) = course.status
+exit_status (Ok (Checked tally manner)) = status_of (Ok tally)
+exit_status (Ok (Passed course by)) = course.status
 exit_status (Err cause) = stop_status cause
 
 -- The program did what its words ask with at most so many reads, told behind its notes the numbers that they ask for and
 -- why it came to rest if it did, and ended with the status of that. Behind what it came to the notes were `between`, and
--- behind the numbers `behind`. So many calls were made of the writer and the notes in the end.
-pub record IsServed (folder : Folder) (given : Result (List Text) WordsFault) (before after : Seen) (turns writes notes status : ℕ) : Type 0 where
+-- behind the numbers `behind`. So many calls were made of the writer and the notes in the end, and this is why
+-- a write failed, where one did.
+pub record IsServed (folder : Folder) (given : Result (List Text) WordsFault) (before after : Seen) (unwritten : Option ErrorKind) (turns writes notes status : ℕ) : Type 0 where
   pub outcome : Result Ending Stop
   pub sums : Option Sums
   pub between : Writer
@@ -209,5 +221,5 @@ pub record IsServed (folder : Folder) (given : Result (List Text) WordsFault) (b
   pub ending : Result Ending Stop
   pub behind : Writer
   pub summed : SumsUp sums between behind outcome ending
-  pub told : Complains after.cause ending behind after.ends.outs.notes
+  pub told : Complains (record { read = after.cause; write = unwritten }) ending behind after.ends.outs.notes
   pub status_is : status ≡ exit_status ending

@@ -20,6 +20,7 @@ use Rattle.fbcheck.specs.declared.fault.AskFault.{AskFault}
 use Rattle.fbcheck.specs.declared.fault.AskFault.TheVariants as ask
 use Rattle.fbcheck.specs.declared.files.FileFault.{FileFault}
 use Rattle.fbcheck.specs.declared.files.FileFault.TheVariants as file
+use Rattle.fbcheck.specs.declared.causes.Causes.{Causes}
 use Rattle.fbcheck.specs.declared.stop.Stop.{Stop}
 use Rattle.fbcheck.specs.declared.stop.Stop.TheVariants as stop
 use Rattle.fbcheck.specs.declared.stop.WordsFault.{WordsFault}
@@ -30,15 +31,20 @@ abbrev pub behind_colon : Option (List ℕ) → List ℕ
 behind_colon None = []
 behind_colon (Some reason) = codes ": " ++ reason
 
--- why a read failed, where that is known and told
+-- the reason of a failed read alone
+abbrev pub of_read : Option ErrorKind → Causes
+of_read cause = record { read = cause; write = None }
+
+-- why a call failed, where that is known and told
 abbrev pub cause_text : Option ErrorKind → List ℕ
 cause_text None = []
 cause_text (Some cause) = behind_colon (known_reason cause)
 
--- why a run came to rest, with the reason of a failed read
-abbrev pub run_text : Option ErrorKind → RunFault → List ℕ
-run_text cause run.ReadFault = fault_text run.ReadFault ++ cause_text cause
-run_text cause fault = fault_text fault
+-- why a run came to rest, with the reason of a failed read or write
+abbrev pub run_text : Causes → RunFault → List ℕ
+run_text causes run.ReadFault = fault_text run.ReadFault ++ cause_text causes.read
+run_text causes (run.WriteFault written) = fault_text (run.WriteFault written) ++ cause_text causes.write
+run_text causes fault = fault_text fault
 
 -- where a path doesn't fit
 abbrev pub step_text : PathFault → List ℕ
@@ -86,22 +92,22 @@ file_text file.OutOfMemory = codes "out of memory"
 
 -- why the words can't be read
 abbrev pub words_text : WordsFault → List ℕ
-words_text (words.NotText number) = codes "a word is not UTF-8: number " ++ decimal number
+words_text (words.NotText word) = codes "a word is not UTF-8: number " ++ decimal word.number
 words_text words.OutOfMemory = codes "out of memory"
 
 -- why the summary isn't whole
 abbrev pub unsummed_text : ℕ → List ℕ
 unsummed_text written = codes "write to standard error failed after " ++ decimal written ++ codes " bytes of the summary"
 
--- why the program came to rest, where this is why a read of standard input failed, if one did; the text of `clap` stands
--- by itself
-abbrev pub stop_text : Option ErrorKind → Stop → List ℕ
-stop_text cause (stop.Words fault) = words_text fault
-stop_text cause (stop.Usage text) = []
-stop_text cause (stop.Settings fault) = refusal_text fault
-stop_text cause (stop.CutOff written) = fault_text (run.WriteFault written)
-stop_text cause (stop.Unsummed written) = unsummed_text written
-stop_text cause (stop.File fault hint) = file_text fault
-stop_text cause (stop.Ask unasked) = ask_text unasked.fault
-stop_text cause (stop.Run fault tally) = run_text cause fault
-stop_text cause (stop.Halted fault) = fault_text fault
+-- why the program came to rest, where this is why a read or a write failed, if one did; the text of `clap` stands by
+-- itself
+abbrev pub stop_text : Causes → Stop → List ℕ
+stop_text causes (stop.Words fault hint) = words_text fault
+stop_text causes (stop.Usage text) = []
+stop_text causes (stop.Settings fault) = refusal_text fault
+stop_text causes (stop.CutOff written) = run_text causes (run.WriteFault written)
+stop_text causes (stop.Unsummed written) = unsummed_text written
+stop_text causes (stop.File fault hint) = file_text fault
+stop_text causes (stop.Ask unasked) = ask_text unasked.fault
+stop_text causes (stop.Run fault tally manner) = run_text causes fault
+stop_text causes (stop.Halted fault) = run_text causes fault

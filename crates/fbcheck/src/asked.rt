@@ -3,7 +3,8 @@
 ghost use Rattle.std.specs.Prelude.{ℕ, Option, IfOk, IfErr, IfSome, IsTrue, Ok, ◌≡◌, ◌≤◌, length, map, option_map, string_bytes};
 ghost use Rattle.fb_schema.specs.Rows.{is_table};
 ghost use Rattle.fb_bfbs.specs.LoadLaws.{ident_bytes};
-ghost use Rattle.fbcheck.specs.Asked.{ArePaths, IsPath, PathFails, PathsFail, asked_ident, form_of, ident_of, mode_of, options_of, places_of, prefix_of, root_of};
+ghost use Rattle.fbcheck.specs.Framing.{by_of};
+ghost use Rattle.fbcheck.specs.Asked.{ArePaths, IsPath, PathFails, PathsFail, asked_ident, form_of, framing_in, ident_of, manner_in, mode_of, options_of, places_of, prefix_of, root_of};
 ghost use Rattle.fbcheck.specs.Inputs.{label_of};
 ghost use Rattle.fbcheck.specs.Hints.{hint_text};
 ghost use Rattle.fbcheck.specs.Checking.{Asks, IsPathHint, IsSchema, IsUntold, LacksSchema, own_of, schema_limits};
@@ -14,6 +15,7 @@ ghost use Rattle.fb_access.specs.Fitting.{StepsFit};
 ghost use Rattle.fb_schema.specs.declared.kinds.Kind.TheVariants.{Table};
 
 use crate::fault::AskFault;
+use crate::framing::{By, Framing, Manner};
 use crate::hint::{Unasked, path_hint, root_hint, schema_hint};
 use crate::inputs::{STANDARD, label};
 use fb_access::{Path, misfit_at};
@@ -193,6 +195,33 @@ fn prefix(settings: &Settings) -> Prefix
     }
 }
 
+/// How messages stand in an input.
+fn framing(settings: &Settings) -> Framing
+    ensures { result ≡ framing_in settings.now }
+{
+    Framing::of(settings.bare, prefix(settings))
+}
+
+/// By what buffers are checked.
+pub fn by(settings: &Settings) -> By
+    ensures { result ≡ by_of settings.now.schema }
+{
+    match &settings.schema {
+        Some(_) => By::Named,
+        None => By::Fixed,
+    }
+}
+
+/// In which manner an input is checked.
+pub fn manner(settings: &Settings) -> Manner
+    ensures { result ≡ manner_in settings.now }
+{
+    Manner {
+        framing: framing(settings),
+        by: by(settings),
+    }
+}
+
 /// What the settings ask of each buffer, from this root, with these paths, this identifier and this label.
 fn options(
     settings: &Settings,
@@ -266,7 +295,7 @@ pub fn asked_of<'b>(
         Err(fault) => return Err(schemaless(alloc, fault, schema_bytes, settings)),
     };
     let Some(root) = find_root(&schema, &settings.root, root) else {
-        let hint = root_hint(alloc, &schema, &settings.root);
+        let hint = root_hint(alloc, &schema, settings);
         return Err(Unasked::new(AskFault::NoRoot, hint));
     };
     let paths = find_paths(alloc, &schema, root, settings.paths.as_slice())?;

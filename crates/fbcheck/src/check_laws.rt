@@ -3,7 +3,7 @@
 
 ghost use Rattle.fbcheck.specs.CheckLaws.{AsksOnce};
 ghost use Rattle.fbcheck.specs.InputTests.{Courses, Labels};
-ghost use Rattle.fbcheck.specs.TextTests.{AskTexts, LoadTexts, RunTexts, StopTexts};
+ghost use Rattle.fbcheck.specs.TextTests.{AskTexts, HintTexts, LoadTexts, RunTexts, StopTexts};
 
 /// A schema file, or none, and the settings ask at most one thing: that the buffers are checked by one job, or that
 /// nothing is checked, for one cause: the file gives no schema, there is no root table, the path isn't one from
@@ -21,10 +21,11 @@ pub fn files()
 {}
 
 /// The texts of faults, by example.
-#[tactic(auto, using(crate::proofs::ShownTexts::run_texts_shown, crate::proofs::ShownTexts::load_texts_shown, crate::proofs::ShownTexts::ask_texts_shown, crate::proofs::ShownTexts::stop_texts_shown))]
+#[tactic(auto, using(crate::proofs::ShownTexts::run_texts_shown, crate::proofs::ShownTexts::load_texts_shown, crate::proofs::ShownTexts::ask_texts_shown, crate::proofs::ShownTexts::hint_texts_shown, crate::proofs::ShownTexts::stop_texts_shown))]
 pub fn fault_texts()
     ensures run { RunTexts }
     ensures load { LoadTexts }
     ensures ask { AskTexts }
+    ensures hint { HintTexts }
     ensures stop { StopTexts }
 {}

@@ -4,16 +4,13 @@ ghost use Rattle.std.specs.Prelude.{◌≡◌};
 ghost use Rattle.fbcheck.specs.Faults.{ask_status, load_fault, path_fault};
 ghost use Rattle.fbcheck.specs.declared.fault.AskFault.TheVariants.{OutOfMemory};
 
-use crate::texts::ask_text;
 use fb_access::PathFault;
 use fb_bfbs::LoadFault;
 use fb_run::RunFault;
 use std::alloc::AllocError;
-use std::fmt;
-use thiserror::Error;
 
 /// Why there is nothing to check buffers by.
-#[derive(Clone, Copy, Debug, PartialEq, Eq, Error)]
+#[derive(Clone, Copy, Debug, PartialEq, Eq)]
 pub enum AskFault {
     /// The schema file gives no schema. It is never that fault's own `OutOfMemory`, which is told as this type's.
     Load(LoadFault),
@@ -28,20 +25,12 @@ pub enum AskFault {
     OutOfMemory,
 }
 
-impl fmt::Display for AskFault {
-    fn fmt<W: fmt::Write>(&self, f: &mut fmt::Formatter<W>) -> fmt::Result {
-        write!(f, "{}", ask_text(self))
-    }
-}
-
 /// Why a check came to rest before its end.
-#[derive(Clone, Copy, Debug, PartialEq, Eq, Error)]
+#[derive(Clone, Copy, Debug, PartialEq, Eq)]
 pub enum CheckFault {
     /// There was nothing to check by.
-    #[error("{0}")]
     Ask(AskFault),
     /// The run came to rest.
-    #[error("{0}")]
     Run(RunFault),
 }
 

@@ -5,15 +5,13 @@ ghost use Rattle.std.specs.IoError.{error_kind};
 ghost use Rattle.fbcheck.specs.Faults.{HasFileFault, IsFile, file_fault};
 ghost use Rattle.fbcheck.specs.declared.files.FileFault.{FileFault};
 
-use crate::reading::Explains;
-use crate::texts::file_text;
+use crate::causes::Explains;
 use fb_bytes::Source;
+use std::io;
 use std::io::ErrorKind;
-use std::{fmt, io};
-use thiserror::Error;
 
 /// Why a file can't be read.
-#[derive(Clone, Copy, Debug, PartialEq, Eq, Error)]
+#[derive(Clone, Copy, Debug, PartialEq, Eq)]
 pub enum FileFault {
     /// It isn't there, or a read of it failed, for this cause.
     Unreadable(ErrorKind),
@@ -30,12 +28,6 @@ impl FileFault {
             ErrorKind::OutOfMemory => FileFault::OutOfMemory,
             cause => FileFault::Unreadable(cause),
         }
-    }
-}
-
-impl fmt::Display for FileFault {
-    fn fmt<W: fmt::Write>(&self, f: &mut fmt::Formatter<W>) -> fmt::Result {
-        write!(f, "{}", file_text(self))
     }
 }
 

@@ -3,7 +3,7 @@
 ghost use Rattle.std.specs.Prelude.{IfOk, IfSome, OnOk, Some, ◌≡◌, ◌≤◌, ◌++◌, length, option_map, slice_get, string_bytes, codes, find, take};
 ghost use Rattle.std.specs.List.{list_all};
 ghost use Rattle.fb_access.specs.Kept.{IsThere};
-ghost use Rattle.fbcheck.specs.Hints.{fields_at, file_hint, front_hint, hint_text, is_blank, is_plain, known_reason, listed, named, opens, path_hint, reason_text, root_hint, run_hint, schema_hint, tables_in, with_hint, has_ident, ident_hint, ident_in, in_which, kind_text, meant, members_from, misfit_hint, other_ident, scalar_text, what_hint};
+ghost use Rattle.fbcheck.specs.Hints.{fields_at, file_hint, front_hint, hint_text, is_blank, is_plain, known_reason, listed, named, opens, path_hint, reason_text, root_hint, schema_hint, schemaless, tables_in, with_hint, has_ident, ident_hint, ident_in, in_which, kind_text, meant, members_from, past_blanks, begins_schema, text_hint, misfit_hint, other_ident, scalar_text, what_hint, words_hint};
 ghost use Rattle.fb_access.specs.declared.path_fault.PathFault.TheVariants.{NoSuchField};
 ghost use Rattle.fb_schema.specs.declared.kinds.Kind.TheVariants.{Union};
 ghost use Rattle.fbcheck.specs.Alike.{is_alike};
@@ -11,12 +11,13 @@ ghost use Rattle.fbcheck.specs.Alike.{is_alike};
 use crate::alike::{is_alike, step_name};
 use crate::fault::AskFault;
 use crate::files::FileFault;
+use crate::stop::WordsFault;
 use fb_access::PathFault;
-use fb_run::{RunFault, Tally, put_bytes};
+use fb_run::put_bytes;
 use fb_schema::{Kind, Scalar, Schema};
+use fbcheck_words::Settings;
 use std::alloc::{AllocError, Global};
 use std::io::ErrorKind;
-use thiserror::Error;
 
 /// How many names are told.
 const MOST: usize = 10;
@@ -28,8 +29,7 @@ const FRONT: usize = 16;
 const VALUES: u16 = 256;
 
 /// Why there is nothing to check buffers by, and what is told behind that.
-#[derive(Debug, Drop, Error)]
-#[error("{fault}")]
+#[derive(Debug, Drop)]
 pub struct Unasked {
     /// The cause.
     pub fault: AskFault,
@@ -356,6 +356,22 @@ pub fn reason(cause: ErrorKind) -> &'static [u8]
     }
 }
 
+/// What is told behind the fault of words that can't be read: the word that isn't a text, and that names are.
+pub fn words_hint(alloc: Global, fault: &WordsFault) -> Result<Vec<u8>, AllocError>
+    ensures { IfOk result (λ hint. hint.items ≡ words_hint fault.now) }
+{
+    let mut text = Vec::new(alloc);
+    if let WordsFault::NotText(word) = fault {
+        text.extend_from_slice(b",")?;
+        put_name(&mut text, word.bytes.as_slice())?;
+        text.extend_from_slice(
+            b"; nothing was checked: words must be UTF-8, and a file of any name can be standard input",
+        )?;
+    }
+    text.extend_from_slice(b"\n")?;
+    Ok(text)
+}
+
 /// What is told behind the fault of a schema file that can't be read: its name, and why.
 pub fn file_hint(
     alloc: Global,
@@ -374,20 +390,32 @@ pub fn file_hint(
     Ok(text)
 }
 
+/// Whose tables these are where no schema file is named, and where one comes from.
+fn schemaless(schema: &Option<String>) -> &'static [u8]
+    ensures { result.now ≡ schemaless (option_map string_bytes schema.now) }
+{
+    match schema {
+        Some(_) => b"",
+        None =>
+            b"; these are of schema files, which input is taken for without --schema: flatc --binary --schema makes the .bfbs",
+    }
+}
+
 /// What is told where there is no root table: the name that was asked for, and the tables that there are.
 pub fn root_hint(
     alloc: Global,
     schema: &Schema<'_>,
-    name: &Option<String>,
+    settings: &Settings,
 ) -> Result<Vec<u8>, AllocError>
-    ensures { IfOk result (λ hint. hint.items ≡ root_hint schema.now (option_map string_bytes name.now)) }
+    ensures { IfOk result (λ hint. hint.items ≡ root_hint schema.now (option_map string_bytes settings.now.root) (option_map string_bytes settings.now.schema)) }
 {
     let mut text = Vec::new(alloc);
-    if let Some(name) = name {
+    if let Some(name) = &settings.root {
         put_name(&mut text, name.as_bytes())?;
     }
     text.extend_from_slice(b"; tables:")?;
     put_tables(&mut text, schema)?;
+    text.extend_from_slice(schemaless(&settings.schema))?;
     text.extend_from_slice(b"\n")?;
     Ok(text)
 }
@@ -450,22 +478,65 @@ fn is_plain(byte: u8) -> bool
 }
 
 /// Whether each of these bytes may stand in a text.
-fn are_plain(bytes: &[u8]) -> bool
+pub fn are_plain(bytes: &[u8]) -> bool
     ensures { result ≡ list_all is_plain bytes.now }
 {
     bytes.iter().all(|byte| is_plain(*byte))
 }
 
-/// Whether the first byte that is no blank opens an object or a list of JSON.
-fn opens(bytes: &[u8]) -> bool
-    ensures { result ≡ opens bytes.now }
+/// A text from its first byte on that is no blank.
+pub fn past_blanks(bytes: &[u8]) -> &[u8]
+    ensures { result.now ≡ past_blanks bytes.now }
 {
-    for byte in bytes {
-        if !is_blank(*byte) {
-            return *byte == b'{' || *byte == b'[';
+    let mut rest = bytes;
+    while let Some((first, tail)) = rest.split_first() {
+        if !is_blank(*first) {
+            break;
         }
+        rest = tail;
     }
-    false
+    rest
+}
+
+/// Whether a text opens an object or a list of JSON.
+pub fn opens(text: &[u8]) -> bool
+    ensures { result ≡ opens text.now }
+{
+    match text.first() {
+        Some(byte) => *byte == b'{' || *byte == b'[',
+        None => false,
+    }
+}
+
+/// Whether a text begins as a schema's does: with a comment, or with a word of its language.
+fn begins_schema(text: &[u8]) -> bool
+    ensures { result ≡ begins_schema text.now }
+{
+    text.starts_with(b"//")
+        || text.starts_with(b"/*")
+        || text.starts_with(b"namespace ")
+        || text.starts_with(b"table ")
+        || text.starts_with(b"struct ")
+        || text.starts_with(b"enum ")
+        || text.starts_with(b"union ")
+        || text.starts_with(b"include ")
+        || text.starts_with(b"root_type ")
+        || text.starts_with(b"attribute ")
+        || text.starts_with(b"file_")
+        || text.starts_with(b"native_include ")
+}
+
+/// What a text looks like that begins so.
+fn text_hint(text: &[u8]) -> &'static [u8]
+    ensures { result.now ≡ text_hint text.now }
+{
+    if opens(text) {
+        b"; this looks like JSON, and no binary schema, which flatc --binary --schema makes"
+    } else if begins_schema(text) {
+        b"; this looks like a schema's text (.fbs): flatc --binary --schema makes the .bfbs"
+    } else {
+        b"; this is text, and no binary schema, which flatc --binary --schema makes"
+    }
 }
 
 /// The bytes of a file's identifier, as many as there are.
@@ -513,12 +584,8 @@ fn put_front(text: &mut Vec<u8>, front: &[u8]) -> Result<(), AllocError>
         text.extend_from_slice(b"; this is empty")
     } else if !are_plain(front) {
         put_ident(text, front)
-    } else if opens(front) {
-        text.extend_from_slice(b"; this looks like JSON")
     } else {
-        text.extend_from_slice(
-            b"; this looks like a schema's text (.fbs): flatc --binary --schema makes the .bfbs",
-        )
+        text.extend_from_slice(text_hint(past_blanks(front)))
     }
 }
 
@@ -561,18 +628,5 @@ fn put_file(text: &mut Vec<u8>, name: &Option<String>) -> Result<(), AllocError>
     match name {
         Some(name) => put_in(text, name.as_bytes()),
         None => Ok(()),
-    }
-}
-
-/// What is told behind the fault of a run that came to this: of a stream of which no message was good, which options
-/// other input needs.
-pub fn run_hint(fault: &RunFault, tally: &Tally) -> &'static [u8]
-    ensures { result.now ≡ run_hint fault.now tally.now }
-{
-    match fault {
-        RunFault::Stream(_) if tally.yes == 0 => {
-            b"; no good message came before: --bare is for a buffer without a prefix, --delimited for prefixes outside the buffers\n"
-        }
-        _ => b"\n",
     }
 }

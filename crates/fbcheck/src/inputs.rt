@@ -6,12 +6,14 @@ ghost use Rattle.fb_run.specs.Sums.{no_tally};
 ghost use Rattle.fb_run.specs.Job.{Serves, job_of};
 ghost use Rattle.fb_run.specs.Prompt.{IsPrompt};
 ghost use Rattle.fb_run.specs.declared.fault.RunFault.TheVariants.{TooManyTurns};
-ghost use Rattle.fbcheck.specs.Inputs.{ComesOf, IsBehind, IsBehindRun, IsNotedOf, IsPromptAmong, ServesEach, Tries, at_first, course_with, fault_line, folder_of, is_final, is_standard, label_of, seen_of, stand, standard_after, sum_of, sums, are_named};
+ghost use Rattle.fbcheck.specs.Inputs.{ComesOf, IsBehind, IsBehindEnd, IsBehindRun, IsNotedOf, IsPromptAmong, ServesEach, Tries, at_first, course_with, fault_line, folder_of, is_final, is_standard, label_of, seen_of, stand, standard_after, sum_of, sums, are_named};
 ghost use Rattle.fbcheck.specs.declared.inputs.Standard.TheVariants.{Unread, Spent};
 
+use crate::causes::{Causes, Explains};
 use crate::files::{FileFault, Files};
-use crate::hint::{reason, run_hint};
-use crate::reading::Explains;
+use crate::framing::{By, Framing, end_hint, run_hint};
+use crate::hint::reason;
+use crate::stop::note;
 use crate::texts::run_text;
 use fb_bytes::Sink;
 use fb_run::{
@@ -192,7 +194,8 @@ fn pass_file<F: Files, S: Input<K, N> + Explains, K: Sink, N: Sink>(
         alloc, files, name, schema, options, standard, reader, writer, notes,
     );
     *course = course.with(name, &came.what);
-    tell_behind(alloc, name, &came, notes)
+    let framing = Framing::of(options.bare, options.prefix);
+    tell_behind(alloc, name, framing, &came, notes)
 }
 
 /// Runs over one file, where it can be read.
@@ -341,15 +344,16 @@ fn sums(some: &[u64; 13], more: &[u64; 13]) -> [u64; 13]
 fn tell_behind<N: Sink>(
     alloc: Global,
     name: &str,
+    framing: Framing,
     came: &Came,
     notes: &mut N,
 ) -> Result<(), RunFault>
     requires { N.calls notes.old < 2 ^ 99 }
-    ensures told { IsBehind name.now came.now.what came.now.cause (writer_of N.Sink notes.old) (writer_of N.Sink notes.new) result }
+    ensures told { IsBehind name.now framing came.now.what came.now.cause (writer_of N.Sink notes.old) (writer_of N.Sink notes.new) result }
     ensures calls { N.calls notes.new ≤ N.calls notes.old + 2 ^ 64 }
 {
     match &came.what {
-        Ok(ran) => tell_run(alloc, name, ran, came.cause, notes),
+        Ok(ran) => tell_run(alloc, name, framing, ran, came.cause, notes),
         Err(Missed::File(FileFault::OutOfMemory)) => Err(RunFault::OutOfMemory),
         Err(Missed::File(FileFault::Unreadable(cause))) => {
             tell_fault(alloc, name, reason(*cause), b"\n", notes)
@@ -361,27 +365,47 @@ fn tell_behind<N: Sink>(
     }
 }
 
-/// The same behind a run.
+/// The same behind a run; or what there is to be told of its end.
 fn tell_run<N: Sink>(
     alloc: Global,
     name: &str,
+    framing: Framing,
     ran: &Ran,
     cause: Option<ErrorKind>,
     notes: &mut N,
 ) -> Result<(), RunFault>
     requires { N.calls notes.old < 2 ^ 99 }
-    ensures told { IsBehindRun name.now ran.now.tally ran.now.end cause (writer_of N.Sink notes.old) (writer_of N.Sink notes.new) result }
+    ensures told { IsBehindRun name.now framing ran.now.tally ran.now.end cause (writer_of N.Sink notes.old) (writer_of N.Sink notes.new) result }
     ensures calls { N.calls notes.new ≤ N.calls notes.old + 2 ^ 64 }
 {
     let Err(fault) = &ran.end else {
-        return Ok(());
+        return tell_end(alloc, name, end_hint(By::Named, framing, &ran.tally), notes);
     };
     if is_final(fault) {
         return Err(*fault);
     }
-    let behind = run_hint(fault, &ran.tally);
-    let why = run_text(fault, cause);
+    let behind = run_hint(framing, fault, &ran.tally);
+    let why = run_text(fault, Causes::of_read(cause));
     tell_fault(alloc, name, why.bytes(), behind, notes)
+}
+
+/// Notes what is told of an end, where there is something. What can't be written is left.
+fn tell_end<N: Sink>(
+    alloc: Global,
+    name: &str,
+    hint: Option<&[u8]>,
+    notes: &mut N,
+) -> Result<(), RunFault>
+    requires { N.calls notes.old < 2 ^ 99 }
+    ensures told { IsBehindEnd name.now (option_map (λ h. h.now) hint.entry) (writer_of N.Sink notes.old) (writer_of N.Sink notes.new) result }
+    ensures calls { N.calls notes.new ≤ N.calls notes.old + 2 ^ 64 }
+{
+    let Some(hint) = hint else {
+        return Ok(());
+    };
+    let line = fault_line(alloc, name, hint, b"")?;
+    note(notes, line.as_slice());
+    Ok(())
 }
 
 /// Whether a fault ends it all: a failed write or note, or want of memory.

@@ -11,28 +11,30 @@ ghost use Rattle.std.specs.Prelude.{⊤};
 
 mod alike;
 mod asked;
+mod causes;
 mod check;
 mod check_laws;
 mod fault;
 mod files;
+mod framing;
 mod hint;
 mod inputs;
-mod reading;
 mod serve;
 mod stop;
 mod texts;
 
+use causes::Explained;
 use fb_bytes::Counted;
 use files::{FileFault, Files};
-use reading::Reading;
 use serve::serve;
+use std::alloc::AllocError;
 use std::env::Env;
 use std::fs::File;
 use std::io;
 use std::io::{ErrorKind, Read};
 use std::process::ExitCode;
 use std::str::from_utf8;
-use stop::WordsFault;
+use stop::{WordsFault, WrongWord};
 
 /// The most bytes that are read of a schema file; a file that has as many is too long for a buffer.
 const SCHEMA_BYTES: u64 = 0x8000_0000;
@@ -46,16 +48,20 @@ fn read_words(rt: &HostRuntime) -> io::Result<Vec<String>> {
     Ok(words.collect::<Vec<String>>(rt.alloc())?)
 }
 
-/// The number of the first word that isn't a text, the program's name being 0. The system hands in no longer ones.
-fn wrong_word(rt: &HostRuntime) -> usize {
-    let mut word = [0; LONGEST_WORD];
+/// The first word that isn't a text; the system hands in no longer ones. Where there is none, an empty one.
+fn wrong_word(rt: &HostRuntime) -> Result<WrongWord, AllocError> {
+    let mut room = [0; LONGEST_WORD];
     for number in 0..usize::MAX {
-        match rt.arg(number, &mut word) {
-            Ok(length) if from_utf8(&word[..length]).is_ok() => {}
-            _ => return number,
+        let Ok(length) = rt.arg(number, &mut room) else {
+            break;
+        };
+        if from_utf8(&room[..length]).is_err() {
+            let bytes = room[..length].to_vec(rt.alloc())?;
+            return Ok(WrongWord { number, bytes });
         }
     }
-    0
+    let bytes = Vec::new(rt.alloc());
+    Ok(WrongWord { number: 0, bytes })
 }
 
 /// The bytes of a file, at most [`SCHEMA_BYTES`] of them.
@@ -82,7 +88,7 @@ struct Disk<'a> {
 }
 
 impl Files for Disk<'_> {
-    type Opened = Reading<File>;
+    type Opened = Explained<File>;
 
     ghost gives = { λ _ _ _. ⊤ };
 
@@ -92,9 +98,9 @@ impl Files for Disk<'_> {
         read_file(self.rt, name).map_err(FileFault::of)
     }
 
-    fn open(&self, name: &str) -> Result<Reading<File>, FileFault> {
+    fn open(&self, name: &str) -> Result<Explained<File>, FileFault> {
         match open_file(self.rt, name) {
-            Ok(file) => Ok(Reading::new(file)),
+            Ok(file) => Ok(Explained::new(file)),
             Err(error) => Err(FileFault::of(error)),
         }
     }
@@ -105,8 +111,8 @@ fn main(rt: HostRuntime) -> io::Result<ExitCode> {
         Ok(words) => Ok(words),
         Err(error) => Err(WordsFault::of(error, wrong_word(&rt))),
     };
-    let mut reader = Reading::new(rt.stdin());
-    let mut writer = Counted::new(rt.stdout());
+    let mut reader = Explained::new(rt.stdin());
+    let mut writer = Explained::new(rt.stdout());
     let mut notes = Counted::new(rt.stderr());
     let files = Disk { rt: &rt };
     let status = serve(

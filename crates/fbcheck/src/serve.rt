@@ -5,12 +5,13 @@ ghost use Rattle.fb_run.specs.Ends.{HasCallsLeft, HasLeave, Reader, Writer, besi
 ghost use Rattle.fbcheck.specs.Inputs.{folder_of, seen_of};
 ghost use Rattle.fbcheck.specs.Serving.{ComesTo, EndsSo, IsCrowded, IsPromptAsGiven, IsServed, Unserved, files_ending, run_ending, summed, words_of};
 
-use crate::asked::form;
+use crate::asked::{by, form, manner};
+use crate::causes::{Causes, Explains};
 use crate::check::{check_beside, check_files};
 use crate::files::{Files, read_schema};
-use crate::hint::file_hint;
+use crate::framing::{By, Manner};
+use crate::hint::{file_hint, words_hint};
 use crate::inputs::Passed;
-use crate::reading::Explains;
 use crate::stop::{Ending, Stop, Sums, WordsFault, exit_status, sum_up, tell};
 use clap::Error;
 use fb_bytes::Sink;
@@ -22,7 +23,7 @@ use std::alloc::{AllocError, Global};
 /// name, checks the buffers of the reader by it, and tells of them as [`check_beside`](crate::check::check_beside)
 /// does; or writes help, where it is asked for. Behind what they have the notes get a line of what was counted, where
 /// the words ask for it, and then why it came to rest before the end.
-pub fn serve<F: Files, S: Input<K, N> + Explains, K: Sink, N: Sink>(
+pub fn serve<F: Files, S: Input<K, N> + Explains, K: Sink + Explains, N: Sink>(
     alloc: Global,
     words: Result<Vec<String>, WordsFault>,
     files: &F,
@@ -34,13 +35,17 @@ pub fn serve<F: Files, S: Input<K, N> + Explains, K: Sink, N: Sink>(
     requires leave { HasLeave S.Input (ends_of S.Input K.Sink N.Sink reader.old writer.old notes.old) (IsPromptAsGiven (folder_of F.Files F.Opened.Source F.Opened.Explains files.now) (words_of words)) }
 
     ensures served { IsServed (folder_of F.Files F.Opened.Source F.Opened.Explains files.now) (words_of words) (seen_of S.Input S.Explains K.Sink N.Sink reader.old writer.old notes.old)
-        (seen_of S.Input S.Explains K.Sink N.Sink reader.new writer.new notes.new) MOST_TURNS (K.calls writer.new) (N.calls notes.new) result }
+        (seen_of S.Input S.Explains K.Sink N.Sink reader.new writer.new notes.new) (K.Explains.cause writer.new) MOST_TURNS (K.Sink.calls writer.new) (N.calls notes.new) result }
     ensures turns { S.calls reader.new ≤ S.calls reader.old + MOST_TURNS }
 {
     let mut sums = None;
     let outcome = come_to(alloc, words, files, reader, writer, notes, &mut sums);
     let ending = sum_up(outcome, &sums, notes);
-    tell(&ending, reader.cause(), notes);
+    let causes = Causes {
+        read: reader.cause(),
+        write: writer.cause(),
+    };
+    tell(&ending, causes, notes);
     exit_status(&ending)
 }
 
@@ -68,7 +73,10 @@ fn come_to<F: Files, S: Input<K, N> + Explains, K: Sink, N: Sink>(
     *sums = None;
     let words = match words {
         Ok(words) => words,
-        Err(fault) => return Err(Stop::Words(fault)),
+        Err(fault) => {
+            let hint = words_hint(alloc, &fault)?;
+            return Err(Stop::Words(fault, hint));
+        }
     };
     let settings = match settings(alloc, words.as_slice()) {
         Ok(settings) => settings,
@@ -81,7 +89,7 @@ fn come_to<F: Files, S: Input<K, N> + Explains, K: Sink, N: Sink>(
     if settings.files.as_slice().is_empty() {
         let ran = check_beside(alloc, file.as_deref(), &settings, reader, writer, notes)?;
         *sums = summed(&settings, ran.tally);
-        return run_ending(&ran);
+        return run_ending(manner(&settings), &ran);
     }
     let passed = check_files(
         alloc,
@@ -93,25 +101,25 @@ fn come_to<F: Files, S: Input<K, N> + Explains, K: Sink, N: Sink>(
         notes,
     )?;
     *sums = summed(&settings, passed.course.tally);
-    files_ending(&passed)
+    files_ending(by(&settings), &passed)
 }
 
-/// How the program ends by what a run came to.
-fn run_ending(ran: &Ran) -> Result<Ending, Stop>
-    ensures { result ≡ run_ending ran.now.tally ran.now.end }
+/// How the program ends by what a run over an input came to that was checked in this manner.
+fn run_ending(manner: Manner, ran: &Ran) -> Result<Ending, Stop>
+    ensures { result ≡ run_ending manner ran.now.tally ran.now.end }
 {
     match ran.end {
-        Ok(()) => Ok(Ending::Checked(ran.tally)),
-        Err(fault) => Err(Stop::Run(fault, ran.tally)),
+        Ok(()) => Ok(Ending::Checked(ran.tally, manner)),
+        Err(fault) => Err(Stop::Run(fault, ran.tally, manner)),
     }
 }
 
-/// The same by what files came to.
-fn files_ending(passed: &Passed) -> Result<Ending, Stop>
-    ensures { result ≡ files_ending passed.now.course passed.now.end }
+/// The same by what files came to that were checked by this.
+fn files_ending(by: By, passed: &Passed) -> Result<Ending, Stop>
+    ensures { result ≡ files_ending by passed.now.course passed.now.end }
 {
     match passed.end {
-        Ok(()) => Ok(Ending::Passed(passed.course)),
+        Ok(()) => Ok(Ending::Passed(passed.course, by)),
         Err(fault) => Err(Stop::Halted(fault)),
     }
 }

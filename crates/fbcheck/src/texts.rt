@@ -1,9 +1,12 @@
 //! The text of each fault, as it stands behind the program's name. It takes no memory.
 
 ghost use Rattle.std.specs.Prelude.{◌≡◌, ◌≤◌, ◌++◌, codes, decimal, length};
+ghost use Rattle.fb_run.specs.FaultText.{fault_text};
 ghost use Rattle.fb_run.specs.Line.{field_text};
+ghost use Rattle.fb_run.specs.declared.fault.RunFault.TheVariants.{WriteFault};
 ghost use Rattle.fbcheck.specs.Texts.{ask_text, cause_text, file_text, ill_text, load_text, path_text, rows_text, run_text, step_text, unsummed_text, words_text};
 
+use crate::causes::Causes;
 use crate::fault::AskFault;
 use crate::files::FileFault;
 use crate::hint::known_reason;
@@ -15,13 +18,14 @@ use fb_schema::SchemaFault;
 use fb_verify::Fault;
 use std::io::ErrorKind;
 
-/// Why a run came to rest, with the reason of a failed read, where it is known.
-pub fn run_text(fault: &RunFault, cause: Option<ErrorKind>) -> Line
-    ensures text { result ≡ run_text cause fault.now }
+/// Why a run came to rest, with the reason of a failed read or write, where it is known.
+pub fn run_text(fault: &RunFault, causes: Causes) -> Line
+    ensures text { result ≡ run_text causes fault.now }
     ensures short { length result ≤ 200 }
 {
     match fault {
-        RunFault::ReadFault => failed_read(cause),
+        RunFault::ReadFault => failed_read(causes.read),
+        RunFault::WriteFault { written } => failed_write(*written, causes.write),
         _ => fault.text(),
     }
 }
@@ -33,6 +37,18 @@ fn failed_read(cause: Option<ErrorKind>) -> Line
 {
     let mut line = cause_text(cause);
     line.put_text("read failed");
+    line
+}
+
+/// That a write failed after so many bytes, and why.
+pub fn failed_write(written: u128, cause: Option<ErrorKind>) -> Line
+    ensures text { result ≡ fault_text (WriteFault written) ++ cause_text cause }
+    ensures short { length result ≤ 200 }
+{
+    let mut line = cause_text(cause);
+    line.put_text(" bytes");
+    line.put_wide(written);
+    line.put_text("write failed after ");
     line
 }
 
@@ -210,7 +226,7 @@ pub fn words_text(fault: &WordsFault) -> Line
     ensures short { length result ≤ 200 }
 {
     match fault {
-        WordsFault::NotText { number } => numbered("a word is not UTF-8: number ", *number as u64),
+        WordsFault::NotText(word) => numbered("a word is not UTF-8: number ", word.number as u64),
         WordsFault::OutOfMemory => Line::of("out of memory"),
     }
 }

@@ -7,8 +7,6 @@ ghost use Rattle.fbcheck_words.specs.declared.choices.SettingsFault.TheVariants.
 use clap::Error;
 use fb_verify::{Checks, Limits};
 use std::alloc::AllocError;
-use std::fmt;
-use thiserror::Error as DeriveError;
 
 /// How many paths may be asked for.
 pub const MOST_PATHS: usize = 16;
@@ -68,7 +66,7 @@ pub struct Settings {
 }
 
 /// Why words give no settings.
-#[derive(Debug, Drop, DeriveError)]
+#[derive(Debug, Drop)]
 pub enum SettingsFault {
     /// `clap` refuses the words, or they ask for its help.
     Usage(Error),
@@ -117,15 +115,6 @@ impl SettingsFault {
             SettingsFault::TooManyPaths => "more than 16 paths",
             SettingsFault::BareDelimited => "bare and delimited exclude each other",
             SettingsFault::OutOfMemory => "out of memory",
-        }
-    }
-}
-
-impl fmt::Display for SettingsFault {
-    fn fmt<W: fmt::Write>(&self, f: &mut fmt::Formatter<W>) -> fmt::Result {
-        match self {
-            SettingsFault::Usage(error) => write!(f, "{error}"),
-            _ => f.write_str(self.text()),
         }
     }
 }

@@ -12,7 +12,7 @@ public sealed interface Verdict {
      *
      * @param tables the tables visited
      * @param depth the most tables open at once
-     * @param reads the reads made
+     * @param reads the reads counted
      */
     record Good(long tables, int depth, long reads) implements Verdict {
         @Override
@@ -33,7 +33,7 @@ public sealed interface Verdict {
      * @param position the position in bytes from the first one
      * @param object the number of the object under check, which {@link Schema#objectName} names
      * @param field the number of its field, unless it's the whole object
-     * @param reads the reads made by then
+     * @param reads the reads counted by then
      * @param place the place in words, as {@code in items[2].name [game.Item.name]}; at most 1,024 bytes of it
      */
     record Bad(Reason reason, long position, int object, OptionalInt field, long reads, String place)

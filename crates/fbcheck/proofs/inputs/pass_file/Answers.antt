@@ -1,9 +1,10 @@
-use Rattle.std.proofs.Common.{◌∙◌, ap, refl, sym}
+use Rattle.std.proofs.Common.{◌∙◌, ap, refl, subst, sym}
 use Rattle.fb_run.specs.Ends.{writer_of}
 use Rattle.fb_run.specs.Job.{job_of}
 use Rattle.fbcheck.specs.declared.inputs.Course.{Course}
 use Rattle.fbcheck.proofs.InputsLemmas.{after_spent, after_unread, behind_never, is_turns, standard_with, tries_of}
-use Rattle.fbcheck.specs.Inputs.{folder_of, seen_of}
+use Rattle.fbcheck.specs.Inputs.{IsBehind, folder_of, seen_of}
+use Rattle.fbcheck.specs.declared.framing.Framing.{Framing}
 use Rattle.fbcheck.proofs.inputs.pass_file.Goals as goal
 
 pub returns-clause-tries : goal.returns-clause-tries
@@ -13,7 +14,8 @@ returns-clause-tries g c =
       cause = c.run_file-came.result.cause;
       between = seen_of g.S.Input g.S.Explains g.K.Sink g.N.Sink c.run_file-came.new.reader c.run_file-came.new.writer c.run_file-came.new.notes;
       comes = c.run_file-came.ensures.comes;
-      told = c.tell_behind.ensures.told;
+      told = subst (λ (f : Framing). IsBehind c.args.name.now f c.run_file-came.result.what c.run_file-came.result.cause (writer_of g.N.Sink c.run_file-came.new.notes) (writer_of g.N.Sink c.tell_behind.new.notes) c.tell_behind.result)
+          c.of-framing.ensures c.tell_behind.ensures.told;
       others = refl;
       course_is = c.with.ensures.course;
     })
@@ -32,5 +34,5 @@ returns-clause-spent g c old = (
 
 pub returns-clause-crowded : goal.returns-clause-crowded
 returns-clause-crowded g c is =
-    absurd (behind_never c.args.name.now c.run_file-came.result.what c.tell_behind.result c.run_file-came.result.cause (writer_of g.N.Sink c.run_file-came.new.notes) (writer_of g.N.Sink c.tell_behind.new.notes)
+    absurd (behind_never c.args.name.now c.of-framing.result c.run_file-came.result.what c.tell_behind.result c.run_file-came.result.cause (writer_of g.N.Sink c.run_file-came.new.notes) (writer_of g.N.Sink c.tell_behind.new.notes)
     c.tell_behind.ensures.told (is_turns c.tell_behind.result is))

@@ -16,6 +16,7 @@ returns-clause-served g c = record {
   ending = c.sum_up-ending.result;
   behind = writer_of g.N.Sink c.sum_up-ending.new.notes;
   summed = c.sum_up-ending.ensures.summed;
-  told = subst (λ (cause : Option ErrorKind). Complains cause c.sum_up-ending.result (writer_of g.N.Sink c.sum_up-ending.new.notes) (writer_of g.N.Sink c.tell.new.notes)) c.cause.ensures c.tell.ensures.told;
+  told = subst (λ (write : Option ErrorKind). Complains (record { read = g.S.Explains.cause c.come_to-outcome.new.reader; write = write }) c.sum_up-ending.result (writer_of g.N.Sink c.sum_up-ending.new.notes) (writer_of g.N.Sink c.tell.new.notes)) c.cause-2.ensures
+      (subst (λ (read : Option ErrorKind). Complains (record { read = read; write = c.cause-2.result }) c.sum_up-ending.result (writer_of g.N.Sink c.sum_up-ending.new.notes) (writer_of g.N.Sink c.tell.new.notes)) c.cause.ensures c.tell.ensures.told);
   status_is = c.exit_status.ensures;
 }

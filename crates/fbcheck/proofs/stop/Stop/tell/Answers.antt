@@ -4,7 +4,7 @@ use Rattle.fbcheck.proofs.stop.Stop.tell.Goals as goal
 
 pub returns : goal.returns
 returns g c = record {
-  told = line_told c.args.cause c.args.self.now _ _ c.bytes.result.now c.behind.result.now c.in_default.not-Usage
+  told = line_told c.args.causes c.args.self.now _ _ c.bytes.result.now c.behind.result.now c.in_default.not-Usage
       (c.bytes.ensures ∙ c.put_text.ensures.text ∙ ap (λ (t : List ℕ). codes "fbcheck: " ++ t) c.text-line.ensures.text) c.behind.ensures c.note_both.ensures.noted;
   more = c.note_both.ensures.more;
 }
