@@ -11,12 +11,12 @@ word bytes p (suc n) = slice_index bytes p + 256 * word bytes (suc p) n
 abbrev pub signed_word : List ℕ → ℕ → ℤ
 signed_word bytes p = cast_signed w32 (word bytes p 4)
 
--- a buffer, and how many reads were made of it
+-- a buffer, and how many reads were counted
 pub record Metered : Type 0 where
   pub bytes : List ℕ
   pub count : ℕ
 
--- a buffer that is lent to a walk, how many reads were made of it, and how many of these before a count in 64 bits
+-- a buffer that is lent to a walk, how many reads were counted, and how many of these before a count in 64 bits
 -- began (of a loan this is 0)
 pub record Lent : Type 0 where
   pub bytes : List ℕ

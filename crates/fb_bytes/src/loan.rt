@@ -43,7 +43,7 @@ impl<'a> Loan<'a> {
         Loan { window, count }
     }
 
-    /// How many reads were made.
+    /// How many reads were counted.
     #[inline(always)]
     pub fn reads(&self) -> u128
         ensures count { result ≡ self.now.count }
@@ -70,7 +70,7 @@ impl<'a> Loan<'a> {
         }
     }
 
-    /// Takes bytes back, with the count of all reads that were made of them.
+    /// Takes bytes back, with the count of all their reads.
     #[inline(always)]
     pub fn settle(&mut self, reads: Reads<'a>)
         ensures { self.new ≡ record self.old { bytes = reads.entry.bytes; count = reads.entry.count } }

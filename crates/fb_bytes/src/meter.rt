@@ -11,7 +11,7 @@ use std::marker::Model;
 #[derive(Clone, Copy, Debug, PartialEq, Eq)]
 pub struct TooLong;
 
-/// A borrowed buffer of fewer than 2^31 bytes, and the number of reads made of it.
+/// A borrowed buffer of fewer than 2^31 bytes, and the number of reads that were counted.
 ///
 /// A contract sees it as its bytes and its count. A read is the little-endian number at a position
 /// (FlatBuffers Internals: scalars are little-endian) and counts one, whatever its width. What only
@@ -38,7 +38,7 @@ const LONGEST: usize = 0x7FFF_FFFF;
 const WHILE_LENT: u128 = u128::MAX;
 
 impl<'a> Meter<'a> {
-    /// A meter over these bytes, of which no read was made. `TooLong` comes for 2^31 bytes or more, and
+    /// A meter over these bytes, of which no read was counted. `TooLong` comes for 2^31 bytes or more, and
     /// only then.
     pub fn new(bytes: &'a [u8]) -> Result<Self, TooLong>
         ensures meter { IfOk result (λ meter. meter ≡ record { bytes = bytes.now; count = 0 }) }
@@ -69,7 +69,7 @@ impl<'a> Meter<'a> {
         self.window.fits(at, n)
     }
 
-    /// How many reads were made.
+    /// How many reads were counted.
     pub fn reads(&self) -> u128
         ensures { result ≡ self.now.count }
     {

@@ -9,10 +9,10 @@ use std::mem;
 
 /// The bytes of a [`crate::Loan`] under its count, which goes on in 64 bits: a loop keeps those in a register.
 ///
-/// A contract sees it as its bytes, all reads that were made of them, and how many of these were made before the count
+/// A contract sees it as its bytes, all reads that were counted, and how many of these were counted before the count
 /// in 64 bits began. There is no way to the bytes but by a counted read: nothing seals them. The count goes with the
 /// bytes, so that whichever loan takes them back has every read that was made of them, and those that were counted
-/// again without being made. [`crate::Loan::lend`] makes one, and [`crate::Loan::settle`] takes it back.
+/// without being made. [`crate::Loan::lend`] makes one, and [`crate::Loan::settle`] takes it back.
 #[derive(Drop)]
 pub struct Reads<'a> {
     window: Window<'a>,
@@ -32,7 +32,7 @@ impl<'a> Model for Reads<'a> {
 }
 
 impl<'a> Reads<'a> {
-    /// A window of which so many reads were made, and so many more in the count of 64 bits.
+    /// A window of which so many reads were counted, and so many more in the count of 64 bits.
     #[inline(always)]
     pub(crate) fn over(window: Window<'a>, base: u128, count: u64) -> Self
         requires few { base ≤ 2 ^ 100 }
@@ -46,7 +46,7 @@ impl<'a> Reads<'a> {
         }
     }
 
-    /// The window, and all reads that were made of it.
+    /// The window, and all reads that were counted.
     #[inline(always)]
     pub(crate) fn into_parts(self) -> (Window<'a>, u128)
         ensures window { result.0 ≡ self.entry.bytes }
@@ -66,7 +66,7 @@ impl<'a> Reads<'a> {
         Reads::over(window, self.base, self.count)
     }
 
-    /// Takes bytes back, with the count of all reads that were made of them.
+    /// Takes bytes back, with the count of all their reads.
     #[inline(always)]
     pub fn settle(&mut self, reads: Reads<'a>)
         ensures { self.new ≡ reads.entry }
@@ -74,7 +74,7 @@ impl<'a> Reads<'a> {
         *self = reads;
     }
 
-    /// How many reads were made since the count in 64 bits began: all of them, where they are fewer than 2^57.
+    /// How many reads were counted since the count in 64 bits began: all of them, where they are fewer than 2^57.
     #[inline(always)]
     pub fn count(&self) -> u64
         ensures since { self.now.count ≡ self.now.base + result }

@@ -4,8 +4,8 @@ use crate::lists::Lists;
 use crate::views::{FieldView, Step, Target};
 use std::alloc::Allocator;
 
-/// The live fields of each object in rising slot, the order of their names, their steps, whether none of them leads to a
-/// table, at each the place of the next required one, and the length of the longest list.
+/// The live fields of each object in rising slot, the order of their names, their steps, whether none of them leads to
+/// a table, at each the place of the next required one, and the length of the longest list.
 #[derive(Drop)]
 pub struct LiveIndex<'n, A: Allocator> {
     pub fields: Lists<FieldView<'n>, A>,

@@ -36,7 +36,7 @@ pub enum Kind {
 }
 
 /// What one value is, before it is known which object or enum is meant.
-#[derive(Clone, Copy, Debug, PartialEq, Eq)]
+#[derive(Clone, Copy)]
 pub enum Element {
     Scalar(Scalar),
     Text,
@@ -45,7 +45,7 @@ pub enum Element {
 }
 
 /// What a type holds: one value, a vector of them, or an array of a fixed number.
-#[derive(Clone, Copy, Debug, PartialEq, Eq)]
+#[derive(Clone, Copy)]
 pub enum Shape {
     One(Element),
     Vector(Element),
@@ -53,7 +53,7 @@ pub enum Shape {
 }
 
 /// What holds the types of a union's value, and of a vector of these: one type byte, or a vector of type bytes.
-#[derive(Clone, Copy, Debug, PartialEq, Eq)]
+#[derive(Clone, Copy)]
 pub enum TypeField {
     ForUnion,
     ForUnions,

@@ -8,9 +8,6 @@ use crate::kinds::Kind;
 use crate::views::{Act, FieldView, Step};
 use std::alloc::{AllocError, Allocator};
 
-/// The bit of a field that leads to one table.
-const TABLE: u32 = 256;
-
 /// What to do at a scalar or struct of this size and alignment.
 fn inline_act(size: u32, align: u32) -> Act
     ensures { result ≡ inline_act size align }
@@ -69,10 +66,10 @@ fn bit_of(act: Act) -> u32
         Act::Two => 2,
         Act::Four => 4,
         Act::Eight => 8,
-        Act::Text => 16,
-        Act::Vector => 32,
-        Act::Inline => 64,
-        Act::Other => 128,
+        Act::Text => Step::TEXT,
+        Act::Vector => Step::VECTOR,
+        Act::Inline => Step::INLINE,
+        Act::Other => Step::LEADS_ON,
     }
 }
 
@@ -82,7 +79,7 @@ fn step_of(field: &FieldView<'_>) -> Step
 {
     let act = act_of(field);
     let (bit, size) = match field.kind {
-        Kind::Table(object) => (TABLE | bit_of(act), object),
+        Kind::Table(object) => (Step::TO_TABLE | bit_of(act), object),
         _ => (bit_of(act), field.size),
     };
     Step {

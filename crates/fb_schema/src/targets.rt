@@ -24,7 +24,7 @@ const NOTHING: Target = Target {
 ///
 /// `places` has, at each type up to the greatest that a member has, the place of its target among `targets`, of which
 /// the first is that nothing is there. So a union takes a byte a value, and 16 bytes a member and once more.
-#[derive(Clone, Copy, Debug)]
+#[derive(Clone, Copy)]
 pub struct Targets<'s> {
     pub places: &'s [u8],
     pub targets: &'s [Target],

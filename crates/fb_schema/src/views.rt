@@ -3,7 +3,7 @@
 use crate::kinds::Kind;
 
 /// An object without its fields.
-#[derive(Clone, Copy, Debug)]
+#[derive(Clone, Copy)]
 pub struct ObjectView<'n> {
     pub name: &'n [u8],
     pub is_struct: bool,
@@ -16,7 +16,7 @@ pub struct ObjectView<'n> {
 /// `number` is the field number and `slot` the place of its word in a vtable, in bytes. `size` and `align` are, in
 /// bytes, those of a scalar or struct, of one element of a vector of these, and 4 for every other kind. `companion` is,
 /// for a union and a vector of unions, the place of its type field among the live fields of the table.
-#[derive(Clone, Copy, Debug)]
+#[derive(Clone, Copy)]
 pub struct FieldView<'n> {
     pub number: u16,
     pub slot: u16,
@@ -34,7 +34,7 @@ pub struct FieldView<'n> {
 ///
 /// `place` is its place in the struct, in bytes. `kind` is that of a scalar or struct, or of an array of these, for
 /// which it is the kind of a vector of its elements. `count` is how many an array has, and 1 of all else.
-#[derive(Clone, Copy, Debug, PartialEq, Eq)]
+#[derive(Clone, Copy)]
 pub struct PartView {
     pub place: u16,
     pub kind: Kind,
@@ -45,7 +45,7 @@ pub struct PartView {
 ///
 /// A scalar or struct of one, two, four or eight bytes that is aligned to as many has an act of its own, so that
 /// whoever goes by it has both as constants.
-#[derive(Clone, Copy, Debug, PartialEq, Eq)]
+#[derive(Clone, Copy)]
 pub enum Act {
     One,
     Two,
@@ -62,7 +62,7 @@ pub enum Act {
 }
 
 /// What an offset word of a union leads to.
-#[derive(Clone, Copy, Debug, PartialEq, Eq)]
+#[derive(Clone, Copy)]
 pub enum Goal {
     /// Its type has no member.
     Nothing,
@@ -75,7 +75,7 @@ pub enum Goal {
 ///
 /// `object` is the number of a table or struct; `size` and `align` are those of a struct, in bytes. What says nothing
 /// is 0.
-#[derive(Clone, Copy, Debug, PartialEq, Eq)]
+#[derive(Clone, Copy)]
 pub struct Target {
     pub goal: Goal,
     pub object: u32,
@@ -86,8 +86,8 @@ pub struct Target {
 /// A live field of a table in a few bytes: what a reader passes it by. `slot`, `size`, `align` and `required` are those
 /// of its [`FieldView`], but for the `size` of a field that leads to one table, which is the number of its object.
 /// `bit` is a bit of its act, so that several acts are asked at once; of a scalar or struct of 1, 2, 4 or 8 bytes it is
-/// their number, and what leads to one table has the bit 256 beside.
-#[derive(Clone, Copy, Debug, PartialEq, Eq)]
+/// their number, and what leads to one table has the bit [`Step::TO_TABLE`] beside.
+#[derive(Clone, Copy)]
 pub struct Step {
     pub act: Act,
     pub required: bool,
@@ -95,4 +95,19 @@ pub struct Step {
     pub bit: u32,
     pub size: u32,
     pub align: u32,
+}
+
+impl Step {
+    /// The bits of a scalar or struct of 1, 2, 4 or 8 bytes.
+    pub const SMALL: u32 = 15;
+    /// The bit of a string.
+    pub const TEXT: u32 = 16;
+    /// Of a vector of scalars or structs.
+    pub const VECTOR: u32 = 32;
+    /// Of a struct of another size or alignment.
+    pub const INLINE: u32 = 64;
+    /// Of what may lead to a table.
+    pub const LEADS_ON: u32 = 128;
+    /// Beside it of what leads to one table.
+    pub const TO_TABLE: u32 = 256;
 }

@@ -21,17 +21,6 @@ use crate::table::{Head, Table};
 use fb_bytes::Reads;
 use fb_schema::Step;
 
-/// The bits of a step ([`Step::bit`]) that a walk asks: of a scalar or struct of 1, 2, 4 or 8 bytes.
-const SMALL: u32 = 15;
-/// Of a string.
-const TEXT: u32 = 16;
-/// Of a vector of scalars or structs.
-const VECTOR: u32 = 32;
-/// Of what may lead to a table.
-const LEADS_ON: u32 = 128;
-/// Beside it of what leads to one table.
-pub const TO_TABLE: u32 = 256;
-
 /// A test that fails for this reason. It stands apart, so that what holds is passed without a thought of it.
 #[cold]
 #[inline(never)]
@@ -490,18 +479,18 @@ fn pass_field(
     ensures { Filled checks reads.old reads.new table.at step.now at.old at.new result }
 {
     let bit = step.bit;
-    if bit & SMALL != 0 {
+    if bit & Step::SMALL != 0 {
         return past(test_small_field(reads, checks, table, *at, bit));
     }
-    if bit & TEXT != 0 {
+    if bit & Step::TEXT != 0 {
         return past(test_text_field(reads, checks, table, at));
     }
-    if bit & LEADS_ON != 0 {
+    if bit & Step::LEADS_ON != 0 {
         return Came::ToField;
     }
     let size = step.size;
     let align = step.align;
-    if bit & VECTOR != 0 {
+    if bit & Step::VECTOR != 0 {
         let mut many = 0;
         return past(test_vector_field(reads, checks, table, at, size, align, &mut many));
     }

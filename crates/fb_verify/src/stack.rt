@@ -13,7 +13,6 @@ ghost use Rattle.fb_verify.specs.Walked.{TableWalked, ended};
 ghost use Rattle.fb_verify.specs.Stack.{blank, Origin, Waiting, IsWalking, HaltsIn, links_left, opened};
 ghost use Rattle.fb_verify.specs.Turns.{IsShort, IsAtChild, IsAtStep, IsAtTableField, AllowsTable, IsAtWord, IsBrim, IsInRow, HasRoomToGo, RowTurned, FieldTurned, Turned, Opened, FramesTurned, RootTurned, Walked};
 ghost use Rattle.fb_verify.specs.declared.offset_row.Leads.TheVariants.{All};
-ghost use Rattle.fb_verify.specs.declared.offset_row.Referent.TheVariants.{Table as ATable};
 ghost use Rattle.fb_verify.specs.declared.stack.Turn.TheVariants.{Halt as Halted};
 ghost use Rattle.fb_verify.specs.declared.site.LastLink.TheVariants.{Behind, InField};
 
@@ -22,7 +21,7 @@ use crate::fault::Reason;
 use crate::flat::{open_frame, pass_steps};
 use crate::limits::Limits;
 use crate::offset_row::{Leads, Referent, Row};
-use crate::plain::{TO_TABLE, test_end, test_offset};
+use crate::plain::{test_end, test_offset};
 use crate::scratch::Frame;
 use crate::site::{Halt, LastLink, Refusal, Site, Stop};
 use crate::table::{Child, NO_CHILD, Table};
@@ -389,7 +388,7 @@ impl<'s, 'n> Walk<'s, 'n> {
         ensures { FieldTurned self.old self.new reads.old reads.new under top.old top.new child.new result }
     {
         let _schema = self.schema;
-        if step.bit & TO_TABLE != 0 {
+        if step.bit & Step::TO_TABLE != 0 {
             return self.go_to_table(checks, reads, waiting, at, step, top, child);
         }
         self.go_far(reads, waiting, at, top, child)
