@@ -1,7 +1,9 @@
 -- A field is passed by its step, once its slot is read.
-use Rattle.std.proofs.Common.{◌≡◌, ℕ, ◌+◌, ◌%◌, ◌^◌, ◌<◌, ◌≤◌, ◌==◌, Bool, true, false, List, refl, sym, ◌∙◌, ap, arith, Some, None, if◌then◌else◌}
+use Rattle.std.proofs.Common.{◌≡◌, ℕ, zero, suc, ◌+◌, ◌%◌, ◌^◌, ◌<◌, ◌≤◌, ◌==◌, Bool, true, false, bit_and, List, inl, inr, refl, sym, ◌∙◌, ap, subst, arith, Some, None, if◌then◌else◌}
 use Rattle.std.proofs.lemmas.Bool.Decides.{nat_tests}
 use Rattle.fb_bytes.specs.Word.{word, Lent}
+use Rattle.fb_schema.specs.declared.views.Act.{Act}
+use Rattle.fb_schema.specs.declared.views.Act.TheVariants.{One, Two, Four, Eight, Inline, Text as AText, Vector, Other}
 use Rattle.fb_schema.specs.declared.views.Step.{Step}
 use Rattle.fb_verify.specs.declared.checks.Checks.{Checks}
 use Rattle.fb_verify.specs.declared.fault.Reason.TheVariants.{MissingRequired}
@@ -9,7 +11,8 @@ use Rattle.fb_verify.specs.declared.plain.Came.{Came}
 use Rattle.fb_verify.specs.declared.plain.Came.TheVariants.{Past, ToEnd, ToField, ToFault}
 use Rattle.fb_verify.specs.Places.{vtable, vtable_size, has_slot, field_place}
 use Rattle.fb_verify.specs.Cost.{slot_reads}
-use Rattle.fb_verify.specs.Plain.{tested_by, StepTested, Filled, Stepped}
+use Rattle.fb_verify.specs.Order.{inline_field_failure}
+use Rattle.fb_verify.specs.Plain.{tested_by, step_failure, step_reads, HasBit, IsCame, StepTested, Filled, Stepped}
 use Rattle.fb_verify.proofs.Plains.{plain_told, plain_counted}
 
 -- Of two even numbers the smaller is smaller by two.
@@ -89,3 +92,41 @@ module _ (c : Checks) (m : Lent) (t : ℕ) (s : Step) (d : ℕ) (inside : has_sl
         bytes = (h.1).bytes;
         base = (h.1).base;
       }
+
+-- A small one was passed, whether it's there or not.
+module _ (c : Checks) (b : List ℕ) (t p n : ℕ) (s : Step) where
+  small_came : (act : Act) (r : Came) → HasBit s act → (bit_and s.bit 15 ≡ 0 → ⊥) → IsCame p n (inline_field_failure c b t p s.bit s.bit) r
+      → (act ≡ Other → ⊥) × (step_reads act ≡ 0) × IsCame p n (step_failure c b t s p act) r
+  small_came One r bit some h = (λ e. absurd cc, refl, rw bit at h)
+  small_came Two r bit some h = (λ e. absurd cc, refl, rw bit at h)
+  small_came Four r bit some h = (λ e. absurd cc, refl, rw bit at h)
+  small_came Eight r bit some h = (λ e. absurd cc, refl, rw bit at h)
+  small_came Inline r bit some h = absurd (some (ap (λ x. bit_and x 15) bit))
+  small_came AText r bit some h = absurd (some (ap (λ x. bit_and x 15) bit))
+  small_came Vector r bit some h = absurd (some (ap (λ x. bit_and x 15) bit))
+  small_came Other r (inl bit) some h = absurd (some (ap (λ x. bit_and x 15) bit))
+  small_came Other r (inr bit) some h = absurd (some (ap (λ x. bit_and x 15) bit))
+
+small_filled : (c : Checks) (m : Lent) (t p : ℕ) (s : Step) (r : Came) → HasBit s s.act → (bit_and s.bit 15 ≡ 0 → ⊥) → IsCame p m.count (inline_field_failure c m.bytes t p s.bit s.bit) r → Filled c m m t s p p r
+small_filled c m t p s Past bit some h =
+    let w = small_came c m.bytes t p m.count s s.act Past bit some h in
+    (w.0, record { told = w.2; counted = λ _. omega (arith, w.1); bytes = refl; base = refl })
+small_filled c m t p s ToEnd bit some h = absurd h
+small_filled c m t p s ToField bit some h = absurd h
+small_filled c m t p s (ToFault reason) bit some h =
+    let w = small_came c m.bytes t p m.count s s.act (ToFault reason) bit some h in
+    (w.0, record { told = w.2; counted = λ e. absurd cc; bytes = refl; base = refl })
+
+pub small_passed : (c : Checks) (m : Lent) (t : ℕ) (s : Step) (d : ℕ) → has_slot m.bytes t s.slot ≡ true → d ≡ word m.bytes (vtable m.bytes t + s.slot) 2
+    → HasBit s s.act → (bit_and s.bit 15 ≡ 0 → ⊥) → s.required ≡ false → t + d < 2 ^ 34 → (r : Came) → (d ≡ 0 → r ≡ Past)
+    → (0 < d → IsCame (t + d) (m.count + 1) (inline_field_failure c m.bytes t (t + d) s.bit s.bit) r) → Stepped c m (record m { count = m.count + 1 }) t s (t + d) r
+small_passed c m t s d inside is bit some free near r absent there = go d refl where
+  go : (e : ℕ) → d ≡ e → Stepped c m (record m { count = m.count + 1 }) t s (t + d) r
+  go zero none =
+      let passed = absent_passed c m t s d inside is none free in
+      let at : t ≡ t + d = omega (arith, none) in
+      rw (absent none) (subst (λ p. StepTested c m (record m { count = m.count + 1 }) t s p None) at passed)
+  go (suc e) more =
+      let apart : (d == 0) ≡ false = grind (arith, nat_tests) in
+      there_passed c m t s d inside is apart near (record m { count = m.count + 1 }) (t + d) r
+      (small_filled c (record m { count = m.count + 1 }) t (t + d) s r bit some (there (omega (arith, more))))

@@ -140,6 +140,13 @@ pub record StepLeads (m new : Lent) (t : ℕ) (s : Step) (at : ℕ) : Type 0 whe
   pub near : at < 2 ^ 34
   pub counted : new ≡ record m { count = m.count + slot_reads m.bytes t s.slot }
 
+-- a chain of tests at a position, after so many reads, tells what passing a field came to
+abbrev pub IsCame : (at reads : ℕ) → Option Failure → Came → Type 0
+IsCame at reads chain Past = tested_by at reads None ≡ after reads chain
+IsCame at reads chain ToEnd = ⊥
+IsCame at reads chain ToField = ⊥
+IsCame at reads chain (ToFault reason) = tested_by at reads (Some reason) ≡ after reads chain
+
 -- what passing a field by its step comes to, that stands at p, once its slot is read
 abbrev pub Filled : Checks → (m new : Lent) → (t : ℕ) → Step → (p at : ℕ) → Came → Type 0
 Filled c m new t s p at Past = (s.act ≡ Other → ⊥) × IsTested m new at (step_failure c m.bytes t s p s.act) (step_reads s.act) None

@@ -2,6 +2,7 @@
 // passed by its step. Those of unions stand in `leads.rt`, those of the start in `begin.rt`.
 
 ghost use Rattle.std.specs.Prelude.{◌≡◌, ℕ, ◌+◌, ◌*◌, ◌^◌, ◌<◌, ◌≤◌, ◌%◌, ◌==◌, length, Some, None, IfSome, MatchOption, IsTrue, true, false};
+ghost use Rattle.std.specs.Int.Bits.{bit_and};
 ghost use Rattle.fb_bytes.specs.Word.{word};
 ghost use Rattle.fb_verify.specs.Places.{fits, target, has_slot, has_vtable, vtable, field_place};
 ghost use Rattle.fb_verify.specs.Cost.{head_reads, slot_reads, lead_reads};
@@ -9,14 +10,15 @@ ghost use Rattle.fb_verify.specs.Fields.{to_string};
 ghost use Rattle.fb_verify.specs.declared.offset_row.Referent.TheVariants.{Table as ATable};
 ghost use Rattle.fb_verify.specs.OffsetRows.{lead_to, IsSized};
 ghost use Rattle.fb_verify.specs.Order.{after, ◌▷◌, head_failure, table_failure, offset_failure, string_failure, vector_failure, inline_failure, inline_field_failure, vector_field_failure, lead_failure};
-ghost use Rattle.fb_verify.specs.Plain.{tested_by, vtable_failure, vtable_reads, FindsVtable, IsTested, IsSmall, place_from, IsStep, HasBit, Filled, Stepped};
+ghost use Rattle.fb_verify.specs.Plain.{tested_by, vtable_failure, vtable_reads, FindsVtable, IsTested, IsSmall, place_from, IsStep, HasBit, IsCame, Filled, Stepped};
 ghost use Rattle.fb_verify.specs.declared.plain.Came.TheVariants.{Past, ToFault};
+ghost use Rattle.fb_verify.specs.declared.fault.Reason.TheVariants.{OutOfBuffer, Misaligned};
 ghost use Rattle.fb_verify.specs.Told.{IsVtable, IsHead, IsPlaced};
 
 use crate::checks::Checks;
 use crate::fault::Reason;
 use crate::offset_row::Referent;
-use crate::site::is_aligned;
+use crate::site::{is_aligned, is_multiple_of_small};
 use crate::table::{Head, Table};
 use fb_bytes::Reads;
 use fb_schema::Step;
@@ -283,42 +285,6 @@ pub fn test_end(
     None
 }
 
-/// Whether a position is a multiple of one, two, four or eight.
-#[inline(always)]
-fn is_multiple_of_small(at: u64, size: u32) -> bool
-    requires small { IsSmall size }
-    ensures { result ≡ (at % size == 0) }
-{
-    at & u64::from(size - 1) == 0
-}
-
-/// Tests a field that is a scalar or struct of one, two, four or eight bytes, aligned to as many.
-#[inline(always)]
-#[tactic(auto, unfolding(crate::specs::Places::is_aligned, crate::specs::Order::inline_failure))]
-fn test_small_field(
-    reads: &Reads<'_>,
-    checks: Checks,
-    table: Table,
-    place: u64,
-    size: u32,
-) -> Option<Reason>
-    requires placed { IsPlaced checks reads.now.bytes table.at table.head place }
-    requires small { IsSmall size }
-    ensures told { tested_by place reads.now.count result ≡ after reads.now.count (inline_field_failure checks reads.now.bytes table.at place size size) }
-{
-    let end = test_end(reads, checks, table, place, size);
-    if end.is_some() {
-        return end;
-    }
-    if !is_inside(reads, place, u64::from(size)) {
-        return fails(Reason::OutOfBuffer);
-    }
-    if checks.alignment && !is_multiple_of_small(place, size) {
-        return fails(Reason::Misaligned);
-    }
-    None
-}
-
 /// Tests a field that is a scalar or struct of this size and alignment.
 #[inline(always)]
 pub fn test_inline_field(
@@ -480,7 +446,7 @@ fn pass_field(
 {
     let bit = step.bit;
     if bit & Step::SMALL != 0 {
-        return past(test_small_field(reads, checks, table, *at, bit));
+        return past(test_inline_field(reads, checks, table, *at, bit, bit));
     }
     if bit & Step::TEXT != 0 {
         return past(test_text_field(reads, checks, table, at));
@@ -495,6 +461,62 @@ fn pass_field(
         return past(test_vector_field(reads, checks, table, at, size, align, &mut many));
     }
     past(test_inline_field(reads, checks, table, *at, size, align))
+}
+
+/// What a scalar or struct at a position comes to that fails a test if it stands there: without a distance from its
+/// table it is absent, and passed.
+#[cold]
+#[inline(never)]
+fn small_failure(length: u64, place: u64, size: u32, distance: u64) -> Came
+    requires near { place < 2 ^ 34 }
+    ensures absent { distance ≡ 0 → result ≡ Past }
+    ensures outside { 0 < distance → length < place + size → result ≡ ToFault OutOfBuffer }
+    ensures askew { 0 < distance → place + size ≤ length → result ≡ ToFault Misaligned }
+{
+    if distance == 0 {
+        return Came::Past;
+    }
+    if place + u64::from(size) > length {
+        return Came::ToFault(Reason::OutOfBuffer);
+    }
+    Came::ToFault(Reason::Misaligned)
+}
+
+/// Whether the field of a step is a scalar or struct of one, two, four or eight bytes that may be absent, and it isn't
+/// checked that it ends within the inline size of its table.
+#[inline(always)]
+fn is_free_small(checks: Checks, step: &Step) -> bool
+    ensures small { result ≡ true → bit_and (step.now).bit 15 ≡ 0 → ⊥ }
+    ensures free { result ≡ true → (step.now).required ≡ false }
+    ensures cut { result ≡ true → checks.inline_size ≡ false }
+{
+    step.bit & Step::SMALL != 0 && !step.required && !checks.inline_size
+}
+
+/// Passes a scalar or struct of one, two, four or eight bytes, aligned to as many, that stands at this distance from
+/// its table, or is absent. Where it is absent the tests are made all the same, of the table's own position, since no
+/// processor foretells a jump by whether a field is there; only where one fails it is asked.
+#[inline(always)]
+#[tactic(auto, unfolding(crate::specs::Places::is_aligned, crate::specs::Order::inline_failure, crate::specs::Order::table_failure, crate::specs::Places::ends_in_table))]
+fn pass_small(
+    reads: &Reads<'_>,
+    checks: Checks,
+    table: Table,
+    place: u64,
+    size: u32,
+    distance: u64,
+) -> Came
+    requires placed { IsPlaced checks reads.now.bytes table.at table.head place }
+    requires small { IsSmall size }
+    requires cut { checks.inline_size ≡ false }
+    ensures absent { distance ≡ 0 → result ≡ Past }
+    ensures there { 0 < distance → IsCame place reads.now.count (inline_field_failure checks reads.now.bytes table.at place size size) result }
+{
+    let is_held = is_inside(reads, place, u64::from(size));
+    if !is_held || checks.alignment && !is_multiple_of_small(place, size) {
+        return small_failure(reads.len(), place, size, distance);
+    }
+    Came::Past
 }
 
 /// Passes a field of a table by its step, unless it stands there and may lead to a table, or its slot lies behind the
@@ -520,13 +542,17 @@ pub fn pass_step(
     if step.slot >= table.head.size {
         return Came::ToEnd;
     }
-    let distance = reads.u16_at(table.head.vtable + u64::from(step.slot));
+    let distance = u64::from(reads.u16_at(table.head.vtable + u64::from(step.slot)));
+    if is_free_small(checks, step) {
+        *at += distance;
+        return pass_small(reads, checks, table, *at, step.bit, distance);
+    }
     if distance == 0 {
         if step.required {
             return Came::ToFault(Reason::MissingRequired);
         }
         return Came::Past;
     }
-    *at += u64::from(distance);
+    *at += distance;
     pass_field(reads, checks, table, step, at)
 }

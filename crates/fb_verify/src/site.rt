@@ -2,6 +2,7 @@
 
 ghost use Rattle.std.specs.Prelude.{◌≡◌, ◌<◌, ◌%◌, ◌==◌};
 ghost use Rattle.fb_verify.specs.Places.{is_aligned};
+ghost use Rattle.fb_verify.specs.Plain.{IsSmall};
 ghost use Rattle.fb_verify.specs.Told.{stopped};
 
 use crate::checks::Checks;
@@ -98,30 +99,34 @@ impl Stop {
     }
 }
 
-/// Whether a position is a multiple of an alignment other than 2, 4 and 8. It stands apart, so that these need no table
-/// of jumps.
+/// Whether a position is a multiple of one, two, four or eight.
+#[inline(always)]
+pub fn is_multiple_of_small(at: u64, size: u32) -> bool
+    requires small { IsSmall size }
+    ensures { result ≡ (at % size == 0) }
+{
+    at & u64::from(size - 1) == 0
+}
+
+/// Whether a position is a multiple of another alignment. It stands apart, since it is seldom asked.
 #[inline(never)]
 fn is_multiple_of_other(at: u64, align: u32) -> bool
     requires { 0 < align }
     ensures { result ≡ (at % align == 0) }
 {
-    match align {
-        1 => true,
-        _ => at % u64::from(align) == 0,
-    }
+    at % u64::from(align) == 0
 }
 
-/// Whether a position is a multiple of its alignment. The usual alignments need no division and no call at run time.
+/// Whether a position is a multiple of its alignment. The usual alignments need no division and no call at run time, and
+/// no jump that depends on which of them it is.
 fn is_multiple(at: u64, align: u32) -> bool
     requires { 0 < align }
     ensures { result ≡ (at % align == 0) }
 {
-    match align {
-        2 => at % 2 == 0,
-        4 => at % 4 == 0,
-        8 => at % 8 == 0,
-        _ => is_multiple_of_other(at, align),
+    if matches!(align, 1 | 2 | 4 | 8) {
+        return is_multiple_of_small(at, align);
     }
+    is_multiple_of_other(at, align)
 }
 
 /// Whether a position is a multiple of its alignment, where that is checked.
