@@ -20,9 +20,13 @@ pub enum Sizes {
 /// its first word. At 0 stands none.
 #[derive(Clone, Copy)]
 pub struct Passed {
+    /// The sizes of the fields of all tables of the row.
     pub sizes: Sizes,
+    /// Where the table stands, or 0.
     pub at: u64,
+    /// Where its vtable stands.
     pub vtable: u64,
+    /// How many reads it took behind that of its first word.
     pub reads: u64,
 }
 
