@@ -9,24 +9,9 @@
 
 ghost use Rattle.std.specs.Prelude.{⊤};
 
-mod alike;
-mod asked;
-mod causes;
-mod check;
-mod check_laws;
-mod fault;
-mod files;
-mod framing;
-mod hint;
-mod inputs;
-mod serve;
-mod stop;
-mod texts;
-
-use causes::Explained;
 use fb_bytes::Counted;
-use files::{FileFault, Files};
-use serve::serve;
+use fbcheck_serve::serve::serve;
+use fbcheck_serve::{Explained, FileFault, Files, WordsFault, WrongWord};
 use std::alloc::AllocError;
 use std::env::Env;
 use std::fs::File;
@@ -34,7 +19,6 @@ use std::io;
 use std::io::{ErrorKind, Read};
 use std::process::ExitCode;
 use std::str::from_utf8;
-use stop::{WordsFault, WrongWord};
 
 /// The most bytes that are read of a schema file; a file that has as many is too long for a buffer.
 const SCHEMA_BYTES: u64 = 0x8000_0000;

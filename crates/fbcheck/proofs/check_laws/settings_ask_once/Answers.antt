@@ -1,5 +1,0 @@
-use Rattle.fbcheck.proofs.OneAsk.{asks_once}
-use Rattle.fbcheck.proofs.check_laws.settings_ask_once.Goals as goal
-
-pub returns : goal.returns
-returns c = asks_once

@@ -1,0 +1,64 @@
+-- Two texts that are noted one behind the other, and the line that tells a fault.
+use Rattle.std.proofs.Common.{◌≡◌, ◌∙◌, ℕ, ◌+◌, ◌<◌, ◌≤◌, List, ◌++◌, Option, sym, ap, subst, length, take, arith}
+use mathlib.Core.Logic.{inl, inr}
+use Rattle.std.specs.Io.KnownBytes.{Appends}
+use Rattle.std.proofs.KnownBytes.{Appends-trans}
+use Rattle.std.proofs.Math.Nat.{eq-or-lt_of_le}
+use Rattle.std.proofs.Math.Seq.{take-append-add, take-length}
+use Rattle.std.proofs.lemmas.List.{length-append}
+use Rattle.std.proofs.Common.{Err, refl, codes}
+use Rattle.std.specs.Global.{Global}
+use Rattle.std.specs.Prelude.{String}
+use Rattle.fbcheck_serve.specs.declared.causes.Causes.{Causes}
+use Rattle.fb_run.specs.Ends.{Writer}
+use Rattle.fbcheck_serve.specs.Inputs.{IsNoted}
+use Rattle.fbcheck_serve.specs.Serving.{Complains, behind}
+use Rattle.fbcheck_serve.specs.Texts.{stop_text}
+use Rattle.fbcheck_serve.specs.declared.stop.Stop.{Stop}
+use Rattle.fbcheck_serve.specs.declared.stop.Stop.TheVariants as stop
+
+-- the first text stands written, and of the second so many bytes
+both_wrote : (text behind : List ℕ) (n m n' : Option (List ℕ)) (first second : ℕ) → first ≡ length text → Appends n m (take first text) → Appends m n' (take second behind)
+    → Appends n n' (text ++ take second behind)
+both_wrote text behind n m n' first second whole wrote more =
+    Appends-trans n m n' text (take second behind) (subst (Appends n m) (ap (λ (i : ℕ). take i text) whole ∙ take-length text) wrote) more
+
+second_cut : (text behind : List ℕ) (n m n' : Option (List ℕ)) (k l k' first second : ℕ) → first ≡ length text → Appends n m (take first text) → l ≡ k
+    → second ≤ length behind → Appends m n' (take second behind) → k' ≡ l + 1 → IsNoted (text ++ behind) (record { bytes = n; failures = k }) (record { bytes = n'; failures = k' })
+second_cut text behind n m n' k l k' first second whole wrote same le more failed =
+    inr (
+      length text + second,
+      record {
+        taken = length text + second;
+        within = rw (length-append text behind) (omega (arith, le));
+        wrote = subst (Appends n n') (sym (take-append-add text behind second)) (both_wrote text behind n m n' first second whole wrote more);
+        written_is = omega arith;
+      },
+      failed ∙ ap (λ (i : ℕ). i + 1) same,
+    )
+
+both_whole : (text behind : List ℕ) (n m n' : Option (List ℕ)) (k l k' first second : ℕ) → first ≡ length text → Appends n m (take first text) → l ≡ k
+    → second ≡ length behind → Appends m n' (take second behind) → k' ≡ l → IsNoted (text ++ behind) (record { bytes = n; failures = k }) (record { bytes = n'; failures = k' })
+both_whole text behind n m n' k l k' first second whole wrote same all more unfailed =
+    let wrote_all = both_wrote text behind n m n' first second whole wrote more in
+    inl (subst (λ (t : List ℕ). Appends n n' (text ++ t)) (ap (λ (i : ℕ). take i behind) all ∙ take-length behind) wrote_all, unfailed ∙ same)
+
+-- the first text stands written, and the second whole or in part
+pub second_noted : (text behind : List ℕ) (n m n' : Option (List ℕ)) (k l k' first second : ℕ) → first ≡ length text → Appends n m (take first text) → l ≡ k
+    → second ≤ length behind → Appends m n' (take second behind) → (second < length behind → k' ≡ l + 1) → (second ≡ length behind → k' ≡ l) → IsNoted (text ++ behind) (record { bytes = n; failures = k }) (record { bytes = n'; failures = k' })
+second_noted text behind n m n' k l k' first second whole wrote same le more failed unfailed = elim (eq-or-lt_of_le le) [
+  | inl all ↦ both_whole text behind n m n' k l k' first second whole wrote same all more (unfailed all)
+  | inr cut ↦ second_cut text behind n m n' k l k' first second whole wrote same le more (failed cut)
+]
+
+-- what isn't the text of `clap` is told by a line of its own
+own_line : (cause : Causes) (fault : Stop) (before after : Writer) → ((text : String Global) → fault ≡ stop.Usage text → ⊥)
+    → IsNoted ((codes "fbcheck: " ++ stop_text cause fault) ++ behind fault) before after → Complains cause (Err fault) before after
+own_line cause (stop.Usage text) before after other noted = absurd (other text refl)
+own_line cause fault before after other noted = noted
+
+pub line_told : (cause : Causes) (fault : Stop) (before after : Writer) (line more : List ℕ) → ((text : String Global) → fault ≡ stop.Usage text → ⊥)
+    → line ≡ codes "fbcheck: " ++ stop_text cause fault → more ≡ behind fault → IsNoted (line ++ more) before after → Complains cause (Err fault) before after
+line_told cause fault before after line more other is same noted =
+    own_line cause fault before after other
+    (subst (λ (l : List ℕ). IsNoted (l ++ behind fault) before after) is (subst (λ (b : List ℕ). IsNoted (line ++ b) before after) same noted))

@@ -1,0 +1,165 @@
+-- What the program comes to.
+use Rattle.std.proofs.Common.{◌≡◌, ◌≢◌, ◌==◌, ◌≤◌, ◌^◌, ◌∙◌, arith, ℕ, Bool, true, false, true≢false, List, [], ◌∷◌, Option, Some, None, Result, Ok, Err, ap, length, refl, take, sym, subst}
+use mathlib.Core.Logic.{◌⊎◌, inl, inr}
+use Rattle.std.specs.Borrow.{Bor}
+use Rattle.std.specs.declared.io.ErrorKind.{ErrorKind}
+use Rattle.std.specs.Io.KnownBytes.{Appends}
+use Rattle.std.specs.Prelude.{String, Vec, map, option_map, string_bytes, vec_items}
+use Rattle.std.proofs.KnownBytes.{Keeps-refl}
+use Rattle.std.proofs.lemmas.Bool.{eq-eqb, eqb-true}
+use Rattle.std.proofs.lemmas.List.{length-map, nil_from_length}
+use Rattle.std.proofs.Math.Seq.{take-length}
+use Rattle.clap.specs.Walk.{Text}
+use Rattle.fbcheck_words.specs.Refusal.{Refuses}
+use Rattle.fbcheck_serve.specs.Checking.{IsPromptAmongAsked, IsPromptAsAsked, IsPromptOverAsked, RunsAsAsked, ServesAsAsked, names_in}
+use Rattle.fbcheck_serve.specs.Asked.{manner_in}
+use Rattle.fbcheck_serve.specs.Faults.{IsFile}
+use Rattle.fbcheck_serve.specs.Framing.{by_of}
+use Rattle.fbcheck_serve.specs.declared.framing.By.{By}
+use Rattle.fbcheck_serve.specs.declared.framing.Manner.{Manner}
+use Rattle.fbcheck_serve.specs.Inputs.{Folder, IsPromptAmong, IsPromptOver, Seen, with_cause}
+use Rattle.fb_run.specs.Job.{Job}
+use Rattle.fb_run.specs.Ends.{Ends, Reader, Writer, beside}
+use Rattle.fb_run.specs.Faults.{End, EndsBeside}
+use Rattle.fb_run.specs.JsonSums.{summary_in}
+use Rattle.fbcheck_serve.specs.Serving.{ChecksAsGiven, ComesBy, ComesTo, HoldsAsGiven, IsPromptAsGiven, EndsSo, IsCrowded, PassesAsGiven, SumsUp, Unserved, files_ending, lent_bytes, run_ending, summed, words_of}
+use Rattle.fbcheck_words.specs.Given.{AreGiven}
+use Rattle.fbcheck_words.specs.declared.choices.Settings.{Settings}
+use Rattle.fbcheck_words.specs.declared.choices.SettingsFault.{SettingsFault}
+use Rattle.fb_run.specs.declared.fault.RunFault.TheVariants as run
+use Rattle.fb_run.specs.declared.tally.Tally.{Tally}
+use Rattle.fbcheck_serve.specs.declared.stop.Ending.{Ending}
+use Rattle.fbcheck_serve.specs.declared.inputs.Course.{Course}
+use Rattle.fbcheck_serve.specs.declared.stop.Ending.TheVariants.{Checked, Passed}
+use Rattle.fbcheck_serve.specs.declared.stop.Stop.{Stop}
+use Rattle.fbcheck_serve.specs.declared.stop.Sums.{Sums}
+use Rattle.fbcheck_serve.specs.declared.stop.Stop.TheVariants as stop
+use Rattle.fbcheck_serve.specs.declared.stop.WordsFault.{WordsFault}
+
+module _ (folder : Folder) where
+  -- the words give no settings
+  pub comes_unserved : (given : List Text) (reader : Reader) (writer writer' notes : Writer) (cause : Option ErrorKind) (fault : SettingsFault) (outcome : Result Ending Stop)
+      → Refuses given fault → Unserved fault writer writer' outcome
+      → ComesBy folder given (with_cause (beside reader (record { writer = writer; notes = notes })) cause) (with_cause (beside reader (record { writer = writer'; notes = notes })) cause) None outcome
+  comes_unserved given reader writer writer' notes cause fault (Ok (Checked tally manner)) refuses never = absurd never
+  comes_unserved given reader writer writer' notes cause fault (Ok (Passed course by)) refuses never = absurd never
+  comes_unserved given reader writer writer' notes cause fault (Err (stop.Run why tally manner)) refuses never = absurd never
+  comes_unserved given reader writer writer' notes cause fault (Err (stop.Halted why)) refuses never = absurd never
+  comes_unserved given reader writer writer' notes cause fault (Err (stop.Ask why)) refuses never = absurd never
+  comes_unserved given reader writer writer' notes cause fault (Err (stop.File why hint)) refuses never = absurd never
+  comes_unserved given reader writer writer' notes cause fault (Err (stop.Unsummed written)) refuses never = absurd never
+  comes_unserved given reader writer writer' notes cause fault outcome refuses unserved = ((fault, refuses, Keeps-refl reader.left, unserved, Keeps-refl notes.bytes), refl)
+
+  -- what holds by the settings, and by what a read of the file of the words gave
+  pub holds_given : (given : List Text) (settings : Settings) (file : Option (Bor (List ℕ))) (bytes : Option (List ℕ)) (Holds : Option (Bor (List ℕ)) → Settings → Type 0)
+      → AreGiven given settings → lent_bytes file ≡ bytes → IsFile folder.gives (option_map string_bytes settings.schema) bytes → Holds file settings → HoldsAsGiven folder given Holds
+  holds_given given settings file bytes Holds are lent is holds = record {
+    settings = settings;
+    file = file;
+    are_given = are;
+    is_file = subst (λ (t : Option Text). IsFile folder.gives t (lent_bytes file)) are.said.schema
+        (subst (λ (b : Option (List ℕ)). IsFile folder.gives (option_map string_bytes settings.schema) b) (sym lent) is);
+    holds = holds;
+  }
+
+  -- the buffers were checked by these settings
+  pub checks_given : (given : List Text) (settings : Settings) (file : Option (Bor (List ℕ))) (bytes : Option (List ℕ)) (before after : Ends) (tally : Tally) (manner : Manner) (sums : Option Sums)
+      (end end' : End) → end ≡ end' → AreGiven given settings → lent_bytes file ≡ bytes → IsFile folder.gives (option_map string_bytes settings.schema) bytes
+      → names_in settings ≡ [] → RunsAsAsked file settings before after tally end → manner ≡ manner_in settings → sums ≡ summed settings tally
+      → ChecksAsGiven folder given before after sums tally manner end'
+  checks_given given settings file bytes before after tally manner sums end end' same are lent is none ran stands counted =
+      holds_given given settings file bytes _ are lent is (none, subst (λ (e : End). RunsAsAsked file settings before after tally e) same ran, stands, counted)
+
+  -- files were gone through by these settings
+  pub passes_given : (given : List Text) (settings : Settings) (file : Option (Bor (List ℕ))) (bytes : Option (List ℕ)) (before after : Seen) (course : Course) (by : By) (sums : Option Sums)
+      (end end' : End) → end ≡ end' → AreGiven given settings → lent_bytes file ≡ bytes → IsFile folder.gives (option_map string_bytes settings.schema) bytes
+      → names_in settings ≢ [] → ServesAsAsked folder file settings before after course end → by ≡ by_of settings.schema → sums ≡ summed settings course.tally
+      → PassesAsGiven folder given before after sums course by end'
+  passes_given given settings file bytes before after course by sums end end' same are lent is some served stands counted =
+      holds_given given settings file bytes _ are lent is (some, subst (λ (e : End). ServesAsAsked folder file settings before after course e) same served, stands, counted)
+
+  -- the program ends by the end of the run, or of the files
+  pub comes_run : (given : List Text) (before after : Seen) (sums : Option Sums) (manner : Manner) (tally : Tally) (end : End) (outcome : Result Ending Stop) → outcome ≡ run_ending manner tally end
+      → ChecksAsGiven folder given before.ends after.ends sums tally manner end → ComesBy folder given before after sums outcome
+  comes_run given before after sums manner tally (Ok done) outcome is checks = subst (λ (o : Result Ending Stop). ComesBy folder given before after sums o) (sym is) checks
+  comes_run given before after sums manner tally (Err fault) outcome is checks = subst (λ (o : Result Ending Stop). ComesBy folder given before after sums o) (sym is) checks
+
+  pub comes_files : (given : List Text) (before after : Seen) (sums : Option Sums) (by : By) (course : Course) (end : End) (outcome : Result Ending Stop) → outcome ≡ files_ending by course end
+      → PassesAsGiven folder given before after sums course by end → ComesBy folder given before after sums outcome
+  comes_files given before after sums by course (Ok done) outcome is passes = subst (λ (o : Result Ending Stop). ComesBy folder given before after sums o) (sym is) passes
+  comes_files given before after sums by course (Err fault) outcome is passes = subst (λ (o : Result Ending Stop). ComesBy folder given before after sums o) (sym is) (course, by, passes)
+
+  -- the end of files says nothing of the counts
+  pub files_end_so : (before after : Ends) (turns : ℕ) (by : By) (course : Course) (end : End) (outcome : Result Ending Stop) → outcome ≡ files_ending by course end → EndsSo before after turns outcome
+  files_end_so before after turns by course (Ok done) outcome is = subst (λ (o : Result Ending Stop). EndsSo before after turns o) (sym is) tt
+  files_end_so before after turns by course (Err fault) outcome is = subst (λ (o : Result Ending Stop). EndsSo before after turns o) (sym is) tt
+
+  -- and that of a run what the run does
+  pub run_ends_so : (before after : Ends) (turns : ℕ) (manner : Manner) (tally : Tally) (end : End) (outcome : Result Ending Stop) → outcome ≡ run_ending manner tally end → EndsBeside before after turns end
+      → EndsSo before after turns outcome
+  run_ends_so before after turns manner tally (Ok done) outcome is ends = subst (λ (o : Result Ending Stop). EndsSo before after turns o) (sym is) ends
+  run_ends_so before after turns manner tally (Err fault) outcome is ends = subst (λ (o : Result Ending Stop). EndsSo before after turns o) (sym is) ends
+
+  -- all that was read is told, where no file is named, and among files
+  pub prompt_alone : (file : Option (Bor (List ℕ))) (settings : Settings) (before now : Ends) → names_in settings ≡ [] → IsPromptAsAsked file settings before now
+      → IsPromptOverAsked folder file settings before now
+  prompt_alone file settings before now none (job, asks, prompt) = (job, asks, subst (λ (names : List Text). IsPromptOver folder job names before now) (sym none) prompt)
+
+  over_some : (job : Job) (names : List Text) (before now : Ends) → names ≢ [] → IsPromptAmong folder job names before now → IsPromptOver folder job names before now
+  over_some job [] before now some among = absurd (some refl)
+  over_some job (name ∷ names) before now some among = among
+
+  pub prompt_among : (file : Option (Bor (List ℕ))) (settings : Settings) (before now : Ends) → names_in settings ≢ [] → IsPromptAmongAsked folder file settings before now
+      → IsPromptOverAsked folder file settings before now
+  prompt_among file settings before now some (job, asks, among) = (job, asks, over_some job (names_in settings) before now some among)
+
+  -- the words could be read
+  pub comes_read : {A B : Type 0} (given : Result (Vec (String A) B) WordsFault) (words : Vec (String A) B) (slice : List (String A)) (before after : Seen) (sums : Option Sums) (outcome : Result Ending Stop)
+      → given ≡ Ok words → slice ≡ vec_items words → ComesBy folder (map string_bytes slice) before after sums outcome → ComesTo folder (words_of given) before after sums outcome
+  comes_read {A} {B} given words slice before after sums outcome is same comes =
+      subst (λ (g : Result (Vec (String A) B) WordsFault). ComesTo folder (words_of g) before after sums outcome) (sym is)
+      (subst (λ (l : List (String A)). ComesBy folder (map string_bytes l) before after sums outcome) same comes)
+
+  pub prompt_read : {A B : Type 0} (given : Result (Vec (String A) B) WordsFault) (words : Vec (String A) B) (slice : List (String A)) (before now : Ends)
+      → given ≡ Ok words → slice ≡ vec_items words → IsPromptAsGiven folder (Ok (map string_bytes slice)) before now → IsPromptAsGiven folder (words_of given) before now
+  prompt_read {A} {B} given words slice before now is same prompt =
+      subst (λ (g : Result (Vec (String A) B) WordsFault). IsPromptAsGiven folder (words_of g) before now) (sym is)
+      (subst (λ (l : List (String A)). IsPromptAsGiven folder (Ok (map string_bytes l)) before now) same prompt)
+
+-- whether files are named, by how many there are
+pub none_named : {Z : Type 0} (files slice : List (String Z)) (empty : Bool) → slice ≡ files → empty ≡ (length slice == 0) → empty ≡ true → map string_bytes files ≡ []
+none_named files slice empty same is named =
+    ap (λ l. map string_bytes l) (sym same ∙ nil_from_length slice (eqb-true (length slice) 0 (sym is ∙ named)))
+
+pub some_named : {Z : Type 0} (files slice : List (String Z)) (empty : Bool) → slice ≡ files → empty ≡ (length slice == 0) → empty ≡ false → map string_bytes files ≢ []
+some_named files slice empty same is named none =
+    let zero : length slice ≡ 0 = ap length same ∙ sym (length-map files string_bytes) ∙ ap length none in
+    true≢false (sym (eq-eqb (length slice) 0 zero) ∙ sym is ∙ named)
+
+-- a summary was noted whole, or in part
+pub sums_noted : (sums : Option Sums) (told : Sums) (before after : Writer) (outcome : Result Ending Stop) (line : List ℕ) (written : ℕ)
+    → sums ≡ Some told → line ≡ summary_in told.form told.tally → written ≡ length line → Appends before.bytes after.bytes (take written line) → after.failures ≡ before.failures
+    → SumsUp sums before after outcome outcome
+sums_noted sums told before after outcome line written some is all wrote same =
+    subst (λ (o : Option Sums). SumsUp o before after outcome outcome) (sym some)
+    (inl (subst (Appends before.bytes after.bytes) (ap (λ (m : ℕ). take m line) all ∙ take-length line ∙ is) wrote, same, refl))
+
+-- more calls of the notes leave them as crowded
+pub crowded_on : (writes notes more : ℕ) (outcome : Result Ending Stop) → notes ≤ more → IsCrowded writes notes outcome → IsCrowded writes more outcome
+crowded_on writes notes more (Err (stop.Halted run.TooManyTurns)) le (inl many) = inl many
+crowded_on writes notes more (Err (stop.Halted run.TooManyTurns)) le (inr many) = inr (omega arith)
+crowded_on writes notes more (Err (stop.Halted fault)) le crowded = tt
+crowded_on writes notes more (Ok ending) le crowded = tt
+crowded_on writes notes more (Err cause) le crowded = tt
+
+-- files that ended so
+pub files_crowded : (writes notes : ℕ) (by : By) (course : Course) (end : End) (outcome : Result Ending Stop) → outcome ≡ files_ending by course end
+    → (end ≡ Err run.TooManyTurns → (2 ^ 64 ≤ writes) ⊎ (2 ^ 64 ≤ notes)) → IsCrowded writes notes outcome
+files_crowded writes notes by course (Ok done) outcome is crowded = subst (λ (o : Result Ending Stop). IsCrowded writes notes o) (sym is) tt
+files_crowded writes notes by course (Err run.TooManyTurns) outcome is crowded = subst (λ (o : Result Ending Stop). IsCrowded writes notes o) (sym is) (crowded refl)
+files_crowded writes notes by course (Err fault) outcome is crowded = subst (λ (o : Result Ending Stop). IsCrowded writes notes o) (sym is) tt
+
+-- and a run
+pub run_crowded : (writes notes : ℕ) (manner : Manner) (tally : Tally) (end : End) (outcome : Result Ending Stop) → outcome ≡ run_ending manner tally end → IsCrowded writes notes outcome
+run_crowded writes notes manner tally (Ok done) outcome is = subst (λ (o : Result Ending Stop). IsCrowded writes notes o) (sym is) tt
+run_crowded writes notes manner tally (Err fault) outcome is = subst (λ (o : Result Ending Stop). IsCrowded writes notes o) (sym is) tt

@@ -1,0 +1,51 @@
+use Rattle.std.proofs.Common.{IfErr, List, Option, Result, ap, ℕ, refl, rules, subst, sym, ◌∙◌}
+use Rattle.fbcheck_serve.specs.declared.asked.Asked.{Asked}
+use Rattle.fbcheck_serve.specs.declared.hint.Unasked.{Unasked}
+use Rattle.fbcheck_serve.specs.Asked.{LacksIdent, options_of}
+use Rattle.fbcheck_serve.specs.Inputs.{with_label}
+use Rattle.fb_run.specs.Job.{job_of}
+use Rattle.fbcheck_serve.specs.Checking.{IsUntold, own_of}
+use Rattle.fb_run.proofs.RunLemmas.{err_exit}
+use Rattle.fbcheck_serve.proofs.AskedLemmas.{untold_path}
+use Rattle.fbcheck_serve.proofs.asked.asked_of.Goals as goal
+
+pub returns-clause-job : goal.returns-clause-job
+returns-clause-job c =
+    let loaded = c.in-Ok.loaded in (
+      loaded.schema,
+      own_of loaded,
+      c.in-Ok.ensures.schema,
+      record {
+        root = c.in-Some.root;
+        root_is = sym c.find_root.ensures.number ∙ c.in-Some.is;
+        paths = c.in_ok-paths.paths;
+        paths_are = rw c.as_slice.ensures.value at c.in_ok-paths.ensures.paths;
+        ident = c.in-Some-find_ident.ident;
+        ident_is = sym (c.find_ident.ensures loaded.root) ∙ c.in-Some-find_ident.is;
+        job_is = ap (job_of loaded.schema) c.options-options.ensures ∙ ap (λ (label : Option (List ℕ)). with_label label (job_of loaded.schema (options_of c.args.settings.now c.in-Some.root c.in_ok-paths.paths
+            c.in-Some-find_ident.ident))) c.in-Ok-label.ensures;
+      },
+    )
+
+pub returns-in_default-find_ident-clause-none : goal.returns-in_default-find_ident-clause-none
+returns-in_default-find_ident-clause-none c =
+    let loaded = c.in-Ok.loaded in
+    let lacks : LacksIdent loaded.schema (own_of loaded) c.args.settings.now = record {
+      root = c.in-Some.root;
+      root_is = sym c.find_root.ensures.number ∙ c.in-Some.is;
+      paths = c.in_ok-paths.paths.items;
+      paths_are = rw c.as_slice.ensures.value at c.in_ok-paths.ensures.paths;
+      none = sym (c.find_ident.ensures loaded.root) ∙ search rules;
+    } in
+    subst (IsUntold c.args.schema_bytes c.args.settings.now) (sym c.plain.ensures)
+    (record { lacks = (loaded.schema, own_of loaded, c.in-Ok.ensures.schema, lacks); hint = refl })
+
+pub returns-in-Err-clause-none : goal.returns-in-Err-clause-none
+returns-in-Err-clause-none c = c.schemaless.ensures
+
+pub returns-in_err-paths-clause-none : goal.returns-in_err-paths-clause-none
+returns-in_err-paths-clause-none c =
+    let loaded = c.in-Ok.loaded in
+    err_exit c.from_residual.result _ (λ (r : Result Asked Unasked). IfErr r (IsUntold c.args.schema_bytes c.args.settings.now)) c.from_residual.ensures.1
+    (untold_path c.args.schema_bytes c.args.settings.now loaded.schema (own_of loaded) c.in-Some.root _ c.in-Ok.ensures.schema
+    (sym c.find_root.ensures.number ∙ c.in-Some.is) (rw c.as_slice.ensures.value at c.in_err-paths.ensures.fault) (rw c.as_slice.ensures.value at c.in_err-paths.ensures.hint))

@@ -1,0 +1,26 @@
+use Rattle.std.proofs.Common.{map, string_bytes, subst}
+use Rattle.fb_run.specs.Ends.{ends_of}
+use Rattle.fb_run.specs.Job.{job_of}
+use Rattle.fbcheck_serve.specs.Inputs.{IsPromptAmong, ServesEach, at_first, folder_of, seen_of, stand}
+use Rattle.fbcheck_serve.proofs.check.check_files.Goals as goal
+
+pub returns-clause-served : goal.returns-clause-served
+returns-clause-served g c =
+    let job = job_of c.in_ok-asked.asked.schema c.in_ok-asked.asked.options in
+    let before = seen_of g.S.Input g.S.Explains g.K.Sink g.N.Sink c.args.reader.now c.args.writer.now c.args.notes.now in
+    let after = seen_of g.S.Input g.S.Explains g.K.Sink g.N.Sink c.pass_files.new.reader c.pass_files.new.writer c.pass_files.new.notes in (
+      job,
+      c.in_ok-asked.ensures.job,
+      subst (λ names. ServesEach (folder_of g.F.Files g.F.Opened.Source g.F.Opened.Explains c.args.files.now) job (map string_bytes names) (at_first before) (stand after c.pass_files.result.course) c.pass_files.result.end)
+          c.as_slice.ensures.value c.pass_files.ensures.serves,
+    )
+
+pub pass_files-requires-clause-leave : goal.pass_files-requires-clause-leave
+pass_files-requires-clause-leave g c now prompt unended =
+    let job = job_of c.in_ok-asked.asked.schema c.in_ok-asked.asked.options in
+    let before = ends_of g.S.Input g.K.Sink g.N.Sink c.args.reader.now c.args.writer.now c.args.notes.now in
+    c.requires.leave now (
+      job,
+      c.in_ok-asked.ensures.job,
+      subst (λ names. IsPromptAmong (folder_of g.F.Files g.F.Opened.Source g.F.Opened.Explains c.args.files.now) job (map string_bytes names) before now) c.as_slice.ensures.value prompt,
+    ) unended

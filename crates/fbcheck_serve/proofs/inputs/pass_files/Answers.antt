@@ -1,0 +1,102 @@
+use Rattle.std.proofs.Common.{◌≡◌, ◌∙◌, ◌+◌, ◌++◌, [], length, Ok, Err, ap, drop, map, refl, rules, string_bytes, subst}
+use mathlib.Core.Logic.{inr}
+use Rattle.std.proofs.Math.ListN.{drop_of_length-le}
+use Rattle.fb_run.specs.Ends.{IsUnended, reader_of}
+use Rattle.fb_run.specs.Job.{Job, job_of}
+use Rattle.fb_run.specs.Prompt.{IsPrompt}
+use Rattle.fbcheck_serve.specs.Inputs.{Tries, folder_of, label_of, seen_of, stand, are_named}
+use Rattle.fbcheck_serve.specs.declared.inputs.Course.{Course}
+use Rattle.fbcheck_serve.proofs.InputsLemmas.{front_all, front_more, halts_among, next_text, relabelled, turns_on}
+use Rattle.fbcheck_serve.proofs.inputs.pass_files.Goals as goal
+
+pub loop-name-init : goal.loop-name-init
+loop-name-init g c =
+    let begun = seen_of g.S.Input g.S.Explains g.K.Sink g.N.Sink c.args.reader.now c.args.writer.now c.args.notes.now in
+    record {
+      passes = ([], refl, ap (λ (course : Course). stand begun course) c.new-course.ensures);
+      job = ((job_of c.args.schema.now c.args.options.now).label, refl);
+      serves = c.requires.serves;
+      places = ap (λ (course : Course). length course.tally.reasons) c.new-course.ensures;
+      noted = search rules;
+      unread = λ is. refl;
+      turns = search rules;
+    }
+
+pub pass_file-passed-requires-clause-leave : goal.pass_file-passed-requires-clause-leave
+pass_file-passed-requires-clause-leave g c standard unread now prompt unended =
+    let texts = map string_bytes c.args.names.now in
+    let text = c.as_str-name.result.now in
+    let before = seen_of g.S.Input g.S.Explains g.K.Sink g.N.Sink c.loop-name.reader c.loop-name.writer c.loop-name.notes in
+    let (front, are, passes) = c.loop-name.invariant.passes in
+    let (old, is) = c.loop-name.invariant.job in
+    let named : c.are_named-named.result ≡ are_named (job_of c.args.schema.now c.args.options.now).label texts = c.are_named-named.ensures in
+    let asked = relabelled c.args.schema.now c.loop-name.options (job_of c.args.schema.now c.args.options.now) c.in-Ok.label old (label_of (are_named (job_of c.args.schema.now c.args.options.now).label texts) text) is
+    (c.in-Ok.ensures ∙ ap (λ b. label_of b text) named) in
+    c.requires.leave now (record {
+      front = front;
+      name = text;
+      rest = map string_bytes (drop (c.loop-name.name-index + 1) c.args.names.now);
+      names_are = are ∙ ap (λ l. front ++ l) (next_text c.args.names.now c.loop-name.name-index c.name-item.result text c.loop-name-test.true c.name-item.is c.as_str-name.ensures.value);
+      standard = standard;
+      cause = g.S.Explains.cause c.args.reader.now;
+      mid = stand before c.loop-name.course;
+      passes = passes;
+      unread = unread;
+      prompt = subst (λ (j : Job). IsPrompt j before.ends now) asked prompt;
+    }) (subst (λ reader. IsUnended (reader_of g.S.Input reader) now.reader) (c.loop-name.invariant.unread unread) unended)
+
+pub loop-name-preserved : goal.loop-name-preserved
+loop-name-preserved g c =
+    let folder = folder_of g.F.Files g.F.Opened.Source g.F.Opened.Explains c.args.files.now in
+    let texts = map string_bytes c.args.names.now in
+    let text = c.as_str-name.result.now in
+    let job = job_of c.args.schema.now c.args.options.now in
+    let before = stand (seen_of g.S.Input g.S.Explains g.K.Sink g.N.Sink c.loop-name.reader c.loop-name.writer c.loop-name.notes) c.loop-name.course in
+    let after = stand (seen_of g.S.Input g.S.Explains g.K.Sink g.N.Sink c.pass_file-passed.new.reader c.pass_file-passed.new.writer c.pass_file-passed.new.notes) c.pass_file-passed.new.course in
+    let (front, are, passes) = c.loop-name.invariant.passes in
+    let (old, is) = c.loop-name.invariant.job in
+    let serves = c.loop-name.invariant.serves in
+    let named : c.are_named-named.result ≡ are_named (job_of c.args.schema.now c.args.options.now).label texts = c.are_named-named.ensures in
+    let asked = relabelled c.args.schema.now c.loop-name.options job c.in-Ok.label old (label_of (are_named (job_of c.args.schema.now c.args.options.now).label texts) text) is (c.in-Ok.ensures ∙ ap (λ b. label_of b text) named) in
+    record {
+      passes = front_more folder job (are_named (job_of c.args.schema.now c.args.options.now).label texts) texts front _ _ text _ before after are
+          (next_text c.args.names.now c.loop-name.name-index c.name-item.result text c.loop-name-test.true c.name-item.is c.as_str-name.ensures.value) passes
+          (subst (λ (j : Job). Tries folder j text before after (Ok tt)) asked c.in_default-passed.ensures.tries);
+      job = (label_of (are_named (job_of c.args.schema.now c.args.options.now).label texts) text, asked);
+      serves = record { table = serves.table; fits = serves.fits; few = serves.few; least = serves.least; most = serves.most };
+      places = c.pass_file-passed.ensures.places;
+      noted = c.pass_file-passed.ensures.noted;
+      unread = λ new. let (then, same) = c.pass_file-passed.ensures.unread new in same ∙ c.loop-name.invariant.unread then;
+      turns = turns_on g.S.Input.calls c.loop-name.course.standard c.pass_file-passed.new.course.standard c.args.reader.now c.loop-name.reader c.pass_file-passed.new.reader
+          c.loop-name.invariant.unread c.pass_file-passed.ensures.spent c.pass_file-passed.ensures.turns c.loop-name.invariant.turns;
+    }
+
+pub returns-in_default-clause-serves : goal.returns-in_default-clause-serves
+returns-in_default-clause-serves g c =
+    let text = c.as_str-name.result.now in
+    let now = stand (seen_of g.S.Input g.S.Explains g.K.Sink g.N.Sink c.loop-name.reader c.loop-name.writer c.loop-name.notes) c.loop-name.course in
+    let (front, are, passes) = c.loop-name.invariant.passes in
+    halts_among (folder_of g.F.Files g.F.Opened.Source g.F.Opened.Explains c.args.files.now) (job_of c.args.schema.now c.args.options.now) (map string_bytes c.args.names.now) front _ _ text _ now now _ are
+    (next_text c.args.names.now c.loop-name.name-index c.name-item.result text c.loop-name-test.true c.name-item.is c.as_str-name.ensures.value) passes (inr (tt, refl))
+
+pub returns-in-Err-clause-serves : goal.returns-in-Err-clause-serves
+returns-in-Err-clause-serves g c =
+    let folder = folder_of g.F.Files g.F.Opened.Source g.F.Opened.Explains c.args.files.now in
+    let texts = map string_bytes c.args.names.now in
+    let text = c.as_str-name.result.now in
+    let job = job_of c.args.schema.now c.args.options.now in
+    let before = stand (seen_of g.S.Input g.S.Explains g.K.Sink g.N.Sink c.loop-name.reader c.loop-name.writer c.loop-name.notes) c.loop-name.course in
+    let after = stand (seen_of g.S.Input g.S.Explains g.K.Sink g.N.Sink c.pass_file-passed.new.reader c.pass_file-passed.new.writer c.pass_file-passed.new.notes) c.pass_file-passed.new.course in
+    let (front, are, passes) = c.loop-name.invariant.passes in
+    let (old, is) = c.loop-name.invariant.job in
+    let named : c.are_named-named.result ≡ are_named (job_of c.args.schema.now c.args.options.now).label texts = c.are_named-named.ensures in
+    let asked = relabelled c.args.schema.now c.loop-name.options job c.in-Ok.label old (label_of (are_named (job_of c.args.schema.now c.args.options.now).label texts) text) is (c.in-Ok.ensures ∙ ap (λ b. label_of b text) named) in
+    halts_among folder job texts front _ _ text _ before after c.in-Err.fault are
+    (next_text c.args.names.now c.loop-name.name-index c.name-item.result text c.loop-name-test.true c.name-item.is c.as_str-name.ensures.value) passes
+    (subst (λ (j : Job). Tries folder j text before after (Err c.in-Err.fault)) asked c.in-Err.ensures.tries)
+
+pub returns-clause-serves : goal.returns-clause-serves
+returns-clause-serves g c =
+    let (front, are, passes) = c.loop-name.invariant.passes in
+    front_all (folder_of g.F.Files g.F.Opened.Source g.F.Opened.Explains c.args.files.now) (job_of c.args.schema.now c.args.options.now) _ (map string_bytes c.args.names.now) front _ _ _ are
+    (ap (λ l. map string_bytes l) (drop_of_length-le c.args.names.now c.loop-name-test.false)) passes

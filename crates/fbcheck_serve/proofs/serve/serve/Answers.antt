@@ -1,0 +1,22 @@
+use Rattle.std.proofs.Common.{Option, arith, subst}
+use Rattle.std.specs.declared.io.ErrorKind.{ErrorKind}
+use Rattle.fb_run.specs.Ends.{writer_of}
+use Rattle.fbcheck_serve.specs.Serving.{Complains}
+use Rattle.fbcheck_serve.proofs.ServingLemmas.{crowded_on}
+use Rattle.fbcheck_serve.proofs.serve.serve.Goals as goal
+
+pub returns-clause-served : goal.returns-clause-served
+returns-clause-served g c = record {
+  outcome = c.come_to-outcome.result;
+  sums = c.come_to-outcome.new.sums;
+  between = writer_of g.N.Sink c.come_to-outcome.new.notes;
+  comes = c.come_to-outcome.ensures.comes;
+  ends = c.come_to-outcome.ensures.ends;
+  crowded = crowded_on _ (g.N.Sink.calls c.come_to-outcome.new.notes) _ c.come_to-outcome.result (omega arith) c.come_to-outcome.ensures.crowded;
+  ending = c.sum_up-ending.result;
+  behind = writer_of g.N.Sink c.sum_up-ending.new.notes;
+  summed = c.sum_up-ending.ensures.summed;
+  told = subst (λ (write : Option ErrorKind). Complains (record { read = g.S.Explains.cause c.come_to-outcome.new.reader; write = write }) c.sum_up-ending.result (writer_of g.N.Sink c.sum_up-ending.new.notes) (writer_of g.N.Sink c.tell.new.notes)) c.cause-2.ensures
+      (subst (λ (read : Option ErrorKind). Complains (record { read = read; write = c.cause-2.result }) c.sum_up-ending.result (writer_of g.N.Sink c.sum_up-ending.new.notes) (writer_of g.N.Sink c.tell.new.notes)) c.cause.ensures c.tell.ensures.told);
+  status_is = c.exit_status.ensures;
+}

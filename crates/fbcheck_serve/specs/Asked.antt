@@ -1,0 +1,167 @@
+-- What the settings ask, by a schema that has a root table of its own, or none.
+use Rattle.std.specs.Prelude.{◌≡◌, ℕ, Bool, true, false, List, Option, Some, None, Result, Ok, Err, Vec, option_map, map, string_bytes, [], ◌∷◌, ◌⊎◌, codes, if◌then◌else◌}
+use Rattle.std.specs.Global.{Global}
+use Rattle.std.specs.List.{AllZip}
+use Rattle.fb_schema.specs.Rows.{Rows, table_named}
+use Rattle.fb_access.specs.declared.step.Step.{Step}
+use Rattle.fb_access.specs.declared.path_fault.PathFault.{PathFault}
+use Rattle.fb_access.specs.Resolving.{Resolves, IsFault}
+use Rattle.fb_verify.specs.declared.start.Ident.{Ident}
+use Rattle.fb_verify.specs.declared.start.Ident.TheVariants.{Any, Want}
+use Rattle.fb_bfbs.specs.LoadLaws.{own_ident}
+use Rattle.fb_run.specs.Job.{Job, job_of, start_of}
+use Rattle.fb_run.specs.Wanted.{Wanted}
+use Rattle.fbcheck_words.specs.declared.choices.Form as asked
+use Rattle.fbcheck_words.specs.declared.choices.Form.TheVariants as words
+use Rattle.fbcheck_words.specs.declared.choices.Settings.{Settings}
+use Rattle.fb_run.specs.declared.options.Form.{Form}
+use Rattle.fb_run.specs.declared.options.Form.TheVariants.{Plain, Json}
+use Rattle.fb_run.specs.declared.options.Mode.{Mode}
+use Rattle.fb_run.specs.declared.options.Mode.TheVariants.{Lines, BadLines, Filter}
+use Rattle.fb_run.specs.declared.options.Places.{Places}
+use Rattle.fb_run.specs.declared.options.Places.TheVariants.{Numbers, Words}
+use Rattle.fb_run.specs.declared.options.Prefix.{Prefix}
+use Rattle.fb_run.specs.declared.options.Prefix.TheVariants.{Part, Apart}
+use Rattle.fb_run.specs.declared.options.Options.{Options}
+use Rattle.fbcheck_serve.specs.Framing.{by_of, framing_of}
+use Rattle.fbcheck_serve.specs.declared.framing.Framing.{Framing}
+use Rattle.fbcheck_serve.specs.declared.framing.Manner.{Manner}
+use Rattle.fbcheck_serve.specs.Inputs.{label_of, with_label}
+use Rattle.fbcheck_serve.specs.declared.fault.AskFault.{AskFault}
+use Rattle.fbcheck_serve.specs.declared.fault.AskFault.TheVariants.{Path, NoRoot, NoIdent, OutOfMemory}
+
+-- the root table: the listed one of the name that is asked for, or else the schema's own
+abbrev pub root_of : Rows → Option (List ℕ) → Option ℕ → Option ℕ
+root_of rows None own = own
+root_of rows (Some name) own = table_named rows name
+
+-- what a schema has of its own: its root table and the bytes of its file identifier, where it declares them
+pub record Own : Type 0 where
+  pub root : Option ℕ
+  pub ident : Option (List ℕ)
+
+-- the root table that the settings ask for
+abbrev pub asked_root : Rows → Own → Settings → Option ℕ
+asked_root rows own settings = root_of rows (option_map string_bytes settings.root) own.root
+
+-- a text names this path from the root
+abbrev pub IsPath : Rows → ℕ → List ℕ → Wanted → Type 0
+IsPath rows root text wanted = (wanted.text ≡ text) × Resolves rows root text wanted.steps
+
+-- each text names the path in its place, and there are no others
+abbrev pub ArePaths : Rows → ℕ → List (List ℕ) → List Wanted → Type 0
+ArePaths rows root = AllZip (IsPath rows root)
+
+-- the first text that names no path from the root has this fault
+abbrev pub IsPathFault : Rows → ℕ → List (List ℕ) → PathFault → Type 0
+IsPathFault rows root [] fault = ⊥
+IsPathFault rows root (text ∷ texts) fault =
+    IsFault rows root text fault ⊎ ((steps : List Step) × Resolves rows root text steps × IsPathFault rows root texts fault)
+
+-- the texts of the paths that the settings ask for
+abbrev pub path_texts : Settings → List (List ℕ)
+path_texts settings = map string_bytes settings.paths.items
+
+-- the identifier that is asked for
+abbrev pub ident_of : Option (List ℕ) → Ident
+ident_of None = Any
+ident_of (Some bytes) = Want bytes
+
+-- the identifier that the settings ask for: the schema's own where they say so, or else that of the settings
+abbrev pub asked_ident : Own → Settings → Option Ident
+asked_ident own settings = if settings.schema_ident then own_ident own.ident else Some (ident_of settings.ident)
+
+-- what is told of the buffers, by whether they are filtered and whether there are no lines of good ones
+abbrev pub mode_of : Bool → Bool → Mode
+mode_of true quiet = Filter
+mode_of false true = BadLines
+mode_of false false = Lines
+
+-- how lines are written
+abbrev pub form_of : asked.Form → Form
+form_of words.Plain = Plain
+form_of words.Json = Json
+
+-- how the places of faults are told, by whether words are asked for; lines of JSON always tell them in words
+abbrev pub places_of : Bool → asked.Form → Places
+places_of true form = Words
+places_of false words.Json = Words
+places_of false words.Plain = Numbers
+
+-- what a message's prefix is, by whether messages are delimited
+abbrev pub prefix_of : Bool → Prefix
+prefix_of true = Apart
+prefix_of false = Part
+
+-- how messages stand in an input
+abbrev pub framing_in : Settings → Framing
+framing_in settings = framing_of settings.bare (start_of settings.bare (prefix_of settings.delimited))
+
+-- and by what they are checked
+abbrev pub manner_in : Settings → Manner
+manner_in settings = record { framing = framing_in settings; by = by_of settings.schema }
+
+-- what the settings ask of each buffer, from this root, with these paths and this identifier
+abbrev pub options_of : Settings → ℕ → Vec Wanted Global → Ident → Options
+options_of settings root paths ident = record {
+  root = root;
+  ident = ident;
+  paths = paths;
+  limits = settings.limits;
+  reads_per_byte = settings.reads_per_byte;
+  max_bytes = settings.max_bytes;
+  bare = settings.bare;
+  prefix = prefix_of settings.delimited;
+  checks = settings.checks;
+  mode = mode_of settings.filter settings.quiet;
+  names = places_of settings.names settings.form;
+  label = None;
+  form = form_of settings.form;
+}
+
+-- what lines of standard input begin with where no file is named: its name, where names are asked for
+abbrev pub own_label : Settings → Option (List ℕ)
+own_label settings = label_of settings.with_filename (codes "-")
+
+-- the buffers are checked from the root, with the paths and by the identifier that the settings ask for
+pub record IsAsked (rows : Rows) (own : Own) (settings : Settings) (job : Job) : Type 0 where
+  pub root : ℕ
+  pub root_is : asked_root rows own settings ≡ Some root
+  pub paths : Vec Wanted Global
+  pub paths_are : ArePaths rows root (path_texts settings) paths.items
+  pub ident : Ident
+  pub ident_is : asked_ident own settings ≡ Some ident
+  pub job_is : job ≡ with_label (own_label settings) (job_of rows (options_of settings root paths ident))
+
+-- the settings ask for a root and paths, and for the schema's own identifier, which has neither no bytes nor four
+pub record LacksIdent (rows : Rows) (own : Own) (settings : Settings) : Type 0 where
+  pub root : ℕ
+  pub root_is : asked_root rows own settings ≡ Some root
+  pub paths : List Wanted
+  pub paths_are : ArePaths rows root (path_texts settings) paths
+  pub none : asked_ident own settings ≡ None
+
+-- the first of the paths that the settings ask for which is none has this fault from the root
+abbrev pub HasPathFault : Rows → Own → Settings → PathFault → Type 0
+HasPathFault rows own settings fault =
+    (root : ℕ) × (asked_root rows own settings ≡ Some root) × IsPathFault rows root (path_texts settings) fault
+
+-- by these rows and what the schema has of its own, the settings ask that the buffers are checked by a job, or have
+-- nothing to check them by
+abbrev pub AsksBy : Rows → Own → Settings → Result Job AskFault → Type 0
+AsksBy rows own settings (Ok job) = IsAsked rows own settings job
+AsksBy rows own settings (Err NoRoot) = asked_root rows own settings ≡ None
+AsksBy rows own settings (Err (Path fault)) = HasPathFault rows own settings fault
+AsksBy rows own settings (Err NoIdent) = LacksIdent rows own settings
+AsksBy rows own settings (Err _) = ⊥
+
+-- why a text gives no path, and why texts give no paths
+abbrev pub PathFails : Rows → ℕ → List ℕ → AskFault → Type 0
+PathFails rows root text (Path fault) = IsFault rows root text fault
+PathFails rows root text OutOfMemory = Unit {0}
+PathFails rows root text _ = ⊥
+
+abbrev pub PathsFail : Rows → ℕ → List (List ℕ) → AskFault → Type 0
+PathsFail rows root texts (Path fault) = IsPathFault rows root texts fault
+PathsFail rows root texts OutOfMemory = Unit {0}
+PathsFail rows root texts _ = ⊥

@@ -1,0 +1,161 @@
+-- A run by the schema of a file, or without one by the fixed table of schema files.
+use Rattle.std.specs.Prelude.{◌≡◌, ℕ, List, ◌∷◌, ◌++◌, Option, Some, None, Result, Ok, Err, min, length, codes, map, option_map, string_bytes}
+use Rattle.std.specs.Borrow.{Bor}
+use Rattle.std.specs.Io.KnownBytes.{Keeps}
+use Rattle.fb_schema.specs.declared.kinds.Kind.{Kind}
+use Rattle.fb_schema.specs.Rows.{Rows}
+use Rattle.fb_verify.specs.Bounds.{Bounds, limits_of_length}
+use Rattle.fb_access.specs.Resolving.{IsFault, IsMisfitAt}
+use Rattle.fb_access.specs.declared.path_fault.PathFault.{PathFault}
+use Rattle.fb_bfbs.specs.Fixed.{fixed}
+use Rattle.fb_bfbs.specs.Loads.{IsLoaded, IsLoadFault, schema_number}
+use Rattle.fb_bfbs.specs.declared.loading.Loaded.{Loaded}
+use Rattle.fb_bfbs.specs.declared.load_fault.LoadFault.{LoadFault}
+use Rattle.fb_bfbs.specs.declared.load_fault.LoadFault.TheVariants as load
+use Rattle.fb_bfbs.specs.LoadLaws.{ident_bytes}
+use Rattle.fbcheck_serve.specs.Asked.{ArePaths, AsksBy, Own, asked_root, path_texts}
+use Rattle.fbcheck_serve.specs.Hints.{hint_text, path_hint, root_hint, schema_hint}
+use Rattle.fbcheck_serve.specs.Inputs.{Folder, IsPromptAmong, IsPromptOver, Seen, ServesEach, are_several, at_first, label_of, stand}
+use Rattle.fb_run.specs.Ends.{Ends, Unwritten}
+use Rattle.fb_run.specs.Job.{Job}
+use Rattle.fb_run.specs.Prompt.{IsPrompt}
+use Rattle.fb_run.specs.Run.{IsRunBeside}
+use Rattle.fb_run.specs.Wanted.{Wanted}
+use Rattle.fbcheck_words.specs.declared.choices.Settings.{Settings}
+use Rattle.fbcheck_serve.specs.declared.fault.AskFault.{AskFault}
+use Rattle.fbcheck_serve.specs.declared.fault.AskFault.TheVariants.{Load, NoRoot, Path, OutOfMemory}
+use Rattle.fbcheck_serve.specs.declared.hint.Unasked.{Unasked}
+use Rattle.fbcheck_serve.specs.declared.inputs.Course.{Course}
+use Rattle.fbcheck_serve.specs.declared.inputs.Passed.{Passed}
+use Rattle.fbcheck_serve.specs.declared.fault.CheckFault.{CheckFault}
+use Rattle.fbcheck_serve.specs.declared.fault.CheckFault.TheVariants as check
+use Rattle.fb_run.specs.Faults.{End, EndsBeside, IsUnfailed, failures_of}
+use Rattle.fb_run.specs.declared.run.Ran.{Ran}
+use Rattle.fb_run.specs.declared.tally.Tally.{Tally}
+
+-- the limits by which a schema file of so many bytes is verified: the published ones, with a budget of 100,000,000
+-- reads, and of 64 a byte and 4,096 beside (one too long for offsets is refused by its length)
+abbrev pub schema_limits : ℕ → Bounds
+schema_limits len = limits_of_length (record { depth = 64; tables = 1000000; reads = Some 100000000 }) 64 (min len 2147483647)
+
+-- the root table and the identifier of a schema that was loaded
+abbrev pub own_of : Loaded → Own
+own_of loaded = record { root = loaded.root; ident = ident_bytes loaded.ident }
+
+-- what reflection.fbs declares: its table Schema and the identifier of schema files
+abbrev pub fixed_own : Own
+fixed_own = record { root = Some schema_number; ident = Some (codes "BFBS") }
+
+-- the rows of a schema file and what it has of its own; without a file the fixed table, and what reflection.fbs has
+abbrev pub IsSchema : Option (Bor (List ℕ)) → Rows → Own → Type 0
+IsSchema None rows own = (rows ≡ fixed) × (own ≡ fixed_own)
+IsSchema (Some bytes) rows own = (loaded : Loaded) × IsLoaded bytes.now (schema_limits (length bytes.now)) loaded × (rows ≡ loaded.schema) × (own ≡ own_of loaded)
+
+-- why a schema file gives no schema
+abbrev pub IsNoSchema : Option (Bor (List ℕ)) → LoadFault → Type 0
+IsNoSchema None fault = ⊥
+IsNoSchema (Some bytes) load.OutOfMemory = ⊥
+IsNoSchema (Some bytes) fault = IsLoadFault bytes.now (schema_limits (length bytes.now)) fault
+
+-- a schema file, or none, and the settings ask that the buffers are checked by a job; or there is nothing to check them
+-- by, and why
+abbrev pub Asks : Option (Bor (List ℕ)) → Settings → Result Job AskFault → Type 0
+Asks file settings (Err (Load fault)) = IsNoSchema file fault
+Asks file settings answer = (rows : Rows) × (own : Own) × IsSchema file rows own × AsksBy rows own settings answer
+
+-- why there is no schema, where memory may be refused
+abbrev pub LacksSchema : Option (Bor (List ℕ)) → AskFault → Type 0
+LacksSchema file (Load fault) = IsNoSchema file fault
+LacksSchema file OutOfMemory = Unit {0}
+LacksSchema file _ = ⊥
+
+-- why there is no job, where memory may be refused
+abbrev pub LacksJob : Option (Bor (List ℕ)) → Settings → AskFault → Type 0
+LacksJob file settings OutOfMemory = Unit {0}
+LacksJob file settings fault = Asks file settings (Err fault)
+
+-- the first of these texts that names no path from the root has this fault, and this is told behind it: which it is,
+-- where they are several, and what there is where its step doesn't fit
+pub record TellsPath (rows : Rows) (root : ℕ) (texts : List (List ℕ)) (fault : PathFault) (hint : List ℕ) : Type 0 where
+  pub front : List (List ℕ)
+  pub text : List ℕ
+  pub rest : List (List ℕ)
+  pub texts_are : texts ≡ front ++ (text ∷ rest)
+  pub paths : List Wanted
+  pub paths_are : ArePaths rows root front paths
+  pub fault_is : IsFault rows root text fault
+  pub at : Option Kind
+  pub at_is : IsMisfitAt rows root text at
+  pub hint_is : hint ≡ path_hint rows (label_of (are_several texts) text) text (Path fault) at
+
+abbrev pub IsPathHint : Rows → ℕ → List (List ℕ) → AskFault → List ℕ → Type 0
+IsPathHint rows root texts (Path fault) hint = TellsPath rows root texts fault hint
+IsPathHint rows root texts _ hint = hint ≡ codes "\n"
+
+-- this is told behind a fault of what a schema file, or none, and the settings ask
+abbrev pub IsHint : Option (Bor (List ℕ)) → Settings → AskFault → List ℕ → Type 0
+IsHint file settings (Load fault) text = text ≡ schema_hint (option_map string_bytes settings.schema) file
+IsHint file settings NoRoot text = (rows : Rows) × (own : Own) × IsSchema file rows own × (text ≡ root_hint rows (option_map string_bytes settings.root) (option_map string_bytes settings.schema))
+IsHint file settings (Path fault) text = (rows : Rows) × (own : Own) × (root : ℕ) × IsSchema file rows own × (asked_root rows own settings ≡ Some root) × TellsPath rows root (path_texts settings) fault text
+IsHint file settings _ text = text ≡ codes "\n"
+
+-- there is nothing to check by, for this fault, and this is told behind it
+pub record IsUntold (file : Option (Bor (List ℕ))) (settings : Settings) (unasked : Unasked) : Type 0 where
+  pub lacks : LacksJob file settings unasked.fault
+  pub hint : IsHint file settings unasked.fault (hint_text unasked.hint)
+
+-- nothing was read, written or noted
+abbrev pub IsIdle : Ends → Ends → Type 0
+IsIdle before after = Keeps before.reader.left after.reader.left × Unwritten before.outs after.outs
+
+-- what was read, written and noted by a run that was asked for, which ended so and came to these numbers by then
+abbrev pub RunsAsAsked : Option (Bor (List ℕ)) → Settings → Ends → Ends → Tally → End → Type 0
+RunsAsAsked file settings before after tally end = (job : Job) × Asks file settings (Ok job) × IsRunBeside job before after tally end
+
+-- the same where it may be that no run began, since nothing was asked for or memory was refused before
+abbrev pub IsCheckedBeside : Option (Bor (List ℕ)) → Settings → Ends → Ends → Result Ran Unasked → Type 0
+IsCheckedBeside file settings before after (Ok ran) = RunsAsAsked file settings before after ran.tally ran.end
+IsCheckedBeside file settings before after (Err unasked) = IsUntold file settings unasked × IsIdle before after
+
+-- the same of an answer alone
+abbrev pub IsChecked : Option (Bor (List ℕ)) → Settings → Ends → Ends → Result Tally CheckFault → Type 0
+IsChecked file settings before after (Ok tally) = RunsAsAsked file settings before after tally (Ok tt)
+IsChecked file settings before after (Err (check.Run fault)) = (tally : Tally) × RunsAsAsked file settings before after tally (Err fault)
+IsChecked file settings before after (Err (check.Ask fault)) = LacksJob file settings fault × IsIdle before after
+
+-- the names of the files that the settings ask for
+abbrev pub names_in : Settings → List (List ℕ)
+names_in settings = map string_bytes settings.files.items
+
+-- what came of these files, gone through as was asked for, and what was read, written and noted
+abbrev pub ServesAsAsked : Folder → Option (Bor (List ℕ)) → Settings → Seen → Seen → Course → End → Type 0
+ServesAsAsked folder file settings before after course end =
+    (job : Job) × Asks file settings (Ok job) × ServesEach folder job (names_in settings) (at_first before) (stand after course) end
+
+-- the same where it may be that none was begun
+abbrev pub IsServedEach : Folder → Option (Bor (List ℕ)) → Settings → Seen → Seen → Result Passed Unasked → Type 0
+IsServedEach folder file settings before after (Ok passed) = ServesAsAsked folder file settings before after passed.course passed.end
+IsServedEach folder file settings before after (Err unasked) = IsUntold file settings unasked × IsIdle before.ends after.ends
+
+-- there was nothing to check by
+abbrev pub IsUnasked : CheckFault → Type 0
+IsUnasked (check.Ask fault) = Unit {0}
+IsUnasked (check.Run fault) = ⊥
+
+-- how it ended, with so many reads at most: a run by its end or the cause of its fault
+abbrev pub EndsChecked : Ends → Ends → ℕ → Result Tally CheckFault → Type 0
+EndsChecked before after turns (Ok tally) = EndsBeside before after turns (Ok tt)
+EndsChecked before after turns (Err (check.Run fault)) = EndsBeside before after turns (Err fault)
+EndsChecked before after turns (Err (check.Ask fault)) = IsUnfailed (failures_of before) (failures_of after)
+
+-- all that was read by now is told, of a run that was asked for
+abbrev pub IsPromptAsAsked : Option (Bor (List ℕ)) → Settings → Ends → Ends → Type 0
+IsPromptAsAsked file settings before now = (job : Job) × Asks file settings (Ok job) × IsPrompt job before now
+
+-- the same where files are gone through
+abbrev pub IsPromptAmongAsked : Folder → Option (Bor (List ℕ)) → Settings → Ends → Ends → Type 0
+IsPromptAmongAsked folder file settings before now = (job : Job) × Asks file settings (Ok job) × IsPromptAmong folder job (names_in settings) before now
+
+-- and whether or not they are
+abbrev pub IsPromptOverAsked : Folder → Option (Bor (List ℕ)) → Settings → Ends → Ends → Type 0
+IsPromptOverAsked folder file settings before now = (job : Job) × Asks file settings (Ok job) × IsPromptOver folder job (names_in settings) before now

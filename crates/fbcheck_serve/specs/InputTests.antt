@@ -1,0 +1,39 @@
+-- Files as inputs, by example.
+use Rattle.std.specs.Prelude.{◌≡◌, [], ◌∷◌, Some, None, Ok, Err, codes}
+use Rattle.fb_run.specs.Sums.{no_tally}
+use Rattle.fb_run.specs.declared.fault.RunFault.TheVariants.{ReadFault}
+use Rattle.fb_run.specs.declared.run.Ran.{Ran}
+use Rattle.fbcheck_serve.specs.Inputs.{are_named, course_with, fault_line, label_of}
+use Rattle.fbcheck_serve.specs.declared.inputs.Course.{Course}
+use Rattle.fbcheck_serve.specs.declared.inputs.Standard.TheVariants.{Unread, Spent}
+use Rattle.fbcheck_serve.specs.declared.inputs.Missed.TheVariants.{Again}
+
+-- no file yet
+abbrev pub none : Course
+none = record { tally = no_tally; status = 0; standard = Unread }
+
+-- a run over two good buffers, one over a bad one, and one that ended in a failed read
+abbrev pub good : Ran
+good = record { tally = record no_tally { yes = 2; bytes = 60 }; end = Ok tt }
+
+abbrev pub bad : Ran
+bad = record { tally = record no_tally { no = 1; bytes = 32 }; end = Ok tt }
+
+abbrev pub cut : Ran
+cut = record { tally = no_tally; end = Err ReadFault }
+
+-- two files come to the greater of their statuses, whichever is the last, and to the sums of their numbers
+pub record Courses : Type 0 where
+  pub first_bad : (course_with (codes "b") (Ok good) (course_with (codes "a") (Ok bad) none)).status ≡ 1
+  pub last_bad : (course_with (codes "b") (Ok bad) (course_with (codes "a") (Ok good) none)).status ≡ 1
+  pub first_cut : (course_with (codes "b") (Ok bad) (course_with (codes "a") (Ok cut) none)).status ≡ 3
+  pub read_twice : (course_with (codes "-") (Err Again) (course_with (codes "-") (Ok good) none)).status ≡ 3
+  pub both : (course_with (codes "b") (Ok good) (course_with (codes "a") (Ok bad) none)).tally ≡ record no_tally { yes = 2; no = 1; bytes = 92 }
+  pub spent : (course_with (codes "a") (Ok good) (course_with (codes "-") (Ok bad) none)).standard ≡ Spent
+
+-- lines begin with names where there are several files, or where those of standard input do; those of faults always
+pub record Labels : Type 0 where
+  pub of_two : label_of (are_named None (codes "a" ∷ codes "b" ∷ [])) (codes "a") ≡ Some (codes "a")
+  pub of_one : label_of (are_named None (codes "a" ∷ [])) (codes "a") ≡ None
+  pub of_one_named : label_of (are_named (Some (codes "-")) (codes "a" ∷ [])) (codes "a") ≡ Some (codes "a")
+  pub of_a_fault : fault_line (codes "a.bin") (codes "no such file") (codes "\n") ≡ codes "fbcheck: a.bin: no such file\n"

@@ -1,0 +1,296 @@
+-- Files as inputs, one behind another.
+use Rattle.std.specs.Prelude.{◌≡◌, ℕ, ◌+◌, ◌⊎◌, Bool, true, false, ◌||◌, is_some, min, max, nat_lt, length, List, [], ◌∷◌, ◌++◌, IfSome, Option, Some, None, Result, Ok, Err, bytes_eq, codes}
+use Rattle.std.specs.List.{flat_map}
+use Rattle.std.specs.Io.KnownBytes.{Appends}
+use Rattle.fb_run.specs.AnswerText.{byte_text}
+use Rattle.fb_run.specs.Ends.{Ends, Reader, Writer, beside, ends_of, with_notes}
+use Rattle.fb_run.specs.Faults.{End, EndsBeside, status_of}
+use Rattle.fb_bytes.specs.declared.ends.Sink as sink
+use Rattle.fb_bytes.specs.declared.ends.Source as source
+use Rattle.fb_run.specs.declared.input.Input as input
+use Rattle.fb_run.specs.Job.{Job}
+use Rattle.fb_run.specs.Lines.{WritesFront}
+use Rattle.fb_run.specs.Prompt.{IsPrompt}
+use Rattle.fb_run.specs.Run.{IsRunBeside, answer_by}
+use Rattle.fb_run.specs.Sums.{no_tally}
+use Rattle.fb_run.specs.declared.fault.RunFault.{RunFault}
+use Rattle.fb_run.specs.declared.fault.RunFault.TheVariants.{WriteFault, NoteFault, TooManyTurns, OutOfMemory}
+use Rattle.fb_run.specs.declared.run.Ran.{Ran}
+use Rattle.fb_run.specs.declared.tally.Tally.{Tally}
+use Rattle.std.specs.declared.io.ErrorKind.{ErrorKind}
+use Rattle.fbcheck_serve.specs.Hints.{reason_text}
+use Rattle.fbcheck_serve.specs.Texts.{of_read, run_text}
+use Rattle.fbcheck_serve.specs.Framing.{end_hint, framing_of, run_hint}
+use Rattle.fbcheck_serve.specs.declared.framing.By.TheVariants.{Named}
+use Rattle.fbcheck_serve.specs.declared.framing.Framing.{Framing}
+use Rattle.fbcheck_serve.specs.declared.files.Files as files
+use Rattle.fbcheck_serve.specs.declared.causes.Explains as explains
+use Rattle.fbcheck_serve.specs.declared.files.FileFault.{FileFault}
+use Rattle.fbcheck_serve.specs.declared.files.FileFault.TheVariants as file
+use Rattle.fbcheck_serve.specs.declared.inputs.Course.{Course}
+use Rattle.fbcheck_serve.specs.declared.inputs.Standard.{Standard}
+use Rattle.fbcheck_serve.specs.declared.inputs.Standard.TheVariants.{Unread, Spent}
+use Rattle.fbcheck_serve.specs.declared.inputs.Missed.{Missed}
+use Rattle.fbcheck_serve.specs.declared.inputs.Missed.TheVariants as missed
+
+-- the sum of two counts of messages, or the most that is told
+abbrev pub sum_of_counts : ℕ → ℕ → ℕ
+sum_of_counts some more = min (some + more) 18446744073709551615
+
+-- of two wider ones
+abbrev pub sum_of_bytes : ℕ → ℕ → ℕ
+sum_of_bytes some more = min (some + more) 340282366920938463463374607431768211455
+
+-- the sums of how often each reason was given
+abbrev pub sums : List ℕ → List ℕ → List ℕ
+sums [] more = []
+sums (count ∷ counts) [] = count ∷ counts
+sums (count ∷ counts) (more ∷ mores) = sum_of_counts count more ∷ sums counts mores
+
+-- what two inputs come to
+abbrev pub sum_of : Tally → Tally → Tally
+sum_of some more = record {
+  yes = sum_of_counts some.yes more.yes;
+  no = sum_of_counts some.no more.no;
+  reasons = sums some.reasons more.reasons;
+  bytes = sum_of_bytes some.bytes more.bytes;
+  tables = sum_of_bytes some.tables more.tables;
+  reads = sum_of_bytes some.reads more.reads;
+}
+
+-- standard input, by its name
+abbrev pub is_standard : List ℕ → Bool
+is_standard name = bytes_eq name (codes "-")
+
+-- whether there are several
+abbrev pub are_several : {A : Type 0} → List A → Bool
+are_several names = nat_lt 1 (length names)
+
+-- whether lines tell of which file they are: where there are several, or where lines of standard input do by themselves
+abbrev pub are_named : {A : Type 0} → Option (List ℕ) → List A → Bool
+are_named label names = is_some label || are_several names
+
+-- the name that each line begins with
+abbrev pub label_of : Bool → List ℕ → Option (List ℕ)
+label_of false name = None
+label_of true name = Some name
+
+-- what is asked of each buffer, with the label of its lines
+abbrev pub with_label : Option (List ℕ) → Job → Job
+with_label label job = record job { label = label }
+
+-- what contracts see of files, by the ghosts of their trait: what a read of the file of a name may answer, what may be
+-- opened by a name, and what is told of that as a reader, with why a read of it failed, where one did
+pub record Folder : Type 1 where
+  pub gives : List ℕ → Result (List ℕ) FileFault → Type 0
+  pub Opened : Type 0
+  pub opens : List ℕ → Opened → Type 0
+  pub reader : Opened → Reader
+  pub cause : Opened → Option ErrorKind
+
+abbrev pub folder_of : {F O : Type 0} → files.Ghosts F O → source.Ghosts O → explains.Ghosts O → F → Folder
+folder_of {F} {O} f o e folder = record {
+  gives = f.gives folder;
+  Opened = O;
+  opens = f.opens folder;
+  reader = λ (file : O). record { left = o.remaining file; calls = o.calls file; failures = o.failures file; ended = o.ended file };
+  cause = λ (file : O). e.cause file;
+}
+
+-- the ends, and why a read of standard input failed, where one did
+pub record Seen : Type 0 where
+  pub ends : Ends
+  pub cause : Option ErrorKind
+
+abbrev pub with_cause : Ends → Option ErrorKind → Seen
+with_cause ends cause = record { ends = ends; cause = cause }
+
+-- what the ghosts of their traits tell of them
+abbrev pub seen_of : {S K N : Type 0} → input.Ghosts S K N → explains.Ghosts S → sink.Ghosts K → sink.Ghosts N → S → K → N → Seen
+seen_of s e k n reader writer notes = with_cause (ends_of s k n reader writer notes) (e.cause reader)
+
+-- the same with these notes
+abbrev pub renoted : Seen → Writer → Seen
+renoted before notes = record before { ends = with_notes before.ends notes }
+
+-- nothing was asked of a reader, which told no end
+abbrev pub IsFresh : Reader → Type 0
+IsFresh reader = (reader.calls ≡ 0) × (reader.ended ≡ false)
+
+-- a run over what was opened by a name, from its start, how it ended, and the cause that it tells; where its bytes are
+-- known, a read of the file of that name may give them
+pub record RunsOpened (folder : Folder) (job : Job) (name : List ℕ) (before after : Seen) (ran : Ran) (cause : Option ErrorKind) : Type 0 where
+  pub from : folder.Opened
+  pub to : folder.Opened
+  pub opened : folder.opens name from
+  pub fresh : IsFresh (folder.reader from)
+  pub bytes : IfSome (folder.reader from).left (λ bytes. folder.gives name (Ok bytes))
+  pub run : IsRunBeside job (beside (folder.reader from) before.ends.outs) (beside (folder.reader to) after.ends.outs) ran.tally ran.end
+  pub end : EndsBeside (beside (folder.reader from) before.ends.outs) (beside (folder.reader to) after.ends.outs) 4294967296 ran.end
+  pub cause_is : cause ≡ folder.cause to
+  pub reader : after.ends.reader ≡ before.ends.reader
+  pub unread : after.cause ≡ before.cause
+
+-- a run over standard input, for the first time, how it ended, and the cause that it tells
+pub record RunsStandard (job : Job) (standard : Standard) (before after : Seen) (ran : Ran) (cause : Option ErrorKind) : Type 0 where
+  pub first : standard ≡ Unread
+  pub run : IsRunBeside job before.ends after.ends ran.tally ran.end
+  pub end : EndsBeside before.ends after.ends 4294967296 ran.end
+  pub cause_is : cause ≡ after.cause
+
+-- the one of both that the name says
+abbrev pub RunsOver : Bool → Folder → Job → List ℕ → Standard → Seen → Seen → Ran → Option ErrorKind → Type 0
+RunsOver true folder job name standard before after ran cause = RunsStandard job standard before after ran cause
+RunsOver false folder job name standard before after ran cause = RunsOpened folder job name before after ran cause
+
+-- why there is no run over a file: it can't be opened, or it is standard input, which was read before
+abbrev pub IsMissed : Folder → List ℕ → Standard → Missed → Type 0
+IsMissed folder name standard (missed.File fault) = (is_standard name ≡ false) × folder.gives name (Err fault)
+IsMissed folder name standard missed.Again = (is_standard name ≡ true) × (standard ≡ Spent)
+
+-- what a file came to, and what was read, written and noted by then, with the cause that its reader tells
+abbrev pub ComesOf : Folder → Job → List ℕ → Standard → Seen → Seen → Result Ran Missed → Option ErrorKind → Type 0
+ComesOf folder job name standard before after (Ok ran) cause = RunsOver (is_standard name) folder job name standard before after ran cause
+ComesOf folder job name standard before after (Err missed) cause = IsMissed folder name standard missed × (after ≡ before)
+
+-- the line that tells why a file wasn't checked to its end, with what stands behind that
+abbrev pub fault_line : List ℕ → List ℕ → List ℕ → List ℕ
+fault_line name why behind = codes "fbcheck: " ++ flat_map byte_text name ++ codes ": " ++ why ++ behind
+
+-- this line was noted; or in a write that failed a front of it, or nothing for want of memory, and that ends it all
+abbrev pub IsNotedOf : List ℕ → Writer → Writer → End → Type 0
+IsNotedOf line before after (Ok done) = Appends before.bytes after.bytes line × (after.failures ≡ before.failures)
+IsNotedOf line before after (Err (NoteFault written)) = WritesFront line before.bytes after.bytes 0 written × (after.failures ≡ before.failures + 1)
+IsNotedOf line before after (Err OutOfMemory) = after ≡ before
+IsNotedOf line before after (Err _) = ⊥
+
+-- this text was noted, or a front of it in a write that failed, as the count of such writes before and after tells
+abbrev pub IsNoted : List ℕ → Writer → Writer → Type 0
+IsNoted text before after =
+    (Appends before.bytes after.bytes text × (after.failures ≡ before.failures))
+    ⊎ ((written : ℕ) × WritesFront text before.bytes after.bytes 0 written × (after.failures ≡ before.failures + 1))
+
+-- a hint was noted so; or nothing for want of memory, and that ends it all
+abbrev pub IsHintOf : List ℕ → Writer → Writer → End → Type 0
+IsHintOf line before after (Ok done) = IsNoted line before after
+IsHintOf line before after (Err OutOfMemory) = after ≡ before
+IsHintOf line before after (Err _) = ⊥
+
+-- whether this ends it all: a failed write or note, or want of memory
+abbrev pub is_final : RunFault → Bool
+is_final (WriteFault written) = true
+is_final (NoteFault written) = true
+is_final OutOfMemory = true
+is_final fault = false
+
+-- behind a fault of a run, of which this is the cause: nothing, where that ends it all; else its text is noted
+abbrev pub IsBehindFault : Bool → List ℕ → Framing → Tally → RunFault → Option ErrorKind → Writer → Writer → End → Type 0
+IsBehindFault true name framing tally fault cause before after end = (end ≡ Err fault) × (after ≡ before)
+IsBehindFault false name framing tally fault cause before after end = IsNotedOf (fault_line name (run_text (of_read cause) fault) (run_hint framing fault tally)) before after end
+
+-- behind a run that came to its end: what is told of it, where there is something
+abbrev pub IsBehindEnd : List ℕ → Option (List ℕ) → Writer → Writer → End → Type 0
+IsBehindEnd name None before after end = (end ≡ Ok tt) × (after ≡ before)
+IsBehindEnd name (Some hint) before after end = IsHintOf (fault_line name hint []) before after end
+
+-- behind a run
+abbrev pub IsBehindRun : List ℕ → Framing → Tally → End → Option ErrorKind → Writer → Writer → End → Type 0
+IsBehindRun name framing tally (Ok done) cause before after end = IsBehindEnd name (end_hint Named framing tally) before after end
+IsBehindRun name framing tally (Err fault) cause before after end = IsBehindFault (is_final fault) name framing tally fault cause before after end
+
+-- the same where there may have been no run
+abbrev pub IsBehind : List ℕ → Framing → Result Ran Missed → Option ErrorKind → Writer → Writer → End → Type 0
+IsBehind name framing (Ok ran) cause before after end = IsBehindRun name framing ran.tally ran.end cause before after end
+IsBehind name framing (Err (missed.File file.OutOfMemory)) cause before after end = (end ≡ Err OutOfMemory) × (after ≡ before)
+IsBehind name framing (Err (missed.File (file.Unreadable why))) cause before after end = IsNotedOf (fault_line name (reason_text why) (codes "\n")) before after end
+IsBehind name framing (Err missed.Again) cause before after end = IsNotedOf (fault_line name (codes "standard input was read before") (codes "\n")) before after end
+
+-- standard input once this file was gone through
+abbrev pub standard_after : Bool → Standard → Standard
+standard_after true standard = Spent
+standard_after false standard = standard
+
+-- what the files came to with this one: the sum of the numbers, and the greatest status
+abbrev pub course_with : List ℕ → Result Ran Missed → Course → Course
+course_with name (Ok ran) course = record {
+  tally = sum_of course.tally ran.tally;
+  status = max course.status (status_of (answer_by ran.tally ran.end));
+  standard = standard_after (is_standard name) course.standard;
+}
+course_with name (Err cause) course = record {
+  tally = course.tally;
+  status = max course.status 3;
+  standard = standard_after (is_standard name) course.standard;
+}
+
+-- what files came to so far, and what was read, written and noted by then
+pub record Stand : Type 0 where
+  pub seen : Seen
+  pub course : Course
+
+-- no file
+abbrev pub at_first : Seen → Stand
+at_first before = record { seen = before; course = record { tally = no_tally; status = 0; standard = Unread } }
+
+abbrev pub stand : Seen → Course → Stand
+stand now course = record { seen = now; course = course }
+
+-- a file was gone through: it goes on behind it, or that ended it all
+pub record Passes (folder : Folder) (job : Job) (name : List ℕ) (before after : Stand) (end : End) : Type 0 where
+  pub came : Result Ran Missed
+  pub cause : Option ErrorKind
+  pub between : Seen
+  pub comes : ComesOf folder job name before.course.standard before.seen between came cause
+  pub told : IsBehind name (framing_of job.bare job.start) came cause between.ends.outs.notes after.seen.ends.outs.notes end
+  pub others : after.seen ≡ renoted between after.seen.ends.outs.notes
+  pub course_is : after.course ≡ course_with name came before.course
+
+-- a file isn't begun, for want of memory, or where the writer or the notes have had all the calls that they may
+abbrev pub IsUnbegun : RunFault → Type 0
+IsUnbegun OutOfMemory = Unit {0}
+IsUnbegun TooManyTurns = Unit {0}
+IsUnbegun _ = ⊥
+
+-- a file was gone through, or wasn't begun
+abbrev pub Tries : Folder → Job → List ℕ → Stand → Stand → End → Type 0
+Tries folder job name before after (Ok done) = Passes folder job name before after (Ok tt)
+Tries folder job name before after (Err fault) = Passes folder job name before after (Err fault) ⊎ (IsUnbegun fault × (after ≡ before))
+
+-- all these files were gone through, in their order
+abbrev pub PassesAll : Folder → Job → Bool → List (List ℕ) → Stand → Stand → Type 0
+PassesAll folder job several [] before after = after ≡ before
+PassesAll folder job several (name ∷ names) before after =
+    (mid : Stand) × Tries folder (with_label (label_of several name) job) name before mid (Ok tt) × PassesAll folder job several names mid after
+
+-- one of the files ended it all, behind those before it
+pub record HaltsAmong (folder : Folder) (job : Job) (names : List (List ℕ)) (before after : Stand) (fault : RunFault) : Type 0 where
+  pub front : List (List ℕ)
+  pub name : List ℕ
+  pub rest : List (List ℕ)
+  pub names_are : names ≡ front ++ (name ∷ rest)
+  pub mid : Stand
+  pub passes : PassesAll folder job (are_named job.label names) front before mid
+  pub halts : Tries folder (with_label (label_of (are_named job.label names) name) job) name mid after (Err fault)
+
+-- the files were gone through, all of them or up to one that ended it all
+abbrev pub ServesEach : Folder → Job → List (List ℕ) → Stand → Stand → End → Type 0
+ServesEach folder job names before after (Ok done) = PassesAll folder job (are_named job.label names) names before after
+ServesEach folder job names before after (Err fault) = HaltsAmong folder job names before after fault
+
+-- all that was read by now is told, where standard input is read among these files: of those before it, and then of it
+pub record IsPromptAmong (folder : Folder) (job : Job) (names : List (List ℕ)) (before now : Ends) : Type 0 where
+  pub front : List (List ℕ)
+  pub name : List ℕ
+  pub rest : List (List ℕ)
+  pub names_are : names ≡ front ++ (name ∷ rest)
+  pub standard : is_standard name ≡ true
+  pub cause : Option ErrorKind
+  pub mid : Stand
+  pub passes : PassesAll folder job (are_named job.label names) front (at_first (with_cause before cause)) mid
+  pub unread : mid.course.standard ≡ Unread
+  pub prompt : IsPrompt (with_label (label_of (are_named job.label names) name) job) mid.seen.ends now
+
+-- the same where none may be named, and standard input is all
+abbrev pub IsPromptOver : Folder → Job → List (List ℕ) → Ends → Ends → Type 0
+IsPromptOver folder job [] before now = IsPrompt job before now
+IsPromptOver folder job (name ∷ names) before now = IsPromptAmong folder job (name ∷ names) before now

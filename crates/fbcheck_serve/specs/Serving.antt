@@ -1,0 +1,225 @@
+-- What the program does, from its words to its exit status.
+use Rattle.std.specs.Prelude.{◌≡◌, ◌≢◌, ℕ, ◌+◌, ◌<◌, ◌≤◌, ◌^◌, ◌⊎◌, ◌++◌, length, if◌then◌else◌, List, [], Option, Some, None, Result, Ok, Err, Vec, String, codes, map, option_map, string_bytes, string_len, vec_items}
+use Rattle.std.specs.Borrow.{Bor}
+use Rattle.std.specs.declared.io.ErrorKind.{ErrorKind}
+use Rattle.std.specs.Io.KnownBytes.{Appends, Keeps}
+use Rattle.clap.specs.Walk.{Text}
+use Rattle.clap.specs.Faults.{fault_of}
+use Rattle.fbcheck_serve.specs.Asked.{form_of, manner_in}
+use Rattle.fbcheck_serve.specs.Checking.{IsIdle, IsPromptOverAsked, IsUntold, RunsAsAsked, ServesAsAsked, names_in}
+use Rattle.fbcheck_serve.specs.Hints.{file_hint, hint_text, words_hint}
+use Rattle.fbcheck_serve.specs.Texts.{stop_text}
+use Rattle.fbcheck_serve.specs.Framing.{by_hint, by_of, end_hint, run_hint}
+use Rattle.fbcheck_serve.specs.declared.framing.By.{By}
+use Rattle.fbcheck_serve.specs.declared.framing.Manner.{Manner}
+use Rattle.fbcheck_serve.specs.Faults.{HasFileFault, IsFile, ask_status}
+use Rattle.fbcheck_serve.specs.Inputs.{Folder, IsNoted, Seen, renoted}
+use Rattle.fbcheck_words.specs.CommandLine.{program}
+use Rattle.fb_run.specs.Ends.{Ends, Writer, with_notes}
+use Rattle.fb_run.specs.Faults.{End, EndsBeside, IsUnfailed, failures_of, status_of}
+use Rattle.fb_run.specs.Lines.{WritesFront}
+use Rattle.fbcheck_words.specs.Refusal.{Refuses, refusal_status}
+use Rattle.fb_run.specs.JsonSums.{summary_in}
+use Rattle.fbcheck_words.specs.Given.{AreGiven}
+use Rattle.fbcheck_words.specs.Values.{text_of}
+use Rattle.fbcheck_words.specs.declared.choices.Settings.{Settings}
+use Rattle.fbcheck_words.specs.declared.choices.SettingsFault.{SettingsFault}
+use Rattle.fbcheck_words.specs.declared.choices.SettingsFault.TheVariants as refusal
+use Rattle.fbcheck_serve.specs.declared.files.FileFault.{FileFault}
+use Rattle.fbcheck_serve.specs.declared.files.FileFault.TheVariants as file_fault
+use Rattle.fbcheck_serve.specs.declared.inputs.Course.{Course}
+use Rattle.fb_run.specs.declared.fault.RunFault.TheVariants.{TooManyTurns, WriteFault}
+use Rattle.fb_run.specs.declared.tally.Tally.{Tally}
+use Rattle.fbcheck_serve.specs.declared.causes.Causes.{Causes}
+use Rattle.fbcheck_serve.specs.declared.stop.Ending.{Ending}
+use Rattle.fbcheck_serve.specs.declared.stop.Ending.TheVariants.{Helped, Checked, Passed}
+use Rattle.fbcheck_serve.specs.declared.stop.Stop.{Stop}
+use Rattle.fbcheck_serve.specs.declared.stop.Sums.{Sums}
+use Rattle.fbcheck_serve.specs.declared.stop.Stop.TheVariants as stop
+use Rattle.fbcheck_serve.specs.declared.stop.WordsFault.{WordsFault}
+use Rattle.fbcheck_serve.specs.declared.stop.WordsFault.TheVariants as words_fault
+
+-- the words as texts, where they could be read
+abbrev pub words_of : {A B : Type 0} → Result (Vec (String A) B) WordsFault → Result (List Text) WordsFault
+words_of (Ok given) = Ok (map string_bytes (vec_items given))
+words_of (Err fault) = Err fault
+
+-- a file is named, and a read of it had this fault; this is told behind it
+abbrev pub IsFileFault : (Text → Result (List ℕ) FileFault → Type 0) → Option Text → FileFault → List ℕ → Type 0
+IsFileFault gives name fault hint = HasFileFault gives name fault × (hint ≡ file_hint fault name)
+
+-- the bytes that are lent, where there are any
+abbrev pub lent_bytes : Option (Bor (List ℕ)) → Option (List ℕ)
+lent_bytes file = option_map (λ (b : Bor (List ℕ)). b.now) file
+
+-- the words give settings, and the schema file that they name has bytes, or there is none, of which this holds
+pub record HoldsAsGiven (folder : Folder) (given : List Text) (Holds : Option (Bor (List ℕ)) → Settings → Type 0) : Type 0 where
+  pub settings : Settings
+  pub file : Option (Bor (List ℕ))
+  pub are_given : AreGiven given settings
+  pub is_file : IsFile folder.gives (text_of (codes "schema") given) (lent_bytes file)
+  pub holds : Holds file settings
+
+-- the numbers that are told where the settings ask for them, and how
+abbrev pub summed : Settings → Tally → Option Sums
+summed settings tally = if settings.summary then Some (record { form = form_of settings.form; tally = tally }) else None
+
+-- the buffers of standard input were checked as the words ask, which name no files, in this manner, this was counted, and
+-- these numbers are to be told
+abbrev pub ChecksAsGiven : Folder → List Text → Ends → Ends → Option Sums → Tally → Manner → End → Type 0
+ChecksAsGiven folder given before after sums tally manner end = HoldsAsGiven folder given
+    (λ file settings. (names_in settings ≡ []) × RunsAsAsked file settings before after tally end × (manner ≡ manner_in settings) × (sums ≡ summed settings tally))
+
+-- files were gone through as the words ask, they came to this, by what they were checked, and these numbers are to be told
+abbrev pub PassesAsGiven : Folder → List Text → Seen → Seen → Option Sums → Course → By → End → Type 0
+PassesAsGiven folder given before after sums course by end = HoldsAsGiven folder given
+    (λ file settings. (names_in settings ≢ []) × ServesAsAsked folder file settings before after course end × (by ≡ by_of settings.schema) × (sums ≡ summed settings course.tally))
+
+-- how the program ends by the end of a run, and of files
+abbrev pub run_ending : Manner → Tally → End → Result Ending Stop
+run_ending manner tally (Ok done) = Ok (Checked tally manner)
+run_ending manner tally (Err fault) = Err (stop.Run fault tally manner)
+
+abbrev pub files_ending : By → Course → End → Result Ending Stop
+files_ending by course (Ok done) = Ok (Passed course by)
+files_ending by course (Err fault) = Err (stop.Halted fault)
+
+-- all that was read by now is told, of a run that the words ask for; they could be read
+abbrev pub IsPromptAsGiven : Folder → Result (List Text) WordsFault → Ends → Ends → Type 0
+IsPromptAsGiven folder (Ok given) before now = HoldsAsGiven folder given (λ file settings. IsPromptOverAsked folder file settings before now)
+IsPromptAsGiven folder (Err fault) before now = ⊥
+
+-- an error of `clap`
+abbrev pub IsUsage : SettingsFault → Type 0
+IsUsage (refusal.Usage error) = Unit {0}
+IsUsage _ = ⊥
+
+-- what was written where the words give no settings: a text where they ask for one, all of it or the front that the
+-- sink took; else nothing. Wrong words are told by the text of `clap` where it is `clap` that refuses them
+abbrev pub Unserved : SettingsFault → Writer → Writer → Result Ending Stop → Type 0
+Unserved fault before after (Ok Helped) = (refusal_status fault ≡ 0) × ((text : List ℕ) × (0 < length text) × Appends before.bytes after.bytes text)
+Unserved fault before after (Err (stop.CutOff written)) =
+    (refusal_status fault ≡ 0) × ((text : List ℕ) × (written < length text) × WritesFront text before.bytes after.bytes 0 written)
+Unserved fault before after (Err (stop.Usage text)) = IsUsage fault × (refusal_status fault ≡ 2) × (0 < string_len text) × Keeps before.bytes after.bytes
+Unserved fault before after (Err (stop.Settings refusal.OutOfMemory)) = Keeps before.bytes after.bytes
+Unserved fault before after (Err (stop.Settings (refusal.Usage error))) = ⊥
+Unserved fault before after (Err (stop.Settings told)) = (told ≡ fault) × Keeps before.bytes after.bytes
+Unserved fault before after _ = ⊥
+
+-- the words give no settings
+abbrev pub IsUnserved : List Text → Ends → Ends → Result Ending Stop → Type 0
+IsUnserved given before after outcome =
+    (fault : SettingsFault) × Refuses given fault × Keeps before.reader.left after.reader.left
+    × Unserved fault before.outs.writer after.outs.writer outcome × Keeps before.outs.notes.bytes after.outs.notes.bytes
+
+-- what the program came to by these words, what it read, wrote and noted by then, and the numbers that are to be told
+abbrev pub ComesBy : Folder → List Text → Seen → Seen → Option Sums → Result Ending Stop → Type 0
+ComesBy folder given before after sums (Ok (Checked tally manner)) = ChecksAsGiven folder given before.ends after.ends sums tally manner (Ok tt)
+ComesBy folder given before after sums (Err (stop.Run fault tally manner)) = ChecksAsGiven folder given before.ends after.ends sums tally manner (Err fault)
+ComesBy folder given before after sums (Ok (Passed course by)) = PassesAsGiven folder given before after sums course by (Ok tt)
+ComesBy folder given before after sums (Err (stop.Halted fault)) = (course : Course) × (by : By) × PassesAsGiven folder given before after sums course by (Err fault)
+ComesBy folder given before after sums (Err (stop.Ask unasked)) =
+    HoldsAsGiven folder given (λ file settings. IsUntold file settings unasked) × IsIdle before.ends after.ends × (sums ≡ None)
+ComesBy folder given before after sums (Err (stop.File fault hint)) =
+    (fault_of program given ≡ []) × IsFileFault folder.gives (text_of (codes "schema") given) fault hint.items × IsIdle before.ends after.ends × (sums ≡ None)
+ComesBy folder given before after sums outcome = IsUnserved given before.ends after.ends outcome × (sums ≡ None)
+
+-- the same where it may be that the words could not be read
+abbrev pub ComesTo : Folder → Result (List Text) WordsFault → Seen → Seen → Option Sums → Result Ending Stop → Type 0
+ComesTo folder (Ok given) before after sums outcome = ComesBy folder given before after sums outcome
+ComesTo folder (Err fault) before after sums (Err (stop.Words told hint)) = (told ≡ fault) × (hint.items ≡ words_hint fault) × IsIdle before.ends after.ends × (sums ≡ None)
+ComesTo folder (Err fault) before after sums (Err (stop.Settings refusal.OutOfMemory)) = IsIdle before.ends after.ends × (sums ≡ None)
+ComesTo folder (Err fault) before after sums _ = ⊥
+
+-- how it ended, with so many reads at most: a run by its end or its cause, help by whether a write failed; of files that
+-- stands with each of them
+abbrev pub EndsSo : Ends → Ends → ℕ → Result Ending Stop → Type 0
+EndsSo before after turns (Ok (Checked tally manner)) = EndsBeside before after turns (Ok tt)
+EndsSo before after turns (Err (stop.Run fault tally manner)) = EndsBeside before after turns (Err fault)
+EndsSo before after turns (Ok (Passed course by)) = Unit {0}
+EndsSo before after turns (Err (stop.Halted fault)) = Unit {0}
+EndsSo before after turns (Err (stop.CutOff written)) = EndsBeside before after turns (Err (WriteFault written))
+EndsSo before after turns _ = IsUnfailed (failures_of before) (failures_of after)
+
+-- a file isn't begun for too many calls only where the writer or the notes have had 2^64
+abbrev pub IsCrowded : ℕ → ℕ → Result Ending Stop → Type 0
+IsCrowded writes notes (Err (stop.Halted TooManyTurns)) = (2 ^ 64 ≤ writes) ⊎ (2 ^ 64 ≤ notes)
+IsCrowded writes notes outcome = Unit {0}
+
+-- a run that came to its end stops for want of its summary; all else ends as it would without
+abbrev pub unsummed : Result Ending Stop → ℕ → Result Ending Stop
+unsummed (Ok (Checked tally manner)) written = Err (stop.Unsummed written)
+unsummed (Ok (Passed course by)) written = Err (stop.Unsummed written)
+unsummed outcome written = outcome
+
+-- where numbers are to be told, their line is noted, in the form that is asked for, or a front of it in a write that
+-- failed
+abbrev pub SumsUp : Option Sums → Writer → Writer → Result Ending Stop → Result Ending Stop → Type 0
+SumsUp None before after outcome ending = Keeps before.bytes after.bytes × (after.failures ≡ before.failures) × (ending ≡ outcome)
+SumsUp (Some sums) before after outcome ending =
+    (Appends before.bytes after.bytes (summary_in sums.form sums.tally) × (after.failures ≡ before.failures) × (ending ≡ outcome))
+    ⊎ ((written : ℕ) × WritesFront (summary_in sums.form sums.tally) before.bytes after.bytes 0 written × (after.failures ≡ before.failures + 1) × (ending ≡ unsummed outcome written))
+
+-- what stands behind the text of a stop, to the end of its line
+abbrev pub behind : Stop → List ℕ
+behind (stop.Words fault hint) = hint.items
+behind (stop.File fault hint) = hint.items
+behind (stop.Ask unasked) = hint_text unasked.hint
+behind (stop.Run fault tally manner) = run_hint manner.framing fault tally
+behind _ = codes "\n"
+
+-- a text is noted behind the program's name, where there is one
+abbrev pub IsHinted : Option (List ℕ) → Writer → Writer → Type 0
+IsHinted None before after = Keeps before.bytes after.bytes × (after.failures ≡ before.failures)
+IsHinted (Some text) before after = IsNoted (codes "fbcheck: " ++ text) before after
+
+-- what is told of a good end
+abbrev pub ending_hint : Ending → Option (List ℕ)
+ending_hint Helped = None
+ending_hint (Checked tally manner) = end_hint manner.by manner.framing tally
+ending_hint (Passed course by) = by_hint by course.tally
+
+-- that is told of it; of a stop the text of `clap`, or else a line of its own behind the program's name, where this is
+-- why a read of standard input or a write failed, if one did
+abbrev pub Complains : Causes → Result Ending Stop → Writer → Writer → Type 0
+Complains causes (Ok ending) before after = IsHinted (ending_hint ending) before after
+Complains causes (Err (stop.Usage text)) before after = IsNoted (string_bytes text) before after
+Complains causes (Err fault) before after = IsNoted ((codes "fbcheck: " ++ stop_text causes fault) ++ behind fault) before after
+
+-- the exit status of a stop
+abbrev pub stop_status : Stop → ℕ
+stop_status (stop.Words (words_fault.NotText word) hint) = 2
+stop_status (stop.Words words_fault.OutOfMemory hint) = 3
+stop_status (stop.Usage text) = 2
+stop_status (stop.Settings fault) = refusal_status fault
+stop_status (stop.CutOff written) = 3
+stop_status (stop.Unsummed written) = 3
+stop_status (stop.File (file_fault.Unreadable cause) hint) = 2
+stop_status (stop.File file_fault.OutOfMemory hint) = 3
+stop_status (stop.Ask unasked) = ask_status unasked.fault
+stop_status (stop.Run fault tally manner) = status_of (Err fault)
+stop_status (stop.Halted fault) = status_of (Err fault)
+
+-- the exit status
+abbrev pub exit_status : Result Ending Stop → ℕ
+exit_status (Ok Helped) = 0
+exit_status (Ok (Checked tally manner)) = status_of (Ok tally)
+exit_status (Ok (Passed course by)) = course.status
+exit_status (Err cause) = stop_status cause
+
+-- The program did what its words ask with at most so many reads, told behind its notes the numbers that they ask for and
+-- why it came to rest if it did, and ended with the status of that. Behind what it came to the notes were `between`, and
+-- behind the numbers `behind`. So many calls were made of the writer and the notes in the end, and this is why
+-- a write failed, where one did.
+pub record IsServed (folder : Folder) (given : Result (List Text) WordsFault) (before after : Seen) (unwritten : Option ErrorKind) (turns writes notes status : ℕ) : Type 0 where
+  pub outcome : Result Ending Stop
+  pub sums : Option Sums
+  pub between : Writer
+  pub comes : ComesTo folder given before (renoted after between) sums outcome
+  pub ends : EndsSo before.ends (with_notes after.ends between) turns outcome
+  pub crowded : IsCrowded writes notes outcome
+  pub ending : Result Ending Stop
+  pub behind : Writer
+  pub summed : SumsUp sums between behind outcome ending
+  pub told : Complains (record { read = after.cause; write = unwritten }) ending behind after.ends.outs.notes
+  pub status_is : status ≡ exit_status ending

@@ -1,0 +1,310 @@
+//! What a schema file, or none, and the settings of the command line ask of a run.
+
+ghost use Rattle.std.specs.Prelude.{ℕ, Option, IfOk, IfErr, IfSome, IsTrue, Ok, ◌≡◌, ◌≤◌, length, map, option_map, string_bytes};
+ghost use Rattle.fb_schema.specs.Rows.{is_table};
+ghost use Rattle.fb_bfbs.specs.LoadLaws.{ident_bytes};
+ghost use Rattle.fbcheck_serve.specs.Framing.{by_of};
+ghost use Rattle.fbcheck_serve.specs.Asked.{ArePaths, IsPath, PathFails, PathsFail, asked_ident, form_of, framing_in, ident_of, manner_in, mode_of, options_of, places_of, prefix_of, root_of};
+ghost use Rattle.fbcheck_serve.specs.Inputs.{label_of};
+ghost use Rattle.fbcheck_serve.specs.Hints.{hint_text};
+ghost use Rattle.fbcheck_serve.specs.Checking.{Asks, IsPathHint, IsSchema, IsUntold, LacksSchema, own_of, schema_limits};
+ghost use Rattle.fbcheck_words.specs.Ranges.{AreInRange};
+ghost use Rattle.fbcheck_words.specs.declared.choices.Settings.{Settings};
+ghost use Rattle.fb_run.specs.Job.{PathsFit, Serves, job_of};
+ghost use Rattle.fb_access.specs.Fitting.{StepsFit};
+ghost use Rattle.fb_schema.specs.declared.kinds.Kind.TheVariants.{Table};
+
+use crate::fault::AskFault;
+use crate::framing::{By, Framing, Manner};
+use crate::hint::{Unasked, path_hint, root_hint, schema_hint};
+use crate::inputs::{STANDARD, label};
+use fb_access::{Path, misfit_at};
+use fb_bfbs::{Loaded, load, own_ident, reflection};
+use fb_run::{AskedPath, Form, Mode, Options, Places, Prefix};
+use fb_schema::Schema;
+use fb_verify::{Ident, Limits};
+use fbcheck_words::{Form as AskedForm, Settings};
+use std::alloc::Global;
+
+/// The number of the table `reflection.Schema` in the fixed table (reflection.fbs).
+const SCHEMA: u32 = 9;
+
+/// The longest buffer, in bytes.
+const LONGEST: u64 = 0x7FFF_FFFF;
+
+/// The limits by which a schema file of so many bytes is verified, whatever the settings say: the published ones with
+/// a budget of 100,000,000 reads, and of 64 a byte and 4,096 beside.
+fn schema_limits(length: u64) -> Limits
+    ensures { result ≡ schema_limits length }
+{
+    let limits = Limits::published().with_reads(100_000_000);
+    limits.of_length(64, length.min(LONGEST))
+}
+
+/// The schema of a schema file with its root table and identifier; without a file the fixed table, with its table
+/// `Schema` and the identifier of schema files.
+#[tactic(auto, using(crate::proofs::AskedLemmas::schema_is_table))]
+fn schema_of(alloc: Global, schema_bytes: Option<&[u8]>) -> Result<Loaded<'_>, AskFault>
+    ensures schema { IfOk result (λ loaded. IsSchema schema_bytes.entry loaded.schema (own_of loaded)) }
+    ensures table { IfOk result (λ loaded. IfSome loaded.root (λ n. IsTrue (is_table loaded.schema n))) }
+    ensures no { IfErr result (LacksSchema schema_bytes.entry) }
+{
+    match schema_bytes {
+        Some(bytes) => Ok(load(alloc, bytes, schema_limits(bytes.len() as u64))?),
+        None => Ok(Loaded {
+            schema: reflection(alloc)?,
+            root: Some(SCHEMA),
+            ident: Some(b"BFBS"),
+        }),
+    }
+}
+
+/// The number of the root table: the listed one of the name that is asked for, or else the schema's own.
+fn find_root(schema: &Schema<'_>, name: &Option<String>, own: Option<u32>) -> Option<u32>
+    requires own { IfSome own (λ n. IsTrue (is_table schema.now n)) }
+    ensures number { result ≡ root_of schema.now (option_map string_bytes name.now) own }
+    ensures table { IfSome result (λ n. IsTrue (is_table schema.now n)) }
+{
+    match name {
+        Some(name) => schema.table_named(name.as_bytes()),
+        None => own,
+    }
+}
+
+/// The path that a text names from the root.
+fn find_path(
+    alloc: Global,
+    schema: &Schema<'_>,
+    root: u32,
+    text: &String,
+) -> Result<AskedPath, AskFault>
+    requires { IsTrue (is_table schema.now root) }
+    ensures path { IfOk result (IsPath schema.now root (string_bytes text.now)) }
+    ensures fits { IfOk result (λ path. StepsFit schema.now (Table root) path.steps) }
+    ensures fault { IfErr result (PathFails schema.now root (string_bytes text.now)) }
+{
+    let path = Path::resolve(alloc, schema, root, text.as_bytes())?;
+    let text = text.as_bytes().to_vec(alloc)?;
+    Ok(AskedPath::new(path, text))
+}
+
+/// The paths that texts name from the root, in their order, or why the first that names none does not, with what is
+/// told behind it.
+fn find_paths(
+    alloc: Global,
+    schema: &Schema<'_>,
+    root: u32,
+    texts: &[String],
+) -> Result<Vec<AskedPath>, Unasked>
+    requires { IsTrue (is_table schema.now root) }
+    ensures paths { IfOk result (λ paths. ArePaths schema.now root (map string_bytes texts.now) paths.items) }
+    ensures fits { IfOk result (λ paths. PathsFit schema.now root paths.items) }
+    ensures count { IfOk result (λ paths. length paths.items ≡ length texts.now) }
+    ensures fault { IfErr result (λ unasked. PathsFail schema.now root (map string_bytes texts.now) unasked.fault) }
+    ensures hint { IfErr result (λ unasked. IsPathHint schema.now root (map string_bytes texts.now) unasked.fault (hint_text unasked.hint)) }
+{
+    let several = texts.len() > 1;
+    let mut paths = Vec::new(alloc);
+    for text in texts {
+        let path = match find_path(alloc, schema, root, text) {
+            Ok(path) => path,
+            Err(fault) => {
+                let told = told_path(several, text);
+                let bytes = text.as_bytes();
+                let at = misfit_at(schema, root, bytes);
+                let hint = path_hint(alloc, schema, told, bytes, fault, at);
+                return Err(Unasked::new(fault, hint));
+            }
+        };
+        let Ok(()) = paths.push(path) else {
+            return Err(Unasked::plain(AskFault::OutOfMemory));
+        };
+    }
+    Ok(paths)
+}
+
+/// The text of a path, where several are asked for.
+fn told_path(several: bool, text: &String) -> Option<&[u8]>
+    ensures { option_map (λ t. t.now) result ≡ label_of several (string_bytes text.now) }
+{
+    if several { Some(text.as_bytes()) } else { None }
+}
+
+/// The identifier that is asked for.
+fn wanted(ident: Option<[u8; 4]>) -> Ident
+    ensures { result ≡ ident_of ident }
+{
+    match ident {
+        Some(bytes) => Ident::Want(bytes),
+        None => Ident::Any,
+    }
+}
+
+/// The identifier that the settings ask for: the schema's own where they say so, or else that of the settings.
+fn find_ident(settings: &Settings, own: Option<&[u8]>) -> Option<Ident>
+    ensures { (root : Option ℕ) → result ≡ asked_ident (record { root = root; ident = ident_bytes own.entry }) settings.now }
+{
+    if settings.schema_ident {
+        own_ident(own)
+    } else {
+        Some(wanted(settings.ident))
+    }
+}
+
+/// What is told of the buffers.
+fn mode(settings: &Settings) -> Mode
+    ensures { result ≡ mode_of settings.now.filter settings.now.quiet }
+{
+    if settings.filter {
+        Mode::Filter
+    } else if settings.quiet {
+        Mode::BadLines
+    } else {
+        Mode::Lines
+    }
+}
+
+/// How lines are written.
+pub fn form(settings: &Settings) -> Form
+    ensures { result ≡ form_of settings.now.form }
+{
+    match settings.form {
+        AskedForm::Plain => Form::Plain,
+        AskedForm::Json => Form::Json,
+    }
+}
+
+/// How the places of faults are told: lines of JSON always tell them in words.
+fn places(settings: &Settings) -> Places
+    ensures { result ≡ places_of settings.now.names settings.now.form }
+{
+    match settings.form {
+        AskedForm::Plain if !settings.names => Places::Numbers,
+        _ => Places::Words,
+    }
+}
+
+/// What a message's prefix is.
+fn prefix(settings: &Settings) -> Prefix
+    ensures { result ≡ prefix_of settings.now.delimited }
+{
+    if settings.delimited {
+        Prefix::Apart
+    } else {
+        Prefix::Part
+    }
+}
+
+/// How messages stand in an input.
+fn framing(settings: &Settings) -> Framing
+    ensures { result ≡ framing_in settings.now }
+{
+    Framing::of(settings.bare, prefix(settings))
+}
+
+/// By what buffers are checked.
+pub fn by(settings: &Settings) -> By
+    ensures { result ≡ by_of settings.now.schema }
+{
+    match &settings.schema {
+        Some(_) => By::Named,
+        None => By::Fixed,
+    }
+}
+
+/// In which manner an input is checked.
+pub fn manner(settings: &Settings) -> Manner
+    ensures { result ≡ manner_in settings.now }
+{
+    Manner {
+        framing: framing(settings),
+        by: by(settings),
+    }
+}
+
+/// What the settings ask of each buffer, from this root, with these paths, this identifier and this label.
+fn options(
+    settings: &Settings,
+    root: u32,
+    paths: Vec<AskedPath>,
+    ident: Ident,
+    label: Option<Vec<u8>>,
+) -> Options
+    ensures { result ≡ record (options_of settings.now root paths ident) { label = label } }
+{
+    Options {
+        root,
+        ident,
+        paths,
+        limits: settings.limits,
+        reads_per_byte: settings.reads_per_byte,
+        max_bytes: settings.max_bytes,
+        bare: settings.bare,
+        prefix: prefix(settings),
+        checks: settings.checks,
+        mode: mode(settings),
+        names: places(settings),
+        label,
+        form: form(settings),
+    }
+}
+
+/// Why a file gives no schema, with its name and what it looks like.
+fn schemaless(alloc: Global, fault: AskFault, file: Option<&[u8]>, settings: &Settings) -> Unasked
+    requires { LacksSchema file fault }
+    ensures { IsUntold file.entry settings.now result }
+{
+    match fault {
+        AskFault::Load(_) => Unasked::new(fault, schema_hint(alloc, &settings.schema, file)),
+        _ => Unasked::plain(fault),
+    }
+}
+
+/// What a run is asked: a schema, and how buffers are checked by it.
+#[derive(Drop)]
+pub struct Asked<'b> {
+    pub schema: Schema<'b>,
+    pub options: Options,
+}
+
+/// What a schema file, or none, and the settings ask. The root is the table of the settings' name, or else that of the
+/// schema file, or `reflection.Schema` without one.
+///
+/// # Errors
+///
+/// `Load` where the schema file gives no schema, then `NoRoot` where there is no root table, then `Path` where a path
+/// isn't one from there, and then `NoIdent` where the schema's own identifier is asked for and has neither no bytes nor
+/// four;
+/// `OutOfMemory` in place of any where memory was refused. Each with what is told behind it.
+pub fn asked_of<'b>(
+    alloc: Global,
+    schema_bytes: Option<&'b [u8]>,
+    settings: &Settings,
+) -> Result<Asked<'b>, Unasked>
+    requires { AreInRange settings.now }
+    ensures job { IfOk result (λ asked. Asks schema_bytes.entry settings.now (Ok (job_of asked.schema asked.options))) }
+    ensures serves { IfOk result (λ asked. Serves asked.schema asked.options) }
+    ensures none { IfErr result (IsUntold schema_bytes.entry settings.now) }
+{
+    let Loaded {
+        schema,
+        root,
+        ident,
+    } = match schema_of(alloc, schema_bytes) {
+        Ok(loaded) => loaded,
+        Err(fault) => return Err(schemaless(alloc, fault, schema_bytes, settings)),
+    };
+    let Some(root) = find_root(&schema, &settings.root, root) else {
+        let hint = root_hint(alloc, &schema, settings);
+        return Err(Unasked::new(AskFault::NoRoot, hint));
+    };
+    let paths = find_paths(alloc, &schema, root, settings.paths.as_slice())?;
+    let Some(ident) = find_ident(settings, ident) else {
+        return Err(Unasked::plain(AskFault::NoIdent));
+    };
+    let Ok(label) = label(alloc, settings.with_filename, STANDARD) else {
+        return Err(Unasked::plain(AskFault::OutOfMemory));
+    };
+    let options = options(settings, root, paths, ident, label);
+    Ok(Asked { schema, options })
+}

@@ -1,0 +1,141 @@
+//! A run by a schema file, as the settings of the command line ask.
+
+ghost use Rattle.std.specs.Prelude.{Err, IfErr, IfOk, OnErr, length, ◌≡◌, ◌⊎◌, ◌+◌, ◌<◌, ◌≤◌, ◌^◌};
+ghost use Rattle.fbcheck_words.specs.Ranges.{AreInRange};
+ghost use Rattle.fbcheck_serve.specs.Checking.{EndsChecked, IsChecked, IsCheckedBeside, IsPromptAmongAsked, IsPromptAsAsked, IsServedEach, IsUnasked};
+ghost use Rattle.fbcheck_serve.specs.Inputs.{folder_of, seen_of};
+ghost use Rattle.fb_run.specs.Faults.{EndsBeside};
+ghost use Rattle.fb_run.specs.declared.fault.RunFault.TheVariants.{TooManyTurns};
+ghost use Rattle.fb_run.specs.Ends.{HasCallsLeft, HasLeave, ends_of, noteless};
+
+use crate::asked::{Asked, asked_of};
+use crate::causes::Explains;
+use crate::fault::CheckFault;
+use crate::files::Files;
+use crate::hint::Unasked;
+use crate::inputs::{Passed, pass_files};
+use fb_bytes::Sink;
+use fb_run::{Input, MOST_TURNS, Nowhere, Ran, Tally, run_beside};
+use fbcheck_words::Settings;
+use std::alloc::Global;
+
+/// Checks the buffers of an input by the schema of a schema file (`.bfbs`), as the settings ask; without a file they
+/// are checked as schema files themselves, by the fixed table.
+///
+/// The schema file is verified under the published limits and checks, and within 100,000,000 counted reads, and 64 a
+/// byte and 4,096 beside, whatever the settings say; these are for the buffers. The root is the table of the settings'
+/// name, or else that of the schema file, or `reflection.Schema` without one.
+///
+/// # Errors
+///
+/// `Load` where the schema file gives no schema, then `NoRoot` where there is no root table, then `Path` where the path
+/// isn't one from there, then `NoIdent` where the schema's own identifier is asked for and has neither no bytes nor
+/// four; all before anything is read of the input, and `OutOfMemory` in place of any where memory was refused. Each
+/// with what is told behind it. A run ends as [`run_beside`](fb_run::run_beside) says, with at most 2^32 reads.
+pub fn check_beside<S: Input<K, N>, K: Sink, N: Sink>(
+    alloc: Global,
+    schema_bytes: Option<&[u8]>,
+    settings: &Settings,
+    reader: &mut S,
+    writer: &mut K,
+    notes: &mut N,
+) -> Result<Ran, Unasked>
+    requires ranges { AreInRange settings.now }
+    requires few { HasCallsLeft S.Input K.Sink N.Sink reader.old writer.old notes.old }
+    requires leave { HasLeave S.Input (ends_of S.Input K.Sink N.Sink reader.old writer.old notes.old) (IsPromptAsAsked schema_bytes settings.now) }
+
+    ensures run { IsCheckedBeside schema_bytes.entry settings.now (ends_of S.Input K.Sink N.Sink reader.old writer.old notes.old)
+        (ends_of S.Input K.Sink N.Sink reader.new writer.new notes.new) result }
+    ensures places { IfOk result (λ ran. length ran.tally.reasons ≡ 13) }
+    ensures unread { OnErr result (reader.new ≡ reader.old) }
+    ensures unwritten { OnErr result (writer.new ≡ writer.old) }
+    ensures unnoted { OnErr result (notes.new ≡ notes.old) }
+    ensures end { IfOk result (λ ran. EndsBeside (ends_of S.Input K.Sink N.Sink reader.old writer.old notes.old)
+        (ends_of S.Input K.Sink N.Sink reader.new writer.new notes.new) MOST_TURNS ran.end) }
+    ensures pushes { N.calls notes.new ≤ N.calls notes.old + 2 ^ 96 }
+    ensures turns { S.calls reader.new ≤ S.calls reader.old + MOST_TURNS }
+{
+    let asked = asked_of(alloc, schema_bytes, settings)?;
+    Ok(run_beside(
+        alloc,
+        reader,
+        writer,
+        notes,
+        &asked.schema,
+        &asked.options,
+        MOST_TURNS,
+    ))
+}
+
+/// The same of the files that the settings name, one behind another, as [`pass_files`] says.
+pub fn check_files<F: Files, S: Input<K, N> + Explains, K: Sink, N: Sink>(
+    alloc: Global,
+    files: &F,
+    schema_bytes: Option<&[u8]>,
+    settings: &Settings,
+    reader: &mut S,
+    writer: &mut K,
+    notes: &mut N,
+) -> Result<Passed, Unasked>
+    requires ranges { AreInRange settings.now }
+    requires few { HasCallsLeft S.Input K.Sink N.Sink reader.old writer.old notes.old }
+    requires leave { HasLeave S.Input (ends_of S.Input K.Sink N.Sink reader.old writer.old notes.old) (IsPromptAmongAsked (folder_of F.Files F.Opened.Source F.Opened.Explains files.now) schema_bytes settings.now) }
+
+    ensures served { IsServedEach (folder_of F.Files F.Opened.Source F.Opened.Explains files.now) schema_bytes.entry settings.now (seen_of S.Input S.Explains K.Sink N.Sink reader.old writer.old notes.old)
+        (seen_of S.Input S.Explains K.Sink N.Sink reader.new writer.new notes.new) result }
+    ensures places { IfOk result (λ passed. length passed.course.tally.reasons ≡ 13) }
+    ensures unread { OnErr result (reader.new ≡ reader.old) }
+    ensures unwritten { OnErr result (writer.new ≡ writer.old) }
+    ensures unnoted { OnErr result (notes.new ≡ notes.old) }
+    ensures noted { N.calls notes.new < 2 ^ 98 }
+    ensures turns { S.calls reader.new ≤ S.calls reader.old + MOST_TURNS }
+    ensures crowded { IfOk result (λ passed. passed.end ≡ Err TooManyTurns → (2 ^ 64 ≤ K.calls writer.new) ⊎ (2 ^ 64 ≤ N.calls notes.new)) }
+{
+    let asked = asked_of(alloc, schema_bytes, settings)?;
+    let Asked {
+        schema,
+        mut options,
+    } = asked;
+    Ok(pass_files(
+        alloc,
+        files,
+        settings.files.as_slice(),
+        &schema,
+        &mut options,
+        reader,
+        writer,
+        notes,
+    ))
+}
+
+/// The same without notes: what would be noted is dropped, and only a filter notes anything.
+pub fn check<S: Input<K, Nowhere>, K: Sink>(
+    alloc: Global,
+    schema_bytes: Option<&[u8]>,
+    settings: &Settings,
+    reader: &mut S,
+    writer: &mut K,
+) -> Result<Tally, CheckFault>
+    requires ranges { AreInRange settings.now }
+    requires reads { S.calls reader.old < 2 ^ 64 }
+    requires writes { K.calls writer.old < 2 ^ 64 }
+    requires leave { HasLeave S.Input (noteless S.Input K.Sink reader.old writer.old) (IsPromptAsAsked schema_bytes settings.now) }
+
+    ensures run { IsChecked schema_bytes.entry settings.now (noteless S.Input K.Sink reader.old writer.old) (noteless S.Input K.Sink reader.new writer.new) result }
+    ensures unread { IfErr result (λ fault. IsUnasked fault → reader.new ≡ reader.old) }
+    ensures unwritten { IfErr result (λ fault. IsUnasked fault → writer.new ≡ writer.old) }
+    ensures end { EndsChecked (noteless S.Input K.Sink reader.old writer.old) (noteless S.Input K.Sink reader.new writer.new) MOST_TURNS result }
+    ensures turns { S.calls reader.new ≤ S.calls reader.old + MOST_TURNS }
+{
+    let mut notes = Nowhere::new();
+    match check_beside(alloc, schema_bytes, settings, reader, writer, &mut notes) {
+        Ok(Ran { tally, end: Ok(()) }) => Ok(tally),
+        Ok(
+            Ran {
+                end: Err(fault),
+                ..
+            },
+        ) => Err(CheckFault::Run(fault)),
+        Err(unasked) => Err(CheckFault::Ask(unasked.fault)),
+    }
+}

@@ -1,0 +1,31 @@
+//! What follows from the definitions of what is asked, of files one behind another and of texts alone. These functions
+//! have no body: their contracts are the theorems.
+
+ghost use Rattle.fbcheck_serve.specs.CheckLaws.{AsksOnce};
+ghost use Rattle.fbcheck_serve.specs.InputTests.{Courses, Labels};
+ghost use Rattle.fbcheck_serve.specs.TextTests.{AskTexts, HintTexts, LoadTexts, RunTexts, StopTexts};
+
+/// A schema file, or none, and the settings ask at most one thing: that the buffers are checked by one job, or that
+/// nothing is checked, for one cause: the file gives no schema, there is no root table, the path isn't one from
+/// there, or the schema's own identifier is asked for and has neither no bytes nor four. So
+/// [`check`](crate::check::check) tells each of these exactly where it is so, or want of memory in its place.
+pub fn settings_ask_once()
+    ensures { AsksOnce }
+{}
+
+/// What two files come to, by example, and which name stands in a line.
+#[tactic(auto, using(crate::proofs::ShownInputs::courses_shown, crate::proofs::ShownInputs::labels_shown))]
+pub fn files()
+    ensures courses { Courses }
+    ensures labels { Labels }
+{}
+
+/// The texts of faults, by example.
+#[tactic(auto, using(crate::proofs::ShownTexts::run_texts_shown, crate::proofs::ShownTexts::load_texts_shown, crate::proofs::ShownTexts::ask_texts_shown, crate::proofs::ShownTexts::hint_texts_shown, crate::proofs::ShownTexts::stop_texts_shown))]
+pub fn fault_texts()
+    ensures run { RunTexts }
+    ensures load { LoadTexts }
+    ensures ask { AskTexts }
+    ensures hint { HintTexts }
+    ensures stop { StopTexts }
+{}

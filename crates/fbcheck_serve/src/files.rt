@@ -1,0 +1,68 @@
+//! Where the bytes of a schema file come from, and those of files that are inputs.
+
+ghost use Rattle.std.specs.Prelude.{◌≡◌, IfOk, IfErr, IfSome, Ok, Err, ℕ, List, Option, Result, false, option_map, string_bytes, vec_items};
+ghost use Rattle.std.specs.IoError.{error_kind};
+ghost use Rattle.fbcheck_serve.specs.Faults.{HasFileFault, IsFile, file_fault};
+ghost use Rattle.fbcheck_serve.specs.declared.files.FileFault.{FileFault};
+
+use crate::causes::Explains;
+use fb_bytes::Source;
+use std::io;
+use std::io::ErrorKind;
+
+/// Why a file can't be read.
+#[derive(Clone, Copy, Debug, PartialEq, Eq)]
+pub enum FileFault {
+    /// It isn't there, or a read of it failed, for this cause.
+    Unreadable(ErrorKind),
+    /// Memory was refused.
+    OutOfMemory,
+}
+
+impl FileFault {
+    /// What an error means that came while a file was read.
+    pub fn of(error: io::Error) -> FileFault
+        ensures { result ≡ file_fault (error_kind error) }
+    {
+        match error.kind() {
+            ErrorKind::OutOfMemory => FileFault::OutOfMemory,
+            cause => FileFault::Unreadable(cause),
+        }
+    }
+}
+
+/// Files that are read by their names.
+pub trait Files {
+    /// A file that is open.
+    type Opened: Source + Explains + Drop;
+
+    /// What a read of the file of this name may answer: its bytes, or a fault.
+    ghost gives: { Self → List ℕ → Result (List ℕ) FileFault → Type 0 };
+
+    /// What may be opened by this name.
+    ghost opens: { Self → List ℕ → Self.Opened → Type 0 };
+
+    /// The bytes of the file of this name, at most 2^31 of them: one that has as many is too long for a buffer.
+    fn read(&self, name: &str) -> Result<Vec<u8>, FileFault>
+        ensures bytes { IfOk result (λ bytes. gives self.now name.now (Ok bytes.items)) }
+        ensures fault { IfErr result (λ fault. gives self.now name.now (Err fault)) };
+
+    /// The file of this name, to be read from its start.
+    fn open(&self, name: &str) -> Result<Self::Opened, FileFault>
+        ensures opened { IfOk result (λ file. opens self.now name.now file) }
+        ensures fresh { IfOk result (λ file. Self.Opened.calls file ≡ 0) }
+        ensures unended { IfOk result (λ file. Self.Opened.ended file ≡ false) }
+        ensures bytes { IfOk result (λ file. IfSome (Self.Opened.remaining file) (λ bytes. gives self.now name.now (Ok bytes))) }
+        ensures fault { IfErr result (λ fault. gives self.now name.now (Err fault)) };
+}
+
+/// The bytes of the schema file, where one is named.
+pub fn read_schema<F: Files>(files: &F, name: &Option<String>) -> Result<Option<Vec<u8>>, FileFault>
+    ensures bytes { IfOk result (λ file. IsFile (F.gives files.now) (option_map string_bytes name.now) (option_map vec_items file)) }
+    ensures fault { IfErr result (HasFileFault (F.gives files.now) (option_map string_bytes name.now)) }
+{
+    match name {
+        Some(name) => Ok(Some(files.read(name.as_str())?)),
+        None => Ok(None),
+    }
+}

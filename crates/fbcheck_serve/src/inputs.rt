@@ -1,0 +1,454 @@
+//! Files as inputs, one behind another.
+
+ghost use Rattle.std.specs.Prelude.{Err, IfOk, true, false, ◌≡◌, ◌⊎◌, ◌+◌, ◌<◌, ◌≤◌, ◌^◌, length, map, option_map, string_bytes, vec_items};
+ghost use Rattle.fb_run.specs.Ends.{HasCallsLeft, HasLeave, ends_of, writer_of};
+ghost use Rattle.fb_run.specs.Sums.{no_tally};
+ghost use Rattle.fb_run.specs.Job.{Serves, job_of};
+ghost use Rattle.fb_run.specs.Prompt.{IsPrompt};
+ghost use Rattle.fb_run.specs.declared.fault.RunFault.TheVariants.{TooManyTurns};
+ghost use Rattle.fbcheck_serve.specs.Inputs.{ComesOf, IsBehind, IsBehindEnd, IsBehindRun, IsNotedOf, IsPromptAmong, ServesEach, Tries, at_first, course_with, fault_line, folder_of, is_final, is_standard, label_of, seen_of, stand, standard_after, sum_of, sums, are_named};
+ghost use Rattle.fbcheck_serve.specs.declared.inputs.Standard.TheVariants.{Unread, Spent};
+
+use crate::causes::{Causes, Explains};
+use crate::files::{FileFault, Files};
+use crate::framing::{By, Framing, end_hint, run_hint};
+use crate::hint::reason;
+use crate::stop::note;
+use crate::texts::run_text;
+use fb_bytes::Sink;
+use fb_run::{
+    Input, MOST_TURNS, Options, Ran, RunFault, Tally, push_all, put_bytes, run_beside, status,
+};
+use fb_schema::Schema;
+use std::alloc::{AllocError, Global};
+use std::io::ErrorKind;
+
+/// The name of standard input.
+pub const STANDARD: &str = "-";
+
+/// The most calls that a writer or the notes may have had before a run.
+const MOST_CALLS: u128 = 0x1_0000_0000_0000_0000;
+
+/// Whether standard input was among the files.
+#[derive(Clone, Copy, Debug, PartialEq, Eq)]
+pub enum Standard {
+    /// It wasn't.
+    Unread,
+    /// It was, and isn't read again.
+    Spent,
+}
+
+/// Why there is no run over a file.
+#[derive(Clone, Copy, Debug, PartialEq, Eq)]
+pub enum Missed {
+    /// It can't be opened.
+    File(FileFault),
+    /// It is standard input, which was among the files before.
+    Again,
+}
+
+/// What one file came to, and why a read of it failed, where one did.
+#[derive(Clone, Copy, Debug)]
+struct Came {
+    what: Result<Ran, Missed>,
+    cause: Option<ErrorKind>,
+}
+
+/// What files came to.
+#[derive(Clone, Copy, Debug, PartialEq, Eq)]
+pub struct Course {
+    /// The sums of their numbers.
+    pub tally: Tally,
+    /// The greatest of their statuses.
+    pub status: u8,
+    /// Whether standard input was among them.
+    pub standard: Standard,
+}
+
+/// What the files of a call came to, and how that ended.
+#[derive(Clone, Copy, Debug)]
+pub struct Passed {
+    /// What they came to.
+    pub course: Course,
+    /// Whether all were gone through, or what ended it.
+    pub end: Result<(), RunFault>,
+}
+
+/// Checks the buffers of files, one behind another, and writes what is told of each, as
+/// [`run_beside`](fb_run::run_beside) does. Where they are several, or the options have a label, each line begins with
+/// the name of its file. `-` is standard input, which the reader is, and is read once.
+///
+/// A file that can't be read to its end is told with its name on the notes, and the next one is gone on with.
+///
+/// # Ends
+///
+/// It ends well behind the last file, or for one of these: `WriteFault` and `NoteFault` where a write or a note failed,
+/// `OutOfMemory` where memory was refused, and `TooManyTurns` where the writer or the notes have had 2^64 calls.
+pub fn pass_files<F: Files, S: Input<K, N> + Explains, K: Sink, N: Sink>(
+    alloc: Global,
+    files: &F,
+    names: &[String],
+    schema: &Schema<'_>,
+    options: &mut Options,
+    reader: &mut S,
+    writer: &mut K,
+    notes: &mut N,
+) -> Passed
+    requires serves { Serves schema.now options.old }
+    requires few { HasCallsLeft S.Input K.Sink N.Sink reader.old writer.old notes.old }
+    requires leave { HasLeave S.Input (ends_of S.Input K.Sink N.Sink reader.old writer.old notes.old) (IsPromptAmong (folder_of F.Files F.Opened.Source F.Opened.Explains files.now) (job_of schema.now options.old) (map string_bytes names.now)) }
+
+    ensures serves { ServesEach (folder_of F.Files F.Opened.Source F.Opened.Explains files.now) (job_of schema.now options.old) (map string_bytes names.now)
+        (at_first (seen_of S.Input S.Explains K.Sink N.Sink reader.old writer.old notes.old)) (stand (seen_of S.Input S.Explains K.Sink N.Sink reader.new writer.new notes.new) result.course) result.end }
+    ensures places { length result.course.tally.reasons ≡ 13 }
+    ensures noted { N.calls notes.new < 2 ^ 98 }
+    ensures turns { S.calls reader.new ≤ S.calls reader.old + MOST_TURNS }
+    ensures crowded { result.end ≡ Err TooManyTurns → (2 ^ 64 ≤ K.calls writer.new) ⊎ (2 ^ 64 ≤ N.calls notes.new) }
+{
+    let named = are_named(options, names);
+    let mut course = Course::new();
+    for name in names {
+        let name = name.as_str();
+        let Ok(label) = label(alloc, named, name) else {
+            return Passed {
+                course,
+                end: Err(RunFault::OutOfMemory),
+            };
+        };
+        options.label = label;
+        let passed = pass_file(
+            alloc,
+            files,
+            name,
+            schema,
+            options,
+            &mut course,
+            reader,
+            writer,
+            notes,
+        );
+        if let Err(fault) = passed {
+            return Passed {
+                course,
+                end: Err(fault),
+            };
+        }
+    }
+    Passed {
+        course,
+        end: Ok(()),
+    }
+}
+
+/// Whether lines tell of which file they are: where there are several, or lines of standard input do by themselves.
+fn are_named(options: &Options, names: &[String]) -> bool
+    ensures { result ≡ are_named (option_map vec_items options.now.label) (map string_bytes names.now) }
+{
+    options.label.is_some() || names.len() > 1
+}
+
+/// The name that each line begins with, where lines tell it.
+pub fn label(alloc: Global, named: bool, name: &str) -> Result<Option<Vec<u8>>, AllocError>
+    ensures { IfOk result (λ label. option_map vec_items label ≡ label_of named name.now) }
+{
+    if !named {
+        return Ok(None);
+    }
+    let mut label = Vec::new(alloc);
+    label.extend_from_slice(name.as_bytes())?;
+    Ok(Some(label))
+}
+
+/// Goes through one file.
+fn pass_file<F: Files, S: Input<K, N> + Explains, K: Sink, N: Sink>(
+    alloc: Global,
+    files: &F,
+    name: &str,
+    schema: &Schema<'_>,
+    options: &Options,
+    course: &mut Course,
+    reader: &mut S,
+    writer: &mut K,
+    notes: &mut N,
+) -> Result<(), RunFault>
+    requires serves { Serves schema.now options.now }
+    requires few { N.calls notes.old < 2 ^ 98 }
+    requires places { length course.old.tally.reasons ≡ 13 }
+    requires reads { course.old.standard ≡ Unread → S.calls reader.old < 2 ^ 64 }
+    requires leave { is_standard name.now ≡ true → course.old.standard ≡ Unread → HasLeave S.Input (ends_of S.Input K.Sink N.Sink reader.old writer.old notes.old) (IsPrompt (job_of schema.now options.now)) }
+
+    ensures tries { Tries (folder_of F.Files F.Opened.Source F.Opened.Explains files.now) (job_of schema.now options.now) name.now
+        (stand (seen_of S.Input S.Explains K.Sink N.Sink reader.old writer.old notes.old) course.old) (stand (seen_of S.Input S.Explains K.Sink N.Sink reader.new writer.new notes.new) course.new) result }
+    ensures places { length course.new.tally.reasons ≡ 13 }
+    ensures noted { N.calls notes.new < 2 ^ 98 }
+    ensures turns { S.calls reader.new ≤ S.calls reader.old + MOST_TURNS }
+    ensures spent { course.old.standard ≡ Spent → (course.new.standard ≡ Spent) × (reader.new ≡ reader.old) }
+    ensures unread { course.new.standard ≡ Unread → (course.old.standard ≡ Unread) × (reader.new ≡ reader.old) }
+    ensures crowded { result ≡ Err TooManyTurns → (2 ^ 64 ≤ K.calls writer.new) ⊎ (2 ^ 64 ≤ N.calls notes.new) }
+{
+    if writer.calls() >= MOST_CALLS || notes.calls() >= MOST_CALLS {
+        return Err(RunFault::TooManyTurns);
+    }
+    let standard = course.standard;
+    let came = run_file(
+        alloc, files, name, schema, options, standard, reader, writer, notes,
+    );
+    *course = course.with(name, &came.what);
+    let framing = Framing::of(options.bare, options.prefix);
+    tell_behind(alloc, name, framing, &came, notes)
+}
+
+/// Runs over one file, where it can be read.
+fn run_file<F: Files, S: Input<K, N> + Explains, K: Sink, N: Sink>(
+    alloc: Global,
+    files: &F,
+    name: &str,
+    schema: &Schema<'_>,
+    options: &Options,
+    standard: Standard,
+    reader: &mut S,
+    writer: &mut K,
+    notes: &mut N,
+) -> Came
+    requires serves { Serves schema.now options.now }
+    requires few { (K.calls writer.old < 2 ^ 64) × (N.calls notes.old < 2 ^ 64) }
+    requires reads { standard ≡ Unread → S.calls reader.old < 2 ^ 64 }
+    requires leave { is_standard name.now ≡ true → standard ≡ Unread → HasLeave S.Input (ends_of S.Input K.Sink N.Sink reader.old writer.old notes.old) (IsPrompt (job_of schema.now options.now)) }
+
+    ensures comes { ComesOf (folder_of F.Files F.Opened.Source F.Opened.Explains files.now) (job_of schema.now options.now) name.now standard (seen_of S.Input S.Explains K.Sink N.Sink reader.old writer.old notes.old) (seen_of S.Input S.Explains K.Sink N.Sink reader.new writer.new notes.new) result.what result.cause }
+    ensures places { IfOk result.what (λ ran. length ran.tally.reasons ≡ 13) }
+    ensures pushes { N.calls notes.new ≤ N.calls notes.old + 2 ^ 96 }
+    ensures turns { S.calls reader.new ≤ S.calls reader.old + MOST_TURNS }
+    ensures apart { is_standard name.now ≡ false → reader.new ≡ reader.old }
+    ensures spent { standard ≡ Spent → reader.new ≡ reader.old }
+{
+    if name == STANDARD {
+        return match standard {
+            Standard::Unread => {
+                let ran = run_beside(alloc, reader, writer, notes, schema, options, MOST_TURNS);
+                Came::by(ran, reader)
+            }
+            Standard::Spent => Came::missed(Missed::Again),
+        };
+    }
+    match files.open(name) {
+        Ok(mut file) => {
+            let ran = run_beside(alloc, &mut file, writer, notes, schema, options, MOST_TURNS);
+            Came::by(ran, &file)
+        }
+        Err(fault) => Came::missed(Missed::File(fault)),
+    }
+}
+
+impl Came {
+    /// What this run over a reader came to.
+    fn by<S: Explains>(ran: Ran, reader: &S) -> Came
+        ensures what { result.what ≡ Ok ran }
+        ensures cause { result.cause ≡ S.cause reader.now }
+    {
+        Came {
+            what: Ok(ran),
+            cause: reader.cause(),
+        }
+    }
+
+    /// No run.
+    fn missed(missed: Missed) -> Came
+        ensures { result.what ≡ Err missed }
+    {
+        Came {
+            what: Err(missed),
+            cause: None,
+        }
+    }
+}
+
+impl Course {
+    /// That of no files.
+    fn new() -> Course
+        ensures { result ≡ record { tally = no_tally; status = 0; standard = Unread } }
+    {
+        Course {
+            tally: Tally::new(),
+            status: 0,
+            standard: Standard::Unread,
+        }
+    }
+
+    /// With what this file came to.
+    fn with(self, name: &str, came: &Result<Ran, Missed>) -> Course
+        requires places { length self.tally.reasons ≡ 13 }
+        requires more { IfOk came.now (λ ran. length ran.tally.reasons ≡ 13) }
+        ensures course { result ≡ course_with name.now came.now self }
+        ensures places { length result.tally.reasons ≡ 13 }
+    {
+        let standard = standard_after(name, self.standard);
+        match came {
+            Ok(ran) => Course {
+                tally: sum_of(&self.tally, &ran.tally),
+                status: self.status.max(status(&ran.answer())),
+                standard,
+            },
+            Err(_) => Course {
+                tally: self.tally,
+                status: self.status.max(3),
+                standard,
+            },
+        }
+    }
+}
+
+/// Standard input once this file was gone through.
+fn standard_after(name: &str, standard: Standard) -> Standard
+    ensures { result ≡ standard_after (is_standard name.now) standard }
+{
+    if name == STANDARD {
+        Standard::Spent
+    } else {
+        standard
+    }
+}
+
+/// What two inputs come to. A sum that is too great is told as the most that can be.
+fn sum_of(some: &Tally, more: &Tally) -> Tally
+    requires some { length some.now.reasons ≡ 13 }
+    requires more { length more.now.reasons ≡ 13 }
+    ensures sum { result ≡ sum_of some.now more.now }
+    ensures places { length result.reasons ≡ 13 }
+{
+    Tally {
+        yes: some.yes.saturating_add(more.yes),
+        no: some.no.saturating_add(more.no),
+        reasons: sums(&some.reasons, &more.reasons),
+        bytes: some.bytes.saturating_add(more.bytes),
+        tables: some.tables.saturating_add(more.tables),
+        reads: some.reads.saturating_add(more.reads),
+    }
+}
+
+/// The sums of how often each reason was given.
+fn sums(some: &[u64; 13], more: &[u64; 13]) -> [u64; 13]
+    requires some { length some.now ≡ 13 }
+    requires more { length more.now ≡ 13 }
+    ensures sums { result ≡ sums some.now more.now }
+    ensures places { length result ≡ 13 }
+{
+    let mut counts = *some;
+    for place in 0..13 {
+        counts[place] = counts[place].saturating_add(more[place]);
+    }
+    counts
+}
+
+/// Notes why a file wasn't checked to its end, where it wasn't; what ends it all is answered.
+fn tell_behind<N: Sink>(
+    alloc: Global,
+    name: &str,
+    framing: Framing,
+    came: &Came,
+    notes: &mut N,
+) -> Result<(), RunFault>
+    requires { N.calls notes.old < 2 ^ 99 }
+    ensures told { IsBehind name.now framing came.now.what came.now.cause (writer_of N.Sink notes.old) (writer_of N.Sink notes.new) result }
+    ensures calls { N.calls notes.new ≤ N.calls notes.old + 2 ^ 64 }
+{
+    match &came.what {
+        Ok(ran) => tell_run(alloc, name, framing, ran, came.cause, notes),
+        Err(Missed::File(FileFault::OutOfMemory)) => Err(RunFault::OutOfMemory),
+        Err(Missed::File(FileFault::Unreadable(cause))) => {
+            tell_fault(alloc, name, reason(*cause), b"\n", notes)
+        }
+        Err(Missed::Again) => {
+            let why = b"standard input was read before";
+            tell_fault(alloc, name, why, b"\n", notes)
+        }
+    }
+}
+
+/// The same behind a run; or what there is to be told of its end.
+fn tell_run<N: Sink>(
+    alloc: Global,
+    name: &str,
+    framing: Framing,
+    ran: &Ran,
+    cause: Option<ErrorKind>,
+    notes: &mut N,
+) -> Result<(), RunFault>
+    requires { N.calls notes.old < 2 ^ 99 }
+    ensures told { IsBehindRun name.now framing ran.now.tally ran.now.end cause (writer_of N.Sink notes.old) (writer_of N.Sink notes.new) result }
+    ensures calls { N.calls notes.new ≤ N.calls notes.old + 2 ^ 64 }
+{
+    let Err(fault) = &ran.end else {
+        return tell_end(alloc, name, end_hint(By::Named, framing, &ran.tally), notes);
+    };
+    if is_final(fault) {
+        return Err(*fault);
+    }
+    let behind = run_hint(framing, fault, &ran.tally);
+    let why = run_text(fault, Causes::of_read(cause));
+    tell_fault(alloc, name, why.bytes(), behind, notes)
+}
+
+/// Notes what is told of an end, where there is something. What can't be written is left.
+fn tell_end<N: Sink>(
+    alloc: Global,
+    name: &str,
+    hint: Option<&[u8]>,
+    notes: &mut N,
+) -> Result<(), RunFault>
+    requires { N.calls notes.old < 2 ^ 99 }
+    ensures told { IsBehindEnd name.now (option_map (λ h. h.now) hint.entry) (writer_of N.Sink notes.old) (writer_of N.Sink notes.new) result }
+    ensures calls { N.calls notes.new ≤ N.calls notes.old + 2 ^ 64 }
+{
+    let Some(hint) = hint else {
+        return Ok(());
+    };
+    let line = fault_line(alloc, name, hint, b"")?;
+    note(notes, line.as_slice());
+    Ok(())
+}
+
+/// Whether a fault ends it all: a failed write or note, or want of memory.
+fn is_final(fault: &RunFault) -> bool
+    ensures { result ≡ is_final fault.now }
+{
+    match fault {
+        RunFault::WriteFault { .. } | RunFault::NoteFault { .. } | RunFault::OutOfMemory => true,
+        _ => false,
+    }
+}
+
+/// Notes why a file wasn't checked to its end, with what stands behind that.
+fn tell_fault<N: Sink>(
+    alloc: Global,
+    name: &str,
+    why: &[u8],
+    behind: &[u8],
+    notes: &mut N,
+) -> Result<(), RunFault>
+    requires { N.calls notes.old < 2 ^ 99 }
+    ensures told { IsNotedOf (fault_line name.now why.now behind.now) (writer_of N.Sink notes.old) (writer_of N.Sink notes.new) result }
+    ensures calls { N.calls notes.new ≤ N.calls notes.old + 2 ^ 64 }
+{
+    let line = fault_line(alloc, name, why, behind)?;
+    let written = push_all(notes, line.as_slice());
+    if written < line.len() {
+        return Err(RunFault::NoteFault {
+            written: written as u128,
+        });
+    }
+    Ok(())
+}
+
+/// The line that tells it.
+fn fault_line(alloc: Global, name: &str, why: &[u8], behind: &[u8]) -> Result<Vec<u8>, AllocError>
+    ensures { IfOk result (λ line. line.items ≡ fault_line name.now why.now behind.now) }
+{
+    let mut line = Vec::new(alloc);
+    line.extend_from_slice(b"fbcheck: ")?;
+    put_bytes(&mut line, name.as_bytes())?;
+    line.extend_from_slice(b": ")?;
+    line.extend_from_slice(why)?;
+    line.extend_from_slice(behind)?;
+    Ok(line)
+}

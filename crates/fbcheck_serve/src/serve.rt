@@ -1,0 +1,173 @@
+//! What the program does, from its words to its exit status.
+
+ghost use Rattle.std.specs.Prelude.{IfOk, IfSome, ◌≡◌, ◌+◌, ◌<◌, ◌≤◌, ◌^◌, ℕ, length, string_len};
+ghost use Rattle.fb_run.specs.Ends.{HasCallsLeft, HasLeave, Reader, Writer, beside, ends_of, writer_of};
+ghost use Rattle.fbcheck_serve.specs.Inputs.{folder_of, seen_of};
+ghost use Rattle.fbcheck_serve.specs.Serving.{ComesTo, EndsSo, IsCrowded, IsPromptAsGiven, IsServed, Unserved, files_ending, run_ending, summed, words_of};
+
+use crate::asked::{by, form, manner};
+use crate::causes::{Causes, Explains};
+use crate::check::{check_beside, check_files};
+use crate::files::{Files, read_schema};
+use crate::framing::{By, Manner};
+use crate::hint::{file_hint, words_hint};
+use crate::inputs::Passed;
+use crate::stop::{Ending, Stop, Sums, WordsFault, exit_status, sum_up, tell};
+use clap::Error;
+use fb_bytes::Sink;
+use fb_run::{Input, MOST_TURNS, Ran, Tally, push_all};
+use fbcheck_words::{Settings, SettingsFault, settings};
+use std::alloc::{AllocError, Global};
+
+/// Does what the words ask, the program's name first, and answers the exit status: reads the schema file that they
+/// name, checks the buffers of the reader by it, and tells of them as [`check_beside`](crate::check::check_beside)
+/// does; or writes help, where it is asked for. Behind what they have the notes get a line of what was counted, where
+/// the words ask for it, and then why it came to rest before the end.
+pub fn serve<F: Files, S: Input<K, N> + Explains, K: Sink + Explains, N: Sink>(
+    alloc: Global,
+    words: Result<Vec<String>, WordsFault>,
+    files: &F,
+    reader: &mut S,
+    writer: &mut K,
+    notes: &mut N,
+) -> u8
+    requires few { HasCallsLeft S.Input K.Sink N.Sink reader.old writer.old notes.old }
+    requires leave { HasLeave S.Input (ends_of S.Input K.Sink N.Sink reader.old writer.old notes.old) (IsPromptAsGiven (folder_of F.Files F.Opened.Source F.Opened.Explains files.now) (words_of words)) }
+
+    ensures served { IsServed (folder_of F.Files F.Opened.Source F.Opened.Explains files.now) (words_of words) (seen_of S.Input S.Explains K.Sink N.Sink reader.old writer.old notes.old)
+        (seen_of S.Input S.Explains K.Sink N.Sink reader.new writer.new notes.new) (K.Explains.cause writer.new) MOST_TURNS (K.Sink.calls writer.new) (N.calls notes.new) result }
+    ensures turns { S.calls reader.new ≤ S.calls reader.old + MOST_TURNS }
+{
+    let mut sums = None;
+    let outcome = come_to(alloc, words, files, reader, writer, notes, &mut sums);
+    let ending = sum_up(outcome, &sums, notes);
+    let causes = Causes {
+        read: reader.cause(),
+        write: writer.cause(),
+    };
+    tell(&ending, causes, notes);
+    exit_status(&ending)
+}
+
+/// What the program comes to, and the numbers of the run, where these are to be told.
+fn come_to<F: Files, S: Input<K, N> + Explains, K: Sink, N: Sink>(
+    alloc: Global,
+    words: Result<Vec<String>, WordsFault>,
+    files: &F,
+    reader: &mut S,
+    writer: &mut K,
+    notes: &mut N,
+    sums: &mut Option<Sums>,
+) -> Result<Ending, Stop>
+    requires few { HasCallsLeft S.Input K.Sink N.Sink reader.old writer.old notes.old }
+    requires leave { HasLeave S.Input (ends_of S.Input K.Sink N.Sink reader.old writer.old notes.old) (IsPromptAsGiven (folder_of F.Files F.Opened.Source F.Opened.Explains files.now) (words_of words)) }
+
+    ensures comes { ComesTo (folder_of F.Files F.Opened.Source F.Opened.Explains files.now) (words_of words) (seen_of S.Input S.Explains K.Sink N.Sink reader.old writer.old notes.old)
+        (seen_of S.Input S.Explains K.Sink N.Sink reader.new writer.new notes.new) sums.new result }
+    ensures places { IfSome sums.new (λ told. length told.tally.reasons ≡ 13) }
+    ensures ends { EndsSo (ends_of S.Input K.Sink N.Sink reader.old writer.old notes.old) (ends_of S.Input K.Sink N.Sink reader.new writer.new notes.new) MOST_TURNS result }
+    ensures turns { S.calls reader.new ≤ S.calls reader.old + MOST_TURNS }
+    ensures noted { N.calls notes.new < 2 ^ 98 }
+    ensures crowded { IsCrowded (K.calls writer.new) (N.calls notes.new) result }
+{
+    *sums = None;
+    let words = match words {
+        Ok(words) => words,
+        Err(fault) => {
+            let hint = words_hint(alloc, &fault)?;
+            return Err(Stop::Words(fault, hint));
+        }
+    };
+    let settings = match settings(alloc, words.as_slice()) {
+        Ok(settings) => settings,
+        Err(fault) => return without_settings(alloc, fault, writer),
+    };
+    let file = match read_schema(files, &settings.schema) {
+        Ok(file) => file,
+        Err(fault) => return Err(Stop::File(fault, file_hint(alloc, fault, &settings.schema)?)),
+    };
+    if settings.files.as_slice().is_empty() {
+        let ran = check_beside(alloc, file.as_deref(), &settings, reader, writer, notes)?;
+        *sums = summed(&settings, ran.tally);
+        return run_ending(manner(&settings), &ran);
+    }
+    let passed = check_files(
+        alloc,
+        files,
+        file.as_deref(),
+        &settings,
+        reader,
+        writer,
+        notes,
+    )?;
+    *sums = summed(&settings, passed.course.tally);
+    files_ending(by(&settings), &passed)
+}
+
+/// How the program ends by what a run over an input came to that was checked in this manner.
+fn run_ending(manner: Manner, ran: &Ran) -> Result<Ending, Stop>
+    ensures { result ≡ run_ending manner ran.now.tally ran.now.end }
+{
+    match ran.end {
+        Ok(()) => Ok(Ending::Checked(ran.tally, manner)),
+        Err(fault) => Err(Stop::Run(fault, ran.tally, manner)),
+    }
+}
+
+/// The same by what files came to that were checked by this.
+fn files_ending(by: By, passed: &Passed) -> Result<Ending, Stop>
+    ensures { result ≡ files_ending by passed.now.course passed.now.end }
+{
+    match passed.end {
+        Ok(()) => Ok(Ending::Passed(passed.course, by)),
+        Err(fault) => Err(Stop::Halted(fault)),
+    }
+}
+
+/// The numbers that are told where the settings ask for them, and how.
+fn summed(settings: &Settings, tally: Tally) -> Option<Sums>
+    ensures { result ≡ summed settings.now tally }
+{
+    if !settings.summary {
+        return None;
+    }
+    let form = form(settings);
+    Some(Sums { form, tally })
+}
+
+/// The text of an error of `clap`. No contract says that there is one: the program's name stands for it where not.
+fn text_of(alloc: Global, error: &Error) -> Result<String, AllocError>
+    ensures { IfOk result (λ text. 0 < string_len text) }
+{
+    let text = format!(in alloc; "{error}")?;
+    if text.is_empty() {
+        return String::from_str(alloc, "fbcheck\n");
+    }
+    Ok(text)
+}
+
+/// What the program comes to where the words give no settings: help is written where they ask for it.
+fn without_settings<K: Sink>(
+    alloc: Global,
+    fault: SettingsFault,
+    writer: &mut K,
+) -> Result<Ending, Stop>
+    requires { K.calls writer.old < 2 ^ 64 }
+    ensures comes { Unserved fault (writer_of K.Sink writer.old) (writer_of K.Sink writer.new) result }
+    ensures ends { (reader : Reader) (notes : Writer) (turns : ℕ) → EndsSo (beside reader (record { writer = writer_of K.Sink writer.old; notes = notes }))
+        (beside reader (record { writer = writer_of K.Sink writer.new; notes = notes })) turns result }
+{
+    let status = fault.status();
+    let SettingsFault::Usage(error) = &fault else {
+        return Err(Stop::Settings(fault));
+    };
+    let text = text_of(alloc, error)?;
+    if status != 0 {
+        return Err(Stop::Usage(text));
+    }
+    let written = push_all(writer, text.as_bytes());
+    if written < text.len() {
+        return Err(Stop::CutOff { written });
+    }
+    Ok(Ending::Helped)
+}

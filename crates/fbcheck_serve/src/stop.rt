@@ -1,0 +1,281 @@
+//! How the program comes to its end: well, or for a cause.
+
+ghost use Rattle.std.specs.Prelude.{IfSome, ◌≡◌, ◌++◌, ◌+◌, ◌<◌, ◌≤◌, ◌^◌, length, option_map};
+ghost use Rattle.std.specs.IoError.{error_kind};
+ghost use Rattle.fb_run.specs.Ends.{writer_of};
+ghost use Rattle.fbcheck_serve.specs.Faults.{words_fault};
+ghost use Rattle.fbcheck_serve.specs.Inputs.{IsNoted};
+ghost use Rattle.fbcheck_serve.specs.Serving.{behind, Complains, IsHinted, SumsUp, ending_hint, exit_status, stop_status};
+ghost use Rattle.fbcheck_serve.specs.Texts.{stop_text};
+ghost use Rattle.fbcheck_words.specs.declared.choices.SettingsFault.TheVariants as refusal;
+ghost use Rattle.fbcheck_serve.specs.declared.stop.Stop.TheVariants as stop;
+
+use crate::causes::Causes;
+use crate::files::FileFault;
+use crate::framing::{By, Manner, by_hint, end_hint, run_hint};
+use crate::hint::Unasked;
+use crate::inputs::Course;
+use crate::texts::{ask_text, failed_write, file_text, run_text, unsummed_text, words_text};
+use fb_bytes::Sink;
+use fb_run::summary::summary;
+use fb_run::{Form, Line, RunFault, Tally, push_all, status};
+use fbcheck_words::SettingsFault;
+use std::alloc::AllocError;
+use std::io;
+use std::io::ErrorKind;
+
+/// How a line begins that tells why the program comes to rest.
+const NAME: &str = "fbcheck: ";
+
+/// A word of the command line that isn't a text, by its number, the program's name being 0.
+#[derive(Debug, Drop)]
+pub struct WrongWord {
+    /// Its number.
+    pub number: usize,
+    /// Its bytes.
+    pub bytes: Vec<u8>,
+}
+
+/// Why the words of the command line can't be read.
+#[derive(Debug, Drop)]
+pub enum WordsFault {
+    /// A word isn't a text: the first such one.
+    NotText(WrongWord),
+    /// Memory was refused.
+    OutOfMemory,
+}
+
+impl WordsFault {
+    /// What an error means that came while the words were read, where this is the first that isn't a text, or there was
+    /// no memory for it.
+    pub fn of(error: io::Error, word: Result<WrongWord, AllocError>) -> WordsFault
+        ensures { result ≡ words_fault (error_kind error) word }
+    {
+        match (error.kind(), word) {
+            (ErrorKind::OutOfMemory, _) | (_, Err(_)) => WordsFault::OutOfMemory,
+            (_, Ok(word)) => WordsFault::NotText(word),
+        }
+    }
+}
+
+/// The numbers that are told at the end, and how their line is written.
+#[derive(Clone, Copy, Debug, PartialEq, Eq)]
+pub struct Sums {
+    /// How the line is written.
+    pub form: Form,
+    /// What the run came to.
+    pub tally: Tally,
+}
+
+/// How the program ends well.
+#[derive(Clone, Copy, Debug, PartialEq, Eq)]
+pub enum Ending {
+    /// Help was asked for, and written.
+    Helped,
+    /// The buffers of the input were checked, in this manner.
+    Checked(Tally, Manner),
+    /// The files were gone through, and the faults of those that have any are told. They were checked by this.
+    Passed(Course, By),
+}
+
+/// Why the program comes to rest before that.
+#[derive(Debug, Drop)]
+pub enum Stop {
+    /// The words can't be read, and this is told behind the cause.
+    Words(WordsFault, Vec<u8>),
+    /// `clap` refuses the words, by this text.
+    Usage(String),
+    /// The words give no settings for another cause.
+    Settings(SettingsFault),
+    /// Help was asked for, and the writer took only its first `written` bytes.
+    CutOff { written: usize },
+    /// The run came to its end, and of its summary only the first `written` bytes were taken.
+    Unsummed { written: usize },
+    /// The schema file can't be read, and this is told behind the cause.
+    File(FileFault, Vec<u8>),
+    /// There was nothing to check by.
+    Ask(Unasked),
+    /// The run came to rest, with these counts, over an input that was checked in this manner.
+    Run(RunFault, Tally, Manner),
+    /// The run over a file came to rest for what ends the whole call, or wasn't begun.
+    Halted(RunFault),
+}
+
+impl Ending {
+    /// What is told of it, behind the program's name.
+    fn hint(&self) -> Option<&'static [u8]>
+        ensures { option_map (λ h. h.now) result ≡ ending_hint self.now }
+    {
+        match self {
+            Ending::Helped => None,
+            Ending::Checked(tally, manner) => end_hint(manner.by, manner.framing, tally),
+            Ending::Passed(course, by) => by_hint(*by, &course.tally),
+        }
+    }
+
+    /// Notes that, where there is something. What can't be written is left.
+    fn tell<N: Sink>(&self, notes: &mut N)
+        requires { N.calls notes.old < 2 ^ 99 }
+        ensures told { IsHinted (ending_hint self.now) (writer_of N.Sink notes.old) (writer_of N.Sink notes.new) }
+        ensures more { N.calls notes.old ≤ N.calls notes.new }
+    {
+        if let Some(hint) = self.hint() {
+            note_both(notes, NAME.as_bytes(), hint);
+        }
+    }
+}
+
+impl From<AllocError> for Stop {
+    ghost from_gives = { λ _ s. s ≡ stop.Settings refusal.OutOfMemory };
+
+    fn from(_: AllocError) -> Self {
+        Self::Settings(SettingsFault::OutOfMemory)
+    }
+}
+
+impl From<Unasked> for Stop {
+    ghost from_gives = { λ cause s. s ≡ stop.Ask cause };
+
+    fn from(cause: Unasked) -> Self {
+        Self::Ask(cause)
+    }
+}
+
+impl Stop {
+    /// The exit status: 2 where the words, the schema file, the root, the path or the schema's own identifier are
+    /// wrong, and 3 after any other fault.
+    fn status(&self) -> u8
+        ensures { result ≡ stop_status self.now }
+    {
+        match self {
+            Stop::Words(WordsFault::NotText(_), _) | Stop::Usage(_) => 2,
+            Stop::Words(WordsFault::OutOfMemory, _) => 3,
+            Stop::File(FileFault::Unreadable(_), _) => 2,
+            Stop::File(FileFault::OutOfMemory, _) => 3,
+            Stop::CutOff { .. } | Stop::Unsummed { .. } => 3,
+            Stop::Settings(fault) => fault.status(),
+            Stop::Ask(unasked) => unasked.fault.status(),
+            Stop::Run(fault, ..) | Stop::Halted(fault) => status(&Err(*fault)),
+        }
+    }
+
+    /// What stands behind its text, to the end of the line.
+    fn behind(&self) -> &[u8]
+        ensures { result.now ≡ behind self.now }
+    {
+        match self {
+            Stop::Words(_, hint) | Stop::File(_, hint) => hint.as_slice(),
+            Stop::Ask(unasked) => unasked.hint(),
+            Stop::Run(fault, tally, manner) => run_hint(manner.framing, fault, tally),
+            _ => b"\n",
+        }
+    }
+
+    /// Its text, but for that of `clap`, where this is why a read of standard input or a write failed, if one did.
+    fn text(&self, causes: Causes) -> Line
+        ensures text { result ≡ stop_text causes self.now }
+        ensures short { length result ≤ 200 }
+    {
+        match self {
+            Stop::Words(fault, _) => words_text(fault),
+            Stop::Usage(_) => Line::new(),
+            Stop::Settings(fault) => Line::of(fault.text()),
+            Stop::CutOff { written } => failed_write(*written as u128, causes.write),
+            Stop::Unsummed { written } => unsummed_text(*written),
+            Stop::File(fault, _) => file_text(fault),
+            Stop::Ask(unasked) => ask_text(&unasked.fault),
+            Stop::Run(fault, ..) | Stop::Halted(fault) => run_text(fault, causes),
+        }
+    }
+
+    /// Writes the text of `clap`, or else a line that begins with the program's name, where this is why a read of
+    /// standard input or a write failed, if one did. What can't be written is left.
+    fn tell<N: Sink>(&self, causes: Causes, notes: &mut N)
+        requires { N.calls notes.old < 2 ^ 99 }
+        ensures told { Complains causes (Err self.now) (writer_of N.Sink notes.old) (writer_of N.Sink notes.new) }
+        ensures more { N.calls notes.old ≤ N.calls notes.new }
+    {
+        if let Stop::Usage(text) = self {
+            note(notes, text.as_bytes());
+            return;
+        }
+        let mut line = self.text(causes);
+        line.put_text(NAME);
+        note_both(notes, line.bytes(), self.behind());
+    }
+}
+
+/// Notes this text. What can't be written is left.
+pub fn note<N: Sink>(notes: &mut N, text: &[u8])
+    requires { N.calls notes.old + length text.now < 2 ^ 100 }
+    ensures noted { IsNoted text.now (writer_of N.Sink notes.old) (writer_of N.Sink notes.new) }
+    ensures calls { N.calls notes.new ≤ N.calls notes.old + length text.now }
+    ensures more { N.calls notes.old ≤ N.calls notes.new }
+{
+    push_all(notes, text);
+}
+
+/// The same of two texts, one behind the other.
+fn note_both<N: Sink>(notes: &mut N, text: &[u8], behind: &[u8])
+    requires { N.calls notes.old + length text.now + length behind.now < 2 ^ 100 }
+    ensures noted { IsNoted (text.now ++ behind.now) (writer_of N.Sink notes.old) (writer_of N.Sink notes.new) }
+    ensures more { N.calls notes.old ≤ N.calls notes.new }
+{
+    if push_all(notes, text) == text.len() {
+        push_all(notes, behind);
+    }
+}
+
+/// Notes a summary of these numbers, where there are some, and answers how the program ends with that.
+pub fn sum_up<N: Sink>(
+    outcome: Result<Ending, Stop>,
+    sums: &Option<Sums>,
+    notes: &mut N,
+) -> Result<Ending, Stop>
+    requires calls { N.calls notes.old < 2 ^ 98 }
+    requires places { IfSome sums.now (λ sums. length sums.tally.reasons ≡ 13) }
+    ensures summed { SumsUp sums.now (writer_of N.Sink notes.old) (writer_of N.Sink notes.new) outcome result }
+    ensures calls { N.calls notes.new < 2 ^ 99 }
+    ensures more { N.calls notes.old ≤ N.calls notes.new }
+{
+    let Some(told) = sums else {
+        return outcome;
+    };
+    let line = summary(told.form, &told.tally);
+    let text = line.bytes();
+    let written = push_all(notes, text);
+    if written == text.len() {
+        return outcome;
+    }
+    match outcome {
+        Ok(Ending::Checked(..) | Ending::Passed(..)) => Err(Stop::Unsummed { written }),
+        _ => outcome,
+    }
+}
+
+/// Tells on standard error why the program came to rest, if it did, or what there is to be told of its end. This is why
+/// a read of standard input or a write failed, if one did.
+pub fn tell<N: Sink>(outcome: &Result<Ending, Stop>, causes: Causes, notes: &mut N)
+    requires { N.calls notes.old < 2 ^ 99 }
+    ensures told { Complains causes outcome.now (writer_of N.Sink notes.old) (writer_of N.Sink notes.new) }
+    ensures more { N.calls notes.old ≤ N.calls notes.new }
+{
+    match outcome {
+        Ok(ending) => ending.tell(notes),
+        Err(stop) => stop.tell(causes, notes),
+    }
+}
+
+/// The program's exit status: 0 where every buffer had a yes or help was written, 1 where a buffer had a no, 2 where
+/// the words, the schema file, the root, the path or the schema's own identifier are wrong, and 3 for every other
+/// fault.
+pub fn exit_status(outcome: &Result<Ending, Stop>) -> u8
+    ensures { result ≡ exit_status outcome.now }
+{
+    match outcome {
+        Ok(Ending::Helped) => 0,
+        Ok(Ending::Checked(tally, _)) => status(&Ok(*tally)),
+        Ok(Ending::Passed(course, _)) => course.status,
+        Err(stop) => stop.status(),
+    }
+}
