@@ -102,7 +102,6 @@ pub fn tell_unserved(
 }
 
 /// Checks a buffer as the options ask, in room on the call's own stack, writes the verdict and answers its status.
-#[inline(always)]
 fn check_shallow(
     loaded: &Loaded<'static>,
     verdict: &mut Verdict,
@@ -133,7 +132,6 @@ fn check_shallow(
 }
 
 /// The same in the room that is given.
-#[inline(always)]
 fn check_in(
     loaded: &Loaded<'static>,
     room: &mut Room,
