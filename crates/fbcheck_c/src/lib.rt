@@ -1,50 +1,28 @@
-//! The verifier for C: a schema that any number of threads share, and the calls that check buffers by it.
+//! The verifier for C: a schema that any number of threads share, and the calls that check buffers by it, each exported
+//! by its name. What they do stands in `fbcheck_calls`.
 //!
 //! `include/fbcheck.h` has the prototypes that a caller sees. `c/fbcheck.c` stands between: it tests each pointer
 //! against null, and then calls these, whose names end in `_proved`.
 #![tactic(auto)]
 
 ghost use Rattle.std.specs.Prelude.{◌≡◌, ℕ, List, None, Option, length, take};
-ghost use Rattle.fbcheck_c.specs.Answered.{IfSchema, IsChecked, IsPriceTold, IsRoomMade, IsTaken, levels};
-ghost use Rattle.fbcheck_c.specs.Asked.{published};
-ghost use Rattle.fbcheck_c.specs.Framers.{IsFedTold, IsFinished, IsKept, IsNext};
-ghost use Rattle.fbcheck_c.specs.Names.{IsFaultName, IsNameTold, IsReasonName, field_name, held_name, object_name, status_text, table_number};
-ghost use Rattle.fbcheck_c.specs.Placed.{IsLocatedBy};
-ghost use Rattle.fbcheck_c.specs.Reached.{IsPath, IsReadBy};
-ghost use Rattle.fbcheck_c.specs.Spans.{AreTold, all_good};
-ghost use Rattle.fbcheck_c.specs.Told.{told};
-ghost use Rattle.fbcheck_c.specs.declared.answer.Answer.{Answer};
+ghost use Rattle.fbcheck_calls.specs.Answered.{IfSchema, IsChecked, IsPriceTold, IsRoomMade, IsTaken, levels};
+ghost use Rattle.fbcheck_calls.specs.Asked.{published};
+ghost use Rattle.fbcheck_calls.specs.Framers.{IsFedTold, IsFinished, IsKept, IsNext};
+ghost use Rattle.fbcheck_calls.specs.Names.{IsFaultName, IsNameTold, IsReasonName, field_name, held_name, object_name, status_text, table_number};
+ghost use Rattle.fbcheck_calls.specs.Placed.{IsLocatedBy};
+ghost use Rattle.fbcheck_calls.specs.Reached.{IsPath, IsReadBy};
+ghost use Rattle.fbcheck_calls.specs.Spans.{AreTold, all_good};
+ghost use Rattle.fbcheck_calls.specs.Told.{told};
+ghost use Rattle.fbcheck_calls.specs.declared.answer.Answer.{Answer};
 
-mod answer;
-mod checking;
-mod detached;
-mod examples;
-mod fits;
-mod framer;
-mod handle;
-mod held;
-mod laws;
-mod names;
-mod options;
-mod place;
-mod shared;
-mod spans;
-mod steps;
-mod values;
-
-use answer::Verdict;
-use checking::{check, check_alone, price, read, resolve};
 use fb_bytes::Taken;
-use framer::Framer;
-use handle::Handle;
-use names::{fault_told, field_told, object_told, reason_told, status_told, table_of};
-use options::Options;
-use place::locate;
-use shared::Shared;
-use spans::{Span, all_good, check_each};
+use fbcheck_calls::{
+    Framer, Handle, Options, PlainPath, Shared, Span, Value, Verdict, all_good, check, check_alone,
+    check_each, fault_told, field_told, locate, object_told, price, read, reason_told, resolve,
+    status_told, table_of,
+};
 use std::alloc::Global;
-use steps::PlainPath;
-use values::Value;
 
 /// How many bytes the structs take that cross to C.
 #[repr(C)]

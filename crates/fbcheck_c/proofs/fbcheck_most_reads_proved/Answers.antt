@@ -1,5 +1,5 @@
 use Rattle.std.proofs.Common.{ap, refl, Ok, Err}
-use Rattle.fbcheck_c.specs.declared.answer.Verdict.{Verdict}
+use Rattle.fbcheck_calls.specs.declared.answer.Verdict.{Verdict}
 use Rattle.fbcheck_c.proofs.fbcheck_most_reads_proved.Goals as goal
 
 pub returns-in-Ok : goal.returns-in-Ok

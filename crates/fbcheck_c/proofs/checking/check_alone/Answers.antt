@@ -1,6 +1,0 @@
-use Rattle.std.proofs.Common.{rules}
-use Rattle.fbcheck_c.specs.declared.answer.Answer.TheVariants.{NoRoot}
-use Rattle.fbcheck_c.proofs.checking.check_alone.Goals as goal
-
-pub returns-in-Room-clause-told : goal.returns-in-Room-clause-told
-returns-in-Room-clause-told c = (NoRoot, c.tell_blank.ensures.told, search rules)

@@ -1,7 +1,0 @@
-use Rattle.std.proofs.Common.{◌∙◌, Some}
-use Rattle.fbcheck_c.proofs.names.code_told.Goals as goal
-
-pub returns-in-Some : goal.returns-in-Some
-returns-in-Some c =
-    let text = c.as_bytes.ensures.value ∙ c.code_text.ensures in
-    (Some c.as_bytes.result.now, (c.in-Some.code, c.in-Some.ensures, text), (c.copied.ensures.length, c.copied.ensures.room))

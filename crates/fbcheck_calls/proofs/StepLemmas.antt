@@ -1,0 +1,71 @@
+-- How steps lead on from a spot, and that steps that fit are allowed.
+use Rattle.std.proofs.Common.{◌≡◌, ℕ, ◌+◌, ◌<◌, true, false, get_or, add-one, List, [], ◌∷◌, ◌++◌, length, take, drop, sym, ap, subst, ◌∙◌, arith, append_assoc, drop-cons, length-take-le, Some, None}
+use Rattle.std.proofs.Math.ListN.{set}
+use Rattle.std.proofs.lemmas.List.{set_at, take_more}
+use Rattle.std.proofs.lemmas.Slice.Zip.{AllZip-long, all_zipped_more}
+use Rattle.fb_schema.specs.declared.kinds.Kind.{Kind}
+use Rattle.fb_schema.specs.Rows.{Rows}
+use Rattle.fb_access.specs.declared.step.Step.{Step}
+use Rattle.fb_access.specs.declared.spot.Spot.{Spot}
+use Rattle.fb_access.specs.Denotes.{Leads, Reaches, allows}
+use Rattle.fb_access.specs.Fitting.{StepsFit, next_kind}
+use Rattle.fb_access.specs.Here.{IsOfKind, KindsGoOn}
+use Rattle.fb_access.proofs.StepKinds.{kind_allows}
+use Rattle.fbcheck_calls.specs.declared.steps.PlainStep.{PlainStep}
+use Rattle.fbcheck_calls.specs.Steps.{AreSteps, step_of}
+
+-- where the steps that are left lead is what was looked for
+abbrev pub IsReachedBy : List ℕ → Rows → Spot → List PlainStep → (Spot → Type 0) → Type 0
+IsReachedBy b S p plain W = (path : List Step) (x : Spot) → AreSteps plain path → Reaches b S p path x → W x
+
+-- the steps that are left are those of a path that fits here
+abbrev pub FitHere : Rows → Spot → List PlainStep → Type 0
+FitHere S p plain = (path : List Step) × (kind : Kind) × AreSteps plain path × IsOfKind p kind × StepsFit S kind path
+
+module _ (S : Rows) (p : Spot) (c : PlainStep) (cs : List PlainStep) where
+  pub reaches_more : (b : List ℕ) (W : Spot → Type 0) (s : Step) (q : Spot) → step_of c ≡ Some s → Leads b S p s q → IsReachedBy b S p (c ∷ cs) W → IsReachedBy b S q cs W
+  reaches_more b W s q e l by = λ path x are reach. by (s ∷ path) x (e, are) (q, l, reach)
+
+  fit_more_at : (path : List Step) (kind : Kind) (s : Step) (q : Spot) → step_of c ≡ Some s → KindsGoOn S p s q → AreSteps (c ∷ cs) path → IsOfKind p kind → StepsFit S kind path → FitHere S q cs
+  fit_more_at [] kind s q e on are is fits = absurd are
+  fit_more_at (s' ∷ path) kind s q e on are is fits =
+      let found : step_of c ≡ Some s' = are.0 in
+      let same : s' ≡ s = cc in
+      (path, fits.0, are.1, on kind fits.0 is (subst (λ v. next_kind S kind v ≡ Some fits.0) same fits.1), fits.2)
+
+  pub fit_more : (s : Step) (q : Spot) → step_of c ≡ Some s → KindsGoOn S p s q → FitHere S p (c ∷ cs) → FitHere S q cs
+  fit_more s q e on h = fit_more_at h.0 h.1 s q e on h.2 h.3 h.4
+
+  no_step_at : (path : List Step) → step_of c ≡ None → AreSteps (c ∷ cs) path → ⊥
+  no_step_at [] e are = absurd are
+  no_step_at (s' ∷ path) e are = let found : step_of c ≡ Some s' = are.0 in cc
+
+  pub no_step : step_of c ≡ None → FitHere S p (c ∷ cs) → ⊥
+  no_step e h = no_step_at h.0 e h.2
+
+  misfit_at : (path : List Step) (kind : Kind) (s : Step) → step_of c ≡ Some s → allows S p s ≡ false → AreSteps (c ∷ cs) path → IsOfKind p kind → StepsFit S kind path → ⊥
+  misfit_at [] kind s e refused are is fits = absurd are
+  misfit_at (s' ∷ path) kind s e refused are is fits =
+      let found : step_of c ≡ Some s' = are.0 in
+      let same : s' ≡ s = cc in
+      let yes : allows S p s ≡ true = kind_allows S p s kind fits.0 is (subst (λ v. next_kind S kind v ≡ Some fits.0) same fits.1) in
+      cc
+
+  pub misfit : (s : Step) → step_of c ≡ Some s → allows S p s ≡ false → FitHere S p (c ∷ cs) → ⊥
+  misfit s e refused h = misfit_at h.0 h.1 s e refused h.2 h.3 h.4
+
+-- one step more stands in front of the room
+pub one_written : (path : List Step) (first room front : List PlainStep) (i : ℕ) (d : Step) (c none : PlainStep) → i < length path → i < length first
+    → AreSteps front (take i path) → room ≡ front ++ drop i first → step_of c ≡ Some (get_or path i d)
+    → (front' : List PlainStep) × AreSteps front' (take (i + 1) path) × (set room i c ≡ front' ++ drop (i + 1) first)
+one_written path first room front i d c none within there are is e =
+    let R : PlainStep → Step → Type 0 = λ p s. step_of p ≡ Some s in
+    let same = AllZip-long R front (take i path) are in
+    let taken : length (take i path) ≡ i = length-take-le i path (omega arith) in
+    let long : length front ≡ i = omega arith in
+    let rest = drop (i + 1) first in
+    let cons : drop i first ≡ get_or first i none ∷ rest = rw add-one (drop-cons first i none there) in (
+      front ++ c ∷ [],
+      rw (take_more path i d within) (all_zipped_more R front (take i path) c (get_or path i d) are e),
+      ap (λ r. set r i c) (is ∙ ap (λ r. front ++ r) cons) ∙ set_at front (get_or first i none) rest c i long ∙ sym (append_assoc front (c ∷ []) rest),
+    )

@@ -1,0 +1,6 @@
+use Rattle.std.proofs.Common.{rules}
+use Rattle.fbcheck_calls.specs.declared.answer.Answer.TheVariants.{NoRoot}
+use Rattle.fbcheck_calls.proofs.checking.read.Goals as goal
+
+pub returns-in_default-clause-told : goal.returns-in_default-clause-told
+returns-in_default-clause-told c = (NoRoot, c.tell_blank.ensures.told, search rules)

@@ -1,0 +1,26 @@
+use Rattle.std.proofs.Common.{◌≡◌, ◌∷◌, ◌+◌, ◌<◌, sym, subst, add-one, drop, drop-cons, get_or, length, arith, Some}
+use Rattle.fb_access.specs.Fitting.{next_kind}
+use Rattle.fbcheck_calls.specs.declared.steps.PlainStep.{PlainStep}
+use Rattle.fbcheck_calls.specs.Steps.{FitFrom, step_of}
+use Rattle.fbcheck_calls.proofs.FitLemmas.{fit_back, fit_on}
+use Rattle.fbcheck_calls.proofs.fits.steps_fit.Goals as goal
+
+pub loop-given-preserved : goal.loop-given-preserved
+loop-given-preserved c =
+    let S = c.args.schema.now in
+    let kind = c.loop-given.kind in
+    let i = c.loop-given.given-index in
+    let steps = c.args.steps.now in
+    let none : PlainStep = record { kind = 0; number = 0 } in
+    let given = get_or steps i none in
+    let rest = drop (i + 1) steps in
+    let s = c.in-Some.step in
+    let to = c.in-Some-next_kind.next in
+    let within : i < length steps = omega arith in
+    let cons : drop i steps ≡ given ∷ rest = rw add-one (drop-cons steps i none within) in
+    let found : step_of given ≡ Some s = sym c.in-Some.ensures in
+    let leads : next_kind S kind s ≡ Some to = sym c.in-Some-next_kind.ensures in
+    record {
+      on = λ h. fit_on S kind given rest s to found leads (subst (λ r. FitFrom S kind r) cons (c.loop-given.invariant.on h));
+      back = λ h. c.loop-given.invariant.back (subst (λ r. FitFrom S kind r) (sym cons) (fit_back S kind given rest s to found leads h));
+    }

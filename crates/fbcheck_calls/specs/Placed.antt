@@ -1,0 +1,44 @@
+-- What is written of where a fault is.
+use Rattle.std.specs.Prelude.{◌≡◌, ℕ, List, ◌++◌, drop, length, take}
+use Rattle.fb_verify.specs.Links.{StopsAlong}
+use Rattle.fb_verify.specs.declared.fault.Fault.{Fault}
+use Rattle.fb_verify.specs.declared.links.Link.{Link}
+use Rattle.fb_verify.specs.declared.start.Ident.{Ident}
+use Rattle.fb_access.specs.Location.{location_text}
+use Rattle.fb_bfbs.specs.declared.loading.Loaded.{Loaded}
+use Rattle.fbcheck_calls.specs.declared.answer.Answer.{Answer}
+use Rattle.fbcheck_calls.specs.declared.answer.Answer.TheVariants.{Bad, NoRoot}
+use Rattle.fbcheck_calls.specs.declared.held.Held.{Held}
+use Rattle.fbcheck_calls.specs.declared.held.Held.TheVariants.{Schema, Room}
+use Rattle.fbcheck_calls.specs.declared.options.Options.{Options}
+use Rattle.fbcheck_calls.specs.Answered.{IsChecked, Serves}
+use Rattle.fbcheck_calls.specs.Asked.{question_of}
+
+-- room after as much of a text was copied to its front as there is place for
+abbrev pub cut_to : List ℕ → List ℕ → List ℕ
+cut_to text room = take (length room) text ++ drop (length text) room
+
+-- a text stands in the room, cut to it, and its whole length is told
+pub record IsTextTold (text room room' : List ℕ) (told : ℕ) : Type 0 where
+  pub length_is : told ≡ length text
+  pub room_is : room' ≡ cut_to text room
+
+-- nothing was written
+pub record IsUntold (room room' : List ℕ) (told told' : ℕ) : Type 0 where
+  pub length_is : told' ≡ told
+  pub room_is : room' ≡ room
+
+-- the place of this fault is told, by the links that lead to it from the root
+abbrev pub IsPlaceTold : Loaded → Options → List ℕ → Fault → List ℕ → List ℕ → ℕ → ℕ → Ident → Type 0
+IsPlaceTold l o b f room room' told root ident = (links : List Link)
+    × StopsAlong (question_of l o b root ident) b f links
+    × IsTextTold (location_text l.schema f links) room room' told
+
+-- what is answered where the place of a fault is asked for: what a check answers, with the place of a bad buffer's
+abbrev pub IsLocated : Loaded → ℕ → Options → List ℕ → List ℕ → List ℕ → ℕ → ℕ → Answer → Type 0
+IsLocated l n o b room room' told told' (Bad f) = IsChecked l n o b (Bad f) × Serves l n o (IsPlaceTold l o b f room room' told')
+IsLocated l n o b room room' told told' a = IsChecked l n o b a × IsUntold room room' told told'
+
+abbrev pub IsLocatedBy : Held → ℕ → Options → List ℕ → List ℕ → List ℕ → ℕ → Answer → Type 0
+IsLocatedBy (Schema l) n o b room room' told a = IsLocated l n o b room room' 0 told a
+IsLocatedBy (Room r) n o b room room' told a = (a ≡ NoRoot) × IsUntold room room' 0 told

@@ -1,0 +1,118 @@
+//! Whether paths fit a schema, which no buffer has a part in.
+
+ghost use Rattle.std.specs.Prelude.{◌≡◌, ◌↔◌, IsTrue, MatchOption, option_map};
+ghost use Rattle.fb_access.specs.Fitting.{element_kind, next_kind, numbered};
+ghost use Rattle.fb_schema.specs.declared.views.PartView.{PartView};
+ghost use Rattle.fb_schema.specs.Members.{member_of};
+ghost use Rattle.fb_schema.specs.Parts.{part_at};
+ghost use Rattle.fb_schema.specs.declared.kinds.Kind.TheVariants.{Table};
+ghost use Rattle.fbcheck_calls.specs.Steps.{AllFit, FitFrom, FitsFrom, IsFirstMisfit};
+
+use crate::steps::{PlainPath, PlainStep};
+use fb_access::Step;
+use fb_schema::{Kind, Schema};
+
+/// The kind of a table's live field with this number.
+fn field_kind(schema: &Schema<'_>, table: u32, number: u16) -> Option<Kind>
+    ensures { result ≡ option_map (λ f. f.kind) (numbered schema.now table number) }
+{
+    if !schema.is_table(table) {
+        return None;
+    }
+    for field in schema.fields_of(table) {
+        if field.number == number {
+            return Some(field.kind);
+        }
+    }
+    None
+}
+
+/// The kind of a struct's field at this place.
+fn part_kind(schema: &Schema<'_>, object: u32, number: u16) -> Option<Kind>
+    ensures { result ≡ option_map (λ (part : PartView). part.kind) (part_at schema.now object number) }
+{
+    Some(schema.part_at(object, u32::from(number))?.kind)
+}
+
+/// The kind of a vector's elements.
+fn element_kind(kind: Kind) -> Option<Kind>
+    ensures { result ≡ element_kind kind }
+{
+    match kind {
+        Kind::Scalars(scalar) => Some(Kind::Scalar(scalar)),
+        Kind::Texts => Some(Kind::Text),
+        Kind::Structs(object) => Some(Kind::Struct(object)),
+        Kind::Tables(table) => Some(Kind::Table(table)),
+        Kind::Unions(union) => Some(Kind::Union(union)),
+        Kind::Scalar(_) | Kind::Text | Kind::Struct(_) | Kind::Table(_) | Kind::Union(_) => None,
+    }
+}
+
+/// The kind of a union's member with this value.
+fn member_kind(schema: &Schema<'_>, union: u32, value: u8) -> Option<Kind>
+    ensures { result ≡ member_of schema.now union value }
+{
+    if schema.is_union(union) {
+        schema.member_of(union, value)
+    } else {
+        None
+    }
+}
+
+/// The kind to which a step leads from a kind, if it has this step.
+#[tactic(auto, unfolding(fb_access::specs::Fitting::next_kind))]
+fn next_kind(schema: &Schema<'_>, kind: Kind, step: Step) -> Option<Kind>
+    ensures { result ≡ next_kind schema.now kind step }
+{
+    match step {
+        Step::Field(number) => match kind {
+            Kind::Table(table) => field_kind(schema, table, number),
+            Kind::Struct(object) => part_kind(schema, object, number),
+            _ => None,
+        },
+        Step::Element(_) => element_kind(kind),
+        Step::Member(value) => match kind {
+            Kind::Union(union) => member_kind(schema, union, value),
+            _ => None,
+        },
+    }
+}
+
+/// Whether these are steps that fit from the root table.
+fn steps_fit(schema: &Schema<'_>, root: u32, steps: &[PlainStep]) -> bool
+    ensures { IsTrue result ↔ FitFrom schema.now (Table root) steps.now }
+{
+    let mut kind = Kind::Table(root);
+    for given in steps {
+        let Some(step) = given.step() else {
+            return false;
+        };
+        match next_kind(schema, kind, step) {
+            Some(next) => kind = next,
+            None => return false,
+        }
+    }
+    true
+}
+
+/// Whether a path fits from the root table.
+fn path_fits(schema: &Schema<'_>, root: u32, path: &PlainPath) -> bool
+    ensures { IsTrue result ↔ FitsFrom schema.now root path.now }
+{
+    match path.steps() {
+        Some(steps) => steps_fit(schema, root, steps),
+        None => false,
+    }
+}
+
+/// The place of the first of these paths that doesn't, none where all do.
+pub fn first_misfit(schema: &Schema<'_>, root: u32, paths: &[PlainPath]) -> Option<u64>
+    ensures { MatchOption result (AllFit schema.now root paths.now) (IsFirstMisfit schema.now root paths.now) }
+{
+    for place in 0..paths.len() {
+        if !path_fits(schema, root, &paths[place]) {
+            return Some(place as u64);
+        }
+    }
+    None
+}

@@ -1,0 +1,35 @@
+//! What follows from the definitions of answers alone. These functions have no body: their contracts are the theorems.
+
+ghost use Rattle.fbcheck_calls.specs.AnswerLaws.{BadGetsNo, GoodGetsYes, LongGetsItsNumber, ValuesStand};
+ghost use Rattle.fbcheck_calls.specs.Names.{FaultsHaveTheirNames, StatusesHaveWords};
+
+/// Where the schema, the room and the options can serve a buffer of less than 2^31 bytes, and some tree of it is well
+/// formed and within the limits, the answer is 0.
+pub fn a_good_buffer_gets_a_yes()
+    ensures { GoodGetsYes }
+{}
+
+/// Where they can, and none is, the answer is 1.
+pub fn a_bad_buffer_gets_a_no()
+    ensures { BadGetsNo }
+{}
+
+/// Where they can, and it has more bytes, the answer is 7.
+pub fn a_long_buffer_gets_its_number()
+    ensures { LongGetsItsNumber }
+{}
+
+/// The bytes that are told of a float, a string and a struct are its value; what has no bytes is told none.
+pub fn a_value_stands_where_told()
+    ensures { ValuesStand }
+{}
+
+/// The status and the number that are told of an answer have the code and name of its own fault, and of no other.
+pub fn a_fault_has_its_name()
+    ensures { FaultsHaveTheirNames }
+{}
+
+/// Each answer is told by a status that says something in words.
+pub fn a_status_has_words()
+    ensures { StatusesHaveWords }
+{}

@@ -1,0 +1,33 @@
+//! The calls of the library for C: what each does with a schema, options and a buffer, and what it tells in numbers.
+//! `fbcheck_c` exports them.
+#![tactic(auto)]
+
+mod answer;
+mod checking;
+mod detached;
+pub mod examples;
+mod fits;
+mod framer;
+mod handle;
+mod held;
+pub mod laws;
+mod names;
+mod options;
+mod place;
+mod shared;
+mod spans;
+mod steps;
+mod values;
+
+pub use answer::{Answer, Verdict};
+pub use checking::{check, check_alone, price, read, resolve};
+pub use framer::Framer;
+pub use handle::Handle;
+pub use held::{Held, Room};
+pub use names::{fault_told, field_told, object_told, reason_told, status_told, table_of};
+pub use options::Options;
+pub use place::locate;
+pub use shared::Shared;
+pub use spans::{Span, all_good, check_each};
+pub use steps::{PlainPath, PlainStep};
+pub use values::Value;

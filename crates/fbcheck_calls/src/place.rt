@@ -1,0 +1,178 @@
+//! The place of a fault in words.
+
+ghost use Rattle.std.specs.Prelude.{◌≡◌, ◌≤◌, length};
+ghost use Rattle.fb_access.specs.Location.{location_text};
+ghost use Rattle.fbcheck_calls.specs.Answered.{levels};
+ghost use Rattle.fbcheck_calls.specs.Placed.{IsLocated, IsLocatedBy, IsTextTold, cut_to};
+ghost use Rattle.fbcheck_calls.specs.Told.{told};
+ghost use Rattle.fbcheck_calls.specs.declared.answer.Answer.{Answer};
+
+use crate::answer::{Verdict, tell_bad, tell_blank, tell_good};
+use crate::checking::{SHALLOW, prepare, tell_unserved};
+use crate::handle::Handle;
+use crate::held::{Held, NO_LINK, Room};
+use crate::options::Options;
+use fb_access::{LocationText, write_location};
+use fb_bfbs::Loaded;
+use fb_bytes::Meter;
+use fb_schema::Schema;
+use fb_verify::{Fault, Link, Scratch, verify_and_locate, verify_and_locate_shallow};
+use std::alloc::Global;
+
+/// Copies as much of a text as there is room for, and tells its whole length.
+fn cut_into(text: &[u8], room: &mut [u8]) -> usize
+    ensures length { result ≡ length text.now }
+    ensures room { room.new ≡ cut_to text.now room.old }
+{
+    let n = text.len().min(room.len());
+    room[..n].copy_from_slice(&text[..n]);
+    text.len()
+}
+
+/// Writes where a fault is, to which these links lead, as much of it as there is room for. How long the whole is. It
+/// stands apart, so that a good buffer pays nothing for the text.
+#[inline(never)]
+fn write_place(schema: &Schema<'_>, fault: &Fault, links: &[Link], text: &mut [u8]) -> usize
+    ensures { IsTextTold (location_text schema.now fault.now links.now) text.old text.new result }
+{
+    let mut place = LocationText::new();
+    write_location(&mut place, schema, fault, links);
+    cut_into(place.as_slice(), text)
+}
+
+/// Checks a buffer as the options ask, in room on the call's own stack, and writes where the fault of a bad one is.
+/// Writes the verdict too, and answers its status.
+fn locate_shallow(
+    loaded: &Loaded<'static>,
+    verdict: &mut Verdict,
+    options: &Options,
+    buffer: &[u8],
+    text: &mut [u8],
+    written: &mut usize,
+) -> u32
+    ensures told { (a : Answer) × (verdict.new ≡ told a) × IsLocated loaded.now 64 options.now buffer.now text.old text.new written.old written.new a }
+    ensures status { result ≡ verdict.new.status }
+{
+    let Some(begun) = prepare(loaded, SHALLOW, options, buffer.len() as u64) else {
+        return tell_unserved(loaded, SHALLOW, options, verdict);
+    };
+    let Ok(meter) = Meter::new(buffer) else {
+        return tell_blank(7, verdict);
+    };
+    let mut links = [NO_LINK; 64];
+    match verify_and_locate_shallow(
+        meter,
+        &loaded.schema,
+        begun.root,
+        options.start(),
+        begun.ident,
+        begun.limits,
+        options.checks(),
+        &mut links,
+    ) {
+        Ok(verified) => tell_good(verified.report(), verdict),
+        Err(located) => {
+            let way = &links[..located.links as usize];
+            *written = write_place(&loaded.schema, &located.fault, way, text);
+            tell_bad(located.fault, verdict)
+        }
+    }
+}
+
+/// The same in this room for so many levels.
+fn locate_within(
+    loaded: &Loaded<'static>,
+    levels: u32,
+    scratch: &mut Scratch,
+    links: &mut [Link],
+    verdict: &mut Verdict,
+    options: &Options,
+    buffer: &[u8],
+    text: &mut [u8],
+    written: &mut usize,
+) -> u32
+    requires tables { levels ≤ scratch.old }
+    requires links { levels ≤ length links.old }
+    ensures told { (a : Answer) × (verdict.new ≡ told a) × IsLocated loaded.now levels options.now buffer.now text.old text.new written.old written.new a }
+    ensures status { result ≡ verdict.new.status }
+    ensures kept { scratch.new ≡ scratch.old }
+{
+    let Some(begun) = prepare(loaded, levels, options, buffer.len() as u64) else {
+        return tell_unserved(loaded, levels, options, verdict);
+    };
+    let Ok(meter) = Meter::new(buffer) else {
+        return tell_blank(7, verdict);
+    };
+    match verify_and_locate(
+        meter,
+        &loaded.schema,
+        begun.root,
+        options.start(),
+        begun.ident,
+        begun.limits,
+        options.checks(),
+        scratch,
+        links,
+    ) {
+        Ok(verified) => tell_good(verified.report(), verdict),
+        Err(located) => {
+            let way = &links[..located.links as usize];
+            *written = write_place(&loaded.schema, &located.fault, way, text);
+            tell_bad(located.fault, verdict)
+        }
+    }
+}
+
+/// The same in the room that is given.
+fn locate_in(
+    loaded: &Loaded<'static>,
+    room: &mut Room,
+    verdict: &mut Verdict,
+    options: &Options,
+    buffer: &[u8],
+    text: &mut [u8],
+    written: &mut usize,
+) -> u32
+    ensures told { (a : Answer) × (verdict.new ≡ told a) × IsLocated loaded.now room.old options.now buffer.now text.old text.new written.old written.new a }
+    ensures status { result ≡ verdict.new.status }
+    ensures kept { room.new ≡ room.old }
+{
+    let levels = room.levels();
+    let links = room.links.as_mut_slice();
+    let scratch = &mut room.scratch;
+    locate_within(
+        loaded, levels, scratch, links, verdict, options, buffer, text, written,
+    )
+}
+
+/// Checks a buffer by a schema as [`check`](crate::checking::check) does, and writes where the fault of a bad one is,
+/// as much of it as there is room for. How long the whole is, 0 with any other answer than `Bad`.
+pub fn locate(
+    alloc: Global,
+    held: &Held,
+    handle: &mut Handle,
+    verdict: &mut Verdict,
+    options: &Options,
+    buffer: &[u8],
+    text: &mut [u8],
+    written: &mut usize,
+) -> u32
+    ensures told { (a : Answer) × (verdict.new ≡ told a) × IsLocatedBy held.now (levels handle.old.inside) options.now buffer.now text.old text.new written.new a }
+    ensures status { result ≡ verdict.new.status }
+    ensures kept { handle.new.inside ≡ handle.old.inside }
+{
+    *written = 0;
+    let Held::Schema(loaded) = held else {
+        return tell_blank(6, verdict);
+    };
+    let Some(mut taken) = handle.take(alloc) else {
+        return locate_shallow(loaded, verdict, options, buffer, text, written);
+    };
+    let inside = &mut *taken;
+    let status = match inside {
+        Held::Room(room) => locate_in(loaded, room, verdict, options, buffer, text, written),
+        Held::Schema(_) => locate_shallow(loaded, verdict, options, buffer, text, written),
+    };
+    handle.put(taken);
+    status
+}

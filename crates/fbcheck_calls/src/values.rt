@@ -1,0 +1,120 @@
+//! The value at the end of a path, for C.
+
+ghost use Rattle.std.specs.Prelude.{◌≡◌, IfNone, IfSome};
+ghost use Rattle.fb_access.specs.Denotes.{shown};
+ghost use Rattle.fb_access.specs.declared.spot.Spot.{Spot};
+ghost use Rattle.fbcheck_calls.specs.Steps.{AllFit, DontFit, EndAt};
+ghost use Rattle.fbcheck_calls.specs.Values.{AreValues, numbered, placed, plain, value_at, value_told};
+
+use crate::steps::{PlainPath, PlainStep};
+use fb_access::{Answer as Found, Extent, at_root};
+use fb_verify::Verified;
+
+/// What is told of a value (`fbcheck_value`). What isn't told is 0.
+#[repr(C)]
+#[derive(Clone, Copy, Default)]
+pub struct Value {
+    /// What it is, by its number: 0 absent, 1 no such element, 2 another member, 3 a Bool, 4 a Byte, Short, Int or
+    /// Long, 5 one of these without a sign, 6 a Float or Double, 7 a string, 8 a struct, 9 a vector, 10 a table, 11 a
+    /// union.
+    pub kind: u32,
+    /// 0.
+    pub reserved: u32,
+    /// Of a Bool 0 or 1, of a number without a sign that number, of a vector its count, of a union its type.
+    pub number: u64,
+    /// Of a Byte, Short, Int or Long, the number.
+    pub integer: i64,
+    /// Of a float, a string, a struct and a vector of scalars or structs, the place of its first byte in the buffer.
+    pub at: u64,
+    /// Of these, how many bytes it has.
+    pub size: u64,
+}
+
+/// A value of this kind, of which no more is told.
+fn plain(kind: u32) -> Value
+    ensures { result ≡ plain kind }
+{
+    Value {
+        kind,
+        ..Value::default()
+    }
+}
+
+/// A value of this kind with a number.
+fn numbered(kind: u32, number: u64) -> Value
+    ensures { result ≡ numbered kind number }
+{
+    Value {
+        number,
+        ..plain(kind)
+    }
+}
+
+/// What is told of a value without where it stands.
+fn told_value(found: Found<'_>) -> Value
+    ensures { result ≡ value_told (shown found.entry) }
+{
+    match found {
+        Found::Absent => plain(0),
+        Found::NoElement => plain(1),
+        Found::OtherMember => plain(2),
+        Found::Bool(value) => numbered(3, u64::from(value)),
+        Found::Int(integer) => Value {
+            integer,
+            ..plain(4)
+        },
+        Found::UInt(number) => numbered(5, number),
+        Found::Float(_) => plain(6),
+        Found::Text(_) => plain(7),
+        Found::Struct(_) => plain(8),
+        Found::Vector(count) => numbered(9, u64::from(count)),
+        Found::Table => plain(10),
+        Found::Union(value) => numbered(11, u64::from(value)),
+    }
+}
+
+/// A value with where its bytes stand, where it has any.
+fn placed(value: Value, extent: Option<Extent>) -> Value
+    ensures { result ≡ placed value extent }
+{
+    match extent {
+        Some(Extent { at, size }) => Value { at, size, ..value },
+        None => value,
+    }
+}
+
+/// What stands at the end of these steps from the root table, none where they don't fit.
+fn found_at(verified: &Verified<'_, '_, '_>, steps: &[PlainStep]) -> Option<Value>
+    ensures found { IfSome result (λ v. (q : Spot) × EndAt (verified.now).bytes (verified.now).schema (verified.now).start (verified.now).root steps.now q × (v ≡ value_at (verified.now).bytes (verified.now).schema q)) }
+    ensures misfit { IfNone result (DontFit (verified.now).schema (verified.now).root steps.now) }
+{
+    let mut place = at_root(verified);
+    for given in steps {
+        let Some(step) = given.step() else {
+            return None;
+        };
+        if !place.allows(step) {
+            return None;
+        }
+        place = place.go(step);
+    }
+    Some(placed(told_value(place.answer()), place.extent()))
+}
+
+/// Tells the values at the ends of paths that fit, each at the place of its path. Where there are more of paths or of
+/// values than of the others, these are left alone.
+pub fn tell_values(verified: &Verified<'_, '_, '_>, paths: &[PlainPath], values: &mut [Value])
+    requires { AllFit (verified.now).schema (verified.now).root paths.now }
+    ensures { AreValues (verified.now).bytes (verified.now).schema (verified.now).start (verified.now).root paths.now values.new }
+{
+    let count = paths.len().min(values.len());
+    for place in 0..count {
+        let Some(steps) = paths[place].steps() else {
+            unreachable!()
+        };
+        let Some(value) = found_at(verified, steps) else {
+            unreachable!()
+        };
+        values[place] = value;
+    }
+}
