@@ -18,7 +18,7 @@ class Bent(Case):
                 self.holds(f"{bend.text}: {change.old.strip()}", texts[change.file] not in ("", text), change.file)
 
     def test_tests_are_there(self):
+        files = (TOP / "crates" / BENT.TESTS / "src").rglob("*.rt")
+        tests = set(re.findall(r"#\[test\]\s+fn (\w+)", "\n".join(file.read_text() for file in files)))
         for bend in BENT.BENDS:
-            files = (TOP / "crates" / bend.tests / "src").rglob("*.rt")
-            tests = set(re.findall(r"#\[test\]\s+fn (\w+)", "\n".join(file.read_text() for file in files)))
             self.same(bend.text, [name for name in bend.caught_by if name not in tests], [])

@@ -1,4 +1,4 @@
-"""The numbers by which tests in crates/fb_verify_tests know the naive checker's answers to damaged buffers.
+"""The numbers by which tests in crates/library_tests know the naive checker's answers to damaged buffers.
 
 Each stands for all answers of one sweep: of the cut off forms of a buffer within many limits, and of those with one
 byte changed to each other value. Of each good buffer the tree is built whole first, and counted afterwards.
@@ -14,7 +14,7 @@ from tests.support.program import TOP
 from tests.support.swept import SCHEMAS, SWEPT
 from tests.support.tree import Builder
 
-FIXTURES = TOP / "crates/fb_verify_tests/src/tests/sweep/fixtures.rt"
+FIXTURES = TOP / "crates/library_tests/src/tests/verify/sweep/fixtures.rt"
 PRIME, MASK = 0x100000001B3, 2**64 - 1
 
 # The swept buffers by their names there, which are those of the samples in case_text.

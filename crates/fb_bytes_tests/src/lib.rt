@@ -1,6 +1,0 @@
-//! Tests of `fb_bytes`: reads, counted readers and writers, and messages out of pieces. Tests of a library stand in a
-//! crate of their own, since a check of tests proves all of the crate that they stand in once more.
-#![tactic(auto)]
-
-#[cfg(test)]
-mod tests;

@@ -1,2 +1,0 @@
-mod framer;
-mod reads_and_ends;

@@ -1,0 +1,2 @@
+pub mod framer;
+mod reads_and_ends;

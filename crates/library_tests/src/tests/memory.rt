@@ -1,0 +1,4 @@
+mod build;
+mod framer;
+mod paths;
+mod walks;

@@ -1,5 +1,0 @@
-mod build;
-mod framer;
-mod paths;
-mod schemas;
-mod walks;
