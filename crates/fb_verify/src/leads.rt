@@ -363,7 +363,7 @@ impl<'s, 'n> Walk<'s, 'n> {
             return Turn::Up;
         }
         top.number = field.number;
-        self.pass_row_by(checks, reads, waiting, top, child)
+        self.pass_row(reads, waiting, top, child)
     }
 
     /// The same, whatever the checks are.

@@ -463,23 +463,23 @@ fn pass_field(
     past(test_inline_field(reads, checks, table, *at, size, align))
 }
 
-/// What a scalar or struct at a position comes to that fails a test if it stands there: without a distance from its
-/// table it is absent, and passed.
+/// Why a scalar or struct is refused of which a test failed at this position: it isn't in the buffer, or is misaligned.
+/// At no distance from its table it is absent, and isn't refused.
 #[cold]
 #[inline(never)]
-fn small_failure(length: u64, place: u64, size: u32, distance: u64) -> Came
+fn small_failure(length: u64, place: u64, size: u32, distance: u64) -> Option<Reason>
     requires near { place < 2 ^ 34 }
-    ensures absent { distance ≡ 0 → result ≡ Past }
-    ensures outside { 0 < distance → length < place + size → result ≡ ToFault OutOfBuffer }
-    ensures askew { 0 < distance → place + size ≤ length → result ≡ ToFault Misaligned }
+    ensures absent { distance ≡ 0 → result ≡ None }
+    ensures outside { 0 < distance → length < place + size → result ≡ Some OutOfBuffer }
+    ensures askew { 0 < distance → place + size ≤ length → result ≡ Some Misaligned }
 {
     if distance == 0 {
-        return Came::Past;
+        return None;
     }
     if place + u64::from(size) > length {
-        return Came::ToFault(Reason::OutOfBuffer);
+        return Some(Reason::OutOfBuffer);
     }
-    Came::ToFault(Reason::Misaligned)
+    Some(Reason::Misaligned)
 }
 
 /// Whether the field of a step is a scalar or struct of one, two, four or eight bytes that may be absent, and it isn't
@@ -514,7 +514,7 @@ fn pass_small(
 {
     let is_held = is_inside(reads, place, u64::from(size));
     if !is_held || checks.alignment && !is_multiple_of_small(place, size) {
-        return small_failure(reads.len(), place, size, distance);
+        return past(small_failure(reads.len(), place, size, distance));
     }
     Came::Past
 }

@@ -267,7 +267,7 @@ impl<'s, 'n> Walk<'s, 'n> {
 
     /// Passes the words of the top's row until one leads to a table that is to be opened.
     #[inline(always)]
-    pub fn pass_row_by(
+    fn pass_row_by(
         &mut self,
         checks: Checks,
         reads: &mut Reads<'_>,

@@ -88,20 +88,18 @@ far_leads g c more =
     let yes = lt_true 0 c.put_row_by-failed.new.row.left more in
     (leads.entries yes, (leads.row yes).0)
 
-pub pass_row_by-requires : goal.pass_row_by-requires
-pass_row_by-requires g c =
-    let d = (goal.at.pass_row_by-requires g c).In_default in
+pub pass_row-requires : goal.pass_row-requires
+pass_row-requires g c =
+    let d = (goal.at.pass_row-requires g c).In_default in
     let more : 0 < c.put_row_by-failed.new.row.left = omega arith in
-    let leads = far_leads g d more in (
-      record {
-        many = (c.requires.0).many;
-        walking = rw c.put_row_by-failed.ensures.tested.bytes
-            (into_leads c.requires.0 (far_holds g d) c.put_row_by-failed.new.reads.count (far_paid g d) c.put_row_by-failed.new.row leads.1 leads.0);
-        more = more;
-        short = omega (arith, far_short g d, (c.requires.0).short);
-      },
-      c.requires.1.1,
-    )
+    let leads = far_leads g d more in
+    record {
+      many = (c.requires.0).many;
+      walking = rw c.put_row_by-failed.ensures.tested.bytes
+          (into_leads c.requires.0 (far_holds g d) c.put_row_by-failed.new.reads.count (far_paid g d) c.put_row_by-failed.new.row leads.1 leads.0);
+      more = more;
+      short = omega (arith, far_short g d, (c.requires.0).short);
+    }
 
 pub returns : goal.returns
 returns g c =
@@ -109,9 +107,9 @@ returns g c =
     let w = c.args.self.now in
     let m = c.args.reads.now in
     let mid = c.put_row_by-failed.new.reads in
-    let new = c.pass_row_by.new in
+    let new = c.pass_row.new in
     let more : 0 < c.put_row_by-failed.new.row.left = omega arith in
     let leads = far_leads g d more in
     into_turned w new.self m mid new.reads g.under c.args.top.now _ new.top new.child refl refl
     (into_work c.requires.0 (far_holds g d) mid.count (far_paid g d) c.put_row_by-failed.new.row leads.1)
-    (omega (arith, far_paid g d)) c.put_row_by-failed.ensures.tested.bytes c.pass_row_by.result c.pass_row_by.ensures
+    (omega (arith, far_paid g d)) c.put_row_by-failed.ensures.tested.bytes c.pass_row.result c.pass_row.ensures
