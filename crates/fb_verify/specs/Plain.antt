@@ -140,7 +140,7 @@ pub record StepLeads (m new : Lent) (t : ℕ) (s : Step) (at : ℕ) : Type 0 whe
   pub near : at < 2 ^ 34
   pub counted : new ≡ record m { count = m.count + slot_reads m.bytes t s.slot }
 
--- a chain of tests at a position, after so many reads, tells what passing a field came to
+-- passing a field came to what a chain of tests at a position tells, after so many reads
 abbrev pub IsCame : (at reads : ℕ) → Option Failure → Came → Type 0
 IsCame at reads chain Past = tested_by at reads None ≡ after reads chain
 IsCame at reads chain ToEnd = ⊥

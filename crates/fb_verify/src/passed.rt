@@ -22,7 +22,7 @@ pub enum Sizes {
 pub struct Passed {
     /// The sizes of the fields of all tables of the row.
     pub sizes: Sizes,
-    /// Where the table stands, or 0.
+    /// Where the table stands.
     pub at: u64,
     /// Where its vtable stands.
     pub vtable: u64,

@@ -482,8 +482,8 @@ fn small_failure(length: u64, place: u64, size: u32, distance: u64) -> Option<Re
     Some(Reason::Misaligned)
 }
 
-/// Whether the field of a step is a scalar or struct of one, two, four or eight bytes that may be absent, and it isn't
-/// checked that it ends within the inline size of its table.
+/// Whether a step's field is a scalar or struct of one, two, four or eight bytes that may be absent, and its end isn't
+/// checked against its table's inline size.
 #[inline(always)]
 fn is_free_small(checks: Checks, step: &Step) -> bool
     ensures small { result ≡ true → bit_and (step.now).bit 15 ≡ 0 → ⊥ }
@@ -494,8 +494,8 @@ fn is_free_small(checks: Checks, step: &Step) -> bool
 }
 
 /// Passes a scalar or struct of one, two, four or eight bytes, aligned to as many, that stands at this distance from
-/// its table, or is absent. Where it is absent the tests are made all the same, of the table's own position, since no
-/// processor foretells a jump by whether a field is there; only where one fails it is asked.
+/// its table, or is absent. Where it is absent the tests are made all the same, of the table's own position, since
+/// processors can't predict a jump by whether a field is there; that is asked only where a test fails.
 #[inline(always)]
 #[tactic(auto, unfolding(crate::specs::Places::is_aligned, crate::specs::Order::inline_failure, crate::specs::Order::table_failure, crate::specs::Places::ends_in_table))]
 fn pass_small(

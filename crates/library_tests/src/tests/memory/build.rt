@@ -28,7 +28,7 @@ fn built(
     Ok((count, heap.asked()))
 }
 
-/// Asserts that this request, where it is refused, is told and is the last one.
+/// Asserts that this request is told as out of memory where it is refused, and that none comes after it.
 fn is_refused(rt: &impl Abort, alloc: Global, turn: u64) -> Result<(), Fail> {
     let refused = SchemaFault {
         code: Code::OutOfMemory,

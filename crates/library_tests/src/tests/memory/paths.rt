@@ -32,7 +32,7 @@ fn resolved(
     (path.map(|path| path.steps().len()), heap.asked())
 }
 
-/// Asserts that this request, where it is refused, is told as P7 and is the last one.
+/// Asserts that this request is told as P7 where it is refused, and that none comes after it.
 fn is_refused(rt: &impl Abort, alloc: Global, asked: Asked<'_, '_>, turn: u64) {
     let want = (Err(PathFault::OutOfMemory), turn.saturating_add(1));
     for plan in Plan::refusing(turn) {

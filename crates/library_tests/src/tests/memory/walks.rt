@@ -95,7 +95,7 @@ fn made(alloc: Global, depth: u32, plan: Plan) -> (Result<u32, ScratchFault>, u6
     (scratch.map(|scratch| scratch.depth()), heap.asked())
 }
 
-/// Asserts that this request for a scratch, where it is refused, is told and is the last one.
+/// Asserts that this request for a scratch is told as out of memory where it is refused, and that none comes after it.
 fn is_refused(rt: &impl Abort, alloc: Global, depth: u32, turn: u64) {
     let want = (Err(ScratchFault::OutOfMemory), turn.saturating_add(1));
     for plan in Plan::refusing(turn) {

@@ -12,7 +12,7 @@ use std::process::Abort;
 use std::test::Fail;
 
 /// The number of the table `R` in `UNIONS`.
-const ONE: u32 = 2;
+const R: u32 = 2;
 
 #[test]
 fn a_scratch_has_up_to_4096_levels(rt: HostRuntime) {
@@ -67,7 +67,7 @@ fn is_told(rt: &impl Abort, alloc: Global, schema: &Schema<'_>, bytes: &[u8]) {
         alignment: true,
         inline_size: true,
     };
-    let verified = verified(rt, alloc, bytes, schema, ONE, Start::Prefixed, checks);
+    let verified = verified(rt, alloc, bytes, schema, R, Start::Prefixed, checks);
     let report = Report {
         tables: 2,
         depth: 2,
@@ -76,7 +76,7 @@ fn is_told(rt: &impl Abort, alloc: Global, schema: &Schema<'_>, bytes: &[u8]) {
     same(rt, verified.report(), report);
     same(rt, verified.window().len(), 44);
     same(rt, verified.schema().object_count(), 4);
-    same(rt, verified.root(), ONE);
+    same(rt, verified.root(), R);
     same(rt, verified.start(), Start::Prefixed);
     same(rt, verified.checks(), checks);
 }
@@ -125,6 +125,6 @@ fn a_scratch_serves_another_schema_after_a_fault(rt: HostRuntime) -> Result<(), 
     let alloc = rt.alloc();
     let mut scratch = Scratch::new(alloc, 1)?;
     let too_deep = Some(Reason::TooDeep);
-    is_refused(&rt, alloc, UNIONS, ONE, "PICKED", too_deep, &mut scratch)?;
+    is_refused(&rt, alloc, UNIONS, R, "PICKED", too_deep, &mut scratch)?;
     is_refused(&rt, alloc, MONSTERS, 0, "ORC", None, &mut scratch)
 }

@@ -1,5 +1,5 @@
-//! What `walk` and `verify` answer, in few words. The owners of schemas, buffers and rooms are few in each function, and
-//! so are the ways out: what a function owns times these is what its proof costs.
+//! What `walk` and `verify` answer, in few words. The owners of schemas, buffers and rooms are few in each function,
+//! and so are the ways out: what a function owns times these is what its proof costs.
 
 use fb_bytes::Meter;
 use fb_schema::Schema;

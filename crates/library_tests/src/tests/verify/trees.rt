@@ -1,5 +1,4 @@
-//! Many visits of few tables. Many levels are visited where no walk may take memory
-//! (`memory`).
+//! Many visits of few tables. Many levels are visited in `memory::walks`, where no walk may take memory.
 
 use super::question::{answer, counted, limits, refused};
 use crate::tests::compare::same;
