@@ -117,8 +117,7 @@ fn is_multiple_of_other(at: u64, align: u32) -> bool
     at % u64::from(align) == 0
 }
 
-/// Whether a position is a multiple of its alignment. The usual alignments need no division, no call at run time, and
-/// no jump by which of them it is.
+/// Whether a position is a multiple of its alignment. The usual alignments need no division and no call at run time.
 fn is_multiple(at: u64, align: u32) -> bool
     requires { 0 < align }
     ensures { result ≡ (at % align == 0) }
