@@ -39,6 +39,7 @@ pub mod Stepping
 pub mod Passing
 pub mod BySteps
 pub mod Alike
+pub mod Alignments
 pub mod LeafRows
 pub mod Members
 pub mod Flats

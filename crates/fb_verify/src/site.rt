@@ -1,6 +1,6 @@
 // Why a test refuses a buffer, and where a walk stops.
 
-ghost use Rattle.std.specs.Prelude.{◌≡◌, ◌<◌, ◌%◌, ◌==◌};
+ghost use Rattle.std.specs.Prelude.{◌≡◌, ◌<◌, ◌%◌, ◌==◌, true};
 ghost use Rattle.fb_verify.specs.Places.{is_aligned};
 ghost use Rattle.fb_verify.specs.Plain.{IsSmall};
 ghost use Rattle.fb_verify.specs.Told.{stopped};
@@ -117,12 +117,22 @@ fn is_multiple_of_other(at: u64, align: u32) -> bool
     at % u64::from(align) == 0
 }
 
+/// Whether an alignment is one, two, four or eight: a power of two. One jump tells, whichever it is.
+#[inline(always)]
+#[tactic(auto, using(crate::proofs::Alignments::usual))]
+fn is_usual(align: u32) -> bool
+    requires { 0 < align }
+    ensures { result ≡ true → IsSmall align }
+{
+    align <= 8 && align & (align - 1) == 0
+}
+
 /// Whether a position is a multiple of its alignment. The usual alignments need no division and no call at run time.
 fn is_multiple(at: u64, align: u32) -> bool
     requires { 0 < align }
     ensures { result ≡ (at % align == 0) }
 {
-    if matches!(align, 1 | 2 | 4 | 8) {
+    if is_usual(align) {
         return is_multiple_of_small(at, align);
     }
     is_multiple_of_other(at, align)

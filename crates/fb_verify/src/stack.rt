@@ -704,7 +704,13 @@ impl<'s, 'n> Walk<'s, 'n> {
             Err(stop) => return Err(stop.halt(0, LastLink::Behind)),
         };
         if self.schema.is_plain(root.object) {
-            match self.pass_root(loan, table) {
+            // A table of its own, so that the other one needs no place in memory.
+            let plain = Table {
+                head: table.head,
+                object: table.object,
+                at: table.at,
+            };
+            match self.pass_root(loan, plain) {
                 Turn::Up => return Ok(()),
                 Turn::Halt => return Err(self.halt),
                 _ => {}
