@@ -1,5 +1,6 @@
 -- A field of a table leads to a spot where what is to hold holds.
-use Rattle.std.proofs.Common.{◌≡◌, ℕ, zero, suc, ◌+◌, ◌≤◌, ◌<◌, ℤ, List, [], ◌∷◌, length, refl, arith, Option, Some, None, Bool, true, false}
+use Rattle.std.proofs.Common.{◌≡◌, ℕ, zero, suc, ◌+◌, ◌≤◌, ◌<◌, ℤ, List, [], ◌∷◌, length, refl, subst, arith, Option, Some, None, Bool, true, false}
+use Rattle.std.proofs.lemmas.Nat.{pow_pos}
 use Rattle.std.specs.Prelude.{slice_get, IfSome}
 use Rattle.fb_bytes.specs.Word.{word}
 use Rattle.fb_schema.specs.declared.kinds.Scalar.{Scalar}
@@ -10,7 +11,7 @@ use Rattle.fb_schema.specs.Rows.{Rows, Object}
 use Rattle.fb_schema.specs.Kinds.{kind_size, kind_align, align_in}
 use Rattle.fb_schema.specs.Live.{Live}
 use Rattle.fb_schema.specs.Members.{member_of}
-use Rattle.fb_schema.specs.Served.{IsServed, KindHolds}
+use Rattle.fb_schema.specs.Served.{IsAlignment, IsServed, KindHolds}
 use Rattle.fb_verify.specs.declared.checks.Checks.{Checks}
 use Rattle.fb_verify.specs.Places.{target, field_place}
 use Rattle.fb_verify.specs.Fields.{IsPresent, IsPresentOrAbsent, IsField, entries, entries_of, entries_at, union_entry, union_type, type_count, types_begin, type_place, to_table, to_string, lead_of}
@@ -24,9 +25,9 @@ use Rattle.fb_access.proofs.Leading.{row_led, union_row_led, one_led, led_to_tab
 use Rattle.fb_access.proofs.TableFields.{HoldsField, field_holds}
 
 -- what has an alignment is there
-object_there : (os : List Object) (k : ℕ) → 0 < align_in (slice_get os k) → k < length os
-object_there [] zero h = absurd (omega arith)
-object_there [] (suc k) h = absurd (omega arith)
+object_there : (os : List Object) (k : ℕ) → IsAlignment (align_in (slice_get os k)) → k < length os
+object_there [] zero h = absurd (omega (arith, pow_pos h.0, h.1))
+object_there [] (suc k) h = absurd (omega (arith, pow_pos h.0, h.1))
 object_there (o ∷ os) zero h = omega arith
 object_there (o ∷ os) (suc k) h = let r = object_there os k h in omega arith
 
@@ -45,12 +46,12 @@ module _ (c : Checks) (b : List ℕ) (S : Rows) (t : ℕ) (f : Live) (p : ℕ) w
   unfolding IsSpot present_spot
   present_holds ys (AScalar s) h u k size align typed = omega (arith, h.value.within, size)
   present_holds ys Text h u k size align typed = (led_to_string b S p (one_led c b S ys to_string p 0 u)).1
-  present_holds ys (Struct o) h u k size align typed = record { object = object_there S.objects o (omega (arith, k, align)); within = omega (arith, h.value.within, size) }
+  present_holds ys (Struct o) h u k size align typed = record { object = object_there S.objects o (subst IsAlignment align k); within = omega (arith, h.value.within, size) }
   present_holds ys (Table o) h u k size align typed = (led_to_table b S p o k (one_led c b S ys (to_table o) p 0 u)).1
   present_holds ys (Union e) h u k size align typed = record { union = k; led = union_led ys (member_of S e (union_type b (type_place b t f.slot))) u }
   present_holds ys (Scalars s) h u k size align typed = record { count = h.vector.count; within = rw size at h.vector.within }
   present_holds ys Texts h u k size align typed = record { counted = record { count = h.vector.count; within = h.vector.within }; led = row_led c b S ys to_string (target b p + 4) (word b (target b p) 4) u }
-  present_holds ys (Structs o) h u k size align typed = record { object = object_there S.objects o (omega (arith, k, align)); counted = record { count = h.vector.count; within = rw size at h.vector.within } }
+  present_holds ys (Structs o) h u k size align typed = record { object = object_there S.objects o (subst IsAlignment align k); counted = record { count = h.vector.count; within = rw size at h.vector.within } }
   present_holds ys (Tables o) h u k size align typed = record { object = k; counted = record { count = h.vector.count; within = h.vector.within }; led = row_led c b S ys (to_table o) (target b p + 4) (word b (target b p) 4) u }
   present_holds ys (Unions e) h u k size align typed = record {
     union = k;

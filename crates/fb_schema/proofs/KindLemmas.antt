@@ -1,5 +1,7 @@
 -- What the kinds of legal rows name.
-use Rattle.std.proofs.Common.{◌≡◌, ℕ, zero, suc, ◌<◌, ℤ, pos, negsuc, Bool, true, false, not, ◌&&◌, ◌||◌, int_lt, length, slice_get, Option, Some, None, IsTrue, refl, sym, ◌∙◌, ap, subst, arith, find, unsigned_abs, option_map, if◌then◌else◌}
+use Rattle.std.proofs.Common.{◌≡◌, ℕ, ◌^◌, ◌<◌, ◌==◌, ℤ, pos, negsuc, Bool, true, false, not, ◌&&◌, ◌||◌, int_lt, List, [], ◌∷◌, map, length, slice_get, Option, Some, None, IsTrue, refl, sym, ◌∙◌, ap, subst, find, unsigned_abs, option_map, if◌then◌else◌}
+use Rattle.std.proofs.lemmas.Bool.Decides.{Decides-eqb}
+use Rattle.std.specs.List.{list_any}
 use Rattle.std.specs.Option.{option_and_then}
 use Rattle.std.specs.Ordering.{int_eq}
 use Rattle.fb_schema.specs.declared.kinds.Kind.{Kind}
@@ -14,7 +16,7 @@ use Rattle.fb_schema.specs.Kinds.{kind_of, shape_of, shape_kind, object_kind, un
 use Rattle.fb_schema.specs.Vectors.{vector_of}
 use Rattle.fb_schema.specs.Members.{member_of, members_of}
 use Rattle.fb_schema.specs.Rows.{Rows, Object, Enum, Member, entry_at, is_table, is_union, is_some_table, is_some_union}
-use Rattle.fb_schema.specs.Served.{MemberHolds}
+use Rattle.fb_schema.specs.Served.{IsAlignment, MemberHolds}
 use Rattle.fb_schema.proofs.DemandLaws.{clear_line}
 use Rattle.fb_schema.proofs.LegalLemmas.{legal_clear}
 use Rattle.fb_schema.proofs.UnionLemmas.{read_within}
@@ -39,7 +41,7 @@ vector_kind rows index OfUnion = go index (entry_at rows.enums index) where
 
 -- a struct that is there, with an alignment
 abbrev pub IsStruct : Rows → ℕ → Type 0
-IsStruct rows k = (k < length rows.objects) × (0 < struct_align rows k)
+IsStruct rows k = (k < length rows.objects) × IsAlignment (struct_align rows k)
 
 -- the object that a kind names is there
 abbrev pub NamesObject : Rows → Kind → Type 0
@@ -55,9 +57,15 @@ NamesUnion rows (Union e) = IsTrue (is_union rows e)
 NamesUnion rows (Unions e) = IsTrue (is_union rows e)
 NamesUnion rows _ = Unit {0}
 
-aligned : (z : ℤ) → is_alignment z ≡ true → 0 < unsigned_abs z
-aligned (pos zero) h = absurd (let w : false ≡ true = h in cc)
-aligned (pos (suc n)) h = omega arith
+power_of : (n : ℕ) (ks : List ℕ) → list_any (λ a. n == a) (map (λ k. 2 ^ k) ks) ≡ true → IsAlignment n
+power_of n [] h = absurd (let w : false ≡ true = h in cc)
+power_of n (k ∷ ks) h = go (n == 2 ^ k) refl h (power_of n ks) where
+  go : (b : Bool) → (n == 2 ^ k) ≡ b → (b || list_any (λ a. n == a) (map (λ k. 2 ^ k) ks)) ≡ true → (list_any (λ a. n == a) (map (λ k. 2 ^ k) ks) ≡ true → IsAlignment n) → IsAlignment n
+  go true e h later = (k, (Decides-eqb n (2 ^ k)).0 e)
+  go false e h later = later h
+
+aligned : (z : ℤ) → is_alignment z ≡ true → IsAlignment (unsigned_abs z)
+aligned (pos n) h = power_of n (0 ∷ 1 ∷ 2 ∷ 3 ∷ 4 ∷ 5 ∷ 6 ∷ 7 ∷ 8 ∷ []) h
 aligned (negsuc n) h = absurd (let w : false ≡ true = h in cc)
 
 asked_of_struct : (a b c : Bool) → (a && (b || not c)) ≡ false → a ≡ true → c ≡ true
@@ -71,7 +79,7 @@ struct_there rows legal k o at struct =
     let named = stands_before same_object_name rows.objects k o in
     let clear : first_code (object_demands o named) ≡ None = sym (ap (λ x. first_code (demands_of_object rows k 0 x)) at) ∙ legal_clear rows legal 0 k 0 in
     let line = clear_line (object_demands o named) clear 1 _ refl in
-    (read_within rows.objects k o at, subst (λ x. 0 < align_in x) (sym at) (aligned o.minalign (asked_of_struct o.is_struct (int_lt o.bytesize (pos 1)) (is_alignment o.minalign) line struct)))
+    (read_within rows.objects k o at, subst (λ x. IsAlignment (align_in x)) (sym at) (aligned o.minalign (asked_of_struct o.is_struct (int_lt o.bytesize (pos 1)) (is_alignment o.minalign) line struct)))
 
 pub some_is : {X : Type 0} (x y : X) → Some x ≡ Some y → x ≡ y
 some_is x y e = let w : x ≡ y = cc in w

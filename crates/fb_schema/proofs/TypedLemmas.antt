@@ -14,7 +14,7 @@ use Rattle.fb_schema.specs.Demands.{IsLegal, table_field_demands, stands_before,
 use Rattle.fb_schema.specs.Kinds.{kind_of, shape_of, shape_kind, kind_size, kind_align, scalar_size}
 use Rattle.fb_schema.specs.Live.{Live, live_fields, live_rows, live_as, by_slot, is_live, widest, AreSpaced}
 use Rattle.fb_schema.specs.Rows.{Rows, Field, Object, entry_at, is_some_union}
-use Rattle.fb_schema.specs.Served.{KindHolds, HasTypeField, IsTyped, IsServed}
+use Rattle.fb_schema.specs.Served.{IsAlignment, KindHolds, HasTypeField, IsTyped, IsServed}
 use Rattle.fb_schema.proofs.DemandLaws.{clear_line}
 use Rattle.fb_schema.proofs.KindLemmas.{NamesObject, NamesUnion, names_object, union_of_shape, object_kind_is, union_kind_is, some_is, member_holds}
 use Rattle.fb_schema.proofs.Kinded.{listed, row_of, field_sized}
@@ -53,29 +53,29 @@ place_below fs r i j f g a b lt = elim (le_or_lt i j) [
 ]
 
 -- Kinds.
-scalar_above : (s : _) → 0 < scalar_size s
-scalar_above UType = omega arith
-scalar_above AsBool = omega arith
-scalar_above Byte = omega arith
-scalar_above UByte = omega arith
-scalar_above Short = omega arith
-scalar_above UShort = omega arith
-scalar_above Int = omega arith
-scalar_above UInt = omega arith
-scalar_above Long = omega arith
-scalar_above ULong = omega arith
-scalar_above Float = omega arith
-scalar_above Double = omega arith
+scalar_aligned : (s : _) → IsAlignment (scalar_size s)
+scalar_aligned UType = (0, refl)
+scalar_aligned AsBool = (0, refl)
+scalar_aligned Byte = (0, refl)
+scalar_aligned UByte = (0, refl)
+scalar_aligned Short = (1, refl)
+scalar_aligned UShort = (1, refl)
+scalar_aligned Int = (2, refl)
+scalar_aligned UInt = (2, refl)
+scalar_aligned Long = (3, refl)
+scalar_aligned ULong = (3, refl)
+scalar_aligned Float = (2, refl)
+scalar_aligned Double = (3, refl)
 
 kind_holds : (rows : Rows) (f : Live) (kind : Kind) → f.align ≡ kind_align rows kind → NamesObject rows kind → NamesUnion rows kind → KindHolds rows f kind
-kind_holds rows f (Scalar s) e h u = subst (λ n. 0 < n) (sym e) (scalar_above s)
+kind_holds rows f (Scalar s) e h u = subst IsAlignment (sym e) (scalar_aligned s)
 kind_holds rows f Text e h u = tt
-kind_holds rows f (Struct k) e h u = subst (λ n. 0 < n) (sym e) h.1
+kind_holds rows f (Struct k) e h u = subst IsAlignment (sym e) h.1
 kind_holds rows f (Table k) e h u = h
 kind_holds rows f (Union k) e h u = u
-kind_holds rows f (Scalars s) e h u = subst (λ n. 0 < n) (sym e) (scalar_above s)
+kind_holds rows f (Scalars s) e h u = subst IsAlignment (sym e) (scalar_aligned s)
 kind_holds rows f Texts e h u = tt
-kind_holds rows f (Structs k) e h u = subst (λ n. 0 < n) (sym e) h.1
+kind_holds rows f (Structs k) e h u = subst IsAlignment (sym e) h.1
 kind_holds rows f (Tables k) e h u = h
 kind_holds rows f (Unions k) e h u = u
 

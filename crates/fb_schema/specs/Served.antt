@@ -1,5 +1,5 @@
 -- What the rows of a schema give a reader of buffers.
-use Rattle.std.specs.Prelude.{◌*◌, ◌≡◌, ℕ, ◌+◌, ◌%◌, ◌<◌, ◌≤◌, List, length, slice_get, Option, Some, IsTrue}
+use Rattle.std.specs.Prelude.{◌*◌, ◌≡◌, ℕ, ◌+◌, ◌%◌, ◌^◌, ◌<◌, ◌≤◌, List, length, slice_get, Option, Some, IsTrue}
 use Rattle.fb_schema.specs.declared.kinds.Kind.{Kind}
 use Rattle.fb_schema.specs.declared.kinds.Kind.TheVariants.{Scalar, Text, Struct, Table, Union, Scalars, Texts, Structs, Tables, Unions}
 use Rattle.fb_schema.specs.declared.kinds.Scalar.TheVariants.{UType}
@@ -10,16 +10,20 @@ use Rattle.fb_schema.specs.Live.{Live, live_fields, live_rows, live_as}
 use Rattle.fb_schema.specs.Members.{member_of}
 use Rattle.fb_schema.specs.Parts.{PartFits, part_at}
 
+-- an alignment is a power of two
+abbrev pub IsAlignment : ℕ → Type 0
+IsAlignment n = (k : ℕ) × (n ≡ 2 ^ k)
+
 -- what a field's kind names is there, and what stands in place has an alignment
 abbrev pub KindHolds : Rows → Live → Kind → Type 0
-KindHolds rows f (Scalar s) = 0 < f.align
+KindHolds rows f (Scalar s) = IsAlignment f.align
 KindHolds rows f Text = Unit {0}
-KindHolds rows f (Struct k) = 0 < f.align
+KindHolds rows f (Struct k) = IsAlignment f.align
 KindHolds rows f (Table k) = IsTrue (is_table rows k)
 KindHolds rows f (Union e) = IsTrue (is_union rows e)
-KindHolds rows f (Scalars s) = 0 < f.align
+KindHolds rows f (Scalars s) = IsAlignment f.align
 KindHolds rows f Texts = Unit {0}
-KindHolds rows f (Structs k) = 0 < f.align
+KindHolds rows f (Structs k) = IsAlignment f.align
 KindHolds rows f (Tables k) = IsTrue (is_table rows k)
 KindHolds rows f (Unions e) = IsTrue (is_union rows e)
 
@@ -47,7 +51,7 @@ IsTyped fs i slot _ = Unit {0}
 -- what a member of a union names is there
 abbrev pub MemberHolds : Rows → Option Kind → Type 0
 MemberHolds rows (Some (Table k)) = IsTrue (is_table rows k)
-MemberHolds rows (Some (Struct k)) = (k < length rows.objects) × (0 < struct_align rows k)
+MemberHolds rows (Some (Struct k)) = (k < length rows.objects) × IsAlignment (struct_align rows k)
 MemberHolds rows _ = Unit {0}
 
 -- what a reader of buffers may look up by the rows

@@ -98,7 +98,7 @@ pub struct Step {
 }
 
 impl Step {
-    /// The bits of a scalar or struct of 1, 2, 4 or 8 bytes.
+    /// The bits of a scalar or struct of 1, 2, 4 or 8 bytes, aligned to as many.
     pub const SMALL: u32 = 15;
     /// The bit of a string.
     pub const TEXT: u32 = 16;
@@ -106,8 +106,8 @@ impl Step {
     pub const VECTOR: u32 = 32;
     /// Of a struct of another size or alignment.
     pub const INLINE: u32 = 64;
-    /// Of what may lead to a table.
+    /// Of what leads to tables, or to more than one string.
     pub const LEADS_ON: u32 = 128;
-    /// Beside it of what leads to one table.
+    /// Beside [`Step::LEADS_ON`], of what leads to one table.
     pub const TO_TABLE: u32 = 256;
 }

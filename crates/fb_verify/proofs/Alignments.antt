@@ -1,19 +1,21 @@
--- Alignments that are powers of two.
-use Rattle.std.proofs.Common.{◌≡◌, ℕ, zero, suc, ◌-◌, ◌<◌, ◌≤◌, inl, inr, true, false, nat_eq, bit_and, refl, arith}
+-- Alignments are powers of two.
+use Rattle.std.proofs.Common.{◌≡◌, ℕ, ◌-◌, ◌%◌, bit_and, inl, inr, refl}
+use Rattle.std.proofs.lemmas.Nat.{and_mask}
+use Rattle.fb_schema.specs.Served.{IsAlignment}
 use Rattle.fb_verify.specs.Plain.{IsSmall}
 
-other : (n : ℕ) → false ≡ true → IsSmall n
-other n e = absurd cc
+pub two : IsAlignment 2
+two = (1, refl)
 
--- A power of two up to 8 is one of four.
-pub usual : (n : ℕ) → 0 < n → n ≤ 8 → nat_eq (bit_and n (n - 1)) 0 ≡ true → IsSmall n
-usual zero some few power = absurd (omega (arith, some))
-usual (suc zero) some few power = inl refl
-usual (suc (suc zero)) some few power = inr (inl refl)
-usual (suc (suc (suc zero))) some few power = other 3 power
-usual (suc (suc (suc (suc zero)))) some few power = inr (inr (inl refl))
-usual (suc (suc (suc (suc (suc zero))))) some few power = other 5 power
-usual (suc (suc (suc (suc (suc (suc zero)))))) some few power = other 6 power
-usual (suc (suc (suc (suc (suc (suc (suc zero))))))) some few power = other 7 power
-usual (suc (suc (suc (suc (suc (suc (suc (suc zero)))))))) some few power = inr (inr (inr refl))
-usual (suc (suc (suc (suc (suc (suc (suc (suc (suc n))))))))) some few power = absurd (omega (arith, few))
+pub four : IsAlignment 4
+four = (2, refl)
+
+pub small : (n : ℕ) → IsSmall n → IsAlignment n
+small n (inl e) = (0, e)
+small n (inr (inl e)) = (1, e)
+small n (inr (inr (inl e))) = (2, e)
+small n (inr (inr (inr e))) = (3, e)
+
+-- The bits below it are what is left behind its multiples.
+pub low_bits : (at n : ℕ) → IsAlignment n → bit_and at (n - 1) ≡ at % n
+low_bits at n (k, e) = rw e (and_mask at k)

@@ -1,5 +1,5 @@
 -- Fields that lead to no table are passed by their steps.
-use Rattle.std.proofs.Common.{◌≡◌, ℕ, zero, suc, ◌+◌, ◌<◌, ◌≤◌, ◌==◌, ◌%◌, ◌&&◌, ◌⊎◌, inl, inr, Bool, true, false, List, [], ◌∷◌, map, refl, sym, ◌∙◌, ap, subst, arith, Option, Some, None, if◌then◌else◌}
+use Rattle.std.proofs.Common.{◌≡◌, ℕ, zero, suc, ◌+◌, ◌≤◌, ◌==◌, ◌%◌, ◌&&◌, ◌⊎◌, inl, inr, Bool, true, false, List, [], ◌∷◌, map, refl, sym, ◌∙◌, ap, subst, arith, Option, Some, None, if◌then◌else◌}
 use Rattle.std.specs.Prelude.{slice_get}
 use Rattle.std.proofs.lemmas.Bool.Decides.{Decides-eqb, nat_tests}
 use Rattle.fb_schema.specs.declared.kinds.Kind.{Kind}
@@ -9,7 +9,7 @@ use Rattle.fb_schema.specs.declared.views.Act.TheVariants.{One, Two, Four, Eight
 use Rattle.fb_schema.specs.declared.views.Step.{Step}
 use Rattle.fb_schema.specs.Rows.{Rows}
 use Rattle.fb_schema.specs.Live.{Live}
-use Rattle.fb_schema.specs.Served.{KindHolds}
+use Rattle.fb_schema.specs.Served.{IsAlignment, KindHolds}
 use Rattle.fb_schema.specs.Steps.{inline_act, act_of, bit_of, bits_of, size_of, is_plain_act, are_plain, step_of}
 use Rattle.fb_verify.specs.declared.checks.Checks.{Checks}
 use Rattle.fb_verify.specs.Places.{field_place}
@@ -71,7 +71,7 @@ module _ (c : Checks) (b : List ℕ) (t p : ℕ) (s : Step) where
 inline_free : (size align : ℕ) → step_reads (inline_act size align) ≡ 0
 inline_free size align = inline_acts (λ act. step_reads act ≡ 0) size align (λ _. refl) (λ _. refl) (λ _. refl) (λ _. refl) refl
 
-inline_is : (s : Step) (size align : ℕ) → 0 < s.align → IsStep s (inline_act size align)
+inline_is : (s : Step) (size align : ℕ) → IsAlignment s.align → IsStep s (inline_act size align)
 inline_is s size align h = inline_acts (IsStep s) size align (λ _. tt) (λ _. tt) (λ _. tt) (λ _. tt) h
 
 -- What is asked for its own alignment has one.

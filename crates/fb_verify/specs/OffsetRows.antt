@@ -11,7 +11,7 @@ use Rattle.fb_schema.specs.Rows.{Rows, is_table, is_union}
 use Rattle.fb_schema.specs.Members.{member_of}
 use Rattle.fb_schema.specs.Live.{Live}
 use Rattle.fb_schema.specs.Targets.{target_at, target_of}
-use Rattle.fb_schema.specs.Served.{IsServed, KindHolds}
+use Rattle.fb_schema.specs.Served.{IsAlignment, IsServed, KindHolds}
 use Rattle.fb_verify.specs.declared.checks.Checks.{Checks}
 use Rattle.fb_verify.specs.declared.table.Table.{Table}
 use Rattle.fb_verify.specs.declared.offset_row.Referent.{Referent}
@@ -41,7 +41,7 @@ lead_to_goal StructGoal t = to_struct t.size t.align
 -- it can be asked of the schema
 abbrev pub GoalHolds : Rows → Goal → Target → Type 0
 GoalHolds S TableGoal t = IsTrue (is_table S t.object)
-GoalHolds S StructGoal t = 0 < t.align
+GoalHolds S StructGoal t = IsAlignment t.align
 GoalHolds S _ t = Unit {0}
 
 -- n offset words from p on
@@ -97,12 +97,12 @@ AreOfUnion S (ByType e q) = IsTrue (is_union S e)
 abbrev pub IsReferent : Rows → Referent → Type 0
 IsReferent S AText = Unit {0}
 IsReferent S (ATable k) = IsTrue (is_table S k)
-IsReferent S (AStruct size align) = 0 < align
+IsReferent S (AStruct size align) = IsAlignment align
 IsReferent S Nothing = Unit {0}
 
 -- a struct has an alignment
 abbrev pub IsSized : Referent → Type 0
-IsSized (AStruct size align) = 0 < align
+IsSized (AStruct size align) = IsAlignment align
 IsSized _ = Unit {0}
 
 -- an offset word that leads to no table

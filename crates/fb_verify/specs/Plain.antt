@@ -5,6 +5,7 @@ use Rattle.fb_bytes.specs.Word.{Lent}
 use Rattle.fb_schema.specs.declared.views.Act.{Act}
 use Rattle.fb_schema.specs.declared.views.Act.TheVariants.{One, Two, Four, Eight, Inline, Text, Vector, Other}
 use Rattle.fb_schema.specs.declared.views.Step.{Step}
+use Rattle.fb_schema.specs.Served.{IsAlignment}
 use Rattle.fb_schema.specs.Steps.{bit_of}
 use Rattle.fb_verify.specs.declared.plain.Came.{Came}
 use Rattle.fb_verify.specs.declared.plain.Came.TheVariants.{Past, ToEnd, ToField, ToFault}
@@ -81,8 +82,8 @@ step_reads _ = 0
 
 -- what is asked for its own alignment has one
 abbrev pub IsStep : Step → Act → Type 0
-IsStep s Inline = 0 < s.align
-IsStep s Vector = 0 < s.align
+IsStep s Inline = IsAlignment s.align
+IsStep s Vector = IsAlignment s.align
 IsStep s _ = Unit {0}
 
 -- it has the bit of its act, beside which may stand another of what leads to one table

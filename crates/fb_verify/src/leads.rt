@@ -117,6 +117,7 @@ fn put_word(
 
 /// Tests a present vector of offset words by itself that all refer to the same, and puts these, if there are any.
 #[inline(always)]
+#[tactic(auto, using(crate::proofs::Alignments::four))]
 fn put_words(
     reads: &mut Reads<'_>,
     checks: Checks,
@@ -175,6 +176,7 @@ fn put_union(
 
 /// Tests a present vector of unions by itself, and puts its offset words, if there are any.
 #[inline(always)]
+#[tactic(auto, using(crate::proofs::Alignments::four))]
 fn put_unions(
     reads: &mut Reads<'_>,
     checks: Checks,

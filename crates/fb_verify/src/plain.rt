@@ -4,6 +4,7 @@
 ghost use Rattle.std.specs.Prelude.{◌≡◌, ℕ, ◌+◌, ◌*◌, ◌^◌, ◌<◌, ◌≤◌, ◌%◌, ◌==◌, length, Some, None, IfSome, MatchOption, IsTrue, true, false};
 ghost use Rattle.std.specs.Int.Bits.{bit_and};
 ghost use Rattle.fb_bytes.specs.Word.{word};
+ghost use Rattle.fb_schema.specs.Served.{IsAlignment};
 ghost use Rattle.fb_verify.specs.Places.{fits, target, has_slot, has_vtable, vtable, field_place};
 ghost use Rattle.fb_verify.specs.Cost.{head_reads, slot_reads, lead_reads};
 ghost use Rattle.fb_verify.specs.Fields.{to_string};
@@ -18,7 +19,7 @@ ghost use Rattle.fb_verify.specs.Told.{IsVtable, IsHead, IsPlaced};
 use crate::checks::Checks;
 use crate::fault::Reason;
 use crate::offset_row::Referent;
-use crate::site::{is_aligned, is_multiple_of_small};
+use crate::site::{is_aligned, is_multiple};
 use crate::table::{Head, Table};
 use fb_bytes::Reads;
 use fb_schema::Step;
@@ -54,7 +55,7 @@ pub fn test_inline(
     align: u32,
 ) -> Option<Reason>
     requires near { at < 2 ^ 35 }
-    requires align { 0 < align }
+    requires align { IsAlignment align }
     ensures told { tested_by at reads.now.count result ≡ after reads.now.count (inline_failure checks reads.now.bytes at size align) }
     ensures near { result ≡ None → at + size < 2 ^ 31 }
 {
@@ -69,7 +70,7 @@ pub fn test_inline(
 
 /// Tests the offset word at a position, and goes on where it leads.
 #[inline(always)]
-#[tactic(auto, unfolding(crate::specs::Order::offset_failure, crate::specs::Order::inline_failure))]
+#[tactic(auto, using(crate::proofs::Alignments::four), unfolding(crate::specs::Order::offset_failure, crate::specs::Order::inline_failure))]
 pub fn test_offset(reads: &mut Reads<'_>, checks: Checks, at: &mut u64) -> Option<Reason>
     requires few { reads.old.count < reads.old.base + 2 ^ 62 }
     requires near { at.old < 2 ^ 35 }
@@ -91,7 +92,7 @@ pub fn test_offset(reads: &mut Reads<'_>, checks: Checks, at: &mut u64) -> Optio
 
 /// Tests the string at a position: its count, so many bytes, and a byte 0. It goes on to that byte.
 #[inline(always)]
-#[tactic(auto, unfolding(crate::specs::Order::string_failure, crate::specs::Order::inline_failure))]
+#[tactic(auto, using(crate::proofs::Alignments::four), unfolding(crate::specs::Order::string_failure, crate::specs::Order::inline_failure))]
 fn test_string(reads: &mut Reads<'_>, checks: Checks, at: &mut u64) -> Option<Reason>
     requires few { reads.old.count < reads.old.base + 2 ^ 62 }
     requires near { at.old < 2 ^ 35 }
@@ -115,7 +116,7 @@ fn test_string(reads: &mut Reads<'_>, checks: Checks, at: &mut u64) -> Option<Re
 
 /// Tests the vector at a position, of elements of this size and alignment, puts their number, and goes on to the first.
 #[inline(always)]
-#[tactic(auto, unfolding(crate::specs::Order::vector_failure, crate::specs::Order::inline_failure))]
+#[tactic(auto, using(crate::proofs::Alignments::four), unfolding(crate::specs::Order::vector_failure, crate::specs::Order::inline_failure))]
 fn test_vector(
     reads: &mut Reads<'_>,
     checks: Checks,
@@ -126,7 +127,7 @@ fn test_vector(
 ) -> Option<Reason>
     requires few { reads.old.count < reads.old.base + 2 ^ 62 }
     requires near { at.old < 2 ^ 35 }
-    requires align { 0 < align }
+    requires align { IsAlignment align }
     ensures tested { IsTested reads.old reads.new at.new (vector_failure checks reads.old.bytes at.old size align) 1 result }
     ensures first { result ≡ None → at.new ≡ at.old + 4 }
     ensures many { result ≡ None → many.new ≡ word reads.old.bytes at.old 4 }
@@ -165,7 +166,7 @@ fn vtable_at(reads: &mut Reads<'_>, at: u64) -> Option<u64>
 
 /// Tests the first word of the table at a position, and reads where its vtable stands.
 #[inline(always)]
-#[tactic(auto, unfolding(crate::specs::Plain::first_word_failure, crate::specs::Order::inline_failure))]
+#[tactic(auto, using(crate::proofs::Alignments::four), unfolding(crate::specs::Plain::first_word_failure, crate::specs::Order::inline_failure))]
 pub fn test_first_word(reads: &mut Reads<'_>, checks: Checks, at: u64) -> Result<u64, Reason>
     requires few { reads.old.count < reads.old.base + 2 ^ 61 }
     requires near { at < 2 ^ 33 }
@@ -184,7 +185,7 @@ pub fn test_first_word(reads: &mut Reads<'_>, checks: Checks, at: u64) -> Result
 /// Tests the vtable, at this place, of the table at a position, and writes the table's head. Where it fails, the
 /// position is moved to where it does.
 #[inline(always)]
-#[tactic(auto, unfolding(crate::specs::Plain::vtable_failure))]
+#[tactic(auto, using(crate::proofs::Alignments::two), unfolding(crate::specs::Plain::vtable_failure))]
 pub fn test_vtable(
     reads: &mut Reads<'_>,
     checks: Checks,
@@ -296,7 +297,7 @@ pub fn test_inline_field(
     align: u32,
 ) -> Option<Reason>
     requires placed { IsPlaced checks reads.now.bytes table.at table.head place }
-    requires align { 0 < align }
+    requires align { IsAlignment align }
     ensures told { tested_by place reads.now.count result ≡ after reads.now.count (inline_field_failure checks reads.now.bytes table.at place size align) }
 {
     let end = test_end(reads, checks, table, place, size);
@@ -320,7 +321,7 @@ pub fn test_vector_field(
 ) -> Option<Reason>
     requires few { reads.old.count < reads.old.base + 2 ^ 60 }
     requires placed { IsPlaced checks reads.old.bytes table.at table.head at.old }
-    requires align { 0 < align }
+    requires align { IsAlignment align }
     ensures tested { IsTested reads.old reads.new at.new (vector_field_failure checks reads.old.bytes table.at at.old size align) 2 result }
     ensures first { result ≡ None → at.new ≡ target reads.old.bytes at.old + 4 }
     ensures many { result ≡ None → many.new ≡ word reads.old.bytes (target reads.old.bytes at.old) 4 }
@@ -431,6 +432,7 @@ fn past(failed: Option<Reason>) -> Came
 /// lead to a table. Where a test fails, the position is moved to where. The bits of the step are asked one by one: a
 /// jump by its act couldn't be foretold.
 #[inline(always)]
+#[tactic(auto, using(crate::proofs::Alignments::small))]
 fn pass_field(
     reads: &mut Reads<'_>,
     checks: Checks,
@@ -497,7 +499,7 @@ fn is_free_small(checks: Checks, step: &Step) -> bool
 /// its table, or is absent. Where it is absent the tests are made all the same, of the table's own position, since
 /// processors can't predict a jump by whether a field is there; that is asked only where a test fails.
 #[inline(always)]
-#[tactic(auto, unfolding(crate::specs::Places::is_aligned, crate::specs::Order::inline_failure, crate::specs::Order::table_failure, crate::specs::Places::ends_in_table))]
+#[tactic(auto, using(crate::proofs::Alignments::small), unfolding(crate::specs::Places::is_aligned, crate::specs::Order::inline_failure, crate::specs::Order::table_failure, crate::specs::Places::ends_in_table))]
 fn pass_small(
     reads: &Reads<'_>,
     checks: Checks,
@@ -513,7 +515,7 @@ fn pass_small(
     ensures there { 0 < distance → IsCame place reads.now.count (inline_field_failure checks reads.now.bytes table.at place size size) result }
 {
     let is_held = is_inside(reads, place, u64::from(size));
-    if !is_held || checks.alignment && !is_multiple_of_small(place, size) {
+    if !is_held || checks.alignment && !is_multiple(place, size) {
         return past(small_failure(reads.len(), place, size, distance));
     }
     Came::Past

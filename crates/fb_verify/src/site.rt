@@ -1,8 +1,8 @@
 // Why a test refuses a buffer, and where a walk stops.
 
-ghost use Rattle.std.specs.Prelude.{◌≡◌, ◌<◌, ◌%◌, ◌==◌, true};
+ghost use Rattle.std.specs.Prelude.{◌≡◌, ◌<◌, ◌%◌, ◌==◌};
 ghost use Rattle.fb_verify.specs.Places.{is_aligned};
-ghost use Rattle.fb_verify.specs.Plain.{IsSmall};
+ghost use Rattle.fb_schema.specs.Served.{IsAlignment};
 ghost use Rattle.fb_verify.specs.Told.{stopped};
 
 use crate::checks::Checks;
@@ -99,49 +99,21 @@ impl Stop {
     }
 }
 
-/// Whether a position is a multiple of one, two, four or eight.
+/// Whether a position is a multiple of an alignment. That is a power of two, so that no division is needed, and no jump
+/// depends on which it is.
 #[inline(always)]
-pub fn is_multiple_of_small(at: u64, size: u32) -> bool
-    requires small { IsSmall size }
-    ensures { result ≡ (at % size == 0) }
-{
-    at & u64::from(size - 1) == 0
-}
-
-/// Whether a position is a multiple of another alignment. It stands apart, since it is seldom asked.
-#[inline(never)]
-fn is_multiple_of_other(at: u64, align: u32) -> bool
-    requires { 0 < align }
+#[tactic(auto, using(crate::proofs::Alignments::low_bits))]
+pub fn is_multiple(at: u64, align: u32) -> bool
+    requires { IsAlignment align }
     ensures { result ≡ (at % align == 0) }
 {
-    at % u64::from(align) == 0
-}
-
-/// Whether an alignment is one, two, four or eight: a power of two. One jump tells, whichever it is.
-#[inline(always)]
-#[tactic(auto, using(crate::proofs::Alignments::usual))]
-fn is_usual(align: u32) -> bool
-    requires { 0 < align }
-    ensures { result ≡ true → IsSmall align }
-{
-    align <= 8 && align & (align - 1) == 0
-}
-
-/// Whether a position is a multiple of its alignment. The usual alignments need no division and no call at run time.
-fn is_multiple(at: u64, align: u32) -> bool
-    requires { 0 < align }
-    ensures { result ≡ (at % align == 0) }
-{
-    if is_usual(align) {
-        return is_multiple_of_small(at, align);
-    }
-    is_multiple_of_other(at, align)
+    at & u64::from(align - 1) == 0
 }
 
 /// Whether a position is a multiple of its alignment, where that is checked.
 #[tactic(auto, unfolding(crate::specs::Places::is_aligned))]
 pub fn is_aligned(checks: Checks, at: u64, align: u32) -> bool
-    requires { 0 < align }
+    requires { IsAlignment align }
     ensures { result ≡ is_aligned checks at align }
 {
     !checks.alignment || is_multiple(at, align)
