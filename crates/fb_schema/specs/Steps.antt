@@ -8,9 +8,10 @@ use Rattle.fb_schema.specs.declared.views.Step.{Step}
 use Rattle.fb_schema.specs.Live.{Live, live_fields}
 use Rattle.fb_schema.specs.Rows.{Rows}
 
--- at a scalar or struct of this size and alignment
-abbrev pub inline_act : ℕ → ℕ → Act
-inline_act size align =
+-- at a scalar or struct of this size and alignment, which is required or may be absent
+abbrev pub inline_act : Bool → ℕ → ℕ → Act
+inline_act true size align = Inline
+inline_act false size align =
     if size == 1 && align == 1 then One
     else (if size == 2 && align == 2 then Two
     else (if size == 4 && align == 4 then Four
@@ -18,8 +19,8 @@ inline_act size align =
 
 -- at a field of this kind
 abbrev pub act_of : Live → Kind → Act
-act_of f (Scalar s) = inline_act f.size f.align
-act_of f (Struct k) = inline_act f.size f.align
+act_of f (Scalar s) = inline_act f.required f.size f.align
+act_of f (Struct k) = inline_act f.required f.size f.align
 act_of f Text = AText
 act_of f (Table k) = Other
 act_of f (Union e) = Other

@@ -9,10 +9,12 @@ use crate::views::{Act, FieldView, Step};
 use std::alloc::{AllocError, Allocator};
 
 /// What to do at a scalar or struct of this size and alignment.
-fn inline_act(size: u32, align: u32) -> Act
-    ensures { result ≡ inline_act size align }
+fn inline_act(required: bool, size: u32, align: u32) -> Act
+    ensures { result ≡ inline_act required size align }
 {
-    if size == 1 && align == 1 {
+    if required {
+        Act::Inline
+    } else if size == 1 && align == 1 {
         Act::One
     } else if size == 2 && align == 2 {
         Act::Two
@@ -30,7 +32,9 @@ fn act_of(field: &FieldView<'_>) -> Act
     ensures { result ≡ act_of (live_of_view field.now) (field.now).kind }
 {
     match field.kind {
-        Kind::Scalar(_) | Kind::Struct(_) => inline_act(field.size, field.align),
+        Kind::Scalar(_) | Kind::Struct(_) => {
+            inline_act(field.required, field.size, field.align)
+        }
         Kind::Text => Act::Text,
         Kind::Scalars(_) | Kind::Structs(_) => Act::Vector,
         _ => Act::Other,

@@ -43,15 +43,15 @@ pub struct PartView {
 
 /// What a reader of buffers does at a field that is there.
 ///
-/// A scalar or struct of one, two, four or eight bytes that is aligned to as many has an act of its own, so that
-/// whoever goes by it has both as constants.
+/// A scalar or struct of one, two, four or eight bytes that is aligned to as many and may be absent has an act of its
+/// own, so that whoever goes by it has both as constants, and needn't ask whether it's required.
 #[derive(Clone, Copy)]
 pub enum Act {
     One,
     Two,
     Four,
     Eight,
-    /// A scalar or struct of any other size and alignment.
+    /// Any other scalar or struct.
     Inline,
     /// An offset word to a string.
     Text,
@@ -85,8 +85,8 @@ pub struct Target {
 
 /// A live field of a table in a few bytes: what a reader passes it by. `slot`, `size`, `align` and `required` are those
 /// of its [`FieldView`], but for the `size` of a field that leads to one table, which is the number of its object.
-/// `bit` is a bit of its act, so that several acts are asked at once; of a scalar or struct of 1, 2, 4 or 8 bytes it is
-/// their number, and what leads to one table has the bit [`Step::TO_TABLE`] beside.
+/// `bit` is a bit of its act, so that several acts are asked at once; of [`Act::One`] to [`Act::Eight`] it is their number
+/// of bytes, and what leads to one table has the bit [`Step::TO_TABLE`] beside.
 #[derive(Clone, Copy)]
 pub struct Step {
     pub act: Act,
@@ -98,13 +98,13 @@ pub struct Step {
 }
 
 impl Step {
-    /// The bits of a scalar or struct of 1, 2, 4 or 8 bytes, aligned to as many.
+    /// The bits of a scalar or struct of 1, 2, 4 or 8 bytes, aligned to as many, that may be absent.
     pub const SMALL: u32 = 15;
     /// The bit of a string.
     pub const TEXT: u32 = 16;
     /// Of a vector of scalars or structs.
     pub const VECTOR: u32 = 32;
-    /// Of a struct of another size or alignment.
+    /// Of any other scalar or struct.
     pub const INLINE: u32 = 64;
     /// Of what leads to tables, or to more than one string.
     pub const LEADS_ON: u32 = 128;

@@ -36,10 +36,12 @@ is_own n size align h =
     let w = both_true (size == n) (align == n) h in
     ((Decides-eqb size n).0 w.0, (Decides-eqb align n).0 w.1)
 
-pub inline_acts : (P : Act → Type 0) (size align : ℕ) → ((size ≡ 1) × (align ≡ 1) → P One) → ((size ≡ 2) × (align ≡ 2) → P Two) → ((size ≡ 4) × (align ≡ 4) → P Four) → ((size ≡ 8) × (align ≡ 8) → P Eight) → P Inline → P (inline_act size align)
-inline_acts P size align one two four eight other =
+pub inline_acts : (P : Act → Type 0) (required : Bool) (size align : ℕ) → (required ≡ false → (size ≡ 1) × (align ≡ 1) → P One) → (required ≡ false → (size ≡ 2) × (align ≡ 2) → P Two)
+    → (required ≡ false → (size ≡ 4) × (align ≡ 4) → P Four) → (required ≡ false → (size ≡ 8) × (align ≡ 8) → P Eight) → P Inline → P (inline_act required size align)
+inline_acts P true size align one two four eight other = other
+inline_acts P false size align one two four eight other =
     go (size == 1 && align == 1) (size == 2 && align == 2) (size == 4 && align == 4) (size == 8 && align == 8)
-    (λ e. one (is_own 1 size align e)) (λ e. two (is_own 2 size align e)) (λ e. four (is_own 4 size align e)) (λ e. eight (is_own 8 size align e)) where
+    (λ e. one refl (is_own 1 size align e)) (λ e. two refl (is_own 2 size align e)) (λ e. four refl (is_own 4 size align e)) (λ e. eight refl (is_own 8 size align e)) where
       go : (w x y z : Bool) → (w ≡ true → P One) → (x ≡ true → P Two) → (y ≡ true → P Four) → (z ≡ true → P Eight) → P (if w then One else (if x then Two else (if y then Four else (if z then Eight else Inline))))
       go true x y z a b c d = a refl
       go false true y z a b c d = b refl
@@ -65,16 +67,16 @@ module _ (c : Checks) (b : List ℕ) (t p : ℕ) (s : Step) where
   same_size n h = sym (ap (λ x. inline_of x s.align) h.0 ∙ ap (λ x. inline_of n x) h.1)
 
   -- it is asked for its own size and alignment
-  pub inline_step : step_failure c b t s p (inline_act s.size s.align) ≡ inline_of s.size s.align
-  inline_step = inline_acts (λ act. step_failure c b t s p act ≡ inline_of s.size s.align) s.size s.align (same_size 1) (same_size 2) (same_size 4) (same_size 8) refl
+  pub inline_step : step_failure c b t s p (inline_act s.required s.size s.align) ≡ inline_of s.size s.align
+  inline_step = inline_acts (λ act. step_failure c b t s p act ≡ inline_of s.size s.align) s.required s.size s.align (λ _. same_size 1) (λ _. same_size 2) (λ _. same_size 4) (λ _. same_size 8) refl
 
-inline_free : (size align : ℕ) → step_reads (inline_act size align) ≡ 0
-inline_free size align = inline_acts (λ act. step_reads act ≡ 0) size align (λ _. refl) (λ _. refl) (λ _. refl) (λ _. refl) refl
+inline_free : (required : Bool) (size align : ℕ) → step_reads (inline_act required size align) ≡ 0
+inline_free required size align = inline_acts (λ act. step_reads act ≡ 0) required size align (λ _ _. refl) (λ _ _. refl) (λ _ _. refl) (λ _ _. refl) refl
 
-inline_is : (s : Step) (size align : ℕ) → IsAlignment s.align → IsStep s (inline_act size align)
-inline_is s size align h = inline_acts (IsStep s) size align (λ _. tt) (λ _. tt) (λ _. tt) (λ _. tt) h
+inline_is : (s : Step) (size align : ℕ) → IsAlignment s.align → IsStep s (inline_act s.required size align)
+inline_is s size align h = inline_acts (IsStep s) s.required size align (λ free _. free) (λ free _. free) (λ free _. free) (λ free _. free) h
 
--- What is asked for its own alignment has one.
+-- What is asked for its own alignment has one, and what has a bit of its size may be absent.
 kind_step : (S : Rows) (f : Live) (kind : Kind) → KindHolds S f kind → IsStep (step_of f) (act_of f kind)
 kind_step S f (Scalar s) h = inline_is (step_of f) f.size f.align h
 kind_step S f (Struct k) h = inline_is (step_of f) f.size f.align h
@@ -104,8 +106,8 @@ bit_is s Vector e = e
 bit_is s Other e = inl e
 
 bit_at : (s : Step) (f : Live) (kind : Kind) → s.bit ≡ bits_of f kind → HasBit s (act_of f kind)
-bit_at s f (Scalar z) e = bit_is s (inline_act f.size f.align) e
-bit_at s f (Struct z) e = bit_is s (inline_act f.size f.align) e
+bit_at s f (Scalar z) e = bit_is s (inline_act f.required f.size f.align) e
+bit_at s f (Struct z) e = bit_is s (inline_act f.required f.size f.align) e
 bit_at s f Text e = e
 bit_at s f (Table k) e = inr e
 bit_at s f (Union z) e = inl e
@@ -234,8 +236,8 @@ module _ (c : Checks) (b : List ℕ) (S : Rows) (t : ℕ) (f : Live) where
     plain_reads_are = ap (λ o. slot_reads b t f.slot + step_reads_at (step_of f) o) here ∙ ap (λ x. slot_reads b t f.slot + step_reads (act_of f x)) is
 
     -- of what leads to no table the step has the size
-    inline_is_own : size_of f kind ≡ f.size → step_failure c b t (step_of f) p (inline_act f.size f.align) ≡ inline_field_failure c b t p f.size f.align
-    inline_is_own e = subst (λ n. step_failure c b t (step_of f) p (inline_act n f.align) ≡ inline_field_failure c b t p n f.align) (ap (size_of f) is ∙ e) (inline_step c b t p (step_of f))
+    inline_is_own : size_of f kind ≡ f.size → step_failure c b t (step_of f) p (inline_act f.required f.size f.align) ≡ inline_field_failure c b t p f.size f.align
+    inline_is_own e = subst (λ n. step_failure c b t (step_of f) p (inline_act f.required n f.align) ≡ inline_field_failure c b t p n f.align) (ap (size_of f) is ∙ e) (inline_step c b t p (step_of f))
 
     vector_is_own : size_of f kind ≡ f.size → step_failure c b t (step_of f) p Vector ≡ vector_field_failure c b t p f.size f.align
     vector_is_own e = ap (λ n. vector_field_failure c b t p n f.align) (ap (size_of f) is ∙ e)
@@ -256,8 +258,8 @@ module _ (c : Checks) (b : List ℕ) (S : Rows) (t : ℕ) (f : Live) where
   not_there p here none = absurd (let w : Some p ≡ None = sym here ∙ none in cc)
 
   present : (p : ℕ) → field_place b t f.slot ≡ Some p → (kind : Kind) → f.kind ≡ kind → (act_of f kind ≡ Other → field_place b t f.slot ≡ None) → Comes
-  present p here (Scalar s) e n = nowhere p here (Scalar s) e (inline_is_own p here (Scalar s) e refl) refl (inline_free f.size f.align)
-  present p here (Struct k) e n = nowhere p here (Struct k) e (inline_is_own p here (Struct k) e refl) refl (inline_free f.size f.align)
+  present p here (Scalar s) e n = nowhere p here (Scalar s) e (inline_is_own p here (Scalar s) e refl) refl (inline_free f.required f.size f.align)
+  present p here (Struct k) e n = nowhere p here (Struct k) e (inline_is_own p here (Struct k) e refl) refl (inline_free f.required f.size f.align)
   present p here Text e n =
       let slot = slot_reads b t f.slot in
       let own_count : own_reads b t f ≡ slot = own_reads_are p here Text e ∙ omega arith in

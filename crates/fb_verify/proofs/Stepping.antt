@@ -12,7 +12,7 @@ use Rattle.fb_verify.specs.declared.plain.Came.TheVariants.{Past, ToEnd, ToField
 use Rattle.fb_verify.specs.Places.{vtable, vtable_size, has_slot, field_place}
 use Rattle.fb_verify.specs.Cost.{slot_reads}
 use Rattle.fb_verify.specs.Order.{inline_field_failure}
-use Rattle.fb_verify.specs.Plain.{tested_by, step_failure, step_reads, HasBit, IsCame, StepTested, Filled, Stepped}
+use Rattle.fb_verify.specs.Plain.{tested_by, step_failure, step_reads, IsStep, HasBit, IsCame, StepTested, Filled, Stepped}
 use Rattle.fb_verify.proofs.Plains.{plain_told, plain_counted}
 
 -- Of two even numbers the smaller is smaller by two.
@@ -106,6 +106,18 @@ module _ (c : Checks) (b : List ℕ) (t p n : ℕ) (s : Step) where
   small_came Vector r bit some h = absurd (some (ap (λ x. bit_and x 15) bit))
   small_came Other r (inl bit) some h = absurd (some (ap (λ x. bit_and x 15) bit))
   small_came Other r (inr bit) some h = absurd (some (ap (λ x. bit_and x 15) bit))
+
+-- It may be absent.
+pub small_free : (s : Step) (act : Act) → IsStep s act → HasBit s act → (bit_and s.bit 15 ≡ 0 → ⊥) → s.required ≡ false
+small_free s One free bit some = free
+small_free s Two free bit some = free
+small_free s Four free bit some = free
+small_free s Eight free bit some = free
+small_free s Inline h bit some = absurd (some (ap (λ x. bit_and x 15) bit))
+small_free s AText h bit some = absurd (some (ap (λ x. bit_and x 15) bit))
+small_free s Vector h bit some = absurd (some (ap (λ x. bit_and x 15) bit))
+small_free s Other h (inl bit) some = absurd (some (ap (λ x. bit_and x 15) bit))
+small_free s Other h (inr bit) some = absurd (some (ap (λ x. bit_and x 15) bit))
 
 small_filled : (c : Checks) (m : Lent) (t p : ℕ) (s : Step) (r : Came) → HasBit s s.act → (bit_and s.bit 15 ≡ 0 → ⊥) → IsCame p m.count (inline_field_failure c m.bytes t p s.bit s.bit) r → Filled c m m t s p p r
 small_filled c m t p s Past bit some h =

@@ -1,5 +1,5 @@
 -- Fields, by their steps, up to one that may lead to a table.
-use Rattle.std.specs.Prelude.{◌≡◌, ◌⊎◌, ℕ, ◌+◌, ◌^◌, ◌<◌, ◌%◌, ◌==◌, ◌&&◌, nat_le, if◌then◌else◌, IsTrue, List, not, Option, Some, None, Result, IfOk, IfErr}
+use Rattle.std.specs.Prelude.{◌≡◌, ◌⊎◌, ℕ, ◌+◌, ◌^◌, ◌<◌, ◌%◌, ◌==◌, ◌&&◌, nat_le, if◌then◌else◌, IsTrue, List, not, Option, Some, None, Result, IfOk, IfErr, false}
 use Rattle.std.specs.List.{All, sum_by}
 use Rattle.fb_bytes.specs.Word.{Lent}
 use Rattle.fb_schema.specs.declared.views.Act.{Act}
@@ -80,8 +80,12 @@ step_reads Text = 3
 step_reads Vector = 2
 step_reads _ = 0
 
--- what is asked for its own alignment has one
+-- what has an act by its size may be absent, and what is asked for its own alignment has one
 abbrev pub IsStep : Step → Act → Type 0
+IsStep s One = s.required ≡ false
+IsStep s Two = s.required ≡ false
+IsStep s Four = s.required ≡ false
+IsStep s Eight = s.required ≡ false
 IsStep s Inline = IsAlignment s.align
 IsStep s Vector = IsAlignment s.align
 IsStep s _ = Unit {0}

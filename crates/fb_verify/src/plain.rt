@@ -489,10 +489,9 @@ fn small_failure(length: u64, place: u64, size: u32, distance: u64) -> Option<Re
 #[inline(always)]
 fn is_free_small(checks: Checks, step: &Step) -> bool
     ensures small { result ≡ true → bit_and (step.now).bit 15 ≡ 0 → ⊥ }
-    ensures free { result ≡ true → (step.now).required ≡ false }
     ensures cut { result ≡ true → checks.inline_size ≡ false }
 {
-    step.bit & Step::SMALL != 0 && !step.required && !checks.inline_size
+    step.bit & Step::SMALL != 0 && !checks.inline_size
 }
 
 /// Passes a scalar or struct of one, two, four or eight bytes, aligned to as many, that stands at this distance from

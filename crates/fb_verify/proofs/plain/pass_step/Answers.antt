@@ -2,7 +2,7 @@ use Rattle.std.proofs.Common.{◌≡◌, ◌+◌, ◌==◌, ◌^◌, ◌<◌, tr
 use Rattle.std.proofs.lemmas.Bool.Decides.{nat_tests}
 use Rattle.fb_bytes.specs.Word.{word}
 use Rattle.fb_verify.specs.Places.{vtable, has_slot}
-use Rattle.fb_verify.proofs.Stepping.{even_apart, slot_inside, absent_required, absent_passed, there_passed, small_passed}
+use Rattle.fb_verify.proofs.Stepping.{even_apart, slot_inside, absent_required, absent_passed, there_passed, small_free, small_passed}
 use Rattle.fb_verify.proofs.plain.pass_step.Goals as goal
 use Rattle.fb_verify.proofs.plain.pass_step.Goals.{After-from-distance}
 
@@ -46,5 +46,5 @@ returns-then-is_free_small c =
     let t = (c.args.table).at in
     let near : t + c.from-distance.result < 2 ^ 34 = omega (arith, c.from-distance.ensures, c.u16_at.type_inv, c.requires.near) in
     let small = c.pass_small.ensures in
-    rw c.u16_at.ensures.counted (small_passed c.args.checks c.args.reads.now t c.args.step.now c.from-distance.result (inside d) (tells d) c.requires.bit (free.small is) (free.free is) near c.pass_small.result small.absent
+    rw c.u16_at.ensures.counted (small_passed c.args.checks c.args.reads.now t c.args.step.now c.from-distance.result (inside d) (tells d) c.requires.bit (free.small is) (small_free c.args.step.now (c.args.step.now).act c.requires.step c.requires.bit (free.small is)) near c.pass_small.result small.absent
     (λ more. rw c.u16_at.ensures.counted at (small.there more)))

@@ -12,8 +12,8 @@ use Rattle.fb_verify.proofs.stack.Walk.go_into.Goals as goal
 
 -- what a step leaves out leads by a vector or by a union, if it has no bit of a table
 is_far : (f : Live) (kind : Kind) → act_of f kind ≡ Other → (bits_of f kind ≡ 384 → ⊥) → IsFar kind
-is_far f (Scalar s) e n = absurd (inline_acts (λ act. act ≡ Other → ⊥) f.size f.align (λ _ x. cc) (λ _ x. cc) (λ _ x. cc) (λ _ x. cc) (λ x. cc) e)
-is_far f (Struct k) e n = absurd (inline_acts (λ act. act ≡ Other → ⊥) f.size f.align (λ _ x. cc) (λ _ x. cc) (λ _ x. cc) (λ _ x. cc) (λ x. cc) e)
+is_far f (Scalar s) e n = absurd (inline_acts (λ act. act ≡ Other → ⊥) f.required f.size f.align (λ _ _ x. cc) (λ _ _ x. cc) (λ _ _ x. cc) (λ _ _ x. cc) (λ x. cc) e)
+is_far f (Struct k) e n = absurd (inline_acts (λ act. act ≡ Other → ⊥) f.required f.size f.align (λ _ _ x. cc) (λ _ _ x. cc) (λ _ _ x. cc) (λ _ _ x. cc) (λ x. cc) e)
 is_far f Text e n = absurd cc
 is_far f (Table k) e n = absurd (n refl)
 is_far f (Union u) e n = tt
@@ -25,8 +25,8 @@ is_far f (Unions u) e n = tt
 
 -- if it has, to one table
 to_table : (f : Live) (kind : Kind) → act_of f kind ≡ Other → (bits_of f kind ≡ 128 → ⊥) → kind ≡ Table (size_of f kind)
-to_table f (Scalar s) e n = absurd (inline_acts (λ act. act ≡ Other → ⊥) f.size f.align (λ _ x. cc) (λ _ x. cc) (λ _ x. cc) (λ _ x. cc) (λ x. cc) e)
-to_table f (Struct k) e n = absurd (inline_acts (λ act. act ≡ Other → ⊥) f.size f.align (λ _ x. cc) (λ _ x. cc) (λ _ x. cc) (λ _ x. cc) (λ x. cc) e)
+to_table f (Scalar s) e n = absurd (inline_acts (λ act. act ≡ Other → ⊥) f.required f.size f.align (λ _ _ x. cc) (λ _ _ x. cc) (λ _ _ x. cc) (λ _ _ x. cc) (λ x. cc) e)
+to_table f (Struct k) e n = absurd (inline_acts (λ act. act ≡ Other → ⊥) f.required f.size f.align (λ _ _ x. cc) (λ _ _ x. cc) (λ _ _ x. cc) (λ _ _ x. cc) (λ x. cc) e)
 to_table f Text e n = absurd cc
 to_table f (Table k) e n = refl
 to_table f (Union u) e n = absurd (n refl)
