@@ -13,7 +13,7 @@ use std::io;
 use std::io::{ErrorKind, Read, Write};
 
 /// Why the last read of an input failed, and the last write of the output, where one did.
-#[derive(Clone, Copy, Debug, PartialEq, Eq)]
+#[derive(Clone, Copy)]
 pub struct Causes {
     /// That of the read.
     pub read: Option<ErrorKind>,

@@ -10,7 +10,7 @@ use fb_run::RunFault;
 use std::alloc::AllocError;
 
 /// Why there is nothing to check buffers by.
-#[derive(Clone, Copy, Debug, PartialEq, Eq)]
+#[derive(Clone, Copy)]
 pub enum AskFault {
     /// The schema file gives no schema. It is never that fault's own `OutOfMemory`, which is told as this type's.
     Load(LoadFault),
@@ -26,7 +26,7 @@ pub enum AskFault {
 }
 
 /// Why a check came to rest before its end.
-#[derive(Clone, Copy, Debug, PartialEq, Eq)]
+#[derive(Clone, Copy)]
 pub enum CheckFault {
     /// There was nothing to check by.
     Ask(AskFault),

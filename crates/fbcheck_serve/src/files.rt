@@ -11,7 +11,7 @@ use std::io;
 use std::io::ErrorKind;
 
 /// Why a file can't be read.
-#[derive(Clone, Copy, Debug, PartialEq, Eq)]
+#[derive(Clone, Copy)]
 pub enum FileFault {
     /// It isn't there, or a read of it failed, for this cause.
     Unreadable(ErrorKind),

@@ -15,7 +15,7 @@ const MISALIGNED: usize = 2;
 const MOST_BYTES: u32 = 2_147_483_647;
 
 /// How messages stand in an input.
-#[derive(Clone, Copy, Debug, PartialEq, Eq)]
+#[derive(Clone, Copy)]
 pub enum Framing {
     /// It is one bare buffer.
     Bare,
@@ -26,7 +26,7 @@ pub enum Framing {
 }
 
 /// By what buffers are checked.
-#[derive(Clone, Copy, Debug, PartialEq, Eq)]
+#[derive(Clone, Copy)]
 pub enum By {
     /// The schema file that is named.
     Named,
@@ -35,7 +35,7 @@ pub enum By {
 }
 
 /// How messages stand in an input, and by what they are checked.
-#[derive(Clone, Copy, Debug, PartialEq, Eq)]
+#[derive(Clone, Copy)]
 pub struct Manner {
     /// How they stand.
     pub framing: Framing,

@@ -29,7 +29,7 @@ const FRONT: usize = 16;
 const VALUES: u16 = 256;
 
 /// Why there is nothing to check buffers by, and what is told behind that.
-#[derive(Debug, Drop)]
+#[derive(Drop)]
 pub struct Unasked {
     /// The cause.
     pub fault: AskFault,

@@ -30,7 +30,7 @@ pub const STANDARD: &str = "-";
 const MOST_CALLS: u128 = 0x1_0000_0000_0000_0000;
 
 /// Whether standard input was among the files.
-#[derive(Clone, Copy, Debug, PartialEq, Eq)]
+#[derive(Clone, Copy)]
 pub enum Standard {
     /// It wasn't.
     Unread,
@@ -39,7 +39,7 @@ pub enum Standard {
 }
 
 /// Why there is no run over a file.
-#[derive(Clone, Copy, Debug, PartialEq, Eq)]
+#[derive(Clone, Copy)]
 pub enum Missed {
     /// It can't be opened.
     File(FileFault),
@@ -48,14 +48,14 @@ pub enum Missed {
 }
 
 /// What one file came to, and why a read of it failed, where one did.
-#[derive(Clone, Copy, Debug)]
+#[derive(Clone, Copy)]
 struct Came {
     what: Result<Ran, Missed>,
     cause: Option<ErrorKind>,
 }
 
 /// What files came to.
-#[derive(Clone, Copy, Debug, PartialEq, Eq)]
+#[derive(Clone, Copy)]
 pub struct Course {
     /// The sums of their numbers.
     pub tally: Tally,
@@ -66,7 +66,7 @@ pub struct Course {
 }
 
 /// What the files of a call came to, and how that ended.
-#[derive(Clone, Copy, Debug)]
+#[derive(Clone, Copy)]
 pub struct Passed {
     /// What they came to.
     pub course: Course,

@@ -28,7 +28,7 @@ use std::io::ErrorKind;
 const NAME: &str = "fbcheck: ";
 
 /// A word of the command line that isn't a text, by its number, the program's name being 0.
-#[derive(Debug, Drop)]
+#[derive(Drop)]
 pub struct WrongWord {
     /// Its number.
     pub number: usize,
@@ -37,7 +37,7 @@ pub struct WrongWord {
 }
 
 /// Why the words of the command line can't be read.
-#[derive(Debug, Drop)]
+#[derive(Drop)]
 pub enum WordsFault {
     /// A word isn't a text: the first such one.
     NotText(WrongWord),
@@ -59,7 +59,7 @@ impl WordsFault {
 }
 
 /// The numbers that are told at the end, and how their line is written.
-#[derive(Clone, Copy, Debug, PartialEq, Eq)]
+#[derive(Clone, Copy)]
 pub struct Sums {
     /// How the line is written.
     pub form: Form,
@@ -68,7 +68,7 @@ pub struct Sums {
 }
 
 /// How the program ends well.
-#[derive(Clone, Copy, Debug, PartialEq, Eq)]
+#[derive(Clone, Copy)]
 pub enum Ending {
     /// Help was asked for, and written.
     Helped,
@@ -79,7 +79,7 @@ pub enum Ending {
 }
 
 /// Why the program comes to rest before that.
-#[derive(Debug, Drop)]
+#[derive(Drop)]
 pub enum Stop {
     /// The words can't be read, and this is told behind the cause.
     Words(WordsFault, Vec<u8>),

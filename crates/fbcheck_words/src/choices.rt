@@ -12,7 +12,7 @@ use std::alloc::AllocError;
 pub const MOST_PATHS: usize = 16;
 
 /// How a line tells of a buffer.
-#[derive(Clone, Copy, Debug, PartialEq, Eq)]
+#[derive(Clone, Copy)]
 pub enum Form {
     /// By words and numbers.
     Plain,
@@ -66,7 +66,7 @@ pub struct Settings {
 }
 
 /// Why words give no settings.
-#[derive(Debug, Drop)]
+#[derive(Drop)]
 pub enum SettingsFault {
     /// `clap` refuses the words, or they ask for its help.
     Usage(Error),
