@@ -30,7 +30,7 @@ pub fn push_all<K: Sink>(sink: &mut K, text: &[u8]) -> usize
 }
 
 /// A write failed or took nothing: the sink took so many bytes in all.
-#[derive(Clone, Copy, Debug, PartialEq, Eq)]
+#[derive(Clone, Copy)]
 pub struct Unwritten {
     pub written: u128,
 }
