@@ -27,7 +27,7 @@ class NamesForC(LibraryCase):
         rows = [table.split() for table in ["A v", "W", "R u_type u", "Q us_type us"]]
         with python.Verifier(schemas.X) as verifier:
             self.same("reasons", [verifier.reason_name(n) for n in range(15)], [None, *reasons, None])
-            codes = [*re.findall(r"`(C\d \w+)`", page), "C9 OutOfMemory"]
+            codes = [*re.findall(r"`(C\d+ \w+)`", page), "C9 OutOfMemory"]
             steps = [*re.findall(r"`(P\d \w+) ", page), "P7 OutOfMemory"]
             told = {1: reasons, 8: reasons, 9: codes, 17: steps}
             for status in range(25):

@@ -69,7 +69,7 @@ def faults():
 def codes():
     """The codes of what is no legal schema, as the reference has them."""
     demands = (TOP / "docs/REFERENCE.md").read_text().split("## What a legal schema is")[1].split("\n## ")[0]
-    return re.findall(r"^\| `(C\d \w+)` \|", demands, re.M)
+    return re.findall(r"^\| `(C\d+ \w+)` \|", demands, re.M)
 
 
 def plain(page):

@@ -32,9 +32,7 @@ fn act_of(field: &FieldView<'_>) -> Act
     ensures { result ≡ act_of (live_of_view field.now) (field.now).kind }
 {
     match field.kind {
-        Kind::Scalar(_) | Kind::Struct(_) => {
-            inline_act(field.required, field.size, field.align)
-        }
+        Kind::Scalar(_) | Kind::Struct(_) => { inline_act(field.required, field.size, field.align) }
         Kind::Text => Act::Text,
         Kind::Scalars(_) | Kind::Structs(_) => Act::Vector,
         _ => Act::Other,

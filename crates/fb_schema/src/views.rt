@@ -85,13 +85,13 @@ pub struct Target {
 
 /// A live field of a table in a few bytes: what a reader passes it by. `slot`, `size`, `align` and `required` are those
 /// of its [`FieldView`], but for the `size` of a field that leads to one table, which is the number of its object.
-/// `bit` is a bit of its act, so that several acts are asked at once; of [`Act::One`] to [`Act::Eight`] it is their number
-/// of bytes, and what leads to one table has the bit [`Step::TO_TABLE`] beside.
+/// `bit` is a bit of its act, so that several acts are asked at once; of [`Act::One`] to [`Act::Eight`] it is their
+/// number of bytes, and what leads to one table has the bit [`Step::TO_TABLE`] beside.
 #[derive(Clone, Copy)]
 pub struct Step {
-    pub act: Act,
-    pub required: bool,
     pub slot: u16,
+    pub required: bool,
+    pub act: Act,
     pub bit: u32,
     pub size: u32,
     pub align: u32,

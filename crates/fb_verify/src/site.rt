@@ -41,7 +41,7 @@ pub struct Stop {
 }
 
 /// What the links of the frames leave to be told of the way to a stop.
-#[derive(Clone, Copy, PartialEq, Eq)]
+#[derive(Clone, Copy)]
 pub enum LastLink {
     /// Nothing: the last of the frames was left past the offset word under check. There may be none of them.
     Behind,

@@ -29,7 +29,7 @@ use fb_bytes::{Loan, Reads};
 use fb_schema::{Schema, Step};
 
 /// How a walk goes on, once it was a while in the top table.
-#[derive(Clone, Copy, PartialEq, Eq)]
+#[derive(Clone, Copy)]
 pub enum Turn {
     /// In a table below, which is to be opened.
     Down,
