@@ -250,6 +250,8 @@ fn options(
 }
 
 /// Why a file gives no schema, with its name and what it looks like.
+#[cold]
+#[inline(never)]
 fn schemaless(alloc: Global, fault: AskFault, file: Option<&[u8]>, settings: &Settings) -> Unasked
     requires { LacksSchema file fault }
     ensures { IsUntold file.entry settings.now result }
