@@ -1,5 +1,5 @@
-"""The comparison with C++ (bench/compare): that verdicts agree, and that it tells where they don't; and bench/linear.
-The comparison in process links the library for C.
+"""The comparison with C++ (bench/compare): that verdicts agree, and that it tells where they don't; bench/linear, and
+bench/jumps. The comparison in process links the library for C.
 
 It is skipped where flatc, g++ or the headers of flatbuffers aren't there. No time is asked here.
 """
@@ -127,6 +127,15 @@ class Bench(LibraryCase):
         self.holds("nanoseconds a read", 0 < linear.nanoseconds(ten, reads[1], 2) < 1e6)
         self.same("growing sizes", linear.sizes(333), [1, 10, 100, 333])
         self.holds("a start", 0 < linear.start(PROGRAM, names.schema, 2) < 10)
+
+    @unittest.skipUnless(shutil.which("valgrind") and shutil.which("objdump"), "valgrind or objdump isn't there")
+    def test_jumps_are_counted(self):
+        jumps = loaded(TOP / "bench/jumps")
+        found = list(jumps.jumps(PROGRAM))
+        self.holds("what is fused begins before the jump", all(begin <= at < end for _, at, begin, end in found))
+        count = jumps.runs(PROGRAM, dataclasses.replace(building.CORPORA[0], counted=building.Size(50)))
+        walk = sum(count[at] for function, at, _, _ in found if "::walk_on" in function)
+        self.holds("a walk over 50 messages makes some thousand", 50 * 100 < walk < 50 * 10_000, walk)
 
     def test_a_chart_is_drawn(self):
         costs = {"fbcheck": timing.Cost(1.0, 1.0, None), "reflection": timing.Cost(2.0, 2.5, None),
