@@ -1,5 +1,5 @@
 -- The walk goes into a field that may lead on, whose slot was the last read.
-use Rattle.std.proofs.Common.{◌≡◌, ℕ, ◌+◌, ◌-◌, ◌≤◌, List, [], refl, sym, ◌∙◌, ap, subst, arith, Option, Some, None}
+use Rattle.std.proofs.Common.{◌≡◌, ℕ, ◌+◌, ◌-◌, ◌<◌, ◌≤◌, nat_lt, List, [], refl, sym, ◌∙◌, ap, subst, arith, Option, Some, None}
 use Rattle.fb_bytes.specs.Word.{Lent}
 use Rattle.fb_schema.specs.Rows.{Rows}
 use Rattle.fb_schema.specs.Live.{Live}
@@ -17,16 +17,18 @@ use Rattle.fb_verify.specs.declared.stack.Walk.{Walk}
 use Rattle.fb_verify.specs.Bounds.{Bounds, AreAllowed}
 use Rattle.fb_verify.specs.Cost.{slot_reads, present_reads, reads_at, own_reads}
 use Rattle.fb_verify.specs.Fields.{entries_of, entries_at, entries}
-use Rattle.fb_verify.specs.OffsetRows.{words_of, IsRow, IsAskable}
+use Rattle.fb_verify.specs.OffsetRows.{words_of, IsRow, IsAskable, LeavesRow}
 use Rattle.fb_verify.specs.Order.{Failure, after, present_failure, failure_at, own_failure}
-use Rattle.fb_verify.specs.Plain.{tested_by}
+use Rattle.fb_verify.specs.Plain.{tested_by, IsTested}
 use Rattle.fb_verify.specs.Stack.{blank, frame_work, work, Waiting, IsUnderWay, IsStopped}
 use Rattle.fb_verify.specs.Stops.{reads_failure}
 use Rattle.fb_verify.specs.StopsAt.{IsStopAt}
 use Rattle.fb_verify.specs.Told.{refused, stopped}
-use Rattle.fb_verify.specs.Turns.{IsAtOpenField, GoesOn, StaysInField, RowTurned, FieldTurned}
+use Rattle.fb_verify.specs.Turns.{IsAtOpenField, GoesOn, StaysInField, PassedField, BeginsRow, RowTurned, FieldTurned}
 use Rattle.fb_verify.proofs.Budgets.{fewer_reads}
-use Rattle.fb_verify.proofs.Frames.{no_row, own_few}
+use Rattle.fb_verify.proofs.Chains.{after_none}
+use Rattle.fb_verify.proofs.Flats.{lt_true}
+use Rattle.fb_verify.proofs.Frames.{no_row, own_few, present_few}
 use Rattle.fb_verify.proofs.NextField.{AtNext, askable, next_stops}
 use Rattle.fb_verify.proofs.Passing.{slot_is_one, stop_is}
 use Rattle.fb_verify.proofs.Plains.{after_twice}
@@ -108,15 +110,15 @@ module _ {w : Walk} {m : Lent} {under : Waiting} {waiting : ℕ} {top : Frame} {
     into_work row good = omega (arith, (h.at).count, field_work (h.at).walking f row f.number q h.rests h.here spent good)
 
     -- or nowhere
-    pub into_over : entries_of b S t f place f.kind ≡ [] → IsUnderWay c b S w.limits under.start under.frames (record top { next = top.next + 1 }) w.tables w.deepest q
+    into_over : entries_of b S t f place f.kind ≡ [] → IsUnderWay c b S w.limits under.start under.frames (record top { next = top.next + 1 }) w.tables w.deepest q
     into_over none =
         field_skipped (h.at).walking f blank.row f.number q h.rests h.here spent (no_row c b S) allowed refl own (entries_are ∙ none ∙ sym (row_none b S blank.row refl))
 
-    pub over_work : q + frame_work S (record top { next = top.next + 1 }) ≤ r - 1 + frame_work S top
+    over_work : q + frame_work S (record top { next = top.next + 1 }) ≤ r - 1 + frame_work S top
     over_work = omega (arith, (h.at).count, skip_work (h.at).walking f blank.row f.number q h.rests h.here spent (no_row c b S))
 
 -- what is less for the top is less for the whole stack
-pub on_work : (S : Rows) (L : Bounds) (below : List Frame) (on top : Frame) (n q r : ℕ) → q + frame_work S on ≤ r + frame_work S top → q + work S L below on n ≤ r + work S L below top n
+on_work : (S : Rows) (L : Bounds) (below : List Frame) (on top : Frame) (n q r : ℕ) → q + frame_work S on ≤ r + frame_work S top → q + work S L below on n ≤ r + work S L below top n
 unfolding work
 on_work S L below on top n q r paid = omega (arith, paid)
 
@@ -134,3 +136,60 @@ module _ (w then : Walk) (m mid new : Lent) (under : Waiting) (top on past : Fra
   into_turned Up e = record { on = stays e.on; rests = e.rests; next = e.next ∙ next }
   into_turned Slowly e = stays e
   into_turned Halted e = record { links = e.links; deep = e.deep; err = rw (sym bytes) e.err; bytes = e.bytes ∙ bytes }
+
+-- The field's own tests hold.
+module _ {w : Walk} {m : Lent} {under : Waiting} {waiting : ℕ} {top : Frame} {place : ℕ} {f : Live} (h : IsAtOpenField w m under waiting top place f) (new : Lent) (at : ℕ) (result : Option Reason)
+    (e : IsTested m new at (present_failure w.checks m.bytes w.schema.now (top.table).at f place f.kind) (present_reads m.bytes (top.table).at f.slot f.kind) result) (none : result ≡ None) where
+  held : present_failure w.checks m.bytes w.schema.now (top.table).at f place f.kind ≡ None
+  held = (after_none m.count _).0 (rw none at (sym e.told))
+
+  spent_on : new.count ≡ m.count + present_reads m.bytes (top.table).at f.slot f.kind
+  spent_on = e.counted none
+
+  pub few_spent : new.count ≤ m.count + 5
+  few_spent = omega (arith, spent_on, present_few m.bytes (top.table).at f.slot f.kind)
+
+  module _ (old row : Row) (leads : LeavesRow m.bytes w.schema.now (entries_of m.bytes w.schema.now (top.table).at f place f.kind) old row (nat_lt 0 row.left)) where
+    -- it leads nowhere
+    pub passed_over : row.left ≡ 0 → PassedField w w m new under top (record top { next = top.next + 1 })
+    passed_over zero =
+        let empty = (leads.none (ap (nat_lt 0) zero)).0 in
+        record {
+          on = record {
+            same = refl;
+            walking = rw e.bytes (into_over h held new.count spent_on empty);
+            table = refl;
+            falls = on_work w.schema.now w.limits under.frames _ top w.tables new.count (m.count - 1) (over_work h held new.count spent_on);
+            grows = omega (arith, spent_on);
+            bytes = e.bytes;
+            short = omega (arith, few_spent, h.short);
+          };
+          rests = h.rests;
+          next = refl;
+        }
+
+    -- or on by these words
+    module _ (more : 0 < row.left) where
+      good : IsRow m.bytes w.schema.now row
+      good = (leads.row (lt_true 0 row.left more)).0
+
+      pub row_begins : BeginsRow w w m new under waiting top (record top { next = top.next + 1; number = f.number; row = row })
+      row_begins = record {
+        same = refl;
+        row = record {
+          many = h.many;
+          walking = rw e.bytes (into_leads h held new.count spent_on row good (leads.entries (lt_true 0 row.left more)));
+          more = more;
+          short = omega (arith, few_spent, h.short);
+        };
+        table = refl;
+        next = refl;
+        paid = into_work h held new.count spent_on row good;
+        grows = omega (arith, spent_on);
+        bytes = e.bytes;
+      }
+
+-- So a turn through the row that was put is one into the field.
+pub far_turned : (w mid then : Walk) (m q new : Lent) (under : Waiting) (waiting : ℕ) (top on past : Frame) (child : Child) → BeginsRow w mid m q under waiting top on → (turn : Turn) → RowTurned mid then q new under on past child turn
+    → FieldTurned w then m new under top past child turn
+far_turned w mid then m q new under waiting top on past child b turn t = into_turned w then m q new under top on past child b.table b.next b.paid b.grows b.bytes turn (rw b.same at t)

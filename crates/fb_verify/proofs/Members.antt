@@ -2,17 +2,14 @@
 use Rattle.std.proofs.Common.{◌≡◌, refl, Option, Some, None}
 use Rattle.fb_schema.specs.declared.kinds.Kind.{Kind}
 use Rattle.fb_schema.specs.declared.kinds.Kind.TheVariants.{Scalar, Text, Struct, Table, Union, Scalars, Texts, Structs, Tables, Unions}
-use Rattle.fb_schema.specs.declared.targets.Targets.{Targets}
 use Rattle.fb_schema.specs.declared.views.Target.{Target}
 use Rattle.fb_schema.specs.Rows.{Rows}
 use Rattle.fb_schema.specs.Served.{MemberHolds}
 use Rattle.fb_schema.specs.Targets.{target_of, kind_to}
 use Rattle.fb_verify.specs.Fields.{to_nothing, lead_of}
-use Rattle.fb_verify.specs.declared.offset_row.Leads.{Leads}
-use Rattle.fb_verify.specs.declared.offset_row.Leads.TheVariants.{All, ByType}
 use Rattle.fb_verify.specs.declared.offset_row.Referent.{Referent}
 use Rattle.fb_verify.specs.declared.offset_row.Referent.TheVariants.{Text as AText, Table as ATable, Struct as AStruct, Nothing}
-use Rattle.fb_verify.specs.OffsetRows.{lead_to, lead_to_goal, leads_after, AreTargetsOf, GoalHolds}
+use Rattle.fb_verify.specs.OffsetRows.{lead_to, lead_to_goal, GoalHolds}
 
 leads : (S : Rows) (member : Option Kind) → lead_to_goal ((target_of S member).goal) (target_of S member) ≡ lead_of S member
 leads S None = refl
@@ -45,10 +42,6 @@ holds S (Some (Unions e)) h = tt
 
 pub goal_holds : (S : Rows) (member : Option Kind) (t : Target) → t ≡ target_of S member → MemberHolds S member → GoalHolds S t.goal t
 goal_holds S member t is h = rw is (holds S member h)
-
-pub targets_after : (S : Rows) (targets : Targets) (leads : Leads) → AreTargetsOf S targets leads → AreTargetsOf S targets (leads_after leads)
-targets_after S targets (All referent) h = tt
-targets_after S targets (ByType e q) h = h
 
 -- a type that leads to nothing has no member, where the members of unions are what unions may hold
 pub no_member : (S : Rows) (member : Option Kind) → kind_to (target_of S member) ≡ member → to_nothing ≡ lead_of S member → member ≡ None

@@ -21,10 +21,11 @@ use Rattle.fb_verify.specs.declared.stack.Turn.TheVariants.{Down, Up, Slowly, Ha
 use Rattle.fb_verify.specs.declared.stack.Walk.{Walk}
 use Rattle.fb_verify.specs.Bounds.{AreAllowed}
 use Rattle.fb_verify.specs.Flat.{MayOpen}
+use Rattle.fb_verify.specs.OffsetRows.{past_first}
 use Rattle.fb_verify.specs.Order.{after, head_failure}
 use Rattle.fb_verify.specs.PassesOn.{HasRoom, fields_left}
 use Rattle.fb_verify.specs.Plain.{tested_by}
-use Rattle.fb_verify.specs.Stack.{blank, opened, Origin, Waiting, work, IsWalking, IsAtField, IsOver, StopsIn, HaltsIn, links_left}
+use Rattle.fb_verify.specs.Stack.{blank, opened, Origin, Waiting, frame_work, work, IsWalking, IsAtField, IsOver, StopsIn, HaltsIn, links_left}
 
 -- a count that 64 bits hold with room to spare
 abbrev pub IsShort : ℕ → Type 0
@@ -124,6 +125,29 @@ pub record Halts (w then : Walk) (m new : Lent) (under : Waiting) (past : Frame)
   pub err : HaltsIn w m under.start (take (then.halt).links (under.frames ++ past ∷ [])) then.halt new.count
   pub bytes : new.bytes ≡ m.bytes
 
+-- the walk goes on in this row, and the limits allow its first word to be passed, and a table to which it may lead to
+-- be opened
+pub record IsAtMember (w : Walk) (m : Lent) (under : Waiting) (waiting room : ℕ) (top : Frame) (row : Row) : Type 0 where
+  pub members : IsAtMembers w m under waiting (record top { row = row })
+  pub fewer : w.tables < (w.limits).tables
+  pub small : (w.limits).tables < 2 ^ 32
+  pub few : m.count + 8 ≤ room
+  pub allowed : AreAllowed (w.limits).reads room
+  pub short : IsShort room
+
+-- that word was passed
+pub record PassesMember (w then : Walk) (m new : Lent) (under : Waiting) (top past : Frame) (row left : Row) : Type 0 where
+  pub on : GoesOn w then m new under (record top { row = row }) (record top { row = left })
+  pub same : past ≡ top
+  pub word : left ≡ past_first row
+
+-- or it leads to a table that is to be opened, or it fails
+abbrev pub MemberTurned : (w then : Walk) → (m new : Lent) → (under : Waiting) → (top past : Frame) → (row left : Row) → (child : Child) → Turn → Type 0
+MemberTurned w then m new under top past row left child Down = GoesDown w then m new under (record top { row = row }) past child
+MemberTurned w then m new under top past row left child Up = PassesMember w then m new under top past row left
+MemberTurned w then m new under top past row left child Slowly = ⊥
+MemberTurned w then m new under top past row left child Halted = Halts w then m new under past
+
 -- a turn through the words of the top's row
 abbrev pub RowTurned : (w then : Walk) → (m new : Lent) → (under : Waiting) → (top past : Frame) → (child : Child) → Turn → Type 0
 RowTurned w then m new under top past child Down = GoesDown w then m new under top past child
@@ -163,6 +187,22 @@ pub record GoesIntoField (w then : Walk) (m new : Lent) (under : Waiting) (top p
   pub bytes : new.bytes ≡ m.bytes
   pub short : IsShort (new.count + 3)
   pub grows : m.count ≤ new.count
+
+-- or up to the words by which it leads on, which are in the row
+pub record BeginsRow (w then : Walk) (m new : Lent) (under : Waiting) (waiting : ℕ) (top past : Frame) : Type 0 where
+  pub same : then ≡ w
+  pub row : IsInRow w new under waiting past
+  pub table : past.table ≡ top.table
+  pub next : past.next ≡ top.next + 1
+  pub paid : new.count + frame_work w.schema.now past ≤ m.count - 1 + frame_work w.schema.now top
+  pub grows : m.count ≤ new.count
+  pub bytes : new.bytes ≡ m.bytes
+
+abbrev pub WordsPut : (w then : Walk) → (m new : Lent) → (under : Waiting) → (waiting : ℕ) → (top past : Frame) → Turn → Type 0
+WordsPut w then m new under waiting top past Down = BeginsRow w then m new under waiting top past
+WordsPut w then m new under waiting top past Up = PassedField w then m new under top past
+WordsPut w then m new under waiting top past Slowly = ⊥
+WordsPut w then m new under waiting top past Halted = Halts w then m new under past
 
 -- a turn into a field that may lead on
 abbrev pub FieldTurned : (w then : Walk) → (m new : Lent) → (under : Waiting) → (top past : Frame) → (child : Child) → Turn → Type 0

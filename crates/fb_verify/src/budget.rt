@@ -9,7 +9,7 @@ ghost use Rattle.fb_verify.specs.declared.fault.Reason.TheVariants.{TooManyReads
 
 use crate::fault::Reason;
 use crate::limits::Limits;
-use crate::site::{Site, Stop, refuse};
+use crate::site::{Refusal, Site, Stop};
 use fb_bytes::{Loan, Reads};
 
 /// Asks whether the limits allow the reads that were made. Where they don't, the walk stops at this site and position.
@@ -22,7 +22,8 @@ pub fn ask_reads(loan: &Loan<'_>, limits: Limits, site: Site, at: u64) -> Result
     if limits.allows(loan.reads()) {
         return Ok(());
     }
-    let refusal = refuse(at, Reason::TooManyReads);
+    let reason = Reason::TooManyReads;
+    let refusal = Refusal { at, reason };
     Err(Stop { site, refusal })
 }
 
@@ -35,7 +36,7 @@ pub fn tell(site: Site, failed: Option<Reason>, at: u64) -> Result<(), Stop>
     match failed {
         None => Ok(()),
         Some(reason) => {
-            let refusal = refuse(at, reason);
+            let refusal = Refusal { at, reason };
             Err(Stop { site, refusal })
         }
     }

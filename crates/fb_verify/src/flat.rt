@@ -10,12 +10,13 @@ ghost use Rattle.fb_verify.specs.Alike.{IsSmallStep, IsKept};
 ghost use Rattle.fb_verify.specs.declared.passed.Sizes.TheVariants.{Small};
 ghost use Rattle.fb_verify.specs.Cost.{head_reads};
 ghost use Rattle.fb_verify.specs.Flat.{in_head, frame_at, Going, MayPass, PassesFlat};
+ghost use Rattle.fb_verify.specs.OffsetRows.{AreTargetsOf};
 ghost use Rattle.fb_verify.specs.Order.{head_failure};
 ghost use Rattle.fb_verify.specs.PassesOn.{IsBetween, HasRoom, Passage, PassesOn, CameTo};
 ghost use Rattle.fb_verify.specs.Plain.{IsTested};
 ghost use Rattle.fb_verify.specs.Stack.{opened, Waiting};
 ghost use Rattle.fb_verify.specs.StopsAt.{IsStopAt};
-ghost use Rattle.fb_verify.specs.Turns.{IsAtMembers, IsAtFlats, RowTurned};
+ghost use Rattle.fb_verify.specs.Turns.{IsAtMember, IsAtMembers, IsAtFlats, MemberTurned, RowTurned};
 ghost use Rattle.fb_verify.specs.declared.offset_row.Leads.TheVariants.{ByType};
 ghost use Rattle.fb_verify.specs.declared.stack.Turn.TheVariants.{Halt as Halted};
 ghost use Rattle.fb_verify.specs.declared.site.LastLink.TheVariants.{Behind, InField};
@@ -32,7 +33,7 @@ use crate::site::LastLink;
 use crate::stack::{Turn, Walk};
 use crate::table::{Child, NO_HEAD, Table};
 use fb_bytes::Reads;
-use fb_schema::{Schema, Step};
+use fb_schema::{Schema, Step, Targets};
 
 /// The number of no field: the head of a table is under check.
 pub const IN_HEAD: u32 = 4_294_967_295;
@@ -433,6 +434,57 @@ impl<'s, 'n> Walk<'s, 'n> {
         row.left > 0 && self.tables < self.limits.tables() && reads.count() + 8 <= room
     }
 
+    /// Passes the first offset word of a row, with what it leads to, and answers `Up`; unless that is a table of which a
+    /// field may lead on, or for whose fields there is no room up to so many reads: such a table is to be opened. The
+    /// top is left with the row past that word, if it is to be opened or the walk stops. So many frames wait below it.
+    #[inline(always)]
+    pub fn pass_member(
+        &mut self,
+        checks: Checks,
+        reads: &mut Reads<'_>,
+        waiting: u32,
+        room: u64,
+        targets: Targets<'_>,
+        row: &mut Row,
+        top: &mut Frame,
+        child: &mut Child,
+    ) -> Turn
+        ghost under: { Waiting }
+        requires member { IsAtMember self.old reads.old under waiting room top.old row.old }
+        requires targets { AreTargetsOf self.old.schema.now targets row.old.leads }
+        requires same { checks ≡ self.old.checks }
+        ensures { MemberTurned self.old self.new reads.old reads.new under top.old top.new row.old row.new child.new result }
+    {
+        let schema = self.schema;
+        let referent = first_referent(reads, targets, schema, *row);
+        let mut at = row.place;
+        let failed = test_lead(reads, checks, &mut at, referent);
+        if let Some(reason) = failed {
+            let stop = stop_at_word(top, *row, at, reason);
+            return self.stop(stop, waiting + 1, LastLink::Behind);
+        }
+        row.advance();
+        if let Referent::Table(object) = referent {
+            self.count_table(waiting + 2);
+            let steps = schema.steps_of(object);
+            if !schema.is_plain(object) || reads.count() + 4 + 6 * steps.len() as u64 > room {
+                top.row = *row;
+                child.object = object;
+                child.at = at;
+                return Turn::Down;
+            }
+            let mut next = 0;
+            let came = pass_flat(
+                self, top, *row, reads, checks, object, steps, schema, &mut next, &mut at,
+            );
+            if let Some(reason) = came {
+                top.row = *row;
+                return self.stop_in_flat(object, next, at, reason, waiting + 1);
+            }
+        }
+        Turn::Up
+    }
+
     /// Passes offset words that are left of the top table's field, each with what it leads to by these types of a
     /// union, until one leads to a table of which a field may lead on, which is to be opened. So many frames wait below
     /// the top.
@@ -464,31 +516,9 @@ impl<'s, 'n> Walk<'s, 'n> {
             left: top.row.left,
         };
         while self.has_member(reads, row, room) {
-            let referent = first_referent(reads, targets, schema, row);
-            let mut at = row.place;
-            let failed = test_lead(reads, checks, &mut at, referent);
-            if let Some(reason) = failed {
-                let stop = stop_at_word(top, row, at, reason);
-                return self.stop(stop, waiting + 1, LastLink::Behind);
-            }
-            row.advance();
-            if let Referent::Table(object) = referent {
-                self.count_table(waiting + 2);
-                let steps = schema.steps_of(object);
-                if !schema.is_plain(object) || reads.count() + 4 + 6 * steps.len() as u64 > room {
-                    top.row = row;
-                    child.object = object;
-                    child.at = at;
-                    return Turn::Down;
-                }
-                let mut next = 0;
-                let came = pass_flat(
-                    self, top, row, reads, checks, object, steps, schema, &mut next, &mut at,
-                );
-                if let Some(reason) = came {
-                    top.row = row;
-                    return self.stop_in_flat(object, next, at, reason, waiting + 1);
-                }
+            match self.pass_member(checks, reads, waiting, room, targets, &mut row, top, child) {
+                Turn::Up => {}
+                turn => return turn,
             }
         }
         top.row = row;

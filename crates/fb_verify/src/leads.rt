@@ -1,25 +1,27 @@
-// The offset words by which a present field leads on, put into a row.
+// The offset words by which a present field leads on, put into a row, or passed at once.
 
-ghost use Rattle.std.specs.Prelude.{◌≡◌, ◌+◌, ◌*◌, ◌^◌, ◌<◌, ◌≤◌, length, IfSome, IsTrue, None, nat_lt};
+ghost use Rattle.std.specs.Prelude.{◌≡◌, ◌+◌, ◌*◌, ◌^◌, ◌<◌, ◌≤◌, length, IfSome, IsTrue, None, nat_lt, true, false};
 ghost use Rattle.fb_bytes.specs.Word.{word};
+ghost use Rattle.fb_schema.specs.declared.kinds.Kind.TheVariants.{Union};
 ghost use Rattle.fb_schema.specs.Rows.{is_union};
 ghost use Rattle.fb_schema.specs.Members.{member_of};
 ghost use Rattle.fb_schema.specs.Live.{live_of_view};
 ghost use Rattle.fb_schema.specs.Served.{IsServed};
 ghost use Rattle.fb_verify.specs.Cost.{present_reads, reads_at, slot_reads};
 ghost use Rattle.fb_verify.specs.Fields.{entries_of, entries_at, type_place, type_count, types_begin, union_entry};
-ghost use Rattle.fb_verify.specs.OffsetRows.{MayPut, LeavesRow, PutsWords, type_of_slot, type_reads, types_reads, TypeFits, TypesFit};
+ghost use Rattle.fb_verify.specs.OffsetRows.{AreAll, MayPut, LeavesRow, PutsWords, type_of_slot, type_reads, types_reads, TypeFits, TypesFit};
 ghost use Rattle.fb_verify.specs.Order.{after, table_failure, failure_at, present_failure, union_field_failure, unions_field_failure, vector_field_failure};
 ghost use Rattle.fb_verify.specs.Places.{field_place, has_slot, target};
 ghost use Rattle.fb_verify.specs.Plain.{tested_by, IsTested, place_from};
 ghost use Rattle.fb_verify.specs.Told.{IsPlaced, IsVtable};
 ghost use Rattle.fb_verify.specs.declared.offset_row.Leads.TheVariants.{All, ByType};
 ghost use Rattle.fb_verify.specs.Stack.{Waiting};
-ghost use Rattle.fb_verify.specs.Turns.{IsAtFarField, IsAtOpenField, IsFar, FieldTurned};
+ghost use Rattle.fb_verify.specs.Turns.{AllowsTable, IsAtFarField, IsAtOpenField, IsFar, IsShort, WordsPut, FieldTurned};
 
 use crate::checks::{Checks, PUBLISHED};
 use crate::fault::Reason;
-use crate::offset_row::{Leads, Referent, Row, referent_at};
+use crate::leaves::NO_TARGETS;
+use crate::offset_row::{Leads, NO_ROW, Referent, Row, referent_at};
 use crate::plain::{fails, test_end, test_inline_field, test_vector_field};
 use crate::scratch::Frame;
 use crate::stack::{Turn, Walk};
@@ -163,6 +165,7 @@ fn put_union(
     requires placed { IsPlaced checks reads.old.bytes table.at table.head at }
     requires rests { row.old.left ≡ 0 }
     ensures tested { IsTested reads.old reads.new at (after (type_reads reads.old.bytes table.at slot) (union_field_failure checks reads.old.bytes table.at at (member_of schema.now union (type_of_slot reads.old.bytes table.at slot)))) (type_reads reads.old.bytes table.at slot) result }
+    ensures one { result ≡ None → 0 < row.new.left → (row.new.left ≡ 1) × AreAll row.new.leads }
     ensures leads { result ≡ None → LeavesRow reads.old.bytes schema.now (union_entry schema.now at (member_of schema.now union (type_of_slot reads.old.bytes table.at slot))) row.old row.new (nat_lt 0 row.new.left) }
 {
     schema.lawful();
@@ -336,9 +339,10 @@ impl Walk<'_, '_> {
 }
 
 impl<'s, 'n> Walk<'s, 'n> {
-    /// Goes into the top's next field, which stands there and leads on by the words of a vector or by that of a union.
+    /// Goes into the top's next field, which stands there and leads on by the words of a vector or by that of a union:
+    /// up to the first of these words, and answers `Down`; or past the field where there is none, and answers `Up`.
     #[inline(always)]
-    fn go_far_by(
+    fn put_far(
         &mut self,
         checks: Checks,
         reads: &mut Reads<'_>,
@@ -346,13 +350,12 @@ impl<'s, 'n> Walk<'s, 'n> {
         at: u64,
         field: &FieldView<'_>,
         top: &mut Frame,
-        child: &mut Child,
     ) -> Turn
         ghost under: { Waiting }
         requires field { IsAtOpenField self.old reads.old under waiting top.old at (live_of_view field.now) }
         requires far { IsFar (field.now).kind }
         requires same { checks ≡ self.old.checks }
-        ensures { FieldTurned self.old self.new reads.old reads.new under top.old top.new child.new result }
+        ensures { WordsPut self.old self.new reads.old reads.new under waiting top.old top.new result }
     {
         let _schema = self.schema;
         top.next += 1;
@@ -365,10 +368,10 @@ impl<'s, 'n> Walk<'s, 'n> {
             return Turn::Up;
         }
         top.number = field.number;
-        self.pass_row(reads, waiting, top, child)
+        Turn::Down
     }
 
-    /// The same, whatever the checks are.
+    /// Goes into that field, whatever the checks are, or where a limit may be met in a union.
     #[cold]
     #[inline(never)]
     fn go_far_by_checks(
@@ -385,10 +388,71 @@ impl<'s, 'n> Walk<'s, 'n> {
         requires far { IsFar (field.now).kind }
         ensures { FieldTurned self.old self.new reads.old reads.new under top.old top.new child.new result }
     {
-        self.go_far_by(self.checks, reads, waiting, at, field, top, child)
+        match self.put_far(self.checks, reads, waiting, at, field, top) {
+            Turn::Down => self.pass_row(reads, waiting, top, child),
+            turn => turn,
+        }
     }
 
-    /// The same, quickly where the checks are the published ones, which are constants then.
+    /// Whether the limits allow a union to be tested by itself and its word to be passed, and one more table to be opened
+    /// behind it, where so many are open: by thirteen reads at most.
+    #[inline(always)]
+    fn may_pass_union(&self, reads: &Reads<'_>, links: u32, room: u64) -> bool
+        requires few { IsShort reads.now.count }
+        ensures limits { result ≡ true → AllowsTable self.now links }
+        ensures room { result ≡ true → reads.now.count + 13 ≤ room }
+    {
+        self.allows_table(links) && reads.count() + 13 <= room
+    }
+
+    /// Goes into the top's next field, which stands there and is a union, by the published checks: with what it refers
+    /// to in registers, where no limit may be met.
+    #[inline(never)]
+    fn go_to_union(
+        &mut self,
+        reads: &mut Reads<'_>,
+        waiting: u32,
+        at: u64,
+        field: &FieldView<'_>,
+        union: u32,
+        top: &mut Frame,
+        child: &mut Child,
+    ) -> Turn
+        ghost under: { Waiting }
+        requires field { IsAtOpenField self.old reads.old under waiting top.old at (live_of_view field.now) }
+        requires union { (field.now).kind ≡ Union union }
+        requires same { record { alignment = true; inline_size = false } ≡ self.old.checks }
+        ensures { FieldTurned self.old self.new reads.old reads.new under top.old top.new child.new result }
+    {
+        let schema = self.schema;
+        let room = self.limits.short();
+        if !self.may_pass_union(reads, waiting + 1, room) {
+            return self.go_far_by_checks(reads, waiting, at, field, top, child);
+        }
+        let table = top.table;
+        let mut row = NO_ROW;
+        let failed = put_union(
+            reads, PUBLISHED, schema, table, at, field.slot, union, &mut row,
+        );
+        if let Some(reason) = failed {
+            return self.stop_in_field(table.object, top.next, at, reason, waiting);
+        }
+        top.next += 1;
+        if row.left == 0 {
+            return Turn::Up;
+        }
+        top.number = field.number;
+        let turn = self.pass_member(
+            PUBLISHED, reads, waiting, room, NO_TARGETS, &mut row, top, child,
+        );
+        if let Turn::Up = turn {
+            top.row = row;
+        }
+        turn
+    }
+
+    /// Goes into the top's next field, which stands there and leads on by the words of a vector or by that of a union:
+    /// quickly where the checks are the published ones, which are constants then.
     #[inline(never)]
     pub fn go_far(
         &mut self,
@@ -406,6 +470,12 @@ impl<'s, 'n> Walk<'s, 'n> {
         if !self.checks.are_published() {
             return self.go_far_by_checks(reads, waiting, at, field, top, child);
         }
-        self.go_far_by(PUBLISHED, reads, waiting, at, field, top, child)
+        if let Kind::Union(union) = field.kind {
+            return self.go_to_union(reads, waiting, at, field, union, top, child);
+        }
+        match self.put_far(PUBLISHED, reads, waiting, at, field, top) {
+            Turn::Down => self.pass_row_by(PUBLISHED, reads, waiting, top, child),
+            turn => turn,
+        }
     }
 }

@@ -20,8 +20,8 @@ use crate::table::Child;
 use fb_bytes::Reads;
 use fb_schema::{Schema, Targets};
 
-/// No targets.
-const NO_TARGETS: Targets<'static> = Targets {
+/// No targets, for words that all refer to the same.
+pub const NO_TARGETS: Targets<'static> = Targets {
     places: &[],
     targets: &[],
 };

@@ -23,15 +23,6 @@ pub struct Refusal {
     pub reason: Reason,
 }
 
-/// The refusal at this position. It stands apart, so that a walk keeps its registers for what it passes.
-#[cold]
-#[inline(never)]
-pub fn refuse(at: u64, reason: Reason) -> Refusal
-    ensures { result ≡ record { at = at; reason = reason } }
-{
-    Refusal { at, reason }
-}
-
 /// Where a walk stops, and why. The refusal stands first, so that in an answer that is this or an open table, numbers
 /// of eight bytes share a place with numbers of eight bytes, and none is written in pieces.
 #[derive(Clone, Copy)]

@@ -33,7 +33,8 @@ use fb_schema::{Schema, Step};
 pub enum Turn {
     /// In a table below, which is to be opened.
     Down,
-    /// In the table above: the top is passed to its end. In a row, with the next field.
+    /// In the table above: the top is passed to its end. In a row, with the next field; at one of its words, with the
+    /// next one.
     Up,
     /// By single units, since a limit may be met in the next one.
     Slowly,
@@ -184,7 +185,7 @@ impl<'s, 'n> Walk<'s, 'n> {
 
     /// The same, but for the reads.
     #[inline(always)]
-    fn allows_table(&self, links: u32) -> bool
+    pub fn allows_table(&self, links: u32) -> bool
         ensures { result ≡ true → AllowsTable self.now links }
     {
         links < self.limits.depth() && self.tables < self.limits.tables()
@@ -267,7 +268,7 @@ impl<'s, 'n> Walk<'s, 'n> {
 
     /// Passes the words of the top's row until one leads to a table that is to be opened.
     #[inline(always)]
-    fn pass_row_by(
+    pub fn pass_row_by(
         &mut self,
         checks: Checks,
         reads: &mut Reads<'_>,
@@ -281,13 +282,8 @@ impl<'s, 'n> Walk<'s, 'n> {
         ensures { RowTurned self.old self.new reads.old reads.new under top.old top.new child.new result }
     {
         let is_deepest = waiting + 1 >= self.limits.depth();
+        // Unions come behind tables, so that the loops over them lie well, which bench/jumps tells of.
         match top.row.leads {
-            Leads::ByType(union, types) => {
-                if is_deepest {
-                    return Turn::Slowly;
-                }
-                self.pass_members_on(checks, reads, waiting, union, types, top, child)
-            }
             Leads::All(Referent::Table(object)) => {
                 if !self.schema.is_plain(object) {
                     return self.next_table(checks, reads, waiting, object, top.row, top, child);
@@ -296,6 +292,12 @@ impl<'s, 'n> Walk<'s, 'n> {
                     return Turn::Slowly;
                 }
                 self.pass_flats_on(checks, reads, waiting, object, top)
+            }
+            Leads::ByType(union, types) => {
+                if is_deepest {
+                    return Turn::Slowly;
+                }
+                self.pass_members_on(checks, reads, waiting, union, types, top, child)
             }
             Leads::All(referent) => self.pass_words(checks, reads, waiting, referent, top),
         }

@@ -22,7 +22,7 @@ use crate::leaves::{first_referent, targets_of};
 use crate::offset_row::{Referent, Row};
 use crate::plain::{slot_at, test_head, test_lead};
 use crate::scratch::Frame;
-use crate::site::{Halt, LastLink, Site, Stop, refuse};
+use crate::site::{Halt, LastLink, Refusal, Site, Stop};
 use crate::stack::Walk;
 use crate::table::{Child, Head, NO_HEAD, Table};
 use fb_bytes::Loan;
@@ -75,11 +75,17 @@ impl<'s, 'n> Walk<'s, 'n> {
         ensures bytes { loan.new.bytes ≡ loan.old.bytes }
     {
         if links >= self.limits.depth() {
-            let refusal = refuse(child.at, Reason::TooDeep);
+            let refusal = Refusal {
+                at: child.at,
+                reason: Reason::TooDeep,
+            };
             return Err(Stop { site, refusal });
         }
         if self.tables >= self.limits.tables() {
-            let refusal = refuse(child.at, Reason::TooManyTables);
+            let refusal = Refusal {
+                at: child.at,
+                reason: Reason::TooManyTables,
+            };
             return Err(Stop { site, refusal });
         }
         self.tables += 1;

@@ -41,5 +41,6 @@ returns c =
         bytes = ap (λ m. m.bytes) counted;
         base = ap (λ m. m.base) counted;
       };
+      one = λ ok more. rw (c.put_word.ensures.row ok) (refl, tt);
       leads = λ ok. rw (sym value, some.1, c.put_word.ensures.row ok) (record { none = λ x. absurd cc; entries = λ _. ap (λ l. entry l c.args.at 0 ∷ []) (sym lead); row = λ _. (record { place = omega (arith, c.requires.placed.place); left = omega arith; leads = λ _. e.referent }, omega arith) });
     }

@@ -1,19 +1,19 @@
-use Rattle.std.proofs.Common.{◌≡◌, [], ◌∷◌, ◌++◌}
+use Rattle.std.proofs.Common.{◌≡◌}
 use Rattle.fb_verify.specs.OffsetRows.{AreTargetsOf}
 use Rattle.fb_verify.specs.Turns.{GoesOn}
 use Rattle.fb_verify.proofs.stack.Walk.pass_members.Given as goal
 
 -- the walk goes on in the same field, between two offset words
-abbrev pub invariant-loop-schema : goal.invariant-loop-schema
-invariant-loop-schema g l = record {
+abbrev pub invariant-loop-targets : goal.invariant-loop-targets
+invariant-loop-targets g l = record {
   on : GoesOn l.fn.self l.self l.fn.reads l.reads g.under l.fn.top (record l.top { row = l.row });
   next : l.top.next ≡ l.fn.top.next;
   targets : AreTargetsOf l.fn.self.schema.now l.targets (l.row).leads;
 }
 
-abbrev pub decreases-loop-schema : goal.decreases-loop-schema
-decreases-loop-schema g l = (l.row).left
+abbrev pub decreases-loop-targets : goal.decreases-loop-targets
+decreases-loop-targets g l = (l.row).left
 
--- the top waits for the table that is passed
-abbrev pub ghost-pass_flat : goal.ghost-pass_flat
-ghost-pass_flat g a = record { walk = (a.walk).now; under = record { start = (g.under).start; frames = (g.under).frames ++ record (a.above).now { row = a.row } ∷ [] } }
+-- the same frames wait
+abbrev pub ghost-pass_member : goal.ghost-pass_member
+ghost-pass_member g a = g.under

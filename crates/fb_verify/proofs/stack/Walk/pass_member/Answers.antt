@@ -1,0 +1,165 @@
+use Rattle.std.proofs.Common.{None, ◌≡◌, ◌≤◌, ◌+◌, max, length, refl, sym, ◌∙◌, ap, subst, arith}
+use Rattle.fb_schema.specs.Live.{live_fields}
+use Rattle.fb_schema.specs.Steps.{step_of}
+use Rattle.fb_verify.specs.declared.offset_row.Row.{Row}
+use Rattle.fb_verify.specs.declared.stack.Walk.{Walk}
+use Rattle.fb_verify.specs.declared.table.Child.{Child}
+use Rattle.fb_verify.specs.Cost.{lead_reads}
+use Rattle.fb_verify.specs.Fields.{Entry}
+use Rattle.fb_verify.specs.Order.{after, element_failure}
+use Rattle.fb_verify.specs.OffsetRows.{lead_to, first_word, IsReferent, IsLeafLead}
+use Rattle.fb_verify.specs.Plain.{tested_by}
+use Rattle.fb_verify.specs.Turns.{GoesOn}
+use Rattle.fb_verify.proofs.Budgets.{fewer_reads}
+use Rattle.fb_verify.proofs.Chains.{after_none}
+use Rattle.fb_verify.proofs.Frames.{first_few, length_map}
+use Rattle.fb_verify.proofs.LeafRows.{word_told, is_leaf}
+use Rattle.fb_verify.proofs.RowTurns.{stays, two, Counts, word_passed, flat_comes, goes_down, table_passed, table_halts, word_halts}
+use Rattle.fb_verify.proofs.Walking.{leaf_passed}
+use Rattle.fb_verify.proofs.stack.Walk.pass_member.Goals as goal
+use Rattle.fb_verify.proofs.stack.Walk.pass_member.Goals.{After-test_lead-failed, After-count_table}
+
+-- the first word of the row
+abbrev first : (g : _) → After-test_lead-failed g → Entry
+first g c = first_word c.args.reads.now.bytes c.args.self.now.schema.now c.args.row.now
+
+-- the walk is before it
+on : (g : _) (c : After-test_lead-failed g) → GoesOn c.args.self.now c.args.self.now c.args.reads.now c.args.reads.now g.under (record c.args.top.now { row = c.args.row.now }) (record c.args.top.now { row = c.args.row.now })
+on g c =
+    let r = ((c.requires.0).members).row in
+    stays c.args.self.now c.args.reads.now g.under _ r.walking r.short
+
+-- the word leads to what was found
+leads : (g : _) (c : After-test_lead-failed g) → lead_to c.first_referent-referent.result ≡ (first g c).lead
+leads g c = c.first_referent-referent.ensures.lead
+
+-- its type was read
+typed : (g : _) (c : After-test_lead-failed g) → c.first_referent-referent.new.reads.count ≡ c.args.reads.now.count + (first g c).reads
+typed g c = ap (λ x. x.count) c.first_referent-referent.ensures.counted
+
+-- what the test of the word tells
+told : (g : _) (c : After-test_lead-failed g)
+    → tested_by c.test_lead-failed.new.at c.test_lead-failed.new.reads.count c.test_lead-failed.result ≡ after c.args.reads.now.count (element_failure c.args.self.now.checks c.args.reads.now.bytes (first g c))
+told g c =
+    let r = c.args.reads.now.count in
+    word_told (((c.requires.0).members).row).walking (lead_to c.first_referent-referent.result) (leads g c)
+    r c.first_referent-referent.new.reads.count (typed g c) _ (rw (ap (λ x. x.bytes) c.first_referent-referent.ensures.counted, c.requires.1.1) at c.test_lead-failed.ensures.told)
+
+-- where it tells nothing, the word holds
+holds : (g : _) (c : After-test_lead-failed g) → c.test_lead-failed.result ≡ None → element_failure c.args.self.now.checks c.args.reads.now.bytes (first g c) ≡ None
+holds g c none =
+    (after_none c.args.reads.now.count (element_failure c.args.self.now.checks c.args.reads.now.bytes (first g c))).0 (sym (told g c) ∙ ap (tested_by c.test_lead-failed.new.at c.test_lead-failed.new.reads.count) none)
+
+-- and was paid for
+paid : (g : _) (c : After-test_lead-failed g) → c.test_lead-failed.result ≡ None → c.test_lead-failed.new.reads.count ≡ c.args.reads.now.count + (first g c).reads + lead_reads (first g c).lead
+paid g c none = omega (arith, c.test_lead-failed.ensures.counted none, ap lead_reads (leads g c), typed g c)
+
+-- by few reads
+few : (g : _) (c : After-test_lead-failed g) → c.test_lead-failed.result ≡ None → c.test_lead-failed.new.reads.count ≤ c.args.reads.now.count + 4
+few g c none = omega (arith, paid g c none, first_few c.args.reads.now.bytes c.args.self.now.schema.now c.args.row.now)
+
+-- the bytes stay the same
+kept : (g : _) (c : After-test_lead-failed g) → c.test_lead-failed.new.reads.bytes ≡ c.args.reads.now.bytes
+kept g c = c.test_lead-failed.ensures.bytes ∙ ap (λ x. x.bytes) c.first_referent-referent.ensures.counted
+
+pub returns-in-Some : goal.returns-in-Some
+returns-in-Some g c =
+    let d = (goal.at.returns-in-Some g c).After-test_lead-failed in
+    rw c.stop.ensures.turn
+    (word_halts (on g d) c.test_lead-failed.new.reads c.stop_at_word-stop.new.top c.stop_at_word-stop.result c.stop.new.self c.args.waiting (((c.requires.0).members).row).many (kept g d) ((((c.requires.0).members).row).more)
+    (rw c.in-Some.is at (told g d)) c.stop_at_word-stop.ensures.stop c.stop_at_word-stop.ensures.past (ap (λ (x : Walk). x.halt) c.stop.ensures.halt))
+
+abbrev child_at : (g : _) → After-count_table g → Child
+child_at g c = record { object = c.in-Table.object; at = c.test_lead-failed.new.at }
+
+-- a word that leads to a table is passed, and the table is counted
+counts : (g : _) (c : After-count_table g)
+    → Counts c.args.self.now c.args.self.now c.count_table.new.self c.args.reads.now c.args.reads.now c.test_lead-failed.new.reads g.under (record c.args.top.now { row = c.args.row.now }) (record c.args.top.now { row = c.args.row.now }) c.advance.new.self (child_at g c) (c.args.waiting + 1)
+counts g c =
+    let d = (goal.at.After-count_table g c).After-test_lead-failed in
+    let w = c.args.self.now in
+    let e = c.test_lead-failed.ensures in
+    let none = c.in_default.is in
+    let found = c.first_referent-referent.ensures in
+    record {
+      on = on g d;
+      kept = kept g d;
+      grows = omega (arith, paid g d none);
+      at = rw (kept g d)
+          (record {
+            before = c.args.reads.now.count;
+            count = paid g d none;
+            walking = (((c.requires.0).members).row).walking;
+            more = (((c.requires.0).members).row).more;
+            holds = holds g d none;
+            leads = sym (leads g d) ∙ ap lead_to c.in-Table.is;
+            table = subst (λ x. IsReferent w.schema.now x) c.in-Table.is found.referent;
+            at = rw (ap (λ x. x.bytes) found.counted) at (e.value none c.in-Table.object c.in-Table.is);
+            near = e.near none c.in-Table.object c.in-Table.is;
+            paid = omega arith;
+          });
+      word = c.advance.ensures;
+      many = omega (arith, (((c.requires.0).members).row).many);
+      fewer = (c.requires.0).fewer;
+      deep = ((c.requires.0).members).deep;
+      low = ((c.requires.0).members).low;
+      cheap = fewer_reads (c.args.self.now.limits).reads (c.test_lead-failed.new.reads.count + 3) c.args.room (omega (arith, few g d none, (c.requires.0).few)) (c.requires.0).allowed;
+      is = c.count_table.ensures ∙ ap (λ n. record w { tables = w.tables + 1; deepest = max w.deepest n }) (two c.args.waiting);
+    }
+
+pub returns-then-not-is_plain : goal.returns-then-not-is_plain
+returns-then-not-is_plain g c =
+    let d = (goal.at.returns-then-not-is_plain g c).After-count_table in
+    let e = (goal.at.returns-then-not-is_plain g c).After-test_lead-failed in
+    goes_down (counts g d) (omega (arith, few g e c.in_default.is, (c.requires.0).few, (c.requires.0).short))
+
+pub pass_flat-came-requires : goal.pass_flat-came-requires
+pass_flat-came-requires g c =
+    let d = (goal.at.pass_flat-came-requires g c).After-count_table in
+    let e = (goal.at.pass_flat-came-requires g c).After-test_lead-failed in
+    let count = c.count.ensures.all (omega (arith, few g e c.in_default.is, (c.requires.0).few, (c.requires.0).short)) in
+    let steps = c.steps_of-steps.ensures in
+    flat_comes (counts g d) c.requires.1.1 refl steps.value steps.few (sym c.is_plain.ensures ∙ c.if-not-is_plain.false) (c.requires.0).allowed (omega (arith, c.if-count-steps.false, count)) (c.requires.0).short
+
+pub returns-in-Some-came : goal.returns-in-Some-came
+returns-in-Some-came g c =
+    let d = (goal.at.returns-in-Some-came g c).After-count_table in
+    let e = c.stop_in_flat.ensures in
+    let came = c.pass_flat-came.new in
+    rw e.turn (table_halts (counts g d) came.next came.at c.in-Some-came.reason came.reads c.stop_in_flat.new.self (rw c.in-Some-came.is at c.pass_flat-came.ensures) e.links e.head e.field)
+
+pub returns-in_default-came : goal.returns-in_default-came
+returns-in_default-came g c =
+    let d = (goal.at.returns-in_default-came g c).After-count_table in
+    let e = (goal.at.returns-in_default-came g c).After-test_lead-failed in
+    let count = c.count.ensures.all (omega (arith, few g e c.in_default.is, (c.requires.0).few, (c.requires.0).short)) in
+    let p = c.pass_flat-came.ensures in
+    let none = c.in_default-came.is in
+    let came = c.pass_flat-came.new in
+    let long = ap length c.steps_of-steps.ensures.value ∙ length_map step_of (live_fields c.args.self.now.schema.now c.in-Table.object) in
+    let width = ap (λ (x : Walk). length (live_fields x.schema.now c.in-Table.object)) c.count_table.ensures in
+    record {
+      on = table_passed (counts g d) came.next came.at came.reads (rw none at p) (omega (arith, p.paid none, long, width, c.if-count-steps.false, count, (c.requires.0).short));
+      same = refl;
+      word = c.advance.ensures;
+    }
+
+pub returns-in_default-referent : goal.returns-in_default-referent
+returns-in_default-referent g c =
+    let d = (goal.at.returns-in_default-referent g c).After-test_lead-failed in
+    let i = on g d in
+    let w = c.args.self.now in
+    let none = c.in_default.is in
+    let q = c.test_lead-failed.new.reads in
+    let more = (((c.requires.0).members).row).more in
+    let cost = few g d none in
+    let room = (c.requires.0).few in
+    let left = ap (λ (x : Row). x.left) c.advance.ensures in
+    let leaf = subst (λ x. IsLeafLead x) (leads g d) (is_leaf c.first_referent-referent.result (λ k e. c.in_default-referent.not-Table k e)) in
+    let cheap = fewer_reads (w.limits).reads q.count c.args.room (omega (arith, cost, room)) (c.requires.0).allowed in
+    let passed = leaf_passed i.walking c.advance.new.self q.count c.advance.ensures more (holds g d none) (paid g d none) leaf cheap in
+    record {
+      on = word_passed i c.advance.new.self q (rw (kept g d) passed) (omega (arith, cost, more, left)) (omega (arith, left)) (omega (arith, paid g d none)) (kept g d) (omega (arith, cost, room, (c.requires.0).short));
+      same = refl;
+      word = c.advance.ensures;
+    }
