@@ -1,6 +1,6 @@
-//! A good buffer, and bad ones.
+//! The README's example over a good buffer, and bad ones.
 
-use crate::name_in;
+use name_reader::name_in;
 use std::test::Fail;
 
 /// What flatc 2.0.8 writes for `table Person { name: string; } table Delivery { to: Person; } root_type Delivery;`.
