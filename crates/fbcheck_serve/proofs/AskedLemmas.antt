@@ -5,10 +5,10 @@ use Rattle.fb_schema.specs.Rows.{Rows, is_table}
 use Rattle.fb_bfbs.specs.Fixed.{fixed}
 use Rattle.fbcheck_serve.specs.Asked.{Own, PathsFail, asked_root, path_texts}
 use Rattle.fbcheck_serve.specs.Checking.{IsHint, IsPathHint, IsSchema, IsUntold, LacksJob}
-use Rattle.fbcheck_serve.specs.Hints.{hint_text}
-use Rattle.fbcheck_serve.specs.declared.fault.AskFault.{AskFault}
-use Rattle.fbcheck_serve.specs.declared.fault.AskFault.TheVariants.{OutOfMemory, Path}
-use Rattle.fbcheck_serve.specs.declared.hint.Unasked.{Unasked}
+use Rattle.fbcheck_texts.specs.Hints.{hint_text}
+use Rattle.fbcheck_texts.specs.declared.fault.AskFault.{AskFault}
+use Rattle.fbcheck_texts.specs.declared.fault.AskFault.TheVariants.{OutOfMemory, Path}
+use Rattle.fbcheck_texts.specs.declared.hint.Unasked.{Unasked}
 use Rattle.fbcheck_words.specs.declared.choices.Settings.{Settings}
 
 -- the table Schema of the fixed table is a table

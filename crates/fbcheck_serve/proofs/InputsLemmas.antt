@@ -14,13 +14,13 @@ use Rattle.fb_run.specs.declared.fault.RunFault.{RunFault}
 use Rattle.fb_run.specs.declared.fault.RunFault.TheVariants as run
 use Rattle.fb_run.specs.declared.run.Ran.{Ran}
 use Rattle.fb_run.specs.declared.tally.Tally.{Tally}
-use Rattle.fbcheck_serve.specs.Framing.{end_hint, run_hint}
-use Rattle.fbcheck_serve.specs.declared.framing.By.TheVariants.{Named}
-use Rattle.fbcheck_serve.specs.declared.framing.Framing.{Framing}
-use Rattle.fbcheck_serve.specs.Texts.{of_read, run_text}
+use Rattle.fbcheck_texts.specs.Framing.{end_hint, run_hint}
+use Rattle.fbcheck_texts.specs.declared.framing.By.TheVariants.{Named}
+use Rattle.fbcheck_texts.specs.declared.framing.Framing.{Framing}
+use Rattle.fbcheck_texts.specs.Texts.{of_read, run_text}
 use Rattle.std.specs.declared.io.ErrorKind.{ErrorKind}
 use Rattle.fbcheck_serve.specs.Inputs.{Folder, HaltsAmong, IsBehind, IsBehindEnd, IsBehindFault, IsBehindRun, IsNotedOf, Passes, PassesAll, Stand, Tries, course_with, fault_line, is_final, is_standard, label_of, with_label, standard_after, sum_of_counts, sums, are_named}
-use Rattle.fbcheck_serve.specs.declared.files.FileFault.TheVariants as file
+use Rattle.fbcheck_texts.specs.declared.fault.FileFault.TheVariants as file
 use Rattle.fbcheck_serve.specs.declared.inputs.Course.{Course}
 use Rattle.fbcheck_serve.specs.declared.inputs.Missed.{Missed}
 use Rattle.fbcheck_serve.specs.declared.inputs.Missed.TheVariants as missed

@@ -1,11 +1,8 @@
-mod AlikeLemmas
 mod AskedLemmas
-mod HintLemmas
 mod InputsLemmas
 mod NoteLemmas
 mod OneAsk
 mod PathLemmas
 mod ServingLemmas
-mod TextLemmas
 pub mod ShownInputs
-pub mod ShownTexts
+pub mod ShownStops

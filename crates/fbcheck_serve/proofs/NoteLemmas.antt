@@ -9,11 +9,10 @@ use Rattle.std.proofs.lemmas.List.{length-append}
 use Rattle.std.proofs.Common.{Err, refl, codes}
 use Rattle.std.specs.Global.{Global}
 use Rattle.std.specs.Prelude.{String}
-use Rattle.fbcheck_serve.specs.declared.causes.Causes.{Causes}
+use Rattle.fbcheck_texts.specs.declared.causes.Causes.{Causes}
 use Rattle.fb_run.specs.Ends.{Writer}
 use Rattle.fbcheck_serve.specs.Inputs.{IsNoted}
-use Rattle.fbcheck_serve.specs.Serving.{Complains, behind}
-use Rattle.fbcheck_serve.specs.Texts.{stop_text}
+use Rattle.fbcheck_serve.specs.Serving.{Complains, behind, stop_text}
 use Rattle.fbcheck_serve.specs.declared.stop.Stop.{Stop}
 use Rattle.fbcheck_serve.specs.declared.stop.Stop.TheVariants as stop
 

@@ -21,8 +21,8 @@ use Rattle.fbcheck_serve.specs.Asked.{ArePaths, AsksBy, IsAsked, IsPath, IsPathF
 use Rattle.fbcheck_serve.specs.Inputs.{with_label}
 use Rattle.fbcheck_serve.specs.Checking.{Asks, IsSchema, IsNoSchema, own_of, schema_limits}
 use Rattle.fbcheck_words.specs.declared.choices.Settings.{Settings}
-use Rattle.fbcheck_serve.specs.declared.fault.AskFault.{AskFault}
-use Rattle.fbcheck_serve.specs.declared.fault.AskFault.TheVariants.{Load, Path, NoRoot, NoIdent}
+use Rattle.fbcheck_texts.specs.declared.fault.AskFault.{AskFault}
+use Rattle.fbcheck_texts.specs.declared.fault.AskFault.TheVariants.{Load, Path, NoRoot, NoIdent}
 
 module _ (rows : Rows) (root : ℕ) where
   one_path : (text : List ℕ) (x y : Wanted) → IsPath rows root text x → IsPath rows root text y → x ≡ y

@@ -13,10 +13,10 @@ use Rattle.clap.specs.Walk.{Text}
 use Rattle.fbcheck_words.specs.Refusal.{Refuses}
 use Rattle.fbcheck_serve.specs.Checking.{IsPromptAmongAsked, IsPromptAsAsked, IsPromptOverAsked, RunsAsAsked, ServesAsAsked, names_in}
 use Rattle.fbcheck_serve.specs.Asked.{manner_in}
-use Rattle.fbcheck_serve.specs.Faults.{IsFile}
-use Rattle.fbcheck_serve.specs.Framing.{by_of}
-use Rattle.fbcheck_serve.specs.declared.framing.By.{By}
-use Rattle.fbcheck_serve.specs.declared.framing.Manner.{Manner}
+use Rattle.fbcheck_texts.specs.Faults.{IsFile}
+use Rattle.fbcheck_texts.specs.Framing.{by_of}
+use Rattle.fbcheck_texts.specs.declared.framing.By.{By}
+use Rattle.fbcheck_texts.specs.declared.framing.Manner.{Manner}
 use Rattle.fbcheck_serve.specs.Inputs.{Folder, IsPromptAmong, IsPromptOver, Seen, with_cause}
 use Rattle.fb_run.specs.Job.{Job}
 use Rattle.fb_run.specs.Ends.{Ends, Reader, Writer, beside}
@@ -34,7 +34,7 @@ use Rattle.fbcheck_serve.specs.declared.stop.Ending.TheVariants.{Checked, Passed
 use Rattle.fbcheck_serve.specs.declared.stop.Stop.{Stop}
 use Rattle.fbcheck_serve.specs.declared.stop.Sums.{Sums}
 use Rattle.fbcheck_serve.specs.declared.stop.Stop.TheVariants as stop
-use Rattle.fbcheck_serve.specs.declared.stop.WordsFault.{WordsFault}
+use Rattle.fbcheck_texts.specs.declared.fault.WordsFault.{WordsFault}
 
 module _ (folder : Folder) where
   -- the words give no settings

@@ -23,12 +23,12 @@ use Rattle.fb_run.specs.declared.options.Places.TheVariants.{Numbers, Words}
 use Rattle.fb_run.specs.declared.options.Prefix.{Prefix}
 use Rattle.fb_run.specs.declared.options.Prefix.TheVariants.{Part, Apart}
 use Rattle.fb_run.specs.declared.options.Options.{Options}
-use Rattle.fbcheck_serve.specs.Framing.{by_of, framing_of}
-use Rattle.fbcheck_serve.specs.declared.framing.Framing.{Framing}
-use Rattle.fbcheck_serve.specs.declared.framing.Manner.{Manner}
+use Rattle.fbcheck_texts.specs.Framing.{by_of, framing_of}
+use Rattle.fbcheck_texts.specs.declared.framing.Framing.{Framing}
+use Rattle.fbcheck_texts.specs.declared.framing.Manner.{Manner}
 use Rattle.fbcheck_serve.specs.Inputs.{label_of, with_label}
-use Rattle.fbcheck_serve.specs.declared.fault.AskFault.{AskFault}
-use Rattle.fbcheck_serve.specs.declared.fault.AskFault.TheVariants.{Path, NoRoot, NoIdent, OutOfMemory}
+use Rattle.fbcheck_texts.specs.declared.fault.AskFault.{AskFault}
+use Rattle.fbcheck_texts.specs.declared.fault.AskFault.TheVariants.{Path, NoRoot, NoIdent, OutOfMemory}
 
 -- the root table: the listed one of the name that is asked for, or else the schema's own
 abbrev pub root_of : Rows → Option (List ℕ) → Option ℕ → Option ℕ

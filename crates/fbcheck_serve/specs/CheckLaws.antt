@@ -4,7 +4,7 @@ use Rattle.std.specs.Borrow.{Bor}
 use Rattle.fb_run.specs.Job.{Job}
 use Rattle.fbcheck_serve.specs.Checking.{Asks}
 use Rattle.fbcheck_words.specs.declared.choices.Settings.{Settings}
-use Rattle.fbcheck_serve.specs.declared.fault.AskFault.{AskFault}
+use Rattle.fbcheck_texts.specs.declared.fault.AskFault.{AskFault}
 
 -- a schema file and the settings ask at most one thing
 abbrev pub AsksOnce : Type 0

@@ -14,7 +14,7 @@ use Rattle.fb_bfbs.specs.declared.load_fault.LoadFault.{LoadFault}
 use Rattle.fb_bfbs.specs.declared.load_fault.LoadFault.TheVariants as load
 use Rattle.fb_bfbs.specs.LoadLaws.{ident_bytes}
 use Rattle.fbcheck_serve.specs.Asked.{ArePaths, AsksBy, Own, asked_root, path_texts}
-use Rattle.fbcheck_serve.specs.Hints.{hint_text, path_hint, root_hint, schema_hint}
+use Rattle.fbcheck_texts.specs.Hints.{hint_text, path_hint, root_hint, schema_hint}
 use Rattle.fbcheck_serve.specs.Inputs.{Folder, IsPromptAmong, IsPromptOver, Seen, ServesEach, are_several, at_first, label_of, stand}
 use Rattle.fb_run.specs.Ends.{Ends, Unwritten}
 use Rattle.fb_run.specs.Job.{Job}
@@ -22,13 +22,13 @@ use Rattle.fb_run.specs.Prompt.{IsPrompt}
 use Rattle.fb_run.specs.Run.{IsRunBeside}
 use Rattle.fb_run.specs.Wanted.{Wanted}
 use Rattle.fbcheck_words.specs.declared.choices.Settings.{Settings}
-use Rattle.fbcheck_serve.specs.declared.fault.AskFault.{AskFault}
-use Rattle.fbcheck_serve.specs.declared.fault.AskFault.TheVariants.{Load, NoRoot, Path, OutOfMemory}
-use Rattle.fbcheck_serve.specs.declared.hint.Unasked.{Unasked}
+use Rattle.fbcheck_texts.specs.declared.fault.AskFault.{AskFault}
+use Rattle.fbcheck_texts.specs.declared.fault.AskFault.TheVariants.{Load, NoRoot, Path, OutOfMemory}
+use Rattle.fbcheck_texts.specs.declared.hint.Unasked.{Unasked}
 use Rattle.fbcheck_serve.specs.declared.inputs.Course.{Course}
 use Rattle.fbcheck_serve.specs.declared.inputs.Passed.{Passed}
-use Rattle.fbcheck_serve.specs.declared.fault.CheckFault.{CheckFault}
-use Rattle.fbcheck_serve.specs.declared.fault.CheckFault.TheVariants as check
+use Rattle.fbcheck_texts.specs.declared.fault.CheckFault.{CheckFault}
+use Rattle.fbcheck_texts.specs.declared.fault.CheckFault.TheVariants as check
 use Rattle.fb_run.specs.Faults.{End, EndsBeside, IsUnfailed, failures_of}
 use Rattle.fb_run.specs.declared.run.Ran.{Ran}
 use Rattle.fb_run.specs.declared.tally.Tally.{Tally}

@@ -18,15 +18,15 @@ use Rattle.fb_run.specs.declared.fault.RunFault.TheVariants.{WriteFault, NoteFau
 use Rattle.fb_run.specs.declared.run.Ran.{Ran}
 use Rattle.fb_run.specs.declared.tally.Tally.{Tally}
 use Rattle.std.specs.declared.io.ErrorKind.{ErrorKind}
-use Rattle.fbcheck_serve.specs.Hints.{reason_text}
-use Rattle.fbcheck_serve.specs.Texts.{of_read, run_text}
-use Rattle.fbcheck_serve.specs.Framing.{end_hint, framing_of, run_hint}
-use Rattle.fbcheck_serve.specs.declared.framing.By.TheVariants.{Named}
-use Rattle.fbcheck_serve.specs.declared.framing.Framing.{Framing}
+use Rattle.fbcheck_texts.specs.Hints.{reason_text}
+use Rattle.fbcheck_texts.specs.Texts.{of_read, run_text}
+use Rattle.fbcheck_texts.specs.Framing.{end_hint, framing_of, run_hint}
+use Rattle.fbcheck_texts.specs.declared.framing.By.TheVariants.{Named}
+use Rattle.fbcheck_texts.specs.declared.framing.Framing.{Framing}
 use Rattle.fbcheck_serve.specs.declared.files.Files as files
-use Rattle.fbcheck_serve.specs.declared.causes.Explains as explains
-use Rattle.fbcheck_serve.specs.declared.files.FileFault.{FileFault}
-use Rattle.fbcheck_serve.specs.declared.files.FileFault.TheVariants as file
+use Rattle.fbcheck_texts.specs.declared.causes.Explains as explains
+use Rattle.fbcheck_texts.specs.declared.fault.FileFault.{FileFault}
+use Rattle.fbcheck_texts.specs.declared.fault.FileFault.TheVariants as file
 use Rattle.fbcheck_serve.specs.declared.inputs.Course.{Course}
 use Rattle.fbcheck_serve.specs.declared.inputs.Standard.{Standard}
 use Rattle.fbcheck_serve.specs.declared.inputs.Standard.TheVariants.{Unread, Spent}

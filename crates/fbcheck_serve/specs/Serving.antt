@@ -7,37 +7,37 @@ use Rattle.clap.specs.Walk.{Text}
 use Rattle.clap.specs.Faults.{fault_of}
 use Rattle.fbcheck_serve.specs.Asked.{form_of, manner_in}
 use Rattle.fbcheck_serve.specs.Checking.{IsIdle, IsPromptOverAsked, IsUntold, RunsAsAsked, ServesAsAsked, names_in}
-use Rattle.fbcheck_serve.specs.Hints.{file_hint, hint_text, words_hint}
-use Rattle.fbcheck_serve.specs.Texts.{stop_text}
-use Rattle.fbcheck_serve.specs.Framing.{by_hint, by_of, end_hint, run_hint}
-use Rattle.fbcheck_serve.specs.declared.framing.By.{By}
-use Rattle.fbcheck_serve.specs.declared.framing.Manner.{Manner}
-use Rattle.fbcheck_serve.specs.Faults.{HasFileFault, IsFile, ask_status}
+use Rattle.fbcheck_texts.specs.Hints.{file_hint, hint_text, words_hint}
+use Rattle.fbcheck_texts.specs.Texts.{ask_text, file_text, run_text, unsummed_text, words_text}
+use Rattle.fbcheck_texts.specs.Framing.{by_hint, by_of, end_hint, run_hint}
+use Rattle.fbcheck_texts.specs.declared.framing.By.{By}
+use Rattle.fbcheck_texts.specs.declared.framing.Manner.{Manner}
+use Rattle.fbcheck_texts.specs.Faults.{HasFileFault, IsFile, ask_status}
 use Rattle.fbcheck_serve.specs.Inputs.{Folder, IsNoted, Seen, renoted}
 use Rattle.fbcheck_words.specs.CommandLine.{program}
 use Rattle.fb_run.specs.Ends.{Ends, Writer, with_notes}
 use Rattle.fb_run.specs.Faults.{End, EndsBeside, IsUnfailed, failures_of, status_of}
 use Rattle.fb_run.specs.Lines.{WritesFront}
-use Rattle.fbcheck_words.specs.Refusal.{Refuses, refusal_status}
+use Rattle.fbcheck_words.specs.Refusal.{Refuses, refusal_status, refusal_text}
 use Rattle.fb_run.specs.JsonSums.{summary_in}
 use Rattle.fbcheck_words.specs.Given.{AreGiven}
 use Rattle.fbcheck_words.specs.Values.{text_of}
 use Rattle.fbcheck_words.specs.declared.choices.Settings.{Settings}
 use Rattle.fbcheck_words.specs.declared.choices.SettingsFault.{SettingsFault}
 use Rattle.fbcheck_words.specs.declared.choices.SettingsFault.TheVariants as refusal
-use Rattle.fbcheck_serve.specs.declared.files.FileFault.{FileFault}
-use Rattle.fbcheck_serve.specs.declared.files.FileFault.TheVariants as file_fault
+use Rattle.fbcheck_texts.specs.declared.fault.FileFault.{FileFault}
+use Rattle.fbcheck_texts.specs.declared.fault.FileFault.TheVariants as file_fault
 use Rattle.fbcheck_serve.specs.declared.inputs.Course.{Course}
 use Rattle.fb_run.specs.declared.fault.RunFault.TheVariants.{TooManyTurns, WriteFault}
 use Rattle.fb_run.specs.declared.tally.Tally.{Tally}
-use Rattle.fbcheck_serve.specs.declared.causes.Causes.{Causes}
+use Rattle.fbcheck_texts.specs.declared.causes.Causes.{Causes}
 use Rattle.fbcheck_serve.specs.declared.stop.Ending.{Ending}
 use Rattle.fbcheck_serve.specs.declared.stop.Ending.TheVariants.{Helped, Checked, Passed}
 use Rattle.fbcheck_serve.specs.declared.stop.Stop.{Stop}
 use Rattle.fbcheck_serve.specs.declared.stop.Sums.{Sums}
 use Rattle.fbcheck_serve.specs.declared.stop.Stop.TheVariants as stop
-use Rattle.fbcheck_serve.specs.declared.stop.WordsFault.{WordsFault}
-use Rattle.fbcheck_serve.specs.declared.stop.WordsFault.TheVariants as words_fault
+use Rattle.fbcheck_texts.specs.declared.fault.WordsFault.{WordsFault}
+use Rattle.fbcheck_texts.specs.declared.fault.WordsFault.TheVariants as words_fault
 
 -- the words as texts, where they could be read
 abbrev pub words_of : {A B : Type 0} → Result (Vec (String A) B) WordsFault → Result (List Text) WordsFault
@@ -159,6 +159,19 @@ SumsUp None before after outcome ending = Keeps before.bytes after.bytes × (aft
 SumsUp (Some sums) before after outcome ending =
     (Appends before.bytes after.bytes (summary_in sums.form sums.tally) × (after.failures ≡ before.failures) × (ending ≡ outcome))
     ⊎ ((written : ℕ) × WritesFront (summary_in sums.form sums.tally) before.bytes after.bytes 0 written × (after.failures ≡ before.failures + 1) × (ending ≡ unsummed outcome written))
+
+-- why the program came to rest, where this is why a read or a write failed, if one did; the text of `clap` stands by
+-- itself
+abbrev pub stop_text : Causes → Stop → List ℕ
+stop_text causes (stop.Words fault hint) = words_text fault
+stop_text causes (stop.Usage text) = []
+stop_text causes (stop.Settings fault) = refusal_text fault
+stop_text causes (stop.CutOff written) = run_text causes (WriteFault written)
+stop_text causes (stop.Unsummed written) = unsummed_text written
+stop_text causes (stop.File fault hint) = file_text fault
+stop_text causes (stop.Ask unasked) = ask_text unasked.fault
+stop_text causes (stop.Run fault tally manner) = run_text causes fault
+stop_text causes (stop.Halted fault) = run_text causes fault
 
 -- what stands behind the text of a stop, to the end of its line
 abbrev pub behind : Stop → List ℕ

@@ -3,10 +3,10 @@
 ghost use Rattle.std.specs.Prelude.{ℕ, Option, IfOk, IfErr, IfSome, IsTrue, Ok, ◌≡◌, ◌≤◌, length, map, option_map, string_bytes};
 ghost use Rattle.fb_schema.specs.Rows.{is_table};
 ghost use Rattle.fb_bfbs.specs.LoadLaws.{ident_bytes};
-ghost use Rattle.fbcheck_serve.specs.Framing.{by_of};
+ghost use Rattle.fbcheck_texts.specs.Framing.{by_of};
 ghost use Rattle.fbcheck_serve.specs.Asked.{ArePaths, IsPath, PathFails, PathsFail, asked_ident, form_of, framing_in, ident_of, manner_in, mode_of, options_of, places_of, prefix_of, root_of};
 ghost use Rattle.fbcheck_serve.specs.Inputs.{label_of};
-ghost use Rattle.fbcheck_serve.specs.Hints.{hint_text};
+ghost use Rattle.fbcheck_texts.specs.Hints.{hint_text};
 ghost use Rattle.fbcheck_serve.specs.Checking.{Asks, IsPathHint, IsSchema, IsUntold, LacksSchema, own_of, schema_limits};
 ghost use Rattle.fbcheck_words.specs.Ranges.{AreInRange};
 ghost use Rattle.fbcheck_words.specs.declared.choices.Settings.{Settings};
@@ -14,15 +14,15 @@ ghost use Rattle.fb_run.specs.Job.{PathsFit, Serves, job_of};
 ghost use Rattle.fb_access.specs.Fitting.{StepsFit};
 ghost use Rattle.fb_schema.specs.declared.kinds.Kind.TheVariants.{Table};
 
-use crate::fault::AskFault;
-use crate::framing::{By, Framing, Manner};
-use crate::hint::{Unasked, path_hint, root_hint, schema_hint};
 use crate::inputs::{STANDARD, label};
 use fb_access::{Path, misfit_at};
 use fb_bfbs::{Loaded, load, own_ident, reflection};
 use fb_run::{AskedPath, Form, Mode, Options, Places, Prefix};
 use fb_schema::Schema;
 use fb_verify::{Ident, Limits};
+use fbcheck_texts::fault::AskFault;
+use fbcheck_texts::framing::{By, Framing, Manner};
+use fbcheck_texts::hint::{Unasked, path_hint, root_hint, schema_hint};
 use fbcheck_words::{Form as AskedForm, Settings};
 use std::alloc::Global;
 

@@ -9,13 +9,13 @@ ghost use Rattle.fb_run.specs.declared.fault.RunFault.TheVariants.{TooManyTurns}
 ghost use Rattle.fb_run.specs.Ends.{HasCallsLeft, HasLeave, ends_of, noteless};
 
 use crate::asked::{Asked, asked_of};
-use crate::causes::Explains;
-use crate::fault::CheckFault;
 use crate::files::Files;
-use crate::hint::Unasked;
 use crate::inputs::{Passed, pass_files};
 use fb_bytes::Sink;
 use fb_run::{Input, MOST_TURNS, Nowhere, Ran, Tally, run_beside};
+use fbcheck_texts::causes::Explains;
+use fbcheck_texts::fault::CheckFault;
+use fbcheck_texts::hint::Unasked;
 use fbcheck_words::Settings;
 use std::alloc::Global;
 

@@ -3,7 +3,8 @@
 
 ghost use Rattle.fbcheck_serve.specs.CheckLaws.{AsksOnce};
 ghost use Rattle.fbcheck_serve.specs.InputTests.{Courses, Labels};
-ghost use Rattle.fbcheck_serve.specs.TextTests.{AskTexts, HintTexts, LoadTexts, RunTexts, StopTexts};
+ghost use Rattle.fbcheck_serve.specs.StopTests.{StopTexts};
+ghost use Rattle.fbcheck_texts.specs.TextTests.{AskTexts, HintTexts, LoadTexts, RunTexts};
 
 /// A schema file, or none, and the settings ask at most one thing: that the buffers are checked by one job, or that
 /// nothing is checked, for one cause: the file gives no schema, there is no root table, the path isn't one from
@@ -21,7 +22,7 @@ pub fn files()
 {}
 
 /// The texts of faults, by example.
-#[tactic(auto, using(crate::proofs::ShownTexts::run_texts_shown, crate::proofs::ShownTexts::load_texts_shown, crate::proofs::ShownTexts::ask_texts_shown, crate::proofs::ShownTexts::hint_texts_shown, crate::proofs::ShownTexts::stop_texts_shown))]
+#[tactic(auto, using(fbcheck_texts::proofs::ShownTexts::run_texts_shown, fbcheck_texts::proofs::ShownTexts::load_texts_shown, fbcheck_texts::proofs::ShownTexts::ask_texts_shown, fbcheck_texts::proofs::ShownTexts::hint_texts_shown, crate::proofs::ShownStops::stop_texts_shown))]
 pub fn fault_texts()
     ensures run { RunTexts }
     ensures load { LoadTexts }

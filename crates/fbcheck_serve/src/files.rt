@@ -1,35 +1,12 @@
 //! Where the bytes of a schema file come from, and those of files that are inputs.
 
 ghost use Rattle.std.specs.Prelude.{◌≡◌, IfOk, IfErr, IfSome, Ok, Err, ℕ, List, Option, Result, false, option_map, string_bytes, vec_items};
-ghost use Rattle.std.specs.IoError.{error_kind};
-ghost use Rattle.fbcheck_serve.specs.Faults.{HasFileFault, IsFile, file_fault};
-ghost use Rattle.fbcheck_serve.specs.declared.files.FileFault.{FileFault};
+ghost use Rattle.fbcheck_texts.specs.Faults.{HasFileFault, IsFile};
+ghost use Rattle.fbcheck_texts.specs.declared.fault.FileFault.{FileFault};
 
-use crate::causes::Explains;
 use fb_bytes::Source;
-use std::io;
-use std::io::ErrorKind;
-
-/// Why a file can't be read.
-#[derive(Clone, Copy)]
-pub enum FileFault {
-    /// It isn't there, or a read of it failed, for this cause.
-    Unreadable(ErrorKind),
-    /// Memory was refused.
-    OutOfMemory,
-}
-
-impl FileFault {
-    /// What an error means that came while a file was read.
-    pub fn of(error: io::Error) -> FileFault
-        ensures { result ≡ file_fault (error_kind error) }
-    {
-        match error.kind() {
-            ErrorKind::OutOfMemory => FileFault::OutOfMemory,
-            cause => FileFault::Unreadable(cause),
-        }
-    }
-}
+use fbcheck_texts::causes::Explains;
+use fbcheck_texts::fault::FileFault;
 
 /// Files that are read by their names.
 pub trait Files {

@@ -9,17 +9,18 @@ ghost use Rattle.fb_run.specs.declared.fault.RunFault.TheVariants.{TooManyTurns}
 ghost use Rattle.fbcheck_serve.specs.Inputs.{ComesOf, IsBehind, IsBehindEnd, IsBehindRun, IsNotedOf, IsPromptAmong, ServesEach, Tries, at_first, course_with, fault_line, folder_of, is_final, is_standard, label_of, seen_of, stand, standard_after, sum_of, sums, are_named};
 ghost use Rattle.fbcheck_serve.specs.declared.inputs.Standard.TheVariants.{Unread, Spent};
 
-use crate::causes::{Causes, Explains};
-use crate::files::{FileFault, Files};
-use crate::framing::{By, Framing, end_hint, run_hint};
-use crate::hint::reason;
+use crate::files::Files;
 use crate::stop::note;
-use crate::texts::run_text;
 use fb_bytes::Sink;
 use fb_run::{
     Input, MOST_TURNS, Options, Ran, RunFault, Tally, push_all, put_bytes, run_beside, status,
 };
 use fb_schema::Schema;
+use fbcheck_texts::causes::{Causes, Explains};
+use fbcheck_texts::fault::FileFault;
+use fbcheck_texts::framing::{By, Framing, end_hint, run_hint};
+use fbcheck_texts::hint::reason;
+use fbcheck_texts::texts::run_text;
 use std::alloc::{AllocError, Global};
 use std::io::ErrorKind;
 

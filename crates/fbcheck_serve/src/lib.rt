@@ -4,23 +4,16 @@
 //! go to the notes, and the first ends the program, but for one of a file among files.
 #![tactic(auto)]
 
-mod alike;
 mod asked;
-mod causes;
 pub mod check;
 pub mod check_laws;
-mod fault;
 mod files;
-mod framing;
-mod hint;
 mod inputs;
 pub mod serve;
 mod stop;
-mod texts;
 
-pub use causes::{Explained, Explains};
-pub use fault::{AskFault, CheckFault};
-pub use files::{FileFault, Files};
-pub use hint::Unasked;
+pub use fbcheck_texts::causes::{Explained, Explains};
+pub use fbcheck_texts::fault::{AskFault, CheckFault, FileFault, WordsFault, WrongWord};
+pub use fbcheck_texts::hint::Unasked;
+pub use files::Files;
 pub use inputs::{Course, Passed, Standard};
-pub use stop::{WordsFault, WrongWord};

@@ -6,16 +6,17 @@ ghost use Rattle.fbcheck_serve.specs.Inputs.{folder_of, seen_of};
 ghost use Rattle.fbcheck_serve.specs.Serving.{ComesTo, EndsSo, IsCrowded, IsPromptAsGiven, IsServed, Unserved, files_ending, run_ending, summed, words_of};
 
 use crate::asked::{by, form, manner};
-use crate::causes::{Causes, Explains};
 use crate::check::{check_beside, check_files};
 use crate::files::{Files, read_schema};
-use crate::framing::{By, Manner};
-use crate::hint::{file_hint, words_hint};
 use crate::inputs::Passed;
-use crate::stop::{Ending, Stop, Sums, WordsFault, exit_status, sum_up, tell};
+use crate::stop::{Ending, Stop, Sums, exit_status, sum_up, tell};
 use clap::Error;
 use fb_bytes::Sink;
 use fb_run::{Input, MOST_TURNS, Ran, Tally, push_all};
+use fbcheck_texts::causes::{Causes, Explains};
+use fbcheck_texts::fault::WordsFault;
+use fbcheck_texts::framing::{By, Manner};
+use fbcheck_texts::hint::{file_hint, words_hint};
 use fbcheck_words::{Settings, SettingsFault, settings};
 use std::alloc::{AllocError, Global};
 

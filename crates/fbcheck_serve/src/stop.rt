@@ -1,62 +1,28 @@
 //! How the program comes to its end: well, or for a cause.
 
 ghost use Rattle.std.specs.Prelude.{IfSome, ◌≡◌, ◌++◌, ◌+◌, ◌<◌, ◌≤◌, ◌^◌, length, option_map};
-ghost use Rattle.std.specs.IoError.{error_kind};
 ghost use Rattle.fb_run.specs.Ends.{writer_of};
-ghost use Rattle.fbcheck_serve.specs.Faults.{words_fault};
 ghost use Rattle.fbcheck_serve.specs.Inputs.{IsNoted};
-ghost use Rattle.fbcheck_serve.specs.Serving.{behind, Complains, IsHinted, SumsUp, ending_hint, exit_status, stop_status};
-ghost use Rattle.fbcheck_serve.specs.Texts.{stop_text};
+ghost use Rattle.fbcheck_serve.specs.Serving.{behind, Complains, IsHinted, SumsUp, ending_hint, exit_status, stop_status, stop_text};
 ghost use Rattle.fbcheck_words.specs.declared.choices.SettingsFault.TheVariants as refusal;
 ghost use Rattle.fbcheck_serve.specs.declared.stop.Stop.TheVariants as stop;
 
-use crate::causes::Causes;
-use crate::files::FileFault;
-use crate::framing::{By, Manner, by_hint, end_hint, run_hint};
-use crate::hint::Unasked;
 use crate::inputs::Course;
-use crate::texts::{ask_text, failed_write, file_text, run_text, unsummed_text, words_text};
 use fb_bytes::Sink;
 use fb_run::summary::summary;
 use fb_run::{Form, Line, RunFault, Tally, push_all, status};
+use fbcheck_texts::causes::Causes;
+use fbcheck_texts::fault::{FileFault, WordsFault};
+use fbcheck_texts::framing::{By, Manner, by_hint, end_hint, run_hint};
+use fbcheck_texts::hint::Unasked;
+use fbcheck_texts::texts::{
+    ask_text, failed_write, file_text, run_text, unsummed_text, words_text,
+};
 use fbcheck_words::SettingsFault;
 use std::alloc::AllocError;
-use std::io;
-use std::io::ErrorKind;
 
 /// How a line begins that tells why the program comes to rest.
 const NAME: &str = "fbcheck: ";
-
-/// A word of the command line that isn't a text, by its number, the program's name being 0.
-#[derive(Drop)]
-pub struct WrongWord {
-    /// Its number.
-    pub number: usize,
-    /// Its bytes.
-    pub bytes: Vec<u8>,
-}
-
-/// Why the words of the command line can't be read.
-#[derive(Drop)]
-pub enum WordsFault {
-    /// A word isn't a text: the first such one.
-    NotText(WrongWord),
-    /// Memory was refused.
-    OutOfMemory,
-}
-
-impl WordsFault {
-    /// What an error means that came while the words were read, where this is the first that isn't a text, or there was
-    /// no memory for it.
-    pub fn of(error: io::Error, word: Result<WrongWord, AllocError>) -> WordsFault
-        ensures { result ≡ words_fault (error_kind error) word }
-    {
-        match (error.kind(), word) {
-            (ErrorKind::OutOfMemory, _) | (_, Err(_)) => WordsFault::OutOfMemory,
-            (_, Ok(word)) => WordsFault::NotText(word),
-        }
-    }
-}
 
 /// The numbers that are told at the end, and how their line is written.
 #[derive(Clone, Copy)]

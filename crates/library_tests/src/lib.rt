@@ -1,6 +1,6 @@
-//! Tests of the first five libraries, a module for each, and of what they do where memory is scarce. They stand in a
-//! crate of their own, since a check of tests proves all of the crate that they stand in once more; and all in one,
-//! since each crate that is checked loads what it stands on anew.
+//! Tests of the first five libraries, a module for each, of what they do where memory is scarce, and of the README's
+//! example. They stand in a crate of their own, since a check of tests proves all of the crate that they stand in once
+//! more; and all in one, since each crate that is checked loads what it stands on anew.
 #![tactic(auto)]
 
 #[cfg(test)]

@@ -3,6 +3,7 @@ mod bfbs;
 mod bytes;
 mod compare;
 mod memory;
+mod reader;
 mod rows;
 mod schema;
 mod verify;

@@ -7,9 +7,6 @@ use fb_bytes::Meter;
 use fb_verify::{Checks, Ident, Limits, Scratch, Start, verify};
 use std::alloc::Global;
 
-#[cfg(test)]
-mod tests;
-
 /// The string at `to.name`, if the buffer is good and has one.
 pub fn name_in<'b>(alloc: Global, schema_file: &[u8], buffer: &'b [u8]) -> Option<&'b [u8]> {
     // To be done once: schema, root table, path, and room for a walk.

@@ -1,6 +1,6 @@
 use Rattle.std.proofs.Common.{IfErr, List, Option, Result, ap, ℕ, refl, rules, subst, sym, ◌∙◌}
 use Rattle.fbcheck_serve.specs.declared.asked.Asked.{Asked}
-use Rattle.fbcheck_serve.specs.declared.hint.Unasked.{Unasked}
+use Rattle.fbcheck_texts.specs.declared.hint.Unasked.{Unasked}
 use Rattle.fbcheck_serve.specs.Asked.{LacksIdent, options_of}
 use Rattle.fbcheck_serve.specs.Inputs.{with_label}
 use Rattle.fb_run.specs.Job.{job_of}

@@ -7,7 +7,7 @@ use Rattle.fb_access.specs.Fitting.{StepsFit}
 use Rattle.fb_schema.specs.declared.kinds.Kind.TheVariants.{Table}
 use Rattle.fb_run.specs.Job.{PathsFit}
 use Rattle.fb_run.specs.Wanted.{Wanted}
-use Rattle.fbcheck_serve.specs.Hints.{path_hint}
+use Rattle.fbcheck_texts.specs.Hints.{path_hint}
 use Rattle.fbcheck_serve.specs.Inputs.{are_several, label_of}
 use Rattle.fbcheck_serve.proofs.PathLemmas.{hinted_fails, hinted_told, path_told, paths_fail, paths_more}
 use Rattle.fbcheck_serve.proofs.asked.find_paths.Goals as goal

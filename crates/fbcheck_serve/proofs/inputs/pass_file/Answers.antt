@@ -4,7 +4,7 @@ use Rattle.fb_run.specs.Job.{job_of}
 use Rattle.fbcheck_serve.specs.declared.inputs.Course.{Course}
 use Rattle.fbcheck_serve.proofs.InputsLemmas.{after_spent, after_unread, behind_never, is_turns, standard_with, tries_of}
 use Rattle.fbcheck_serve.specs.Inputs.{IsBehind, folder_of, seen_of}
-use Rattle.fbcheck_serve.specs.declared.framing.Framing.{Framing}
+use Rattle.fbcheck_texts.specs.declared.framing.Framing.{Framing}
 use Rattle.fbcheck_serve.proofs.inputs.pass_file.Goals as goal
 
 pub returns-clause-tries : goal.returns-clause-tries

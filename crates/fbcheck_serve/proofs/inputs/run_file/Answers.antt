@@ -6,3 +6,6 @@ returns-in-Ok-clause-comes g c = search rules
 
 pub returns-in-Err-clause-comes : goal.returns-in-Err-clause-comes
 returns-in-Err-clause-comes g c = search rules
+
+pub returns-in-Unread-clause-comes : goal.returns-in-Unread-clause-comes
+returns-in-Unread-clause-comes g c = search rules

@@ -1,4 +1,4 @@
-use Rattle.std.proofs.Common.{◌∙◌, ◌++◌, List, ap, codes, ℕ}
+use Rattle.std.proofs.Common.{◌∙◌, ◌++◌, List, ap, codes, rules, ℕ}
 use Rattle.fbcheck_serve.proofs.NoteLemmas.{line_told}
 use Rattle.fbcheck_serve.proofs.stop.Stop.tell.Goals as goal
 
@@ -8,3 +8,6 @@ returns g c = record {
       (c.bytes.ensures ∙ c.put_text.ensures.text ∙ ap (λ (t : List ℕ). codes "fbcheck: " ++ t) c.text-line.ensures.text) c.behind.ensures c.note_both.ensures.noted;
   more = c.note_both.ensures.more;
 }
+
+pub returns-in-Usage-clause-told : goal.returns-in-Usage-clause-told
+returns-in-Usage-clause-told g c = search rules

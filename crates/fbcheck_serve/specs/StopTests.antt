@@ -1,0 +1,34 @@
+-- The texts of the whole program by example.
+use Rattle.std.specs.Global.{Global}
+use Rattle.std.specs.Prelude.{◌≡◌, ℕ, Some, None, Vec, codes}
+use Rattle.std.specs.declared.io.ErrorKind.TheVariants as kind
+use Rattle.fb_run.specs.Sums.{no_tally}
+use Rattle.fb_run.specs.declared.fault.RunFault.TheVariants as run
+use Rattle.fbcheck_words.specs.declared.choices.SettingsFault.TheVariants as refusal
+use Rattle.fbcheck_texts.specs.Hints.{word_hint}
+use Rattle.fbcheck_texts.specs.Texts.{file_text, of_read, words_text}
+use Rattle.fbcheck_texts.specs.declared.fault.FileFault.TheVariants as file
+use Rattle.fbcheck_texts.specs.declared.fault.WordsFault.TheVariants as words
+use Rattle.fbcheck_texts.specs.declared.framing.By.TheVariants.{Named}
+use Rattle.fbcheck_texts.specs.declared.framing.Framing.TheVariants.{Prefixed}
+use Rattle.fbcheck_serve.specs.Serving.{stop_text}
+use Rattle.fbcheck_serve.specs.declared.stop.Stop.TheVariants as stop
+
+-- why it comes to rest
+pub record StopTexts : Type 0 where
+  pub word : (bytes : Vec ℕ Global) → words_text (words.NotText (record { number = 2; bytes = bytes })) ≡ codes "a word is not UTF-8: number 2"
+  pub word_hint : word_hint (codes "--a\"") ≡ codes ", --a\\\"; nothing was checked: words must be UTF-8, and a file of any name can be standard input\n"
+  pub words_memory : words_text words.OutOfMemory ≡ codes "out of memory"
+  pub unreadable : file_text (file.Unreadable kind.NotFound) ≡ codes "cannot read schema"
+  pub file_memory : file_text file.OutOfMemory ≡ codes "out of memory"
+  pub ident : stop_text (of_read None) (stop.Settings refusal.BadIdent) ≡ codes "ident must be four bytes"
+  pub filter : stop_text (of_read None) (stop.Settings refusal.PathInFilter) ≡ codes "a filter takes no path"
+  pub idents : stop_text (of_read None) (stop.Settings refusal.TwoIdents) ≡ codes "ident and schema-ident exclude each other"
+  pub paths : stop_text (of_read None) (stop.Settings refusal.TooManyPaths) ≡ codes "more than 16 paths"
+  pub bare : stop_text (of_read None) (stop.Settings refusal.BareDelimited) ≡ codes "bare and delimited exclude each other"
+  pub memory : stop_text (of_read None) (stop.Settings refusal.OutOfMemory) ≡ codes "out of memory"
+  pub help : stop_text (of_read None) (stop.CutOff 7) ≡ codes "write failed after 7 bytes"
+  pub help_pipe : stop_text (record { read = None; write = Some kind.BrokenPipe }) (stop.CutOff 7) ≡ codes "write failed after 7 bytes: broken pipe"
+  pub summary : stop_text (of_read None) (stop.Unsummed 40) ≡ codes "write to standard error failed after 40 bytes of the summary"
+  pub read : stop_text (of_read (Some kind.IsADirectory)) (stop.Run run.ReadFault no_tally (record { framing = Prefixed; by = Named })) ≡ codes "read failed: is a directory"
+  pub halted : stop_text (of_read None) (stop.Halted run.TooManyTurns) ≡ codes "too many reads"

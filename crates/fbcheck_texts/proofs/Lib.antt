@@ -1,0 +1,4 @@
+mod AlikeLemmas
+mod HintLemmas
+mod TextLemmas
+pub mod ShownTexts

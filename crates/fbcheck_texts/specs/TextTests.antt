@@ -1,0 +1,108 @@
+-- The texts of faults by example: each fault that there is.
+use Rattle.std.specs.Prelude.{◌≡◌, ℕ, ◌-◌, [], ◌∷◌, ◌++◌, Some, None, codes}
+use Rattle.std.specs.declared.io.ErrorKind.TheVariants as kind
+use Rattle.fb_access.specs.declared.path_fault.PathFault.TheVariants as path
+use Rattle.fb_bfbs.specs.declared.load_fault.LoadFault.TheVariants as load
+use Rattle.fb_bytes.specs.declared.stream_fault.StreamFault.TheVariants as stream
+use Rattle.fb_schema.specs.declared.fault.Code.TheVariants.{BadSlot}
+use Rattle.fb_schema.specs.declared.fault.SchemaFault.{SchemaFault}
+use Rattle.fb_verify.specs.declared.fault.Fault.{Fault}
+use Rattle.fb_verify.specs.declared.fault.Reason.TheVariants.{TooDeep, WrongIdentifier}
+use Rattle.fb_run.specs.FaultText.{fault_text, stream_text}
+use Rattle.fb_run.specs.Sums.{no_tally}
+use Rattle.fb_run.specs.declared.fault.RunFault.TheVariants as run
+use Rattle.fbcheck_texts.specs.Hints.{front_hint}
+use Rattle.fbcheck_texts.specs.Framing.{by_hint, end_hint, run_hint}
+use Rattle.fbcheck_texts.specs.declared.framing.By.TheVariants.{Fixed, Named}
+use Rattle.fbcheck_texts.specs.declared.framing.Framing.TheVariants.{Bare, Delimited, Prefixed}
+use Rattle.fb_run.specs.declared.tally.Tally.{Tally}
+use Rattle.fbcheck_texts.specs.Texts.{ask_text, load_text, of_read, path_text, run_text}
+use Rattle.fbcheck_texts.specs.declared.fault.AskFault.TheVariants as ask
+
+-- those of a run
+pub record RunTexts : Type 0 where
+  pub read : run_text (of_read None) run.ReadFault ≡ codes "read failed"
+  pub read_folder : run_text (of_read (Some kind.IsADirectory)) run.ReadFault ≡ codes "read failed: is a directory"
+  pub read_early : run_text (of_read (Some kind.WouldBlock)) run.ReadFault ≡ codes "read failed: operation would block"
+  pub read_unknown : run_text (of_read (Some kind.Uncategorized)) run.ReadFault ≡ codes "read failed"
+  pub write : run_text (of_read (Some kind.WouldBlock)) (run.WriteFault 30) ≡ codes "write failed after 30 bytes"
+  pub write_full : run_text (record { read = None; write = Some kind.StorageFull }) (run.WriteFault 30) ≡ codes "write failed after 30 bytes: no storage space"
+  pub read_alone : run_text (record { read = None; write = Some kind.StorageFull }) run.ReadFault ≡ codes "read failed"
+  pub note : fault_text (run.NoteFault 0) ≡ codes "write to standard error failed after 0 bytes"
+  pub oversize : fault_text (run.Stream (stream.Oversize 4294967295)) ≡ codes "stream: S1 Oversize declared=4294967295"
+  pub truncated : fault_text (run.Stream (stream.Truncated 31)) ≡ codes "stream: S2 Truncated held=31"
+  pub no_room : stream_text stream.OutOfMemory ≡ codes "S3 OutOfMemory"
+  pub again : stream_text stream.Failed ≡ codes "S4 Failed"
+  pub turns : fault_text run.TooManyTurns ≡ codes "too many reads"
+  pub memory : fault_text run.OutOfMemory ≡ codes "out of memory"
+  pub too_long : fault_text (run.BareTooLong 31) ≡ codes "input longer than 31 bytes"
+
+-- a schema file with a fault in a field, and one whose rows have one, in a part or in none
+abbrev pub deep : Fault
+deep = record { at = 31; object = 4; field = Some 1; reads = 8; reason = TooDeep }
+
+abbrev pub odd_slot : SchemaFault
+odd_slot = record { code = BadSlot; owner = 3; part = Some 2 }
+
+-- those of a schema file
+pub record LoadTexts : Type 0 where
+  pub ill : load_text (load.NotWellFormed deep) ≡ codes "L1 V6 TooDeep at=31 object=4 field=1 reads=8"
+  pub no_field : load_text (load.NotWellFormed (record deep { field = None; reason = WrongIdentifier })) ≡ codes "L1 V5 WrongIdentifier at=31 object=4 field=- reads=8"
+  pub rows : load_text (load.BadSchema odd_slot) ≡ codes "L2 C4 BadSlot owner=3 part=2"
+  pub no_part : load_text (load.BadSchema (record odd_slot { part = None })) ≡ codes "L2 C4 BadSlot owner=3 part=-"
+  pub unlisted : load_text load.RootNotListed ≡ codes "L3 RootNotListed"
+  pub memory : load_text load.OutOfMemory ≡ codes "L4 OutOfMemory"
+  pub long : load_text load.TooLong ≡ codes "L5 TooLong"
+  pub shared : load_text load.TooMuchShared ≡ codes "L6 TooMuchShared"
+
+-- and what else there may be nothing to check by for
+pub record AskTexts : Type 0 where
+  pub file : ask_text (ask.Load load.TooLong) ≡ codes "schema: L5 TooLong"
+  pub root : ask_text ask.NoRoot ≡ codes "no root table"
+  pub text : ask_text (ask.Path (path.BadText 3)) ≡ codes "path: P1 BadText at=3"
+  pub name : path_text (path.NoSuchField 0) ≡ codes "P2 NoSuchField step=0"
+  pub index : path_text (path.NotIndexable 1) ≡ codes "P3 NotIndexable step=1"
+  pub union : path_text (path.NotAUnion 2) ≡ codes "P4 NotAUnion step=2"
+  pub member : path_text (path.NoSuchMember 12) ≡ codes "P5 NoSuchMember step=12"
+  pub table : path_text (path.NotATable 1) ≡ codes "P6 NotATable step=1"
+  pub path_memory : path_text path.OutOfMemory ≡ codes "P7 OutOfMemory"
+  pub ident : ask_text ask.NoIdent ≡ codes "the schema's identifier isn't four bytes"
+  pub memory : ask_text ask.OutOfMemory ≡ codes "out of memory"
+
+-- what stands behind a run's fault, and what is told of a run's end
+abbrev pub ones : ℕ → ℕ → ℕ → Tally
+ones good aligned bad = record no_tally { yes = good; no = bad; reasons = 0 ∷ aligned ∷ (bad - aligned) ∷ 0 ∷ [] }
+
+pub record HintTexts : Type 0 where
+  pub stray : run_hint Prefixed (run.Stream stream.Failed) (ones 0 2 3) ≡ codes "; no good message came before: --bare is for a buffer without a prefix, --delimited for prefixes outside the buffers\n"
+  pub delimited : run_hint Delimited (run.Stream stream.Failed) (ones 0 2 3) ≡ codes "; no good message came before: --bare is for a buffer without a prefix\n"
+  pub some_good : run_hint Prefixed (run.Stream stream.Failed) (ones 1 2 3) ≡ codes "\n"
+  pub other : run_hint Prefixed run.ReadFault no_tally ≡ codes "\n"
+  pub long : run_hint Prefixed (run.Stream (stream.Oversize 70000000)) (ones 1 2 3) ≡ codes "; --max-bytes allows longer messages\n"
+  pub long_behind_bad : run_hint Delimited (run.Stream (stream.Oversize 70000000)) (ones 0 0 1) ≡ codes "; no good message came before: --bare is for a buffer without a prefix, --max-bytes for longer messages\n"
+  pub text_behind_bad : run_hint Delimited (run.Stream (stream.Oversize 1684611707)) (ones 0 0 1) ≡ codes "; no good message came before: --bare is for a buffer without a prefix\n"
+  pub text_behind_good : run_hint Prefixed (run.Stream (stream.Oversize 1684611707)) (ones 1 0 1) ≡ codes "\n"
+  pub too_long_for_all : run_hint Prefixed (run.Stream (stream.Oversize 2147483644)) (ones 1 0 1) ≡ codes "\n"
+  pub long_first : run_hint Prefixed (run.Stream (stream.Oversize 70000000)) no_tally ≡ codes "; no good message came before: --bare is for a buffer without a prefix, "
+      ++ codes "--delimited for prefixes outside the buffers, --max-bytes for longer messages\n"
+  pub long_json : run_hint Prefixed (run.Stream (stream.Oversize 1684611707)) no_tally ≡ codes "; the input looks like JSON, of which flatc --binary makes buffers (--size-prefixed: messages)\n"
+  pub long_text : run_hint Delimited (run.Stream (stream.Oversize 1818386804)) no_tally ≡ codes "; the input looks like text\n"
+  pub long_gzip : run_hint Prefixed (run.Stream (stream.Oversize 134777631)) no_tally ≡ codes "; the input looks like gzip\n"
+  pub long_turned : run_hint Delimited (run.Stream (stream.Oversize 3087007744)) no_tally ≡ codes "; the length may be big-endian; no good message came before: --bare is for a buffer without a prefix\n"
+  pub long_even : run_hint Delimited (run.Stream (stream.Oversize 67109120)) no_tally ≡ codes "; no good message came before: --bare is for a buffer without a prefix, --max-bytes for longer messages\n"
+  pub long_bare : run_hint Bare (run.BareTooLong 67108864) no_tally ≡ codes "; --max-bytes allows longer ones\n"
+  pub longest_bare : run_hint Bare (run.BareTooLong 2147483647) no_tally ≡ codes "\n"
+  pub unschemed : end_hint Fixed Bare (ones 0 0 2) ≡ Some (codes "no message was good: without --schema the tables are those of schema files\n")
+  pub unschemed_shifted : end_hint Fixed Prefixed (ones 0 0 2) ≡ Some (codes "each message is misaligned: --delimited is for prefixes outside the buffers; without --schema the tables are those of schema files\n")
+  pub unschemed_good : by_hint Fixed (ones 1 0 2) ≡ None
+  pub unschemed_none : by_hint Fixed no_tally ≡ None
+  pub shifted : end_hint Named Prefixed (ones 0 0 2) ≡ Some (codes "each message is misaligned: --delimited is for prefixes outside the buffers\n")
+  pub apart : end_hint Named Delimited (ones 0 0 2) ≡ Some (codes "each message is misaligned: without --delimited prefixes are part of the buffers\n")
+  pub bare : end_hint Named Bare (ones 0 0 1) ≡ None
+  pub none_good : end_hint Named Prefixed (ones 0 1 2) ≡ None
+  pub one_good : end_hint Named Prefixed (ones 1 0 2) ≡ None
+  pub no_message : end_hint Named Prefixed no_tally ≡ None
+  pub fbs : front_hint (codes "\n // M\ntable M {") ≡ codes "; this looks like a schema's text (.fbs): flatc --binary --schema makes the .bfbs"
+  pub word : front_hint (codes "root_type Monster") ≡ codes "; this looks like a schema's text (.fbs): flatc --binary --schema makes the .bfbs"
+  pub text : front_hint (codes "<html><head><ti") ≡ codes "; this is text, and no binary schema, which flatc --binary --schema makes"
+  pub json : front_hint (codes " [1]") ≡ codes "; this looks like JSON, and no binary schema, which flatc --binary --schema makes"

@@ -1,0 +1,144 @@
+//! Readers and writers that keep why a call failed.
+
+ghost use Rattle.std.specs.Prelude.{◌≡◌, ◌+◌, ◌<◌, ◌^◌, IfErr, Option, None, Some, false};
+ghost use Rattle.std.specs.Io.{ReadsAtMost, WritesAtMost};
+ghost use Rattle.std.specs.Io.KnownBytes.{ReadConsumes, WriteAppends};
+ghost use Rattle.std.specs.IoError.{error_kind};
+ghost use Rattle.fb_bytes.specs.Ends.{failed, refused, told_end};
+ghost use Rattle.fbcheck_texts.specs.Texts.{of_read};
+ghost use Rattle.std.specs.declared.io.ErrorKind.{ErrorKind};
+
+use fb_bytes::{Counted, Sink, Source};
+use std::io;
+use std::io::{ErrorKind, Read, Write};
+
+/// Why the last read of an input failed, and the last write of the output, where one did.
+#[derive(Clone, Copy)]
+pub struct Causes {
+    /// That of the read.
+    pub read: Option<ErrorKind>,
+    /// That of the write.
+    pub write: Option<ErrorKind>,
+}
+
+impl Causes {
+    /// That of a read alone.
+    pub fn of_read(cause: Option<ErrorKind>) -> Causes
+        ensures { result ≡ of_read cause }
+    {
+        Causes {
+            read: cause,
+            write: None,
+        }
+    }
+}
+
+/// A reader or writer that knows why a call failed.
+pub trait Explains {
+    ghost cause: { Self → Option ErrorKind };
+
+    /// Why the last call that failed did so, none where none did for a known cause.
+    fn cause(&self) -> Option<ErrorKind>
+        ensures { result ≡ cause self.now };
+}
+
+/// A reader or writer of std with its counts, and with the cause of its last failure.
+#[derive(Drop)]
+pub struct Explained<I> {
+    counted: Counted<I>,
+    cause: Option<ErrorKind>,
+}
+
+impl<I> Explained<I> {
+    /// Counts the calls of this reader or writer from now on.
+    pub fn new(inner: I) -> Explained<I>
+        ensures { result ≡ record { counted = record { inner = inner; calls = 0; failures = 0; ended = false }; cause = None } }
+    {
+        Explained {
+            counted: Counted::new(inner),
+            cause: None,
+        }
+    }
+}
+
+impl<I> Explains for Explained<I> {
+    ghost cause = { λ r. r.cause };
+
+    fn cause(&self) -> Option<ErrorKind> {
+        self.cause
+    }
+}
+
+/// Keeps the cause of a failure.
+fn keep(cause: &mut Option<ErrorKind>, answer: &io::Result<usize>)
+    ensures { IfErr answer.now (λ error. cause.new ≡ Some (error_kind error)) }
+{
+    if let Err(error) = answer {
+        *cause = Some(error.kind());
+    }
+}
+
+impl<I: Write> Sink for Explained<I> {
+    ghost contents = { λ w. I.contents w.counted.inner };
+
+    ghost calls = { λ w. w.counted.calls };
+
+    ghost failures = { λ w. w.counted.failures };
+
+    fn push(&mut self, piece: &[u8]) -> io::Result<usize>
+        requires { self.old.counted.calls < 2 ^ 100 }
+        ensures bound { WritesAtMost result piece.now }
+        ensures bytes { WriteAppends (I.contents self.old.counted.inner) (I.contents self.new.counted.inner) result piece.now }
+        ensures counted { self.new.counted.calls ≡ self.old.counted.calls + 1 }
+        ensures failure { self.new.counted.failures ≡ self.old.counted.failures + refused result piece.now }
+        ensures cause { IfErr result (λ error. self.new.cause ≡ Some (error_kind error)) }
+    {
+        let answer = self.counted.push(piece);
+        keep(&mut self.cause, &answer);
+        answer
+    }
+
+    fn calls(&self) -> u128 {
+        self.counted.calls()
+    }
+
+    fn failures(&self) -> u128 {
+        self.counted.failures()
+    }
+}
+
+impl<I: Read> Source for Explained<I> {
+    ghost remaining = { λ r. I.remaining r.counted.inner };
+
+    ghost calls = { λ r. r.counted.calls };
+
+    ghost failures = { λ r. r.counted.failures };
+
+    ghost ended = { λ r. r.counted.ended };
+
+    fn pull(&mut self, piece: &mut [u8]) -> io::Result<usize>
+        requires { self.old.counted.calls < 2 ^ 100 }
+        ensures bound { ReadsAtMost result piece.new }
+        ensures bytes { ReadConsumes (I.remaining self.old.counted.inner) (I.remaining self.new.counted.inner) result piece.new }
+        ensures counted { self.new.counted.calls ≡ self.old.counted.calls + 1 }
+        ensures failure { self.new.counted.failures ≡ self.old.counted.failures + failed result }
+        ensures end { self.new.counted.ended ≡ told_end self.old.counted.ended result piece.new }
+        ensures cause { IfErr result (λ error. self.new.cause ≡ Some (error_kind error)) }
+    {
+        let answer = self.counted.pull(piece);
+        keep(&mut self.cause, &answer);
+        answer
+    }
+
+    fn calls(&self) -> u128 {
+        self.counted.calls()
+    }
+
+    fn failures(&self) -> u128 {
+        self.counted.failures()
+    }
+
+    fn ended(&self) -> bool {
+        self.counted.ended()
+    }
+}
