@@ -106,20 +106,13 @@ module _ (c : Checks) (b : List ℕ) where
 
   module _ (S : Rows) where
     present_most : (t : ℕ) (f : Live) (p : ℕ) (kind : Kind) → AtMost 5 (present_failure c b S t f p kind)
-    present_most t f p (Scalar s) = more 0 5 _ (omega arith) (inline_field_most t p f.size f.align)
-    present_most t f p (Struct k) = more 0 5 _ (omega arith) (inline_field_most t p f.size f.align)
-    present_most t f p Text = more 0 5 _ (omega arith) (table_most t p 4)
-    present_most t f p (Table k) = more 0 5 _ (omega arith) (table_most t p 4)
     present_most t f p (Union e) =
         let n = if_present_few 1 (type_place b t f.slot) in
         more _ 5 _ (omega arith) (later (1 + reads_if_present 1 (type_place b t f.slot)) 0 _ (union_field_most t p (member_of S e (union_type b (type_place b t f.slot)))))
-    present_most t f p (Scalars s) = more 2 5 _ (omega arith) (vector_field_most t p f.size f.align)
-    present_most t f p (Structs k) = more 2 5 _ (omega arith) (vector_field_most t p f.size f.align)
-    present_most t f p Texts = more 2 5 _ (omega arith) (vector_field_most t p 4 4)
-    present_most t f p (Tables k) = more 2 5 _ (omega arith) (vector_field_most t p 4 4)
     present_most t f p (Unions e) =
         let n = if_present_few 2 (type_place b t f.slot) in
         more _ 5 _ (omega arith) (later (1 + reads_if_present 2 (type_place b t f.slot)) 2 _ (unions_field_most t p (type_place b t f.slot)))
+    present_most t f p kind = search (arith, more 0, more 2, inline_field_most, table_most, vector_field_most)
 
     at_most : (t : ℕ) (f : Live) (place : Option ℕ) → AtMost 5 (failure_at c b S t f place)
     unfolding AtMost

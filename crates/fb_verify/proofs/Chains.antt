@@ -119,16 +119,9 @@ module _ (c : Checks) (b : List ℕ) where
 
   module _ (S : Rows) (t : ℕ) (f : Live) where
     present_none : (p : ℕ) (kind : Kind) → (present_failure c b S t f p kind ≡ None) ↔ IsPresent c b S t f p kind
-    present_none p (Scalar s) = inline_field_none t p f.size f.align
-    present_none p (Struct k) = inline_field_none t p f.size f.align
-    present_none p Text = table_none c b t p 4
-    present_none p (Table k) = table_none c b t p 4
     present_none p (Union e) = later _ _ (union_field_none t p (member_of S e (union_type b (type_place b t f.slot))))
-    present_none p (Scalars s) = vector_field_none t p f.size f.align
-    present_none p (Structs k) = vector_field_none t p f.size f.align
-    present_none p Texts = vector_field_none t p 4 4
-    present_none p (Tables k) = vector_field_none t p 4 4
     present_none p (Unions e) = later _ _ (unions_field_none t p (type_place b t f.slot))
+    present_none p kind = search (inline_field_none, table_none c b, vector_field_none)
 
     at_none : (place : Option ℕ) → (failure_at c b S t f place ≡ None) ↔ IsPresentOrAbsent c b S t f place
     at_none None = search (rules, tests)
@@ -153,14 +146,11 @@ element_none c b x = later _ _ (lead_none c b x.place x.lead)
 -- what an element unfolds into holds of it by itself
 unfolds_lead : (c : Checks) (b : List ℕ) (S : Rows) (y : Element) (p : ℕ) (lead : Lead) → ElementUnfolds y c b S p lead → IsLead c b p lead
 unfolding ElementUnfolds
-unfolds_lead c b S leaf p (to_table k) h = absurd h
+unfolds_lead c b S (table y) p (to_table k) h = h.0
 unfolds_lead c b S leaf p (to_struct size align) h = h
 unfolds_lead c b S leaf p to_string h = h
 unfolds_lead c b S leaf p to_nothing h = tt
-unfolds_lead c b S (table y) p (to_table k) h = h.0
-unfolds_lead c b S (table y) p (to_struct size align) h = absurd h
-unfolds_lead c b S (table y) p to_string h = absurd h
-unfolds_lead c b S (table y) p to_nothing h = absurd h
+unfolds_lead c b S y p lead h = absurd h
 
 -- an element that unfolds into anything passes its tests
 pub element_passes : (c : Checks) (b : List ℕ) (S : Rows) (x : Entry) (y : Element) → ElementUnfolds y c b S x.place x.lead → element_failure c b x ≡ None

@@ -34,9 +34,7 @@ if_err_exit (Err e) x P h p = subst P (sym h) p
 
 pub lead_few : (lead : Lead) → lead_reads lead ≤ 3
 lead_few (to_table k) = omega arith
-lead_few (to_struct size align) = omega arith
-lead_few to_string = omega arith
-lead_few to_nothing = omega arith
+lead_few lead = omega arith
 
 word_few : (b : List ℕ) (S : Rows) (leads : Leads) (p : ℕ) → (word_at b S leads p).reads + lead_reads (word_at b S leads p).lead ≤ 4
 word_few b S (All referent) p = omega (arith, lead_few (word_at b S (All referent) p).lead)
@@ -53,16 +51,9 @@ if_present_few n None = omega arith
 if_present_few n (Some q) = omega arith
 
 pub present_few : (b : List ℕ) (t o : ℕ) (kind : Kind) → present_reads b t o kind ≤ 5
-present_few b t o (Scalar s) = omega arith
-present_few b t o (Struct k) = omega arith
-present_few b t o Text = omega arith
-present_few b t o (Table k) = omega arith
 present_few b t o (Union e) = omega (arith, if_present_few 1 (type_place b t o))
-present_few b t o (Scalars s) = omega arith
-present_few b t o (Structs k) = omega arith
-present_few b t o Texts = omega arith
-present_few b t o (Tables k) = omega arith
 present_few b t o (Unions e) = omega (arith, if_present_few 2 (type_place b t o))
+present_few b t o kind = omega arith
 
 at_few : (b : List ℕ) (t : ℕ) (f : Live) (place : Option ℕ) → reads_at b t f place ≤ 5
 at_few b t f None = omega arith

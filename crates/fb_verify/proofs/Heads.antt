@@ -13,14 +13,8 @@ use Rattle.fb_verify.proofs.Plains.{after_twice}
 -- the same for any tests in their places
 parts : (a b h f g e w : Bool) (t v : ℕ) → check a OutOfBuffer t 0 (check b Misaligned t 0 (check (h && f) OutOfBuffer t 1 (check g Misaligned v 1 (check e BadVtable v 2 (check w OutOfBuffer v 2 None)))))
     ≡ check a OutOfBuffer t 0 (check b Misaligned t 0 (check h OutOfBuffer t 1 None)) ▷ after 1 (check f OutOfBuffer t 0 (check g Misaligned v 0 (check e BadVtable v 1 (check w OutOfBuffer v 1 None))))
-parts false b h f g e w t v = refl
-parts true false h f g e w t v = refl
-parts true true false f g e w t v = refl
-parts true true true false g e w t v = refl
-parts true true true true false e w t v = refl
-parts true true true true true false w t v = refl
-parts true true true true true true false t v = refl
 parts true true true true true true true t v = refl
+parts a b h f g e w t v = refl
 
 pub head_parts : (c : Checks) (b : List ℕ) (t : ℕ) → head_failure c b t ≡ first_word_failure c b t ▷ after 1 (vtable_failure c b t)
 unfolding head_failure first_word_failure vtable_failure

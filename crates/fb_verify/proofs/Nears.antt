@@ -1,5 +1,5 @@
 -- A fault comes soon after the budget of reads is used up.
-use Rattle.std.proofs.Common.{◌≡◌, ℕ, zero, suc, ◌+◌, ◌-◌, ◌≤◌, ◌⊎◌, inl, inr, List, [], ◌∷◌, refl, subst, arith, Option, Some, None}
+use Rattle.std.proofs.Common.{◌≡◌, ℕ, zero, suc, ◌+◌, ◌-◌, ◌≤◌, ◌⊎◌, inl, inr, List, [], ◌∷◌, refl, subst, arith, rules, Option, Some, None}
 use Rattle.std.specs.Prelude.{slice_get}
 use Rattle.std.proofs.lemmas.Bool.Decides.{nat_tests}
 use Rattle.fb_bytes.specs.Word.{word}
@@ -69,16 +69,9 @@ short_union S p (Some m) = (omega arith, tt)
 module _ (c : Checks) (b : List ℕ) (S : Rows) where
   short_of : (t : ℕ) (f : Live) (p : ℕ) (kind : Kind) → AreShort (entries_of b S t f p kind)
   unfolding AreShort
-  short_of t f p (Scalar s) = tt
-  short_of t f p (Struct k) = tt
-  short_of t f p Text = (omega arith, tt)
-  short_of t f p (Table k) = (omega arith, tt)
   short_of t f p (Union e) = short_union S p (member_of S e (union_type b (type_place b t f.slot)))
-  short_of t f p (Scalars s) = tt
-  short_of t f p (Structs k) = tt
-  short_of t f p Texts = short_row to_string (target b p + 4) (word b (target b p) 4)
-  short_of t f p (Tables k) = short_row (to_table k) (target b p + 4) (word b (target b p) 4)
   short_of t f p (Unions e) = short_union_row b S e (types_begin b (type_place b t f.slot)) (target b p + 4) (word b (target b p) 4)
+  short_of t f p kind = search (rules, short_row)
 
   short_entries_at : (t : ℕ) (f : Live) (place : Option ℕ) → AreShort (entries_at b S t f place)
   unfolding AreShort

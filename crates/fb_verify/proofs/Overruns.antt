@@ -53,17 +53,12 @@ module _ (L : Bounds) (w : Way) where
   pub lead_reads_fault : (x : Entry) (lead : Lead) (e : Option Failure) (f : Fault) → e ≡ None → fault_of w (e ▷ lead_reads_failure L w.paid x lead) ≡ Some f → (f.reason ≡ TooManyReads) × AreTooMany L.reads (w.paid + (x.reads + lead_reads lead))
   lead_reads_fault x (to_table k) None f o h = absurd (cc)
   lead_reads_fault x (to_table k) (Some d) f o h = absurd (cc)
-  lead_reads_fault x (to_struct size align) e f o h = reads_fault w (x.reads + 1) x.place e f o h
-  lead_reads_fault x to_string e f o h = reads_fault w (x.reads + 3) x.place e f o h
-  lead_reads_fault x to_nothing e f o h = reads_fault w (x.reads + 0) x.place e f o h
+  lead_reads_fault x lead e f o h = reads_fault w (x.reads + lead_reads lead) x.place e f o h
 
   -- an element that leads to a table isn't asked by itself
   pub no_lead_fault : (x : Entry) (k : ℕ) (lead : Lead) (e : Option Failure) (f : Fault) → lead ≡ to_table k → e ≡ None → fault_of w (e ▷ lead_reads_failure L w.paid x lead) ≡ Some f → ⊥
   no_lead_fault x k (to_table j) None f l o h = absurd (cc)
-  no_lead_fault x k (to_table j) (Some d) f l o h = absurd (cc)
-  no_lead_fault x k (to_struct size align) e f l o h = absurd (cc)
-  no_lead_fault x k to_string e f l o h = absurd (cc)
-  no_lead_fault x k to_nothing e f l o h = absurd (cc)
+  no_lead_fault x k lead e f l o h = absurd (cc)
 
 module _ (c : Checks) (b : List ℕ) (S : Rows) where
   -- what the field under check has in the tree
@@ -71,45 +66,35 @@ module _ (c : Checks) (b : List ℕ) (S : Rows) where
       → (ys : Elements) × IsField c b S t g × ElementsUnfold ys c b S (entries b S t g) × (kids_size earlier + elements_size ys ≤ kids_size kids) × (elements_depth ys ≤ kids_depth kids)
       × (kids_cost earlier c b S t fs + (own_reads b t g + elements_cost ys c b S (entries b S t g)) ≤ kids_cost kids c b S t fs)
   unfolding FieldsUnfold kids_length kids_size kids_depth kids_cost
-  kids_at no_kids no_kids t [] g h e s = absurd (cc)
-  kids_at no_kids no_kids t (f ∷ fs) g h e s = absurd h
-  kids_at no_kids (kid ys kids) t [] g h e s = absurd h
   kids_at no_kids (kid ys kids) t (f ∷ fs) g h e s =
       let i : f ≡ g = cc in
       let cheap : own_reads b t g + elements_cost ys c b S (entries b S t g) ≤ own_reads b t f + elements_cost ys c b S (entries b S t f) + kids_cost kids c b S t fs =
       subst (λ x. own_reads b t x + elements_cost ys c b S (entries b S t x) ≤ own_reads b t f + elements_cost ys c b S (entries b S t f) + kids_cost kids c b S t fs) i (omega arith) in
       (ys, subst (λ x. IsField c b S t x) i h.0, subst (λ x. ElementsUnfold ys c b S (entries b S t x)) i h.1, omega arith, omega arith, omega (arith, cheap))
-  kids_at (kid xs earlier) no_kids t [] g h e s = absurd e
-  kids_at (kid xs earlier) no_kids t (f ∷ fs) g h e s = absurd h
-  kids_at (kid xs earlier) (kid ys kids) t [] g h e s = absurd h
   kids_at (kid xs earlier) (kid ys kids) t (f ∷ fs) g h e s =
       let r = kids_at earlier kids t fs g h.2 e.2 s in
       let same = one_elements c b S xs ys (entries b S t f) e.1 h.1 in
       let i : elements_size xs ≡ elements_size ys = ap elements_size same in
       let j : elements_cost xs c b S (entries b S t f) ≡ elements_cost ys c b S (entries b S t f) = ap (λ z. elements_cost z c b S (entries b S t f)) same in
       (r.0, r.1, r.2, omega (arith, r.3), omega (arith, r.4), omega (arith, r.5, j))
+  kids_at earlier kids t fs g h e s = absurd (grind arith)
 
   -- what the element under check has in the tree
   pub elements_at : (before ys : Elements) (xs : List Entry) (x : Entry) → ElementsUnfold ys c b S xs → ElementsUnfold before c b S (take (elements_length before) xs) → slice_get xs (elements_length before) ≡ Some x
       → (y : Element) × ElementUnfolds y c b S x.place x.lead × (elements_size before + element_size y ≤ elements_size ys) × (element_depth y ≤ elements_depth ys)
       × (elements_cost before c b S xs + (x.reads + lead_reads x.lead + element_cost y c b S) ≤ elements_cost ys c b S xs)
   unfolding ElementsUnfold elements_length elements_size elements_depth elements_cost
-  elements_at no_elements no_elements [] x h e s = absurd (cc)
-  elements_at no_elements no_elements (z ∷ zs) x h e s = absurd h
-  elements_at no_elements (element y ys) [] x h e s = absurd h
   elements_at no_elements (element y ys) (z ∷ zs) x h e s =
       let i : z ≡ x = cc in
       let cheap : x.reads + lead_reads x.lead ≤ z.reads + lead_reads z.lead = subst (λ v. v.reads + lead_reads v.lead ≤ z.reads + lead_reads z.lead) i (omega arith) in
       (y, subst (λ v. ElementUnfolds y c b S v.place v.lead) i h.0, omega arith, omega arith, omega (arith, cheap))
-  elements_at (element v before) no_elements [] x h e s = absurd e
-  elements_at (element v before) no_elements (z ∷ zs) x h e s = absurd h
-  elements_at (element v before) (element y ys) [] x h e s = absurd h
   elements_at (element v before) (element y ys) (z ∷ zs) x h e s =
       let r = elements_at before ys zs x h.1 e.1 s in
       let same = one_element c b S v y z.place z.lead e.0 h.0 in
       let i : element_size v ≡ element_size y = ap element_size same in
       let j : element_cost v c b S ≡ element_cost y c b S = ap (λ u. element_cost u c b S) same in
       (r.0, r.1, omega (arith, r.2), omega (arith, r.3), omega (arith, r.4, j))
+  elements_at before ys xs x h e s = absurd (grind arith)
 
   is_table : (y : Element) (p k : ℕ) → ElementUnfolds y c b S p (to_table k)
       → (z : Tree) × Unfolds z c b S k (target b p) × (element_size y ≡ size z) × (element_depth y ≡ depth z) × (element_cost y c b S ≡ tree_cost z c b S)

@@ -63,6 +63,4 @@ told_reads L site paid n place reads None s o r h i = rw (i, r) (told_spent site
 pub told_lead_reads : (L : Bounds) (site : Site) (paid reads : ℕ) (x : Entry) (lead : Lead) (e : Option Failure) (s : Stop) → IsLeafLead lead → e ≡ None → reads ≡ paid + (x.reads + lead_reads lead) → allowed L.reads reads ≡ false
     → s ≡ spent site x.place → told site paid (e ▷ lead_reads_failure L paid x lead) ≡ Some (stopped s reads)
 told_lead_reads L site paid reads x (to_table k) e s l o r h i = absurd l
-told_lead_reads L site paid reads x (to_struct size align) e s l o r h i = told_reads L site paid _ x.place reads e s o r h i
-told_lead_reads L site paid reads x to_string e s l o r h i = told_reads L site paid _ x.place reads e s o r h i
-told_lead_reads L site paid reads x to_nothing e s l o r h i = told_reads L site paid _ x.place reads e s o r h i
+told_lead_reads L site paid reads x lead e s l o r h i = told_reads L site paid _ x.place reads e s o r h i
