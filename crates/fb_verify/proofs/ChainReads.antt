@@ -1,5 +1,5 @@
 -- How many reads a chain of tests makes at most where it fails.
-use Rattle.std.proofs.Common.{◌≡◌, ℕ, ◌+◌, ◌≤◌, Bool, true, false, List, refl, arith, Option, Some, None}
+use Rattle.std.proofs.Common.{◌≡◌, ℕ, ◌+◌, ◌≤◌, Bool, true, false, List, refl, ap, arith, Option, Some, None}
 use Rattle.std.proofs.lemmas.Bool.Decides.{nat_tests}
 use Rattle.fb_schema.specs.declared.kinds.Kind.{Kind}
 use Rattle.fb_schema.specs.declared.kinds.Kind.TheVariants.{Scalar, Text, Struct, Table, Union, Scalars, Texts, Structs, Tables, Unions}
@@ -22,6 +22,7 @@ use Rattle.fb_verify.specs.WellFormed.{base, prefix_reads, ident_reads, start_re
 use Rattle.fb_verify.specs.Stops.{reads_failure, lead_reads_failure}
 use Rattle.fb_verify.specs.Order.{Failure, check, after, ◌▷◌, prefix_failure, ident_failure, offset_failure, start_failure, head_failure, string_failure, vector_failure, inline_failure, table_failure, inline_field_failure, vector_field_failure, unions_field_failure, union_field_failure, present_failure, failure_at, own_failure, lead_failure, element_failure}
 use Rattle.fb_verify.proofs.Frames.{if_present_few, slot_few}
+use Rattle.fb_verify.proofs.Overruns.{some_same}
 
 -- the reads of chains that fail
 
@@ -38,20 +39,17 @@ unfolding AtMost
 either n None y h g = g
 either n (Some d) y h g = h
 
-ap_reads : {d e : Failure} → Some d ≡ Some e → d.reads ≡ e.reads
-ap_reads h = cc
-
 later : (m n : ℕ) (x : Option Failure) → AtMost n x → AtMost (m + n) (after m x)
 unfolding AtMost
 later m n None h e i = absurd (cc)
-later m n (Some d) h e i = let g = h d refl in let j : m + d.reads ≡ e.reads = ap_reads i in omega arith
+later m n (Some d) h e i = let g = h d refl in let j : m + d.reads ≡ e.reads = ap (λ x. x.reads) (some_same i) in omega arith
 
 -- the budget of reads is asked after so many reads
 
 check_most : (holds : Bool) (reason : Reason) (p n : ℕ) → AtMost n (check holds reason p n None)
 unfolding AtMost
 check_most true reason p n e h = absurd (cc)
-check_most false reason p n e h = let i = ap_reads h in omega (arith, i)
+check_most false reason p n e h = omega (arith, ap (λ x. x.reads) (some_same h))
 
 pub reads_most : (L : Bounds) (paid n p : ℕ) → AtMost n (reads_failure L paid n p)
 reads_most L paid n p = check_most (allowed L.reads (paid + n)) TooManyReads p n

@@ -22,10 +22,7 @@ head_parts c b t =
     parts (fits b t 4) (is_aligned c t 4) (has_vtable b t) (fits b (vtable b t) 2) (is_aligned c (vtable b t) 2) ((vtable_size b t % 2 == 0) && nat_le 4 (vtable_size b t)) (fits b (vtable b t) (vtable_size b t)) t (vtable b t)
 
 pub head_reads_parts : (c : Checks) → head_reads c ≡ 1 + vtable_reads c
-head_reads_parts c = go c.inline_size where
-  go : (x : Bool) → ◌≡◌ {A = ℕ} (if x then 3 else 2) (1 + (if x then 2 else 1))
-  go true = refl
-  go false = refl
+head_reads_parts c = grind arith
 
 -- the first word holds, and the vtable is tested
 pub vtable_tested : (c : Checks) (m mid new : Lent) (t at : ℕ) (result : Option Reason) → first_word_failure c m.bytes t ≡ None → mid.count ≡ m.count + 1 → mid.bytes ≡ m.bytes → mid.base ≡ m.base

@@ -1,5 +1,5 @@
 -- A fault comes soon after the budget of reads is used up.
-use Rattle.std.proofs.Common.{◌≡◌, ℕ, zero, suc, ◌+◌, ◌-◌, ◌≤◌, ◌⊎◌, inl, inr, List, [], ◌∷◌, refl, subst, arith, rules, Option, Some, None}
+use Rattle.std.proofs.Common.{◌≡◌, ℕ, zero, suc, ◌+◌, ◌-◌, ◌≤◌, ◌⊎◌, inl, inr, List, [], ◌∷◌, refl, ap, subst, arith, rules, Option, Some, None}
 use Rattle.std.specs.Prelude.{slice_get}
 use Rattle.std.proofs.lemmas.Bool.Decides.{nat_tests}
 use Rattle.fb_bytes.specs.Word.{word}
@@ -18,22 +18,17 @@ use Rattle.fb_verify.specs.Order.{Failure, ◌▷◌, head_failure, own_failure,
 use Rattle.fb_verify.specs.Way.{Way, way_to_field, way_to_element, way_to_table}
 use Rattle.fb_verify.specs.Stops.{budget_failure, reads_failure, lead_reads_failure, fault_of, fault_at, Trail, at_head, at_field, FieldTrail, at_own, at_element, ElementTrail, at_lead, through, IsTrail, IsFieldTrail, IsElementTrail}
 use Rattle.fb_verify.proofs.Budgets.{IsNear, near}
-use Rattle.fb_verify.proofs.Frames.{head_few, lead_few}
+use Rattle.fb_verify.proofs.Frames.{head_few, lead_few, own_few}
 use Rattle.fb_verify.proofs.ChainReads.{AtMost, more, either, reads_most, lead_reads_most, head_most, own_most, element_most}
-use Rattle.fb_verify.proofs.Frames.{own_few}
+use Rattle.fb_verify.proofs.Overruns.{some_same}
 
 -- the reads of a fault
-
-some_reads : {e f : Fault} → Some e ≡ Some f → e.reads ≡ f.reads
-some_reads h = cc
 
 pub fault_reads : (n : ℕ) (w : Way) (x : Option Failure) (f : Fault) → AtMost n x → fault_of w x ≡ Some f → f.reads ≤ w.paid + n
 unfolding AtMost
 fault_reads n w None f h g = absurd (cc)
 fault_reads n w (Some e) f h g =
-    let few = h e refl in
-    let same : w.paid + e.reads ≡ f.reads = some_reads g in
-    omega arith
+    let few = h e refl in omega (arith, ap (λ x. x.reads) (some_same g))
 
 pub first_of_two : (w v : Way) (x y : Option Failure) (f : Fault) → AtMost 0 x → AtMost 3 y → v.paid ≡ w.paid → fault_of w x ▷ fault_of v y ≡ Some f → (f.reads ≤ w.paid) ⊎ ((x ≡ None) × (f.reads ≤ w.paid + 3))
 first_of_two w v None y f h g e i = inr (refl, omega (arith, e, fault_reads 3 v y f g i))

@@ -1,6 +1,7 @@
 -- At most one fault is the first, and one trail leads to it.
 use Rattle.std.proofs.Common.{◌≡◌, ℕ, zero, suc, ◌+◌, ◌<◌, ◌⊎◌, inl, inr, List, take, refl, sym, ◌∙◌, ap, subst, arith, Some}
 use Rattle.std.specs.Prelude.{slice_get}
+use Rattle.std.proofs.lemmas.Bool.{cases_order}
 use Rattle.std.proofs.lemmas.List.{take-take}
 use Rattle.fb_schema.specs.Rows.{Rows}
 use Rattle.fb_schema.specs.Live.{Live, live_fields}
@@ -28,12 +29,6 @@ use Rattle.fb_verify.proofs.Overruns.{some_same, reads_fault, no_lead_fault, kid
 use Rattle.fb_verify.proofs.Typed.{get_take}
 
 -- lists
-
-compare : (m n : ℕ) → (m < n) ⊎ ((m ≡ n) ⊎ (n < m))
-compare zero zero = inr (inl refl)
-compare zero (suc n) = inl (omega arith)
-compare (suc m) zero = inr (inr (omega arith))
-compare (suc m) (suc n) = elim (compare m n) [ inl h ↦ inl (omega arith) | inr h ↦ elim h [ inl e ↦ inr (inl (ap suc e)) | inr g ↦ inr (inr (omega arith)) ] ]
 
 to_same : {A : Type 0} {x y : A} (xs : List A) (m n : ℕ) → m ≡ n → slice_get xs m ≡ Some x → slice_get xs n ≡ Some y → x ≡ y
 to_same xs m n e h g = some_same (sym h ∙ ap (slice_get xs) e ∙ g)
@@ -117,14 +112,14 @@ module _ (c : Checks) (b : List ℕ) (S : Rows) (L : Bounds) where
     one_fault (at_field e s) at_head k t w f g h i =
         absurd (opened_head k t w e h.0 g h.1.head (field_within s t h.0 (way_to_field c b S k t e h.0 w) f h.2) i)
     one_fault (at_field e1 s) (at_field e2 r) k t w f g h i =
-        elim (compare (kids_length e1) (kids_length e2)) [
-          | inl lt ↦ absurd (passed_field k t w e1 e2 h.0 i.0 s f lt h.1 i.1 (field_within r t i.0 (way_to_field c b S k t e2 i.0 w) g i.2) h.2)
+        elim (cases_order (kids_length e1) (kids_length e2)) [
+          | inl same ↦
+              let e : e2 ≡ e1 = one_kids c b S e2 e1 t (take (kids_length e2) (live_fields S k)) i.1.passed (rw same at h.1.passed) in
+              let x : i.0 ≡ h.0 = to_same (live_fields S k) (kids_length e2) (kids_length e1) (sym same) i.1.next h.1.next in
+              let on = one_field_fault s r t h.0 (way_to_field c b S k t e1 h.0 w) f g h.2 (subst (λ y. IsFieldTrail r c b S L t y (way_to_field c b S k t e1 y w) g) x (subst (λ y. IsFieldTrail r c b S L t i.0 (way_to_field c b S k t y i.0 w) g) e i.2)) in
+              (ap (at_field e1) on.0 ∙ ap (λ y. at_field y r) (sym e), on.1)
           | inr o ↦ elim o [
-            | inl same ↦
-                let e : e2 ≡ e1 = one_kids c b S e2 e1 t (take (kids_length e2) (live_fields S k)) i.1.passed (rw same at h.1.passed) in
-                let x : i.0 ≡ h.0 = to_same (live_fields S k) (kids_length e2) (kids_length e1) (sym same) i.1.next h.1.next in
-                let on = one_field_fault s r t h.0 (way_to_field c b S k t e1 h.0 w) f g h.2 (subst (λ y. IsFieldTrail r c b S L t y (way_to_field c b S k t e1 y w) g) x (subst (λ y. IsFieldTrail r c b S L t i.0 (way_to_field c b S k t y i.0 w) g) e i.2)) in
-                (ap (at_field e1) on.0 ∙ ap (λ y. at_field y r) (sym e), on.1)
+            | inl lt ↦ absurd (passed_field k t w e1 e2 h.0 i.0 s f lt h.1 i.1 (field_within r t i.0 (way_to_field c b S k t e2 i.0 w) g i.2) h.2)
             | inr gt ↦ absurd (passed_field k t w e2 e1 i.0 h.0 r g gt i.1 h.1 (field_within s t h.0 (way_to_field c b S k t e1 h.0 w) f h.2) i.2)
           ]
         ]
@@ -134,14 +129,14 @@ module _ (c : Checks) (b : List ℕ) (S : Rows) (L : Bounds) where
     one_field_fault at_own (at_element z r) t x w f g h i = absurd (passed_own t x w z f i.1.own (element_within r i.0 (way_to_element c b S t x z w) g i.2) h)
     one_field_fault (at_element z s) at_own t x w f g h i = absurd (passed_own t x w z g h.1.own (element_within s h.0 (way_to_element c b S t x z w) f h.2) i)
     one_field_fault (at_element z1 s) (at_element z2 r) t x w f g h i =
-        elim (compare (elements_length z1) (elements_length z2)) [
-          | inl lt ↦ absurd (passed_element t x w z1 z2 h.0 i.0 s f lt h.1 i.1 (element_within r i.0 (way_to_element c b S t x z2 w) g i.2) h.2)
+        elim (cases_order (elements_length z1) (elements_length z2)) [
+          | inl same ↦
+              let e : z2 ≡ z1 = one_elements c b S z2 z1 (take (elements_length z2) (entries b S t x)) i.1.passed (rw same at h.1.passed) in
+              let y : i.0 ≡ h.0 = to_same (entries b S t x) (elements_length z2) (elements_length z1) (sym same) i.1.next h.1.next in
+              let on = one_element_fault s r h.0 (way_to_element c b S t x z1 w) f g h.2 (subst (λ v. IsElementTrail r c b S L v (way_to_element c b S t x z1 w) g) y (subst (λ v. IsElementTrail r c b S L i.0 (way_to_element c b S t x v w) g) e i.2)) in
+              (ap (at_element z1) on.0 ∙ ap (λ y. at_element y r) (sym e), on.1)
           | inr o ↦ elim o [
-            | inl same ↦
-                let e : z2 ≡ z1 = one_elements c b S z2 z1 (take (elements_length z2) (entries b S t x)) i.1.passed (rw same at h.1.passed) in
-                let y : i.0 ≡ h.0 = to_same (entries b S t x) (elements_length z2) (elements_length z1) (sym same) i.1.next h.1.next in
-                let on = one_element_fault s r h.0 (way_to_element c b S t x z1 w) f g h.2 (subst (λ v. IsElementTrail r c b S L v (way_to_element c b S t x z1 w) g) y (subst (λ v. IsElementTrail r c b S L i.0 (way_to_element c b S t x v w) g) e i.2)) in
-                (ap (at_element z1) on.0 ∙ ap (λ y. at_element y r) (sym e), on.1)
+            | inl lt ↦ absurd (passed_element t x w z1 z2 h.0 i.0 s f lt h.1 i.1 (element_within r i.0 (way_to_element c b S t x z2 w) g i.2) h.2)
             | inr gt ↦ absurd (passed_element t x w z2 z1 i.0 h.0 r g gt i.1 h.1 (element_within s h.0 (way_to_element c b S t x z1 w) f h.2) i.2)
           ]
         ]

@@ -25,11 +25,6 @@ use Rattle.fb_verify.proofs.Unique.{one_elements, one_element}
 pub some_same : {A : Type 0} {x y : A} → Some x ≡ Some y → x ≡ y
 some_same h = cc
 
--- a place whose chain finds nothing has no fault
-pub no_fault : (w : Way) (x : Option Failure) (f : Fault) → x ≡ None → fault_of w x ≡ Some f → ⊥
-no_fault w None f e h = absurd (cc)
-no_fault w (Some x) f e h = absurd (cc)
-
 -- the first of two chains that finds something
 pub either : {A : Type 0} (x y : Option A) (e : A) → x ▷ y ≡ Some e → (x ≡ Some e) ⊎ (y ≡ Some e)
 either None y e h = inr h

@@ -22,10 +22,8 @@ use Rattle.fb_verify.proofs.Frames.{lead_few, if_present_few, head_few, slot_few
 -- the start
 
 pub start_price : (start : Start) (ident : Ident) → start_reads start ident ≤ 3
-start_price Bare Any = omega arith
-start_price Bare (Want name) = omega arith
-start_price Prefixed Any = omega arith
-start_price Prefixed (Want name) = omega arith
+start_price start Any = grind arith
+start_price start (Want name) = grind arith
 
 -- the reads of a field with all its elements, but for the tables below
 
@@ -51,16 +49,11 @@ reads_of_union S p (Some m) = omega (arith, lead_few (lead_of S (Some m)))
 module _ (c : Checks) (b : List ℕ) (S : Rows) where
   present_price : (t : ℕ) (f : Live) (p : ℕ) (kind : Kind) → IsPresent c b S t f p kind → present_reads b t f.slot kind + row_reads (entries_of b S t f p kind) ≤ 5 + length b
   unfolding row_reads
-  present_price t f p (Scalar s) h = omega arith
-  present_price t f p (Struct k) h = omega arith
-  present_price t f p Text h = omega arith
-  present_price t f p (Table k) h = omega arith
   present_price t f p (Union e) h = omega (arith, if_present_few 1 (type_place b t f.slot), reads_of_union S p (member_of S e (union_type b (type_place b t f.slot))))
-  present_price t f p (Scalars s) h = omega arith
-  present_price t f p (Structs k) h = omega arith
   present_price t f p Texts h = omega (arith, reads_of_row to_string (target b p + 4) (word b (target b p) 4), h.vector.within)
   present_price t f p (Tables k) h = omega (arith, reads_of_row (to_table k) (target b p + 4) (word b (target b p) 4), h.vector.within)
   present_price t f p (Unions e) h = omega (arith, if_present_few 2 (type_place b t f.slot), reads_of_union_row b S e (types_begin b (type_place b t f.slot)) (target b p + 4) (word b (target b p) 4), h.field.vector.within)
+  present_price t f p kind h = omega arith
 
   price_at : (t : ℕ) (f : Live) (place : Option ℕ) → IsPresentOrAbsent c b S t f place → reads_at b t f place + row_reads (entries_at b S t f place) ≤ 5 + length b
   unfolding row_reads
@@ -96,6 +89,4 @@ module _ (c : Checks) (b : List ℕ) (S : Rows) where
       element_price : (y : Element) (p : ℕ) (lead : Lead) → ElementUnfolds y c b S p lead → element_cost y c b S ≤ B * element_size y
       element_price leaf p lead h = omega arith
       element_price (table y) p (to_table k) h = tree_price y k (target b p) h.1
-      element_price (table y) p (to_struct size align) h = absurd h
-      element_price (table y) p to_string h = absurd h
-      element_price (table y) p to_nothing h = absurd h
+      element_price y p lead h = absurd h

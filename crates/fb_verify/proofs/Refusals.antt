@@ -14,31 +14,15 @@ use Rattle.fb_verify.specs.OffsetRows.{IsLeafLead}
 use Rattle.fb_verify.specs.Stops.{reads_failure, lead_reads_failure}
 use Rattle.fb_verify.specs.Told.{told, refused, stopped}
 
--- the parts of a failure
-same_reason : {d e : Failure} → Some d ≡ Some e → d.reason ≡ e.reason
-same_reason h = cc
+-- a failure is told at a site
+abbrev at_site : Site → Option Failure → Option Fault
+at_site site None = None
+at_site site (Some e) = Some (record { at = e.at; object = site.object; field = site.field; reason = e.reason; reads = e.reads })
 
-same_at : {d e : Failure} → Some d ≡ Some e → d.at ≡ e.at
-same_at h = cc
-
-same_reads : {d e : Failure} → Some d ≡ Some e → d.reads ≡ e.reads
-same_reads h = cc
-
-abbrev the_fault : Site → Reason → (place reads : ℕ) → Fault
-the_fault site reason place reads = record { at = place; object = site.object; field = site.field; reason = reason; reads = reads }
-
--- two faults at a site are one where their parts are
-same_fault : (site : Site) (reason reason' : Reason) (place reads place' reads' : ℕ) → reason ≡ reason' → place ≡ place' → reads ≡ reads' → the_fault site reason place reads ≡ the_fault site reason' place' reads'
-same_fault site reason reason' place reads place' reads' a b c = cc
-
--- a failure that is refused so is told so
+-- one that is refused so is told so
 pub told_after : (site : Site) (paid reads : ℕ) (x : Option Failure) (e : Refusal) → after paid x ≡ Some (refused e reads) → told site paid x ≡ Some (stopped (record { site = site; refusal = e }) reads)
 told_after site paid reads None e h = absurd cc
-told_after site paid reads (Some x) e h =
-    let reason : x.reason ≡ e.reason = same_reason h in
-    let place : x.at ≡ e.at = same_at h in
-    let count : paid + x.reads ≡ reads = same_reads h in
-    ap Some (same_fault site x.reason e.reason x.at (paid + x.reads) e.at reads reason place count)
+told_after site paid reads (Some x) e h = ap (at_site site) h
 
 -- what the first of two chains finds is told
 pub told_first : (site : Site) (paid : ℕ) (x y : Option Failure) (f : Fault) → told site paid x ≡ Some f → told site paid (x ▷ y) ≡ Some f

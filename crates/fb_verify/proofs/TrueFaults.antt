@@ -126,9 +126,10 @@ module _ (c : Checks) (b : List ℕ) (S : Rows) (L : Bounds) (root begin : ℕ) 
         → w.object ≡ k → w.field ≡ Some g.number → w.links ≡ suc above → IsFieldTrail s c b S L t g w f → Told (opened_on_field s) w f
     field_fails at_own k t above object field i g w f reached head live object_is field_is links h =
         let P = PlacedIsFalse c b t g (field_place b t g.slot) in
-        let r = place_fault L w P (own_failure c b S t g) (own_reads b t g) t f (own_false c b S t g) h.first in
-        (at_reached reached (inr (inr (inl (record { head = head; at_fault = g; place = i; is_live = live; object = r.object ∙ object_is; field = r.field ∙ field_is; because = r.because })))),
-         λ is. absurd (another P L t f (not_placed c b t g (field_place b t g.slot)) is r.because))
+        let r = place_fault L w P (own_failure c b S t g) (own_reads b t g) t f (own_false c b S t g) h.first in (
+          at_reached reached (inr (inr (inl (record { head = head; at_fault = g; place = i; is_live = live; object = r.object ∙ object_is; field = r.field ∙ field_is; because = r.because })))),
+          λ is. absurd (another P L t f (not_placed c b t g (field_place b t g.slot)) is r.because),
+        )
     field_fails (at_element before s) k t above object field i g w f reached head live object_is field_is links h =
         let by : HasEntry c b S k t = record { head = head; field = g; place = i; is_live = live; own = h.1.own; entry = h.0; entry_place = elements_length before; is_entry = h.1.next } in
         let r = element_fails s k t above object field by (way_to_element c b S t g before w) f reached object_is field_is links h.2 in
