@@ -42,16 +42,10 @@ free_until : (fs : List Live) (i j : ℕ) (f : Live) → i ≤ j → j < i + fir
 free_until fs i j f low lt at = ap is_required (sym (item_at fs i j f low at)) ∙ fails_before_first is_required (drop i fs) (j - i) f (omega (arith, lt, low))
 
 none_past : (p n i : ℕ) → option_map (λ j. i + j) (cond (nat_lt p n) (Some p) None) ≡ None → n ≤ p
-none_past p n i e = go (nat_lt p n) refl e where
-  go : (b : Bool) → nat_lt p n ≡ b → option_map (λ j. i + j) (cond b (Some p) None) ≡ None → n ≤ p
-  go true x e = absurd cc
-  go false x e = grind (arith, nat_tests)
+none_past p n i e = grind (arith, nat_tests)
 
 some_past : (p n i place : ℕ) → option_map (λ j. i + j) (cond (nat_lt p n) (Some p) None) ≡ Some place → (p < n) × (place ≡ i + p)
-some_past p n i place e = go (nat_lt p n) refl e where
-  go : (b : Bool) → nat_lt p n ≡ b → option_map (λ j. i + j) (cond b (Some p) None) ≡ Some place → (p < n) × (place ≡ i + p)
-  go true x e = (grind (arith, nat_tests), let w : Some (i + p) ≡ Some place = e in cc)
-  go false x e = absurd (let w : None ≡ Some place = e in cc)
+some_past p n i place e = grind (arith, nat_tests)
 
 none_free : (fs : List Live) (i : ℕ) → next_required_of fs i ≡ None → (j : ℕ) (f : Live) → i ≤ j → slice_get fs j ≡ Some f → f.required ≡ false
 none_free fs i none j f low at =
