@@ -19,7 +19,7 @@ use Rattle.fb_verify.specs.Way.{Way, way_to_field, way_to_element, way_to_table}
 use Rattle.fb_verify.specs.Stops.{budget_failure, reads_failure, lead_reads_failure, fault_of, fault_at, Trail, at_head, at_field, FieldTrail, at_own, at_element, ElementTrail, at_lead, through, IsTrail, IsFieldTrail, IsElementTrail}
 use Rattle.fb_verify.proofs.Budgets.{IsNear, near}
 use Rattle.fb_verify.proofs.Frames.{head_few, lead_few, own_few}
-use Rattle.fb_verify.proofs.ChainReads.{AtMost, more, either, reads_most, lead_reads_most, head_most, own_most, element_most}
+use Rattle.fb_verify.proofs.ChainReads.{AtMost, either, reads_most, lead_reads_most, head_most, own_most, element_most}
 use Rattle.fb_verify.proofs.Overruns.{some_same}
 
 -- the reads of a fault
@@ -83,10 +83,10 @@ module _ (c : Checks) (b : List ℕ) (S : Rows) where
     budget_most w t e h = grind (arith, nat_tests)
 
     pub head_reads_most : (w : Way) (t : ℕ) → AtMost 3 (head_failure c b t ▷ reads_failure L w.paid (head_reads c) t)
-    head_reads_most w t = either 3 _ _ (more 2 3 _ (omega arith) (head_most c b t)) (more (head_reads c) 3 _ (head_few c) (reads_most L w.paid (head_reads c) t))
+    head_reads_most w t = either 3 _ _ (head_most c b t 3 (omega arith)) (reads_most L w.paid (head_reads c) 3 t (head_few c))
 
     pub own_reads_most : (w : Way) (t : ℕ) (g : Live) → AtMost 6 (own_failure c b S t g ▷ reads_failure L w.paid (own_reads b t g) t)
-    own_reads_most w t g = either 6 _ _ (own_most c b S t g) (more (own_reads b t g) 6 _ (own_few b t g) (reads_most L w.paid (own_reads b t g) t))
+    own_reads_most w t g = either 6 _ _ (own_most c b S t g 6 (omega arith)) (reads_most L w.paid (own_reads b t g) 6 t (own_few b t g))
 
     pub entry_reads_most : (w : Way) (x : Entry) → AtMost (x.reads + lead_reads x.lead) (element_failure c b x ▷ lead_reads_failure L w.paid x x.lead)
     entry_reads_most w x = either _ _ _ (element_most c b x) (lead_reads_most L w.paid x x.lead)

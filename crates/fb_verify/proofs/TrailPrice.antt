@@ -135,7 +135,7 @@ reads_are_bounded q b f (inl h) =
     let w = way_to_start q.root in
     let n = start_reads q.start q.ident in
     let asked = reads_failure L w.paid n (base q.start) in
-    let most = either n _ _ (start_most c b q.start q.ident) (reads_most L w.paid n (base q.start)) in
+    let most = either n _ _ (start_most c b q.start q.ident) (reads_most L w.paid n n (base q.start) (omega arith)) in
     let r = fault_reads n w (start_failure c b q.start q.ident ▷ asked) f most h.first in
     let price = start_price q.start q.ident in
     lesser c b q.rows L L.reads _ _ (omega (arith, r, price, below_bound c b q.rows L)) (near L.reads 0 f.reads (omega (arith, r, price)) (no_reads L.reads))
