@@ -2,10 +2,9 @@
 use Rattle.std.proofs.Common.{◌≡◌, ℕ, ◌+◌, ◌-◌, ◌≤◌, Bool, true, false, List, refl, ap, arith, Option, Some, None}
 use Rattle.std.proofs.lemmas.Bool.Decides.{nat_tests}
 use Rattle.fb_schema.specs.declared.kinds.Kind.{Kind}
-use Rattle.fb_schema.specs.declared.kinds.Kind.TheVariants.{Scalar, Text, Struct, Table, Union, Scalars, Texts, Structs, Tables, Unions}
+use Rattle.fb_schema.specs.declared.kinds.Kind.TheVariants.{Union}
 use Rattle.fb_schema.specs.Rows.{Rows}
 use Rattle.fb_schema.specs.Live.{Live}
-use Rattle.fb_schema.specs.Members.{member_of}
 use Rattle.fb_verify.specs.declared.checks.Checks.{Checks}
 use Rattle.fb_verify.specs.declared.start.Start.{Start}
 use Rattle.fb_verify.specs.declared.start.Start.TheVariants.{Bare, Prefixed}
@@ -14,13 +13,12 @@ use Rattle.fb_verify.specs.declared.start.Ident.TheVariants.{Any, Want}
 use Rattle.fb_verify.specs.declared.fault.Reason.{Reason}
 use Rattle.fb_verify.specs.declared.fault.Reason.TheVariants.{TooManyReads}
 use Rattle.fb_verify.specs.Bounds.{Bounds, allowed}
-use Rattle.fb_verify.specs.Places.{target, field_place}
-use Rattle.fb_verify.specs.Fields.{type_place, union_type, Lead, to_table, to_struct, to_string, to_nothing, Entry}
+use Rattle.fb_verify.specs.Fields.{type_place, Lead, to_table, Entry}
 use Rattle.fb_verify.specs.Tree.{size}
-use Rattle.fb_verify.specs.Cost.{slot_reads, reads_if_present, lead_reads}
-use Rattle.fb_verify.specs.WellFormed.{base, prefix_reads, ident_reads, start_reads}
+use Rattle.fb_verify.specs.Cost.{lead_reads}
+use Rattle.fb_verify.specs.WellFormed.{prefix_reads, ident_reads, start_reads}
 use Rattle.fb_verify.specs.Stops.{reads_failure, lead_reads_failure}
-use Rattle.fb_verify.specs.Order.{Failure, check, after, ◌▷◌, prefix_failure, ident_failure, offset_failure, start_failure, head_failure, string_failure, vector_failure, inline_failure, table_failure, inline_field_failure, vector_field_failure, unions_field_failure, union_field_failure, present_failure, failure_at, own_failure, lead_failure, element_failure}
+use Rattle.fb_verify.specs.Order.{Failure, check, after, ◌▷◌, prefix_failure, ident_failure, offset_failure, start_failure, head_failure, string_failure, vector_failure, inline_failure, table_failure, union_field_failure, present_failure, failure_at, own_failure, lead_failure, element_failure}
 use Rattle.fb_verify.proofs.Frames.{if_present_few, slot_few}
 use Rattle.fb_verify.proofs.Overruns.{some_same}
 

@@ -1,21 +1,20 @@
 -- A chain of tests finds nothing exactly where the facts hold.
-use Rattle.std.proofs.Common.{◌≡◌, ◌↔◌, ℕ, ◌+◌, List, Option, Some, None, IsTrue, refl, sym, subst, rules, tests}
+use Rattle.std.proofs.Common.{◌≡◌, ◌↔◌, ℕ, List, Option, Some, None, IsTrue, refl, sym, subst, rules, tests}
 use Rattle.fb_schema.specs.declared.kinds.Kind.{Kind}
-use Rattle.fb_schema.specs.declared.kinds.Kind.TheVariants.{Scalar, Text, Struct, Table, Union, Scalars, Texts, Structs, Tables, Unions}
+use Rattle.fb_schema.specs.declared.kinds.Kind.TheVariants.{Union}
 use Rattle.fb_schema.specs.Rows.{Rows}
 use Rattle.fb_schema.specs.Live.{Live}
-use Rattle.fb_schema.specs.Members.{member_of}
 use Rattle.fb_verify.specs.declared.checks.Checks.{Checks}
 use Rattle.fb_verify.specs.declared.start.Start.{Start}
 use Rattle.fb_verify.specs.declared.start.Start.TheVariants.{Bare, Prefixed}
 use Rattle.fb_verify.specs.declared.start.Ident.{Ident}
 use Rattle.fb_verify.specs.declared.start.Ident.TheVariants.{Any, Want}
-use Rattle.fb_verify.specs.Places.{target, field_place, ends_in_table}
+use Rattle.fb_verify.specs.Places.{ends_in_table}
 use Rattle.fb_verify.specs.Facts.{IsTable, IsOffset, IsString, IsVector, IsInline}
-use Rattle.fb_verify.specs.Fields.{IsInlineField, IsVectorField, IsUnionsField, IsUnionField, IsPresent, IsPresentOrAbsent, IsField, type_place, union_type, Lead, to_table, to_struct, to_string, to_nothing, Entry}
+use Rattle.fb_verify.specs.Fields.{IsInlineField, IsVectorField, IsUnionsField, IsUnionField, IsPresent, IsPresentOrAbsent, IsField, Lead, to_table, to_struct, to_string, to_nothing, Entry}
 use Rattle.fb_verify.specs.Tree.{Element, leaf, table}
 use Rattle.fb_verify.specs.Unfolds.{ElementUnfolds}
-use Rattle.fb_verify.specs.WellFormed.{base, IsPrefixed, IsIdentified, IsStart}
+use Rattle.fb_verify.specs.WellFormed.{IsPrefixed, IsIdentified, IsStart}
 use Rattle.fb_verify.specs.Laws.{IsLead}
 use Rattle.fb_verify.specs.Order.{Failure, after, ◌▷◌, prefix_failure, ident_failure, offset_failure, start_failure, head_failure, string_failure, vector_failure, inline_failure, table_failure, inline_field_failure, vector_field_failure, unions_field_failure, union_field_failure, present_failure, failure_at, own_failure, lead_failure, element_failure}
 
@@ -90,10 +89,12 @@ module _ (c : Checks) (b : List ℕ) where
   union_field_none t p None = (λ _. tt, λ _. refl)
   union_field_none t p (Some member) = table_none c b t p 4
 
+  ruleset fields = (chains, inline_field_none, vector_field_none, unions_field_none, union_field_none)
+
   module _ (S : Rows) (t : ℕ) (f : Live) where
     present_none : (p : ℕ) (kind : Kind) → (present_failure c b S t f p kind ≡ None) ↔ IsPresent c b S t f p kind
-    present_none p (Union e) = search (chains, union_field_none)
-    present_none p kind = search (chains, inline_field_none, vector_field_none, unions_field_none)
+    present_none p (Union e) = search fields
+    present_none p kind = search fields
 
     at_none : (place : Option ℕ) → (failure_at c b S t f place ≡ None) ↔ IsPresentOrAbsent c b S t f place
     at_none None = search (rules, tests)

@@ -7,7 +7,7 @@ use Rattle.std.specs.Slice.{IsItemAt}
 use Rattle.std.proofs.lemmas.List.{length-map}
 use Rattle.std.proofs.lemmas.Option.{slice_get-get_or, slice_get-map, slice_get_within}
 use Rattle.fb_schema.specs.declared.kinds.Kind.{Kind}
-use Rattle.fb_schema.specs.declared.kinds.Kind.TheVariants.{Scalar, Text, Struct, Table, Union, Scalars, Texts, Structs, Tables, Unions}
+use Rattle.fb_schema.specs.declared.kinds.Kind.TheVariants.{Union, Unions}
 use Rattle.fb_schema.specs.Rows.{Rows, is_table}
 use Rattle.fb_schema.specs.Live.{Live, live_fields}
 use Rattle.fb_schema.specs.Served.{IsServed}
@@ -19,7 +19,7 @@ use Rattle.fb_verify.specs.declared.offset_row.Row.{Row}
 use Rattle.fb_verify.specs.declared.scratch.Frame.{Frame}
 use Rattle.fb_verify.specs.Cost.{head_reads, slot_reads, reads_if_present, present_reads, reads_at, own_reads, lead_reads}
 use Rattle.fb_verify.specs.Places.{field_place}
-use Rattle.fb_verify.specs.Fields.{Lead, to_table, to_struct, to_string, to_nothing, type_place}
+use Rattle.fb_verify.specs.Fields.{Lead, to_table, type_place}
 use Rattle.fb_verify.specs.Told.{IsHead}
 use Rattle.fb_verify.specs.OffsetRows.{first_word, word_at, past_first, IsRow, AreLeads, AreTypesNear}
 use Rattle.fb_verify.specs.Stack.{blank, opened, IsFrame, frame_work}

@@ -1,5 +1,5 @@
 -- The head of a table is tested by its first word, and then by its vtable.
-use Rattle.std.proofs.Common.{◌≡◌, ℕ, ◌+◌, ◌%◌, ◌==◌, ◌&&◌, nat_le, Bool, true, false, if◌then◌else◌, List, refl, sym, ◌∙◌, ap, arith, Option, Some, None}
+use Rattle.std.proofs.Common.{◌≡◌, ℕ, ◌+◌, ◌%◌, ◌==◌, ◌&&◌, nat_le, Bool, true, List, refl, sym, ◌∙◌, ap, arith, Option, Some, None}
 use Rattle.fb_bytes.specs.Word.{Lent}
 use Rattle.fb_verify.specs.declared.checks.Checks.{Checks}
 use Rattle.fb_verify.specs.declared.fault.Reason.{Reason}

@@ -4,7 +4,7 @@ use Rattle.std.specs.Prelude.{slice_get}
 use Rattle.std.proofs.lemmas.Bool.Decides.{nat_tests}
 use Rattle.fb_bytes.specs.Word.{word}
 use Rattle.fb_schema.specs.declared.kinds.Kind.{Kind}
-use Rattle.fb_schema.specs.declared.kinds.Kind.TheVariants.{Scalar, Text, Struct, Table, Union, Scalars, Texts, Structs, Tables, Unions}
+use Rattle.fb_schema.specs.declared.kinds.Kind.TheVariants.{Union, Unions}
 use Rattle.fb_schema.specs.Rows.{Rows}
 use Rattle.fb_schema.specs.Live.{Live}
 use Rattle.fb_schema.specs.Members.{member_of}
@@ -12,7 +12,7 @@ use Rattle.fb_verify.specs.declared.checks.Checks.{Checks}
 use Rattle.fb_verify.specs.declared.fault.Fault.{Fault}
 use Rattle.fb_verify.specs.Bounds.{Bounds}
 use Rattle.fb_verify.specs.Places.{target, field_place}
-use Rattle.fb_verify.specs.Fields.{type_place, union_type, types_begin, Lead, to_table, to_string, Entry, row, union_row, union_entry, entries_of, entries_at, entries}
+use Rattle.fb_verify.specs.Fields.{type_place, union_type, types_begin, Lead, Entry, row, union_row, union_entry, entries_of, entries_at, entries}
 use Rattle.fb_verify.specs.Cost.{head_reads, own_reads, lead_reads}
 use Rattle.fb_verify.specs.Order.{Failure, ◌▷◌, head_failure, own_failure, element_failure}
 use Rattle.fb_verify.specs.Way.{Way, way_to_field, way_to_element, way_to_table}
@@ -61,12 +61,14 @@ unfolding AreShort
 short_union S p None = tt
 short_union S p (Some m) = (omega arith, tt)
 
+ruleset short = (rules, short_row)
+
 module _ (c : Checks) (b : List ℕ) (S : Rows) where
   short_of : (t : ℕ) (f : Live) (p : ℕ) (kind : Kind) → AreShort (entries_of b S t f p kind)
   unfolding AreShort
   short_of t f p (Union e) = short_union S p (member_of S e (union_type b (type_place b t f.slot)))
   short_of t f p (Unions e) = short_union_row b S e (types_begin b (type_place b t f.slot)) (target b p + 4) (word b (target b p) 4)
-  short_of t f p kind = search (rules, short_row)
+  short_of t f p kind = search short
 
   short_entries_at : (t : ℕ) (f : Live) (place : Option ℕ) → AreShort (entries_at b S t f place)
   unfolding AreShort

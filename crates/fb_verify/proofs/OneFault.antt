@@ -1,5 +1,5 @@
 -- At most one fault is the first, and one trail leads to it.
-use Rattle.std.proofs.Common.{◌≡◌, ℕ, zero, suc, ◌+◌, ◌<◌, ◌⊎◌, inl, inr, List, take, refl, sym, ◌∙◌, ap, subst, arith, Some}
+use Rattle.std.proofs.Common.{◌≡◌, ℕ, ◌+◌, ◌<◌, inl, inr, List, take, refl, sym, ◌∙◌, ap, subst, arith, Some}
 use Rattle.std.specs.Prelude.{slice_get}
 use Rattle.std.proofs.lemmas.Bool.{cases_order}
 use Rattle.std.proofs.lemmas.List.{take-take}
@@ -25,7 +25,7 @@ use Rattle.fb_verify.specs.Links.{links_of, StopsAlong}
 use Rattle.fb_verify.proofs.Chains.{start_none, own_none, through_passes}
 use Rattle.fb_verify.proofs.Unique.{one_kids, one_elements}
 use Rattle.fb_verify.proofs.Budgets.{fewer_reads, not_both}
-use Rattle.fb_verify.proofs.Overruns.{some_same, reads_fault, no_lead_fault, kids_at, elements_at, head_overruns, field_overruns, element_overruns, kids_cost_take, elements_cost_take}
+use Rattle.fb_verify.proofs.Overruns.{some_same, reads_fault, no_lead_fault, kids_at, elements_at, not_past, head_overruns, field_overruns, element_overruns, kids_cost_take, elements_cost_take}
 use Rattle.fb_verify.proofs.Typed.{get_take}
 
 -- lists
@@ -66,10 +66,7 @@ module _ (c : Checks) (b : List ℕ) (S : Rows) (L : Bounds) where
   -- a table that another trail opened isn't where a trail stops
   opened_head : (k t : ℕ) (w : Way) (earlier : Kids) (g : Live) (f : Fault) → IsTable c b t → StaysWithin (way_to_field c b S k t earlier g w) L → IsFalseAt c b S L (in_head k t) w f → ⊥
   opened_head k t w earlier g f h r i =
-      elim (head_overruns c b S L k t w f h i) [
-        | inl p ↦ omega (arith, p.1, r.depth)
-        | inr o ↦ elim o [ inl p ↦ omega (arith, p.1, r.tables) | inr p ↦ not_both L.reads _ _ (omega arith) r.reads p.1 ]
-      ]
+      not_past c b S L w _ _ _ _ f (head_overruns c b S L k t w f h i) (omega (arith, r.depth)) (omega (arith, r.tables)) (omega arith) r.reads
 
   -- nor is a field that another trail passed
   passed_field : (k t : ℕ) (w : Way) (e1 e2 : Kids) (g1 g2 : Live) (s : FieldTrail) (f : Fault) → kids_length e1 < kids_length e2 → IsLink c b S k t e1 g1 → IsLink c b S k t e2 g2 → StaysWithin (way_to_field c b S k t e2 g2 w) L → IsFieldTrail s c b S L t g1 (way_to_field c b S k t e1 g1 w) f → ⊥
@@ -78,10 +75,8 @@ module _ (c : Checks) (b : List ℕ) (S : Rows) (L : Bounds) where
       let fs = take (kids_length e2) all in
       let a = kids_at c b S e1 e2 t fs g1 h2.passed (rw (take-take (kids_length e1) (kids_length e2) all (omega arith)) h1.passed) (get_take all (kids_length e1) (kids_length e2) lt ∙ h1.next) in
       let same = sym (kids_cost_take c b S e1 t fs) ∙ ap (λ xs. kids_cost e1 c b S t xs) (take-take (kids_length e1) (kids_length e2) all (omega arith)) ∙ kids_cost_take c b S e1 t all in
-      elim (field_overruns c b S L s a.0 t g1 (way_to_field c b S k t e1 g1 w) f a.1 a.2 stops) [
-        | inl p ↦ omega (arith, p.1, a.4, r.depth)
-        | inr o ↦ elim o [ inl p ↦ omega (arith, p.1, a.3, r.tables) | inr p ↦ not_both L.reads _ _ (omega (arith, a.5, same, kids_cost_take c b S e2 t all)) r.reads p.1 ]
-      ]
+      let v = way_to_field c b S k t e1 g1 w in
+      not_past c b S L v _ _ _ _ f (field_overruns c b S L s a.0 t g1 v f a.1 a.2 stops) (omega (arith, a.4, r.depth)) (omega (arith, a.3, r.tables)) (omega (arith, a.5, same, kids_cost_take c b S e2 t all)) r.reads
 
   -- nor is an element that another trail passed
   passed_element : (t : ℕ) (g : Live) (w : Way) (z1 z2 : Elements) (x1 x2 : Entry) (s : ElementTrail) (f : Fault) → elements_length z1 < elements_length z2 → IsInField c b S t g z1 x1 → IsInField c b S t g z2 x2 → StaysWithin (way_to_element c b S t g z2 w) L → IsElementTrail s c b S L x1 (way_to_element c b S t g z1 w) f → ⊥
@@ -90,10 +85,8 @@ module _ (c : Checks) (b : List ℕ) (S : Rows) (L : Bounds) where
       let xs = take (elements_length z2) all in
       let a = elements_at c b S z1 z2 xs x1 h2.passed (rw (take-take (elements_length z1) (elements_length z2) all (omega arith)) h1.passed) (get_take all (elements_length z1) (elements_length z2) lt ∙ h1.next) in
       let same = sym (elements_cost_take c b S z1 xs) ∙ ap (λ ys. elements_cost z1 c b S ys) (take-take (elements_length z1) (elements_length z2) all (omega arith)) ∙ elements_cost_take c b S z1 all in
-      elim (element_overruns c b S L s a.0 x1 (way_to_element c b S t g z1 w) f a.1 stops) [
-        | inl p ↦ omega (arith, p.1, a.3, r.depth)
-        | inr o ↦ elim o [ inl p ↦ omega (arith, p.1, a.2, r.tables) | inr p ↦ not_both L.reads _ _ (omega (arith, a.4, same, elements_cost_take c b S z2 (entries b S t g))) r.reads p.1 ]
-      ]
+      let v = way_to_element c b S t g z1 w in
+      not_past c b S L v _ _ _ _ f (element_overruns c b S L s a.0 x1 v f a.1 stops) (omega (arith, a.3, r.depth)) (omega (arith, a.2, r.tables)) (omega (arith, a.4, same, elements_cost_take c b S z2 all)) r.reads
 
   -- nor is a field of which another trail passed all tests
   passed_own : (t : ℕ) (x : Live) (w : Way) (z : Elements) (f : Fault) → IsField c b S t x → StaysWithin (way_to_element c b S t x z w) L → IsFalseAt c b S L (in_field t x) w f → ⊥

@@ -7,10 +7,10 @@ use Rattle.fb_schema.specs.Live.{Live, live_fields}
 use Rattle.fb_verify.specs.declared.checks.Checks.{Checks}
 use Rattle.fb_verify.specs.declared.fault.Fault.{Fault}
 use Rattle.fb_verify.specs.declared.fault.Reason.TheVariants.{TooDeep, TooManyTables, TooManyReads}
-use Rattle.fb_verify.specs.Bounds.{Bounds, allowed, AreTooMany}
+use Rattle.fb_verify.specs.Bounds.{Bounds, AreAllowed, allowed, AreTooMany}
 use Rattle.fb_verify.specs.Places.{target}
 use Rattle.fb_verify.specs.Facts.{IsTable}
-use Rattle.fb_verify.specs.Fields.{IsField, Lead, to_table, to_struct, to_string, to_nothing, Entry, entries}
+use Rattle.fb_verify.specs.Fields.{IsField, Lead, to_table, Entry, entries}
 use Rattle.fb_verify.specs.Tree.{Tree, node, Kids, no_kids, kid, Elements, no_elements, element, Element, leaf, table, size, kids_size, elements_size, element_size, depth, kids_depth, elements_depth, element_depth, kids_length, elements_length}
 use Rattle.fb_verify.specs.Unfolds.{Unfolds, FieldsUnfold, ElementsUnfold, ElementUnfolds}
 use Rattle.fb_verify.specs.Cost.{head_reads, own_reads, lead_reads, tree_cost, kids_cost, elements_cost, element_cost}
@@ -18,7 +18,7 @@ use Rattle.fb_verify.specs.Order.{Failure, check, ◌▷◌, head_failure, own_f
 use Rattle.fb_verify.specs.Way.{Way, way_to_field, way_to_element, way_to_table}
 use Rattle.fb_verify.specs.Stops.{in_head, fault_of, budget_failure, reads_failure, lead_reads_failure, fault_at, IsFalseAt, Trail, at_head, at_field, FieldTrail, at_own, at_element, ElementTrail, at_lead, through, IsTrail, IsFieldTrail, IsElementTrail}
 use Rattle.fb_verify.specs.Laws.{Overruns}
-use Rattle.fb_verify.proofs.Budgets.{are_too_many, more_reads}
+use Rattle.fb_verify.proofs.Budgets.{are_too_many, not_both, more_reads}
 use Rattle.fb_verify.proofs.Chains.{head_none, own_none, element_passes}
 use Rattle.fb_verify.proofs.Unique.{one_elements, one_element}
 
@@ -122,6 +122,12 @@ module _ (c : Checks) (b : List ℕ) (S : Rows) where
     more_overruns w v d m r e n q f (inl p) deep many reads = inl (p.0, omega (arith, p.1, deep))
     more_overruns w v d m r e n q f (inr (inl p)) deep many reads = inr (inl (p.0, omega (arith, p.1, many)))
     more_overruns w v d m r e n q f (inr (inr p)) deep many reads = inr (inr (p.0, more_reads L.reads (w.paid + r) (v.paid + q) reads p.1))
+
+    -- what stays within the limits isn't past them
+    pub not_past : (w : Way) (d m r q : ℕ) (f : Fault) → Overruns L w d m r f → w.links + d ≤ L.depth → w.passed + m ≤ L.tables → w.paid + r ≤ q → AreAllowed L.reads q → ⊥
+    not_past w d m r q f (inl p) deep many few reads = omega (arith, p.1)
+    not_past w d m r q f (inr (inl p)) deep many few reads = omega (arith, p.1)
+    not_past w d m r q f (inr (inr p)) deep many few reads = not_both L.reads _ q few reads p.1
 
     pub head_overruns : (k t : ℕ) (w : Way) (f : Fault) → IsTable c b t → IsFalseAt c b S L (in_head k t) w f → Overruns L w 1 1 (head_reads c) f
     unfolding fault_at

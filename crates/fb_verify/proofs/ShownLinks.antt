@@ -7,7 +7,7 @@ use Rattle.fb_verify.specs.Links.{links_of, links_in_field, links_in_element}
 use Rattle.fb_verify.specs.Samples.{published_checks}
 use Rattle.fb_verify.specs.Examples.{kids_of, one_field}
 use Rattle.fb_verify.specs.LinkExamples.{herds, crooked_third, nameless_third, LinksFound}
-use Rattle.fb_verify.proofs.Shown.{computing, start, head, own, offset, past, among}
+use Rattle.fb_verify.proofs.Shown.{computing, shown, past, among}
 
 -- all that is computed
 unfoldable linking : ℕ
@@ -23,11 +23,11 @@ twice = element (table empty) (element (table empty) no_elements)
 
 empty_unfolds : Unfolds empty published_checks crooked_third herds 2 60
 unfolding linking empty
-empty_unfolds = (refl, refl, head refl, (own _ _ _ _ _ refl, tt, tt))
+empty_unfolds = search shown
 
 empty_unfolds_too : Unfolds empty published_checks nameless_third herds 2 60
 unfolding linking empty
-empty_unfolds_too = (refl, refl, head refl, (own _ _ _ _ _ refl, tt, tt))
+empty_unfolds_too = search shown
 
 -- past the type of the union and past these tables, on from the third
 to_third : Trail → Trail
@@ -37,10 +37,10 @@ pub links_found : LinksFound
 unfolding linking empty twice to_third
 links_found = record {
   at_the_start = inl (search rules, refl);
-  at_the_root = inr (start refl, (at_head, search rules, refl));
-  in_a_type = inr (start refl, (at_field no_kids at_own, (_, past refl tt refl, search rules), refl));
-  in_the_head_of_a_vector = inr (start refl, (at_field no_kids at_own, (_, past refl tt refl, search rules), refl));
-  in_a_third_table = inr (start refl, (to_third at_head, (_, past refl (search (rules, own)) refl, (_, among refl tt refl, (_, refl, offset refl, (_, past refl tt refl, (_, among refl (search (rules, offset, empty_unfolds)) refl, (_, refl, offset refl, search rules)))))), refl));
-  in_its_field = inr (start refl, (to_third (at_field no_kids (at_element no_elements at_lead)), (_, past refl (search (rules, own)) refl, (_, among refl tt refl, (_, refl, offset refl, (_, past refl tt refl, (_, among refl (search (rules, offset, empty_unfolds_too)) refl, (_, refl, offset refl, (_, past refl tt refl, (_, among refl tt refl, search rules)))))))), refl));
-  one_table_too_many = inr (start refl, (to_third at_head, (_, past refl (search (rules, own)) refl, (_, among refl tt refl, (_, refl, offset refl, (_, past refl tt refl, (_, among refl (search (rules, offset, empty_unfolds)) refl, (_, refl, offset refl, search rules)))))), refl));
+  at_the_root = inr (search shown, (at_head, search rules, refl));
+  in_a_type = inr (search shown, (at_field no_kids at_own, (_, past refl tt refl, search rules), refl));
+  in_the_head_of_a_vector = inr (search shown, (at_field no_kids at_own, (_, past refl tt refl, search rules), refl));
+  in_a_third_table = inr (search shown, (to_third at_head, (_, past refl (search shown) refl, (_, among refl tt refl, (_, refl, search shown, (_, past refl tt refl, (_, among refl (search (shown, empty_unfolds)) refl, (_, refl, search shown, search rules)))))), refl));
+  in_its_field = inr (search shown, (to_third (at_field no_kids (at_element no_elements at_lead)), (_, past refl (search shown) refl, (_, among refl tt refl, (_, refl, search shown, (_, past refl tt refl, (_, among refl (search (shown, empty_unfolds_too)) refl, (_, refl, search shown, (_, past refl tt refl, (_, among refl tt refl, search rules)))))))), refl));
+  one_table_too_many = inr (search shown, (to_third at_head, (_, past refl (search shown) refl, (_, among refl tt refl, (_, refl, search shown, (_, past refl tt refl, (_, among refl (search (shown, empty_unfolds)) refl, (_, refl, search shown, search rules)))))), refl));
 }

@@ -1,9 +1,9 @@
 -- Where a buffer stops, the fault's reason is true of the place that it names.
-use Rattle.std.proofs.Common.{◌≡◌, ℕ, suc, ◌+◌, ◌≤◌, ◌⊎◌, inl, inr, Bool, true, false, nat_lt, List, refl, ◌∙◌, ap, subst, arith, Option, Some, None}
+use Rattle.std.proofs.Common.{◌≡◌, ℕ, suc, ◌+◌, ◌≤◌, ◌⊎◌, inl, inr, Bool, true, false, nat_lt, List, refl, ◌∙◌, subst, arith, Option, Some, None}
 use Rattle.std.specs.Prelude.{slice_get}
 use Rattle.std.proofs.lemmas.Bool.Decides.{nat_tests}
 use Rattle.fb_schema.specs.declared.kinds.Kind.{Kind}
-use Rattle.fb_schema.specs.declared.kinds.Kind.TheVariants.{Scalar, Text, Struct, Table, Union, Scalars, Texts, Structs, Tables, Unions}
+use Rattle.fb_schema.specs.declared.kinds.Kind.TheVariants.{Scalar}
 use Rattle.fb_schema.specs.Rows.{Rows}
 use Rattle.fb_schema.specs.Live.{Live, live_fields}
 use Rattle.fb_verify.specs.declared.checks.Checks.{Checks}
@@ -14,14 +14,14 @@ use Rattle.fb_verify.specs.Bounds.{Bounds, allowed}
 use Rattle.fb_verify.specs.Question.{Question}
 use Rattle.fb_verify.specs.Places.{target, field_place}
 use Rattle.fb_verify.specs.Facts.{IsTable}
-use Rattle.fb_verify.specs.Fields.{Lead, to_table, to_struct, to_string, to_nothing, Entry}
+use Rattle.fb_verify.specs.Fields.{Lead, to_table, Entry}
 use Rattle.fb_verify.specs.Tree.{kids_length, elements_length}
 use Rattle.fb_verify.specs.Cost.{head_reads, own_reads, lead_reads}
 use Rattle.fb_verify.specs.WellFormed.{base, start_reads}
 use Rattle.fb_verify.specs.Order.{Failure, check, ◌▷◌, start_failure, head_failure, own_failure, element_failure}
 use Rattle.fb_verify.specs.Way.{Way, way_to_start, way_to_root, way_to_field, way_to_element, way_to_table}
 use Rattle.fb_verify.specs.Stops.{in_start, in_head, fault_of, budget_failure, reads_failure, lead_reads_failure, fault_at, IsFalseAt, Trail, at_head, at_field, FieldTrail, at_own, at_element, ElementTrail, at_lead, through, IsTrail, IsFieldTrail, IsElementTrail}
-use Rattle.fb_verify.specs.TrueReasons.{FailsAtLimit, PrefixIsFalse, IdentIsFalse, OffsetIsFalse, HeadIsFalse, PlacedIsFalse, LeadIsFalse, IsOverBudget, HasEntry, LeadsOn, IsReached, as_root, from_above, FailsAtStart, LimitIsReached, FailsInHead, FailsInField, FailsInElement, FailsAtTable, StopsTruly, PresentIsFalse, opened_on, opened_on_field, opened_on_element, TablesRunOut}
+use Rattle.fb_verify.specs.TrueReasons.{FailsAtLimit, HeadIsFalse, PlacedIsFalse, LeadIsFalse, IsOverBudget, HasEntry, LeadsOn, IsReached, as_root, from_above, FailsAtStart, LimitIsReached, FailsInHead, FailsInField, FailsInElement, FailsAtTable, StopsTruly, PresentIsFalse, opened_on, opened_on_field, opened_on_element, TablesRunOut}
 use Rattle.fb_verify.proofs.Budgets.{are_too_many}
 use Rattle.fb_verify.proofs.Overruns.{some_same, either}
 use Rattle.fb_verify.proofs.TrueReasons.{Tells, test, last, start_false, head_false, own_false, element_false}

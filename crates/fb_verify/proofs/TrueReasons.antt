@@ -3,7 +3,7 @@ use Rattle.std.proofs.Common.{◌≡◌, ◌≢◌, ℕ, ◌+◌, ◌*◌, ◌%�
 use Rattle.std.proofs.lemmas.Bool.Decides.{nat_tests}
 use Rattle.fb_bytes.specs.Word.{word}
 use Rattle.fb_schema.specs.declared.kinds.Kind.{Kind}
-use Rattle.fb_schema.specs.declared.kinds.Kind.TheVariants.{Scalar, Text, Struct, Table, Union, Scalars, Texts, Structs, Tables, Unions}
+use Rattle.fb_schema.specs.declared.kinds.Kind.TheVariants.{Union, Unions}
 use Rattle.fb_schema.specs.Rows.{Rows}
 use Rattle.fb_schema.specs.Live.{Live}
 use Rattle.fb_schema.specs.Members.{member_of}
@@ -18,7 +18,7 @@ use Rattle.fb_verify.specs.Places.{fits, is_aligned, target, has_vtable, vtable,
 use Rattle.fb_verify.specs.Fields.{type_place, union_type, type_count, Lead, to_table, to_struct, to_string, to_nothing, Entry}
 use Rattle.fb_verify.specs.WellFormed.{base}
 use Rattle.fb_verify.specs.Order.{Failure, check, after, ◌▷◌, prefix_failure, ident_failure, offset_failure, start_failure, head_failure, string_failure, vector_failure, inline_failure, table_failure, inline_field_failure, vector_field_failure, unions_field_failure, union_field_failure, present_failure, failure_at, own_failure, lead_failure, element_failure}
-use Rattle.fb_verify.specs.TrueReasons.{AreOut, IsMisaligned, PrefixIsFalse, IdentIsFalse, OffsetIsFalse, HeadIsFalse, StringIsFalse, VectorIsFalse, InlineIsFalse, PastIsFalse, InlineFieldIsFalse, VectorFieldIsFalse, CountIsFalse, PresentIsFalse, AbsentIsFalse, PlacedIsFalse, LeadIsFalse}
+use Rattle.fb_verify.specs.TrueReasons.{AreOut, IsMisaligned, PrefixIsFalse, IdentIsFalse, OffsetIsFalse, HeadIsFalse, StringIsFalse, VectorIsFalse, InlineIsFalse, PastIsFalse, InlineFieldIsFalse, VectorFieldIsFalse, CountIsFalse, PresentIsFalse, PlacedIsFalse, LeadIsFalse}
 use Rattle.fb_verify.proofs.Chains.{offset_none}
 use Rattle.fb_verify.proofs.Overruns.{some_same}
 
@@ -165,11 +165,13 @@ module _ (c : Checks) (b : List ℕ) where
   union_field_false t p None = nothing
   union_field_false t p (Some member) = past_false t p 4
 
+  ruleset fields = (past_false, inline_field_false, vector_field_false)
+
   module _ (S : Rows) (t : ℕ) (g : Live) where
     present_false : (p : ℕ) (kind : Kind) → Tells (PresentIsFalse c b t g p kind) (present_failure c b S t g p kind)
     present_false p (Union u) = later _ _ (union_field_false t p (member_of S u (union_type b (type_place b t g.slot))))
     present_false p (Unions u) = later _ _ (unions_field_false t p (type_place b t g.slot))
-    present_false p kind = search (inline_field_false, past_false, vector_field_false)
+    present_false p kind = search fields
 
     placed_false : (place : Option ℕ) → Tells (PlacedIsFalse c b t g place) (failure_at c b S t g place)
     placed_false None = last _ MissingRequired t _ (λ wrong. (refl, not_required g.required wrong))

@@ -10,7 +10,7 @@ use Rattle.fb_schema.specs.Served.{HasTypeField, IsTyped as IsTypedIn}
 use Rattle.fb_verify.specs.declared.checks.Checks.{Checks}
 use Rattle.fb_verify.specs.Places.{field_place}
 use Rattle.fb_verify.specs.Fields.{IsPresent, IsPresentOrAbsent, IsField, type_place}
-use Rattle.fb_verify.specs.Tree.{Kids, no_kids, kid}
+use Rattle.fb_verify.specs.Tree.{Kids, kid}
 use Rattle.fb_verify.specs.Unfolds.{FieldsUnfold}
 use Rattle.fb_verify.specs.OffsetRows.{TypeFits, TypesFit, IsTyped}
 

@@ -1,10 +1,10 @@
 -- A buffer has at most one tree for an object and a position.
-use Rattle.std.proofs.Common.{◌≡◌, ℕ, List, [], ◌∷◌, refl, ap, arith}
+use Rattle.std.proofs.Common.{◌≡◌, ℕ, List, ◌∷◌, refl, ap, arith}
 use Rattle.fb_schema.specs.Rows.{Rows}
 use Rattle.fb_schema.specs.Live.{Live, live_fields}
 use Rattle.fb_verify.specs.declared.checks.Checks.{Checks}
 use Rattle.fb_verify.specs.Places.{target}
-use Rattle.fb_verify.specs.Fields.{Lead, to_table, to_struct, to_string, to_nothing, Entry, entries}
+use Rattle.fb_verify.specs.Fields.{Lead, to_table, Entry, entries}
 use Rattle.fb_verify.specs.Tree.{Tree, node, Kids, no_kids, kid, Elements, no_elements, element, Element, leaf, table}
 use Rattle.fb_verify.specs.Unfolds.{Unfolds, FieldsUnfold, ElementsUnfold, ElementUnfolds}
 
