@@ -1,5 +1,5 @@
 -- Frames whose row was left behind a word, and the links through these words.
-use Rattle.std.proofs.Common.{◌≡◌, ℕ, zero, suc, ◌+◌, ◌-◌, ◌<◌, List, [], ◌∷◌, length, refl, sym, ◌∙◌, ap, subst, arith, Option, Some, None}
+use Rattle.std.proofs.Common.{◌≡◌, ℕ, zero, suc, ◌+◌, ◌-◌, ◌<◌, List, [], ◌∷◌, length, refl, sym, ◌∙◌, ap, subst, arith, rules, Option, Some, None}
 use Rattle.std.specs.Prelude.{slice_get}
 use Rattle.std.proofs.lemmas.List.{length-drop}
 use Rattle.fb_bytes.specs.Word.{word}
@@ -88,8 +88,6 @@ module _ (c : Checks) (b : List ℕ) (S : Rows) (t p : ℕ) (g : Live) (left : �
   union_words (Some k) more = refl
 
   stands_by : (kind : Kind) → IsPresent c b S t g p kind → left < length (entries_of b S t g p kind) → Stands kind
-  stands_by Text h more = record { words = refl; count = tt; types = λ j l typed. tt }
-  stands_by (Table k) h more = record { words = refl; count = tt; types = λ j l typed. tt }
   stands_by (Union e) h more = record { words = union_words (member_of S e (union_type b (type_place b t g.slot))) more; count = tt; types = λ j l typed. typed }
   stands_by Texts h more = record { words = row_length b S to_string (target b p + 4) (word b (target b p) 4); count = vector_count h; types = λ j l typed. tt }
   stands_by (Tables k) h more = record { words = row_length b S (to_table k) (target b p + 4) (word b (target b p) 4); count = vector_count h; types = λ j l typed. tt }
@@ -98,7 +96,7 @@ module _ (c : Checks) (b : List ℕ) (S : Rows) (t p : ℕ) (g : Live) (left : �
     count = vector_count h.field;
     types = λ j l typed. (typed, omega (arith, l, h.counts_agree));
   }
-  stands_by kind h more = absurd (omega (arith, more))
+  stands_by kind h more = search rules
 
 -- The same of the field of a frame that is linked.
 module _ (c : Checks) (b : List ℕ) (S : Rows) (fr : Frame) (h : IsLinked c b S fr) (g : Live) (found : slice_get (live_fields S (fr.table).object) (fr.next - 1) ≡ Some g) where

@@ -81,16 +81,6 @@ module _ {c : Checks} {b : List ℕ} {S : Rows} {L : Bounds} {s : Origin} {below
       unfolding work
       open_work = omega (arith, l, left_is, z, first_few b S top.row, head_few c, fewer, sum_by_push (frame_work S) below (top_on row), work_opened c b S table h.served)
 
-      -- it goes on to a field that leads on
-      pub lead_work : (last : Frame) (u : ℕ) → u + frame_work S last ≤ q + head_reads c + frame_work S (opened table) → u + work S L (below ++ top_on row ∷ []) last (n + 1) < r + work S L below top n
-      unfolding work
-      lead_work last u f = omega (arith, f, open_work)
-
-      -- or is walked to its end
-      pub close_work : (u : ℕ) → u ≤ q + head_reads c + frame_work S (opened table) → u + work S L below (top_on row) (n + 1) < r + work S L below top n
-      unfolding work
-      close_work u f = omega (arith, f, open_work, sum_by_push (frame_work S) below (top_on row))
-
   module _ (field : Live) (row : Row) (number q : ℕ) (l : (top.row).left ≡ 0) (i : slice_get (live_fields S (top.table).object) top.next ≡ Some field) (z : q ≡ r + own_reads b (top.table).at field) (good : IsRow b S row) where
     -- a field is passed
     pub field_passed : AreAllowed L.reads q → number ≡ field.number → own_failure c b S (top.table).at field ≡ None → entries b S (top.table).at field ≡ words_of b S row → IsUnderWay c b S L s below (top_past number row) n d q
