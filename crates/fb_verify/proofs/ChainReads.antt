@@ -1,17 +1,13 @@
 -- How many reads a chain of tests makes at most where it fails.
 use Rattle.std.proofs.Common.{◌≡◌, ℕ, ◌+◌, ◌-◌, ◌≤◌, Bool, true, false, List, refl, ap, arith, Option, Some, None}
 use Rattle.std.proofs.lemmas.Bool.Decides.{nat_tests}
-use Rattle.fb_schema.specs.declared.kinds.Kind.{Kind}
-use Rattle.fb_schema.specs.declared.kinds.Kind.TheVariants.{Union}
+use Rattle.fb_schema.specs.declared.kinds.Kind.{Kind, TheVariants.Union}
 use Rattle.fb_schema.specs.Rows.{Rows}
 use Rattle.fb_schema.specs.Live.{Live}
 use Rattle.fb_verify.specs.declared.checks.Checks.{Checks}
-use Rattle.fb_verify.specs.declared.start.Start.{Start}
-use Rattle.fb_verify.specs.declared.start.Start.TheVariants.{Bare, Prefixed}
-use Rattle.fb_verify.specs.declared.start.Ident.{Ident}
-use Rattle.fb_verify.specs.declared.start.Ident.TheVariants.{Any, Want}
-use Rattle.fb_verify.specs.declared.fault.Reason.{Reason}
-use Rattle.fb_verify.specs.declared.fault.Reason.TheVariants.{TooManyReads}
+use Rattle.fb_verify.specs.declared.start.Start.{Start, TheVariants.Bare, TheVariants.Prefixed}
+use Rattle.fb_verify.specs.declared.start.Ident.{Ident, TheVariants.Any, TheVariants.Want}
+use Rattle.fb_verify.specs.declared.fault.Reason.{Reason, TheVariants.TooManyReads}
 use Rattle.fb_verify.specs.Bounds.{Bounds, allowed}
 use Rattle.fb_verify.specs.Fields.{type_place, Lead, to_table, Entry}
 use Rattle.fb_verify.specs.Tree.{size}

@@ -1,14 +1,11 @@
 -- A chain of tests finds nothing exactly where the facts hold.
 use Rattle.std.proofs.Common.{◌≡◌, ◌↔◌, ℕ, List, Option, Some, None, IsTrue, refl, sym, subst, rules, tests}
-use Rattle.fb_schema.specs.declared.kinds.Kind.{Kind}
-use Rattle.fb_schema.specs.declared.kinds.Kind.TheVariants.{Union}
+use Rattle.fb_schema.specs.declared.kinds.Kind.{Kind, TheVariants.Union}
 use Rattle.fb_schema.specs.Rows.{Rows}
 use Rattle.fb_schema.specs.Live.{Live}
 use Rattle.fb_verify.specs.declared.checks.Checks.{Checks}
-use Rattle.fb_verify.specs.declared.start.Start.{Start}
-use Rattle.fb_verify.specs.declared.start.Start.TheVariants.{Bare, Prefixed}
-use Rattle.fb_verify.specs.declared.start.Ident.{Ident}
-use Rattle.fb_verify.specs.declared.start.Ident.TheVariants.{Any, Want}
+use Rattle.fb_verify.specs.declared.start.Start.{Start, TheVariants.Bare, TheVariants.Prefixed}
+use Rattle.fb_verify.specs.declared.start.Ident.{Ident, TheVariants.Any, TheVariants.Want}
 use Rattle.fb_verify.specs.Places.{ends_in_table}
 use Rattle.fb_verify.specs.Facts.{IsTable, IsOffset, IsString, IsVector, IsInline}
 use Rattle.fb_verify.specs.Fields.{IsInlineField, IsVectorField, IsUnionsField, IsUnionField, IsPresent, IsPresentOrAbsent, IsField, Lead, to_table, to_struct, to_string, to_nothing, Entry}

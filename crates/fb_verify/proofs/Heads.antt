@@ -2,8 +2,7 @@
 use Rattle.std.proofs.Common.{◌≡◌, ℕ, ◌+◌, ◌%◌, ◌==◌, ◌&&◌, nat_le, Bool, true, List, refl, sym, ◌∙◌, ap, arith, Option, Some, None}
 use Rattle.fb_bytes.specs.Word.{Lent}
 use Rattle.fb_verify.specs.declared.checks.Checks.{Checks}
-use Rattle.fb_verify.specs.declared.fault.Reason.{Reason}
-use Rattle.fb_verify.specs.declared.fault.Reason.TheVariants.{OutOfBuffer, Misaligned, BadVtable}
+use Rattle.fb_verify.specs.declared.fault.Reason.{Reason, TheVariants.OutOfBuffer, TheVariants.Misaligned, TheVariants.BadVtable}
 use Rattle.fb_verify.specs.Places.{fits, is_aligned, has_vtable, vtable, vtable_size}
 use Rattle.fb_verify.specs.Cost.{head_reads}
 use Rattle.fb_verify.specs.Order.{Failure, check, after, ◌▷◌, head_failure}

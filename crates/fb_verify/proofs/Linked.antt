@@ -10,8 +10,7 @@ use Rattle.fb_schema.specs.Members.{member_of}
 use Rattle.fb_schema.specs.Live.{Live, live_fields}
 use Rattle.fb_schema.specs.Served.{IsServed}
 use Rattle.fb_verify.specs.declared.checks.Checks.{Checks}
-use Rattle.fb_verify.specs.declared.offset_row.Leads.{Leads}
-use Rattle.fb_verify.specs.declared.offset_row.Leads.TheVariants.{All, ByType}
+use Rattle.fb_verify.specs.declared.offset_row.Leads.{Leads, TheVariants.All, TheVariants.ByType}
 use Rattle.fb_verify.specs.declared.offset_row.Row.{Row}
 use Rattle.fb_verify.specs.declared.scratch.Frame.{Frame}
 use Rattle.fb_verify.specs.Fields.{IsVectorField, IsPresent, IsField, type_place, union_type, types_begin, Lead, to_table, to_string, Entry, row, union_row, union_entry, entries_of, entries_at, entries}

@@ -1,8 +1,7 @@
 -- The type fields of unions were checked before the unions.
 use Rattle.std.proofs.Common.{◌≡◌, ℕ, zero, suc, ◌-◌, ◌<◌, List, [], ◌∷◌, take, refl, ◌∙◌, subst, arith, Some}
 use Rattle.std.specs.Prelude.{slice_get}
-use Rattle.fb_schema.specs.declared.kinds.Kind.{Kind}
-use Rattle.fb_schema.specs.declared.kinds.Kind.TheVariants.{Scalar, Union, Scalars, Unions}
+use Rattle.fb_schema.specs.declared.kinds.Kind.{Kind, TheVariants.Scalar, TheVariants.Union, TheVariants.Scalars, TheVariants.Unions}
 use Rattle.fb_schema.specs.declared.kinds.Scalar.TheVariants.{UType}
 use Rattle.fb_schema.specs.Rows.{Rows}
 use Rattle.fb_schema.specs.Live.{Live}
