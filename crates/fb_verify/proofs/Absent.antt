@@ -9,13 +9,10 @@ use Rattle.std.proofs.lemmas.List.Sums.{passes_at_first, fails_before_first, sum
 use Rattle.std.specs.List.{All, position_or_len}
 use Rattle.std.proofs.lemmas.List.Elements.{All-cons, All-nil}
 use Rattle.fb_schema.specs.declared.views.Step.{Step}
-use Rattle.fb_schema.specs.Steps.{step_of}
+use Rattle.fb_schema.specs.{Steps.step_of, Rows.Rows, Live.Live, Live.live_fields, Live.next_required, Live.next_required_of}
 use Rattle.fb_verify.specs.Plain.{plain_failure, plain_reads, StepsHold, steps_reads}
 use Rattle.fb_verify.proofs.Plains.{step_at}
-use Rattle.fb_schema.specs.Rows.{Rows}
-use Rattle.fb_schema.specs.Live.{Live, live_fields, next_required, next_required_of}
-use Rattle.fb_verify.specs.declared.checks.Checks.{Checks}
-use Rattle.fb_verify.specs.declared.scratch.Frame.{Frame}
+use Rattle.fb_verify.specs.declared.{checks.Checks.Checks, scratch.Frame.Frame}
 use Rattle.fb_verify.specs.Bounds.{Bounds}
 use Rattle.fb_verify.specs.Places.{has_slot, field_place, vtable_size}
 use Rattle.fb_verify.specs.Fields.{entries}

@@ -2,8 +2,7 @@
 use Rattle.std.proofs.Common.{◌≡◌, ℕ, ◌+◌, ◌-◌, ◌≤◌, Bool, true, false, List, refl, ap, arith, Option, Some, None}
 use Rattle.std.proofs.lemmas.Bool.Decides.{nat_tests}
 use Rattle.fb_schema.specs.declared.kinds.Kind.{Kind, TheVariants.Union}
-use Rattle.fb_schema.specs.Rows.{Rows}
-use Rattle.fb_schema.specs.Live.{Live}
+use Rattle.fb_schema.specs.{Rows.Rows, Live.Live}
 use Rattle.fb_verify.specs.declared.checks.Checks.{Checks}
 use Rattle.fb_verify.specs.declared.start.Start.{Start, TheVariants.Bare, TheVariants.Prefixed}
 use Rattle.fb_verify.specs.declared.start.Ident.{Ident, TheVariants.Any, TheVariants.Want}

@@ -1,8 +1,7 @@
 -- A chain of tests finds nothing exactly where the facts hold.
 use Rattle.std.proofs.Common.{◌≡◌, ◌↔◌, ℕ, List, Option, Some, None, IsTrue, refl, sym, subst, rules, tests}
 use Rattle.fb_schema.specs.declared.kinds.Kind.{Kind, TheVariants.Union}
-use Rattle.fb_schema.specs.Rows.{Rows}
-use Rattle.fb_schema.specs.Live.{Live}
+use Rattle.fb_schema.specs.{Rows.Rows, Live.Live}
 use Rattle.fb_verify.specs.declared.checks.Checks.{Checks}
 use Rattle.fb_verify.specs.declared.start.Start.{Start, TheVariants.Bare, TheVariants.Prefixed}
 use Rattle.fb_verify.specs.declared.start.Ident.{Ident, TheVariants.Any, TheVariants.Want}

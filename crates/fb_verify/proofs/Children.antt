@@ -1,16 +1,9 @@
 -- The walk stands at an offset word that leads to a table, and goes on in that table.
 use Rattle.std.proofs.Common.{◌≡◌, ℕ, ◌+◌, ◌*◌, ◌<◌, ◌≤◌, max, List, [], ◌∷◌, ◌++◌, length, ◌∙◌, ap, arith, Some, None}
 use Rattle.std.proofs.lemmas.List.Sums.{sum_by_push}
-use Rattle.fb_schema.specs.Rows.{Rows}
-use Rattle.fb_schema.specs.Live.{live_fields}
-use Rattle.fb_verify.specs.declared.checks.Checks.{Checks}
-use Rattle.fb_verify.specs.declared.table.Child.{Child}
-use Rattle.fb_verify.specs.declared.fault.Fault.{Fault}
-use Rattle.fb_verify.specs.declared.table.Table.{Table}
-use Rattle.fb_verify.specs.declared.offset_row.Row.{Row}
-use Rattle.fb_verify.specs.declared.scratch.Frame.{Frame}
-use Rattle.fb_verify.specs.declared.site.Site.{Site}
-use Rattle.fb_verify.specs.declared.stack.Walk.{Walk}
+use Rattle.fb_schema.specs.{Rows.Rows, Live.live_fields}
+use Rattle.fb_verify.specs.declared.{checks.Checks.Checks, table.Child.Child, fault.Fault.Fault, table.Table.Table, offset_row.Row.Row, scratch.Frame.Frame}
+use Rattle.fb_verify.specs.declared.{site.Site.Site, stack.Walk.Walk}
 use Rattle.fb_verify.specs.Bounds.{Bounds, AreAllowed}
 use Rattle.fb_verify.specs.Cost.{head_reads}
 use Rattle.fb_verify.specs.Order.{◌▷◌, head_failure}

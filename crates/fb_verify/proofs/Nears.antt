@@ -4,11 +4,8 @@ use Rattle.std.specs.Prelude.{slice_get}
 use Rattle.std.proofs.lemmas.Bool.Decides.{nat_tests}
 use Rattle.fb_bytes.specs.Word.{word}
 use Rattle.fb_schema.specs.declared.kinds.Kind.{Kind, TheVariants.Union, TheVariants.Unions}
-use Rattle.fb_schema.specs.Rows.{Rows}
-use Rattle.fb_schema.specs.Live.{Live}
-use Rattle.fb_schema.specs.Members.{member_of}
-use Rattle.fb_verify.specs.declared.checks.Checks.{Checks}
-use Rattle.fb_verify.specs.declared.fault.Fault.{Fault}
+use Rattle.fb_schema.specs.{Rows.Rows, Live.Live, Members.member_of}
+use Rattle.fb_verify.specs.declared.{checks.Checks.Checks, fault.Fault.Fault}
 use Rattle.fb_verify.specs.Bounds.{Bounds}
 use Rattle.fb_verify.specs.Places.{target, field_place}
 use Rattle.fb_verify.specs.Fields.{type_place, union_type, types_begin, Lead, Entry, row, union_row, union_entry, entries_of, entries_at, entries}

@@ -3,13 +3,8 @@ use Rattle.std.proofs.Common.{◌≡◌, ℕ, ◌+◌, ◌<◌, inl, inr, List, 
 use Rattle.std.specs.Prelude.{slice_get}
 use Rattle.std.proofs.lemmas.Bool.{cases_order}
 use Rattle.std.proofs.lemmas.List.{take-take}
-use Rattle.fb_schema.specs.Rows.{Rows}
-use Rattle.fb_schema.specs.Live.{Live, live_fields}
-use Rattle.fb_verify.specs.declared.checks.Checks.{Checks}
-use Rattle.fb_verify.specs.declared.start.Start.{Start}
-use Rattle.fb_verify.specs.declared.start.Ident.{Ident}
-use Rattle.fb_verify.specs.declared.fault.Fault.{Fault}
-use Rattle.fb_verify.specs.declared.links.Link.{Link}
+use Rattle.fb_schema.specs.{Rows.Rows, Live.Live, Live.live_fields}
+use Rattle.fb_verify.specs.declared.{checks.Checks.Checks, start.Start.Start, start.Ident.Ident, fault.Fault.Fault, links.Link.Link}
 use Rattle.fb_verify.specs.Bounds.{Bounds}
 use Rattle.fb_verify.specs.Question.{Question}
 use Rattle.fb_verify.specs.Places.{target}

@@ -3,8 +3,7 @@ use Rattle.std.proofs.Common.{◌≡◌, ℕ, zero, suc, ◌+◌, ◌≤◌, max
 use Rattle.std.proofs.Math.Seq.{drop-nil}
 use Rattle.std.proofs.lemmas.List.{append-nil, take-append-drop, take_all as take_whole}
 use Rattle.std.specs.Prelude.{slice_get}
-use Rattle.fb_schema.specs.Rows.{Rows}
-use Rattle.fb_schema.specs.Live.{Live}
+use Rattle.fb_schema.specs.{Rows.Rows, Live.Live}
 use Rattle.fb_verify.specs.declared.checks.Checks.{Checks}
 use Rattle.fb_verify.specs.Fields.{IsField, Entry, entries}
 use Rattle.fb_verify.specs.Tree.{Kids, no_kids, kid, Elements, no_elements, element, Element, kids_size, elements_size, element_size, kids_depth, elements_depth, element_depth, kids_length, elements_length}

@@ -1,10 +1,7 @@
 -- From a refusal to the fault at a site.
 use Rattle.std.proofs.Common.{◌≡◌, ℕ, ◌+◌, Bool, true, false, refl, ap, Option, Some, None}
-use Rattle.fb_verify.specs.declared.fault.Fault.{Fault}
-use Rattle.fb_verify.specs.declared.site.Site.{Site}
+use Rattle.fb_verify.specs.declared.{fault.Fault.Fault, site.Site.Site, site.Refusal.Refusal, site.Stop.Stop}
 use Rattle.fb_verify.specs.declared.fault.Reason.TheVariants.{TooManyReads}
-use Rattle.fb_verify.specs.declared.site.Refusal.{Refusal}
-use Rattle.fb_verify.specs.declared.site.Stop.{Stop}
 use Rattle.fb_verify.specs.Bounds.{Bounds, allowed}
 use Rattle.fb_verify.specs.Cost.{lead_reads}
 use Rattle.fb_verify.specs.Fields.{Lead, to_table, Entry}

@@ -2,10 +2,7 @@
 use Rattle.std.proofs.Common.{◌≡◌, ℕ, List, take, refl, rules, None, Some}
 use Rattle.std.specs.Prelude.{slice_get}
 use Rattle.fb_bytes.specs.Word.{word}
-use Rattle.fb_schema.specs.Rows.{Rows}
-use Rattle.fb_schema.specs.Live.{Live, live_fields}
-use Rattle.fb_schema.specs.Kinds.{shape_of, kind_of, base_types}
-use Rattle.fb_schema.specs.Members.{member_of}
+use Rattle.fb_schema.specs.{Rows.Rows, Live.Live, Live.live_fields, Kinds.shape_of, Kinds.kind_of, Kinds.base_types, Members.member_of}
 use Rattle.fb_verify.specs.declared.checks.Checks.{Checks}
 use Rattle.fb_verify.specs.Places.{is_aligned, has_vtable, vtable, field_place, ends_in_table}
 use Rattle.fb_verify.specs.Fields.{IsField, Entry, entries, row, union_row}

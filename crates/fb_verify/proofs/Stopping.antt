@@ -4,14 +4,8 @@ use Rattle.std.specs.Prelude.{slice_get}
 use Rattle.std.specs.List.{All}
 use Rattle.std.proofs.lemmas.List.{map-append, append-nil}
 use Rattle.std.proofs.lemmas.List.Elements.{All-push}
-use Rattle.fb_schema.specs.Rows.{Rows}
-use Rattle.fb_schema.specs.Live.{Live, live_fields}
-use Rattle.fb_verify.specs.declared.checks.Checks.{Checks}
-use Rattle.fb_verify.specs.declared.fault.Fault.{Fault}
-use Rattle.fb_verify.specs.declared.links.Link.{Link}
-use Rattle.fb_verify.specs.declared.offset_row.Row.{Row}
-use Rattle.fb_verify.specs.declared.scratch.Frame.{Frame}
-use Rattle.fb_verify.specs.declared.site.Site.{Site}
+use Rattle.fb_schema.specs.{Rows.Rows, Live.Live, Live.live_fields}
+use Rattle.fb_verify.specs.declared.{checks.Checks.Checks, fault.Fault.Fault, links.Link.Link, offset_row.Row.Row, scratch.Frame.Frame, site.Site.Site}
 use Rattle.fb_verify.specs.Bounds.{Bounds}
 use Rattle.fb_verify.specs.Links.{field_link, LeadsAlong}
 use Rattle.fb_verify.specs.Cost.{own_reads, head_reads, lead_reads}

@@ -3,13 +3,10 @@ use Rattle.std.proofs.Common.{◌≡◌, ◌≢◌, ℕ, ◌+◌, ◌*◌, ◌%�
 use Rattle.std.proofs.lemmas.Bool.Decides.{nat_tests}
 use Rattle.fb_bytes.specs.Word.{word}
 use Rattle.fb_schema.specs.declared.kinds.Kind.{Kind, TheVariants.Union, TheVariants.Unions}
-use Rattle.fb_schema.specs.Rows.{Rows}
-use Rattle.fb_schema.specs.Live.{Live}
-use Rattle.fb_schema.specs.Members.{member_of}
-use Rattle.fb_verify.specs.declared.checks.Checks.{Checks}
+use Rattle.fb_schema.specs.{Rows.Rows, Live.Live, Members.member_of}
+use Rattle.fb_verify.specs.declared.{checks.Checks.Checks, fault.Reason.Reason}
 use Rattle.fb_verify.specs.declared.start.Start.{Start, TheVariants.Bare, TheVariants.Prefixed}
 use Rattle.fb_verify.specs.declared.start.Ident.{Ident, TheVariants.Any, TheVariants.Want}
-use Rattle.fb_verify.specs.declared.fault.Reason.{Reason}
 use Rattle.fb_verify.specs.declared.fault.Reason.TheVariants.{WrongPrefix, OutOfBuffer, Misaligned, ZeroOffset, WrongIdentifier, BadVtable, MissingRequired, NoTerminator, LengthsDiffer, PastTable}
 use Rattle.fb_verify.specs.Places.{fits, is_aligned, target, has_vtable, vtable, vtable_size, inline_size, field_place, ends_in_table}
 use Rattle.fb_verify.specs.Fields.{type_place, union_type, type_count, Lead, to_table, to_struct, to_string, to_nothing, Entry}

@@ -1,10 +1,9 @@
 -- Examples: trees with their numbers, and faults with the trails that lead to them.
 use Rattle.std.specs.Prelude.{◌≡◌, ℕ, true, List, [], ◌∷◌, Some, None}
 use Rattle.fb_schema.specs.Rows.{Rows}
-use Rattle.fb_verify.specs.declared.checks.Checks.{Checks}
+use Rattle.fb_verify.specs.declared.{checks.Checks.Checks, fault.Fault.Fault}
 use Rattle.fb_verify.specs.declared.start.Start.TheVariants.{Bare}
 use Rattle.fb_verify.specs.declared.start.Ident.TheVariants.{Any}
-use Rattle.fb_verify.specs.declared.fault.Fault.{Fault}
 use Rattle.fb_verify.specs.declared.fault.Reason.TheVariants.{Misaligned, ZeroOffset, TooDeep, TooManyTables, BadVtable, NoTerminator, LengthsDiffer, PastTable, TooManyReads}
 use Rattle.fb_verify.specs.Bounds.{Bounds, AreAllowed, AreTooMany, limits_of_length}
 use Rattle.fb_verify.specs.Question.{question}

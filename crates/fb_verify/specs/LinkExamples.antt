@@ -3,9 +3,8 @@ use Rattle.std.specs.Prelude.{ℕ, pos, true, List, [], ◌∷◌, codes, Option
 use Rattle.fb_schema.specs.Rows.{Rows}
 use Rattle.fb_verify.specs.declared.start.Start.TheVariants.{Bare}
 use Rattle.fb_verify.specs.declared.start.Ident.TheVariants.{Any}
-use Rattle.fb_verify.specs.declared.fault.Fault.{Fault}
+use Rattle.fb_verify.specs.declared.{fault.Fault.Fault, links.Link.Link}
 use Rattle.fb_verify.specs.declared.fault.Reason.TheVariants.{OutOfBuffer, ZeroOffset, TooManyTables}
-use Rattle.fb_verify.specs.declared.links.Link.{Link}
 use Rattle.fb_verify.specs.Bounds.{Bounds}
 use Rattle.fb_verify.specs.Question.{question}
 use Rattle.fb_verify.specs.Links.{StopsAlong}

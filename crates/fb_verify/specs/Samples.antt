@@ -2,9 +2,7 @@
 use Rattle.std.specs.Prelude.{ℕ, pos, true, false, List, [], ◌∷◌, Option, None}
 use Rattle.fb_schema.specs.declared.rows.TypeRow.{TypeRow}
 use Rattle.fb_schema.specs.Rows.{Field, Object, Rows}
-use Rattle.fb_verify.specs.declared.checks.Checks.{Checks}
-use Rattle.fb_verify.specs.declared.fault.Fault.{Fault}
-use Rattle.fb_verify.specs.declared.fault.Reason.{Reason}
+use Rattle.fb_verify.specs.declared.{checks.Checks.Checks, fault.Fault.Fault, fault.Reason.Reason}
 use Rattle.fb_verify.specs.Bounds.{Bounds}
 
 -- the published checks and limits

@@ -3,12 +3,10 @@ use Rattle.std.specs.Prelude.{◌≡◌, ℕ, true, false, List, [], ◌∷◌, 
 use Rattle.fb_schema.specs.declared.kinds.Scalar.TheVariants.{Short, Int, Long}
 use Rattle.fb_schema.specs.declared.kinds.Kind.{Kind}
 use Rattle.fb_schema.specs.declared.kinds.Kind.TheVariants.{Scalar, Text, Struct, Table, Union, Scalars, Texts, Structs, Tables, Unions}
-use Rattle.fb_schema.specs.Live.{Live}
-use Rattle.fb_schema.specs.LookUps.{live}
-use Rattle.fb_verify.specs.declared.checks.Checks.{Checks}
+use Rattle.fb_schema.specs.{Live.Live, LookUps.live}
+use Rattle.fb_verify.specs.declared.{checks.Checks.Checks, fault.Reason.Reason}
 use Rattle.fb_verify.specs.declared.start.Start.TheVariants.{Bare, Prefixed}
 use Rattle.fb_verify.specs.declared.start.Ident.{Ident, TheVariants.Any, TheVariants.Want}
-use Rattle.fb_verify.specs.declared.fault.Reason.{Reason}
 use Rattle.fb_verify.specs.declared.fault.Reason.TheVariants.{WrongPrefix, OutOfBuffer, Misaligned, ZeroOffset, WrongIdentifier, TooDeep, TooManyTables, BadVtable, MissingRequired, NoTerminator, LengthsDiffer, PastTable, TooManyReads}
 use Rattle.fb_verify.specs.Bounds.{Bounds}
 use Rattle.fb_verify.specs.Fields.{to_table, to_struct, to_string, to_nothing, entry}
