@@ -69,7 +69,7 @@ module _ (c : Checks) (b : List ℕ) (S : Rows) (fr : Frame) (w v : Way) (x : En
 -- What of a field that holds can be read again where it leads on.
 module _ (c : Checks) (b : List ℕ) (S : Rows) (t p : ℕ) (g : Live) (left : ℕ) where
   -- how many words it has, that the count can be read, and that as many types are there
-  record Stands (kind : Kind) : Type 0 where
+  pub record Stands (kind : Kind) : Type 0 where
     pub words : length (entries_of b S t g p kind) ≡ word_count b p kind
     pub count : CountStands b p kind
     pub types : (j : ℕ) → j < word_count b p kind → IsTyped b t g.slot kind → TypeStands b t g.slot j kind
@@ -93,7 +93,7 @@ module _ (c : Checks) (b : List ℕ) (S : Rows) (t p : ℕ) (g : Live) (left : �
   stands_by kind h more = search rules
 
 -- The same of the field of a frame that is linked.
-module _ (c : Checks) (b : List ℕ) (S : Rows) (fr : Frame) (h : IsLinked c b S fr) (g : Live) (found : slice_get (live_fields S (fr.table).object) (fr.next - 1) ≡ Some g) where
+module _ {c : Checks} {b : List ℕ} {S : Rows} {fr : Frame} (h : IsLinked c b S fr) (g : Live) (found : slice_get (live_fields S (fr.table).object) (fr.next - 1) ≡ Some g) where
   abbrev t : ℕ
   t = (fr.table).at
 
@@ -115,13 +115,10 @@ module _ (c : Checks) (b : List ℕ) (S : Rows) (fr : Frame) (h : IsLinked c b S
     own : IsField c b S t g
     own = subst (λ x. IsField c b S t x) is_field h.own
 
-    stands : Stands c b S t p g (fr.row).left g.kind
+    pub stands : Stands c b S t p g (fr.row).left g.kind
     stands = stands_by c b S t p g (fr.row).left g.kind (present c b S t g p g.kind own place refl) (omega (arith, h.more, ap length words_are))
 
-    pub count_stands : CountStands b p g.kind
-    count_stands = stands.count
-
-    pub count_is : length (entries b S t h.field) ≡ word_count b p g.kind
+    count_is : length (entries b S t h.field) ≡ word_count b p g.kind
     count_is = ap length words_are ∙ stands.words
 
     pub more_left : (fr.row).left < word_count b p g.kind
