@@ -1,5 +1,5 @@
 -- A fault comes soon after the budget of reads is used up.
-use Rattle.std.proofs.Common.{◌≡◌, ℕ, zero, suc, ◌+◌, ◌-◌, ◌≤◌, ◌⊎◌, inl, inr, List, [], ◌∷◌, refl, ap, subst, arith, rules, Option, Some, None}
+use Rattle.std.proofs.Common.{◌≡◌, ℕ, zero, suc, ◌+◌, ◌≤◌, ◌<◌, ◌⊎◌, inl, inr, List, [], ◌∷◌, refl, ap, subst, arith, rules, Option, Some, None}
 use Rattle.std.specs.Prelude.{slice_get}
 use Rattle.std.proofs.lemmas.Bool.Decides.{nat_tests}
 use Rattle.fb_bytes.specs.Word.{word}
@@ -12,7 +12,7 @@ use Rattle.fb_verify.specs.Fields.{type_place, union_type, types_begin, Lead, En
 use Rattle.fb_verify.specs.Cost.{head_reads, own_reads, lead_reads}
 use Rattle.fb_verify.specs.Order.{Failure, ◌▷◌, head_failure, own_failure, element_failure}
 use Rattle.fb_verify.specs.Way.{Way, way_to_field, way_to_element, way_to_table}
-use Rattle.fb_verify.specs.Stops.{budget_failure, reads_failure, lead_reads_failure, fault_of, fault_at, Trail, at_head, at_field, FieldTrail, at_own, at_element, ElementTrail, at_lead, through, IsTrail, IsFieldTrail, IsElementTrail}
+use Rattle.fb_verify.specs.Stops.{budget_failure, reads_failure, lead_reads_failure, in_head, fault_of, fault_at, IsFalseAt, Trail, at_head, at_field, FieldTrail, at_own, at_element, ElementTrail, at_lead, through, IsTrail, IsFieldTrail, IsElementTrail}
 use Rattle.fb_verify.proofs.Budgets.{IsNear, near}
 use Rattle.fb_verify.proofs.Frames.{head_few, lead_few, own_few}
 use Rattle.fb_verify.proofs.ChainReads.{AtMost, either, reads_most, lead_reads_most, head_most, own_most, element_most}
@@ -26,17 +26,13 @@ fault_reads n w None f h g = absurd (cc)
 fault_reads n w (Some e) f h g =
     let few = h e refl in omega (arith, ap (λ x. x.reads) (some_same g))
 
-pub first_of_two : (w v : Way) (x y : Option Failure) (f : Fault) → AtMost 0 x → AtMost 3 y → v.paid ≡ w.paid → fault_of w x ▷ fault_of v y ≡ Some f → (f.reads ≤ w.paid) ⊎ ((x ≡ None) × (f.reads ≤ w.paid + 3))
-first_of_two w v None y f h g e i = inr (refl, omega (arith, e, fault_reads 3 v y f g i))
-first_of_two w v (Some d) y f h g e i = inl (omega (arith, fault_reads 0 w (Some d) f h i))
-
 -- the reads that told a lead
 
-unfoldable AreShort : List Entry → Type 0
+unfoldable pub AreShort : List Entry → Type 0
 AreShort [] = Unit {0}
 AreShort (x ∷ xs) = (x.reads ≤ 1) × AreShort xs
 
-short_at : (xs : List Entry) (n : ℕ) (x : Entry) → AreShort xs → slice_get xs n ≡ Some x → x.reads ≤ 1
+pub short_at : (xs : List Entry) (n : ℕ) (x : Entry) → AreShort xs → slice_get xs n ≡ Some x → x.reads ≤ 1
 unfolding AreShort
 short_at [] n x a h = absurd (cc)
 short_at (y ∷ xs) zero x a h = let e : y ≡ x = cc in subst (λ z. z.reads ≤ 1) e a.0
@@ -71,7 +67,7 @@ module _ (c : Checks) (b : List ℕ) (S : Rows) where
   short_entries_at t f None = tt
   short_entries_at t f (Some p) = short_of t f p f.kind
 
-  short_entries : (t : ℕ) (f : Live) → AreShort (entries b S t f)
+  pub short_entries : (t : ℕ) (f : Live) → AreShort (entries b S t f)
   unfolding entries
   short_entries t f = short_entries_at t f (field_place b t f.slot)
 
@@ -89,22 +85,11 @@ module _ (c : Checks) (b : List ℕ) (S : Rows) where
     pub entry_reads_most : (w : Way) (x : Entry) → AtMost (x.reads + lead_reads x.lead) (element_failure c b x ▷ lead_reads_failure L w.paid x x.lead)
     entry_reads_most w x = either _ _ _ (element_most c b x) (lead_reads_most L w.paid x x.lead)
 
-    mutual
-      unfolding IsTrail IsFieldTrail IsElementTrail fault_at
-
-      pub trail_near : (s : Trail) (k t : ℕ) (w : Way) (f : Fault) → w.leading ≤ 2 → IsTrail s c b S L k t w f → IsNear L.reads f.reads
-      trail_near at_head k t w f l h =
-          let r = first_of_two w (record w { object = k; field = None }) (budget_failure L w t) (head_failure c b t ▷ reads_failure L w.paid (head_reads c) t) f (budget_most w t) (head_reads_most w t) refl h.first in
-          let few : f.reads ≤ w.paid + 3 = elim r [ inl p ↦ omega (arith, p) | inr p ↦ p.1 ] in
-          near L.reads (w.paid - w.leading) f.reads (omega (arith, l, few)) h.within.reads
-      trail_near (at_field earlier s) k t w f l h = field_near s t h.0 (way_to_field c b S k t earlier h.0 w) f refl h.2
-
-      field_near : (s : FieldTrail) (t : ℕ) (g : Live) (w : Way) (f : Fault) → w.leading ≡ 0 → IsFieldTrail s c b S L t g w f → IsNear L.reads f.reads
-      field_near at_own t g w f l h = near L.reads (w.paid - w.leading) f.reads (omega (arith, l, fault_reads 6 w _ f (own_reads_most w t g) h.first)) h.within.reads
-      field_near (at_element before s) t g w f l h =
-          element_near s h.0 (way_to_element c b S t g before w) f refl (short_at (entries b S t g) _ h.0 (short_entries t g) h.1.next) h.2
-
-      element_near : (s : ElementTrail) (x : Entry) (w : Way) (f : Fault) → w.leading ≡ 0 → x.reads ≤ 1 → IsElementTrail s c b S L x w f → IsNear L.reads f.reads
-      element_near at_lead x w f l few h =
-          near L.reads (w.paid - w.leading) f.reads (omega (arith, l, few, lead_few x.lead, fault_reads (x.reads + lead_reads x.lead) w _ f (entry_reads_most w x) h.first)) h.within.reads
-      element_near (through s) x w f l few h = trail_near s h.0 (target b x.place) (way_to_table x w) f (omega (arith, few)) h.3
+    -- a fault in a head comes before any read of it, or after one more table was allowed
+    pub head_told : (k t : ℕ) (w : Way) (f : Fault) → IsFalseAt c b S L (in_head k t) w f → (f.reads ≤ w.paid) ⊎ ((w.passed < L.tables) × (f.reads ≤ w.paid + 3))
+    unfolding fault_at
+    head_told k t w f h = go (budget_failure L w t) refl h.first where
+      go : (x : Option Failure) → budget_failure L w t ≡ x → fault_of w x ▷ fault_of (record w { object = k; field = None }) (head_failure c b t ▷ reads_failure L w.paid (head_reads c) t) ≡ Some f
+          → (f.reads ≤ w.paid) ⊎ ((w.passed < L.tables) × (f.reads ≤ w.paid + 3))
+      go None e i = inr (grind (arith, nat_tests), fault_reads 3 (record w { object = k; field = None }) _ f (head_reads_most w t) i)
+      go (Some d) e i = inl (omega (arith, fault_reads 0 w (Some d) f (rw e at (budget_most w t)) i))
