@@ -28,9 +28,6 @@ use Rattle.fb_verify.proofs.Typed.{get_take}
 to_same : {A : Type 0} {x y : A} (xs : List A) (m n : ℕ) → m ≡ n → slice_get xs m ≡ Some x → slice_get xs n ≡ Some y → x ≡ y
 to_same xs m n e h g = some_same (sym h ∙ ap (slice_get xs) e ∙ g)
 
-same_table : {k j : ℕ} → to_table k ≡ to_table j → k ≡ j
-same_table h = cc
-
 module _ (c : Checks) (b : List ℕ) (S : Rows) (L : Bounds) where
   -- one place has one fault
   same_fault : (p : Place) (w : Way) (f g : Fault) → IsFalseAt c b S L p w f → IsFalseAt c b S L p w g → f ≡ g
@@ -134,7 +131,7 @@ module _ (c : Checks) (b : List ℕ) (S : Rows) (L : Bounds) where
     one_element_fault at_lead (through r) x w f g h i = absurd (no_lead_fault L w x i.0 x.lead (element_failure c b x) f i.1 (through_passes c b x i.0 i.1 i.2) h.first)
     one_element_fault (through s) at_lead x w f g h i = absurd (no_lead_fault L w x h.0 x.lead (element_failure c b x) g h.1 (through_passes c b x h.0 h.1 h.2) i.first)
     one_element_fault (through s) (through r) x w f g h i =
-        let e : i.0 ≡ h.0 = same_table (sym i.1 ∙ h.1) in
+        let e : i.0 ≡ h.0 = let both = sym i.1 ∙ h.1 in cc in
         let on = one_fault s r h.0 (target b x.place) (way_to_table x w) f g h.3 (subst (λ k. IsTrail r c b S L k (target b x.place) (way_to_table x w) g) e i.3) in
         (ap through on.0, on.1)
 

@@ -33,14 +33,9 @@ module _ (L : Bounds) (w : Way) where
   budget_fault : (t : ℕ) (f : Fault) → fault_of w (budget_failure L w t) ≡ Some f → ((f.reason ≡ TooDeep) × (L.depth ≤ w.links)) ⊎ ((f.reason ≡ TooManyTables) × (L.tables ≤ w.passed))
   budget_fault t f h = grind (arith, nat_tests)
 
-  told_by : (v : Way) (n p : ℕ) (f : Fault) (holds : Bool) → allowed L.reads (w.paid + n) ≡ holds → fault_of v (check holds TooManyReads p n None) ≡ Some f → (f.reason ≡ TooManyReads) × AreTooMany L.reads (w.paid + n)
-  told_by v n p f true e h = absurd (cc)
-  told_by v n p f false e h = (ap (λ x. x.reason) (sym (some_same h)), are_too_many L.reads (w.paid + n) e)
-
   -- past a chain that finds nothing, the budget of reads finds too many
   pub reads_fault : (v : Way) (n p : ℕ) (x : Option Failure) (f : Fault) → x ≡ None → fault_of v (x ▷ reads_failure L w.paid n p) ≡ Some f → (f.reason ≡ TooManyReads) × AreTooMany L.reads (w.paid + n)
-  reads_fault v n p None f e h = told_by v n p f (allowed L.reads (w.paid + n)) refl h
-  reads_fault v n p (Some d) f e h = absurd (cc)
+  reads_fault v n p x f e h = grind (arith, nat_tests, are_too_many)
 
   -- the same of an element
   pub lead_reads_fault : (x : Entry) (lead : Lead) (e : Option Failure) (f : Fault) → e ≡ None → fault_of w (e ▷ lead_reads_failure L w.paid x lead) ≡ Some f → (f.reason ≡ TooManyReads) × AreTooMany L.reads (w.paid + (x.reads + lead_reads lead))
@@ -89,16 +84,12 @@ module _ (c : Checks) (b : List ℕ) (S : Rows) where
       (r.0, r.1, omega (arith, r.2), omega (arith, r.3), omega (arith, r.4, j))
   elements_at before ys xs x h e s = absurd (grind arith)
 
-  is_table : (y : Element) (p k : ℕ) → ElementUnfolds y c b S p (to_table k)
-      → (z : Tree) × Unfolds z c b S k (target b p) × (element_size y ≡ size z) × (element_depth y ≡ depth z) × (element_cost y c b S ≡ tree_cost z c b S)
-  unfolding ElementUnfolds element_size element_depth element_cost
-  is_table leaf p k h = absurd h
-  is_table (table z) p k h = (z, h.1, refl, refl, refl)
-
   -- an element that leads to a table is that table's tree
   pub table_at : (y : Element) (p k : ℕ) (lead : Lead) → lead ≡ to_table k → ElementUnfolds y c b S p lead
       → (z : Tree) × Unfolds z c b S k (target b p) × (element_size y ≡ size z) × (element_depth y ≡ depth z) × (element_cost y c b S ≡ tree_cost z c b S)
-  table_at y p k lead e h = is_table y p k (subst (λ l. ElementUnfolds y c b S p l) e h)
+  unfolding ElementUnfolds element_size element_depth element_cost
+  table_at (table z) p k (to_table j) e h = let same : j ≡ k = cc in (z, rw same at h.1, refl, refl, refl)
+  table_at y p k lead e h = absurd (grind arith)
 
   -- what was passed costs the same, however many fields or elements follow
 

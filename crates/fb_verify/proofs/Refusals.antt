@@ -29,15 +29,11 @@ told_first site paid (Some e) y f h = h
 abbrev pub spent : Site → ℕ → Stop
 spent site place = record { refusal = record { at = place; reason = TooManyReads }; site = site }
 
-told_spent : (site : Site) (paid n place : ℕ) (holds : Bool) → holds ≡ false → told site paid (check holds TooManyReads place n None) ≡ Some (stopped (spent site place) (paid + n))
-told_spent site paid n place true h = absurd cc
-told_spent site paid n place false h = refl
-
 -- past a chain that finds nothing, too many reads are told
 pub told_reads : (L : Bounds) (site : Site) (paid n place reads : ℕ) (x : Option Failure) (s : Stop) → x ≡ None → reads ≡ paid + n → allowed L.reads reads ≡ false → s ≡ spent site place
     → told site paid (x ▷ reads_failure L paid n place) ≡ Some (stopped s reads)
 told_reads L site paid n place reads (Some e) s o r h i = absurd cc
-told_reads L site paid n place reads None s o r h i = rw (i, r) (told_spent site paid n place (allowed L.reads (paid + n)) (rw r at h))
+told_reads L site paid n place reads None s o r h i = rw (i, r) (rw (rw r at h))
 
 -- the same of an element that leads to no table
 pub told_lead_reads : (L : Bounds) (site : Site) (paid reads : ℕ) (x : Entry) (lead : Lead) (e : Option Failure) (s : Stop) → IsLeafLead lead → e ≡ None → reads ≡ paid + (x.reads + lead_reads lead) → allowed L.reads reads ≡ false

@@ -1,5 +1,5 @@
 -- The turns of a walk, on the whole stack.
-use Rattle.std.proofs.Common.{◌≡◌, ℕ, ◌+◌, max, ◌<◌, ◌≤◌, ◌⊎◌, inl, inr, List, [], ◌∷◌, ◌++◌, length, map, refl, sym, ◌∙◌, ap, subst, arith, Option, Some, None}
+use Rattle.std.proofs.Common.{◌≡◌, ℕ, ◌+◌, max, ◌<◌, ◌≤◌, ◌⊎◌, inl, inr, List, [], ◌∷◌, ◌++◌, length, map, refl, sym, ◌∙◌, ap, subst, arith, rules, Option, Some, None}
 use Rattle.std.specs.Prelude.{slice_get}
 use Rattle.fb_schema.specs.{Rows.Rows, Live.Live, Live.live_fields, Served.IsServed}
 use Rattle.fb_verify.specs.declared.{checks.Checks.Checks, fault.Fault.Fault, table.Table.Table, offset_row.Row.Row, scratch.Frame.Frame, site.Site.Site}
@@ -38,9 +38,7 @@ module _ (c : Checks) (b : List ℕ) (S : Rows) where
   leaf_unfolds : (p : ℕ) (lead : Lead) → IsLeafLead lead → IsLead c b p lead → ElementUnfolds leaf c b S p lead
   unfolding ElementUnfolds
   leaf_unfolds p (to_table k) l h = absurd l
-  leaf_unfolds p (to_struct size align) l h = h
-  leaf_unfolds p to_string l h = h
-  leaf_unfolds p to_nothing l h = tt
+  leaf_unfolds p lead l h = search rules
 
   table_lead : (p : ℕ) (lead : Lead) (k : ℕ) → lead ≡ to_table k → IsLead c b p lead → IsOffset c b p
   table_lead p lead k e h = subst (λ x. IsLead c b p x) e h
