@@ -6,8 +6,7 @@ use Rattle.fb_verify.specs.Laws.{LengthAllows}
 
 -- fewer reads are allowed too
 pub fewer_reads : (budget : Option ℕ) (m n : ℕ) → m ≤ n → AreAllowed budget n → AreAllowed budget m
-fewer_reads None m n l h = tt
-fewer_reads (Some most) m n l h = omega arith
+fewer_reads budget m n l h = grind arith
 
 -- no reads are always allowed
 pub no_reads : (budget : Option ℕ) → AreAllowed budget 0
@@ -21,8 +20,7 @@ are_too_many (Some most) n h = grind (arith, nat_tests)
 
 -- reads that aren't allowed
 pub not_both : (budget : Option ℕ) (m n : ℕ) → m ≤ n → AreAllowed budget n → AreTooMany budget m → ⊥
-not_both None m n l h t = t
-not_both (Some most) m n l h t = omega arith
+not_both budget m n l h t = grind arith
 
 -- no more than 7 reads past the budget, if there is one
 unfoldable pub IsNear : Option ℕ → ℕ → Type 0

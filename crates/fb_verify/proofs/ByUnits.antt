@@ -17,9 +17,7 @@ unfailed at k m chain failed h e = absurd cc
 
 -- and the other way round
 pub unfound : (at k m : ℕ) (chain : Option Failure) (failed : Option Reason) → tested_by at k failed ≡ after m chain → failed ≡ None → chain ≡ None
-unfound at k m None failed h e = refl
-unfound at k m (Some x) None h e = absurd cc
-unfound at k m (Some x) (Some r) h e = absurd cc
+unfound at k m chain failed h e = grind arith
 
 -- a test that fails is told at a site where so many reads were paid before
 pub tested_tells : (site : Site) (paid at k : ℕ) (x y : Option Failure) (reason : Reason) → tested_by at k (Some reason) ≡ after paid x

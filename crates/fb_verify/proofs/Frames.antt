@@ -30,8 +30,7 @@ lead_few (to_table k) = omega arith
 lead_few lead = omega arith
 
 word_few : (b : List ℕ) (S : Rows) (leads : Leads) (p : ℕ) → (word_at b S leads p).reads + lead_reads (word_at b S leads p).lead ≤ 4
-word_few b S (All referent) p = omega (arith, lead_few (word_at b S (All referent) p).lead)
-word_few b S (ByType e q) p = omega (arith, lead_few (word_at b S (ByType e q) p).lead)
+word_few b S leads p = grind (arith, lead_few)
 
 pub first_few : (b : List ℕ) (S : Rows) (r : Row) → (first_word b S r).reads + lead_reads (first_word b S r).lead ≤ 4
 first_few b S r = word_few b S r.leads r.place
@@ -40,8 +39,7 @@ pub head_few : (c : Checks) → head_reads c ≤ 3
 head_few c = grind arith
 
 pub if_present_few : (n : ℕ) (place : Option ℕ) → reads_if_present n place ≤ n
-if_present_few n None = omega arith
-if_present_few n (Some q) = omega arith
+if_present_few n place = grind arith
 
 pub present_few : (b : List ℕ) (t o : ℕ) (kind : Kind) → present_reads b t o kind ≤ 5
 present_few b t o (Union e) = omega (arith, if_present_few 1 (type_place b t o))

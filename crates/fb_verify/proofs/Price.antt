@@ -16,8 +16,7 @@ use Rattle.fb_verify.proofs.Frames.{lead_few, if_present_few, head_few, slot_few
 -- the start
 
 pub start_price : (start : Start) (ident : Ident) → start_reads start ident ≤ 3
-start_price start Any = grind arith
-start_price start (Want name) = grind arith
+start_price start ident = grind arith
 
 -- the reads of a field with all its elements, but for the tables below
 
@@ -37,8 +36,7 @@ reads_of_union_row b S e q p (suc n) = omega (arith, lead_few (lead_of S (member
 
 reads_of_union : (S : Rows) (p : ℕ) (member : Option Kind) → row_reads (union_entry S p member) ≤ 3
 unfolding row_reads
-reads_of_union S p None = omega arith
-reads_of_union S p (Some m) = omega (arith, lead_few (lead_of S (Some m)))
+reads_of_union S p member = grind (arith, lead_few)
 
 module _ (c : Checks) (b : List ℕ) (S : Rows) where
   present_price : (t : ℕ) (f : Live) (p : ℕ) (kind : Kind) → IsPresent c b S t f p kind → present_reads b t f.slot kind + row_reads (entries_of b S t f p kind) ≤ 5 + length b
