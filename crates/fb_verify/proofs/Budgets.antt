@@ -10,13 +10,11 @@ fewer_reads budget m n l h = grind arith
 
 -- no reads are always allowed
 pub no_reads : (budget : Option ℕ) → AreAllowed budget 0
-no_reads None = tt
-no_reads (Some most) = omega arith
+no_reads budget = grind arith
 
 -- reads that the test refuses are too many
 pub are_too_many : (budget : Option ℕ) (n : ℕ) → allowed budget n ≡ false → AreTooMany budget n
-are_too_many None n h = absurd cc
-are_too_many (Some most) n h = grind (arith, nat_tests)
+are_too_many budget n h = grind (arith, nat_tests)
 
 -- reads that aren't allowed
 pub not_both : (budget : Option ℕ) (m n : ℕ) → m ≤ n → AreAllowed budget n → AreTooMany budget m → ⊥
@@ -29,18 +27,15 @@ IsNear (Some most) n = n ≤ most + 7
 
 pub near : (budget : Option ℕ) (m n : ℕ) → n ≤ m + 7 → AreAllowed budget m → IsNear budget n
 unfolding IsNear
-near None m n h r = tt
-near (Some most) m n h r = omega (arith, h, r)
+near budget m n h r = grind arith
 
 -- more reads are too many too
 pub more_reads : (budget : Option ℕ) (m n : ℕ) → m ≤ n → AreTooMany budget m → AreTooMany budget n
-more_reads None m n l t = t
-more_reads (Some most) m n l t = omega arith
+more_reads budget m n l t = grind arith
 
 -- the lesser of two budgets allows what both allow
 lesser_allows : (budget : Option ℕ) (fair n : ℕ) → (n ≤ lesser_budget budget fair) ↔ (AreAllowed budget n × (n ≤ fair))
-lesser_allows None fair n = (λ h. (tt, h), λ h. h.1)
-lesser_allows (Some most) fair n = (λ h. (omega (arith, h), omega (arith, h)), λ h. omega (arith, h))
+lesser_allows budget fair n = grind arith
 
 pub length_allows : LengthAllows
 length_allows L per_byte len n = lesser_allows L.reads (per_byte * len + 4096) n

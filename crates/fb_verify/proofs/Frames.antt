@@ -26,8 +26,7 @@ if_err_exit (Err e) x P h p = subst P (sym h) p
 -- Reads are few.
 
 pub lead_few : (lead : Lead) → lead_reads lead ≤ 3
-lead_few (to_table k) = omega arith
-lead_few lead = omega arith
+lead_few lead = grind arith
 
 word_few : (b : List ℕ) (S : Rows) (leads : Leads) (p : ℕ) → (word_at b S leads p).reads + lead_reads (word_at b S leads p).lead ≤ 4
 word_few b S leads p = grind (arith, lead_few)
@@ -42,13 +41,10 @@ pub if_present_few : (n : ℕ) (place : Option ℕ) → reads_if_present n place
 if_present_few n place = grind arith
 
 pub present_few : (b : List ℕ) (t o : ℕ) (kind : Kind) → present_reads b t o kind ≤ 5
-present_few b t o (Union e) = omega (arith, if_present_few 1 (type_place b t o))
-present_few b t o (Unions e) = omega (arith, if_present_few 2 (type_place b t o))
-present_few b t o kind = omega arith
+present_few b t o kind = grind (arith, if_present_few)
 
 at_few : (b : List ℕ) (t : ℕ) (f : Live) (place : Option ℕ) → reads_at b t f place ≤ 5
-at_few b t f None = omega arith
-at_few b t f (Some p) = present_few b t f.slot f.kind
+at_few b t f place = grind (arith, present_few)
 
 pub slot_few : (b : List ℕ) (t o : ℕ) → slot_reads b t o ≤ 1
 slot_few b t o = grind arith

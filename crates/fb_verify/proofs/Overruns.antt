@@ -108,15 +108,11 @@ module _ (c : Checks) (b : List ℕ) (S : Rows) where
   module _ (L : Bounds) where
     -- what is past a limit is past it where there is more
     more_overruns : (w v : Way) (d m r e n q : ℕ) (f : Fault) → Overruns L w d m r f → w.links + d ≤ v.links + e → w.passed + m ≤ v.passed + n → w.paid + r ≤ v.paid + q → Overruns L v e n q f
-    more_overruns w v d m r e n q f (inl p) deep many reads = inl (p.0, omega (arith, p.1, deep))
-    more_overruns w v d m r e n q f (inr (inl p)) deep many reads = inr (inl (p.0, omega (arith, p.1, many)))
-    more_overruns w v d m r e n q f (inr (inr p)) deep many reads = inr (inr (p.0, more_reads L.reads (w.paid + r) (v.paid + q) reads p.1))
+    more_overruns w v d m r e n q f past deep many reads = grind (arith, more_reads)
 
     -- what stays within the limits isn't past them
     pub not_past : (w : Way) (d m r q : ℕ) (f : Fault) → Overruns L w d m r f → w.links + d ≤ L.depth → w.passed + m ≤ L.tables → w.paid + r ≤ q → AreAllowed L.reads q → ⊥
-    not_past w d m r q f (inl p) deep many few reads = omega (arith, p.1)
-    not_past w d m r q f (inr (inl p)) deep many few reads = omega (arith, p.1)
-    not_past w d m r q f (inr (inr p)) deep many few reads = not_both L.reads _ q few reads p.1
+    not_past w d m r q f past deep many few reads = grind (arith, not_both)
 
     pub head_overruns : (k t : ℕ) (w : Way) (f : Fault) → IsTable c b t → IsFalseAt c b S L (in_head k t) w f → Overruns L w 1 1 (head_reads c) f
     unfolding fault_at

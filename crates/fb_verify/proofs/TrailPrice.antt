@@ -101,8 +101,7 @@ module _ (c : Checks) (b : List ℕ) (S : Rows) (L : Bounds) where
 -- what is at most the one bound and at most the other is at most their lesser
 lesser : (budget : Option ℕ) (n m : ℕ) → n ≤ m → IsNear budget n → n ≤ within_budget budget m
 unfolding IsNear
-lesser None n m h i = h
-lesser (Some most) n m h i = omega (arith, i)
+lesser budget n m h i = grind arith
 
 pub cost_is_bounded : (q : Question) (b : List ℕ) (y : Tree) → IsWellFormed q b y → IsWithin q b y → cost q b y ≤ most_reads q.rows q.limits (length b)
 unfolding most_reads

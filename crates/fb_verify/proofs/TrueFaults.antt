@@ -69,15 +69,12 @@ module _ (L : Bounds) (w : Way) where
 -- No other test tells that there are too many tables.
 
 not_present : (c : Checks) (b : List ℕ) (t : ℕ) (g : Live) (p : ℕ) (kind : Kind) (at : ℕ) → PresentIsFalse c b t g p kind TooManyTables at → ⊥
-not_present c b t g p (Scalar s) at h = grind arith
 not_present c b t g p kind at h = grind arith
 
 not_placed : (c : Checks) (b : List ℕ) (t : ℕ) (g : Live) (place : Option ℕ) (at : ℕ) → PlacedIsFalse c b t g place TooManyTables at → ⊥
-not_placed c b t g None at h = h
-not_placed c b t g (Some p) at h = not_present c b t g p g.kind at h
+not_placed c b t g place at h = grind (arith, not_present)
 
 not_lead : (c : Checks) (b : List ℕ) (p : ℕ) (lead : Lead) (at : ℕ) → LeadIsFalse c b p lead TooManyTables at → ⊥
-not_lead c b p (to_table k) at h = h
 not_lead c b p lead at h = grind arith
 
 -- a fault of a place's own, or of too many reads, has another reason
