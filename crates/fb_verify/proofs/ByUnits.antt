@@ -12,8 +12,7 @@ use Rattle.fb_verify.proofs.Refusals.{told_after, told_first}
 
 -- a chain that finds nothing has no test that fails
 pub unfailed : (at k m : ℕ) (chain : Option Failure) (failed : Option Reason) → tested_by at k failed ≡ after m chain → chain ≡ None → failed ≡ None
-unfailed at k m None None h e = refl
-unfailed at k m chain failed h e = absurd cc
+unfailed at k m chain failed h e = grind arith
 
 -- and the other way round
 pub unfound : (at k m : ℕ) (chain : Option Failure) (failed : Option Reason) → tested_by at k failed ≡ after m chain → failed ≡ None → chain ≡ None

@@ -25,13 +25,11 @@ AtMost n x = (e : Failure) → x ≡ Some e → e.reads ≤ n
 
 pub either : (n : ℕ) (x y : Option Failure) → AtMost n x → AtMost n y → AtMost n (x ▷ y)
 unfolding AtMost
-either n None y h g = g
-either n (Some d) y h g = h
+either n x y h g = grind arith
 
 later : (m n : ℕ) (x : Option Failure) → m ≤ n → AtMost (n - m) x → AtMost n (after m x)
 unfolding AtMost
-later m n None l h e i = absurd (cc)
-later m n (Some d) l h e i = omega (arith, h d refl, ap (λ x. x.reads) (some_same i))
+later m n x l h e i = grind arith
 
 none_most : (n : ℕ) → AtMost n None
 unfolding AtMost
@@ -39,8 +37,7 @@ none_most n e h = absurd (cc)
 
 check_most : (holds : Bool) (reason : Reason) (p m n : ℕ) → m ≤ n → AtMost n (check holds reason p m None)
 unfolding AtMost
-check_most true reason p m n l e h = absurd (cc)
-check_most false reason p m n l e h = omega (arith, ap (λ x. x.reads) (some_same h))
+check_most holds reason p m n l e h = grind arith
 
 -- the budget of reads is asked after so many reads
 pub reads_most : (L : Bounds) (paid m n p : ℕ) → m ≤ n → AtMost n (reads_failure L paid m p)
@@ -77,20 +74,17 @@ module _ (c : Checks) (b : List ℕ) where
 
   prefix_most : (start : Start) (n : ℕ) → prefix_reads start ≤ n → AtMost n (prefix_failure b start)
   unfolding AtMost prefix_failure
-  prefix_most Bare n l e h = absurd (cc)
-  prefix_most Prefixed n l e h = grind (arith, nat_tests)
+  prefix_most start n l e h = grind (arith, nat_tests)
 
   ident_most : (p : ℕ) (ident : Ident) (n : ℕ) → ident_reads ident ≤ n → AtMost n (ident_failure b p ident)
   unfolding AtMost ident_failure
-  ident_most p Any n l e h = absurd (cc)
-  ident_most p (Want name) n l e h = grind (arith, nat_tests)
+  ident_most p ident n l e h = grind (arith, nat_tests)
 
   ruleset parts = (arith, either, later, none_most, check_most, offset_most, string_most, vector_most, inline_most, table_most, prefix_most, ident_most)
 
   module _ (S : Rows) (t : ℕ) (f : Live) where
     union_field_most : (p n : ℕ) (member : Option Kind) → AtMost n (union_field_failure c b t p member)
-    union_field_most p n None = none_most n
-    union_field_most p n (Some member) = table_most t p 4 n
+    union_field_most p n member = grind (arith, none_most, table_most)
 
     present_most : (p n : ℕ) (kind : Kind) → 5 ≤ n → AtMost n (present_failure c b S t f p kind)
     present_most p n (Union e) l = let few = if_present_few 1 (type_place b t f.slot) in search (parts, union_field_most)

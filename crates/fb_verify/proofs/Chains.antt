@@ -1,5 +1,5 @@
 -- A chain of tests finds nothing exactly where the facts hold.
-use Rattle.std.proofs.Common.{◌≡◌, ◌↔◌, ℕ, List, Option, Some, None, IsTrue, refl, sym, subst, rules, tests}
+use Rattle.std.proofs.Common.{◌≡◌, ◌↔◌, ℕ, List, Option, Some, None, IsTrue, refl, sym, subst, arith, rules, tests}
 use Rattle.fb_schema.specs.declared.kinds.Kind.{Kind, TheVariants.Union}
 use Rattle.fb_schema.specs.{Rows.Rows, Live.Live}
 use Rattle.fb_verify.specs.declared.checks.Checks.{Checks}
@@ -17,12 +17,10 @@ use Rattle.fb_verify.specs.Order.{Failure, after, ◌▷◌, prefix_failure, ide
 -- two chains, and a chain after some reads
 
 pub after_none : (n : ℕ) (x : Option Failure) → (after n x ≡ None) ↔ (x ≡ None)
-after_none n None = (λ h. refl, λ h. refl)
-after_none n (Some e) = (λ h. absurd (cc), λ h. absurd (cc))
+after_none n x = grind arith
 
 pub both_none : (x y : Option Failure) → (x ▷ y ≡ None) ↔ ((x ≡ None) × (y ≡ None))
-both_none None y = (λ h. (refl, h), λ h. h.1)
-both_none (Some e) y = (λ h. absurd (cc), λ h. absurd (let i = h.0 in cc))
+both_none x y = grind arith
 
 -- the chains of the parts
 
@@ -113,11 +111,8 @@ element_none c b x = search (chains, lead_none)
 -- what an element unfolds into holds of it by itself
 unfolds_lead : (c : Checks) (b : List ℕ) (S : Rows) (y : Element) (p : ℕ) (lead : Lead) → ElementUnfolds y c b S p lead → IsLead c b p lead
 unfolding ElementUnfolds
-unfolds_lead c b S (table y) p (to_table k) h = h.0
-unfolds_lead c b S leaf p (to_struct size align) h = h
-unfolds_lead c b S leaf p to_string h = h
-unfolds_lead c b S leaf p to_nothing h = tt
-unfolds_lead c b S y p lead h = absurd h
+unfolds_lead c b S leaf p lead h = grind arith
+unfolds_lead c b S (table y) p lead h = grind arith
 
 -- an element that unfolds into anything passes its tests
 pub element_passes : (c : Checks) (b : List ℕ) (S : Rows) (x : Entry) (y : Element) → ElementUnfolds y c b S x.place x.lead → element_failure c b x ≡ None

@@ -74,8 +74,7 @@ item_some xs i r x h e =
 
 module _ (c : Checks) (b : List ℕ) (S : Rows) where
   types_near : (n : ℕ) (leads : Leads) → 0 < n → AreLeads b S n leads → AreTypesNear leads
-  types_near n (All referent) l h = tt
-  types_near n (ByType e q) l h = omega (arith, h.2)
+  types_near n leads l h = grind arith
 
   pub row_types_near : (r : Row) → 0 < r.left → IsRow b S r → AreTypesNear r.leads
   row_types_near r m h = types_near r.left r.leads m (h.leads m)

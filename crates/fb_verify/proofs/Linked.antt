@@ -30,8 +30,7 @@ module _ (b : List ℕ) (S : Rows) where
   union_row_length e q p (suc n) = ap suc (union_row_length e (q + 1) (p + 4) n)
 
   words_length : (leads : Leads) (p n : ℕ) → length (words b S leads p n) ≡ n
-  words_length (All referent) p n = row_length _ p n
-  words_length (ByType e q) p n = union_row_length e q p n
+  words_length leads p n = grind (arith, row_length, union_row_length)
 
   -- a row has as many words as are left of it
   pub row_words : (r : Row) → length (words_of b S r) ≡ r.left
@@ -78,8 +77,7 @@ module _ (c : Checks) (b : List ℕ) (S : Rows) (t p : ℕ) (g : Live) (left : �
   vector_count h = record { offset = (h.offset).within; count = (h.vector).count }
 
   union_words : (member : Option Kind) → left < length (union_entry S p member) → length (union_entry S p member) ≡ 1
-  union_words None more = absurd (omega (arith, more))
-  union_words (Some k) more = refl
+  union_words member more = grind arith
 
   stands_by : (kind : Kind) → IsPresent c b S t g p kind → left < length (entries_of b S t g p kind) → Stands kind
   stands_by (Union e) h more = record { words = union_words (member_of S e (union_type b (type_place b t g.slot))) more; count = tt; types = λ j l typed. typed }

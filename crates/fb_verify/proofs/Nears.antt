@@ -50,8 +50,7 @@ short_union_row b S e q p (suc n) = (omega arith, short_union_row b S e (q + 1) 
 
 short_union : (S : Rows) (p : ℕ) (member : Option Kind) → AreShort (union_entry S p member)
 unfolding AreShort
-short_union S p None = tt
-short_union S p (Some m) = (omega arith, tt)
+short_union S p member = grind arith
 
 ruleset short = (rules, short_row)
 

@@ -25,8 +25,7 @@ some_same h = cc
 
 -- the first of two chains that finds something
 pub either : {A : Type 0} (x y : Option A) (e : A) → x ▷ y ≡ Some e → (x ≡ Some e) ⊎ (y ≡ Some e)
-either None y e h = inr h
-either (Some d) y e h = inl h
+either x y e h = grind arith
 
 module _ (L : Bounds) (w : Way) where
   -- the budget of tables finds that it is used up
@@ -39,14 +38,11 @@ module _ (L : Bounds) (w : Way) where
 
   -- the same of an element
   pub lead_reads_fault : (x : Entry) (lead : Lead) (e : Option Failure) (f : Fault) → e ≡ None → fault_of w (e ▷ lead_reads_failure L w.paid x lead) ≡ Some f → (f.reason ≡ TooManyReads) × AreTooMany L.reads (w.paid + (x.reads + lead_reads lead))
-  lead_reads_fault x (to_table k) None f o h = absurd (cc)
-  lead_reads_fault x (to_table k) (Some d) f o h = absurd (cc)
-  lead_reads_fault x lead e f o h = reads_fault w (x.reads + lead_reads lead) x.place e f o h
+  lead_reads_fault x lead e f o h = grind (arith, reads_fault)
 
   -- an element that leads to a table isn't asked by itself
   pub no_lead_fault : (x : Entry) (k : ℕ) (lead : Lead) (e : Option Failure) (f : Fault) → lead ≡ to_table k → e ≡ None → fault_of w (e ▷ lead_reads_failure L w.paid x lead) ≡ Some f → ⊥
-  no_lead_fault x k (to_table j) None f l o h = absurd (cc)
-  no_lead_fault x k lead e f l o h = absurd (cc)
+  no_lead_fault x k lead e f l o h = grind arith
 
 module _ (c : Checks) (b : List ℕ) (S : Rows) where
   -- what the field under check has in the tree

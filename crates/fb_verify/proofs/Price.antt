@@ -49,8 +49,7 @@ module _ (c : Checks) (b : List ℕ) (S : Rows) where
 
   price_at : (t : ℕ) (f : Live) (place : Option ℕ) → IsPresentOrAbsent c b S t f place → reads_at b t f place + row_reads (entries_at b S t f place) ≤ 5 + length b
   unfolding row_reads
-  price_at t f None h = omega arith
-  price_at t f (Some p) h = present_price t f p f.kind h
+  price_at t f place h = grind (arith, present_price)
 
   pub field_price : (t : ℕ) (f : Live) → IsField c b S t f → own_reads b t f + row_reads (entries b S t f) ≤ 6 + length b
   unfolding own_reads entries IsField

@@ -1,5 +1,5 @@
 -- From a refusal to the fault at a site.
-use Rattle.std.proofs.Common.{◌≡◌, ℕ, ◌+◌, Bool, true, false, refl, ap, Option, Some, None}
+use Rattle.std.proofs.Common.{◌≡◌, ℕ, ◌+◌, Bool, true, false, refl, ap, arith, Option, Some, None}
 use Rattle.fb_verify.specs.declared.{fault.Fault.Fault, site.Site.Site, site.Refusal.Refusal, site.Stop.Stop}
 use Rattle.fb_verify.specs.declared.fault.Reason.TheVariants.{TooManyReads}
 use Rattle.fb_verify.specs.Bounds.{Bounds, allowed}
@@ -22,8 +22,7 @@ told_after site paid reads (Some x) e h = ap (at_site site) h
 
 -- what the first of two chains finds is told
 pub told_first : (site : Site) (paid : ℕ) (x y : Option Failure) (f : Fault) → told site paid x ≡ Some f → told site paid (x ▷ y) ≡ Some f
-told_first site paid None y f h = absurd cc
-told_first site paid (Some e) y f h = h
+told_first site paid x y f h = grind arith
 
 -- where a walk stops for too many reads
 abbrev pub spent : Site → ℕ → Stop

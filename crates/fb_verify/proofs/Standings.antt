@@ -37,8 +37,7 @@ module _ (c : Checks) (b : List ℕ) (S : Rows) where
   -- an offset word that leads to no table unfolds to a leaf
   leaf_unfolds : (p : ℕ) (lead : Lead) → IsLeafLead lead → IsLead c b p lead → ElementUnfolds leaf c b S p lead
   unfolding ElementUnfolds
-  leaf_unfolds p (to_table k) l h = absurd l
-  leaf_unfolds p lead l h = search rules
+  leaf_unfolds p lead l h = grind arith
 
   table_lead : (p : ℕ) (lead : Lead) (k : ℕ) → lead ≡ to_table k → IsLead c b p lead → IsOffset c b p
   table_lead p lead k e h = subst (λ x. IsLead c b p x) e h

@@ -79,8 +79,7 @@ not_lead c b p lead at h = grind arith
 
 -- a fault of a place's own, or of too many reads, has another reason
 another : (P : Reason → ℕ → Type 0) (L : Bounds) (p : ℕ) (f : Fault) → ((at : ℕ) → P TooManyTables at → ⊥) → f.reason ≡ TooManyTables → P f.reason f.at ⊎ IsOverBudget L p f → ⊥
-another P L p f none is (inl h) = none f.at (subst (λ reason. P reason f.at) is h)
-another P L p f none is (inr h) = let told = h.reason in absurd (cc)
+another P L p f none is h = grind arith
 
 -- Along a trail: the fault is at a table that is reached, and where too many tables were opened, this trail opens as many as are allowed.
 module _ (c : Checks) (b : List ℕ) (S : Rows) (L : Bounds) (root begin : ℕ) where
