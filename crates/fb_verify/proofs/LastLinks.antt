@@ -1,5 +1,5 @@
 -- The last link to a fault is to the field that it names.
-use Rattle.std.proofs.Common.{◌≡◌, ℕ, ◌+◌, ◌⊎◌, inl, inr, List, [], ◌∷◌, refl, sym, ◌∙◌, ap, subst, Option, Some, None}
+use Rattle.std.proofs.Common.{◌≡◌, ℕ, ◌+◌, ◌⊎◌, inl, inr, List, [], ◌∷◌, refl, sym, ◌∙◌, ap, subst, arith, Option, Some, None}
 use Rattle.fb_schema.specs.{Rows.Rows, Live.Live}
 use Rattle.fb_verify.specs.declared.{checks.Checks.Checks, fault.Fault.Fault, links.Link.Link}
 use Rattle.fb_verify.specs.Bounds.{Bounds}
@@ -17,10 +17,7 @@ use Rattle.fb_verify.proofs.Overruns.{either}
 
 -- a fault at the end of a way has the object and field of the way
 pub of_way : (w : Way) (x : Option Failure) (f : Fault) → fault_of w x ≡ Some f → (w.object ≡ f.object) × (w.field ≡ f.field)
-of_way w None f h = absurd cc
-of_way w (Some e) f h =
-    let same : ◌≡◌ {A = Fault} (record { at = e.at; object = w.object; field = w.field; reason = e.reason; reads = w.paid + e.reads }) f = cc in
-    (ap (λ (g : Fault). g.object) same, ap (λ (g : Fault). g.field) same)
+of_way w x f h = grind arith
 
 -- no link is left of a fault that names the field by which its table was come to, or the last is to the field that it
 -- names

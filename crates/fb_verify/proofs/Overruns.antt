@@ -114,10 +114,8 @@ module _ (c : Checks) (b : List ℕ) (S : Rows) where
     unfolding fault_at
     head_overruns k t w f h i =
         let v : Way = record w { object = k; field = None } in
-        elim (either (fault_of w (budget_failure L w t)) (fault_of v (head_failure c b t ▷ reads_failure L w.paid (head_reads c) t)) f i.first) [
-          | inl p ↦ elim (budget_fault L w t f p) [ inl q ↦ inl (q.0, omega (arith, q.1)) | inr q ↦ inr (inl (q.0, omega (arith, q.1))) ]
-          | inr p ↦ inr (inr (reads_fault L w v (head_reads c) t (head_failure c b t) f ((head_none c b t).1 h) p))
-        ]
+        let e = either (fault_of w (budget_failure L w t)) (fault_of v (head_failure c b t ▷ reads_failure L w.paid (head_reads c) t)) f i.first in
+        grind (arith, budget_fault, reads_fault L w v (head_reads c) t (head_failure c b t) f ((head_none c b t).1 h))
 
     mutual
       unfolding Unfolds IsTrail IsFieldTrail IsElementTrail depth size tree_cost fault_at

@@ -41,11 +41,7 @@ reads_of_union S p member = grind (arith, lead_few)
 module _ (c : Checks) (b : List ℕ) (S : Rows) where
   present_price : (t : ℕ) (f : Live) (p : ℕ) (kind : Kind) → IsPresent c b S t f p kind → present_reads b t f.slot kind + row_reads (entries_of b S t f p kind) ≤ 5 + length b
   unfolding row_reads
-  present_price t f p (Union e) h = omega (arith, if_present_few 1 (type_place b t f.slot), reads_of_union S p (member_of S e (union_type b (type_place b t f.slot))))
-  present_price t f p Texts h = omega (arith, reads_of_row to_string (target b p + 4) (word b (target b p) 4), h.vector.within)
-  present_price t f p (Tables k) h = omega (arith, reads_of_row (to_table k) (target b p + 4) (word b (target b p) 4), h.vector.within)
-  present_price t f p (Unions e) h = omega (arith, if_present_few 2 (type_place b t f.slot), reads_of_union_row b S e (types_begin b (type_place b t f.slot)) (target b p + 4) (word b (target b p) 4), h.field.vector.within)
-  present_price t f p kind h = omega arith
+  present_price t f p kind h = grind (arith, if_present_few, reads_of_union, reads_of_row, reads_of_union_row)
 
   price_at : (t : ℕ) (f : Live) (place : Option ℕ) → IsPresentOrAbsent c b S t f place → reads_at b t f place + row_reads (entries_at b S t f place) ≤ 5 + length b
   unfolding row_reads

@@ -71,8 +71,7 @@ module _ {P : Reason → ℕ → Type 0} where
   last holds reason at reads wrong = test holds reason at reads None wrong (λ _. nothing)
 
   later : (n : ℕ) (x : Option Failure) → Tells P x → Tells P (after n x)
-  later n None h = nothing
-  later n (Some d) h = record { told = λ e i. let same : ◌≡◌ {A = Failure} (record { reason = d.reason; at = d.at; reads = n + d.reads }) e = some_same i in subst (λ (z : Failure). P z.reason z.at) same (h.told d refl) }
+  later n x h = record { told = λ e i. grind arith }
 
   given : {A : Type 0} {x : Option Failure} → A → Tells P x → Tells (λ reason at. A × P reason at) x
   given a h = record { told = λ e i. (a, h.told e i) }

@@ -47,8 +47,7 @@ module _ (q : Question) (b : List ℕ) where
 
   -- where links lead to a fault, there is one
   stops_along : (f : Fault) (links : List Link) → StopsAlong q b f links → Stops q b f
-  stops_along f links (inl h) = inl h.0
-  stops_along f links (inr h) = let s = h.1 in inr (h.0, (s.0, s.1))
+  stops_along f links h = grind arith
 
   -- the root table was walked
   pub reports : (t r n d paid count : ℕ) → start_failure q.checks b q.start q.ident ≡ None → t ≡ target b (base q.start) → r ≡ start_reads q.start q.ident
