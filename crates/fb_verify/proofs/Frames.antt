@@ -28,11 +28,8 @@ if_err_exit (Err e) x P h p = subst P (sym h) p
 pub lead_few : (lead : Lead) → lead_reads lead ≤ 3
 lead_few lead = grind arith
 
-word_few : (b : List ℕ) (S : Rows) (leads : Leads) (p : ℕ) → (word_at b S leads p).reads + lead_reads (word_at b S leads p).lead ≤ 4
-word_few b S leads p = grind (arith, lead_few)
-
 pub first_few : (b : List ℕ) (S : Rows) (r : Row) → (first_word b S r).reads + lead_reads (first_word b S r).lead ≤ 4
-first_few b S r = word_few b S r.leads r.place
+first_few b S r = grind (arith, lead_few)
 
 pub head_few : (c : Checks) → head_reads c ≤ 3
 head_few c = grind arith
@@ -43,15 +40,12 @@ if_present_few n place = grind arith
 pub present_few : (b : List ℕ) (t o : ℕ) (kind : Kind) → present_reads b t o kind ≤ 5
 present_few b t o kind = grind (arith, if_present_few)
 
-at_few : (b : List ℕ) (t : ℕ) (f : Live) (place : Option ℕ) → reads_at b t f place ≤ 5
-at_few b t f place = grind (arith, present_few)
-
 pub slot_few : (b : List ℕ) (t o : ℕ) → slot_reads b t o ≤ 1
 slot_few b t o = grind arith
 
 pub own_few : (b : List ℕ) (t : ℕ) (f : Live) → own_reads b t f ≤ 6
 unfolding own_reads
-own_few b t f = omega (arith, slot_few b t f.slot, at_few b t f (field_place b t f.slot))
+own_few b t f = grind (arith, slot_few, present_few)
 
 -- The fields that a schema lends are the live fields.
 

@@ -30,10 +30,8 @@ module _ (c : Checks) (b : List ℕ) (S : Rows) (L : Bounds) (f : Fault) (n : �
   unfolding fault_at
   in_a_head k t w h =
       let v : Way = record w { object = k; field = None } in
-      elim (either (fault_of w (budget_failure L w t)) (fault_of v (head_failure c b t ▷ reads_failure L v.paid (head_reads c) t)) f h.first) [
-        | inl i ↦ (let r = of_way w (budget_failure L w t) f i in inl (refl, r.0, r.1 ∙ field_is))
-        | inr i ↦ (let r = of_way v (head_failure c b t ▷ reads_failure L v.paid (head_reads c) t) f i in absurd (let w : None ≡ Some n = r.1 ∙ field_is in cc))
-      ]
+      let e = either (fault_of w (budget_failure L w t)) (fault_of v (head_failure c b t ▷ reads_failure L v.paid (head_reads c) t)) f h.first in
+      grind (arith, of_way)
 
   -- one link more at the front
   one_more : (link : Link) (links : List Link) (w : Way) → w.object ≡ link.object → w.field ≡ Some link.field → EndWell w f n links → EndIn f.object n (link ∷ links)

@@ -43,13 +43,9 @@ module _ (c : Checks) (b : List ℕ) (S : Rows) where
   unfolding row_reads
   present_price t f p kind h = grind (arith, if_present_few, reads_of_union, reads_of_row, reads_of_union_row)
 
-  price_at : (t : ℕ) (f : Live) (place : Option ℕ) → IsPresentOrAbsent c b S t f place → reads_at b t f place + row_reads (entries_at b S t f place) ≤ 5 + length b
-  unfolding row_reads
-  price_at t f place h = grind (arith, present_price)
-
   pub field_price : (t : ℕ) (f : Live) → IsField c b S t f → own_reads b t f + row_reads (entries b S t f) ≤ 6 + length b
-  unfolding own_reads entries IsField
-  field_price t f h = omega (arith, slot_few b t f.slot, price_at t f (field_place b t f.slot) h)
+  unfolding own_reads entries IsField row_reads
+  field_price t f h = grind (arith, slot_few, present_price)
 
   -- with so many reads a field at most, and so many a table
   module _ (P B : ℕ) (each : (t : ℕ) (f : Live) → IsField c b S t f → own_reads b t f + row_reads (entries b S t f) ≤ P) (all : (k : ℕ) → 3 + length (live_fields S k) * P ≤ B) where

@@ -14,11 +14,7 @@ module _ (c : Checks) (b : List ℕ) (S : Rows) where
     pub one_tree : (y z : Tree) (k t : ℕ) → Unfolds y c b S k t → Unfolds z c b S k t → y ≡ z
     one_tree (node k1 t1 xs) (node k2 t2 ys) k t g h =
         let kids = one_kids xs ys t (live_fields S k) g.3 h.3 in
-        let k1_is = g.0 in
-        let t1_is = g.1 in
-        let k2_is = h.0 in
-        let t2_is = h.1 in
-        cc
+        grind arith
 
     pub one_kids : (xs ys : Kids) (t : ℕ) (fs : List Live) → FieldsUnfold xs c b S t fs → FieldsUnfold ys c b S t fs → xs ≡ ys
     one_kids no_kids no_kids t fs g h = refl
