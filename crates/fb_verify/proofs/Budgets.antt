@@ -34,8 +34,5 @@ pub more_reads : (budget : Option ℕ) (m n : ℕ) → m ≤ n → AreTooMany bu
 more_reads budget m n l t = grind arith
 
 -- the lesser of two budgets allows what both allow
-lesser_allows : (budget : Option ℕ) (fair n : ℕ) → (n ≤ lesser_budget budget fair) ↔ (AreAllowed budget n × (n ≤ fair))
-lesser_allows budget fair n = grind arith
-
 pub length_allows : LengthAllows
-length_allows L per_byte len n = lesser_allows L.reads (per_byte * len + 4096) n
+length_allows L per_byte len n = grind arith

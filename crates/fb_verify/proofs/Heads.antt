@@ -37,7 +37,4 @@ vtable_tested c m mid new t at result holds count bytes base e =
 
 -- a first word that fails fails the head
 pub first_fails : (c : Checks) (b : List ℕ) (t k : ℕ) (failed : Failure) → Some failed ≡ after k (first_word_failure c b t) → Some failed ≡ after k (head_failure c b t)
-first_fails c b t k failed h = go (first_word_failure c b t) refl h where
-  go : (x : Option Failure) → first_word_failure c b t ≡ x → Some failed ≡ after k x → Some failed ≡ after k (head_failure c b t)
-  go None e i = absurd cc
-  go (Some y) e i = i ∙ ap (after k) (sym (head_parts c b t ∙ ap (λ o. o ▷ after 1 (vtable_failure c b t)) e))
+first_fails c b t k failed h = let e = head_parts c b t in grind arith

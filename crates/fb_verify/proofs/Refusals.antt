@@ -10,15 +10,9 @@ use Rattle.fb_verify.specs.OffsetRows.{IsLeafLead}
 use Rattle.fb_verify.specs.Stops.{reads_failure, lead_reads_failure}
 use Rattle.fb_verify.specs.Told.{told, refused, stopped}
 
--- a failure is told at a site
-abbrev at_site : Site → Option Failure → Option Fault
-at_site site None = None
-at_site site (Some e) = Some (record { at = e.at; object = site.object; field = site.field; reason = e.reason; reads = e.reads })
-
--- one that is refused so is told so
+-- a failure that is refused so is told so
 pub told_after : (site : Site) (paid reads : ℕ) (x : Option Failure) (e : Refusal) → after paid x ≡ Some (refused e reads) → told site paid x ≡ Some (stopped (record { site = site; refusal = e }) reads)
-told_after site paid reads None e h = absurd cc
-told_after site paid reads (Some x) e h = ap (at_site site) h
+told_after site paid reads x e h = grind arith
 
 -- what the first of two chains finds is told
 pub told_first : (site : Site) (paid : ℕ) (x y : Option Failure) (f : Fault) → told site paid x ≡ Some f → told site paid (x ▷ y) ≡ Some f
@@ -31,11 +25,9 @@ spent site place = record { refusal = record { at = place; reason = TooManyReads
 -- past a chain that finds nothing, too many reads are told
 pub told_reads : (L : Bounds) (site : Site) (paid n place reads : ℕ) (x : Option Failure) (s : Stop) → x ≡ None → reads ≡ paid + n → allowed L.reads reads ≡ false → s ≡ spent site place
     → told site paid (x ▷ reads_failure L paid n place) ≡ Some (stopped s reads)
-told_reads L site paid n place reads (Some e) s o r h i = absurd cc
-told_reads L site paid n place reads None s o r h i = rw (i, r) (rw (rw r at h))
+told_reads L site paid n place reads x s o r h i = grind arith
 
 -- the same of an element that leads to no table
 pub told_lead_reads : (L : Bounds) (site : Site) (paid reads : ℕ) (x : Entry) (lead : Lead) (e : Option Failure) (s : Stop) → IsLeafLead lead → e ≡ None → reads ≡ paid + (x.reads + lead_reads lead) → allowed L.reads reads ≡ false
     → s ≡ spent site x.place → told site paid (e ▷ lead_reads_failure L paid x lead) ≡ Some (stopped s reads)
-told_lead_reads L site paid reads x (to_table k) e s l o r h i = absurd l
-told_lead_reads L site paid reads x lead e s l o r h i = told_reads L site paid _ x.place reads e s o r h i
+told_lead_reads L site paid reads x lead e s l o r h i = grind (arith, told_reads)

@@ -30,8 +30,7 @@ use Rattle.fb_verify.proofs.Contexts.{context_push, context_pop, context_stop, c
 
 -- a fault that is told at a site is the fault at a way to this site
 pub told_is : (w : Way) (site : Site) (e : Option Failure) → site.object ≡ w.object → site.field ≡ w.field → told site w.paid e ≡ fault_of w e
-told_is w site None o n = refl
-told_is w site (Some e) o n = cc
+told_is w site e o n = grind arith
 
 module _ (c : Checks) (b : List ℕ) (S : Rows) where
   -- an offset word that leads to no table unfolds to a leaf
