@@ -80,8 +80,7 @@ module _ (c : Checks) (b : List ℕ) where
   unions_field_none t p types = search (chains, tests, vector_field_none)
 
   union_field_none : (t p : ℕ) (member : Option Kind) → (union_field_failure c b t p member ≡ None) ↔ IsUnionField c b t p member
-  union_field_none t p None = (λ _. tt, λ _. refl)
-  union_field_none t p (Some member) = table_none c b t p 4
+  union_field_none t p member = grind (arith, table_none)
 
   ruleset fields = (chains, inline_field_none, vector_field_none, unions_field_none, union_field_none)
 

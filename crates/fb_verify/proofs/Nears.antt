@@ -87,8 +87,8 @@ module _ (c : Checks) (b : List ℕ) (S : Rows) where
     -- a fault in a head comes before any read of it, or after one more table was allowed
     pub head_told : (k t : ℕ) (w : Way) (f : Fault) → IsFalseAt c b S L (in_head k t) w f → (f.reads ≤ w.paid) ⊎ ((w.passed < L.tables) × (f.reads ≤ w.paid + 3))
     unfolding fault_at
-    head_told k t w f h = go (budget_failure L w t) refl h.first where
-      go : (x : Option Failure) → budget_failure L w t ≡ x → fault_of w x ▷ fault_of (record w { object = k; field = None }) (head_failure c b t ▷ reads_failure L w.paid (head_reads c) t) ≡ Some f
-          → (f.reads ≤ w.paid) ⊎ ((w.passed < L.tables) × (f.reads ≤ w.paid + 3))
-      go None e i = inr (grind (arith, nat_tests), fault_reads 3 (record w { object = k; field = None }) _ f (head_reads_most w t) i)
-      go (Some d) e i = inl (omega (arith, fault_reads 0 w (Some d) f (rw e at (budget_most w t)) i))
+    head_told k t w f h =
+        let e = h.first in
+        let limit = fault_reads 0 w (budget_failure L w t) f (budget_most w t) in
+        let head = fault_reads 3 (record w { object = k; field = None }) (head_failure c b t ▷ reads_failure L w.paid (head_reads c) t) f (head_reads_most w t) in
+        grind (arith, nat_tests)

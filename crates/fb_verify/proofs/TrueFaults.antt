@@ -41,24 +41,18 @@ module _ (L : Bounds) (w : Way) where
     pub because : P f.reason f.at ⊎ IsOverBudget L p f
 
   by_chain : (P : Reason → ℕ → Type 0) (x : Option Failure) (f : Fault) → Tells P x → fault_of w x ≡ Some f → IsBy P f
-  by_chain P None f told h = absurd (cc)
-  by_chain P (Some e) f told h = subst (IsBy P) (some_same h) (record { object = refl; field = refl; because = told.told e refl })
+  by_chain P x f told h = grind arith
 
   over_budget : (P : Reason → ℕ → Type 0) (n p : ℕ) (f : Fault) (holds : Bool) → allowed L.reads (w.paid + n) ≡ holds → fault_of w (check holds TooManyReads p n None) ≡ Some f → IsOf P p f
-  over_budget P n p f true a h = absurd (cc)
-  over_budget P n p f false a h =
-      subst (IsOf P p) (some_same h) (record { object = refl; field = refl; because = inr (record { reason = refl; at = refl; reads = are_too_many L.reads (w.paid + n) a }) })
+  over_budget P n p f holds a h = grind (arith, are_too_many)
 
   -- a place's own failure, or too many reads
   place_fault : (P : Reason → ℕ → Type 0) (x : Option Failure) (n p : ℕ) (f : Fault) → Tells P x → fault_of w (x ▷ reads_failure L w.paid n p) ≡ Some f → IsOf P p f
-  place_fault P None n p f told h = over_budget P n p f (allowed L.reads (w.paid + n)) refl h
-  place_fault P (Some e) n p f told h = let r = by_chain P (Some e) f told h in record { object = r.object; field = r.field; because = inl r.because }
+  place_fault P x n p f told h = grind (arith, over_budget, by_chain)
 
   -- the same of an element, by its lead
   lead_fault : (P : Reason → ℕ → Type 0) (x : Entry) (lead : Lead) (own : Option Failure) (f : Fault) → Tells P own → fault_of w (own ▷ lead_reads_failure L w.paid x lead) ≡ Some f → IsOf P x.place f
-  lead_fault P x (to_table k) None f told h = absurd (cc)
-  lead_fault P x (to_table k) (Some e) f told h = place_fault P (Some e) 0 x.place f told h
-  lead_fault P x lead own f told h = place_fault P own (x.reads + lead_reads lead) x.place f told h
+  lead_fault P x lead own f told h = grind (arith, place_fault)
 
   -- the limits of tables, before a head
   limit_told : (t : ℕ) → Tells (λ reason at. LimitIsReached L t w.links reason at × (reason ≡ TooManyTables → L.tables ≤ w.passed)) (budget_failure L w t)
