@@ -1,7 +1,7 @@
 -- What a budget of reads allows.
-use Rattle.std.proofs.Common.{◌≡◌, ◌↔◌, ℕ, ◌+◌, ◌*◌, ◌≤◌, false, arith, Option, Some, None}
+use Rattle.std.proofs.Common.{◌≡◌, ℕ, ◌+◌, ◌≤◌, false, arith, Option, Some, None}
 use Rattle.std.proofs.lemmas.Bool.Decides.{nat_tests}
-use Rattle.fb_verify.specs.Bounds.{AreAllowed, allowed, AreTooMany, lesser_budget}
+use Rattle.fb_verify.specs.Bounds.{AreAllowed, allowed, AreTooMany}
 use Rattle.fb_verify.specs.Laws.{LengthAllows}
 
 -- fewer reads are allowed too

@@ -1,5 +1,5 @@
 -- What the tests of a unit find is told, and the budget is asked after them.
-use Rattle.std.proofs.Common.{◌≡◌, ℕ, ◌+◌, List, Result, Ok, Err, refl, sym, ◌∙◌, ap, subst, arith, Option, Some, None}
+use Rattle.std.proofs.Common.{◌≡◌, ℕ, ◌+◌, List, Result, Ok, Err, sym, ◌∙◌, ap, subst, arith, Option, Some, None}
 use Rattle.std.specs.Result.{IsErrAnd}
 use Rattle.fb_bytes.specs.Word.{Lent}
 use Rattle.fb_verify.specs.declared.{fault.Reason.Reason, site.Site.Site, site.Stop.Stop}

@@ -7,7 +7,7 @@ use Rattle.fb_verify.specs.declared.start.Start.{Start, TheVariants.Bare, TheVar
 use Rattle.fb_verify.specs.declared.start.Ident.{Ident, TheVariants.Any, TheVariants.Want}
 use Rattle.fb_verify.specs.Places.{ends_in_table}
 use Rattle.fb_verify.specs.Facts.{IsTable, IsOffset, IsString, IsVector, IsInline}
-use Rattle.fb_verify.specs.Fields.{IsInlineField, IsVectorField, IsUnionsField, IsUnionField, IsPresent, IsPresentOrAbsent, IsField, Lead, to_table, to_struct, to_string, to_nothing, Entry}
+use Rattle.fb_verify.specs.Fields.{IsInlineField, IsVectorField, IsUnionsField, IsUnionField, IsPresent, IsPresentOrAbsent, IsField, Lead, to_table, Entry}
 use Rattle.fb_verify.specs.Tree.{Element, leaf, table}
 use Rattle.fb_verify.specs.Unfolds.{ElementUnfolds}
 use Rattle.fb_verify.specs.WellFormed.{IsPrefixed, IsIdentified, IsStart}

@@ -1,20 +1,18 @@
 -- What frames keep, and what work is left to them.
-use Rattle.std.proofs.Common.{◌≡◌, ℕ, ◌+◌, ◌*◌, ◌^◌, ◌<◌, ◌≤◌, IsTrue, List, length, map, option_map, sym, ◌∙◌, ap, subst, arith, Option, Some, None, Result, Ok, Err, IfErr}
+use Rattle.std.proofs.Common.{◌≡◌, ℕ, ◌+◌, ◌*◌, ◌^◌, ◌<◌, ◌≤◌, IsTrue, List, length, map, option_map, sym, ◌∙◌, ap, subst, arith, Option, Some, Result, Ok, Err, IfErr}
 use Rattle.std.specs.Prelude.{slice_get}
 use Rattle.std.specs.Result.{IsErrAnd}
 use Rattle.std.specs.Borrow.{Bor}
 use Rattle.std.specs.Slice.{IsItemAt}
 use Rattle.std.proofs.lemmas.List.{length-map}
 use Rattle.std.proofs.lemmas.Option.{slice_get-get_or, slice_get-map, slice_get_within}
-use Rattle.fb_schema.specs.declared.kinds.Kind.{Kind, TheVariants.Union, TheVariants.Unions}
+use Rattle.fb_schema.specs.declared.kinds.Kind.{Kind}
 use Rattle.fb_schema.specs.{Rows.Rows, Rows.is_table, Live.Live, Live.live_fields, Served.IsServed}
 use Rattle.fb_verify.specs.declared.{checks.Checks.Checks, table.Table.Table as TableOf, offset_row.Row.Row, scratch.Frame.Frame}
-use Rattle.fb_verify.specs.declared.offset_row.Leads.{Leads, TheVariants.All, TheVariants.ByType}
-use Rattle.fb_verify.specs.Cost.{head_reads, slot_reads, reads_if_present, present_reads, reads_at, own_reads, lead_reads}
-use Rattle.fb_verify.specs.Places.{field_place}
-use Rattle.fb_verify.specs.Fields.{Lead, to_table, type_place}
+use Rattle.fb_verify.specs.Cost.{head_reads, slot_reads, reads_if_present, present_reads, own_reads, lead_reads}
+use Rattle.fb_verify.specs.Fields.{Lead}
 use Rattle.fb_verify.specs.Told.{IsHead}
-use Rattle.fb_verify.specs.OffsetRows.{first_word, word_at, past_first, IsRow, AreLeads, AreTypesNear}
+use Rattle.fb_verify.specs.OffsetRows.{first_word, past_first, IsRow, AreTypesNear}
 use Rattle.fb_verify.specs.Stack.{blank, opened, IsFrame, frame_work}
 use Rattle.fb_verify.proofs.Words.{row_on}
 
@@ -67,11 +65,8 @@ item_some xs i r x h e =
 -- Frames.
 
 module _ (c : Checks) (b : List ℕ) (S : Rows) where
-  types_near : (n : ℕ) (leads : Leads) → 0 < n → AreLeads b S n leads → AreTypesNear leads
-  types_near n leads l h = grind arith
-
   pub row_types_near : (r : Row) → 0 < r.left → IsRow b S r → AreTypesNear r.leads
-  row_types_near r m h = types_near r.left r.leads m (h.leads m)
+  row_types_near r m h = let leads = h.leads m in grind arith
 
   pub frame_on : (fr : Frame) (row : Row) → row ≡ past_first fr.row → 0 < (fr.row).left → IsFrame c b S fr → IsFrame c b S (record fr { row = row })
   frame_on fr row e l h = record { object = h.object; near = h.near; head = h.head; next = h.next; row = rw e (row_on b S fr.row l h.row) }

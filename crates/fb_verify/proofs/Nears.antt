@@ -1,20 +1,17 @@
 -- A fault comes soon after the budget of reads is used up.
-use Rattle.std.proofs.Common.{◌≡◌, ℕ, zero, suc, ◌+◌, ◌≤◌, ◌<◌, ◌⊎◌, inl, inr, List, [], ◌∷◌, refl, ap, subst, arith, rules, Option, Some, None}
+use Rattle.std.proofs.Common.{◌≡◌, ℕ, zero, suc, ◌+◌, ◌≤◌, ◌<◌, ◌⊎◌, List, [], ◌∷◌, refl, ap, subst, arith, Option, Some, None}
 use Rattle.std.specs.Prelude.{slice_get}
 use Rattle.std.proofs.lemmas.Bool.Decides.{nat_tests}
-use Rattle.fb_bytes.specs.Word.{word}
-use Rattle.fb_schema.specs.declared.kinds.Kind.{Kind, TheVariants.Union, TheVariants.Unions}
-use Rattle.fb_schema.specs.{Rows.Rows, Live.Live, Members.member_of}
+use Rattle.fb_schema.specs.declared.kinds.Kind.{Kind}
+use Rattle.fb_schema.specs.{Rows.Rows, Live.Live}
 use Rattle.fb_verify.specs.declared.{checks.Checks.Checks, fault.Fault.Fault}
 use Rattle.fb_verify.specs.Bounds.{Bounds}
-use Rattle.fb_verify.specs.Places.{target, field_place}
-use Rattle.fb_verify.specs.Fields.{type_place, union_type, types_begin, Lead, Entry, row, union_row, union_entry, entries_of, entries_at, entries}
+use Rattle.fb_verify.specs.Fields.{Lead, Entry, row, union_row, union_entry, entries}
 use Rattle.fb_verify.specs.Cost.{head_reads, own_reads, lead_reads}
 use Rattle.fb_verify.specs.Order.{Failure, ◌▷◌, head_failure, own_failure, element_failure}
-use Rattle.fb_verify.specs.Way.{Way, way_to_field, way_to_element, way_to_table}
-use Rattle.fb_verify.specs.Stops.{budget_failure, reads_failure, lead_reads_failure, in_head, fault_of, fault_at, IsFalseAt, Trail, at_head, at_field, FieldTrail, at_own, at_element, ElementTrail, at_lead, through, IsTrail, IsFieldTrail, IsElementTrail}
-use Rattle.fb_verify.proofs.Budgets.{IsNear, near}
-use Rattle.fb_verify.proofs.Frames.{head_few, lead_few, own_few}
+use Rattle.fb_verify.specs.Way.{Way}
+use Rattle.fb_verify.specs.Stops.{budget_failure, reads_failure, lead_reads_failure, in_head, fault_of, fault_at, IsFalseAt}
+use Rattle.fb_verify.proofs.Frames.{head_few, own_few}
 use Rattle.fb_verify.proofs.ChainReads.{AtMost, either, reads_most, lead_reads_most, head_most, own_most, element_most}
 use Rattle.fb_verify.proofs.Overruns.{some_same}
 
@@ -52,23 +49,10 @@ short_union : (S : Rows) (p : ℕ) (member : Option Kind) → AreShort (union_en
 unfolding AreShort
 short_union S p member = grind arith
 
-ruleset short = (rules, short_row)
-
 module _ (c : Checks) (b : List ℕ) (S : Rows) where
-  short_of : (t : ℕ) (f : Live) (p : ℕ) (kind : Kind) → AreShort (entries_of b S t f p kind)
-  unfolding AreShort
-  short_of t f p (Union e) = short_union S p (member_of S e (union_type b (type_place b t f.slot)))
-  short_of t f p (Unions e) = short_union_row b S e (types_begin b (type_place b t f.slot)) (target b p + 4) (word b (target b p) 4)
-  short_of t f p kind = search short
-
-  short_entries_at : (t : ℕ) (f : Live) (place : Option ℕ) → AreShort (entries_at b S t f place)
-  unfolding AreShort
-  short_entries_at t f None = tt
-  short_entries_at t f (Some p) = short_of t f p f.kind
-
   pub short_entries : (t : ℕ) (f : Live) → AreShort (entries b S t f)
-  unfolding entries
-  short_entries t f = short_entries_at t f (field_place b t f.slot)
+  unfolding entries AreShort
+  short_entries t f = grind (arith, short_row, short_union_row, short_union)
 
   module _ (L : Bounds) where
     pub budget_most : (w : Way) (t : ℕ) → AtMost 0 (budget_failure L w t)

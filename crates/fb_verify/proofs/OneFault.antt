@@ -9,7 +9,7 @@ use Rattle.fb_verify.specs.Bounds.{Bounds}
 use Rattle.fb_verify.specs.Question.{Question}
 use Rattle.fb_verify.specs.Places.{target}
 use Rattle.fb_verify.specs.Facts.{IsTable}
-use Rattle.fb_verify.specs.Fields.{IsField, to_table, Entry, entries}
+use Rattle.fb_verify.specs.Fields.{IsField, Entry, entries}
 use Rattle.fb_verify.specs.Tree.{Kids, kids_length, Elements, elements_length}
 use Rattle.fb_verify.specs.WellFormed.{base, start_reads, IsStart}
 use Rattle.fb_verify.specs.Cost.{own_reads, kids_cost, elements_cost}

@@ -1,16 +1,16 @@
 -- What a tree, and what a way to a fault, costs at most.
-use Rattle.std.proofs.Common.{ℕ, zero, suc, ◌+◌, ◌*◌, ◌≤◌, List, [], ◌∷◌, length, arith, Option, Some, None}
+use Rattle.std.proofs.Common.{ℕ, zero, suc, ◌+◌, ◌*◌, ◌≤◌, List, [], ◌∷◌, length, arith, Option}
 use Rattle.fb_bytes.specs.Word.{word}
-use Rattle.fb_schema.specs.declared.kinds.Kind.{Kind, TheVariants.Union, TheVariants.Texts, TheVariants.Tables, TheVariants.Unions}
+use Rattle.fb_schema.specs.declared.kinds.Kind.{Kind}
 use Rattle.fb_schema.specs.{Rows.Rows, Live.Live, Live.live_fields, Members.member_of}
 use Rattle.fb_verify.specs.declared.{checks.Checks.Checks, start.Start.Start}
-use Rattle.fb_verify.specs.declared.start.Ident.{Ident, TheVariants.Any, TheVariants.Want}
-use Rattle.fb_verify.specs.Places.{target, field_place}
-use Rattle.fb_verify.specs.Fields.{IsPresent, IsPresentOrAbsent, IsField, type_place, union_type, types_begin, Lead, to_table, to_string, lead_of, Entry, row, union_row, union_entry, entries_of, entries_at, entries}
+use Rattle.fb_verify.specs.declared.start.Ident.{Ident}
+use Rattle.fb_verify.specs.Places.{target}
+use Rattle.fb_verify.specs.Fields.{IsPresent, IsField, Lead, to_table, lead_of, Entry, row, union_row, union_entry, entries_of, entries}
 use Rattle.fb_verify.specs.Tree.{Tree, node, Kids, no_kids, kid, Elements, no_elements, element, Element, leaf, table, size, kids_size, elements_size, element_size, kids_length, elements_length}
 use Rattle.fb_verify.specs.Unfolds.{Unfolds, FieldsUnfold, ElementsUnfold, ElementUnfolds}
 use Rattle.fb_verify.specs.WellFormed.{start_reads}
-use Rattle.fb_verify.specs.Cost.{present_reads, reads_at, own_reads, lead_reads, tree_cost, kids_cost, elements_cost, element_cost}
+use Rattle.fb_verify.specs.Cost.{present_reads, own_reads, lead_reads, tree_cost, kids_cost, elements_cost, element_cost}
 use Rattle.fb_verify.proofs.Frames.{lead_few, if_present_few, head_few, slot_few}
 
 -- the start

@@ -1,11 +1,11 @@
 -- From a refusal to the fault at a site.
-use Rattle.std.proofs.Common.{◌≡◌, ℕ, ◌+◌, Bool, true, false, refl, ap, arith, Option, Some, None}
+use Rattle.std.proofs.Common.{◌≡◌, ℕ, ◌+◌, false, arith, Option, Some, None}
 use Rattle.fb_verify.specs.declared.{fault.Fault.Fault, site.Site.Site, site.Refusal.Refusal, site.Stop.Stop}
 use Rattle.fb_verify.specs.declared.fault.Reason.TheVariants.{TooManyReads}
 use Rattle.fb_verify.specs.Bounds.{Bounds, allowed}
 use Rattle.fb_verify.specs.Cost.{lead_reads}
-use Rattle.fb_verify.specs.Fields.{Lead, to_table, Entry}
-use Rattle.fb_verify.specs.Order.{Failure, check, after, ◌▷◌}
+use Rattle.fb_verify.specs.Fields.{Lead, Entry}
+use Rattle.fb_verify.specs.Order.{Failure, after, ◌▷◌}
 use Rattle.fb_verify.specs.OffsetRows.{IsLeafLead}
 use Rattle.fb_verify.specs.Stops.{reads_failure, lead_reads_failure}
 use Rattle.fb_verify.specs.Told.{told, refused, stopped}

@@ -1,12 +1,12 @@
 -- The turns of a walk, on the whole stack.
-use Rattle.std.proofs.Common.{◌≡◌, ℕ, ◌+◌, max, ◌<◌, ◌≤◌, ◌⊎◌, inl, inr, List, [], ◌∷◌, ◌++◌, length, map, refl, sym, ◌∙◌, ap, subst, arith, rules, Option, Some, None}
+use Rattle.std.proofs.Common.{◌≡◌, ℕ, ◌+◌, max, ◌<◌, ◌≤◌, ◌⊎◌, inl, inr, List, [], ◌∷◌, ◌++◌, length, map, refl, sym, ◌∙◌, ap, subst, arith, Option, Some, None}
 use Rattle.std.specs.Prelude.{slice_get}
 use Rattle.fb_schema.specs.{Rows.Rows, Live.Live, Live.live_fields, Served.IsServed}
 use Rattle.fb_verify.specs.declared.{checks.Checks.Checks, fault.Fault.Fault, table.Table.Table, offset_row.Row.Row, scratch.Frame.Frame, site.Site.Site}
 use Rattle.fb_verify.specs.Bounds.{Bounds, AreAllowed}
 use Rattle.fb_verify.specs.Places.{target}
 use Rattle.fb_verify.specs.Facts.{IsOffset}
-use Rattle.fb_verify.specs.Fields.{Lead, to_table, to_struct, to_string, to_nothing, entries}
+use Rattle.fb_verify.specs.Fields.{Lead, to_table, entries}
 use Rattle.fb_verify.specs.Tree.{leaf, element_size, element_depth}
 use Rattle.fb_verify.specs.Unfolds.{ElementUnfolds}
 use Rattle.fb_verify.specs.Cost.{head_reads, own_reads, lead_reads, element_cost}

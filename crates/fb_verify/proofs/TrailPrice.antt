@@ -1,7 +1,6 @@
 -- What a whole buffer costs at most: a tree within the limits, and the way to a fault.
-use Rattle.std.proofs.Common.{◌≡◌, ℕ, zero, suc, ◌+◌, ◌-◌, ◌*◌, ◌≤◌, ◌<◌, List, [], ◌∷◌, length, take, refl, ap, arith, Option, Some, None, ◌⊎◌, inl, inr, mul-le-mul_left, mul-le-mul_right, mul_comm, length-take}
+use Rattle.std.proofs.Common.{◌≡◌, ℕ, zero, suc, ◌+◌, ◌-◌, ◌*◌, ◌≤◌, List, [], ◌∷◌, length, take, refl, ap, arith, Option, Some, inl, inr, mul-le-mul_left, mul-le-mul_right, mul_comm, length-take}
 use Rattle.std.specs.Prelude.{slice_get}
-use Rattle.std.proofs.lemmas.Bool.Decides.{nat_tests}
 use Rattle.std.proofs.lemmas.Option.{slice_get_within}
 use Rattle.fb_schema.specs.{Rows.Rows, Live.Live, Live.live_fields, Live.widest}
 use Rattle.fb_schema.proofs.LookLemmas.{within_widest}
@@ -11,11 +10,11 @@ use Rattle.fb_verify.specs.Question.{Question}
 use Rattle.fb_verify.specs.Places.{target}
 use Rattle.fb_verify.specs.Fields.{IsField, Entry, entries}
 use Rattle.fb_verify.specs.Tree.{Tree, kids_length, elements_length}
-use Rattle.fb_verify.specs.Cost.{head_reads, own_reads, lead_reads}
+use Rattle.fb_verify.specs.Cost.{own_reads, lead_reads}
 use Rattle.fb_verify.specs.WellFormed.{base, start_reads, IsWellFormed, IsWithin, cost}
-use Rattle.fb_verify.specs.Order.{◌▷◌, start_failure, head_failure}
+use Rattle.fb_verify.specs.Order.{◌▷◌, start_failure}
 use Rattle.fb_verify.specs.Way.{Way, way_to_start, way_to_root, way_to_field, way_to_element, way_to_table}
-use Rattle.fb_verify.specs.Stops.{budget_failure, reads_failure, in_head, fault_at, IsFalseAt, Trail, at_head, at_field, FieldTrail, at_own, at_element, ElementTrail, at_lead, through, IsTrail, IsFieldTrail, IsElementTrail, Stops}
+use Rattle.fb_verify.specs.Stops.{reads_failure, fault_at, Trail, at_head, at_field, FieldTrail, at_own, at_element, ElementTrail, at_lead, through, IsTrail, IsFieldTrail, IsElementTrail, Stops}
 use Rattle.fb_verify.specs.MostReads.{within_budget, most_reads}
 use Rattle.fb_verify.proofs.Budgets.{no_reads, IsNear, near}
 use Rattle.fb_verify.proofs.Frames.{head_few, lead_few}

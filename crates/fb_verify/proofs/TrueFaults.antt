@@ -1,25 +1,25 @@
 -- Where a buffer stops, the fault's reason is true of the place that it names.
-use Rattle.std.proofs.Common.{◌≡◌, ℕ, suc, ◌+◌, ◌≤◌, ◌⊎◌, inl, inr, Bool, true, false, nat_lt, List, refl, ◌∙◌, subst, arith, Option, Some, None}
+use Rattle.std.proofs.Common.{◌≡◌, ℕ, suc, ◌+◌, ◌≤◌, ◌⊎◌, inl, inr, false, nat_lt, List, refl, ◌∙◌, subst, arith, Option, Some, None}
 use Rattle.std.specs.Prelude.{slice_get}
 use Rattle.std.proofs.lemmas.Bool.Decides.{nat_tests}
-use Rattle.fb_schema.specs.declared.kinds.Kind.{Kind, TheVariants.Scalar}
+use Rattle.fb_schema.specs.declared.kinds.Kind.{Kind}
 use Rattle.fb_schema.specs.{Rows.Rows, Live.Live, Live.live_fields}
 use Rattle.fb_verify.specs.declared.{checks.Checks.Checks, fault.Fault.Fault}
-use Rattle.fb_verify.specs.declared.fault.Reason.{Reason, TheVariants.TooDeep, TheVariants.TooManyTables, TheVariants.TooManyReads}
-use Rattle.fb_verify.specs.Bounds.{Bounds, allowed}
+use Rattle.fb_verify.specs.declared.fault.Reason.{Reason, TheVariants.TooDeep, TheVariants.TooManyTables}
+use Rattle.fb_verify.specs.Bounds.{Bounds}
 use Rattle.fb_verify.specs.Question.{Question}
 use Rattle.fb_verify.specs.Places.{target, field_place}
 use Rattle.fb_verify.specs.Facts.{IsTable}
-use Rattle.fb_verify.specs.Fields.{Lead, to_table, Entry}
+use Rattle.fb_verify.specs.Fields.{Lead, Entry}
 use Rattle.fb_verify.specs.Tree.{kids_length, elements_length}
-use Rattle.fb_verify.specs.Cost.{head_reads, own_reads, lead_reads}
+use Rattle.fb_verify.specs.Cost.{head_reads, own_reads}
 use Rattle.fb_verify.specs.WellFormed.{base, start_reads}
-use Rattle.fb_verify.specs.Order.{Failure, check, ◌▷◌, start_failure, head_failure, own_failure, element_failure}
+use Rattle.fb_verify.specs.Order.{Failure, ◌▷◌, start_failure, head_failure, own_failure, element_failure}
 use Rattle.fb_verify.specs.Way.{Way, way_to_start, way_to_root, way_to_field, way_to_element, way_to_table}
 use Rattle.fb_verify.specs.Stops.{in_start, in_head, fault_of, budget_failure, reads_failure, lead_reads_failure, fault_at, IsFalseAt, Trail, at_head, at_field, FieldTrail, at_own, at_element, ElementTrail, at_lead, through, IsTrail, IsFieldTrail, IsElementTrail}
 use Rattle.fb_verify.specs.TrueReasons.{FailsAtLimit, HeadIsFalse, PlacedIsFalse, LeadIsFalse, IsOverBudget, HasEntry, LeadsOn, IsReached, as_root, from_above, FailsAtStart, LimitIsReached, FailsInHead, FailsInField, FailsInElement, FailsAtTable, StopsTruly, PresentIsFalse, opened_on, opened_on_field, opened_on_element, TablesRunOut}
 use Rattle.fb_verify.proofs.Budgets.{are_too_many}
-use Rattle.fb_verify.proofs.Overruns.{some_same, either}
+use Rattle.fb_verify.proofs.Overruns.{either}
 use Rattle.fb_verify.proofs.TrueReasons.{Tells, test, last, start_false, head_false, own_false, element_false}
 
 -- A fault at the end of a way.
@@ -43,12 +43,9 @@ module _ (L : Bounds) (w : Way) where
   by_chain : (P : Reason → ℕ → Type 0) (x : Option Failure) (f : Fault) → Tells P x → fault_of w x ≡ Some f → IsBy P f
   by_chain P x f told h = grind arith
 
-  over_budget : (P : Reason → ℕ → Type 0) (n p : ℕ) (f : Fault) (holds : Bool) → allowed L.reads (w.paid + n) ≡ holds → fault_of w (check holds TooManyReads p n None) ≡ Some f → IsOf P p f
-  over_budget P n p f holds a h = grind (arith, are_too_many)
-
   -- a place's own failure, or too many reads
   place_fault : (P : Reason → ℕ → Type 0) (x : Option Failure) (n p : ℕ) (f : Fault) → Tells P x → fault_of w (x ▷ reads_failure L w.paid n p) ≡ Some f → IsOf P p f
-  place_fault P x n p f told h = grind (arith, over_budget, by_chain)
+  place_fault P x n p f told h = grind (arith, are_too_many)
 
   -- the same of an element, by its lead
   lead_fault : (P : Reason → ℕ → Type 0) (x : Entry) (lead : Lead) (own : Option Failure) (f : Fault) → Tells P own → fault_of w (own ▷ lead_reads_failure L w.paid x lead) ≡ Some f → IsOf P x.place f
