@@ -1,7 +1,6 @@
 -- Fields behind the end of a table's vtable, of which none is required: they are passed without a read.
-use Rattle.std.proofs.Common.{◌≡◌, ℕ, zero, suc, ◌+◌, ◌-◌, ◌<◌, ◌≤◌, inl, inr, Bool, true, false, nat_le, nat_lt, List, [], ◌∷◌, map, length, get_or, drop, option_map, cond, length-drop, refl, sym, ◌∙◌, ap, subst, arith, Some, None}
+use Rattle.std.proofs.Common.{◌≡◌, ℕ, zero, suc, ◌+◌, ◌-◌, ◌<◌, ◌≤◌, Bool, true, false, nat_le, nat_lt, List, [], ◌∷◌, map, length, get_or, drop, option_map, cond, length-drop, refl, sym, ◌∙◌, ap, subst, arith, Some, None}
 use Rattle.std.specs.Prelude.{slice_get}
-use Rattle.std.proofs.Math.Nat.{eq-or-lt_of_le}
 use Rattle.std.proofs.lemmas.Bool.Decides.{nat_tests}
 use Rattle.std.proofs.lemmas.Option.{slice_get-get_or, slice_get_within, get_or_from_slice_get}
 use Rattle.std.proofs.lemmas.List.{get_or-drop}
@@ -108,10 +107,7 @@ module _ {c : Checks} {b : List ℕ} {S : Rows} {L : Bounds} {s : Origin} {below
 
   module _ (rests : (top.row).left ≡ 0) (field : Live) (here : slice_get fields top.next ≡ Some field) (past : vtable_size b (top.table).at < field.slot + 2) where
     past_from : (i : ℕ) (f : Live) → top.next ≤ i → slice_get fields i ≡ Some f → field.slot ≤ f.slot
-    past_from i f low there = elim (eq-or-lt_of_le low) [
-      | inl same ↦ (let w : Some field ≡ Some f = sym here ∙ ap (slice_get fields) same ∙ there in let v : field ≡ f = cc in omega (arith, ap (λ (x : Live). x.slot) v))
-      | inr less ↦ omega (arith, (h.served).rising (top.table).object top.next i field f here there less)
-    ]
+    past_from i f low there = let less = (h.served).rising (top.table).object top.next i field f here there in grind arith
 
     -- a field behind it has no slot either
     pub no_slot_from : (i : ℕ) (f : Live) → top.next ≤ i → slice_get fields i ≡ Some f → has_slot b (top.table).at f.slot ≡ false

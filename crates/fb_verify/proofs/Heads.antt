@@ -1,24 +1,16 @@
 -- The head of a table is tested by its first word, and then by its vtable.
-use Rattle.std.proofs.Common.{◌≡◌, ℕ, ◌+◌, ◌%◌, ◌==◌, ◌&&◌, nat_le, Bool, true, List, refl, sym, ◌∙◌, ap, arith, Option, Some, None}
+use Rattle.std.proofs.Common.{◌≡◌, ℕ, ◌+◌, List, sym, ◌∙◌, ap, arith, Option, Some, None}
 use Rattle.fb_bytes.specs.Word.{Lent}
 use Rattle.fb_verify.specs.declared.checks.Checks.{Checks}
-use Rattle.fb_verify.specs.declared.fault.Reason.{Reason, TheVariants.OutOfBuffer, TheVariants.Misaligned, TheVariants.BadVtable}
-use Rattle.fb_verify.specs.Places.{fits, is_aligned, has_vtable, vtable, vtable_size}
+use Rattle.fb_verify.specs.declared.fault.Reason.{Reason}
 use Rattle.fb_verify.specs.Cost.{head_reads}
-use Rattle.fb_verify.specs.Order.{Failure, check, after, ◌▷◌, head_failure}
+use Rattle.fb_verify.specs.Order.{Failure, after, ◌▷◌, head_failure}
 use Rattle.fb_verify.specs.Plain.{IsTested, first_word_failure, vtable_failure, vtable_reads}
 use Rattle.fb_verify.proofs.Plains.{after_twice}
 
--- the same for any tests in their places
-parts : (a b h f g e w : Bool) (t v : ℕ) → check a OutOfBuffer t 0 (check b Misaligned t 0 (check (h && f) OutOfBuffer t 1 (check g Misaligned v 1 (check e BadVtable v 2 (check w OutOfBuffer v 2 None)))))
-    ≡ check a OutOfBuffer t 0 (check b Misaligned t 0 (check h OutOfBuffer t 1 None)) ▷ after 1 (check f OutOfBuffer t 0 (check g Misaligned v 0 (check e BadVtable v 1 (check w OutOfBuffer v 1 None))))
-parts true true true true true true true t v = refl
-parts a b h f g e w t v = refl
-
 pub head_parts : (c : Checks) (b : List ℕ) (t : ℕ) → head_failure c b t ≡ first_word_failure c b t ▷ after 1 (vtable_failure c b t)
 unfolding head_failure first_word_failure vtable_failure
-head_parts c b t =
-    parts (fits b t 4) (is_aligned c t 4) (has_vtable b t) (fits b (vtable b t) 2) (is_aligned c (vtable b t) 2) ((vtable_size b t % 2 == 0) && nat_le 4 (vtable_size b t)) (fits b (vtable b t) (vtable_size b t)) t (vtable b t)
+head_parts c b t = grind arith
 
 pub head_reads_parts : (c : Checks) → head_reads c ≡ 1 + vtable_reads c
 head_reads_parts c = grind arith

@@ -72,7 +72,8 @@ not_lead c b p lead at h = grind arith
 another : (P : Reason → ℕ → Type 0) (L : Bounds) (p : ℕ) (f : Fault) → ((at : ℕ) → P TooManyTables at → ⊥) → f.reason ≡ TooManyTables → P f.reason f.at ⊎ IsOverBudget L p f → ⊥
 another P L p f none is h = grind arith
 
--- Along a trail: the fault is at a table that is reached, and where too many tables were opened, this trail opens as many as are allowed.
+-- Along a trail: the fault is at a table that is reached, and where too many tables were opened, this trail opens as
+-- many as are allowed.
 module _ (c : Checks) (b : List ℕ) (S : Rows) (L : Bounds) (root begin : ℕ) where
   abbrev Told : ℕ → Way → Fault → Type 0
   Told opened w f = FailsAtTable c b S root begin L f × (f.reason ≡ TooManyTables → L.tables ≤ w.passed + opened)

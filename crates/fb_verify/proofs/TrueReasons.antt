@@ -1,15 +1,14 @@
 -- Where a chain of tests finds a failure, its reason is true.
-use Rattle.std.proofs.Common.{◌≡◌, ◌≢◌, ℕ, ◌+◌, ◌*◌, ◌%◌, ◌<◌, ◌≤◌, ◌⊎◌, inl, inr, ◌==◌, nat_le, Bool, true, false, not, ◌&&◌, ◌||◌, List, length, refl, subst, arith, rules, tests, Option, Some, None, IsTrue, IsFalse}
+use Rattle.std.proofs.Common.{◌≡◌, ◌≢◌, ℕ, ◌+◌, ◌%◌, ◌<◌, ◌≤◌, ◌⊎◌, inl, inr, ◌==◌, nat_le, Bool, true, false, ◌&&◌, List, length, refl, subst, arith, rules, tests, Option, Some, None, IsTrue, IsFalse}
 use Rattle.std.proofs.lemmas.Bool.Decides.{nat_tests}
-use Rattle.fb_bytes.specs.Word.{word}
 use Rattle.fb_schema.specs.declared.kinds.Kind.{Kind, TheVariants.Union, TheVariants.Unions}
 use Rattle.fb_schema.specs.{Rows.Rows, Live.Live, Members.member_of}
 use Rattle.fb_verify.specs.declared.{checks.Checks.Checks, fault.Reason.Reason}
-use Rattle.fb_verify.specs.declared.start.Start.{Start, TheVariants.Bare, TheVariants.Prefixed}
-use Rattle.fb_verify.specs.declared.start.Ident.{Ident, TheVariants.Any, TheVariants.Want}
-use Rattle.fb_verify.specs.declared.fault.Reason.TheVariants.{WrongPrefix, OutOfBuffer, Misaligned, ZeroOffset, WrongIdentifier, BadVtable, MissingRequired, NoTerminator, LengthsDiffer, PastTable}
+use Rattle.fb_verify.specs.declared.start.Start.{Start}
+use Rattle.fb_verify.specs.declared.start.Ident.{Ident}
+use Rattle.fb_verify.specs.declared.fault.Reason.TheVariants.{OutOfBuffer, Misaligned, BadVtable, MissingRequired, LengthsDiffer}
 use Rattle.fb_verify.specs.Places.{fits, is_aligned, target, has_vtable, vtable, vtable_size, inline_size, field_place, ends_in_table}
-use Rattle.fb_verify.specs.Fields.{type_place, union_type, type_count, Lead, to_table, to_struct, to_string, to_nothing, Entry}
+use Rattle.fb_verify.specs.Fields.{type_place, union_type, Lead, to_table, to_struct, to_string, to_nothing, Entry}
 use Rattle.fb_verify.specs.WellFormed.{base}
 use Rattle.fb_verify.specs.Order.{Failure, check, after, ◌▷◌, prefix_failure, ident_failure, offset_failure, start_failure, head_failure, string_failure, vector_failure, inline_failure, table_failure, inline_field_failure, vector_field_failure, unions_field_failure, union_field_failure, present_failure, failure_at, own_failure, lead_failure, element_failure}
 use Rattle.fb_verify.specs.TrueReasons.{AreOut, IsMisaligned, PrefixIsFalse, IdentIsFalse, OffsetIsFalse, HeadIsFalse, StringIsFalse, VectorIsFalse, InlineIsFalse, PastIsFalse, InlineFieldIsFalse, VectorFieldIsFalse, CountIsFalse, PresentIsFalse, PlacedIsFalse, LeadIsFalse}
@@ -23,12 +22,6 @@ inside b p n h = grind (arith, nat_tests)
 
 outside : (b : List ℕ) (p n : ℕ) → fits b p n ≡ false → length b < p + n
 outside b p n h = grind (arith, nat_tests)
-
-same : (m n : ℕ) → not (m == n) ≡ false → m ≡ n
-same m n h = grind (arith, nat_tests)
-
-differ : (m n : ℕ) → (m == n) ≡ false → m ≢ n
-differ m n h = λ e. absurd (grind (arith, nat_tests))
 
 misaligned : (c : Checks) (p align : ℕ) → is_aligned c p align ≡ false → IsMisaligned c p align
 unfolding is_aligned
@@ -46,13 +39,6 @@ some_vtable b t h = grind (arith, nat_tests)
 
 bad_size : (n : ℕ) → ((n % 2 == 0) && nat_le 4 n) ≡ false → (n % 2 ≢ 0) ⊎ (n < 4)
 bad_size n h = grind (arith, nat_tests)
-
-many_misaligned : (c : Checks) (n p align : ℕ) → ((n == 0) || is_aligned c p align) ≡ false → (0 < n) × IsMisaligned c p align
-unfolding is_aligned
-many_misaligned c n p align h = search (rules, tests)
-
-not_required : (x : Bool) → not x ≡ false → x ≡ true
-not_required x h = grind (arith, nat_tests)
 
 -- This holds of the reason and position that a chain finds, if it finds any.
 pub record Tells (P : Reason → ℕ → Type 0) (x : Option Failure) : Type 0 where
@@ -84,25 +70,16 @@ module _ {P : Reason → ℕ → Type 0} where
 
 prefix_false : (b : List ℕ) (start : Start) → Tells (PrefixIsFalse b start) (prefix_failure b start)
 unfolding prefix_failure
-prefix_false b Bare = nothing
-prefix_false b Prefixed =
-    test _ OutOfBuffer 0 _ _ (λ wrong. (refl, outside b 0 4 wrong))
-    (λ right. last _ WrongPrefix 0 _ (λ wrong. (refl, inside b 0 4 right, differ (word b 0 4 + 4) (length b) wrong)))
+prefix_false b start = record { told = λ e h. grind (arith, nat_tests) }
 
 ident_false : (b : List ℕ) (p : ℕ) (ident : Ident) → Tells (IdentIsFalse b p ident) (ident_failure b p ident)
 unfolding ident_failure
-ident_false b p Any = nothing
-ident_false b p (Want name) =
-    test _ OutOfBuffer p _ _ (λ wrong. (refl, outside b p 4 wrong))
-    (λ right. last _ WrongIdentifier p _ (λ wrong. (refl, inside b p 4 right, differ (word b p 4) (word name 0 4) wrong)))
+ident_false b p ident = record { told = λ e h. grind (arith, nat_tests) }
 
 module _ (c : Checks) (b : List ℕ) where
   offset_false : (p : ℕ) → Tells (OffsetIsFalse c b p) (offset_failure c b p)
   unfolding offset_failure
-  offset_false p =
-      test _ OutOfBuffer p _ _ (λ wrong. (refl, outside b p 4 wrong))
-      (λ right. test _ Misaligned p _ _ (λ wrong. (refl, inside b p 4 right, misaligned c p 4 wrong))
-      (λ _. last _ ZeroOffset p _ (λ wrong. (refl, inside b p 4 right, same (word b p 4) 0 wrong))))
+  offset_false p = record { told = λ e h. grind (arith, nat_tests, misaligned) }
 
   pub head_false : (t : ℕ) → Tells (HeadIsFalse c b t) (head_failure c b t)
   unfolding head_failure
@@ -117,31 +94,19 @@ module _ (c : Checks) (b : List ℕ) where
 
   string_false : (s : ℕ) → Tells (StringIsFalse c b s) (string_failure c b s)
   unfolding string_failure
-  string_false s =
-      let n = word b s 4 in
-      test _ OutOfBuffer s _ _ (λ wrong. inl (refl, outside b s 4 wrong))
-      (λ count. test _ Misaligned s _ _ (λ wrong. (refl, inside b s 4 count, misaligned c s 4 wrong))
-      (λ _. test _ OutOfBuffer (s + 4) _ _ (λ wrong. inr (refl, outside b (s + 4) (n + 1) wrong))
-      (λ all. last _ NoTerminator (s + 4 + n) _ (λ wrong. (refl, inside b (s + 4) (n + 1) all, differ (word b (s + 4 + n) 1) 0 wrong)))))
+  string_false s = record { told = λ e h. grind (arith, nat_tests, misaligned) }
 
   vector_false : (v size align : ℕ) → Tells (VectorIsFalse c b v size align) (vector_failure c b v size align)
   unfolding vector_failure
-  vector_false v size align =
-      let n = word b v 4 in
-      test _ OutOfBuffer v _ _ (λ wrong. inl (refl, outside b v 4 wrong))
-      (λ count. test _ Misaligned v _ _ (λ wrong. inl (refl, inside b v 4 count, misaligned c v 4 wrong))
-      (λ _. test _ OutOfBuffer (v + 4) _ _ (λ wrong. inr (refl, outside b (v + 4) (n * size) wrong))
-      (λ all. last _ Misaligned (v + 4) _ (λ wrong. let many = many_misaligned c n (v + 4) align wrong in inr (refl, inside b (v + 4) (n * size) all, many.0, many.1)))))
+  vector_false v size align = record { told = λ e h. grind (arith, nat_tests, misaligned) }
 
   inline_false : (p size align : ℕ) → Tells (InlineIsFalse c b p size align) (inline_failure c b p size align)
   unfolding inline_failure
-  inline_false p size align =
-      test _ OutOfBuffer p _ _ (λ wrong. (refl, outside b p size wrong))
-      (λ right. last _ Misaligned p _ (λ wrong. (refl, inside b p size right, misaligned c p align wrong)))
+  inline_false p size align = record { told = λ e h. grind (arith, nat_tests, misaligned) }
 
   past_false : (t p n : ℕ) → Tells (PastIsFalse c b t p n) (table_failure c b t p n)
   unfolding table_failure
-  past_false t p n = last _ PastTable p _ (λ wrong. let r = past c b t p n wrong in (refl, r.0, r.1))
+  past_false t p n = record { told = λ e h. grind (arith, nat_tests, past) }
 
   -- Fields.
 
@@ -152,7 +117,7 @@ module _ (c : Checks) (b : List ℕ) where
   vector_field_false t p size align = first (past_false t p 4) (λ _. first (offset_false p) (λ good. later _ _ (given ((offset_none c b p).0 good) (vector_false (target b p) size align))))
 
   unions_field_false : (t p : ℕ) (types : Option ℕ) → Tells (λ reason at. VectorFieldIsFalse c b t p 4 4 reason at ⊎ CountIsFalse b p types reason at) (unions_field_failure c b t p types)
-  unions_field_false t p types = first (vector_field_false t p 4 4) (λ _. later _ _ (last _ LengthsDiffer (target b p) _ (λ wrong. (refl, differ (word b (target b p) 4) (type_count b types) wrong))))
+  unions_field_false t p types = first (vector_field_false t p 4 4) (λ _. later _ _ (last _ LengthsDiffer (target b p) _ (λ wrong. grind (arith, nat_tests))))
 
   union_field_false : (t p : ℕ) (member : Option Kind) → Tells (PastIsFalse c b t p 4) (union_field_failure c b t p member)
   union_field_false t p None = nothing
@@ -167,7 +132,7 @@ module _ (c : Checks) (b : List ℕ) where
     present_false p kind = search fields
 
     placed_false : (place : Option ℕ) → Tells (PlacedIsFalse c b t g place) (failure_at c b S t g place)
-    placed_false None = last _ MissingRequired t _ (λ wrong. (refl, not_required g.required wrong))
+    placed_false None = last _ MissingRequired t _ (λ wrong. grind (arith, nat_tests))
     placed_false (Some p) = present_false p g.kind
 
     pub own_false : Tells (PlacedIsFalse c b t g (field_place b t g.slot)) (own_failure c b S t g)
