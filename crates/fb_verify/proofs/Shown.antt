@@ -3,7 +3,9 @@ use Rattle.std.proofs.Common.{◌≡◌, ℕ, List, take, refl, rules, None, Som
 use Rattle.std.specs.Prelude.{slice_get}
 use Rattle.fb_bytes.specs.Word.{word}
 use Rattle.fb_schema.specs.{Rows.Rows, Live.Live, Live.live_fields, Kinds.shape_of, Kinds.kind_of, Kinds.base_types, Members.member_of}
-use Rattle.fb_verify.specs.declared.checks.Checks.{Checks}
+use Rattle.fb_verify.specs.declared.{checks.Checks.Checks, start.Start.Start, start.Ident.Ident}
+use Rattle.fb_verify.specs.Facts.{IsTable, IsOffset, IsString, IsInline}
+use Rattle.fb_verify.specs.WellFormed.{IsStart}
 use Rattle.fb_verify.specs.Places.{is_aligned, has_vtable, vtable, field_place, ends_in_table}
 use Rattle.fb_verify.specs.Fields.{IsField, Entry, entries, row, union_row}
 use Rattle.fb_verify.specs.Tree.{Kids, Elements, size, depth, kids_length, elements_length}
@@ -17,11 +19,35 @@ use Rattle.fb_verify.proofs.Chains.{start_none, head_none, own_none, offset_none
 
 -- all that is computed
 unfoldable pub computing : ℕ
-unfolding word live_fields kind_of shape_of base_types member_of is_aligned has_vtable vtable field_place ends_in_table entries row union_row size depth Unfolds own_reads tree_cost own_failure element_failure start_failure prefix_failure ident_failure head_failure offset_failure string_failure vector_failure inline_failure table_failure IsField IsTrail fault_at kids_length elements_length
+unfolding word live_fields kind_of shape_of base_types member_of is_aligned has_vtable vtable field_place ends_in_table entries row union_row size depth Unfolds own_reads tree_cost own_failure element_failure start_failure prefix_failure ident_failure head_failure offset_failure string_failure vector_failure inline_failure table_failure IsTrail fault_at kids_length elements_length
 computing = 0
 
+-- with the facts of fields
+unfoldable pub showing : ℕ
+unfolding computing IsField
+showing = 0
+
 -- a chain that finds nothing tells the facts
-pub ruleset shown = (rules, start_none, head_none, own_none, offset_none, string_none, inline_none)
+
+pub start : {c : Checks} {b : List ℕ} {s : Start} {i : Ident} → start_failure c b s i ≡ None → IsStart c b s i
+start {c} {b} {s} {i} h = (start_none c b s i).0 h
+
+pub head : {c : Checks} {b : List ℕ} {t : ℕ} → head_failure c b t ≡ None → IsTable c b t
+head {c} {b} {t} h = (head_none c b t).0 h
+
+pub own : (c : Checks) (b : List ℕ) (S : Rows) (t : ℕ) (f : Live) → own_failure c b S t f ≡ None → IsField c b S t f
+own c b S t f h = (own_none c b S t f).0 h
+
+pub offset : {c : Checks} {b : List ℕ} {p : ℕ} → offset_failure c b p ≡ None → IsOffset c b p
+offset {c} {b} {p} h = (offset_none c b p).0 h
+
+pub string : {c : Checks} {b : List ℕ} {s : ℕ} → string_failure c b s ≡ None → IsString c b s
+string {c} {b} {s} h = (string_none c b s).0 h
+
+pub inline : {c : Checks} {b : List ℕ} {p n a : ℕ} → inline_failure c b p n a ≡ None → IsInline c b p n a
+inline {c} {b} {p} {n} {a} h = (inline_none c b p n a).0 h
+
+pub ruleset shown = (rules, start, head, own, offset, string, inline)
 
 -- a trail goes on past fields of a table, and past elements of a field
 
@@ -36,83 +62,83 @@ among h passed next = record { own = (own_none _ _ _ _ _).0 h; passed = passed; 
 -- trees
 
 pub monster_unfolds : MonsterUnfolds
-unfolding computing
+unfolding showing
 monster_unfolds = search shown
 
 pub one_member_unfolds : OneMemberUnfolds
-unfolding computing
+unfolding showing
 one_member_unfolds = search shown
 
 pub two_members_unfold : TwoMembersUnfold
-unfolding computing
+unfolding showing
 two_members_unfold = search shown
 
 last_unfolds : Unfolds last published_checks shared nodes 0 40
-unfolding computing
+unfolding showing
 last_unfolds = search shown
 
 middle_unfolds : Unfolds middle published_checks shared nodes 0 28
-unfolding computing
+unfolding showing
 middle_unfolds = search shown
 
 pub every_kind_unfolds : EveryKindUnfolds
-unfolding computing
+unfolding showing
 every_kind_unfolds = search shown
 
 -- faults
 
 pub open_name_stops : OpenNameStops
-unfolding computing
+unfolding showing
 open_name_stops = (search shown, (_, past refl (search shown) refl, (_, among refl tt refl, search rules)))
 
 pub no_name_stops : NoNameStops
-unfolding computing
+unfolding showing
 no_name_stops = (search shown, (_, past refl (search shown) refl, (_, among refl tt refl, search rules)))
 
 pub three_values_stop : ThreeValuesStop
-unfolding computing
+unfolding showing
 three_values_stop = (search shown, (_, past refl (search shown) refl, search rules))
 
 pub crooked_struct_stops : CrookedStructStops
-unfolding computing
+unfolding showing
 crooked_struct_stops = (search shown, (_, past refl (search shown) refl, (_, among refl tt refl, search rules)))
 
 pub seventh_table_stops : SeventhTableStops
-unfolding computing
+unfolding showing
 seventh_table_stops =
     (search shown, (_, past refl (search (shown, middle_unfolds)) refl, (_, among refl tt refl, (_, refl, search shown, (_, past refl (search (shown, last_unfolds)) refl, (_, among refl tt refl, (_, refl, search shown, search rules)))))))
 
 pub third_level_stops : ThirdLevelStops
-unfolding computing
+unfolding showing
 third_level_stops =
     (search shown, (_, past refl tt refl, (_, among refl tt refl, (_, refl, search shown, (_, past refl tt refl, (_, among refl tt refl, (_, refl, search shown, search rules)))))))
 
 pub odd_vtable_stops : OddVtableStops
-unfolding computing
+unfolding showing
 odd_vtable_stops = (search shown, (_, past refl (search shown) refl, (_, among refl tt refl, (_, refl, search shown, search rules))))
 
 pub short_table_stops : ShortTableStops
-unfolding computing
+unfolding showing
 short_table_stops = (search shown, (_, past refl tt refl, search rules))
 
 pub first_read_stops : FirstReadStops
-unfolding computing
+unfolding showing
 first_read_stops = search rules
 
 pub last_text_stops : LastTextStops
-unfolding computing
+unfolding showing
 last_text_stops = (search shown, (_, past refl (search shown) refl, (_, among refl tt refl, search rules)))
 
 pub seventh_head_stops : SeventhHeadStops
-unfolding computing
+unfolding showing
 seventh_head_stops =
     (search shown, (_, past refl (search (shown, middle_unfolds)) refl, (_, among refl tt refl, (_, refl, search shown, (_, past refl (search (shown, last_unfolds)) refl, (_, among refl tt refl, (_, refl, search shown, search rules)))))))
 
 pub last_field_stops : LastFieldStops
-unfolding computing
+unfolding showing
 last_field_stops =
     (search shown, (_, past refl (search shown) refl, (_, among refl tt refl, (_, refl, search shown, (_, past refl tt refl, search rules)))))
 
 pub budgets_by_length : BudgetsByLength
-unfolding computing
+unfolding showing
 budgets_by_length = search rules

@@ -7,11 +7,11 @@ use Rattle.fb_verify.specs.Links.{links_of, links_in_field, links_in_element}
 use Rattle.fb_verify.specs.Samples.{published_checks}
 use Rattle.fb_verify.specs.Examples.{kids_of, one_field}
 use Rattle.fb_verify.specs.LinkExamples.{herds, crooked_third, nameless_third, LinksFound}
-use Rattle.fb_verify.proofs.Shown.{computing, shown, past, among}
+use Rattle.fb_verify.proofs.Shown.{showing, shown, past, among}
 
 -- all that is computed
 unfoldable linking : ℕ
-unfolding computing links_of links_in_field links_in_element
+unfolding showing links_of links_in_field links_in_element
 linking = 0
 
 -- the table at 60, which the list has twice
