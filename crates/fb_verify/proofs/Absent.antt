@@ -1,7 +1,6 @@
 -- Fields behind the end of a table's vtable, of which none is required: they are passed without a read.
-use Rattle.std.proofs.Common.{◌≡◌, ℕ, zero, suc, ◌+◌, ◌-◌, ◌<◌, ◌≤◌, inl, inr, Bool, true, false, nat_le, nat_lt, List, [], ◌∷◌, map, length, get_or, drop, option_map, cond, length-drop, refl, sym, ◌∙◌, ap, subst, arith, Some, None}
+use Rattle.std.proofs.Common.{◌≡◌, ℕ, zero, suc, ◌+◌, ◌-◌, ◌<◌, ◌≤◌, Bool, true, false, nat_le, nat_lt, List, [], ◌∷◌, map, length, get_or, drop, option_map, cond, length-drop, refl, sym, ◌∙◌, ap, subst, arith, Some, None}
 use Rattle.std.specs.Prelude.{slice_get}
-use Rattle.std.proofs.Math.Nat.{eq-or-lt_of_le}
 use Rattle.std.proofs.lemmas.Bool.Decides.{nat_tests}
 use Rattle.std.proofs.lemmas.Option.{slice_get-get_or, slice_get_within, get_or_from_slice_get}
 use Rattle.std.proofs.lemmas.List.{get_or-drop}
@@ -9,13 +8,10 @@ use Rattle.std.proofs.lemmas.List.Sums.{passes_at_first, fails_before_first, sum
 use Rattle.std.specs.List.{All, position_or_len}
 use Rattle.std.proofs.lemmas.List.Elements.{All-cons, All-nil}
 use Rattle.fb_schema.specs.declared.views.Step.{Step}
-use Rattle.fb_schema.specs.Steps.{step_of}
+use Rattle.fb_schema.specs.{Steps.step_of, Rows.Rows, Live.Live, Live.live_fields, Live.next_required, Live.next_required_of}
 use Rattle.fb_verify.specs.Plain.{plain_failure, plain_reads, StepsHold, steps_reads}
 use Rattle.fb_verify.proofs.Plains.{step_at}
-use Rattle.fb_schema.specs.Rows.{Rows}
-use Rattle.fb_schema.specs.Live.{Live, live_fields, next_required, next_required_of}
-use Rattle.fb_verify.specs.declared.checks.Checks.{Checks}
-use Rattle.fb_verify.specs.declared.scratch.Frame.{Frame}
+use Rattle.fb_verify.specs.declared.{checks.Checks.Checks, scratch.Frame.Frame}
 use Rattle.fb_verify.specs.Bounds.{Bounds}
 use Rattle.fb_verify.specs.Places.{has_slot, field_place, vtable_size}
 use Rattle.fb_verify.specs.Fields.{entries}
@@ -42,16 +38,10 @@ free_until : (fs : List Live) (i j : ℕ) (f : Live) → i ≤ j → j < i + fir
 free_until fs i j f low lt at = ap is_required (sym (item_at fs i j f low at)) ∙ fails_before_first is_required (drop i fs) (j - i) f (omega (arith, lt, low))
 
 none_past : (p n i : ℕ) → option_map (λ j. i + j) (cond (nat_lt p n) (Some p) None) ≡ None → n ≤ p
-none_past p n i e = go (nat_lt p n) refl e where
-  go : (b : Bool) → nat_lt p n ≡ b → option_map (λ j. i + j) (cond b (Some p) None) ≡ None → n ≤ p
-  go true x e = absurd cc
-  go false x e = grind (arith, nat_tests)
+none_past p n i e = grind (arith, nat_tests)
 
 some_past : (p n i place : ℕ) → option_map (λ j. i + j) (cond (nat_lt p n) (Some p) None) ≡ Some place → (p < n) × (place ≡ i + p)
-some_past p n i place e = go (nat_lt p n) refl e where
-  go : (b : Bool) → nat_lt p n ≡ b → option_map (λ j. i + j) (cond b (Some p) None) ≡ Some place → (p < n) × (place ≡ i + p)
-  go true x e = (grind (arith, nat_tests), let w : Some (i + p) ≡ Some place = e in cc)
-  go false x e = absurd (let w : None ≡ Some place = e in cc)
+some_past p n i place e = grind (arith, nat_tests)
 
 none_free : (fs : List Live) (i : ℕ) → next_required_of fs i ≡ None → (j : ℕ) (f : Live) → i ≤ j → slice_get fs j ≡ Some f → f.required ≡ false
 none_free fs i none j f low at =
@@ -117,10 +107,7 @@ module _ {c : Checks} {b : List ℕ} {S : Rows} {L : Bounds} {s : Origin} {below
 
   module _ (rests : (top.row).left ≡ 0) (field : Live) (here : slice_get fields top.next ≡ Some field) (past : vtable_size b (top.table).at < field.slot + 2) where
     past_from : (i : ℕ) (f : Live) → top.next ≤ i → slice_get fields i ≡ Some f → field.slot ≤ f.slot
-    past_from i f low there = elim (eq-or-lt_of_le low) [
-      | inl same ↦ (let w : Some field ≡ Some f = sym here ∙ ap (slice_get fields) same ∙ there in let v : field ≡ f = cc in omega (arith, ap (λ (x : Live). x.slot) v))
-      | inr less ↦ omega (arith, (h.served).rising (top.table).object top.next i field f here there less)
-    ]
+    past_from i f low there = let less = (h.served).rising (top.table).object top.next i field f here there in grind arith
 
     -- a field behind it has no slot either
     pub no_slot_from : (i : ℕ) (f : Live) → top.next ≤ i → slice_get fields i ≡ Some f → has_slot b (top.table).at f.slot ≡ false

@@ -1,28 +1,24 @@
 -- What a budget of reads allows.
-use Rattle.std.proofs.Common.{◌≡◌, ◌↔◌, ℕ, ◌+◌, ◌*◌, ◌≤◌, false, arith, Option, Some, None}
+use Rattle.std.proofs.Common.{◌≡◌, ℕ, ◌+◌, ◌≤◌, false, arith, Option, Some, None}
 use Rattle.std.proofs.lemmas.Bool.Decides.{nat_tests}
-use Rattle.fb_verify.specs.Bounds.{AreAllowed, allowed, AreTooMany, lesser_budget}
+use Rattle.fb_verify.specs.Bounds.{AreAllowed, allowed, AreTooMany}
 use Rattle.fb_verify.specs.Laws.{LengthAllows}
 
 -- fewer reads are allowed too
 pub fewer_reads : (budget : Option ℕ) (m n : ℕ) → m ≤ n → AreAllowed budget n → AreAllowed budget m
-fewer_reads None m n l h = tt
-fewer_reads (Some most) m n l h = omega arith
+fewer_reads budget m n l h = grind arith
 
 -- no reads are always allowed
 pub no_reads : (budget : Option ℕ) → AreAllowed budget 0
-no_reads None = tt
-no_reads (Some most) = omega arith
+no_reads budget = grind arith
 
 -- reads that the test refuses are too many
 pub are_too_many : (budget : Option ℕ) (n : ℕ) → allowed budget n ≡ false → AreTooMany budget n
-are_too_many None n h = absurd cc
-are_too_many (Some most) n h = grind (arith, nat_tests)
+are_too_many budget n h = grind (arith, nat_tests)
 
 -- reads that aren't allowed
 pub not_both : (budget : Option ℕ) (m n : ℕ) → m ≤ n → AreAllowed budget n → AreTooMany budget m → ⊥
-not_both None m n l h t = t
-not_both (Some most) m n l h t = omega arith
+not_both budget m n l h t = grind arith
 
 -- no more than 7 reads past the budget, if there is one
 unfoldable pub IsNear : Option ℕ → ℕ → Type 0
@@ -31,18 +27,12 @@ IsNear (Some most) n = n ≤ most + 7
 
 pub near : (budget : Option ℕ) (m n : ℕ) → n ≤ m + 7 → AreAllowed budget m → IsNear budget n
 unfolding IsNear
-near None m n h r = tt
-near (Some most) m n h r = omega (arith, h, r)
+near budget m n h r = grind arith
 
 -- more reads are too many too
 pub more_reads : (budget : Option ℕ) (m n : ℕ) → m ≤ n → AreTooMany budget m → AreTooMany budget n
-more_reads None m n l t = t
-more_reads (Some most) m n l t = omega arith
+more_reads budget m n l t = grind arith
 
 -- the lesser of two budgets allows what both allow
-lesser_allows : (budget : Option ℕ) (fair n : ℕ) → (n ≤ lesser_budget budget fair) ↔ (AreAllowed budget n × (n ≤ fair))
-lesser_allows None fair n = (λ h. (tt, h), λ h. h.1)
-lesser_allows (Some most) fair n = (λ h. (omega (arith, h), omega (arith, h)), λ h. omega (arith, h))
-
 pub length_allows : LengthAllows
-length_allows L per_byte len n = lesser_allows L.reads (per_byte * len + 4096) n
+length_allows L per_byte len n = grind arith

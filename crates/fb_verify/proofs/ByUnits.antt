@@ -1,10 +1,8 @@
 -- What the tests of a unit find is told, and the budget is asked after them.
-use Rattle.std.proofs.Common.{◌≡◌, ℕ, ◌+◌, List, Result, Ok, Err, refl, sym, ◌∙◌, ap, subst, arith, Option, Some, None}
+use Rattle.std.proofs.Common.{◌≡◌, ℕ, ◌+◌, List, Result, Ok, Err, sym, ◌∙◌, ap, subst, arith, Option, Some, None}
 use Rattle.std.specs.Result.{IsErrAnd}
 use Rattle.fb_bytes.specs.Word.{Lent}
-use Rattle.fb_verify.specs.declared.fault.Reason.{Reason}
-use Rattle.fb_verify.specs.declared.site.Site.{Site}
-use Rattle.fb_verify.specs.declared.site.Stop.{Stop}
+use Rattle.fb_verify.specs.declared.{fault.Reason.Reason, site.Site.Site, site.Stop.Stop}
 use Rattle.fb_verify.specs.Bounds.{Bounds}
 use Rattle.fb_verify.specs.Order.{Failure, after, ◌▷◌}
 use Rattle.fb_verify.specs.Plain.{tested_by, IsTested}
@@ -14,15 +12,11 @@ use Rattle.fb_verify.proofs.Refusals.{told_after, told_first}
 
 -- a chain that finds nothing has no test that fails
 pub unfailed : (at k m : ℕ) (chain : Option Failure) (failed : Option Reason) → tested_by at k failed ≡ after m chain → chain ≡ None → failed ≡ None
-unfailed at k m None None h e = refl
-unfailed at k m None (Some r) h e = absurd cc
-unfailed at k m (Some x) failed h e = absurd cc
+unfailed at k m chain failed h e = grind arith
 
 -- and the other way round
 pub unfound : (at k m : ℕ) (chain : Option Failure) (failed : Option Reason) → tested_by at k failed ≡ after m chain → failed ≡ None → chain ≡ None
-unfound at k m None failed h e = refl
-unfound at k m (Some x) None h e = absurd cc
-unfound at k m (Some x) (Some r) h e = absurd cc
+unfound at k m chain failed h e = grind arith
 
 -- a test that fails is told at a site where so many reads were paid before
 pub tested_tells : (site : Site) (paid at k : ℕ) (x y : Option Failure) (reason : Reason) → tested_by at k (Some reason) ≡ after paid x

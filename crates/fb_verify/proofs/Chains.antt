@@ -1,33 +1,26 @@
 -- A chain of tests finds nothing exactly where the facts hold.
-use Rattle.std.proofs.Common.{◌≡◌, ◌↔◌, ℕ, ◌+◌, List, Option, Some, None, IsTrue, refl, sym, subst, rules, tests}
-use Rattle.fb_schema.specs.declared.kinds.Kind.{Kind}
-use Rattle.fb_schema.specs.declared.kinds.Kind.TheVariants.{Scalar, Text, Struct, Table, Union, Scalars, Texts, Structs, Tables, Unions}
-use Rattle.fb_schema.specs.Rows.{Rows}
-use Rattle.fb_schema.specs.Live.{Live}
-use Rattle.fb_schema.specs.Members.{member_of}
+use Rattle.std.proofs.Common.{◌≡◌, ◌↔◌, ℕ, List, Option, Some, None, IsTrue, refl, sym, subst, arith, rules, tests}
+use Rattle.fb_schema.specs.declared.kinds.Kind.{Kind, TheVariants.Union}
+use Rattle.fb_schema.specs.{Rows.Rows, Live.Live}
 use Rattle.fb_verify.specs.declared.checks.Checks.{Checks}
-use Rattle.fb_verify.specs.declared.start.Start.{Start}
-use Rattle.fb_verify.specs.declared.start.Start.TheVariants.{Bare, Prefixed}
-use Rattle.fb_verify.specs.declared.start.Ident.{Ident}
-use Rattle.fb_verify.specs.declared.start.Ident.TheVariants.{Any, Want}
-use Rattle.fb_verify.specs.Places.{target, field_place, ends_in_table}
+use Rattle.fb_verify.specs.declared.start.Start.{Start, TheVariants.Bare, TheVariants.Prefixed}
+use Rattle.fb_verify.specs.declared.start.Ident.{Ident, TheVariants.Any, TheVariants.Want}
+use Rattle.fb_verify.specs.Places.{ends_in_table}
 use Rattle.fb_verify.specs.Facts.{IsTable, IsOffset, IsString, IsVector, IsInline}
-use Rattle.fb_verify.specs.Fields.{IsInlineField, IsVectorField, IsUnionsField, IsUnionField, IsPresent, IsPresentOrAbsent, IsField, type_place, union_type, Lead, to_table, to_struct, to_string, to_nothing, Entry}
+use Rattle.fb_verify.specs.Fields.{IsInlineField, IsVectorField, IsUnionsField, IsUnionField, IsPresent, IsPresentOrAbsent, IsField, Lead, to_table, Entry}
 use Rattle.fb_verify.specs.Tree.{Element, leaf, table}
 use Rattle.fb_verify.specs.Unfolds.{ElementUnfolds}
-use Rattle.fb_verify.specs.WellFormed.{base, IsPrefixed, IsIdentified, IsStart}
+use Rattle.fb_verify.specs.WellFormed.{IsPrefixed, IsIdentified, IsStart}
 use Rattle.fb_verify.specs.Laws.{IsLead}
 use Rattle.fb_verify.specs.Order.{Failure, after, ◌▷◌, prefix_failure, ident_failure, offset_failure, start_failure, head_failure, string_failure, vector_failure, inline_failure, table_failure, inline_field_failure, vector_field_failure, unions_field_failure, union_field_failure, present_failure, failure_at, own_failure, lead_failure, element_failure}
 
 -- two chains, and a chain after some reads
 
 pub after_none : (n : ℕ) (x : Option Failure) → (after n x ≡ None) ↔ (x ≡ None)
-after_none n None = (λ h. refl, λ h. refl)
-after_none n (Some e) = (λ h. absurd (cc), λ h. absurd (cc))
+after_none n x = grind arith
 
 pub both_none : (x y : Option Failure) → (x ▷ y ≡ None) ↔ ((x ≡ None) × (y ≡ None))
-both_none None y = (λ h. (refl, h), λ h. h.1)
-both_none (Some e) y = (λ h. absurd (cc), λ h. absurd (let i = h.0 in cc))
+both_none x y = grind arith
 
 -- the chains of the parts
 
@@ -55,19 +48,8 @@ pub table_none : (c : Checks) (b : List ℕ) (t p n : ℕ) → (table_failure c 
 unfolding table_failure
 table_none c b t p n = search (rules, tests)
 
--- two chains in a row
-both : {A B : Type 0} (x y : Option Failure) → ((x ≡ None) ↔ A) → ((y ≡ None) ↔ B) → (x ▷ y ≡ None) ↔ (A × B)
-both x y h g =
-    let o = both_none x y in
-    (λ e. let p = o.0 e in (h.0 p.0, g.0 p.1), λ p. o.1 (h.1 p.0, g.1 p.1))
-
--- a chain after some reads
-later : {A : Type 0} (n : ℕ) (x : Option Failure) → ((x ≡ None) ↔ A) → (after n x ≡ None) ↔ A
-later n x h = let o = after_none n x in (λ e. h.0 (o.0 e), λ a. o.1 (h.1 a))
-
--- the facts of a record, in its order
-as_record : {X A R : Type 0} → (X ↔ A) → (A → R) → (R → A) → X ↔ R
-as_record h to from = (λ x. to (h.0 x), λ r. h.1 (from r))
+-- what tells of chains in a row
+ruleset chains = (rules, both_none, after_none, offset_none, string_none, vector_none, inline_none, table_none)
 
 -- the start
 
@@ -83,52 +65,29 @@ ident_none b p (Want name) = search (rules, tests)
 
 pub start_none : (c : Checks) (b : List ℕ) (start : Start) (ident : Ident) → (start_failure c b start ident ≡ None) ↔ IsStart c b start ident
 unfolding start_failure
-start_none c b start ident =
-    as_record
-    (both _ _ (prefix_none b start) (later _ _ (both _ _ (ident_none b (base start + 4) ident) (later _ _ (offset_none c b (base start))))))
-    (λ p. record { prefixed = p.0; identified = p.1.0; offset = p.1.1 })
-    (λ r. (r.prefixed, (r.identified, r.offset)))
+start_none c b start ident = search (chains, prefix_none, ident_none)
 
 -- fields
 
 module _ (c : Checks) (b : List ℕ) where
   inline_field_none : (t p size align : ℕ) → (inline_field_failure c b t p size align ≡ None) ↔ IsInlineField c b t p size align
-  inline_field_none t p size align =
-      as_record
-      (both _ _ (table_none c b t p size) (inline_none c b p size align))
-      (λ h. record { in_table = h.0; value = h.1 })
-      (λ r. (r.in_table, r.value))
+  inline_field_none t p size align = search chains
 
   vector_field_none : (t p size align : ℕ) → (vector_field_failure c b t p size align ≡ None) ↔ IsVectorField c b t p size align
-  vector_field_none t p size align =
-      as_record
-      (both _ _ (table_none c b t p 4) (both _ _ (offset_none c b p) (later 1 _ (vector_none c b (target b p) size align))))
-      (λ h. record { in_table = h.0; offset = h.1.0; vector = h.1.1 })
-      (λ r. (r.in_table, (r.offset, r.vector)))
+  vector_field_none t p size align = search chains
 
   unions_field_none : (t p : ℕ) (types : Option ℕ) → (unions_field_failure c b t p types ≡ None) ↔ IsUnionsField c b t p types
-  unions_field_none t p types =
-      as_record
-      (both _ _ (vector_field_none t p 4 4) (later 2 _ (search (rules, tests))))
-      (λ h. record { field = h.0; counts_agree = h.1 })
-      (λ r. (r.field, r.counts_agree))
+  unions_field_none t p types = search (chains, tests, vector_field_none)
 
   union_field_none : (t p : ℕ) (member : Option Kind) → (union_field_failure c b t p member ≡ None) ↔ IsUnionField c b t p member
-  union_field_none t p None = (λ _. tt, λ _. refl)
-  union_field_none t p (Some member) = table_none c b t p 4
+  union_field_none t p member = grind (arith, table_none)
+
+  ruleset fields = (chains, inline_field_none, vector_field_none, unions_field_none, union_field_none)
 
   module _ (S : Rows) (t : ℕ) (f : Live) where
     present_none : (p : ℕ) (kind : Kind) → (present_failure c b S t f p kind ≡ None) ↔ IsPresent c b S t f p kind
-    present_none p (Scalar s) = inline_field_none t p f.size f.align
-    present_none p (Struct k) = inline_field_none t p f.size f.align
-    present_none p Text = table_none c b t p 4
-    present_none p (Table k) = table_none c b t p 4
-    present_none p (Union e) = later _ _ (union_field_none t p (member_of S e (union_type b (type_place b t f.slot))))
-    present_none p (Scalars s) = vector_field_none t p f.size f.align
-    present_none p (Structs k) = vector_field_none t p f.size f.align
-    present_none p Texts = vector_field_none t p 4 4
-    present_none p (Tables k) = vector_field_none t p 4 4
-    present_none p (Unions e) = later _ _ (unions_field_none t p (type_place b t f.slot))
+    present_none p (Union e) = search fields
+    present_none p kind = search fields
 
     at_none : (place : Option ℕ) → (failure_at c b S t f place ≡ None) ↔ IsPresentOrAbsent c b S t f place
     at_none None = search (rules, tests)
@@ -136,31 +95,23 @@ module _ (c : Checks) (b : List ℕ) where
 
     pub own_none : (own_failure c b S t f ≡ None) ↔ IsField c b S t f
     unfolding own_failure IsField
-    own_none = later _ _ (at_none (field_place b t f.slot))
+    own_none = search (chains, at_none)
 
 -- elements
 
 lead_none : (c : Checks) (b : List ℕ) (p : ℕ) (lead : Lead) → (lead_failure c b p lead ≡ None) ↔ IsLead c b p lead
 lead_none c b p (to_table k) = offset_none c b p
-lead_none c b p (to_struct size align) = both _ _ (offset_none c b p) (later 1 _ (inline_none c b (target b p) size align))
-lead_none c b p to_string = both _ _ (offset_none c b p) (later 1 _ (string_none c b (target b p)))
-lead_none c b p to_nothing = (λ _. tt, λ _. refl)
+lead_none c b p lead = search chains
 
 pub element_none : (c : Checks) (b : List ℕ) (x : Entry) → (element_failure c b x ≡ None) ↔ IsLead c b x.place x.lead
 unfolding element_failure
-element_none c b x = later _ _ (lead_none c b x.place x.lead)
+element_none c b x = search (chains, lead_none)
 
 -- what an element unfolds into holds of it by itself
 unfolds_lead : (c : Checks) (b : List ℕ) (S : Rows) (y : Element) (p : ℕ) (lead : Lead) → ElementUnfolds y c b S p lead → IsLead c b p lead
 unfolding ElementUnfolds
-unfolds_lead c b S leaf p (to_table k) h = absurd h
-unfolds_lead c b S leaf p (to_struct size align) h = h
-unfolds_lead c b S leaf p to_string h = h
-unfolds_lead c b S leaf p to_nothing h = tt
-unfolds_lead c b S (table y) p (to_table k) h = h.0
-unfolds_lead c b S (table y) p (to_struct size align) h = absurd h
-unfolds_lead c b S (table y) p to_string h = absurd h
-unfolds_lead c b S (table y) p to_nothing h = absurd h
+unfolds_lead c b S leaf p lead h = grind arith
+unfolds_lead c b S (table y) p lead h = grind arith
 
 -- an element that unfolds into anything passes its tests
 pub element_passes : (c : Checks) (b : List ℕ) (S : Rows) (x : Entry) (y : Element) → ElementUnfolds y c b S x.place x.lead → element_failure c b x ≡ None

@@ -1,15 +1,9 @@
 -- The walk stands at an offset word that leads to a table, and goes on in that table.
 use Rattle.std.proofs.Common.{◌≡◌, ℕ, ◌+◌, ◌*◌, ◌<◌, ◌≤◌, max, List, [], ◌∷◌, ◌++◌, length, ◌∙◌, ap, arith, Some, None}
-use Rattle.fb_schema.specs.Rows.{Rows}
-use Rattle.fb_schema.specs.Live.{live_fields}
-use Rattle.fb_verify.specs.declared.checks.Checks.{Checks}
-use Rattle.fb_verify.specs.declared.table.Child.{Child}
-use Rattle.fb_verify.specs.declared.fault.Fault.{Fault}
-use Rattle.fb_verify.specs.declared.table.Table.{Table}
-use Rattle.fb_verify.specs.declared.offset_row.Row.{Row}
-use Rattle.fb_verify.specs.declared.scratch.Frame.{Frame}
-use Rattle.fb_verify.specs.declared.site.Site.{Site}
-use Rattle.fb_verify.specs.declared.stack.Walk.{Walk}
+use Rattle.std.proofs.lemmas.List.Sums.{sum_by_push}
+use Rattle.fb_schema.specs.{Rows.Rows, Live.live_fields}
+use Rattle.fb_verify.specs.declared.{checks.Checks.Checks, table.Child.Child, fault.Fault.Fault, table.Table.Table, offset_row.Row.Row, scratch.Frame.Frame}
+use Rattle.fb_verify.specs.declared.{site.Site.Site, stack.Walk.Walk}
 use Rattle.fb_verify.specs.Bounds.{Bounds, AreAllowed}
 use Rattle.fb_verify.specs.Cost.{head_reads}
 use Rattle.fb_verify.specs.Order.{◌▷◌, head_failure}
@@ -19,7 +13,7 @@ use Rattle.fb_verify.specs.Stops.{budget_failure, reads_failure}
 use Rattle.fb_verify.specs.Told.{told, way_at, IsHead}
 use Rattle.fb_verify.proofs.Frames.{first_few}
 use Rattle.fb_verify.proofs.Stopping.{table_stops}
-use Rattle.fb_verify.proofs.Walking.{table_opened, open_work, lead_work, close_work}
+use Rattle.fb_verify.proofs.Walking.{table_opened, open_work}
 
 -- Offset words that were passed leave less work.
 module _ (S : Rows) (L : Bounds) (below : List Frame) (old new : Frame) (n r q : ℕ) (same : new ≡ record old { row = new.row }) (paid : q + 4 * (new.row).left ≤ r + 4 * (old.row).left) where
@@ -86,14 +80,6 @@ module _ {w : Walk} {b : List ℕ} {q : ℕ} {s : Origin} {below : List Frame} {
       pub child_work : q + head_reads c + work S L (below ++ top_on ∷ []) (opened table) (w.tables + 1) < o.before + work S L below top w.tables
       child_work = open_work o.walking row q re o.more o.holds o.count m child.object table mi o.leads object_is (at_is ∙ o.at) head_holds fewer shallow low
 
-      -- it goes on to a field that leads on
-      pub child_leads : (last : Frame) (u : ℕ) → u + frame_work S last ≤ q + head_reads c + frame_work S (opened table) → u + work S L (below ++ top_on ∷ []) last (w.tables + 1) < o.before + work S L below top w.tables
-      child_leads last u f = lead_work o.walking row q re o.more o.holds o.count m child.object table mi o.leads object_is (at_is ∙ o.at) head_holds fewer shallow low last u f
-
-      -- or is walked to its end
-      pub child_closes : (u : ℕ) → u ≤ q + head_reads c + frame_work S (opened table) → u + work S L below top_on (w.tables + 1) < o.before + work S L below top w.tables
-      child_closes u f = close_work o.walking row q re o.more o.holds o.count m child.object table mi o.leads object_is (at_is ∙ o.at) head_holds fewer shallow low u f
-
 -- The same from where the words before it were passed.
 module _ {w : Walk} {S : Rows} {L : Bounds} (schema : w.schema.now ≡ S) (limits : w.limits ≡ L) {b : List ℕ} {q : ℕ} (r : ℕ) {s : Origin} {below : List Frame} (old : Frame) {top : Frame} {child : Child}
     (same : top ≡ record old { row = top.row }) (fewer : (top.row).left ≤ (old.row).left) (o : IsAtTable w b q s below top (r + 4 * (old.row).left) child)
@@ -110,9 +96,11 @@ module _ {w : Walk} {S : Rows} {L : Bounds} (schema : w.schema.now ≡ S) (limit
   opening_falls = omega (arith, passed, child_work o m mi row re table is ok tables shallow low)
 
   pub leading_falls : (last : Frame) (u : ℕ) → u + frame_work w.schema.now last ≤ q + head_reads w.checks + frame_work w.schema.now (opened table) → u + work S L (below ++ waits ∷ []) last (w.tables + 1) < r + work S L below old w.tables
+  unfolding work
   leading_falls last u f =
-      omega (arith, passed, child_leads o m mi row re table is ok tables shallow low last u f, same_work w.schema.now S w.limits L schema limits (below ++ waits ∷ []) last (w.tables + 1))
+      omega (arith, f, passed, child_work o m mi row re table is ok tables shallow low, same_work w.schema.now S w.limits L schema limits (below ++ waits ∷ []) last (w.tables + 1))
 
   pub closing_falls : (u : ℕ) → u ≤ q + head_reads w.checks + frame_work w.schema.now (opened table) → u + work S L below waits (w.tables + 1) < r + work S L below old w.tables
+  unfolding work
   closing_falls u f =
-      omega (arith, passed, child_closes o m mi row re table is ok tables shallow low u f, same_work w.schema.now S w.limits L schema limits below waits (w.tables + 1))
+      omega (arith, f, passed, child_work o m mi row re table is ok tables shallow low, sum_by_push (frame_work w.schema.now) below waits, same_work w.schema.now S w.limits L schema limits below waits (w.tables + 1))

@@ -1,5 +1,5 @@
 -- What frames keep, and what work is left to them.
-use Rattle.std.proofs.Common.{◌≡◌, ℕ, ◌+◌, ◌*◌, ◌^◌, ◌<◌, ◌≤◌, IsTrue, List, length, map, option_map, sym, ◌∙◌, ap, subst, arith, Option, Some, None, Result, Ok, Err, IfErr}
+use Rattle.std.proofs.Common.{◌≡◌, ℕ, ◌+◌, ◌*◌, ◌^◌, ◌<◌, ◌≤◌, IsTrue, List, length, map, option_map, sym, ◌∙◌, ap, subst, arith, Option, Some, Result, Ok, Err, IfErr}
 use Rattle.std.specs.Prelude.{slice_get}
 use Rattle.std.specs.Result.{IsErrAnd}
 use Rattle.std.specs.Borrow.{Bor}
@@ -7,21 +7,12 @@ use Rattle.std.specs.Slice.{IsItemAt}
 use Rattle.std.proofs.lemmas.List.{length-map}
 use Rattle.std.proofs.lemmas.Option.{slice_get-get_or, slice_get-map, slice_get_within}
 use Rattle.fb_schema.specs.declared.kinds.Kind.{Kind}
-use Rattle.fb_schema.specs.declared.kinds.Kind.TheVariants.{Scalar, Text, Struct, Table, Union, Scalars, Texts, Structs, Tables, Unions}
-use Rattle.fb_schema.specs.Rows.{Rows, is_table}
-use Rattle.fb_schema.specs.Live.{Live, live_fields}
-use Rattle.fb_schema.specs.Served.{IsServed}
-use Rattle.fb_verify.specs.declared.checks.Checks.{Checks}
-use Rattle.fb_verify.specs.declared.table.Table.{Table as TableOf}
-use Rattle.fb_verify.specs.declared.offset_row.Leads.{Leads}
-use Rattle.fb_verify.specs.declared.offset_row.Leads.TheVariants.{All, ByType}
-use Rattle.fb_verify.specs.declared.offset_row.Row.{Row}
-use Rattle.fb_verify.specs.declared.scratch.Frame.{Frame}
-use Rattle.fb_verify.specs.Cost.{head_reads, slot_reads, reads_if_present, present_reads, reads_at, own_reads, lead_reads}
-use Rattle.fb_verify.specs.Places.{field_place}
-use Rattle.fb_verify.specs.Fields.{Lead, to_table, to_struct, to_string, to_nothing, type_place}
+use Rattle.fb_schema.specs.{Rows.Rows, Rows.is_table, Live.Live, Live.live_fields, Served.IsServed}
+use Rattle.fb_verify.specs.declared.{checks.Checks.Checks, table.Table.Table as TableOf, offset_row.Row.Row, scratch.Frame.Frame}
+use Rattle.fb_verify.specs.Cost.{head_reads, slot_reads, reads_if_present, present_reads, own_reads, lead_reads}
+use Rattle.fb_verify.specs.Fields.{Lead}
 use Rattle.fb_verify.specs.Told.{IsHead}
-use Rattle.fb_verify.specs.OffsetRows.{first_word, word_at, past_first, IsRow, AreLeads, AreTypesNear}
+use Rattle.fb_verify.specs.OffsetRows.{first_word, past_first, IsRow, AreTypesNear}
 use Rattle.fb_verify.specs.Stack.{blank, opened, IsFrame, frame_work}
 use Rattle.fb_verify.proofs.Words.{row_on}
 
@@ -33,47 +24,26 @@ if_err_exit (Err e) x P h p = subst P (sym h) p
 -- Reads are few.
 
 pub lead_few : (lead : Lead) → lead_reads lead ≤ 3
-lead_few (to_table k) = omega arith
-lead_few (to_struct size align) = omega arith
-lead_few to_string = omega arith
-lead_few to_nothing = omega arith
-
-word_few : (b : List ℕ) (S : Rows) (leads : Leads) (p : ℕ) → (word_at b S leads p).reads + lead_reads (word_at b S leads p).lead ≤ 4
-word_few b S (All referent) p = omega (arith, lead_few (word_at b S (All referent) p).lead)
-word_few b S (ByType e q) p = omega (arith, lead_few (word_at b S (ByType e q) p).lead)
+lead_few lead = grind arith
 
 pub first_few : (b : List ℕ) (S : Rows) (r : Row) → (first_word b S r).reads + lead_reads (first_word b S r).lead ≤ 4
-first_few b S r = word_few b S r.leads r.place
+first_few b S r = grind (arith, lead_few)
 
 pub head_few : (c : Checks) → head_reads c ≤ 3
 head_few c = grind arith
 
 pub if_present_few : (n : ℕ) (place : Option ℕ) → reads_if_present n place ≤ n
-if_present_few n None = omega arith
-if_present_few n (Some q) = omega arith
+if_present_few n place = grind arith
 
 pub present_few : (b : List ℕ) (t o : ℕ) (kind : Kind) → present_reads b t o kind ≤ 5
-present_few b t o (Scalar s) = omega arith
-present_few b t o (Struct k) = omega arith
-present_few b t o Text = omega arith
-present_few b t o (Table k) = omega arith
-present_few b t o (Union e) = omega (arith, if_present_few 1 (type_place b t o))
-present_few b t o (Scalars s) = omega arith
-present_few b t o (Structs k) = omega arith
-present_few b t o Texts = omega arith
-present_few b t o (Tables k) = omega arith
-present_few b t o (Unions e) = omega (arith, if_present_few 2 (type_place b t o))
-
-at_few : (b : List ℕ) (t : ℕ) (f : Live) (place : Option ℕ) → reads_at b t f place ≤ 5
-at_few b t f None = omega arith
-at_few b t f (Some p) = present_few b t f.slot f.kind
+present_few b t o kind = grind (arith, if_present_few)
 
 pub slot_few : (b : List ℕ) (t o : ℕ) → slot_reads b t o ≤ 1
 slot_few b t o = grind arith
 
 pub own_few : (b : List ℕ) (t : ℕ) (f : Live) → own_reads b t f ≤ 6
 unfolding own_reads
-own_few b t f = omega (arith, slot_few b t f.slot, at_few b t f (field_place b t f.slot))
+own_few b t f = grind (arith, slot_few, present_few)
 
 -- The fields that a schema lends are the live fields.
 
@@ -95,12 +65,8 @@ item_some xs i r x h e =
 -- Frames.
 
 module _ (c : Checks) (b : List ℕ) (S : Rows) where
-  types_near : (n : ℕ) (leads : Leads) → 0 < n → AreLeads b S n leads → AreTypesNear leads
-  types_near n (All referent) l h = tt
-  types_near n (ByType e q) l h = omega (arith, h.2)
-
   pub row_types_near : (r : Row) → 0 < r.left → IsRow b S r → AreTypesNear r.leads
-  row_types_near r m h = types_near r.left r.leads m (h.leads m)
+  row_types_near r m h = let leads = h.leads m in grind arith
 
   pub frame_on : (fr : Frame) (row : Row) → row ≡ past_first fr.row → 0 < (fr.row).left → IsFrame c b S fr → IsFrame c b S (record fr { row = row })
   frame_on fr row e l h = record { object = h.object; near = h.near; head = h.head; next = h.next; row = rw e (row_on b S fr.row l h.row) }

@@ -1,37 +1,19 @@
 -- The head of a table is tested by its first word, and then by its vtable.
-use Rattle.std.proofs.Common.{◌≡◌, ℕ, ◌+◌, ◌%◌, ◌==◌, ◌&&◌, nat_le, Bool, true, false, if◌then◌else◌, List, refl, sym, ◌∙◌, ap, arith, Option, Some, None}
+use Rattle.std.proofs.Common.{◌≡◌, ℕ, ◌+◌, List, sym, ◌∙◌, ap, arith, Option, Some, None}
 use Rattle.fb_bytes.specs.Word.{Lent}
 use Rattle.fb_verify.specs.declared.checks.Checks.{Checks}
 use Rattle.fb_verify.specs.declared.fault.Reason.{Reason}
-use Rattle.fb_verify.specs.declared.fault.Reason.TheVariants.{OutOfBuffer, Misaligned, BadVtable}
-use Rattle.fb_verify.specs.Places.{fits, is_aligned, has_vtable, vtable, vtable_size}
 use Rattle.fb_verify.specs.Cost.{head_reads}
-use Rattle.fb_verify.specs.Order.{Failure, check, after, ◌▷◌, head_failure}
+use Rattle.fb_verify.specs.Order.{Failure, after, ◌▷◌, head_failure}
 use Rattle.fb_verify.specs.Plain.{IsTested, first_word_failure, vtable_failure, vtable_reads}
 use Rattle.fb_verify.proofs.Plains.{after_twice}
 
--- the same for any tests in their places
-parts : (a b h f g e w : Bool) (t v : ℕ) → check a OutOfBuffer t 0 (check b Misaligned t 0 (check (h && f) OutOfBuffer t 1 (check g Misaligned v 1 (check e BadVtable v 2 (check w OutOfBuffer v 2 None)))))
-    ≡ check a OutOfBuffer t 0 (check b Misaligned t 0 (check h OutOfBuffer t 1 None)) ▷ after 1 (check f OutOfBuffer t 0 (check g Misaligned v 0 (check e BadVtable v 1 (check w OutOfBuffer v 1 None))))
-parts false b h f g e w t v = refl
-parts true false h f g e w t v = refl
-parts true true false f g e w t v = refl
-parts true true true false g e w t v = refl
-parts true true true true false e w t v = refl
-parts true true true true true false w t v = refl
-parts true true true true true true false t v = refl
-parts true true true true true true true t v = refl
-
 pub head_parts : (c : Checks) (b : List ℕ) (t : ℕ) → head_failure c b t ≡ first_word_failure c b t ▷ after 1 (vtable_failure c b t)
 unfolding head_failure first_word_failure vtable_failure
-head_parts c b t =
-    parts (fits b t 4) (is_aligned c t 4) (has_vtable b t) (fits b (vtable b t) 2) (is_aligned c (vtable b t) 2) ((vtable_size b t % 2 == 0) && nat_le 4 (vtable_size b t)) (fits b (vtable b t) (vtable_size b t)) t (vtable b t)
+head_parts c b t = grind arith
 
 pub head_reads_parts : (c : Checks) → head_reads c ≡ 1 + vtable_reads c
-head_reads_parts c = go c.inline_size where
-  go : (x : Bool) → ◌≡◌ {A = ℕ} (if x then 3 else 2) (1 + (if x then 2 else 1))
-  go true = refl
-  go false = refl
+head_reads_parts c = grind arith
 
 -- the first word holds, and the vtable is tested
 pub vtable_tested : (c : Checks) (m mid new : Lent) (t at : ℕ) (result : Option Reason) → first_word_failure c m.bytes t ≡ None → mid.count ≡ m.count + 1 → mid.bytes ≡ m.bytes → mid.base ≡ m.base
@@ -47,7 +29,4 @@ vtable_tested c m mid new t at result holds count bytes base e =
 
 -- a first word that fails fails the head
 pub first_fails : (c : Checks) (b : List ℕ) (t k : ℕ) (failed : Failure) → Some failed ≡ after k (first_word_failure c b t) → Some failed ≡ after k (head_failure c b t)
-first_fails c b t k failed h = go (first_word_failure c b t) refl h where
-  go : (x : Option Failure) → first_word_failure c b t ≡ x → Some failed ≡ after k x → Some failed ≡ after k (head_failure c b t)
-  go None e i = absurd cc
-  go (Some y) e i = i ∙ ap (after k) (sym (head_parts c b t ∙ ap (λ o. o ▷ after 1 (vtable_failure c b t)) e))
+first_fails c b t k failed h = let e = head_parts c b t in grind arith

@@ -1,10 +1,7 @@
 -- The last link to a fault is to the field that it names.
-use Rattle.std.proofs.Common.{◌≡◌, ℕ, ◌+◌, ◌⊎◌, inl, inr, List, [], ◌∷◌, refl, sym, ◌∙◌, ap, subst, Option, Some, None}
-use Rattle.fb_schema.specs.Rows.{Rows}
-use Rattle.fb_schema.specs.Live.{Live}
-use Rattle.fb_verify.specs.declared.checks.Checks.{Checks}
-use Rattle.fb_verify.specs.declared.fault.Fault.{Fault}
-use Rattle.fb_verify.specs.declared.links.Link.{Link}
+use Rattle.std.proofs.Common.{◌≡◌, ℕ, ◌⊎◌, inl, inr, List, [], ◌∷◌, refl, sym, ◌∙◌, ap, subst, arith, Option, Some, None}
+use Rattle.fb_schema.specs.{Rows.Rows, Live.Live}
+use Rattle.fb_verify.specs.declared.{checks.Checks.Checks, fault.Fault.Fault, links.Link.Link}
 use Rattle.fb_verify.specs.Bounds.{Bounds}
 use Rattle.fb_verify.specs.Places.{target}
 use Rattle.fb_verify.specs.Fields.{Entry}
@@ -20,10 +17,7 @@ use Rattle.fb_verify.proofs.Overruns.{either}
 
 -- a fault at the end of a way has the object and field of the way
 pub of_way : (w : Way) (x : Option Failure) (f : Fault) → fault_of w x ≡ Some f → (w.object ≡ f.object) × (w.field ≡ f.field)
-of_way w None f h = absurd cc
-of_way w (Some e) f h =
-    let same : ◌≡◌ {A = Fault} (record { at = e.at; object = w.object; field = w.field; reason = e.reason; reads = w.paid + e.reads }) f = cc in
-    (ap (λ (g : Fault). g.object) same, ap (λ (g : Fault). g.field) same)
+of_way w x f h = grind arith
 
 -- no link is left of a fault that names the field by which its table was come to, or the last is to the field that it
 -- names
@@ -36,10 +30,8 @@ module _ (c : Checks) (b : List ℕ) (S : Rows) (L : Bounds) (f : Fault) (n : �
   unfolding fault_at
   in_a_head k t w h =
       let v : Way = record w { object = k; field = None } in
-      elim (either (fault_of w (budget_failure L w t)) (fault_of v (head_failure c b t ▷ reads_failure L v.paid (head_reads c) t)) f h.first) [
-        | inl i ↦ (let r = of_way w (budget_failure L w t) f i in inl (refl, r.0, r.1 ∙ field_is))
-        | inr i ↦ (let r = of_way v (head_failure c b t ▷ reads_failure L v.paid (head_reads c) t) f i in absurd (let w : None ≡ Some n = r.1 ∙ field_is in cc))
-      ]
+      let e = either (fault_of w (budget_failure L w t)) (fault_of v (head_failure c b t ▷ reads_failure L v.paid (head_reads c) t)) f h.first in
+      grind (arith, of_way)
 
   -- one link more at the front
   one_more : (link : Link) (links : List Link) (w : Way) → w.object ≡ link.object → w.field ≡ Some link.field → EndWell w f n links → EndIn f.object n (link ∷ links)

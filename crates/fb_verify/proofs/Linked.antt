@@ -1,19 +1,13 @@
 -- Frames whose row was left behind a word, and the links through these words.
-use Rattle.std.proofs.Common.{◌≡◌, ℕ, zero, suc, ◌+◌, ◌-◌, ◌<◌, List, [], ◌∷◌, length, refl, sym, ◌∙◌, ap, subst, arith, Option, Some, None}
+use Rattle.std.proofs.Common.{◌≡◌, ℕ, zero, suc, ◌+◌, ◌-◌, ◌<◌, List, [], ◌∷◌, length, refl, sym, ◌∙◌, ap, subst, arith, rules, Option, Some, None}
 use Rattle.std.specs.Prelude.{slice_get}
 use Rattle.std.proofs.lemmas.List.{length-drop}
 use Rattle.fb_bytes.specs.Word.{word}
 use Rattle.fb_schema.specs.declared.kinds.Kind.{Kind}
-use Rattle.fb_schema.specs.declared.kinds.Kind.TheVariants.{Scalar, Text, Struct, Table, Union, Scalars, Texts, Structs, Tables, Unions}
-use Rattle.fb_schema.specs.Rows.{Rows}
-use Rattle.fb_schema.specs.Members.{member_of}
-use Rattle.fb_schema.specs.Live.{Live, live_fields}
-use Rattle.fb_schema.specs.Served.{IsServed}
-use Rattle.fb_verify.specs.declared.checks.Checks.{Checks}
+use Rattle.fb_schema.specs.declared.kinds.Kind.TheVariants.{Union, Texts, Tables, Unions}
+use Rattle.fb_schema.specs.{Rows.Rows, Members.member_of, Live.Live, Live.live_fields, Served.IsServed}
+use Rattle.fb_verify.specs.declared.{checks.Checks.Checks, offset_row.Row.Row, scratch.Frame.Frame}
 use Rattle.fb_verify.specs.declared.offset_row.Leads.{Leads}
-use Rattle.fb_verify.specs.declared.offset_row.Leads.TheVariants.{All, ByType}
-use Rattle.fb_verify.specs.declared.offset_row.Row.{Row}
-use Rattle.fb_verify.specs.declared.scratch.Frame.{Frame}
 use Rattle.fb_verify.specs.Fields.{IsVectorField, IsPresent, IsField, type_place, union_type, types_begin, Lead, to_table, to_string, Entry, row, union_row, union_entry, entries_of, entries_at, entries}
 use Rattle.fb_verify.specs.Places.{target, field_place}
 use Rattle.fb_verify.specs.Tree.{elements_length}
@@ -36,8 +30,7 @@ module _ (b : List ℕ) (S : Rows) where
   union_row_length e q p (suc n) = ap suc (union_row_length e (q + 1) (p + 4) n)
 
   words_length : (leads : Leads) (p n : ℕ) → length (words b S leads p n) ≡ n
-  words_length (All referent) p n = row_length _ p n
-  words_length (ByType e q) p n = union_row_length e q p n
+  words_length leads p n = grind (arith, row_length, union_row_length)
 
   -- a row has as many words as are left of it
   pub row_words : (r : Row) → length (words_of b S r) ≡ r.left
@@ -75,7 +68,7 @@ module _ (c : Checks) (b : List ℕ) (S : Rows) (fr : Frame) (w v : Way) (x : En
 -- What of a field that holds can be read again where it leads on.
 module _ (c : Checks) (b : List ℕ) (S : Rows) (t p : ℕ) (g : Live) (left : ℕ) where
   -- how many words it has, that the count can be read, and that as many types are there
-  record Stands (kind : Kind) : Type 0 where
+  pub record Stands (kind : Kind) : Type 0 where
     pub words : length (entries_of b S t g p kind) ≡ word_count b p kind
     pub count : CountStands b p kind
     pub types : (j : ℕ) → j < word_count b p kind → IsTyped b t g.slot kind → TypeStands b t g.slot j kind
@@ -84,17 +77,10 @@ module _ (c : Checks) (b : List ℕ) (S : Rows) (t p : ℕ) (g : Live) (left : �
   vector_count h = record { offset = (h.offset).within; count = (h.vector).count }
 
   union_words : (member : Option Kind) → left < length (union_entry S p member) → length (union_entry S p member) ≡ 1
-  union_words None more = absurd (omega (arith, more))
-  union_words (Some k) more = refl
+  union_words member more = grind arith
 
   stands_by : (kind : Kind) → IsPresent c b S t g p kind → left < length (entries_of b S t g p kind) → Stands kind
-  stands_by (Scalar s) h more = absurd (omega (arith, more))
-  stands_by (Struct k) h more = absurd (omega (arith, more))
-  stands_by Text h more = record { words = refl; count = tt; types = λ j l typed. tt }
-  stands_by (Table k) h more = record { words = refl; count = tt; types = λ j l typed. tt }
   stands_by (Union e) h more = record { words = union_words (member_of S e (union_type b (type_place b t g.slot))) more; count = tt; types = λ j l typed. typed }
-  stands_by (Scalars s) h more = absurd (omega (arith, more))
-  stands_by (Structs k) h more = absurd (omega (arith, more))
   stands_by Texts h more = record { words = row_length b S to_string (target b p + 4) (word b (target b p) 4); count = vector_count h; types = λ j l typed. tt }
   stands_by (Tables k) h more = record { words = row_length b S (to_table k) (target b p + 4) (word b (target b p) 4); count = vector_count h; types = λ j l typed. tt }
   stands_by (Unions e) h more = record {
@@ -102,9 +88,10 @@ module _ (c : Checks) (b : List ℕ) (S : Rows) (t p : ℕ) (g : Live) (left : �
     count = vector_count h.field;
     types = λ j l typed. (typed, omega (arith, l, h.counts_agree));
   }
+  stands_by kind h more = search rules
 
 -- The same of the field of a frame that is linked.
-module _ (c : Checks) (b : List ℕ) (S : Rows) (fr : Frame) (h : IsLinked c b S fr) (g : Live) (found : slice_get (live_fields S (fr.table).object) (fr.next - 1) ≡ Some g) where
+module _ {c : Checks} {b : List ℕ} {S : Rows} {fr : Frame} (h : IsLinked c b S fr) (g : Live) (found : slice_get (live_fields S (fr.table).object) (fr.next - 1) ≡ Some g) where
   abbrev t : ℕ
   t = (fr.table).at
 
@@ -126,13 +113,10 @@ module _ (c : Checks) (b : List ℕ) (S : Rows) (fr : Frame) (h : IsLinked c b S
     own : IsField c b S t g
     own = subst (λ x. IsField c b S t x) is_field h.own
 
-    stands : Stands c b S t p g (fr.row).left g.kind
+    pub stands : Stands c b S t p g (fr.row).left g.kind
     stands = stands_by c b S t p g (fr.row).left g.kind (present c b S t g p g.kind own place refl) (omega (arith, h.more, ap length words_are))
 
-    pub count_stands : CountStands b p g.kind
-    count_stands = stands.count
-
-    pub count_is : length (entries b S t h.field) ≡ word_count b p g.kind
+    count_is : length (entries b S t h.field) ≡ word_count b p g.kind
     count_is = ap length words_are ∙ stands.words
 
     pub more_left : (fr.row).left < word_count b p g.kind

@@ -1,51 +1,35 @@
 -- A fault comes soon after the budget of reads is used up.
-use Rattle.std.proofs.Common.{◌≡◌, ℕ, zero, suc, ◌+◌, ◌-◌, ◌≤◌, ◌⊎◌, inl, inr, List, [], ◌∷◌, refl, subst, arith, Option, Some, None}
+use Rattle.std.proofs.Common.{◌≡◌, ℕ, zero, suc, ◌+◌, ◌≤◌, ◌<◌, ◌⊎◌, List, [], ◌∷◌, refl, ap, subst, arith, Option, Some, None}
 use Rattle.std.specs.Prelude.{slice_get}
 use Rattle.std.proofs.lemmas.Bool.Decides.{nat_tests}
-use Rattle.fb_bytes.specs.Word.{word}
 use Rattle.fb_schema.specs.declared.kinds.Kind.{Kind}
-use Rattle.fb_schema.specs.declared.kinds.Kind.TheVariants.{Scalar, Text, Struct, Table, Union, Scalars, Texts, Structs, Tables, Unions}
-use Rattle.fb_schema.specs.Rows.{Rows}
-use Rattle.fb_schema.specs.Live.{Live}
-use Rattle.fb_schema.specs.Members.{member_of}
-use Rattle.fb_verify.specs.declared.checks.Checks.{Checks}
-use Rattle.fb_verify.specs.declared.fault.Fault.{Fault}
+use Rattle.fb_schema.specs.{Rows.Rows, Live.Live}
+use Rattle.fb_verify.specs.declared.{checks.Checks.Checks, fault.Fault.Fault}
 use Rattle.fb_verify.specs.Bounds.{Bounds}
-use Rattle.fb_verify.specs.Places.{target, field_place}
-use Rattle.fb_verify.specs.Fields.{type_place, union_type, types_begin, Lead, to_table, to_string, Entry, row, union_row, union_entry, entries_of, entries_at, entries}
+use Rattle.fb_verify.specs.Fields.{Lead, Entry, row, union_row, union_entry, entries}
 use Rattle.fb_verify.specs.Cost.{head_reads, own_reads, lead_reads}
 use Rattle.fb_verify.specs.Order.{Failure, ◌▷◌, head_failure, own_failure, element_failure}
-use Rattle.fb_verify.specs.Way.{Way, way_to_field, way_to_element, way_to_table}
-use Rattle.fb_verify.specs.Stops.{budget_failure, reads_failure, lead_reads_failure, fault_of, fault_at, Trail, at_head, at_field, FieldTrail, at_own, at_element, ElementTrail, at_lead, through, IsTrail, IsFieldTrail, IsElementTrail}
-use Rattle.fb_verify.proofs.Budgets.{IsNear, near}
-use Rattle.fb_verify.proofs.Frames.{head_few, lead_few}
-use Rattle.fb_verify.proofs.ChainReads.{AtMost, more, either, reads_most, lead_reads_most, head_most, own_most, element_most}
-use Rattle.fb_verify.proofs.Frames.{own_few}
+use Rattle.fb_verify.specs.Way.{Way}
+use Rattle.fb_verify.specs.Stops.{budget_failure, reads_failure, lead_reads_failure, in_head, fault_of, fault_at, IsFalseAt}
+use Rattle.fb_verify.proofs.Frames.{head_few, own_few}
+use Rattle.fb_verify.proofs.ChainReads.{AtMost, either, reads_most, lead_reads_most, head_most, own_most, element_most}
+use Rattle.fb_verify.proofs.Overruns.{some_same}
 
 -- the reads of a fault
-
-some_reads : {e f : Fault} → Some e ≡ Some f → e.reads ≡ f.reads
-some_reads h = cc
 
 pub fault_reads : (n : ℕ) (w : Way) (x : Option Failure) (f : Fault) → AtMost n x → fault_of w x ≡ Some f → f.reads ≤ w.paid + n
 unfolding AtMost
 fault_reads n w None f h g = absurd (cc)
 fault_reads n w (Some e) f h g =
-    let few = h e refl in
-    let same : w.paid + e.reads ≡ f.reads = some_reads g in
-    omega arith
-
-pub first_of_two : (w v : Way) (x y : Option Failure) (f : Fault) → AtMost 0 x → AtMost 3 y → v.paid ≡ w.paid → fault_of w x ▷ fault_of v y ≡ Some f → (f.reads ≤ w.paid) ⊎ ((x ≡ None) × (f.reads ≤ w.paid + 3))
-first_of_two w v None y f h g e i = inr (refl, omega (arith, e, fault_reads 3 v y f g i))
-first_of_two w v (Some d) y f h g e i = inl (omega (arith, fault_reads 0 w (Some d) f h i))
+    let few = h e refl in omega (arith, ap (λ x. x.reads) (some_same g))
 
 -- the reads that told a lead
 
-unfoldable AreShort : List Entry → Type 0
+unfoldable pub AreShort : List Entry → Type 0
 AreShort [] = Unit {0}
 AreShort (x ∷ xs) = (x.reads ≤ 1) × AreShort xs
 
-short_at : (xs : List Entry) (n : ℕ) (x : Entry) → AreShort xs → slice_get xs n ≡ Some x → x.reads ≤ 1
+pub short_at : (xs : List Entry) (n : ℕ) (x : Entry) → AreShort xs → slice_get xs n ≡ Some x → x.reads ≤ 1
 unfolding AreShort
 short_at [] n x a h = absurd (cc)
 short_at (y ∷ xs) zero x a h = let e : y ≡ x = cc in subst (λ z. z.reads ≤ 1) e a.0
@@ -63,31 +47,12 @@ short_union_row b S e q p (suc n) = (omega arith, short_union_row b S e (q + 1) 
 
 short_union : (S : Rows) (p : ℕ) (member : Option Kind) → AreShort (union_entry S p member)
 unfolding AreShort
-short_union S p None = tt
-short_union S p (Some m) = (omega arith, tt)
+short_union S p member = grind arith
 
 module _ (c : Checks) (b : List ℕ) (S : Rows) where
-  short_of : (t : ℕ) (f : Live) (p : ℕ) (kind : Kind) → AreShort (entries_of b S t f p kind)
-  unfolding AreShort
-  short_of t f p (Scalar s) = tt
-  short_of t f p (Struct k) = tt
-  short_of t f p Text = (omega arith, tt)
-  short_of t f p (Table k) = (omega arith, tt)
-  short_of t f p (Union e) = short_union S p (member_of S e (union_type b (type_place b t f.slot)))
-  short_of t f p (Scalars s) = tt
-  short_of t f p (Structs k) = tt
-  short_of t f p Texts = short_row to_string (target b p + 4) (word b (target b p) 4)
-  short_of t f p (Tables k) = short_row (to_table k) (target b p + 4) (word b (target b p) 4)
-  short_of t f p (Unions e) = short_union_row b S e (types_begin b (type_place b t f.slot)) (target b p + 4) (word b (target b p) 4)
-
-  short_entries_at : (t : ℕ) (f : Live) (place : Option ℕ) → AreShort (entries_at b S t f place)
-  unfolding AreShort
-  short_entries_at t f None = tt
-  short_entries_at t f (Some p) = short_of t f p f.kind
-
-  short_entries : (t : ℕ) (f : Live) → AreShort (entries b S t f)
-  unfolding entries
-  short_entries t f = short_entries_at t f (field_place b t f.slot)
+  pub short_entries : (t : ℕ) (f : Live) → AreShort (entries b S t f)
+  unfolding entries AreShort
+  short_entries t f = grind (arith, short_row, short_union_row, short_union)
 
   module _ (L : Bounds) where
     pub budget_most : (w : Way) (t : ℕ) → AtMost 0 (budget_failure L w t)
@@ -95,30 +60,19 @@ module _ (c : Checks) (b : List ℕ) (S : Rows) where
     budget_most w t e h = grind (arith, nat_tests)
 
     pub head_reads_most : (w : Way) (t : ℕ) → AtMost 3 (head_failure c b t ▷ reads_failure L w.paid (head_reads c) t)
-    head_reads_most w t = either 3 _ _ (more 2 3 _ (omega arith) (head_most c b t)) (more (head_reads c) 3 _ (head_few c) (reads_most L w.paid (head_reads c) t))
+    head_reads_most w t = either 3 _ _ (head_most c b t 3 (omega arith)) (reads_most L w.paid (head_reads c) 3 t (head_few c))
 
     pub own_reads_most : (w : Way) (t : ℕ) (g : Live) → AtMost 6 (own_failure c b S t g ▷ reads_failure L w.paid (own_reads b t g) t)
-    own_reads_most w t g = either 6 _ _ (own_most c b S t g) (more (own_reads b t g) 6 _ (own_few b t g) (reads_most L w.paid (own_reads b t g) t))
+    own_reads_most w t g = either 6 _ _ (own_most c b S t g 6 (omega arith)) (reads_most L w.paid (own_reads b t g) 6 t (own_few b t g))
 
     pub entry_reads_most : (w : Way) (x : Entry) → AtMost (x.reads + lead_reads x.lead) (element_failure c b x ▷ lead_reads_failure L w.paid x x.lead)
     entry_reads_most w x = either _ _ _ (element_most c b x) (lead_reads_most L w.paid x x.lead)
 
-    mutual
-      unfolding IsTrail IsFieldTrail IsElementTrail fault_at
-
-      pub trail_near : (s : Trail) (k t : ℕ) (w : Way) (f : Fault) → w.leading ≤ 2 → IsTrail s c b S L k t w f → IsNear L.reads f.reads
-      trail_near at_head k t w f l h =
-          let r = first_of_two w (record w { object = k; field = None }) (budget_failure L w t) (head_failure c b t ▷ reads_failure L w.paid (head_reads c) t) f (budget_most w t) (head_reads_most w t) refl h.first in
-          let few : f.reads ≤ w.paid + 3 = elim r [ inl p ↦ omega (arith, p) | inr p ↦ p.1 ] in
-          near L.reads (w.paid - w.leading) f.reads (omega (arith, l, few)) h.within.reads
-      trail_near (at_field earlier s) k t w f l h = field_near s t h.0 (way_to_field c b S k t earlier h.0 w) f refl h.2
-
-      field_near : (s : FieldTrail) (t : ℕ) (g : Live) (w : Way) (f : Fault) → w.leading ≡ 0 → IsFieldTrail s c b S L t g w f → IsNear L.reads f.reads
-      field_near at_own t g w f l h = near L.reads (w.paid - w.leading) f.reads (omega (arith, l, fault_reads 6 w _ f (own_reads_most w t g) h.first)) h.within.reads
-      field_near (at_element before s) t g w f l h =
-          element_near s h.0 (way_to_element c b S t g before w) f refl (short_at (entries b S t g) _ h.0 (short_entries t g) h.1.next) h.2
-
-      element_near : (s : ElementTrail) (x : Entry) (w : Way) (f : Fault) → w.leading ≡ 0 → x.reads ≤ 1 → IsElementTrail s c b S L x w f → IsNear L.reads f.reads
-      element_near at_lead x w f l few h =
-          near L.reads (w.paid - w.leading) f.reads (omega (arith, l, few, lead_few x.lead, fault_reads (x.reads + lead_reads x.lead) w _ f (entry_reads_most w x) h.first)) h.within.reads
-      element_near (through s) x w f l few h = trail_near s h.0 (target b x.place) (way_to_table x w) f (omega (arith, few)) h.3
+    -- a fault in a head comes before any read of it, or after one more table was allowed
+    pub head_told : (k t : ℕ) (w : Way) (f : Fault) → IsFalseAt c b S L (in_head k t) w f → (f.reads ≤ w.paid) ⊎ ((w.passed < L.tables) × (f.reads ≤ w.paid + 3))
+    unfolding fault_at
+    head_told k t w f h =
+        let e = h.first in
+        let limit = fault_reads 0 w (budget_failure L w t) f (budget_most w t) in
+        let head = fault_reads 3 (record w { object = k; field = None }) (head_failure c b t ▷ reads_failure L w.paid (head_reads c) t) f (head_reads_most w t) in
+        grind (arith, nat_tests)

@@ -4,11 +4,7 @@ use Rattle.std.specs.Prelude.{slice_get}
 use Rattle.std.specs.Result.{IsErrAnd}
 use Rattle.fb_bytes.specs.Word.{Lent}
 use Rattle.fb_schema.specs.Live.{Live, live_fields}
-use Rattle.fb_verify.specs.declared.fault.Fault.{Fault}
-use Rattle.fb_verify.specs.declared.offset_row.Row.{Row}
-use Rattle.fb_verify.specs.declared.scratch.Frame.{Frame}
-use Rattle.fb_verify.specs.declared.site.Stop.{Stop}
-use Rattle.fb_verify.specs.declared.stack.Walk.{Walk}
+use Rattle.fb_verify.specs.declared.{fault.Fault.Fault, offset_row.Row.Row, scratch.Frame.Frame, site.Stop.Stop, stack.Walk.Walk}
 use Rattle.fb_verify.specs.Bounds.{AreAllowed}
 use Rattle.fb_verify.specs.Cost.{own_reads}
 use Rattle.fb_verify.specs.Fields.{entries}

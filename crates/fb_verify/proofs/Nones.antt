@@ -10,7 +10,7 @@ use Rattle.fb_verify.specs.Way.{way_to_start, way_to_root}
 use Rattle.fb_verify.specs.Stops.{fault_at, Stops}
 use Rattle.fb_verify.proofs.Budgets.{not_both}
 use Rattle.fb_verify.proofs.Chains.{start_none}
-use Rattle.fb_verify.proofs.Overruns.{reads_fault, overruns}
+use Rattle.fb_verify.proofs.Overruns.{reads_fault, not_past, overruns}
 
 pub stops_nowhere : (q : Question) (b : List ℕ) (y : Tree) (f : Fault) → IsWellFormed q b y → IsWithin q b y → Stops q b f → ⊥
 unfolding fault_at
@@ -19,7 +19,5 @@ stops_nowhere q b y f h r (inl i) =
     let p = reads_fault q.limits w w (start_reads q.start q.ident) (base q.start) (start_failure q.checks b q.start q.ident) f ((start_none q.checks b q.start q.ident).1 h.starts) i.first in
     not_both q.limits.reads _ (cost q b y) (omega arith) r.reads p.1
 stops_nowhere q b y f h r (inr i) =
-    elim (overruns q.checks b q.rows q.limits i.1.0 y q.root (target b (base q.start)) (way_to_root q.root q.start q.ident) f h.unfolds i.1.1) [
-      | inl p ↦ omega (arith, p.1, r.depth)
-      | inr o ↦ elim o [ inl p ↦ omega (arith, p.1, r.tables) | inr p ↦ not_both q.limits.reads _ (cost q b y) (omega arith) r.reads p.1 ]
-    ]
+    let w = way_to_root q.root q.start q.ident in
+    not_past q.checks b q.rows q.limits w _ _ _ _ f (overruns q.checks b q.rows q.limits i.1.0 y q.root (target b (base q.start)) w f h.unfolds i.1.1) (omega (arith, r.depth)) (omega (arith, r.tables)) (omega arith) r.reads

@@ -1,19 +1,15 @@
 -- At most one fault is the first, and one trail leads to it.
-use Rattle.std.proofs.Common.{◌≡◌, ℕ, zero, suc, ◌+◌, ◌<◌, ◌⊎◌, inl, inr, List, take, refl, sym, ◌∙◌, ap, subst, arith, Some}
+use Rattle.std.proofs.Common.{◌≡◌, ℕ, ◌+◌, ◌<◌, inl, inr, List, take, refl, sym, ◌∙◌, ap, subst, arith, Some}
 use Rattle.std.specs.Prelude.{slice_get}
+use Rattle.std.proofs.lemmas.Bool.{cases_order}
 use Rattle.std.proofs.lemmas.List.{take-take}
-use Rattle.fb_schema.specs.Rows.{Rows}
-use Rattle.fb_schema.specs.Live.{Live, live_fields}
-use Rattle.fb_verify.specs.declared.checks.Checks.{Checks}
-use Rattle.fb_verify.specs.declared.start.Start.{Start}
-use Rattle.fb_verify.specs.declared.start.Ident.{Ident}
-use Rattle.fb_verify.specs.declared.fault.Fault.{Fault}
-use Rattle.fb_verify.specs.declared.links.Link.{Link}
+use Rattle.fb_schema.specs.{Rows.Rows, Live.Live, Live.live_fields}
+use Rattle.fb_verify.specs.declared.{checks.Checks.Checks, start.Start.Start, start.Ident.Ident, fault.Fault.Fault, links.Link.Link}
 use Rattle.fb_verify.specs.Bounds.{Bounds}
 use Rattle.fb_verify.specs.Question.{Question}
 use Rattle.fb_verify.specs.Places.{target}
 use Rattle.fb_verify.specs.Facts.{IsTable}
-use Rattle.fb_verify.specs.Fields.{IsField, to_table, Entry, entries}
+use Rattle.fb_verify.specs.Fields.{IsField, Entry, entries}
 use Rattle.fb_verify.specs.Tree.{Kids, kids_length, Elements, elements_length}
 use Rattle.fb_verify.specs.WellFormed.{base, start_reads, IsStart}
 use Rattle.fb_verify.specs.Cost.{own_reads, kids_cost, elements_cost}
@@ -24,22 +20,13 @@ use Rattle.fb_verify.specs.Links.{links_of, StopsAlong}
 use Rattle.fb_verify.proofs.Chains.{start_none, own_none, through_passes}
 use Rattle.fb_verify.proofs.Unique.{one_kids, one_elements}
 use Rattle.fb_verify.proofs.Budgets.{fewer_reads, not_both}
-use Rattle.fb_verify.proofs.Overruns.{some_same, reads_fault, no_lead_fault, kids_at, elements_at, head_overruns, field_overruns, element_overruns, kids_cost_take, elements_cost_take}
+use Rattle.fb_verify.proofs.Overruns.{some_same, reads_fault, no_lead_fault, kids_at, elements_at, not_past, head_overruns, field_overruns, element_overruns, kids_cost_take, elements_cost_take}
 use Rattle.fb_verify.proofs.Typed.{get_take}
 
 -- lists
 
-compare : (m n : ℕ) → (m < n) ⊎ ((m ≡ n) ⊎ (n < m))
-compare zero zero = inr (inl refl)
-compare zero (suc n) = inl (omega arith)
-compare (suc m) zero = inr (inr (omega arith))
-compare (suc m) (suc n) = elim (compare m n) [ inl h ↦ inl (omega arith) | inr h ↦ elim h [ inl e ↦ inr (inl (ap suc e)) | inr g ↦ inr (inr (omega arith)) ] ]
-
 to_same : {A : Type 0} {x y : A} (xs : List A) (m n : ℕ) → m ≡ n → slice_get xs m ≡ Some x → slice_get xs n ≡ Some y → x ≡ y
 to_same xs m n e h g = some_same (sym h ∙ ap (slice_get xs) e ∙ g)
-
-same_table : {k j : ℕ} → to_table k ≡ to_table j → k ≡ j
-same_table h = cc
 
 module _ (c : Checks) (b : List ℕ) (S : Rows) (L : Bounds) where
   -- one place has one fault
@@ -71,10 +58,7 @@ module _ (c : Checks) (b : List ℕ) (S : Rows) (L : Bounds) where
   -- a table that another trail opened isn't where a trail stops
   opened_head : (k t : ℕ) (w : Way) (earlier : Kids) (g : Live) (f : Fault) → IsTable c b t → StaysWithin (way_to_field c b S k t earlier g w) L → IsFalseAt c b S L (in_head k t) w f → ⊥
   opened_head k t w earlier g f h r i =
-      elim (head_overruns c b S L k t w f h i) [
-        | inl p ↦ omega (arith, p.1, r.depth)
-        | inr o ↦ elim o [ inl p ↦ omega (arith, p.1, r.tables) | inr p ↦ not_both L.reads _ _ (omega arith) r.reads p.1 ]
-      ]
+      not_past c b S L w _ _ _ _ f (head_overruns c b S L k t w f h i) (omega (arith, r.depth)) (omega (arith, r.tables)) (omega arith) r.reads
 
   -- nor is a field that another trail passed
   passed_field : (k t : ℕ) (w : Way) (e1 e2 : Kids) (g1 g2 : Live) (s : FieldTrail) (f : Fault) → kids_length e1 < kids_length e2 → IsLink c b S k t e1 g1 → IsLink c b S k t e2 g2 → StaysWithin (way_to_field c b S k t e2 g2 w) L → IsFieldTrail s c b S L t g1 (way_to_field c b S k t e1 g1 w) f → ⊥
@@ -83,10 +67,8 @@ module _ (c : Checks) (b : List ℕ) (S : Rows) (L : Bounds) where
       let fs = take (kids_length e2) all in
       let a = kids_at c b S e1 e2 t fs g1 h2.passed (rw (take-take (kids_length e1) (kids_length e2) all (omega arith)) h1.passed) (get_take all (kids_length e1) (kids_length e2) lt ∙ h1.next) in
       let same = sym (kids_cost_take c b S e1 t fs) ∙ ap (λ xs. kids_cost e1 c b S t xs) (take-take (kids_length e1) (kids_length e2) all (omega arith)) ∙ kids_cost_take c b S e1 t all in
-      elim (field_overruns c b S L s a.0 t g1 (way_to_field c b S k t e1 g1 w) f a.1 a.2 stops) [
-        | inl p ↦ omega (arith, p.1, a.4, r.depth)
-        | inr o ↦ elim o [ inl p ↦ omega (arith, p.1, a.3, r.tables) | inr p ↦ not_both L.reads _ _ (omega (arith, a.5, same, kids_cost_take c b S e2 t all)) r.reads p.1 ]
-      ]
+      let v = way_to_field c b S k t e1 g1 w in
+      not_past c b S L v _ _ _ _ f (field_overruns c b S L s a.0 t g1 v f a.1 a.2 stops) (omega (arith, a.4, r.depth)) (omega (arith, a.3, r.tables)) (omega (arith, a.5, same, kids_cost_take c b S e2 t all)) r.reads
 
   -- nor is an element that another trail passed
   passed_element : (t : ℕ) (g : Live) (w : Way) (z1 z2 : Elements) (x1 x2 : Entry) (s : ElementTrail) (f : Fault) → elements_length z1 < elements_length z2 → IsInField c b S t g z1 x1 → IsInField c b S t g z2 x2 → StaysWithin (way_to_element c b S t g z2 w) L → IsElementTrail s c b S L x1 (way_to_element c b S t g z1 w) f → ⊥
@@ -95,10 +77,8 @@ module _ (c : Checks) (b : List ℕ) (S : Rows) (L : Bounds) where
       let xs = take (elements_length z2) all in
       let a = elements_at c b S z1 z2 xs x1 h2.passed (rw (take-take (elements_length z1) (elements_length z2) all (omega arith)) h1.passed) (get_take all (elements_length z1) (elements_length z2) lt ∙ h1.next) in
       let same = sym (elements_cost_take c b S z1 xs) ∙ ap (λ ys. elements_cost z1 c b S ys) (take-take (elements_length z1) (elements_length z2) all (omega arith)) ∙ elements_cost_take c b S z1 all in
-      elim (element_overruns c b S L s a.0 x1 (way_to_element c b S t g z1 w) f a.1 stops) [
-        | inl p ↦ omega (arith, p.1, a.3, r.depth)
-        | inr o ↦ elim o [ inl p ↦ omega (arith, p.1, a.2, r.tables) | inr p ↦ not_both L.reads _ _ (omega (arith, a.4, same, elements_cost_take c b S z2 (entries b S t g))) r.reads p.1 ]
-      ]
+      let v = way_to_element c b S t g z1 w in
+      not_past c b S L v _ _ _ _ f (element_overruns c b S L s a.0 x1 v f a.1 stops) (omega (arith, a.3, r.depth)) (omega (arith, a.2, r.tables)) (omega (arith, a.4, same, elements_cost_take c b S z2 all)) r.reads
 
   -- nor is a field of which another trail passed all tests
   passed_own : (t : ℕ) (x : Live) (w : Way) (z : Elements) (f : Fault) → IsField c b S t x → StaysWithin (way_to_element c b S t x z w) L → IsFalseAt c b S L (in_field t x) w f → ⊥
@@ -117,14 +97,14 @@ module _ (c : Checks) (b : List ℕ) (S : Rows) (L : Bounds) where
     one_fault (at_field e s) at_head k t w f g h i =
         absurd (opened_head k t w e h.0 g h.1.head (field_within s t h.0 (way_to_field c b S k t e h.0 w) f h.2) i)
     one_fault (at_field e1 s) (at_field e2 r) k t w f g h i =
-        elim (compare (kids_length e1) (kids_length e2)) [
-          | inl lt ↦ absurd (passed_field k t w e1 e2 h.0 i.0 s f lt h.1 i.1 (field_within r t i.0 (way_to_field c b S k t e2 i.0 w) g i.2) h.2)
+        elim (cases_order (kids_length e1) (kids_length e2)) [
+          | inl same ↦
+              let e : e2 ≡ e1 = one_kids c b S e2 e1 t (take (kids_length e2) (live_fields S k)) i.1.passed (rw same at h.1.passed) in
+              let x : i.0 ≡ h.0 = to_same (live_fields S k) (kids_length e2) (kids_length e1) (sym same) i.1.next h.1.next in
+              let on = one_field_fault s r t h.0 (way_to_field c b S k t e1 h.0 w) f g h.2 (subst (λ y. IsFieldTrail r c b S L t y (way_to_field c b S k t e1 y w) g) x (subst (λ y. IsFieldTrail r c b S L t i.0 (way_to_field c b S k t y i.0 w) g) e i.2)) in
+              (ap (at_field e1) on.0 ∙ ap (λ y. at_field y r) (sym e), on.1)
           | inr o ↦ elim o [
-            | inl same ↦
-                let e : e2 ≡ e1 = one_kids c b S e2 e1 t (take (kids_length e2) (live_fields S k)) i.1.passed (rw same at h.1.passed) in
-                let x : i.0 ≡ h.0 = to_same (live_fields S k) (kids_length e2) (kids_length e1) (sym same) i.1.next h.1.next in
-                let on = one_field_fault s r t h.0 (way_to_field c b S k t e1 h.0 w) f g h.2 (subst (λ y. IsFieldTrail r c b S L t y (way_to_field c b S k t e1 y w) g) x (subst (λ y. IsFieldTrail r c b S L t i.0 (way_to_field c b S k t y i.0 w) g) e i.2)) in
-                (ap (at_field e1) on.0 ∙ ap (λ y. at_field y r) (sym e), on.1)
+            | inl lt ↦ absurd (passed_field k t w e1 e2 h.0 i.0 s f lt h.1 i.1 (field_within r t i.0 (way_to_field c b S k t e2 i.0 w) g i.2) h.2)
             | inr gt ↦ absurd (passed_field k t w e2 e1 i.0 h.0 r g gt i.1 h.1 (field_within s t h.0 (way_to_field c b S k t e1 h.0 w) f h.2) i.2)
           ]
         ]
@@ -134,14 +114,14 @@ module _ (c : Checks) (b : List ℕ) (S : Rows) (L : Bounds) where
     one_field_fault at_own (at_element z r) t x w f g h i = absurd (passed_own t x w z f i.1.own (element_within r i.0 (way_to_element c b S t x z w) g i.2) h)
     one_field_fault (at_element z s) at_own t x w f g h i = absurd (passed_own t x w z g h.1.own (element_within s h.0 (way_to_element c b S t x z w) f h.2) i)
     one_field_fault (at_element z1 s) (at_element z2 r) t x w f g h i =
-        elim (compare (elements_length z1) (elements_length z2)) [
-          | inl lt ↦ absurd (passed_element t x w z1 z2 h.0 i.0 s f lt h.1 i.1 (element_within r i.0 (way_to_element c b S t x z2 w) g i.2) h.2)
+        elim (cases_order (elements_length z1) (elements_length z2)) [
+          | inl same ↦
+              let e : z2 ≡ z1 = one_elements c b S z2 z1 (take (elements_length z2) (entries b S t x)) i.1.passed (rw same at h.1.passed) in
+              let y : i.0 ≡ h.0 = to_same (entries b S t x) (elements_length z2) (elements_length z1) (sym same) i.1.next h.1.next in
+              let on = one_element_fault s r h.0 (way_to_element c b S t x z1 w) f g h.2 (subst (λ v. IsElementTrail r c b S L v (way_to_element c b S t x z1 w) g) y (subst (λ v. IsElementTrail r c b S L i.0 (way_to_element c b S t x v w) g) e i.2)) in
+              (ap (at_element z1) on.0 ∙ ap (λ y. at_element y r) (sym e), on.1)
           | inr o ↦ elim o [
-            | inl same ↦
-                let e : z2 ≡ z1 = one_elements c b S z2 z1 (take (elements_length z2) (entries b S t x)) i.1.passed (rw same at h.1.passed) in
-                let y : i.0 ≡ h.0 = to_same (entries b S t x) (elements_length z2) (elements_length z1) (sym same) i.1.next h.1.next in
-                let on = one_element_fault s r h.0 (way_to_element c b S t x z1 w) f g h.2 (subst (λ v. IsElementTrail r c b S L v (way_to_element c b S t x z1 w) g) y (subst (λ v. IsElementTrail r c b S L i.0 (way_to_element c b S t x v w) g) e i.2)) in
-                (ap (at_element z1) on.0 ∙ ap (λ y. at_element y r) (sym e), on.1)
+            | inl lt ↦ absurd (passed_element t x w z1 z2 h.0 i.0 s f lt h.1 i.1 (element_within r i.0 (way_to_element c b S t x z2 w) g i.2) h.2)
             | inr gt ↦ absurd (passed_element t x w z2 z1 i.0 h.0 r g gt i.1 h.1 (element_within s h.0 (way_to_element c b S t x z1 w) f h.2) i.2)
           ]
         ]
@@ -151,7 +131,7 @@ module _ (c : Checks) (b : List ℕ) (S : Rows) (L : Bounds) where
     one_element_fault at_lead (through r) x w f g h i = absurd (no_lead_fault L w x i.0 x.lead (element_failure c b x) f i.1 (through_passes c b x i.0 i.1 i.2) h.first)
     one_element_fault (through s) at_lead x w f g h i = absurd (no_lead_fault L w x h.0 x.lead (element_failure c b x) g h.1 (through_passes c b x h.0 h.1 h.2) i.first)
     one_element_fault (through s) (through r) x w f g h i =
-        let e : i.0 ≡ h.0 = same_table (sym i.1 ∙ h.1) in
+        let e : i.0 ≡ h.0 = let both = sym i.1 ∙ h.1 in cc in
         let on = one_fault s r h.0 (target b x.place) (way_to_table x w) f g h.3 (subst (λ k. IsTrail r c b S L k (target b x.place) (way_to_table x w) g) e i.3) in
         (ap through on.0, on.1)
 

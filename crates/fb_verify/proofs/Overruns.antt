@@ -1,69 +1,48 @@
 -- Where there is a tree, a trail stops only at a limit that the tree is past.
-use Rattle.std.proofs.Common.{◌≡◌, ℕ, ◌+◌, ◌≤◌, ◌⊎◌, inl, inr, Bool, true, false, List, [], ◌∷◌, take, refl, sym, ap, subst, arith, Option, Some, None}
+use Rattle.std.proofs.Common.{◌≡◌, ℕ, ◌+◌, ◌≤◌, ◌⊎◌, inr, List, [], ◌∷◌, take, refl, ap, subst, arith, Option, Some, None}
 use Rattle.std.specs.Prelude.{slice_get}
 use Rattle.std.proofs.lemmas.Bool.Decides.{nat_tests}
-use Rattle.fb_schema.specs.Rows.{Rows}
-use Rattle.fb_schema.specs.Live.{Live, live_fields}
-use Rattle.fb_verify.specs.declared.checks.Checks.{Checks}
-use Rattle.fb_verify.specs.declared.fault.Fault.{Fault}
+use Rattle.fb_schema.specs.{Rows.Rows, Live.Live, Live.live_fields}
+use Rattle.fb_verify.specs.declared.{checks.Checks.Checks, fault.Fault.Fault}
 use Rattle.fb_verify.specs.declared.fault.Reason.TheVariants.{TooDeep, TooManyTables, TooManyReads}
-use Rattle.fb_verify.specs.Bounds.{Bounds, allowed, AreTooMany}
+use Rattle.fb_verify.specs.Bounds.{Bounds, AreAllowed, AreTooMany}
 use Rattle.fb_verify.specs.Places.{target}
 use Rattle.fb_verify.specs.Facts.{IsTable}
-use Rattle.fb_verify.specs.Fields.{IsField, Lead, to_table, to_struct, to_string, to_nothing, Entry, entries}
-use Rattle.fb_verify.specs.Tree.{Tree, node, Kids, no_kids, kid, Elements, no_elements, element, Element, leaf, table, size, kids_size, elements_size, element_size, depth, kids_depth, elements_depth, element_depth, kids_length, elements_length}
+use Rattle.fb_verify.specs.Fields.{IsField, Lead, to_table, Entry, entries}
+use Rattle.fb_verify.specs.Tree.{Tree, node, Kids, no_kids, kid, Elements, no_elements, element, Element, table, size, kids_size, elements_size, element_size, depth, kids_depth, elements_depth, element_depth, kids_length, elements_length}
 use Rattle.fb_verify.specs.Unfolds.{Unfolds, FieldsUnfold, ElementsUnfold, ElementUnfolds}
 use Rattle.fb_verify.specs.Cost.{head_reads, own_reads, lead_reads, tree_cost, kids_cost, elements_cost, element_cost}
-use Rattle.fb_verify.specs.Order.{Failure, check, ◌▷◌, head_failure, own_failure, element_failure}
+use Rattle.fb_verify.specs.Order.{Failure, ◌▷◌, head_failure, own_failure, element_failure}
 use Rattle.fb_verify.specs.Way.{Way, way_to_field, way_to_element, way_to_table}
 use Rattle.fb_verify.specs.Stops.{in_head, fault_of, budget_failure, reads_failure, lead_reads_failure, fault_at, IsFalseAt, Trail, at_head, at_field, FieldTrail, at_own, at_element, ElementTrail, at_lead, through, IsTrail, IsFieldTrail, IsElementTrail}
 use Rattle.fb_verify.specs.Laws.{Overruns}
-use Rattle.fb_verify.proofs.Budgets.{are_too_many, more_reads}
+use Rattle.fb_verify.proofs.Budgets.{are_too_many, not_both, more_reads}
 use Rattle.fb_verify.proofs.Chains.{head_none, own_none, element_passes}
 use Rattle.fb_verify.proofs.Unique.{one_elements, one_element}
 
 pub some_same : {A : Type 0} {x y : A} → Some x ≡ Some y → x ≡ y
 some_same h = cc
 
--- a place whose chain finds nothing has no fault
-pub no_fault : (w : Way) (x : Option Failure) (f : Fault) → x ≡ None → fault_of w x ≡ Some f → ⊥
-no_fault w None f e h = absurd (cc)
-no_fault w (Some x) f e h = absurd (cc)
-
 -- the first of two chains that finds something
 pub either : {A : Type 0} (x y : Option A) (e : A) → x ▷ y ≡ Some e → (x ≡ Some e) ⊎ (y ≡ Some e)
-either None y e h = inr h
-either (Some d) y e h = inl h
+either x y e h = grind arith
 
 module _ (L : Bounds) (w : Way) where
   -- the budget of tables finds that it is used up
   budget_fault : (t : ℕ) (f : Fault) → fault_of w (budget_failure L w t) ≡ Some f → ((f.reason ≡ TooDeep) × (L.depth ≤ w.links)) ⊎ ((f.reason ≡ TooManyTables) × (L.tables ≤ w.passed))
   budget_fault t f h = grind (arith, nat_tests)
 
-  told_by : (v : Way) (n p : ℕ) (f : Fault) (holds : Bool) → allowed L.reads (w.paid + n) ≡ holds → fault_of v (check holds TooManyReads p n None) ≡ Some f → (f.reason ≡ TooManyReads) × AreTooMany L.reads (w.paid + n)
-  told_by v n p f true e h = absurd (cc)
-  told_by v n p f false e h = (ap (λ x. x.reason) (sym (some_same h)), are_too_many L.reads (w.paid + n) e)
-
   -- past a chain that finds nothing, the budget of reads finds too many
   pub reads_fault : (v : Way) (n p : ℕ) (x : Option Failure) (f : Fault) → x ≡ None → fault_of v (x ▷ reads_failure L w.paid n p) ≡ Some f → (f.reason ≡ TooManyReads) × AreTooMany L.reads (w.paid + n)
-  reads_fault v n p None f e h = told_by v n p f (allowed L.reads (w.paid + n)) refl h
-  reads_fault v n p (Some d) f e h = absurd (cc)
+  reads_fault v n p x f e h = grind (arith, nat_tests, are_too_many)
 
   -- the same of an element
   pub lead_reads_fault : (x : Entry) (lead : Lead) (e : Option Failure) (f : Fault) → e ≡ None → fault_of w (e ▷ lead_reads_failure L w.paid x lead) ≡ Some f → (f.reason ≡ TooManyReads) × AreTooMany L.reads (w.paid + (x.reads + lead_reads lead))
-  lead_reads_fault x (to_table k) None f o h = absurd (cc)
-  lead_reads_fault x (to_table k) (Some d) f o h = absurd (cc)
-  lead_reads_fault x (to_struct size align) e f o h = reads_fault w (x.reads + 1) x.place e f o h
-  lead_reads_fault x to_string e f o h = reads_fault w (x.reads + 3) x.place e f o h
-  lead_reads_fault x to_nothing e f o h = reads_fault w (x.reads + 0) x.place e f o h
+  lead_reads_fault x lead e f o h = grind (arith, reads_fault)
 
   -- an element that leads to a table isn't asked by itself
   pub no_lead_fault : (x : Entry) (k : ℕ) (lead : Lead) (e : Option Failure) (f : Fault) → lead ≡ to_table k → e ≡ None → fault_of w (e ▷ lead_reads_failure L w.paid x lead) ≡ Some f → ⊥
-  no_lead_fault x k (to_table j) None f l o h = absurd (cc)
-  no_lead_fault x k (to_table j) (Some d) f l o h = absurd (cc)
-  no_lead_fault x k (to_struct size align) e f l o h = absurd (cc)
-  no_lead_fault x k to_string e f l o h = absurd (cc)
-  no_lead_fault x k to_nothing e f l o h = absurd (cc)
+  no_lead_fault x k lead e f l o h = grind arith
 
 module _ (c : Checks) (b : List ℕ) (S : Rows) where
   -- what the field under check has in the tree
@@ -71,56 +50,42 @@ module _ (c : Checks) (b : List ℕ) (S : Rows) where
       → (ys : Elements) × IsField c b S t g × ElementsUnfold ys c b S (entries b S t g) × (kids_size earlier + elements_size ys ≤ kids_size kids) × (elements_depth ys ≤ kids_depth kids)
       × (kids_cost earlier c b S t fs + (own_reads b t g + elements_cost ys c b S (entries b S t g)) ≤ kids_cost kids c b S t fs)
   unfolding FieldsUnfold kids_length kids_size kids_depth kids_cost
-  kids_at no_kids no_kids t [] g h e s = absurd (cc)
-  kids_at no_kids no_kids t (f ∷ fs) g h e s = absurd h
-  kids_at no_kids (kid ys kids) t [] g h e s = absurd h
   kids_at no_kids (kid ys kids) t (f ∷ fs) g h e s =
       let i : f ≡ g = cc in
       let cheap : own_reads b t g + elements_cost ys c b S (entries b S t g) ≤ own_reads b t f + elements_cost ys c b S (entries b S t f) + kids_cost kids c b S t fs =
       subst (λ x. own_reads b t x + elements_cost ys c b S (entries b S t x) ≤ own_reads b t f + elements_cost ys c b S (entries b S t f) + kids_cost kids c b S t fs) i (omega arith) in
       (ys, subst (λ x. IsField c b S t x) i h.0, subst (λ x. ElementsUnfold ys c b S (entries b S t x)) i h.1, omega arith, omega arith, omega (arith, cheap))
-  kids_at (kid xs earlier) no_kids t [] g h e s = absurd e
-  kids_at (kid xs earlier) no_kids t (f ∷ fs) g h e s = absurd h
-  kids_at (kid xs earlier) (kid ys kids) t [] g h e s = absurd h
   kids_at (kid xs earlier) (kid ys kids) t (f ∷ fs) g h e s =
       let r = kids_at earlier kids t fs g h.2 e.2 s in
       let same = one_elements c b S xs ys (entries b S t f) e.1 h.1 in
       let i : elements_size xs ≡ elements_size ys = ap elements_size same in
       let j : elements_cost xs c b S (entries b S t f) ≡ elements_cost ys c b S (entries b S t f) = ap (λ z. elements_cost z c b S (entries b S t f)) same in
       (r.0, r.1, r.2, omega (arith, r.3), omega (arith, r.4), omega (arith, r.5, j))
+  kids_at earlier kids t fs g h e s = absurd (grind arith)
 
   -- what the element under check has in the tree
   pub elements_at : (before ys : Elements) (xs : List Entry) (x : Entry) → ElementsUnfold ys c b S xs → ElementsUnfold before c b S (take (elements_length before) xs) → slice_get xs (elements_length before) ≡ Some x
       → (y : Element) × ElementUnfolds y c b S x.place x.lead × (elements_size before + element_size y ≤ elements_size ys) × (element_depth y ≤ elements_depth ys)
       × (elements_cost before c b S xs + (x.reads + lead_reads x.lead + element_cost y c b S) ≤ elements_cost ys c b S xs)
   unfolding ElementsUnfold elements_length elements_size elements_depth elements_cost
-  elements_at no_elements no_elements [] x h e s = absurd (cc)
-  elements_at no_elements no_elements (z ∷ zs) x h e s = absurd h
-  elements_at no_elements (element y ys) [] x h e s = absurd h
   elements_at no_elements (element y ys) (z ∷ zs) x h e s =
       let i : z ≡ x = cc in
       let cheap : x.reads + lead_reads x.lead ≤ z.reads + lead_reads z.lead = subst (λ v. v.reads + lead_reads v.lead ≤ z.reads + lead_reads z.lead) i (omega arith) in
       (y, subst (λ v. ElementUnfolds y c b S v.place v.lead) i h.0, omega arith, omega arith, omega (arith, cheap))
-  elements_at (element v before) no_elements [] x h e s = absurd e
-  elements_at (element v before) no_elements (z ∷ zs) x h e s = absurd h
-  elements_at (element v before) (element y ys) [] x h e s = absurd h
   elements_at (element v before) (element y ys) (z ∷ zs) x h e s =
       let r = elements_at before ys zs x h.1 e.1 s in
       let same = one_element c b S v y z.place z.lead e.0 h.0 in
       let i : element_size v ≡ element_size y = ap element_size same in
       let j : element_cost v c b S ≡ element_cost y c b S = ap (λ u. element_cost u c b S) same in
       (r.0, r.1, omega (arith, r.2), omega (arith, r.3), omega (arith, r.4, j))
-
-  is_table : (y : Element) (p k : ℕ) → ElementUnfolds y c b S p (to_table k)
-      → (z : Tree) × Unfolds z c b S k (target b p) × (element_size y ≡ size z) × (element_depth y ≡ depth z) × (element_cost y c b S ≡ tree_cost z c b S)
-  unfolding ElementUnfolds element_size element_depth element_cost
-  is_table leaf p k h = absurd h
-  is_table (table z) p k h = (z, h.1, refl, refl, refl)
+  elements_at before ys xs x h e s = absurd (grind arith)
 
   -- an element that leads to a table is that table's tree
   pub table_at : (y : Element) (p k : ℕ) (lead : Lead) → lead ≡ to_table k → ElementUnfolds y c b S p lead
       → (z : Tree) × Unfolds z c b S k (target b p) × (element_size y ≡ size z) × (element_depth y ≡ depth z) × (element_cost y c b S ≡ tree_cost z c b S)
-  table_at y p k lead e h = is_table y p k (subst (λ l. ElementUnfolds y c b S p l) e h)
+  unfolding ElementUnfolds element_size element_depth element_cost
+  table_at (table z) p k (to_table j) e h = let same : j ≡ k = cc in (z, rw same at h.1, refl, refl, refl)
+  table_at y p k lead e h = absurd (grind arith)
 
   -- what was passed costs the same, however many fields or elements follow
 
@@ -139,18 +104,18 @@ module _ (c : Checks) (b : List ℕ) (S : Rows) where
   module _ (L : Bounds) where
     -- what is past a limit is past it where there is more
     more_overruns : (w v : Way) (d m r e n q : ℕ) (f : Fault) → Overruns L w d m r f → w.links + d ≤ v.links + e → w.passed + m ≤ v.passed + n → w.paid + r ≤ v.paid + q → Overruns L v e n q f
-    more_overruns w v d m r e n q f (inl p) deep many reads = inl (p.0, omega (arith, p.1, deep))
-    more_overruns w v d m r e n q f (inr (inl p)) deep many reads = inr (inl (p.0, omega (arith, p.1, many)))
-    more_overruns w v d m r e n q f (inr (inr p)) deep many reads = inr (inr (p.0, more_reads L.reads (w.paid + r) (v.paid + q) reads p.1))
+    more_overruns w v d m r e n q f past deep many reads = grind (arith, more_reads)
+
+    -- what stays within the limits isn't past them
+    pub not_past : (w : Way) (d m r q : ℕ) (f : Fault) → Overruns L w d m r f → w.links + d ≤ L.depth → w.passed + m ≤ L.tables → w.paid + r ≤ q → AreAllowed L.reads q → ⊥
+    not_past w d m r q f past deep many few reads = grind (arith, not_both)
 
     pub head_overruns : (k t : ℕ) (w : Way) (f : Fault) → IsTable c b t → IsFalseAt c b S L (in_head k t) w f → Overruns L w 1 1 (head_reads c) f
     unfolding fault_at
     head_overruns k t w f h i =
         let v : Way = record w { object = k; field = None } in
-        elim (either (fault_of w (budget_failure L w t)) (fault_of v (head_failure c b t ▷ reads_failure L w.paid (head_reads c) t)) f i.first) [
-          | inl p ↦ elim (budget_fault L w t f p) [ inl q ↦ inl (q.0, omega (arith, q.1)) | inr q ↦ inr (inl (q.0, omega (arith, q.1))) ]
-          | inr p ↦ inr (inr (reads_fault L w v (head_reads c) t (head_failure c b t) f ((head_none c b t).1 h) p))
-        ]
+        let e = either (fault_of w (budget_failure L w t)) (fault_of v (head_failure c b t ▷ reads_failure L w.paid (head_reads c) t)) f i.first in
+        grind (arith, budget_fault, reads_fault L w v (head_reads c) t (head_failure c b t) f ((head_none c b t).1 h))
 
     mutual
       unfolding Unfolds IsTrail IsFieldTrail IsElementTrail depth size tree_cost fault_at

@@ -1,31 +1,22 @@
 -- What a tree, and what a way to a fault, costs at most.
-use Rattle.std.proofs.Common.{ℕ, zero, suc, ◌+◌, ◌*◌, ◌≤◌, List, [], ◌∷◌, length, arith, Option, Some, None}
+use Rattle.std.proofs.Common.{ℕ, zero, suc, ◌+◌, ◌*◌, ◌≤◌, List, [], ◌∷◌, length, arith, Option}
 use Rattle.fb_bytes.specs.Word.{word}
 use Rattle.fb_schema.specs.declared.kinds.Kind.{Kind}
-use Rattle.fb_schema.specs.declared.kinds.Kind.TheVariants.{Scalar, Text, Struct, Table, Union, Scalars, Texts, Structs, Tables, Unions}
-use Rattle.fb_schema.specs.Rows.{Rows}
-use Rattle.fb_schema.specs.Live.{Live, live_fields}
-use Rattle.fb_schema.specs.Members.{member_of}
-use Rattle.fb_verify.specs.declared.checks.Checks.{Checks}
-use Rattle.fb_verify.specs.declared.start.Start.{Start}
-use Rattle.fb_verify.specs.declared.start.Start.TheVariants.{Bare, Prefixed}
+use Rattle.fb_schema.specs.{Rows.Rows, Live.Live, Live.live_fields, Members.member_of}
+use Rattle.fb_verify.specs.declared.{checks.Checks.Checks, start.Start.Start}
 use Rattle.fb_verify.specs.declared.start.Ident.{Ident}
-use Rattle.fb_verify.specs.declared.start.Ident.TheVariants.{Any, Want}
-use Rattle.fb_verify.specs.Places.{target, field_place}
-use Rattle.fb_verify.specs.Fields.{IsPresent, IsPresentOrAbsent, IsField, type_place, union_type, types_begin, Lead, to_table, to_struct, to_string, to_nothing, lead_of, Entry, row, union_row, union_entry, entries_of, entries_at, entries}
+use Rattle.fb_verify.specs.Places.{target}
+use Rattle.fb_verify.specs.Fields.{IsPresent, IsField, Lead, to_table, lead_of, Entry, row, union_row, union_entry, entries_of, entries}
 use Rattle.fb_verify.specs.Tree.{Tree, node, Kids, no_kids, kid, Elements, no_elements, element, Element, leaf, table, size, kids_size, elements_size, element_size, kids_length, elements_length}
 use Rattle.fb_verify.specs.Unfolds.{Unfolds, FieldsUnfold, ElementsUnfold, ElementUnfolds}
 use Rattle.fb_verify.specs.WellFormed.{start_reads}
-use Rattle.fb_verify.specs.Cost.{present_reads, reads_at, own_reads, lead_reads, tree_cost, kids_cost, elements_cost, element_cost}
+use Rattle.fb_verify.specs.Cost.{present_reads, own_reads, lead_reads, tree_cost, kids_cost, elements_cost, element_cost}
 use Rattle.fb_verify.proofs.Frames.{lead_few, if_present_few, head_few, slot_few}
 
 -- the start
 
 pub start_price : (start : Start) (ident : Ident) → start_reads start ident ≤ 3
-start_price Bare Any = omega arith
-start_price Bare (Want name) = omega arith
-start_price Prefixed Any = omega arith
-start_price Prefixed (Want name) = omega arith
+start_price start ident = grind arith
 
 -- the reads of a field with all its elements, but for the tables below
 
@@ -45,31 +36,16 @@ reads_of_union_row b S e q p (suc n) = omega (arith, lead_few (lead_of S (member
 
 reads_of_union : (S : Rows) (p : ℕ) (member : Option Kind) → row_reads (union_entry S p member) ≤ 3
 unfolding row_reads
-reads_of_union S p None = omega arith
-reads_of_union S p (Some m) = omega (arith, lead_few (lead_of S (Some m)))
+reads_of_union S p member = grind (arith, lead_few)
 
 module _ (c : Checks) (b : List ℕ) (S : Rows) where
   present_price : (t : ℕ) (f : Live) (p : ℕ) (kind : Kind) → IsPresent c b S t f p kind → present_reads b t f.slot kind + row_reads (entries_of b S t f p kind) ≤ 5 + length b
   unfolding row_reads
-  present_price t f p (Scalar s) h = omega arith
-  present_price t f p (Struct k) h = omega arith
-  present_price t f p Text h = omega arith
-  present_price t f p (Table k) h = omega arith
-  present_price t f p (Union e) h = omega (arith, if_present_few 1 (type_place b t f.slot), reads_of_union S p (member_of S e (union_type b (type_place b t f.slot))))
-  present_price t f p (Scalars s) h = omega arith
-  present_price t f p (Structs k) h = omega arith
-  present_price t f p Texts h = omega (arith, reads_of_row to_string (target b p + 4) (word b (target b p) 4), h.vector.within)
-  present_price t f p (Tables k) h = omega (arith, reads_of_row (to_table k) (target b p + 4) (word b (target b p) 4), h.vector.within)
-  present_price t f p (Unions e) h = omega (arith, if_present_few 2 (type_place b t f.slot), reads_of_union_row b S e (types_begin b (type_place b t f.slot)) (target b p + 4) (word b (target b p) 4), h.field.vector.within)
-
-  price_at : (t : ℕ) (f : Live) (place : Option ℕ) → IsPresentOrAbsent c b S t f place → reads_at b t f place + row_reads (entries_at b S t f place) ≤ 5 + length b
-  unfolding row_reads
-  price_at t f None h = omega arith
-  price_at t f (Some p) h = present_price t f p f.kind h
+  present_price t f p kind h = grind (arith, if_present_few, reads_of_union, reads_of_row, reads_of_union_row)
 
   pub field_price : (t : ℕ) (f : Live) → IsField c b S t f → own_reads b t f + row_reads (entries b S t f) ≤ 6 + length b
-  unfolding own_reads entries IsField
-  field_price t f h = omega (arith, slot_few b t f.slot, price_at t f (field_place b t f.slot) h)
+  unfolding own_reads entries IsField row_reads
+  field_price t f h = grind (arith, slot_few, present_price)
 
   -- with so many reads a field at most, and so many a table
   module _ (P B : ℕ) (each : (t : ℕ) (f : Live) → IsField c b S t f → own_reads b t f + row_reads (entries b S t f) ≤ P) (all : (k : ℕ) → 3 + length (live_fields S k) * P ≤ B) where
@@ -96,6 +72,4 @@ module _ (c : Checks) (b : List ℕ) (S : Rows) where
       element_price : (y : Element) (p : ℕ) (lead : Lead) → ElementUnfolds y c b S p lead → element_cost y c b S ≤ B * element_size y
       element_price leaf p lead h = omega arith
       element_price (table y) p (to_table k) h = tree_price y k (target b p) h.1
-      element_price (table y) p (to_struct size align) h = absurd h
-      element_price (table y) p to_string h = absurd h
-      element_price (table y) p to_nothing h = absurd h
+      element_price y p lead h = absurd h

@@ -1,8 +1,9 @@
 -- One more at the end of the elements of a field, and of the fields of a table.
-use Rattle.std.proofs.Common.{◌≡◌, ℕ, zero, suc, ◌+◌, ◌≤◌, max, List, [], ◌∷◌, length, take, drop, refl, ap, arith, Some}
+use Rattle.std.proofs.Common.{◌≡◌, ℕ, zero, suc, ◌+◌, ◌≤◌, max, List, [], ◌∷◌, ◌++◌, length, take, drop, refl, sym, ◌∙◌, ap, arith, Some}
+use Rattle.std.proofs.Math.Seq.{drop-nil}
+use Rattle.std.proofs.lemmas.List.{append-nil, take-append-drop, take_all as take_whole}
 use Rattle.std.specs.Prelude.{slice_get}
-use Rattle.fb_schema.specs.Rows.{Rows}
-use Rattle.fb_schema.specs.Live.{Live}
+use Rattle.fb_schema.specs.{Rows.Rows, Live.Live}
 use Rattle.fb_verify.specs.declared.checks.Checks.{Checks}
 use Rattle.fb_verify.specs.Fields.{IsField, Entry, entries}
 use Rattle.fb_verify.specs.Tree.{Kids, no_kids, kid, Elements, no_elements, element, Element, kids_size, elements_size, element_size, kids_depth, elements_depth, element_depth, kids_length, elements_length}
@@ -32,59 +33,47 @@ kids_pushed (kid xs kids) ys = let h = kids_pushed kids ys in (omega (arith, h.0
 
 -- what is at a place is the first of what is left from there
 pub front_of : {A : Type 0} (xs : List A) (n : ℕ) (x : A) (ys : List A) → drop n xs ≡ x ∷ ys → slice_get xs n ≡ Some x
-front_of [] zero x ys h = absurd cc
-front_of [] (suc n) x ys h = absurd cc
 front_of (z ∷ xs) zero x ys h = let e : z ≡ x = cc in ap Some e
 front_of (z ∷ xs) (suc n) x ys h = front_of xs n x ys h
+front_of [] n x ys h = let e : [] ≡ x ∷ ys = sym (drop-nil n) ∙ h in absurd cc
 
 pub rest_of : {A : Type 0} (xs : List A) (n : ℕ) (x : A) (ys : List A) → drop n xs ≡ x ∷ ys → drop (suc n) xs ≡ ys
-rest_of [] zero x ys h = absurd cc
-rest_of [] (suc n) x ys h = absurd cc
 rest_of (z ∷ xs) zero x ys h = cc
 rest_of (z ∷ xs) (suc n) x ys h = rest_of xs n x ys h
+rest_of [] n x ys h = let e : [] ≡ x ∷ ys = sym (drop-nil n) ∙ h in absurd cc
 
 -- nothing is left
 pub all_of : {A : Type 0} (xs : List A) (n : ℕ) → drop n xs ≡ [] → take n xs ≡ xs
-all_of [] zero h = refl
-all_of [] (suc n) h = refl
-all_of (z ∷ xs) zero h = absurd cc
-all_of (z ∷ xs) (suc n) h = ap (λ ys. z ∷ ys) (all_of xs n h)
+all_of xs n h = sym (append-nil (take n xs)) ∙ ap (λ ys. take n xs ++ ys) (sym h) ∙ take-append-drop n xs
 
 pub take_all : {A : Type 0} (xs : List A) (n : ℕ) → length xs ≤ n → take n xs ≡ xs
-take_all [] zero h = refl
-take_all [] (suc n) h = refl
-take_all (x ∷ xs) zero h = absurd (omega arith)
-take_all (x ∷ xs) (suc n) h = ap (λ ys. x ∷ ys) (take_all xs n (omega arith))
+take_all xs n h = take_whole n xs h
 
 module _ (c : Checks) (b : List ℕ) (S : Rows) where
   pub ElementsUnfold-push : (ys : Elements) (xs : List Entry) (y : Element) (x : Entry) → ElementsUnfold ys c b S (take (elements_length ys) xs) → slice_get xs (elements_length ys) ≡ Some x → ElementUnfolds y c b S x.place x.lead
       → ElementsUnfold (elements_push ys y) c b S (take (suc (elements_length ys)) xs)
   unfolding ElementsUnfold elements_push elements_length
-  ElementsUnfold-push no_elements [] y x h g u = absurd cc
   ElementsUnfold-push no_elements (z ∷ xs) y x h g u = let e : x ≡ z = cc in (rw e at u, tt)
-  ElementsUnfold-push (element z ys) [] y x h g u = absurd h
   ElementsUnfold-push (element z ys) (e ∷ xs) y x h g u = (h.0, ElementsUnfold-push ys xs y x h.1 g u)
+  ElementsUnfold-push ys xs y x h g u = absurd (grind arith)
 
   pub elements_cost-push : (ys : Elements) (xs : List Entry) (y : Element) (x : Entry) → slice_get xs (elements_length ys) ≡ Some x
       → elements_cost (elements_push ys y) c b S xs ≡ elements_cost ys c b S xs + (x.reads + lead_reads x.lead + element_cost y c b S)
   unfolding elements_cost elements_push elements_length
-  elements_cost-push no_elements [] y x g = absurd cc
   elements_cost-push no_elements (z ∷ xs) y x g = let e : z ≡ x = cc in rw e (omega arith)
-  elements_cost-push (element z ys) [] y x g = absurd cc
   elements_cost-push (element z ys) (e ∷ xs) y x g = omega (arith, elements_cost-push ys xs y x g)
+  elements_cost-push ys xs y x g = absurd (cc)
 
   pub FieldsUnfold-push : (t : ℕ) (kids : Kids) (fs : List Live) (ys : Elements) (f : Live) → FieldsUnfold kids c b S t (take (kids_length kids) fs) → slice_get fs (kids_length kids) ≡ Some f
       → IsField c b S t f → ElementsUnfold ys c b S (entries b S t f) → FieldsUnfold (kids_push kids ys) c b S t (take (suc (kids_length kids)) fs)
   unfolding FieldsUnfold kids_push kids_length
-  FieldsUnfold-push t no_kids [] ys f h g o u = absurd cc
   FieldsUnfold-push t no_kids (z ∷ fs) ys f h g o u = let e : f ≡ z = cc in (rw e at o, rw e at u, tt)
-  FieldsUnfold-push t (kid xs kids) [] ys f h g o u = absurd h
   FieldsUnfold-push t (kid xs kids) (z ∷ fs) ys f h g o u = (h.0, h.1, FieldsUnfold-push t kids fs ys f h.2 g o u)
+  FieldsUnfold-push t kids fs ys f h g o u = absurd (grind arith)
 
   pub kids_cost-push : (t : ℕ) (kids : Kids) (fs : List Live) (ys : Elements) (f : Live) → slice_get fs (kids_length kids) ≡ Some f
       → kids_cost (kids_push kids ys) c b S t fs ≡ kids_cost kids c b S t fs + (own_reads b t f + elements_cost ys c b S (entries b S t f))
   unfolding kids_cost kids_push kids_length
-  kids_cost-push t no_kids [] ys f g = absurd cc
   kids_cost-push t no_kids (z ∷ fs) ys f g = let e : z ≡ f = cc in rw e (omega arith)
-  kids_cost-push t (kid xs kids) [] ys f g = absurd cc
   kids_cost-push t (kid xs kids) (z ∷ fs) ys f g = omega (arith, kids_cost-push t kids fs ys f g)
+  kids_cost-push t kids fs ys f g = absurd (cc)

@@ -1,68 +1,33 @@
 -- From a refusal to the fault at a site.
-use Rattle.std.proofs.Common.{◌≡◌, ℕ, ◌+◌, Bool, true, false, refl, ap, Option, Some, None}
-use Rattle.fb_verify.specs.declared.fault.Fault.{Fault}
-use Rattle.fb_verify.specs.declared.fault.Reason.{Reason}
-use Rattle.fb_verify.specs.declared.site.Site.{Site}
+use Rattle.std.proofs.Common.{◌≡◌, ℕ, ◌+◌, false, arith, Option, Some, None}
+use Rattle.fb_verify.specs.declared.{fault.Fault.Fault, site.Site.Site, site.Refusal.Refusal, site.Stop.Stop}
 use Rattle.fb_verify.specs.declared.fault.Reason.TheVariants.{TooManyReads}
-use Rattle.fb_verify.specs.declared.site.Refusal.{Refusal}
-use Rattle.fb_verify.specs.declared.site.Stop.{Stop}
 use Rattle.fb_verify.specs.Bounds.{Bounds, allowed}
 use Rattle.fb_verify.specs.Cost.{lead_reads}
-use Rattle.fb_verify.specs.Fields.{Lead, to_table, to_struct, to_string, to_nothing, Entry}
-use Rattle.fb_verify.specs.Order.{Failure, check, after, ◌▷◌}
+use Rattle.fb_verify.specs.Fields.{Lead, Entry}
+use Rattle.fb_verify.specs.Order.{Failure, after, ◌▷◌}
 use Rattle.fb_verify.specs.OffsetRows.{IsLeafLead}
 use Rattle.fb_verify.specs.Stops.{reads_failure, lead_reads_failure}
 use Rattle.fb_verify.specs.Told.{told, refused, stopped}
 
--- the parts of a failure
-same_reason : {d e : Failure} → Some d ≡ Some e → d.reason ≡ e.reason
-same_reason h = cc
-
-same_at : {d e : Failure} → Some d ≡ Some e → d.at ≡ e.at
-same_at h = cc
-
-same_reads : {d e : Failure} → Some d ≡ Some e → d.reads ≡ e.reads
-same_reads h = cc
-
-abbrev the_fault : Site → Reason → (place reads : ℕ) → Fault
-the_fault site reason place reads = record { at = place; object = site.object; field = site.field; reason = reason; reads = reads }
-
--- two faults at a site are one where their parts are
-same_fault : (site : Site) (reason reason' : Reason) (place reads place' reads' : ℕ) → reason ≡ reason' → place ≡ place' → reads ≡ reads' → the_fault site reason place reads ≡ the_fault site reason' place' reads'
-same_fault site reason reason' place reads place' reads' a b c = cc
-
 -- a failure that is refused so is told so
 pub told_after : (site : Site) (paid reads : ℕ) (x : Option Failure) (e : Refusal) → after paid x ≡ Some (refused e reads) → told site paid x ≡ Some (stopped (record { site = site; refusal = e }) reads)
-told_after site paid reads None e h = absurd cc
-told_after site paid reads (Some x) e h =
-    let reason : x.reason ≡ e.reason = same_reason h in
-    let place : x.at ≡ e.at = same_at h in
-    let count : paid + x.reads ≡ reads = same_reads h in
-    ap Some (same_fault site x.reason e.reason x.at (paid + x.reads) e.at reads reason place count)
+told_after site paid reads x e h = grind arith
 
 -- what the first of two chains finds is told
 pub told_first : (site : Site) (paid : ℕ) (x y : Option Failure) (f : Fault) → told site paid x ≡ Some f → told site paid (x ▷ y) ≡ Some f
-told_first site paid None y f h = absurd cc
-told_first site paid (Some e) y f h = h
+told_first site paid x y f h = grind arith
 
 -- where a walk stops for too many reads
 abbrev pub spent : Site → ℕ → Stop
 spent site place = record { refusal = record { at = place; reason = TooManyReads }; site = site }
 
-told_spent : (site : Site) (paid n place : ℕ) (holds : Bool) → holds ≡ false → told site paid (check holds TooManyReads place n None) ≡ Some (stopped (spent site place) (paid + n))
-told_spent site paid n place true h = absurd cc
-told_spent site paid n place false h = refl
-
 -- past a chain that finds nothing, too many reads are told
 pub told_reads : (L : Bounds) (site : Site) (paid n place reads : ℕ) (x : Option Failure) (s : Stop) → x ≡ None → reads ≡ paid + n → allowed L.reads reads ≡ false → s ≡ spent site place
     → told site paid (x ▷ reads_failure L paid n place) ≡ Some (stopped s reads)
-told_reads L site paid n place reads (Some e) s o r h i = absurd cc
-told_reads L site paid n place reads None s o r h i = rw (i, r) (told_spent site paid n place (allowed L.reads (paid + n)) (rw r at h))
+told_reads L site paid n place reads x s o r h i = grind arith
 
 -- the same of an element that leads to no table
 pub told_lead_reads : (L : Bounds) (site : Site) (paid reads : ℕ) (x : Entry) (lead : Lead) (e : Option Failure) (s : Stop) → IsLeafLead lead → e ≡ None → reads ≡ paid + (x.reads + lead_reads lead) → allowed L.reads reads ≡ false
     → s ≡ spent site x.place → told site paid (e ▷ lead_reads_failure L paid x lead) ≡ Some (stopped s reads)
-told_lead_reads L site paid reads x (to_table k) e s l o r h i = absurd l
-told_lead_reads L site paid reads x (to_struct size align) e s l o r h i = told_reads L site paid _ x.place reads e s o r h i
-told_lead_reads L site paid reads x to_string e s l o r h i = told_reads L site paid _ x.place reads e s o r h i
-told_lead_reads L site paid reads x to_nothing e s l o r h i = told_reads L site paid _ x.place reads e s o r h i
+told_lead_reads L site paid reads x lead e s l o r h i = grind (arith, told_reads)

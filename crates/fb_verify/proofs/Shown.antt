@@ -1,30 +1,31 @@
 -- The examples, by computing the chains of tests.
-use Rattle.std.proofs.Common.{◌≡◌, ℕ, List, refl, arith, None}
+use Rattle.std.proofs.Common.{◌≡◌, ℕ, List, take, refl, rules, None, Some}
+use Rattle.std.specs.Prelude.{slice_get}
 use Rattle.fb_bytes.specs.Word.{word}
-use Rattle.fb_schema.specs.Rows.{Rows}
-use Rattle.fb_schema.specs.Live.{Live, live_fields}
-use Rattle.fb_schema.specs.Kinds.{shape_of, kind_of, base_types}
-use Rattle.fb_schema.specs.Members.{member_of}
-use Rattle.fb_verify.specs.declared.checks.Checks.{Checks}
-use Rattle.fb_verify.specs.declared.start.Start.{Start}
-use Rattle.fb_verify.specs.declared.start.Ident.{Ident}
-use Rattle.fb_verify.specs.Places.{is_aligned, has_vtable, vtable, field_place, ends_in_table}
+use Rattle.fb_schema.specs.{Rows.Rows, Live.Live, Live.live_fields, Kinds.shape_of, Kinds.kind_of, Kinds.base_types, Members.member_of}
+use Rattle.fb_verify.specs.declared.{checks.Checks.Checks, start.Start.Start, start.Ident.Ident}
 use Rattle.fb_verify.specs.Facts.{IsTable, IsOffset, IsString, IsInline}
-use Rattle.fb_verify.specs.Fields.{IsField, entries, row, union_row}
-use Rattle.fb_verify.specs.Tree.{size, depth, kids_length, elements_length}
-use Rattle.fb_verify.specs.Unfolds.{Unfolds}
-use Rattle.fb_verify.specs.Cost.{own_reads, tree_cost}
 use Rattle.fb_verify.specs.WellFormed.{IsStart}
+use Rattle.fb_verify.specs.Places.{is_aligned, has_vtable, vtable, field_place, ends_in_table}
+use Rattle.fb_verify.specs.Fields.{IsField, Entry, entries, row, union_row}
+use Rattle.fb_verify.specs.Tree.{Kids, Elements, size, depth, kids_length, elements_length}
+use Rattle.fb_verify.specs.Unfolds.{Unfolds, FieldsUnfold, ElementsUnfold}
+use Rattle.fb_verify.specs.Cost.{own_reads, tree_cost}
 use Rattle.fb_verify.specs.Order.{own_failure, element_failure, start_failure, prefix_failure, ident_failure, head_failure, offset_failure, string_failure, vector_failure, inline_failure, table_failure}
-use Rattle.fb_verify.specs.Stops.{fault_at, IsTrail}
-use Rattle.fb_verify.specs.Samples.{published_checks, nodes, unions, every_kind, shared}
-use Rattle.fb_verify.specs.Examples.{MonsterUnfolds, OneMemberUnfolds, TwoMembersUnfold, number, EveryKindUnfolds, last, middle, OpenNameStops, NoNameStops, ThreeValuesStop, CrookedStructStops, SeventhTableStops, ThirdLevelStops, OddVtableStops, ShortTableStops, FirstReadStops, LastTextStops, SeventhHeadStops, LastFieldStops, BudgetsByLength}
+use Rattle.fb_verify.specs.Stops.{fault_at, IsLink, IsInField, IsTrail}
+use Rattle.fb_verify.specs.Samples.{published_checks, nodes, shared}
+use Rattle.fb_verify.specs.Examples.{MonsterUnfolds, OneMemberUnfolds, TwoMembersUnfold, EveryKindUnfolds, last, middle, OpenNameStops, NoNameStops, ThreeValuesStop, CrookedStructStops, SeventhTableStops, ThirdLevelStops, OddVtableStops, ShortTableStops, FirstReadStops, LastTextStops, SeventhHeadStops, LastFieldStops, BudgetsByLength}
 use Rattle.fb_verify.proofs.Chains.{start_none, head_none, own_none, offset_none, string_none, inline_none}
 
 -- all that is computed
 unfoldable pub computing : ℕ
 unfolding word live_fields kind_of shape_of base_types member_of is_aligned has_vtable vtable field_place ends_in_table entries row union_row size depth Unfolds own_reads tree_cost own_failure element_failure start_failure prefix_failure ident_failure head_failure offset_failure string_failure vector_failure inline_failure table_failure IsTrail fault_at kids_length elements_length
 computing = 0
+
+-- with the facts of fields
+unfoldable pub showing : ℕ
+unfolding computing IsField
+showing = 0
 
 -- a chain that finds nothing tells the facts
 
@@ -46,108 +47,98 @@ string {c} {b} {s} h = (string_none c b s).0 h
 pub inline : {c : Checks} {b : List ℕ} {p n a : ℕ} → inline_failure c b p n a ≡ None → IsInline c b p n a
 inline {c} {b} {p} {n} {a} h = (inline_none c b p n a).0 h
 
+pub ruleset shown = (rules, start, head, own, offset, string, inline)
+
+-- a trail goes on past fields of a table, and past elements of a field
+
+pub past : {c : Checks} {b : List ℕ} {S : Rows} {k t : ℕ} {earlier : Kids} {g : Live} → head_failure c b t ≡ None → FieldsUnfold earlier c b S t (take (kids_length earlier) (live_fields S k))
+    → slice_get (live_fields S k) (kids_length earlier) ≡ Some g → IsLink c b S k t earlier g
+past h passed next = record { head = (head_none _ _ _).0 h; passed = passed; next = next }
+
+pub among : {c : Checks} {b : List ℕ} {S : Rows} {t : ℕ} {g : Live} {before : Elements} {x : Entry} → own_failure c b S t g ≡ None → ElementsUnfold before c b S (take (elements_length before) (entries b S t g))
+    → slice_get (entries b S t g) (elements_length before) ≡ Some x → IsInField c b S t g before x
+among h passed next = record { own = (own_none _ _ _ _ _).0 h; passed = passed; next = next }
+
 -- trees
 
 pub monster_unfolds : MonsterUnfolds
-unfolding computing
-monster_unfolds =
-    (record { starts = start refl; unfolds = (refl, refl, head refl, (own _ _ _ _ _ refl, tt, (own _ _ _ _ _ refl, ((offset refl, string refl), tt), tt))) }, refl, refl, refl)
+unfolding showing
+monster_unfolds = search shown
 
 pub one_member_unfolds : OneMemberUnfolds
-unfolding computing
-one_member_unfolds =
-    (record { starts = start refl; unfolds = (refl, refl, head refl, (own _ _ _ _ _ refl, tt, (own _ _ _ _ _ refl, ((offset refl, (refl, refl, head refl, (own _ _ _ _ _ refl, tt, tt))), tt), tt))) }, refl, refl, refl)
+unfolding showing
+one_member_unfolds = search shown
 
 pub two_members_unfold : TwoMembersUnfold
-unfolding computing
-two_members_unfold =
-    (record { starts = start refl; unfolds = (refl, refl, head refl, (own _ _ _ _ _ refl, tt, (own _ _ _ _ _ refl, ((offset refl, string refl), (tt, tt)), tt))) }, refl, refl, refl)
+unfolding showing
+two_members_unfold = search shown
 
 last_unfolds : Unfolds last published_checks shared nodes 0 40
-unfolding computing
-last_unfolds = (refl, refl, head refl, (own _ _ _ _ _ refl, tt, (own _ _ _ _ _ refl, tt, tt)))
+unfolding showing
+last_unfolds = search shown
 
 middle_unfolds : Unfolds middle published_checks shared nodes 0 28
-unfolding computing
-middle_unfolds = (refl, refl, head refl, (own _ _ _ _ _ refl, ((offset refl, last_unfolds), tt), (own _ _ _ _ _ refl, ((offset refl, last_unfolds), tt), tt)))
-
-number_unfolds : Unfolds number published_checks every_kind unions 0 168
-unfolding computing
-number_unfolds = (refl, refl, head refl, (own _ _ _ _ _ refl, tt, tt))
+unfolding showing
+middle_unfolds = search shown
 
 pub every_kind_unfolds : EveryKindUnfolds
-unfolding computing
-every_kind_unfolds = (record { starts = start refl; unfolds = (refl, refl, head refl, (own _ _ _ _ _ refl, tt, (own _ _ _ _ _ refl, ((offset refl, string refl), tt), (own _ _ _ _ _ refl, tt, (own _ _ _ _ _ refl, ((offset refl, number_unfolds), tt), (own _ _ _ _ _ refl, tt, (own _ _ _ _ _ refl, ((offset refl, string refl), tt), (own _ _ _ _ _ refl, tt, (own _ _ _ _ _ refl, tt, (own _ _ _ _ _ refl, ((offset refl, string refl), ((offset refl, string refl), tt)), (own _ _ _ _ _ refl, ((offset refl, number_unfolds), ((offset refl, number_unfolds), tt)), (own _ _ _ _ _ refl, tt, (own _ _ _ _ _ refl, ((offset refl, inline refl), ((offset refl, number_unfolds), (tt, tt))), tt))))))))))))) }, refl, refl, refl)
+unfolding showing
+every_kind_unfolds = search shown
 
 -- faults
 
 pub open_name_stops : OpenNameStops
-unfolding computing
-open_name_stops =
-    (start refl, (_, record { head = head refl; passed = (own _ _ _ _ _ refl, tt, tt); next = refl }, (_, record { own = own _ _ _ _ _ refl; passed = tt; next = refl }, record { within = record { tables = omega arith; depth = omega arith; reads = tt }; first = refl })))
+unfolding showing
+open_name_stops = (search shown, (_, past refl (search shown) refl, (_, among refl tt refl, search rules)))
 
 pub no_name_stops : NoNameStops
-unfolding computing
-no_name_stops =
-    (start refl, (_, record { head = head refl; passed = (own _ _ _ _ _ refl, tt, tt); next = refl }, (_, record { own = own _ _ _ _ _ refl; passed = tt; next = refl }, record { within = record { tables = omega arith; depth = omega arith; reads = tt }; first = refl })))
+unfolding showing
+no_name_stops = (search shown, (_, past refl (search shown) refl, (_, among refl tt refl, search rules)))
 
 pub three_values_stop : ThreeValuesStop
-unfolding computing
-three_values_stop =
-    (start refl, (_, record { head = head refl; passed = (own _ _ _ _ _ refl, tt, tt); next = refl }, record { within = record { tables = omega arith; depth = omega arith; reads = tt }; first = refl }))
+unfolding showing
+three_values_stop = (search shown, (_, past refl (search shown) refl, search rules))
 
 pub crooked_struct_stops : CrookedStructStops
-unfolding computing
-crooked_struct_stops =
-    (start refl, (_, record { head = head refl; passed = (own _ _ _ _ _ refl, tt, tt); next = refl }, (_, record { own = own _ _ _ _ _ refl; passed = tt; next = refl }, record { within = record { tables = omega arith; depth = omega arith; reads = tt }; first = refl })))
+unfolding showing
+crooked_struct_stops = (search shown, (_, past refl (search shown) refl, (_, among refl tt refl, search rules)))
 
 pub seventh_table_stops : SeventhTableStops
-unfolding computing
+unfolding showing
 seventh_table_stops =
-    (start refl, (_, record { head = head refl; passed = (own _ _ _ _ _ refl, ((offset refl, middle_unfolds), tt), tt); next = refl }, (_, record { own = own _ _ _ _ _ refl; passed = tt; next = refl }, (_, refl, offset refl, (_, record { head = head refl; passed = (own _ _ _ _ _ refl, ((offset refl, last_unfolds), tt), tt); next = refl }, (_, record { own = own _ _ _ _ _ refl; passed = tt; next = refl }, (_, refl, offset refl, record { within = record { tables = omega arith; depth = omega arith; reads = tt }; first = refl })))))))
+    (search shown, (_, past refl (search (shown, middle_unfolds)) refl, (_, among refl tt refl, (_, refl, search shown, (_, past refl (search (shown, last_unfolds)) refl, (_, among refl tt refl, (_, refl, search shown, search rules)))))))
 
 pub third_level_stops : ThirdLevelStops
-unfolding computing
+unfolding showing
 third_level_stops =
-    (start refl, (_, record { head = head refl; passed = tt; next = refl }, (_, record { own = own _ _ _ _ _ refl; passed = tt; next = refl }, (_, refl, offset refl, (_, record { head = head refl; passed = tt; next = refl }, (_, record { own = own _ _ _ _ _ refl; passed = tt; next = refl }, (_, refl, offset refl, record { within = record { tables = omega arith; depth = omega arith; reads = tt }; first = refl })))))))
+    (search shown, (_, past refl tt refl, (_, among refl tt refl, (_, refl, search shown, (_, past refl tt refl, (_, among refl tt refl, (_, refl, search shown, search rules)))))))
 
 pub odd_vtable_stops : OddVtableStops
-unfolding computing
-odd_vtable_stops =
-    (start refl, (_, record { head = head refl; passed = (own _ _ _ _ _ refl, tt, tt); next = refl }, (_, record { own = own _ _ _ _ _ refl; passed = tt; next = refl }, (_, refl, offset refl, record { within = record { tables = omega arith; depth = omega arith; reads = tt }; first = refl }))))
+unfolding showing
+odd_vtable_stops = (search shown, (_, past refl (search shown) refl, (_, among refl tt refl, (_, refl, search shown, search rules))))
 
 pub short_table_stops : ShortTableStops
-unfolding computing
-short_table_stops =
-    (start refl, (_, record { head = head refl; passed = tt; next = refl }, record { within = record { tables = omega arith; depth = omega arith; reads = tt }; first = refl }))
+unfolding showing
+short_table_stops = (search shown, (_, past refl tt refl, search rules))
 
 pub first_read_stops : FirstReadStops
-unfolding computing
-first_read_stops = record { within = record { tables = omega arith; depth = omega arith; reads = omega arith }; first = refl }
+unfolding showing
+first_read_stops = search rules
 
 pub last_text_stops : LastTextStops
-unfolding computing
-last_text_stops =
-    (start refl, (_, record { head = head refl; passed = (own _ _ _ _ _ refl, tt, tt); next = refl }, (_, record { own = own _ _ _ _ _ refl; passed = tt; next = refl }, record { within = record { tables = omega arith; depth = omega arith; reads = omega arith }; first = refl })))
+unfolding showing
+last_text_stops = (search shown, (_, past refl (search shown) refl, (_, among refl tt refl, search rules)))
 
 pub seventh_head_stops : SeventhHeadStops
-unfolding computing
+unfolding showing
 seventh_head_stops =
-    (start refl, (_, record { head = head refl; passed = (own _ _ _ _ _ refl, ((offset refl, middle_unfolds), tt), tt); next = refl }, (_, record { own = own _ _ _ _ _ refl; passed = tt; next = refl }, (_, refl, offset refl, (_, record { head = head refl; passed = (own _ _ _ _ _ refl, ((offset refl, last_unfolds), tt), tt); next = refl }, (_, record { own = own _ _ _ _ _ refl; passed = tt; next = refl }, (_, refl, offset refl, record { within = record { tables = omega arith; depth = omega arith; reads = omega arith }; first = refl })))))))
+    (search shown, (_, past refl (search (shown, middle_unfolds)) refl, (_, among refl tt refl, (_, refl, search shown, (_, past refl (search (shown, last_unfolds)) refl, (_, among refl tt refl, (_, refl, search shown, search rules)))))))
 
 pub last_field_stops : LastFieldStops
-unfolding computing
+unfolding showing
 last_field_stops =
-    (start refl, (_, record { head = head refl; passed = (own _ _ _ _ _ refl, tt, tt); next = refl }, (_, record { own = own _ _ _ _ _ refl; passed = tt; next = refl }, (_, refl, offset refl, (_, record { head = head refl; passed = tt; next = refl }, record { within = record { tables = omega arith; depth = omega arith; reads = omega arith }; first = refl })))))
+    (search shown, (_, past refl (search shown) refl, (_, among refl tt refl, (_, refl, search shown, (_, past refl tt refl, search rules)))))
 
 pub budgets_by_length : BudgetsByLength
-unfolding computing
-budgets_by_length = record {
-  of_none = refl;
-  of_32 = refl;
-  of_2_mebibytes = refl;
-  unbounded = refl;
-  no_read_a_byte = refl;
-  too_many_of_32 = omega arith;
-  allowed_of_64 = omega arith;
-}
+unfolding showing
+budgets_by_length = search rules

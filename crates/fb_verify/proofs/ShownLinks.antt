@@ -1,5 +1,5 @@
 -- The examples of links, by computing.
-use Rattle.std.proofs.Common.{ℕ, [], ◌∷◌, refl, arith, inl, inr}
+use Rattle.std.proofs.Common.{ℕ, [], ◌∷◌, refl, rules, inl, inr}
 use Rattle.fb_verify.specs.Tree.{Tree, node, no_kids, no_elements, element, Elements, table}
 use Rattle.fb_verify.specs.Unfolds.{Unfolds}
 use Rattle.fb_verify.specs.Stops.{Trail, at_head, at_field, at_own, at_element, at_lead, through}
@@ -7,11 +7,11 @@ use Rattle.fb_verify.specs.Links.{links_of, links_in_field, links_in_element}
 use Rattle.fb_verify.specs.Samples.{published_checks}
 use Rattle.fb_verify.specs.Examples.{kids_of, one_field}
 use Rattle.fb_verify.specs.LinkExamples.{herds, crooked_third, nameless_third, LinksFound}
-use Rattle.fb_verify.proofs.Shown.{computing, start, head, own, offset}
+use Rattle.fb_verify.proofs.Shown.{showing, shown, past, among}
 
 -- all that is computed
 unfoldable linking : ℕ
-unfolding computing links_of links_in_field links_in_element
+unfolding showing links_of links_in_field links_in_element
 linking = 0
 
 -- the table at 60, which the list has twice
@@ -23,11 +23,11 @@ twice = element (table empty) (element (table empty) no_elements)
 
 empty_unfolds : Unfolds empty published_checks crooked_third herds 2 60
 unfolding linking empty
-empty_unfolds = (refl, refl, head refl, (own _ _ _ _ _ refl, tt, tt))
+empty_unfolds = search shown
 
 empty_unfolds_too : Unfolds empty published_checks nameless_third herds 2 60
 unfolding linking empty
-empty_unfolds_too = (refl, refl, head refl, (own _ _ _ _ _ refl, tt, tt))
+empty_unfolds_too = search shown
 
 -- past the type of the union and past these tables, on from the third
 to_third : Trail → Trail
@@ -36,110 +36,11 @@ to_third s = at_field one_field (at_element no_elements (through (at_field no_ki
 pub links_found : LinksFound
 unfolding linking empty twice to_third
 links_found = record {
-  at_the_start = inl (record { within = record { tables = omega arith; depth = omega arith; reads = tt }; first = refl }, refl);
-  at_the_root = inr (start refl, (at_head, record { within = record { tables = omega arith; depth = omega arith; reads = tt }; first = refl }, refl));
-  in_a_type = inr (start refl, (at_field no_kids at_own, (_, record { head = head refl; passed = tt; next = refl }, record { within = record { tables = omega arith; depth = omega arith; reads = tt }; first = refl }), refl));
-  in_the_head_of_a_vector = inr (start refl, (at_field no_kids at_own, (_, record { head = head refl; passed = tt; next = refl }, record { within = record { tables = omega arith; depth = omega arith; reads = tt }; first = refl }), refl));
-  in_a_third_table = inr (
-    start refl,
-    (
-      to_third at_head,
-      (
-        _,
-        record { head = head refl; passed = (own _ _ _ _ _ refl, tt, tt); next = refl },
-        (
-          _,
-          record { own = own _ _ _ _ _ refl; passed = tt; next = refl },
-          (
-            _,
-            refl,
-            offset refl,
-            (
-              _,
-              record { head = head refl; passed = tt; next = refl },
-              (
-                _,
-                record { own = own _ _ _ _ _ refl; passed = ((offset refl, empty_unfolds), ((offset refl, empty_unfolds), tt)); next = refl },
-                (
-                  _,
-                  refl,
-                  offset refl,
-                  record { within = record { tables = omega arith; depth = omega arith; reads = tt }; first = refl },
-                ),
-              ),
-            ),
-          ),
-        ),
-      ),
-      refl,
-    ),
-  );
-  in_its_field = inr (
-    start refl,
-    (
-      to_third (at_field no_kids (at_element no_elements at_lead)),
-      (
-        _,
-        record { head = head refl; passed = (own _ _ _ _ _ refl, tt, tt); next = refl },
-        (
-          _,
-          record { own = own _ _ _ _ _ refl; passed = tt; next = refl },
-          (
-            _,
-            refl,
-            offset refl,
-            (
-              _,
-              record { head = head refl; passed = tt; next = refl },
-              (
-                _,
-                record { own = own _ _ _ _ _ refl; passed = ((offset refl, empty_unfolds_too), ((offset refl, empty_unfolds_too), tt)); next = refl },
-                (
-                  _,
-                  refl,
-                  offset refl,
-                  (_, record { head = head refl; passed = tt; next = refl }, (_, record { own = own _ _ _ _ _ refl; passed = tt; next = refl }, record { within = record { tables = omega arith; depth = omega arith; reads = tt }; first = refl })),
-                ),
-              ),
-            ),
-          ),
-        ),
-      ),
-      refl,
-    ),
-  );
-  one_table_too_many = inr (
-    start refl,
-    (
-      to_third at_head,
-      (
-        _,
-        record { head = head refl; passed = (own _ _ _ _ _ refl, tt, tt); next = refl },
-        (
-          _,
-          record { own = own _ _ _ _ _ refl; passed = tt; next = refl },
-          (
-            _,
-            refl,
-            offset refl,
-            (
-              _,
-              record { head = head refl; passed = tt; next = refl },
-              (
-                _,
-                record { own = own _ _ _ _ _ refl; passed = ((offset refl, empty_unfolds), ((offset refl, empty_unfolds), tt)); next = refl },
-                (
-                  _,
-                  refl,
-                  offset refl,
-                  record { within = record { tables = omega arith; depth = omega arith; reads = tt }; first = refl },
-                ),
-              ),
-            ),
-          ),
-        ),
-      ),
-      refl,
-    ),
-  );
+  at_the_start = inl (search rules, refl);
+  at_the_root = inr (search shown, (at_head, search rules, refl));
+  in_a_type = inr (search shown, (at_field no_kids at_own, (_, past refl tt refl, search rules), refl));
+  in_the_head_of_a_vector = inr (search shown, (at_field no_kids at_own, (_, past refl tt refl, search rules), refl));
+  in_a_third_table = inr (search shown, (to_third at_head, (_, past refl (search shown) refl, (_, among refl tt refl, (_, refl, search shown, (_, past refl tt refl, (_, among refl (search (shown, empty_unfolds)) refl, (_, refl, search shown, search rules)))))), refl));
+  in_its_field = inr (search shown, (to_third (at_field no_kids (at_element no_elements at_lead)), (_, past refl (search shown) refl, (_, among refl tt refl, (_, refl, search shown, (_, past refl tt refl, (_, among refl (search (shown, empty_unfolds_too)) refl, (_, refl, search shown, (_, past refl tt refl, (_, among refl tt refl, search rules)))))))), refl));
+  one_table_too_many = inr (search shown, (to_third at_head, (_, past refl (search shown) refl, (_, among refl tt refl, (_, refl, search shown, (_, past refl tt refl, (_, among refl (search (shown, empty_unfolds)) refl, (_, refl, search shown, search rules)))))), refl));
 }

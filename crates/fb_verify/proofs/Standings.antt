@@ -1,19 +1,12 @@
 -- The turns of a walk, on the whole stack.
 use Rattle.std.proofs.Common.{◌≡◌, ℕ, ◌+◌, max, ◌<◌, ◌≤◌, ◌⊎◌, inl, inr, List, [], ◌∷◌, ◌++◌, length, map, refl, sym, ◌∙◌, ap, subst, arith, Option, Some, None}
 use Rattle.std.specs.Prelude.{slice_get}
-use Rattle.fb_schema.specs.Rows.{Rows}
-use Rattle.fb_schema.specs.Live.{Live, live_fields}
-use Rattle.fb_schema.specs.Served.{IsServed}
-use Rattle.fb_verify.specs.declared.checks.Checks.{Checks}
-use Rattle.fb_verify.specs.declared.fault.Fault.{Fault}
-use Rattle.fb_verify.specs.declared.table.Table.{Table}
-use Rattle.fb_verify.specs.declared.offset_row.Row.{Row}
-use Rattle.fb_verify.specs.declared.scratch.Frame.{Frame}
-use Rattle.fb_verify.specs.declared.site.Site.{Site}
+use Rattle.fb_schema.specs.{Rows.Rows, Live.Live, Live.live_fields, Served.IsServed}
+use Rattle.fb_verify.specs.declared.{checks.Checks.Checks, fault.Fault.Fault, table.Table.Table, offset_row.Row.Row, scratch.Frame.Frame, site.Site.Site}
 use Rattle.fb_verify.specs.Bounds.{Bounds, AreAllowed}
 use Rattle.fb_verify.specs.Places.{target}
 use Rattle.fb_verify.specs.Facts.{IsOffset}
-use Rattle.fb_verify.specs.Fields.{Lead, to_table, to_struct, to_string, to_nothing, entries}
+use Rattle.fb_verify.specs.Fields.{Lead, to_table, entries}
 use Rattle.fb_verify.specs.Tree.{leaf, element_size, element_depth}
 use Rattle.fb_verify.specs.Unfolds.{ElementUnfolds}
 use Rattle.fb_verify.specs.Cost.{head_reads, own_reads, lead_reads, element_cost}
@@ -37,17 +30,13 @@ use Rattle.fb_verify.proofs.Contexts.{context_push, context_pop, context_stop, c
 
 -- a fault that is told at a site is the fault at a way to this site
 pub told_is : (w : Way) (site : Site) (e : Option Failure) → site.object ≡ w.object → site.field ≡ w.field → told site w.paid e ≡ fault_of w e
-told_is w site None o n = refl
-told_is w site (Some e) o n = cc
+told_is w site e o n = grind arith
 
 module _ (c : Checks) (b : List ℕ) (S : Rows) where
   -- an offset word that leads to no table unfolds to a leaf
   leaf_unfolds : (p : ℕ) (lead : Lead) → IsLeafLead lead → IsLead c b p lead → ElementUnfolds leaf c b S p lead
   unfolding ElementUnfolds
-  leaf_unfolds p (to_table k) l h = absurd l
-  leaf_unfolds p (to_struct size align) l h = h
-  leaf_unfolds p to_string l h = h
-  leaf_unfolds p to_nothing l h = tt
+  leaf_unfolds p lead l h = grind arith
 
   table_lead : (p : ℕ) (lead : Lead) (k : ℕ) → lead ≡ to_table k → IsLead c b p lead → IsOffset c b p
   table_lead p lead k e h = subst (λ x. IsLead c b p x) e h

@@ -1,17 +1,11 @@
 -- Where a walk stops that is under way, by the frames that lead there.
-use Rattle.std.proofs.Common.{◌≡◌, ℕ, ◌+◌, ◌<◌, List, [], ◌∷◌, ◌++◌, length, map, refl, sym, ◌∙◌, ap, subst, Option, Some, None}
+use Rattle.std.proofs.Common.{◌≡◌, ℕ, ◌+◌, ◌<◌, List, [], ◌∷◌, ◌++◌, length, map, refl, sym, ◌∙◌, subst, arith, Option, Some, None}
 use Rattle.std.specs.Prelude.{slice_get}
 use Rattle.std.specs.List.{All}
 use Rattle.std.proofs.lemmas.List.{map-append, append-nil}
 use Rattle.std.proofs.lemmas.List.Elements.{All-push}
-use Rattle.fb_schema.specs.Rows.{Rows}
-use Rattle.fb_schema.specs.Live.{Live, live_fields}
-use Rattle.fb_verify.specs.declared.checks.Checks.{Checks}
-use Rattle.fb_verify.specs.declared.fault.Fault.{Fault}
-use Rattle.fb_verify.specs.declared.links.Link.{Link}
-use Rattle.fb_verify.specs.declared.offset_row.Row.{Row}
-use Rattle.fb_verify.specs.declared.scratch.Frame.{Frame}
-use Rattle.fb_verify.specs.declared.site.Site.{Site}
+use Rattle.fb_schema.specs.{Rows.Rows, Live.Live, Live.live_fields}
+use Rattle.fb_verify.specs.declared.{checks.Checks.Checks, fault.Fault.Fault, links.Link.Link, offset_row.Row.Row, scratch.Frame.Frame, site.Site.Site}
 use Rattle.fb_verify.specs.Bounds.{Bounds}
 use Rattle.fb_verify.specs.Links.{field_link, LeadsAlong}
 use Rattle.fb_verify.specs.Cost.{own_reads, head_reads, lead_reads}
@@ -29,8 +23,7 @@ use Rattle.fb_verify.proofs.Standings.{in_middle, stop_at_field, stop_at_element
 
 -- a fault names the field of the site where it is told
 pub told_link : (site : Site) (r : ℕ) (e : Option Failure) (f : Fault) → told site r e ≡ Some f → own_link f ≡ link_to_number site.object site.field
-told_link site r None f h = absurd cc
-told_link site r (Some e) f h = let i : record { at = e.at; object = site.object; field = site.field; reason = e.reason; reads = r + e.reads } ≡ f = cc in ap own_link (sym i)
+told_link site r e f h = grind arith
 
 module _ {c : Checks} {b : List ℕ} {S : Rows} {L : Bounds} {s : Origin} {below : List Frame} {top : Frame} {n d r : ℕ} (h : IsUnderWay c b S L s below top n d r) (f : Fault) where
   linked : All (IsLinked c b S) below

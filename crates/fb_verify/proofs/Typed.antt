@@ -1,36 +1,30 @@
 -- The type fields of unions were checked before the unions.
 use Rattle.std.proofs.Common.{◌≡◌, ℕ, zero, suc, ◌-◌, ◌<◌, List, [], ◌∷◌, take, refl, ◌∙◌, subst, arith, Some}
 use Rattle.std.specs.Prelude.{slice_get}
-use Rattle.fb_schema.specs.declared.kinds.Kind.{Kind}
-use Rattle.fb_schema.specs.declared.kinds.Kind.TheVariants.{Scalar, Union, Scalars, Unions}
+use Rattle.fb_schema.specs.declared.kinds.Kind.{Kind, TheVariants.Scalar, TheVariants.Union, TheVariants.Scalars, TheVariants.Unions}
 use Rattle.fb_schema.specs.declared.kinds.Scalar.TheVariants.{UType}
-use Rattle.fb_schema.specs.Rows.{Rows}
-use Rattle.fb_schema.specs.Live.{Live}
-use Rattle.fb_schema.specs.Served.{HasTypeField, IsTyped as IsTypedIn}
+use Rattle.fb_schema.specs.{Rows.Rows, Live.Live, Served.HasTypeField, Served.IsTyped as IsTypedIn}
 use Rattle.fb_verify.specs.declared.checks.Checks.{Checks}
 use Rattle.fb_verify.specs.Places.{field_place}
 use Rattle.fb_verify.specs.Fields.{IsPresent, IsPresentOrAbsent, IsField, type_place}
-use Rattle.fb_verify.specs.Tree.{Kids, no_kids, kid}
+use Rattle.fb_verify.specs.Tree.{Kids, kid}
 use Rattle.fb_verify.specs.Unfolds.{FieldsUnfold}
 use Rattle.fb_verify.specs.OffsetRows.{TypeFits, TypesFit, IsTyped}
 
 pub get_take : {A : Type 0} (xs : List A) (m n : ℕ) → m < n → slice_get (take n xs) m ≡ slice_get xs m
 get_take [] m zero h = refl
 get_take [] m (suc n) h = refl
-get_take (x ∷ xs) zero zero h = absurd (omega arith)
+get_take (x ∷ xs) m zero h = absurd (omega arith)
 get_take (x ∷ xs) zero (suc n) h = refl
-get_take (x ∷ xs) (suc m) zero h = absurd (omega arith)
 get_take (x ∷ xs) (suc m) (suc n) h = get_take xs m n (omega arith)
 
 module _ (c : Checks) (b : List ℕ) (S : Rows) (t : ℕ) where
   -- a field that is passed holds
   field_met : (kids : Kids) (fs : List Live) (j : ℕ) (h : Live) → FieldsUnfold kids c b S t fs → slice_get fs j ≡ Some h → IsField c b S t h
   unfolding FieldsUnfold
-  field_met no_kids [] j h u e = absurd cc
-  field_met no_kids (f ∷ fs) j h u e = absurd u
-  field_met (kid ys kids) [] j h u e = absurd u
   field_met (kid ys kids) (f ∷ fs) zero h u e = let i : f ≡ h = cc in subst (λ x. IsField c b S t x) i u.0
   field_met (kid ys kids) (f ∷ fs) (suc j) h u e = field_met kids fs j h u.2 e
+  field_met kids fs j h u e = absurd (grind arith)
 
   -- a field that is present holds where it is
   pub present : (f : Live) (p : ℕ) (kind : Kind) → IsField c b S t f → field_place b t f.slot ≡ Some p → f.kind ≡ kind → IsPresent c b S t f p kind

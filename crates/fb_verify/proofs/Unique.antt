@@ -1,10 +1,9 @@
 -- A buffer has at most one tree for an object and a position.
-use Rattle.std.proofs.Common.{◌≡◌, ℕ, List, [], ◌∷◌, refl, ap}
-use Rattle.fb_schema.specs.Rows.{Rows}
-use Rattle.fb_schema.specs.Live.{Live, live_fields}
+use Rattle.std.proofs.Common.{◌≡◌, ℕ, List, ◌∷◌, refl, ap, arith}
+use Rattle.fb_schema.specs.{Rows.Rows, Live.Live, Live.live_fields}
 use Rattle.fb_verify.specs.declared.checks.Checks.{Checks}
 use Rattle.fb_verify.specs.Places.{target}
-use Rattle.fb_verify.specs.Fields.{Lead, to_table, to_struct, to_string, to_nothing, Entry, entries}
+use Rattle.fb_verify.specs.Fields.{Lead, to_table, Entry, entries}
 use Rattle.fb_verify.specs.Tree.{Tree, node, Kids, no_kids, kid, Elements, no_elements, element, Element, leaf, table}
 use Rattle.fb_verify.specs.Unfolds.{Unfolds, FieldsUnfold, ElementsUnfold, ElementUnfolds}
 
@@ -15,47 +14,25 @@ module _ (c : Checks) (b : List ℕ) (S : Rows) where
     pub one_tree : (y z : Tree) (k t : ℕ) → Unfolds y c b S k t → Unfolds z c b S k t → y ≡ z
     one_tree (node k1 t1 xs) (node k2 t2 ys) k t g h =
         let kids = one_kids xs ys t (live_fields S k) g.3 h.3 in
-        let k1_is = g.0 in
-        let t1_is = g.1 in
-        let k2_is = h.0 in
-        let t2_is = h.1 in
-        cc
+        grind arith
 
     pub one_kids : (xs ys : Kids) (t : ℕ) (fs : List Live) → FieldsUnfold xs c b S t fs → FieldsUnfold ys c b S t fs → xs ≡ ys
     one_kids no_kids no_kids t fs g h = refl
-    one_kids no_kids (kid y ys) t [] g h = absurd h
-    one_kids no_kids (kid y ys) t (f ∷ fs) g h = absurd g
-    one_kids (kid x xs) no_kids t [] g h = absurd g
-    one_kids (kid x xs) no_kids t (f ∷ fs) g h = absurd h
-    one_kids (kid x xs) (kid y ys) t [] g h = absurd h
     one_kids (kid x xs) (kid y ys) t (f ∷ fs) g h =
         let elements = one_elements x y (entries b S t f) g.1 h.1 in
         let kids = one_kids xs ys t fs g.2 h.2 in
         cc
+    one_kids xs ys t fs g h = absurd (grind arith)
 
     pub one_elements : (xs ys : Elements) (es : List Entry) → ElementsUnfold xs c b S es → ElementsUnfold ys c b S es → xs ≡ ys
     one_elements no_elements no_elements es g h = refl
-    one_elements no_elements (element y ys) [] g h = absurd h
-    one_elements no_elements (element y ys) (e ∷ es) g h = absurd g
-    one_elements (element x xs) no_elements [] g h = absurd g
-    one_elements (element x xs) no_elements (e ∷ es) g h = absurd h
-    one_elements (element x xs) (element y ys) [] g h = absurd h
     one_elements (element x xs) (element y ys) (e ∷ es) g h =
         let first = one_element x y e.place e.lead g.0 h.0 in
         let rest = one_elements xs ys es g.1 h.1 in
         cc
+    one_elements xs ys es g h = absurd (grind arith)
 
     pub one_element : (x y : Element) (p : ℕ) (lead : Lead) → ElementUnfolds x c b S p lead → ElementUnfolds y c b S p lead → x ≡ y
     one_element leaf leaf p lead g h = refl
-    one_element leaf (table y) p (to_table k) g h = absurd g
-    one_element leaf (table y) p (to_struct size align) g h = absurd h
-    one_element leaf (table y) p to_string g h = absurd h
-    one_element leaf (table y) p to_nothing g h = absurd h
-    one_element (table x) leaf p (to_table k) g h = absurd h
-    one_element (table x) leaf p (to_struct size align) g h = absurd g
-    one_element (table x) leaf p to_string g h = absurd g
-    one_element (table x) leaf p to_nothing g h = absurd g
     one_element (table x) (table y) p (to_table k) g h = ap table (one_tree x y k (target b p) g.1 h.1)
-    one_element (table x) (table y) p (to_struct size align) g h = absurd g
-    one_element (table x) (table y) p to_string g h = absurd g
-    one_element (table x) (table y) p to_nothing g h = absurd g
+    one_element x y p lead g h = absurd (grind arith)

@@ -1,10 +1,6 @@
 -- From the walk of the root table to the verdict.
 use Rattle.std.proofs.Common.{◌≡◌, ℕ, ◌+◌, ◌≤◌, inl, inr, List, [], length, refl, sym, ◌∙◌, ap, arith, Some, None}
-use Rattle.fb_verify.specs.declared.fault.Fault.{Fault}
-use Rattle.fb_verify.specs.declared.fault.Report.{Report}
-use Rattle.fb_verify.specs.declared.scratch.Frame.{Frame}
-use Rattle.fb_verify.specs.declared.site.LastLink.{LastLink}
-use Rattle.fb_verify.specs.declared.site.Site.{Site}
+use Rattle.fb_verify.specs.declared.{fault.Fault.Fault, fault.Report.Report, scratch.Frame.Frame, site.LastLink.LastLink, site.Site.Site, links.Link.Link}
 use Rattle.fb_verify.specs.Bounds.{AreAllowed}
 use Rattle.fb_verify.specs.Question.{Question}
 use Rattle.fb_verify.specs.Places.{target}
@@ -13,7 +9,6 @@ use Rattle.fb_verify.specs.Cost.{tree_cost}
 use Rattle.fb_verify.specs.WellFormed.{base, start_reads}
 use Rattle.fb_verify.specs.Order.{◌▷◌, start_failure}
 use Rattle.fb_verify.specs.Way.{way_to_start, way_to_root}
-use Rattle.fb_verify.specs.declared.links.Link.{Link}
 use Rattle.fb_verify.specs.Stops.{in_start, reads_failure, fault_at, Stops}
 use Rattle.fb_verify.specs.Links.{LeadsAlong, StopsAlong}
 use Rattle.fb_verify.specs.Told.{told, way_at}
@@ -52,8 +47,7 @@ module _ (q : Question) (b : List ℕ) where
 
   -- where links lead to a fault, there is one
   stops_along : (f : Fault) (links : List Link) → StopsAlong q b f links → Stops q b f
-  stops_along f links (inl h) = inl h.0
-  stops_along f links (inr h) = let s = h.1 in inr (h.0, (s.0, s.1))
+  stops_along f links h = grind arith
 
   -- the root table was walked
   pub reports : (t r n d paid count : ℕ) → start_failure q.checks b q.start q.ident ≡ None → t ≡ target b (base q.start) → r ≡ start_reads q.start q.ident

@@ -4,12 +4,8 @@ use Rattle.std.specs.Prelude.{slice_get}
 use Rattle.std.proofs.lemmas.List.Sums.{sum_by_push}
 use Rattle.std.proofs.lemmas.List.Elements.{All-push, All-pop}
 use Rattle.std.proofs.lemmas.List.{length-append}
-use Rattle.fb_schema.specs.Rows.{Rows, is_table}
-use Rattle.fb_schema.specs.Live.{Live, live_fields}
-use Rattle.fb_verify.specs.declared.checks.Checks.{Checks}
-use Rattle.fb_verify.specs.declared.table.Table.{Table}
-use Rattle.fb_verify.specs.declared.offset_row.Row.{Row}
-use Rattle.fb_verify.specs.declared.scratch.Frame.{Frame}
+use Rattle.fb_schema.specs.{Rows.Rows, Rows.is_table, Live.Live, Live.live_fields}
+use Rattle.fb_verify.specs.declared.{checks.Checks.Checks, table.Table.Table, offset_row.Row.Row, scratch.Frame.Frame}
 use Rattle.fb_verify.specs.Bounds.{Bounds, AreAllowed}
 use Rattle.fb_verify.specs.Places.{target}
 use Rattle.fb_verify.specs.Fields.{to_table, entries}
@@ -80,16 +76,6 @@ module _ {c : Checks} {b : List ℕ} {S : Rows} {L : Bounds} {s : Origin} {below
       pub open_work : q + head_reads c + work S L (below ++ top_on row ∷ []) (opened table) (n + 1) < r + work S L below top n
       unfolding work
       open_work = omega (arith, l, left_is, z, first_few b S top.row, head_few c, fewer, sum_by_push (frame_work S) below (top_on row), work_opened c b S table h.served)
-
-      -- it goes on to a field that leads on
-      pub lead_work : (last : Frame) (u : ℕ) → u + frame_work S last ≤ q + head_reads c + frame_work S (opened table) → u + work S L (below ++ top_on row ∷ []) last (n + 1) < r + work S L below top n
-      unfolding work
-      lead_work last u f = omega (arith, f, open_work)
-
-      -- or is walked to its end
-      pub close_work : (u : ℕ) → u ≤ q + head_reads c + frame_work S (opened table) → u + work S L below (top_on row) (n + 1) < r + work S L below top n
-      unfolding work
-      close_work u f = omega (arith, f, open_work, sum_by_push (frame_work S) below (top_on row))
 
   module _ (field : Live) (row : Row) (number q : ℕ) (l : (top.row).left ≡ 0) (i : slice_get (live_fields S (top.table).object) top.next ≡ Some field) (z : q ≡ r + own_reads b (top.table).at field) (good : IsRow b S row) where
     -- a field is passed

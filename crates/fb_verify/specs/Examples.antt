@@ -1,11 +1,9 @@
 -- Examples: trees with their numbers, and faults with the trails that lead to them.
 use Rattle.std.specs.Prelude.{◌≡◌, ℕ, true, List, [], ◌∷◌, Some, None}
 use Rattle.fb_schema.specs.Rows.{Rows}
-use Rattle.fb_verify.specs.declared.checks.Checks.{Checks}
+use Rattle.fb_verify.specs.declared.{checks.Checks.Checks, fault.Fault.Fault}
 use Rattle.fb_verify.specs.declared.start.Start.TheVariants.{Bare}
 use Rattle.fb_verify.specs.declared.start.Ident.TheVariants.{Any}
-use Rattle.fb_verify.specs.declared.fault.Fault.{Fault}
-use Rattle.fb_verify.specs.declared.fault.Reason.{Reason}
 use Rattle.fb_verify.specs.declared.fault.Reason.TheVariants.{Misaligned, ZeroOffset, TooDeep, TooManyTables, BadVtable, NoTerminator, LengthsDiffer, PastTable, TooManyReads}
 use Rattle.fb_verify.specs.Bounds.{Bounds, AreAllowed, AreTooMany, limits_of_length}
 use Rattle.fb_verify.specs.Question.{question}
@@ -14,7 +12,7 @@ use Rattle.fb_verify.specs.Tree.{Tree, node, Kids, no_kids, kid, Elements, no_el
 use Rattle.fb_verify.specs.WellFormed.{IsStart, IsWellFormed, cost}
 use Rattle.fb_verify.specs.Way.{way_to_start, way_to_root}
 use Rattle.fb_verify.specs.Stops.{in_start, IsFalseAt, Trail, at_head, at_field, at_own, at_element, at_lead, through, IsTrail}
-use Rattle.fb_verify.specs.Samples.{published_checks, published_limits, monsters, nodes, unions, monster, open_name, no_name, short_table, one_member, odd_vtable, crooked_struct, two_members, three_values, every_kind, shared}
+use Rattle.fb_verify.specs.Samples.{published_checks, published_limits, fault, monsters, nodes, unions, monster, open_name, no_name, short_table, one_member, odd_vtable, crooked_struct, two_members, three_values, every_kind, shared}
 
 -- under the published checks the buffer unfolds into this tree, with so many tables, so deep, for so many reads
 abbrev pub Counts : List ℕ → Rows → ℕ → Tree → ℕ → ℕ → ℕ → Type 0
@@ -25,10 +23,6 @@ Counts b S root y tables deep reads =
 -- the buffer begins as it should, and this trail leads from its root to this fault
 abbrev pub StopsBy : Checks → List ℕ → Rows → ℕ → Bounds → Trail → Fault → Type 0
 StopsBy c b S root L s f = IsStart c b Bare Any × IsTrail s c b S L root (target b 0) (way_to_root root Bare Any) f
-
--- a fault in a field
-abbrev pub in_field_of : ℕ → ℕ → ℕ → Reason → ℕ → Fault
-in_field_of object number at reason reads = record { at = at; object = object; field = Some number; reason = reason; reads = reads }
 
 -- one element that is a table
 abbrev pub one_table : Tree → Elements
@@ -74,19 +68,19 @@ EveryKindUnfolds = Counts every_kind unions 4 (node 4 32 every_kids) 5 2 64
 
 -- past the hit points, the name ends without a byte 0
 abbrev pub OpenNameStops : Type 0
-OpenNameStops = StopsBy published_checks open_name monsters 0 published_limits (at_field one_field (at_element no_elements at_lead)) (in_field_of 0 1 31 NoTerminator 8)
+OpenNameStops = StopsBy published_checks open_name monsters 0 published_limits (at_field one_field (at_element no_elements at_lead)) (fault NoTerminator 31 0 (Some 1) 8)
 
 -- past the hit points, the name's offset is 0
 abbrev pub NoNameStops : Type 0
-NoNameStops = StopsBy published_checks no_name monsters 0 published_limits (at_field one_field (at_element no_elements at_lead)) (in_field_of 0 1 16 ZeroOffset 6)
+NoNameStops = StopsBy published_checks no_name monsters 0 published_limits (at_field one_field (at_element no_elements at_lead)) (fault ZeroOffset 16 0 (Some 1) 6)
 
 -- past the types, of which there are two, there are three values
 abbrev pub ThreeValuesStop : Type 0
-ThreeValuesStop = StopsBy published_checks three_values unions 3 published_limits (at_field one_field at_own) (in_field_of 3 1 32 LengthsDiffer 12)
+ThreeValuesStop = StopsBy published_checks three_values unions 3 published_limits (at_field one_field at_own) (fault LengthsDiffer 32 3 (Some 1) 12)
 
 -- past the type, the struct stands where no long may stand
 abbrev pub CrookedStructStops : Type 0
-CrookedStructStops = StopsBy published_checks crooked_struct unions 2 published_limits (at_field one_field (at_element no_elements at_lead)) (in_field_of 2 1 28 Misaligned 8)
+CrookedStructStops = StopsBy published_checks crooked_struct unions 2 published_limits (at_field one_field (at_element no_elements at_lead)) (fault Misaligned 28 2 (Some 1) 8)
 
 -- the tables of `shared`: its root has this middle one twice, and that has the last one twice
 
@@ -99,7 +93,7 @@ middle = node 0 28 (kids_of (one_table last ∷ one_table last ∷ []))
 -- with 6 tables allowed: past the root's first subtable and the first of its second's, the seventh
 abbrev pub SeventhTableStops : Type 0
 SeventhTableStops =
-    StopsBy published_checks shared nodes 0 (record { depth = 64; tables = 6; reads = None }) (at_field (kid (one_table middle) no_kids) (at_element no_elements (through (at_field (kid (one_table last) no_kids) (at_element no_elements (through at_head)))))) (in_field_of 0 1 40 TooManyTables 25)
+    StopsBy published_checks shared nodes 0 (record { depth = 64; tables = 6; reads = None }) (at_field (kid (one_table middle) no_kids) (at_element no_elements (through (at_field (kid (one_table last) no_kids) (at_element no_elements (through at_head)))))) (fault TooManyTables 40 0 (Some 1) 25)
 
 -- the published limits with a budget of so many reads
 abbrev pub with_reads : ℕ → Bounds
@@ -108,35 +102,35 @@ with_reads most = record published_limits { reads = Some most }
 -- with no read allowed: past the root offset
 abbrev pub FirstReadStops : Type 0
 FirstReadStops =
-    IsFalseAt published_checks monster monsters (with_reads 0) (in_start Bare Any) (way_to_start 0) (record { at = 0; object = 0; field = None; reason = TooManyReads; reads = 1 })
+    IsFalseAt published_checks monster monsters (with_reads 0) (in_start Bare Any) (way_to_start 0) (fault TooManyReads 0 0 None 1)
 
 -- with 7 reads allowed: past the hit points and the name, at its offset word
 abbrev pub LastTextStops : Type 0
-LastTextStops = StopsBy published_checks monster monsters 0 (with_reads 7) (at_field one_field (at_element no_elements at_lead)) (in_field_of 0 1 16 TooManyReads 8)
+LastTextStops = StopsBy published_checks monster monsters 0 (with_reads 7) (at_field one_field (at_element no_elements at_lead)) (fault TooManyReads 16 0 (Some 1) 8)
 
 -- with 24 reads allowed: past the head of the seventh table, to which the 25th leads
 abbrev pub SeventhHeadStops : Type 0
 SeventhHeadStops =
-    StopsBy published_checks shared nodes 0 (with_reads 24) (at_field (kid (one_table middle) no_kids) (at_element no_elements (through (at_field (kid (one_table last) no_kids) (at_element no_elements (through at_head)))))) (record { at = 40; object = 0; field = None; reason = TooManyReads; reads = 27 })
+    StopsBy published_checks shared nodes 0 (with_reads 24) (at_field (kid (one_table middle) no_kids) (at_element no_elements (through (at_field (kid (one_table last) no_kids) (at_element no_elements (through at_head)))))) (fault TooManyReads 40 0 None 27)
 
 -- with 10 reads allowed: past the type, through the value, past the number of the table A
 abbrev pub LastFieldStops : Type 0
 LastFieldStops =
-    StopsBy published_checks one_member unions 2 (with_reads 10) (at_field one_field (at_element no_elements (through (at_field no_kids at_own)))) (in_field_of 0 0 32 TooManyReads 11)
+    StopsBy published_checks one_member unions 2 (with_reads 10) (at_field one_field (at_element no_elements (through (at_field no_kids at_own)))) (fault TooManyReads 32 0 (Some 0) 11)
 
 -- with depth 2 and 2 tables allowed: the first table of the first, where both limits are reached
 abbrev pub ThirdLevelStops : Type 0
 ThirdLevelStops =
-    StopsBy published_checks shared nodes 0 (record { depth = 2; tables = 2; reads = None }) (at_field no_kids (at_element no_elements (through (at_field no_kids (at_element no_elements (through at_head)))))) (in_field_of 0 0 40 TooDeep 9)
+    StopsBy published_checks shared nodes 0 (record { depth = 2; tables = 2; reads = None }) (at_field no_kids (at_element no_elements (through (at_field no_kids (at_element no_elements (through at_head)))))) (fault TooDeep 40 0 (Some 0) 9)
 
 -- past the type, through the value, the head of the table A, whose vtable has an odd size
 abbrev pub OddVtableStops : Type 0
 OddVtableStops =
-    StopsBy published_checks odd_vtable unions 2 published_limits (at_field one_field (at_element no_elements (through at_head))) (record { at = 24; object = 0; field = None; reason = BadVtable; reads = 10 })
+    StopsBy published_checks odd_vtable unions 2 published_limits (at_field one_field (at_element no_elements (through at_head))) (fault BadVtable 24 0 None 10)
 
 -- where the inline size is checked: the hit points end past it
 abbrev pub ShortTableStops : Type 0
-ShortTableStops = StopsBy (record { alignment = true; inline_size = true }) short_table monsters 0 published_limits (at_field no_kids at_own) (in_field_of 0 0 20 PastTable 5)
+ShortTableStops = StopsBy (record { alignment = true; inline_size = true }) short_table monsters 0 published_limits (at_field no_kids at_own) (fault PastTable 20 0 (Some 0) 5)
 
 -- what buffers may read by 64 reads a byte, within 100 million: the shortest and the longest of these, and one for
 -- which 7,000 reads are too many, where a longer buffer may make them

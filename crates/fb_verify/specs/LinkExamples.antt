@@ -3,13 +3,12 @@ use Rattle.std.specs.Prelude.{ℕ, pos, true, List, [], ◌∷◌, codes, Option
 use Rattle.fb_schema.specs.Rows.{Rows}
 use Rattle.fb_verify.specs.declared.start.Start.TheVariants.{Bare}
 use Rattle.fb_verify.specs.declared.start.Ident.TheVariants.{Any}
-use Rattle.fb_verify.specs.declared.fault.Fault.{Fault}
-use Rattle.fb_verify.specs.declared.fault.Reason.{Reason}
+use Rattle.fb_verify.specs.declared.{fault.Fault.Fault, links.Link.Link}
 use Rattle.fb_verify.specs.declared.fault.Reason.TheVariants.{OutOfBuffer, ZeroOffset, TooManyTables}
-use Rattle.fb_verify.specs.declared.links.Link.{Link}
 use Rattle.fb_verify.specs.Bounds.{Bounds}
 use Rattle.fb_verify.specs.Question.{question}
 use Rattle.fb_verify.specs.Links.{StopsAlong}
+pub use Rattle.fb_verify.specs.Samples.{fault}
 use Rattle.fb_verify.specs.Samples.{published_checks, published_limits, union_type, text, object, union, vector, field, table}
 
 -- `table M { u: U; } table H { list: [C]; } table C { name: string; } union U { H }`
@@ -53,9 +52,6 @@ link object field element member = record { object = object; field = field; elem
 -- these links lead to this fault from the root, a table of this object
 abbrev pub IsFoundBy : List ℕ → ℕ → Bounds → Fault → List Link → Type 0
 IsFoundBy b root L f links = StopsAlong (question herds root Bare Any L published_checks) b f links
-
-abbrev pub fault : Reason → ℕ → ℕ → Option ℕ → ℕ → Fault
-fault reason at object field reads = record { at = at; object = object; field = field; reason = reason; reads = reads }
 
 -- through the union and the list to its third table
 abbrev pub to_third : List Link → List Link

@@ -1,8 +1,8 @@
 -- Schemas and buffers for examples.
-use Rattle.std.specs.Prelude.{ℕ, pos, true, false, List, [], ◌∷◌, None}
+use Rattle.std.specs.Prelude.{ℕ, pos, true, false, List, [], ◌∷◌, Option, None}
 use Rattle.fb_schema.specs.declared.rows.TypeRow.{TypeRow}
 use Rattle.fb_schema.specs.Rows.{Field, Object, Rows}
-use Rattle.fb_verify.specs.declared.checks.Checks.{Checks}
+use Rattle.fb_verify.specs.declared.{checks.Checks.Checks, fault.Fault.Fault, fault.Reason.Reason}
 use Rattle.fb_verify.specs.Bounds.{Bounds}
 
 -- the published checks and limits
@@ -11,6 +11,10 @@ published_checks = record { alignment = true; inline_size = false }
 
 abbrev pub published_limits : Bounds
 published_limits = record { depth = 64; tables = 1000000; reads = None }
+
+-- a fault, told at a field or at none
+abbrev pub fault : Reason → ℕ → ℕ → Option ℕ → ℕ → Fault
+fault reason at object field reads = record { reason = reason; at = at; object = object; field = field; reads = reads }
 
 -- types by their base type, its element's, and the object or enum that is named
 

@@ -3,21 +3,17 @@ use Rattle.std.specs.Prelude.{◌≡◌, ℕ, true, false, List, [], ◌∷◌, 
 use Rattle.fb_schema.specs.declared.kinds.Scalar.TheVariants.{Short, Int, Long}
 use Rattle.fb_schema.specs.declared.kinds.Kind.{Kind}
 use Rattle.fb_schema.specs.declared.kinds.Kind.TheVariants.{Scalar, Text, Struct, Table, Union, Scalars, Texts, Structs, Tables, Unions}
-use Rattle.fb_schema.specs.Live.{Live}
-use Rattle.fb_schema.specs.LookUps.{live}
-use Rattle.fb_verify.specs.declared.checks.Checks.{Checks}
+use Rattle.fb_schema.specs.{Live.Live, LookUps.live}
+use Rattle.fb_verify.specs.declared.{checks.Checks.Checks, fault.Reason.Reason}
 use Rattle.fb_verify.specs.declared.start.Start.TheVariants.{Bare, Prefixed}
-use Rattle.fb_verify.specs.declared.start.Ident.{Ident}
-use Rattle.fb_verify.specs.declared.start.Ident.TheVariants.{Any, Want}
-use Rattle.fb_verify.specs.declared.fault.Fault.{Fault}
-use Rattle.fb_verify.specs.declared.fault.Reason.{Reason}
+use Rattle.fb_verify.specs.declared.start.Ident.{Ident, TheVariants.Any, TheVariants.Want}
 use Rattle.fb_verify.specs.declared.fault.Reason.TheVariants.{WrongPrefix, OutOfBuffer, Misaligned, ZeroOffset, WrongIdentifier, TooDeep, TooManyTables, BadVtable, MissingRequired, NoTerminator, LengthsDiffer, PastTable, TooManyReads}
 use Rattle.fb_verify.specs.Bounds.{Bounds}
 use Rattle.fb_verify.specs.Fields.{to_table, to_struct, to_string, to_nothing, entry}
 use Rattle.fb_verify.specs.Order.{Failure, prefix_failure, ident_failure, offset_failure, start_failure, head_failure, string_failure, vector_failure, inline_failure, own_failure, element_failure}
 use Rattle.fb_verify.specs.Way.{Way}
 use Rattle.fb_verify.specs.Stops.{in_start, in_head, in_field, in_element, fault_at}
-use Rattle.fb_verify.specs.Samples.{published_checks, unions}
+use Rattle.fb_verify.specs.Samples.{published_checks, fault, unions}
 
 -- a chain finds this
 abbrev pub found : Reason → ℕ → ℕ → Option Failure
@@ -46,16 +42,13 @@ a_field kind slot size align = live 3 slot [] kind size align None
 abbrev pub own : Checks → List ℕ → Live → Option Failure
 own c b f = own_failure c b unions 8 f
 
--- limits, a way, and a fault
+-- limits, and a way
 
 abbrev pub limits : ℕ → ℕ → Option ℕ → Bounds
 limits depth tables reads = record { depth = depth; tables = tables; reads = reads }
 
 abbrev pub a_way : ℕ → ℕ → ℕ → Way
 a_way links passed paid = record { links = links; passed = passed; deepest = links; paid = paid; leading = 0; object = 7; field = Some 3 }
-
-abbrev pub told_at : Reason → ℕ → ℕ → Option ℕ → ℕ → Fault
-told_at reason at object field reads = record { at = at; object = object; field = field; reason = reason; reads = reads }
 
 -- a prefix counts the bytes after it
 pub record PrefixTests : Type 0 where
@@ -222,17 +215,17 @@ pub record ElementTests : Type 0 where
 -- the limits of tables before a head, and the budget of reads after a place; on the way 5 reads were made, and
 -- field 3 of object 7 is under check
 pub record LimitTests : Type 0 where
-  pub depth_before_tables : fault_at published_checks [] unions (limits 1 1 (Some 0)) (in_head 0 9) (a_way 1 1 5) ≡ Some (told_at TooDeep 9 7 (Some 3) 5)
-  pub tables_before_the_head : fault_at published_checks [] unions (limits 2 1 (Some 0)) (in_head 0 9) (a_way 1 1 5) ≡ Some (told_at TooManyTables 9 7 (Some 3) 5)
-  pub the_head_before_reads : fault_at published_checks [] unions (limits 2 2 (Some 0)) (in_head 0 9) (a_way 1 1 5) ≡ Some (told_at OutOfBuffer 9 0 None 5)
-  pub reads_of_a_head : fault_at published_checks (4 ∷ 0 ∷ 4 ∷ 0 ∷ 4 ∷ 0 ∷ 0 ∷ 0 ∷ []) unions (limits 2 2 (Some 6)) (in_head 0 4) (a_way 1 1 5) ≡ Some (told_at TooManyReads 4 0 None 7)
+  pub depth_before_tables : fault_at published_checks [] unions (limits 1 1 (Some 0)) (in_head 0 9) (a_way 1 1 5) ≡ Some (fault TooDeep 9 7 (Some 3) 5)
+  pub tables_before_the_head : fault_at published_checks [] unions (limits 2 1 (Some 0)) (in_head 0 9) (a_way 1 1 5) ≡ Some (fault TooManyTables 9 7 (Some 3) 5)
+  pub the_head_before_reads : fault_at published_checks [] unions (limits 2 2 (Some 0)) (in_head 0 9) (a_way 1 1 5) ≡ Some (fault OutOfBuffer 9 0 None 5)
+  pub reads_of_a_head : fault_at published_checks (4 ∷ 0 ∷ 4 ∷ 0 ∷ 4 ∷ 0 ∷ 0 ∷ 0 ∷ []) unions (limits 2 2 (Some 6)) (in_head 0 4) (a_way 1 1 5) ≡ Some (fault TooManyReads 4 0 None 7)
   pub enough_reads_of_a_head : fault_at published_checks (4 ∷ 0 ∷ 4 ∷ 0 ∷ 4 ∷ 0 ∷ 0 ∷ 0 ∷ []) unions (limits 2 2 (Some 7)) (in_head 0 4) (a_way 1 1 5) ≡ None
-  pub one_more_for_the_inline_size : fault_at strict (4 ∷ 0 ∷ 4 ∷ 0 ∷ 4 ∷ 0 ∷ 0 ∷ 0 ∷ []) unions (limits 2 2 (Some 7)) (in_head 0 4) (a_way 1 1 5) ≡ Some (told_at TooManyReads 4 0 None 8)
-  pub the_field_before_reads : fault_at published_checks (a_table 8 4 0 (7 ∷ 0 ∷ 0 ∷ [])) unions (limits 9 9 (Some 5)) (in_field 8 (a_field (Scalar Int) 4 4 4)) (a_way 1 1 5) ≡ Some (told_at OutOfBuffer 12 7 (Some 3) 6)
-  pub reads_of_a_field : fault_at published_checks (a_table 8 4 0 (7 ∷ 0 ∷ 0 ∷ 0 ∷ [])) unions (limits 9 9 (Some 5)) (in_field 8 (a_field (Scalar Int) 4 4 4)) (a_way 1 1 5) ≡ Some (told_at TooManyReads 8 7 (Some 3) 6)
+  pub one_more_for_the_inline_size : fault_at strict (4 ∷ 0 ∷ 4 ∷ 0 ∷ 4 ∷ 0 ∷ 0 ∷ 0 ∷ []) unions (limits 2 2 (Some 7)) (in_head 0 4) (a_way 1 1 5) ≡ Some (fault TooManyReads 4 0 None 8)
+  pub the_field_before_reads : fault_at published_checks (a_table 8 4 0 (7 ∷ 0 ∷ 0 ∷ [])) unions (limits 9 9 (Some 5)) (in_field 8 (a_field (Scalar Int) 4 4 4)) (a_way 1 1 5) ≡ Some (fault OutOfBuffer 12 7 (Some 3) 6)
+  pub reads_of_a_field : fault_at published_checks (a_table 8 4 0 (7 ∷ 0 ∷ 0 ∷ 0 ∷ [])) unions (limits 9 9 (Some 5)) (in_field 8 (a_field (Scalar Int) 4 4 4)) (a_way 1 1 5) ≡ Some (fault TooManyReads 8 7 (Some 3) 6)
   pub enough_reads_of_a_field : fault_at published_checks (a_table 8 4 0 (7 ∷ 0 ∷ 0 ∷ 0 ∷ [])) unions (limits 9 9 (Some 6)) (in_field 8 (a_field (Scalar Int) 4 4 4)) (a_way 1 1 5) ≡ None
-  pub the_element_before_reads : fault_at published_checks (4 ∷ 0 ∷ 0 ∷ 0 ∷ 1 ∷ 0 ∷ 0 ∷ 0 ∷ 104 ∷ 1 ∷ []) unions (limits 9 9 (Some 7)) (in_element (entry to_string 0 0)) (a_way 1 1 5) ≡ Some (told_at NoTerminator 9 7 (Some 3) 8)
-  pub reads_of_an_element : fault_at published_checks (4 ∷ 0 ∷ 0 ∷ 0 ∷ 1 ∷ 0 ∷ 0 ∷ 0 ∷ 104 ∷ 0 ∷ []) unions (limits 9 9 (Some 7)) (in_element (entry to_string 0 0)) (a_way 1 1 5) ≡ Some (told_at TooManyReads 0 7 (Some 3) 8)
-  pub reads_of_a_type : fault_at published_checks [] unions (limits 9 9 (Some 5)) (in_element (entry to_nothing 3 1)) (a_way 1 1 5) ≡ Some (told_at TooManyReads 3 7 (Some 3) 6)
+  pub the_element_before_reads : fault_at published_checks (4 ∷ 0 ∷ 0 ∷ 0 ∷ 1 ∷ 0 ∷ 0 ∷ 0 ∷ 104 ∷ 1 ∷ []) unions (limits 9 9 (Some 7)) (in_element (entry to_string 0 0)) (a_way 1 1 5) ≡ Some (fault NoTerminator 9 7 (Some 3) 8)
+  pub reads_of_an_element : fault_at published_checks (4 ∷ 0 ∷ 0 ∷ 0 ∷ 1 ∷ 0 ∷ 0 ∷ 0 ∷ 104 ∷ 0 ∷ []) unions (limits 9 9 (Some 7)) (in_element (entry to_string 0 0)) (a_way 1 1 5) ≡ Some (fault TooManyReads 0 7 (Some 3) 8)
+  pub reads_of_a_type : fault_at published_checks [] unions (limits 9 9 (Some 5)) (in_element (entry to_nothing 3 1)) (a_way 1 1 5) ≡ Some (fault TooManyReads 3 7 (Some 3) 6)
   pub an_element_that_leads_to_a_table : fault_at published_checks (4 ∷ 0 ∷ 0 ∷ 0 ∷ []) unions (limits 9 9 (Some 0)) (in_element (entry (to_table 0) 0 1)) (a_way 1 1 5) ≡ None
-  pub reads_of_a_start : fault_at published_checks (8 ∷ 0 ∷ 0 ∷ 0 ∷ 4 ∷ 0 ∷ 0 ∷ 0 ∷ 66 ∷ 70 ∷ 66 ∷ 83 ∷ []) unions (limits 9 9 (Some 2)) (in_start Prefixed wanted) (a_way 0 0 0) ≡ Some (told_at TooManyReads 4 7 (Some 3) 3)
+  pub reads_of_a_start : fault_at published_checks (8 ∷ 0 ∷ 0 ∷ 0 ∷ 4 ∷ 0 ∷ 0 ∷ 0 ∷ 66 ∷ 70 ∷ 66 ∷ 83 ∷ []) unions (limits 9 9 (Some 2)) (in_start Prefixed wanted) (a_way 0 0 0) ≡ Some (fault TooManyReads 4 7 (Some 3) 3)

@@ -1,4 +1,4 @@
-use Rattle.std.proofs.Common.{List, None, ap, [], arith}
+use Rattle.std.proofs.Common.{List, None, ap, [], rules, arith}
 use Rattle.std.proofs.lemmas.List.Elements.{All-nil}
 use Rattle.fb_verify.specs.Stack.{HaltsAlong, IsLinked, Origin, StopsIn, last_link}
 use Rattle.fb_verify.specs.Question.{question}
@@ -51,31 +51,25 @@ tells c =
     reports (question a.schema.now a.root a.start a.ident a.limits a.checks) a.loan.now.bytes c.in-Ok.at c.read_start.new.loan.count c.run.new.self.tables c.run.new.self.deepest c.run.new.loan.count
     c.reads.result c.in-Ok.ensures.asked.ok c.in-Ok.ensures.value (omega (arith, c.requires.fresh, ap (λ m. m.count) c.in-Ok.ensures.asked.counted)) (rw (ap (λ m. m.bytes) c.in-Ok.ensures.asked.counted) at ran.ok) ran.within ran.shallow ran.reads c.reads.ensures.count
 
-pub returns-in-Err-clause-along : goal.returns-in-Err-clause-along
-returns-in-Err-clause-along c _ = rw c.halt.ensures (fails_at_start (goal.at.returns-in-Err-clause-along c).In-Err)
+pub returns-in-Err : goal.returns-in-Err
+returns-in-Err c =
+    let start = fails_at_start (goal.at.returns-in-Err c).In-Err in
+    record { yes = search rules; none = none_along start; deep = search rules; no = rw c.halt.ensures (fault_along start); along = λ _. rw c.halt.ensures start; price = price_of_no start; read = search rules; bytes = search rules }
 
-pub returns-in-Err-clause-no : goal.returns-in-Err-clause-no
-returns-in-Err-clause-no c = rw c.halt.ensures (fault_along (fails_at_start (goal.at.returns-in-Err-clause-no c).In-Err))
-
-pub returns-in-Err-clause-none : goal.returns-in-Err-clause-none
-returns-in-Err-clause-none c = none_along (fails_at_start (goal.at.returns-in-Err-clause-none c).In-Err)
-
-pub returns-in-Err-clause-price : goal.returns-in-Err-clause-price
-returns-in-Err-clause-price c = price_of_no (fails_at_start (goal.at.returns-in-Err-clause-price c).In-Err)
-
-pub returns-in_err-run-clause-along : goal.returns-in_err-run-clause-along
-returns-in_err-run-clause-along c =
-    let d = (goal.at.returns-in_err-run-clause-along c).In_err-run in
-    if_err_exit _ _ _ c.from_residual.ensures.1 (λ enough. halts d _ (rw (ap (λ m. m.bytes) d.in-Ok.ensures.asked.counted) at (d.in_err-run.ensures.along enough)))
-
-pub returns-in_err-run-clause-no : goal.returns-in_err-run-clause-no
-returns-in_err-run-clause-no c = if_err_exit _ _ _ c.from_residual.ensures.1 (fault_along ((halts_somehow (goal.at.returns-in_err-run-clause-no c).In_err-run).1))
-
-pub returns-in_err-run-clause-none : goal.returns-in_err-run-clause-none
-returns-in_err-run-clause-none c = if_err_exit _ _ _ c.from_residual.ensures.1 (none_along ((halts_somehow (goal.at.returns-in_err-run-clause-none c).In_err-run).1))
-
-pub returns-in_err-run-clause-price : goal.returns-in_err-run-clause-price
-returns-in_err-run-clause-price c = price_of_no ((halts_somehow (goal.at.returns-in_err-run-clause-price c).In_err-run).1)
+pub returns-in_err-run : goal.returns-in_err-run
+returns-in_err-run c =
+    let d = (goal.at.returns-in_err-run c).In_err-run in
+    let some = (halts_somehow d).1 in
+    record {
+      yes = search rules;
+      none = if_err_exit _ _ _ c.from_residual.ensures.1 (none_along some);
+      deep = search rules;
+      no = if_err_exit _ _ _ c.from_residual.ensures.1 (fault_along some);
+      along = if_err_exit _ _ _ c.from_residual.ensures.1 (λ enough. halts d _ (rw (ap (λ m. m.bytes) d.in-Ok.ensures.asked.counted) at (d.in_err-run.ensures.along enough)));
+      price = price_of_no some;
+      read = search rules;
+      bytes = search rules;
+    }
 
 pub returns-clause-yes : goal.returns-clause-yes
 returns-clause-yes c = tells (goal.at.returns-clause-yes c).After-reads
