@@ -27,7 +27,7 @@ use Rattle.fb_verify.specs.Places.{fits, is_aligned, vtable, vtable_size, inline
 use Rattle.fb_verify.specs.Plain.{tested_by, FindsVtable, first_word_failure, vtable_failure, step_failure, step_reads, step_failure_at, step_reads_at, plain_failure, plain_reads, StepsHold, steps_reads}
 use Rattle.fb_verify.specs.Stack.{opened, Waiting, IsWalking}
 use Rattle.fb_verify.specs.Told.{IsHead}
-use Rattle.fb_verify.proofs.BySteps.{first_left, others_left}
+use Rattle.fb_verify.proofs.BySteps.{left_from}
 use Rattle.fb_verify.proofs.Budgets.{fewer_reads}
 use Rattle.fb_verify.proofs.Chains.{after_none, both_none, head_none, table_none, inline_none}
 use Rattle.fb_verify.proofs.Heads.{head_parts, head_reads_parts}
@@ -36,11 +36,8 @@ use Rattle.fb_verify.proofs.Walking.{table_closed}
 
 -- A vtable that holds for one table holds for another.
 quiet : (f g e w : Bool) (p t v : ℕ) → check f OutOfBuffer p 0 (check g Misaligned v 0 (check e BadVtable v 1 (check w OutOfBuffer v 1 None))) ≡ None → check f OutOfBuffer t 0 (check g Misaligned v 0 (check e BadVtable v 1 (check w OutOfBuffer v 1 None))) ≡ None
-quiet false g e w p t v h = absurd cc
-quiet true false e w p t v h = absurd cc
-quiet true true false w p t v h = absurd cc
-quiet true true true false p t v h = absurd cc
 quiet true true true true p t v h = refl
+quiet f g e w p t v h = absurd cc
 
 -- A small field is of one of four acts.
 by_act : (P : Act → Type 0) → P One → P Two → P Four → P Eight → (act : Act) → (act ≡ One) ⊎ (act ≡ Two) ⊎ (act ≡ Four) ⊎ (act ≡ Eight) → P act
@@ -165,11 +162,11 @@ module _ (w : Walk) (m : Lent) (under : Waiting) (top : Frame) (rests : (top.row
       let q = r + plain_reads b t s in
       let all : r + steps_reads b t (s ∷ rest) ≡ q + steps_reads b t rest = omega (arith, sum) in
       let next : i + 1 ≡ suc i = omega arith in
-      let here : AtStep w (record m { count = r }) under (record top { next = i }) steps s = record { walking = h; rests = rests; all = refl; got = first_left steps i s rest left } in
+      let here : AtStep w (record m { count = r }) under (record top { next = i }) steps s = record { walking = h; rests = rests; all = refl; got = (left_from steps i s rest left).0 } in
       let told : tested_by t r None ≡ after r (plain_failure w.checks b t s) = sym ((after_none r (plain_failure w.checks b t s)).1 ok) in
       let on = step_passed here (λ e. absurd (no_other s.act (All-head IsSmallStep s rest small) e)) t r r None told refl q refl (fewer_reads (w.limits).reads q (r + steps_reads b t (s ∷ rest)) (omega (arith, all)) cheap) in
       subst (λ n. Comes (length fields) n) (sym all)
-      (through rest (i + 1) q (others_left steps i s rest left ∙ ap (λ n. drop n steps) (sym next)) on (All-tail IsSmallStep s rest small) (All-tail (λ s. plain_failure w.checks b t s ≡ None) s rest hold) (subst (λ n. AreAllowed (w.limits).reads n) all cheap))
+      (through rest (i + 1) q ((left_from steps i s rest left).1 ∙ ap (λ n. drop n steps) (sym next)) on (All-tail IsSmallStep s rest small) (All-tail (λ s. plain_failure w.checks b t s ≡ None) s rest hold) (subst (λ n. AreAllowed (w.limits).reads n) all cheap))
 
 -- So a table is passed that is like the one before.
 module _ (w : Walk) (m mid new : Lent) (under : Waiting) (k t v : ℕ) (passed : Passed) where

@@ -20,17 +20,11 @@ use Rattle.fb_verify.proofs.Plains.{plain_few}
 use Rattle.fb_verify.proofs.Passing.{AtStep, next_within, leads_open, same_slot, step_passed, step_stops, at_field, told_grows, stops_here}
 
 -- The first that is left of a list stands at its place, and the others are left behind it.
-pub first_left : {A : Type 0} (xs : List A) (i : ℕ) (x : A) (more : List A) → x ∷ more ≡ drop i xs → slice_get xs i ≡ Some x
-first_left [] zero x more e = absurd cc
-first_left [] (suc i) x more e = absurd cc
-first_left (y ∷ xs) zero x more e = let w : x ≡ y = cc in ap Some (sym w)
-first_left (y ∷ xs) (suc i) x more e = first_left xs i x more e
-
-pub others_left : {A : Type 0} (xs : List A) (i : ℕ) (x : A) (more : List A) → x ∷ more ≡ drop i xs → more ≡ drop (suc i) xs
-others_left [] zero x more e = absurd cc
-others_left [] (suc i) x more e = absurd cc
-others_left (y ∷ xs) zero x more e = cc
-others_left (y ∷ xs) (suc i) x more e = others_left xs i x more e
+pub left_from : {A : Type 0} (xs : List A) (i : ℕ) (x : A) (more : List A) → x ∷ more ≡ drop i xs → (slice_get xs i ≡ Some x) × (more ≡ drop (suc i) xs)
+left_from [] zero x more e = absurd cc
+left_from [] (suc i) x more e = absurd cc
+left_from (y ∷ xs) zero x more e = (let w : x ≡ y = cc in ap Some (sym w), cc)
+left_from (y ∷ xs) (suc i) x more e = left_from xs i x more e
 
 -- What is known of the steps that are left, in a list.
 pub steps_pass : {w : Walk} {start m : Lent} {first : Frame} (table : Table) (steps rest : List Step) (next : ℕ) → table ≡ first.table → steps ≡ drop first.next (map step_of (live_fields w.schema.now table.object)) → rest ≡ drop next (map step_of (live_fields w.schema.now table.object))

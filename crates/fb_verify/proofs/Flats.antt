@@ -1,7 +1,6 @@
 -- A table whose fields lead to no table is passed whole.
-use Rattle.std.proofs.Common.{◌≡◌, ℕ, ◌+◌, ◌*◌, ◌^◌, ◌<◌, ◌≤◌, IsTrue, nat_lt, Bool, true, false, List, map, length, option_map, refl, sym, ◌∙◌, ap, arith, Option, Some, None, Result, Ok, Err}
+use Rattle.std.proofs.Common.{◌≡◌, ℕ, ◌+◌, ◌*◌, ◌^◌, ◌<◌, ◌≤◌, IsTrue, nat_lt, Bool, true, false, List, map, length, refl, sym, ◌∙◌, ap, arith, Option, Some, None, Result, Ok, Err}
 use Rattle.std.proofs.lemmas.Bool.Decides.{nat_tests}
-use Rattle.std.proofs.lemmas.Option.{slice_get-map}
 use Rattle.fb_bytes.specs.Word.{Lent}
 use Rattle.fb_schema.specs.Rows.{Rows, is_table}
 use Rattle.fb_schema.specs.Live.{live_fields}
@@ -42,7 +41,7 @@ pub never_on : {w : Walk} {m new : Lent} {under : Waiting} {top past : Frame} {a
 never_on {w} {m} {new} {under} {top} {past} plain same e =
     let fs = live_fields w.schema.now (top.table).object in
     let f = slice_get_some fs past.next (rw same at (e.field refl).within) in
-    never_leads fs past.next (step_of f.0) plain (slice_get-map step_of fs past.next ∙ ap (option_map step_of) f.1) (e.open-field refl f.0 f.1)
+    never_leads fs past.next f.0 plain f.1 (e.open-field refl f.0 f.1)
 
 -- why passing fields failed
 abbrev pub reason_of : Result Bool Reason → Option Reason

@@ -1,14 +1,14 @@
 -- What the schema tells of a type of a union is what its member leads to.
 use Rattle.std.proofs.Common.{◌≡◌, refl, Option, Some, None}
 use Rattle.fb_schema.specs.declared.kinds.Kind.{Kind}
-use Rattle.fb_schema.specs.declared.kinds.Kind.TheVariants.{Scalar, Text, Struct, Table, Union, Scalars, Texts, Structs, Tables, Unions}
+use Rattle.fb_schema.specs.declared.kinds.Kind.TheVariants.{Scalar, Struct, Table}
 use Rattle.fb_schema.specs.declared.views.Target.{Target}
 use Rattle.fb_schema.specs.Rows.{Rows}
 use Rattle.fb_schema.specs.Served.{MemberHolds}
 use Rattle.fb_schema.specs.Targets.{target_of, kind_to}
 use Rattle.fb_verify.specs.Fields.{to_nothing, lead_of}
 use Rattle.fb_verify.specs.declared.offset_row.Referent.{Referent}
-use Rattle.fb_verify.specs.declared.offset_row.Referent.TheVariants.{Text as AText, Table as ATable, Struct as AStruct, Nothing}
+use Rattle.fb_verify.specs.declared.offset_row.Referent.TheVariants.{Nothing}
 use Rattle.fb_verify.specs.OffsetRows.{lead_to, lead_to_goal, GoalHolds}
 
 leads : (S : Rows) (member : Option Kind) → lead_to_goal ((target_of S member).goal) (target_of S member) ≡ lead_of S member
