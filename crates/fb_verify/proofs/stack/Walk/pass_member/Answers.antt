@@ -42,7 +42,7 @@ told : (g : _) (c : After-test_lead-failed g)
     → tested_by c.test_lead-failed.new.at c.test_lead-failed.new.reads.count c.test_lead-failed.result ≡ after c.args.reads.now.count (element_failure c.args.self.now.checks c.args.reads.now.bytes (first g c))
 told g c =
     let r = c.args.reads.now.count in
-    word_told (((c.requires.0).members).row).walking (lead_to c.first_referent-referent.result) (leads g c)
+    word_told c.args.self.now.checks c.args.reads.now.bytes c.args.self.now.schema.now c.args.row.now (lead_to c.first_referent-referent.result) (leads g c)
     r c.first_referent-referent.new.reads.count (typed g c) _ (rw (ap (λ x. x.bytes) c.first_referent-referent.ensures.counted, c.requires.1.1) at c.test_lead-failed.ensures.told)
 
 -- where it tells nothing, the word holds
