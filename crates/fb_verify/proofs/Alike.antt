@@ -3,7 +3,7 @@ use Rattle.std.proofs.Common.{◌≡◌, ℕ, suc, ◌+◌, ◌*◌, ◌<◌, �
 use Rattle.std.specs.List.{All}
 use Rattle.std.proofs.lemmas.Bool.Decides.{nat_tests}
 use Rattle.std.proofs.lemmas.List.{length-map, length-drop}
-use Rattle.std.proofs.lemmas.List.Elements.{All-nil, All-cons, All-head, All-tail}
+use Rattle.std.proofs.lemmas.List.Elements.{All-head, All-tail}
 use Rattle.std.proofs.lemmas.List.Sums.{sum_by-cons}
 use Rattle.fb_bytes.specs.Word.{Lent, word}
 use Rattle.fb_schema.specs.declared.views.Act.{Act}
@@ -127,10 +127,7 @@ module _ (c : Checks) (b : List ℕ) (p t : ℕ) (same : vtable b t ≡ vtable b
     reads_alike s small = omega (arith, slot_reads_alike s.slot, reads_free s (field_place b t s.slot) small, reads_free s (field_place b p s.slot) small)
 
     pub hold_alike : (steps : List Step) → All IsSmallStep steps → StepsHold c b p steps → StepsHold c b t steps
-    hold_alike [] small h = All-nil _
-    hold_alike (s ∷ steps) small h =
-        All-cons (λ s. plain_failure c b t s ≡ None) s steps (plain_alike s (All-head IsSmallStep s steps small) (All-head (λ s. plain_failure c b p s ≡ None) s steps h))
-        (hold_alike steps (All-tail IsSmallStep s steps small) (All-tail (λ s. plain_failure c b p s ≡ None) s steps h))
+    hold_alike steps small h = λ i d within. plain_alike _ (small i d within) (h i d within)
 
     pub all_reads_alike : (steps : List Step) → All IsSmallStep steps → steps_reads b t steps ≡ steps_reads b p steps
     all_reads_alike [] small = refl

@@ -8,6 +8,8 @@ use Rattle.fb_schema.specs.Steps.{is_plain, step_of}
 use Rattle.fb_schema.proofs.Numbers.{slice_get_some}
 use Rattle.fb_verify.specs.declared.checks.Checks.{Checks}
 use Rattle.fb_verify.specs.declared.fault.Reason.{Reason}
+use Rattle.fb_schema.specs.declared.views.Step.{Step}
+use Rattle.fb_verify.specs.declared.table.Head.{Head}
 use Rattle.fb_verify.specs.declared.table.Table.{Table}
 use Rattle.fb_verify.specs.declared.offset_row.Row.{Row}
 use Rattle.fb_verify.specs.declared.offset_row.Leads.TheVariants.{All}
@@ -19,17 +21,20 @@ use Rattle.fb_verify.specs.declared.stack.Walk.{Walk}
 use Rattle.fb_verify.specs.Bounds.{Bounds}
 use Rattle.fb_verify.specs.Places.{target}
 use Rattle.fb_verify.specs.Fields.{Entry, to_table}
-use Rattle.fb_verify.specs.Flat.{in_head, PassesFlat}
+use Rattle.fb_verify.specs.Flat.{in_head, Going, MayPass, PassesFlat}
 use Rattle.fb_verify.specs.Cost.{head_reads, lead_reads}
 use Rattle.fb_verify.specs.Order.{after, ◌▷◌, head_failure, lead_failure, element_failure}
 use Rattle.fb_verify.specs.OffsetRows.{first_word, past_first}
-use Rattle.fb_verify.specs.PassesOn.{PassesOn}
-use Rattle.fb_verify.specs.Plain.{tested_by, StepsHold, steps_reads}
+use Rattle.fb_verify.specs.PassesOn.{HasRoom, IsBetween, PassesOn}
+use Rattle.fb_verify.specs.Plain.{tested_by, IsTested, StepsHold, steps_reads}
 use Rattle.fb_verify.specs.Stack.{opened, Waiting, Origin, IsUnderWay, IsAtTable, work}
 use Rattle.fb_verify.specs.Stops.{budget_failure, reads_failure}
-use Rattle.fb_verify.specs.Told.{told, stopped}
+use Rattle.fb_verify.specs.Told.{told, stopped, IsHead}
 use Rattle.fb_verify.specs.Way.{Way}
+use Rattle.std.proofs.lemmas.List.{length-map}
+use Rattle.fb_verify.proofs.Budgets.{fewer_reads}
 use Rattle.fb_verify.proofs.Chains.{after_none}
+use Rattle.fb_verify.proofs.Frames.{head_few}
 use Rattle.fb_verify.proofs.LeafRows.{all_lead, all_free, all_told}
 use Rattle.fb_verify.proofs.Passing.{told_grows}
 use Rattle.fb_verify.proofs.Plains.{never_leads}
@@ -48,28 +53,48 @@ abbrev pub reason_of : Result Bool Reason → Option Reason
 reason_of (Ok more) = None
 reason_of (Err reason) = Some reason
 
--- its head holds, and its fields were passed, or one fails
-module _ (w : Walk) (m mid new : Lent) (under : Waiting) (table : Table) (next at : ℕ) (bytes : mid.bytes ≡ m.bytes) (least : m.count ≤ mid.count) (most : mid.count ≤ m.count + 3)
-    (few : length (live_fields w.schema.now table.object) < 2 ^ 32) where
-  pub flat_came : is_plain w.schema.now table.object ≡ true → (r : Result Bool Reason) → PassesOn w mid new under (opened table) (record (opened table) { next = next }) at r → PassesFlat w m new under table.object table.at next at (reason_of r)
-  flat_came plain (Ok true) e = absurd (never_on plain refl e)
-  flat_came plain (Ok false) e = record {
-    walking = λ _ rest above is. (table_closed (e.walking refl) rest above is refl (e.all refl));
-    paid = λ _. omega (arith, e.ends refl, most);
-    grows = omega (arith, e.grows, least);
-    bytes = e.bytes ∙ bytes;
+-- its head was tested, and holds
+module _ {going : Going} {m mid : Lent} {c : Checks} {S : Rows} {k t tested : ℕ} {steps : List Step} {result : Option Reason} (r : MayPass going m c S k t steps)
+    (e : IsTested m mid tested (head_failure (going.walk).checks m.bytes t) (head_reads (going.walk).checks) result) (none : result ≡ None) (head : Head) where
+  abbrev table : Table
+  table = record { head = head; object = k; at = t }
+
+  pub flat_holds : head_failure (going.walk).checks m.bytes t ≡ None
+  flat_holds = (after_none m.count _).0 (sym e.told ∙ ap (tested_by tested mid.count) none)
+
+  -- there are as many steps as fields
+  pub flat_many : length steps ≡ length (live_fields (going.walk).schema.now k)
+  flat_many = ap length r.its ∙ length-map (live_fields (going.walk).schema.now k) step_of
+
+  -- its fields are to be passed
+  pub flat_between : IsHead (going.walk).checks m.bytes t head → IsBetween going.walk mid going.under (opened table)
+  flat_between is = record { walking = rw (e.bytes, e.counted none) (r.opens table refl refl is flat_holds); rests = refl }
+
+  pub flat_room : HasRoom going.walk mid (opened table)
+  flat_room =
+      let few = head_few (going.walk).checks in
+      record { allowed = fewer_reads ((going.walk).limits).reads _ _ (omega (arith, e.counted none, flat_many, few)) r.room; short = omega (arith, e.counted none, flat_many, few, r.short) }
+
+  -- they were passed, or one fails
+  pub flat_came : {new : Lent} {next at : ℕ} (came : Result Bool Reason) → PassesOn going.walk mid new going.under (opened table) (record (opened table) { next = next }) at came → PassesFlat going.walk m new going.under k t next at (reason_of came)
+  flat_came (Ok true) h = absurd (never_on r.plain refl h)
+  flat_came (Ok false) h = record {
+    walking = λ _ rest above is. (table_closed (h.walking refl) rest above is refl (h.all refl));
+    paid = λ _. omega (arith, h.ends refl, e.counted none, head_few (going.walk).checks);
+    grows = omega (arith, h.grows, e.counted none);
+    bytes = h.bytes ∙ e.bytes;
     head = λ _. tt;
     within = λ _. tt;
     field = λ _. tt;
   }
-  flat_came plain (Err reason) e = record {
+  flat_came (Err reason) h = record {
     walking = λ x. absurd cc;
     paid = λ x. absurd cc;
-    grows = omega (arith, e.grows, least);
-    bytes = e.bytes ∙ bytes;
-    head = λ x. absurd (omega (arith, x, e.next, few));
-    within = λ _. e.next;
-    field = λ _ s is. rw (sym bytes) (e.err s (record { refusal = is.refusal; object = is.object; field = is.field }));
+    grows = omega (arith, h.grows, e.counted none);
+    bytes = h.bytes ∙ e.bytes;
+    head = λ x. absurd (omega (arith, x, h.next, flat_many, r.few));
+    within = λ _. h.next;
+    field = λ _ s is. rw (sym e.bytes) (h.err s (record { refusal = is.refusal; object = is.object; field = is.field }));
   }
 
 -- its fields were passed: they hold, for so many reads
