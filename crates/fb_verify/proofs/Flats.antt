@@ -45,8 +45,8 @@ use Rattle.fb_verify.proofs.Walking.{table_closed}
 pub never_on : {w : Walk} {m new : Lent} {under : Waiting} {top past : Frame} {at : ℕ} → is_plain w.schema.now (top.table).object ≡ true → past.table ≡ top.table → PassesOn w m new under top past at (Ok true) → ⊥
 never_on {w} {m} {new} {under} {top} {past} plain same e =
     let fs = live_fields w.schema.now (top.table).object in
-    let f = slice_get_some fs past.next (rw same at (e.field refl).within) in
-    never_leads fs past.next f.0 plain f.1 (e.open-field refl f.0 f.1)
+    let f = slice_get_some fs past.next (rw same at ((e.comes).field).within) in
+    never_leads fs past.next f.0 plain f.1 ((e.comes).open-field f.0 f.1)
 
 -- why passing fields failed
 abbrev pub reason_of : Result Bool Reason → Option Reason
@@ -79,8 +79,8 @@ module _ {going : Going} {m mid : Lent} {c : Checks} {S : Rows} {k t tested : �
   pub flat_came : {new : Lent} {next at : ℕ} (came : Result Bool Reason) → PassesOn going.walk mid new going.under (opened table) (record (opened table) { next = next }) at came → PassesFlat going.walk m new going.under k t next at (reason_of came)
   flat_came (Ok true) h = absurd (never_on r.plain refl h)
   flat_came (Ok false) h = record {
-    walking = λ _ rest above is. (table_closed (h.walking refl) rest above is refl (h.all refl));
-    paid = λ _. omega (arith, h.ends refl, e.counted none, head_few (going.walk).checks);
+    walking = λ _ rest above is. (table_closed (h.comes).walking rest above is refl (h.comes).all);
+    paid = λ _. omega (arith, (h.comes).ends, e.counted none, head_few (going.walk).checks);
     grows = omega (arith, h.grows, e.counted none);
     bytes = h.bytes ∙ e.bytes;
     head = λ _. tt;
@@ -92,16 +92,16 @@ module _ {going : Going} {m mid : Lent} {c : Checks} {S : Rows} {k t tested : �
     paid = λ x. absurd cc;
     grows = omega (arith, h.grows, e.counted none);
     bytes = h.bytes ∙ e.bytes;
-    head = λ x. absurd (omega (arith, x, h.next, flat_many, r.few));
-    within = λ _. h.next;
-    field = λ _ s is. rw (sym e.bytes) (h.err s (record { refusal = is.refusal; object = is.object; field = is.field }));
+    head = λ x. absurd (omega (arith, x, (h.comes).next, flat_many, r.few));
+    within = λ _. (h.comes).next;
+    field = λ _ s is. rw (sym e.bytes) ((h.comes).err s (record { refusal = is.refusal; object = is.object; field = is.field }));
   }
 
 -- its fields were passed: they hold, for so many reads
 pub flat_kept : {w : Walk} {m new : Lent} {under : Waiting} {table : Table} {next at : ℕ} → is_plain w.schema.now table.object ≡ true → (more : Bool) → PassesOn w m new under (opened table) (record (opened table) { next = next }) at (Ok more)
     → StepsHold w.checks m.bytes table.at (map step_of (live_fields w.schema.now table.object)) × (new.count ≡ m.count + steps_reads m.bytes table.at (map step_of (live_fields w.schema.now table.object))) × (new.count ≤ m.count + 6 * length (live_fields w.schema.now table.object))
 flat_kept plain true e = absurd (never_on plain refl e)
-flat_kept plain false e = (e.hold refl, e.counted refl, omega (arith, e.ends refl))
+flat_kept plain false e = ((e.comes).hold, (e.comes).counted, omega (arith, (e.comes).ends))
 
 -- its head fails
 pub head_flat : {w : Walk} {m new : Lent} {under : Waiting} {k t at : ℕ} {reason : Reason} → tested_by at new.count (Some reason) ≡ after m.count (head_failure w.checks m.bytes t) → new.bytes ≡ m.bytes → PassesFlat w m new under k t in_head at (Some reason)

@@ -159,7 +159,7 @@ returns-in_default-referent g c =
     let cheap = fewer_reads (w.limits).reads q.count c.args.room (omega (arith, cost, room)) (c.requires.0).allowed in
     let passed = leaf_passed i.walking c.advance.new.self q.count c.advance.ensures more (holds g d none) (paid g d none) leaf cheap in
     record {
-      on = word_passed i c.advance.new.self q (rw (kept g d) passed) (omega (arith, cost, more, left)) (omega (arith, left)) (omega (arith, paid g d none)) (kept g d) (omega (arith, cost, room, (c.requires.0).short));
+      on = word_passed i _ q (rw (kept g d) passed) refl (omega (arith, cost, more, left)) (omega (arith, left)) (omega (arith, paid g d none)) (kept g d) (omega (arith, cost, room, (c.requires.0).short));
       same = refl;
       word = c.advance.ensures;
     }
