@@ -28,6 +28,7 @@ use Rattle.fb_verify.specs.Turns.{IsAtOpenField, GoesOn, StaysInField, PassedFie
 use Rattle.fb_verify.proofs.Budgets.{fewer_reads}
 use Rattle.fb_verify.proofs.Chains.{after_none}
 use Rattle.fb_verify.proofs.Flats.{lt_true}
+use Rattle.fb_verify.proofs.Turning.{halts_on, goes_on, goes_down}
 use Rattle.fb_verify.proofs.Frames.{no_row, own_few, present_few}
 use Rattle.fb_verify.proofs.NextField.{AtNext, askable, next_stops}
 use Rattle.fb_verify.proofs.Passing.{slot_is_one, stop_is}
@@ -122,20 +123,25 @@ on_work : (S : Rows) (L : Bounds) (below : List Frame) (on top : Frame) (n q r :
 unfolding work
 on_work S L below on top n q r paid = omega (arith, paid)
 
--- Behind it, a turn through its words is one into it.
-module _ (w then : Walk) (m mid new : Lent) (under : Waiting) (top on past : Frame) (child : Child) (table : on.table ≡ top.table) (next : on.next ≡ top.next + 1)
-    (paid : mid.count + frame_work w.schema.now on ≤ m.count - 1 + frame_work w.schema.now top) (grows : m.count ≤ mid.count) (bytes : mid.bytes ≡ m.bytes) where
-  less : mid.count + work w.schema.now w.limits under.frames on w.tables ≤ m.count - 1 + work w.schema.now w.limits under.frames top w.tables
-  less = on_work w.schema.now w.limits under.frames on top w.tables mid.count (m.count - 1) paid
+-- Behind it, a turn through the row that was put is one into it.
+module _ (w mid then : Walk) (m q new : Lent) (under : Waiting) (waiting : ℕ) (top on past : Frame) (child : Child) (b : BeginsRow w mid m q under waiting top on) where
+  abbrev before : Lent
+  before = record m { count = m.count - 1 }
 
-  stays : GoesOn w then mid new under on past → StaysInField w then m new under top past
-  stays e = record { same = e.same; walking = e.walking; table = e.table ∙ table; falls = omega (arith, e.falls, less); bytes = e.bytes ∙ bytes; short = e.short; grows = omega (arith, e.grows, grows) }
+  kept : mid ≡ record w { tables = mid.tables; deepest = mid.deepest }
+  kept = rw b.same refl
 
-  pub into_turned : (turn : Turn) → RowTurned w then mid new under on past child turn → FieldTurned w then m new under top past child turn
-  into_turned Down e = record { same = e.same; down = e.down; deep = e.deep; falls = omega (arith, e.falls, less); bytes = e.bytes ∙ bytes; short = e.short; grows = omega (arith, e.grows, grows) }
-  into_turned Up e = record { on = stays e.on; rests = e.rests; next = e.next ∙ next }
-  into_turned Slowly e = stays e
-  into_turned Halted e = record { links = e.links; deep = e.deep; err = rw (sym bytes) e.err; bytes = e.bytes ∙ bytes }
+  less : q.count + work w.schema.now w.limits under.frames on mid.tables ≤ m.count - 1 + work w.schema.now w.limits under.frames top w.tables
+  less = rw b.same (on_work w.schema.now w.limits under.frames on top w.tables q.count (m.count - 1) b.paid)
+
+  stays : GoesOn mid then q new under on past → StaysInField w then m new under top past
+  stays e = record { on = goes_on w mid then before q new under kept b.bytes b.table less (omega (arith, e.grows, b.grows)) e; grows = omega (arith, e.grows, b.grows) }
+
+  pub far_turned : (turn : Turn) → RowTurned mid then q new under on past child turn → FieldTurned w then m new under top past child turn
+  far_turned Down e = record { down = goes_down w mid then before q new under kept b.bytes b.table less (omega (arith, e.grows, b.grows)) e; grows = omega (arith, e.grows, b.grows) }
+  far_turned Up e = record { on = stays e.on; rests = e.rests; next = e.next ∙ b.next }
+  far_turned Slowly e = stays e
+  far_turned Halted e = halts_on w mid then m q new under kept b.bytes e
 
 -- The field's own tests hold.
 module _ {w : Walk} {m : Lent} {under : Waiting} {waiting : ℕ} {top : Frame} {place : ℕ} {f : Live} (h : IsAtOpenField w m under waiting top place f) (new : Lent) (at : ℕ) (result : Option Reason)
@@ -156,13 +162,16 @@ module _ {w : Walk} {m : Lent} {under : Waiting} {waiting : ℕ} {top : Frame} {
         let empty = (leads.none (ap (nat_lt 0) zero)).0 in
         record {
           on = record {
-            same = refl;
-            walking = rw e.bytes (into_over h held new.count spent_on empty);
-            table = refl;
-            falls = on_work w.schema.now w.limits under.frames _ top w.tables new.count (m.count - 1) (over_work h held new.count spent_on);
+            on = record {
+              same = refl;
+              walking = rw e.bytes (into_over h held new.count spent_on empty);
+              table = refl;
+              falls = on_work w.schema.now w.limits under.frames _ top w.tables new.count (m.count - 1) (over_work h held new.count spent_on);
+              grows = omega (arith, spent_on);
+              bytes = e.bytes;
+              short = omega (arith, few_spent, h.short);
+            };
             grows = omega (arith, spent_on);
-            bytes = e.bytes;
-            short = omega (arith, few_spent, h.short);
           };
           rests = h.rests;
           next = refl;
@@ -188,8 +197,3 @@ module _ {w : Walk} {m : Lent} {under : Waiting} {waiting : ℕ} {top : Frame} {
         grows = omega (arith, spent_on);
         bytes = e.bytes;
       }
-
--- So a turn through the row that was put is one into the field.
-pub far_turned : (w mid then : Walk) (m q new : Lent) (under : Waiting) (waiting : ℕ) (top on past : Frame) (child : Child) → BeginsRow w mid m q under waiting top on → (turn : Turn) → RowTurned mid then q new under on past child turn
-    → FieldTurned w then m new under top past child turn
-far_turned w mid then m q new under waiting top on past child b turn t = into_turned w then m q new under top on past child b.table b.next b.paid b.grows b.bytes turn (rw b.same at t)
