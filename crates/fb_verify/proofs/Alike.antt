@@ -1,5 +1,5 @@
 -- What holds of a table whose fields are small holds of those below it that have its vtable and are aligned alike.
-use Rattle.std.proofs.Common.{◌≡◌, ℕ, suc, ◌+◌, ◌*◌, ◌<◌, ◌≤◌, ◌==◌, ◌%◌, ◌&&◌, ◌||◌, ◌⊎◌, inl, inr, Bool, true, false, not, IsTrue, nat_le, List, [], ◌∷◌, map, drop, length, refl, sym, ◌∙◌, ap, subst, arith, Option, Some, None, Ok, if◌then◌else◌}
+use Rattle.std.proofs.Common.{◌≡◌, ℕ, suc, ◌+◌, ◌*◌, ◌<◌, ◌≤◌, ◌==◌, ◌%◌, ◌&&◌, ◌⊎◌, inl, inr, Bool, true, false, not, IsTrue, nat_le, List, [], ◌∷◌, map, drop, length, refl, sym, ◌∙◌, ap, subst, arith, Option, Some, None, Ok, if◌then◌else◌}
 use Rattle.std.specs.List.{All}
 use Rattle.std.proofs.lemmas.Bool.Decides.{nat_tests}
 use Rattle.std.proofs.lemmas.List.{length-map, length-drop}
@@ -76,17 +76,11 @@ module _ (c : Checks) (b : List ℕ) (p t : ℕ) (same : vtable b t ≡ vtable b
   module _ (below : t < p) (aligned : t % 8 ≡ p % 8) where
     ends_alike : (d n : ℕ) → IsTrue (ends_in_table c b p (p + d) n) → IsTrue (ends_in_table c b t (t + d) n)
     unfolding ends_in_table
-    ends_alike d n h = go c.inline_size h where
-      go : (x : Bool) → IsTrue (not x || nat_le (p + d + n) (p + inline_size b p)) → IsTrue (not x || nat_le (t + d + n) (t + inline_size b t))
-      go false h = refl
-      go true h = let size : inline_size b t ≡ inline_size b p = ap (λ v. word b (v + 2) 2) same in grind (arith, nat_tests)
+    ends_alike d n h = let size : inline_size b t ≡ inline_size b p = ap (λ v. word b (v + 2) 2) same in grind (arith, nat_tests)
 
     aligned_alike : (d n : ℕ) → ((p + d) % n ≡ 0 → (t + d) % n ≡ 0) → IsTrue (is_aligned c (p + d) n) → IsTrue (is_aligned c (t + d) n)
     unfolding is_aligned
-    aligned_alike d n mods h = go c.alignment h where
-      go : (x : Bool) → IsTrue (not x || ((p + d) % n == 0)) → IsTrue (not x || ((t + d) % n == 0))
-      go false h = refl
-      go true h = grind (arith, nat_tests, mods)
+    aligned_alike d n mods h = grind (arith, nat_tests, mods)
 
     inline_alike : (d n : ℕ) → ((p + d) % n ≡ 0 → (t + d) % n ≡ 0) → inline_field_failure c b p (p + d) n n ≡ None → inline_field_failure c b t (t + d) n n ≡ None
     inline_alike d n mods h =

@@ -1,6 +1,6 @@
 -- A table whose fields lead to no table is passed whole.
-use Rattle.std.proofs.Common.{◌≡◌, ℕ, ◌+◌, ◌*◌, ◌^◌, ◌<◌, ◌≤◌, IsTrue, nat_lt, Bool, true, false, List, map, length, refl, sym, ◌∙◌, ap, arith, Option, Some, None, Result, Ok, Err}
-use Rattle.std.proofs.lemmas.Bool.Decides.{nat_tests}
+use Rattle.std.proofs.Common.{◌≡◌, ℕ, ◌+◌, ◌*◌, ◌^◌, ◌<◌, ◌≤◌, IsTrue, Bool, true, false, List, map, length, refl, sym, ◌∙◌, ap, arith, Option, Some, None, Result, Ok, Err}
+use Rattle.std.proofs.lemmas.Bool.{lt-ltb}
 use Rattle.fb_bytes.specs.Word.{Lent}
 use Rattle.fb_schema.specs.Rows.{Rows, is_table}
 use Rattle.fb_schema.specs.Live.{live_fields}
@@ -118,30 +118,23 @@ head_flat {w} {m} {new} {under} {k} {t} told bytes = record {
 -- The first word that is left of a row of words to tables of one object.
 module _ (w : Walk) {b : List ℕ} {start : Origin} {below : List Frame} {top : Frame} {r : ℕ} (h : IsUnderWay w.checks b w.schema.now w.limits start below top w.tables w.deepest r)
     (k : ℕ) (leads : (top.row).leads ≡ All (ATable k)) (more : 0 < (top.row).left) where
-  abbrev S : Rows
-  S = w.schema.now
-
   abbrev word : Entry
-  word = first_word b S top.row
-
-  -- it leads to a table
-  word_leads : to_table k ≡ word.lead
-  word_leads = all_lead h (ATable k) leads
+  word = first_word b w.schema.now top.row
 
   module _ (new : ℕ) (at : ℕ) (result : Option Reason) (told : tested_by at new result ≡ after r (lead_failure w.checks b (top.row).place (to_table k))) where
     pub word_tells : tested_by at new result ≡ after r (element_failure w.checks b word)
     word_tells = all_told h (ATable k) leads (tested_by at new result) told
 
     -- where it holds, the walk stands at that table
-    pub at_flat : result ≡ None → IsTrue (is_table S k) → new ≡ r + 1 → at ≡ target b (top.row).place → at < 2 ^ 33
+    pub at_flat : result ≡ None → IsTrue (is_table w.schema.now k) → new ≡ r + 1 → at ≡ target b (top.row).place → at < 2 ^ 33
         → IsAtTable w b new start below top (r + 4 * (top.row).left) (record { object = k; at = at })
     at_flat none table paid is near = record {
       before = r;
-      count = omega (arith, paid, all_free h (ATable k) leads, ap lead_reads (sym word_leads));
+      count = omega (arith, paid, all_free h (ATable k) leads, ap lead_reads (sym (all_lead h (ATable k) leads)));
       walking = h;
       more = more;
       holds = (after_none r (element_failure w.checks b word)).0 (sym word_tells ∙ ap (tested_by at new) none);
-      leads = sym word_leads;
+      leads = sym (all_lead h (ATable k) leads);
       table = table;
       at = is;
       near = near;
@@ -154,12 +147,9 @@ pub flat_work : (S : Rows) (L : Bounds) (below : List Frame) (top : Frame) (row 
 unfolding work
 flat_work S L below top row n r u re more fewer cost = omega (arith, more, fewer, cost, ap (λ (x : Row). x.left) re)
 
-pub lt_true : (a b : ℕ) → a < b → nat_lt a b ≡ true
-lt_true a b h = grind (arith, nat_tests)
-
 -- the limits allow it
 may_open : (L : Bounds) (v : Way) (t : ℕ) → v.links < L.depth → v.passed < L.tables → budget_failure L v t ≡ None
-may_open L v t deep fewer = rw (lt_true v.links L.depth deep, lt_true v.passed L.tables fewer) refl
+may_open L v t deep fewer = rw (lt-ltb v.links L.depth deep, lt-ltb v.passed L.tables fewer) refl
 
 -- its head fails
 pub head_fails : (c : Checks) (b : List ℕ) (L : Bounds) (v : Way) (site : Site) (k t at q new : ℕ) (reason : Reason) → v.links < L.depth → v.passed < L.tables → tested_by at new (Some reason) ≡ after q (head_failure c b t)

@@ -1,5 +1,6 @@
 -- The walk goes into a field that may lead on, whose slot was the last read.
 use Rattle.std.proofs.Common.{◌≡◌, ℕ, ◌+◌, ◌-◌, ◌<◌, ◌≤◌, nat_lt, List, [], refl, sym, ◌∙◌, ap, subst, arith, Option, Some, None}
+use Rattle.std.proofs.lemmas.Bool.{lt-ltb}
 use Rattle.fb_bytes.specs.Word.{Lent}
 use Rattle.fb_schema.specs.Rows.{Rows}
 use Rattle.fb_schema.specs.Live.{Live}
@@ -27,7 +28,6 @@ use Rattle.fb_verify.specs.Told.{refused, stopped}
 use Rattle.fb_verify.specs.Turns.{IsAtOpenField, GoesOn, StaysInField, PassedField, BeginsRow, RowTurned, FieldTurned}
 use Rattle.fb_verify.proofs.Budgets.{fewer_reads}
 use Rattle.fb_verify.proofs.Chains.{after_none}
-use Rattle.fb_verify.proofs.Flats.{lt_true}
 use Rattle.fb_verify.proofs.Turning.{halts_on, goes_on, goes_down}
 use Rattle.fb_verify.proofs.Frames.{no_row, own_few, present_few}
 use Rattle.fb_verify.proofs.NextField.{AtNext, askable, next_stops}
@@ -180,14 +180,14 @@ module _ {w : Walk} {m : Lent} {under : Waiting} {waiting : ℕ} {top : Frame} {
     -- or on by these words
     module _ (more : 0 < row.left) where
       good : IsRow m.bytes w.schema.now row
-      good = (leads.row (lt_true 0 row.left more)).0
+      good = (leads.row (lt-ltb 0 row.left more)).0
 
       pub row_begins : BeginsRow w w m new under waiting top (record top { next = top.next + 1; number = f.number; row = row })
       row_begins = record {
         same = refl;
         row = record {
           many = h.many;
-          walking = rw e.bytes (into_leads h held new.count spent_on row good (leads.entries (lt_true 0 row.left more)));
+          walking = rw e.bytes (into_leads h held new.count spent_on row good (leads.entries (lt-ltb 0 row.left more)));
           more = more;
           short = omega (arith, few_spent, h.short);
         };

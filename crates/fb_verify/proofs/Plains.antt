@@ -135,17 +135,11 @@ module _ (c : Checks) (b : List ℕ) (t m mid new : ℕ) (s : Step) (place : Opt
   plain_counted h = let w = ap (step_reads_at s) here in omega (arith, h, count, w)
 
 -- A slot that tells a word tells the place so many bytes behind the table, or that there is none.
-same_place : (t w : ℕ) → (w == 0) ≡ true → (t + w == t) ≡ true
-same_place t w h = grind (arith, nat_tests)
-
-other_place : (t w : ℕ) → (w == 0) ≡ false → (t + w == t) ≡ false
-other_place t w h = grind (arith, nat_tests)
+same_place : (t w : ℕ) → (t + w == t) ≡ (w == 0)
+same_place t w = grind (arith, nat_tests)
 
 pub place_told : (t w : ℕ) → place_from t (t + w) ≡ (if w == 0 then None else Some (t + w))
-place_told t w = go (w == 0) refl where
-  go : (x : Bool) → (w == 0) ≡ x → place_from t (t + w) ≡ (if x then None else Some (t + w))
-  go true e = ap (λ y. if y then None else Some (t + w)) (same_place t w e)
-  go false e = ap (λ y. if y then None else Some (t + w)) (other_place t w e)
+place_told t w = ap (λ y. if y then None else Some (t + w)) (same_place t w)
 
 pub place_none : (t : ℕ) → place_from t t ≡ None
 place_none t = ap (λ y. if y then None else Some t) ((Decides-eqb t t).1 refl)
