@@ -30,10 +30,7 @@ left_from (y ∷ xs) (suc i) x more e = left_from xs i x more e
 pub steps_pass : {w : Walk} {start m : Lent} {first : Frame} (table : Table) (steps rest : List Step) (next : ℕ) → table ≡ first.table → steps ≡ drop first.next (map step_of (live_fields w.schema.now table.object)) → rest ≡ drop next (map step_of (live_fields w.schema.now table.object))
     → (StepsHold w.checks start.bytes (first.table).at rest → StepsHold w.checks start.bytes (first.table).at steps) → m.count + steps_reads start.bytes (first.table).at rest ≡ start.count + steps_reads start.bytes (first.table).at steps
     → StepsPass w start m first (record first { next = next })
-steps_pass {w} {start} {m} {first} table steps rest next same all left hold counted = record {
-  hold = rw (left ∙ ap (λ (t : Table). drop next (map step_of (live_fields w.schema.now t.object))) same, all ∙ ap (λ (t : Table). drop first.next (map step_of (live_fields w.schema.now t.object))) same) at hold;
-  counted = rw (left ∙ ap (λ (t : Table). drop next (map step_of (live_fields w.schema.now t.object))) same, all ∙ ap (λ (t : Table). drop first.next (map step_of (live_fields w.schema.now t.object))) same) at counted;
-}
+steps_pass table steps rest next same all left hold counted = record { hold = rw (left, all, same) at hold; counted = rw (left, all, same) at counted }
 
 -- The walk came from the start and the first frame so far by steps.
 pub record GoesBy (w : Walk) (start m : Lent) (first : Frame) (next : ℕ) : Type 0 where

@@ -147,11 +147,7 @@ pub flat_work : (S : Rows) (L : Bounds) (below : List Frame) (top : Frame) (row 
 unfolding work
 flat_work S L below top row n r u re more fewer cost = omega (arith, more, fewer, cost, ap (λ (x : Row). x.left) re)
 
--- the limits allow it
-may_open : (L : Bounds) (v : Way) (t : ℕ) → v.links < L.depth → v.passed < L.tables → budget_failure L v t ≡ None
-may_open L v t deep fewer = rw (lt-ltb v.links L.depth deep, lt-ltb v.passed L.tables fewer) refl
-
--- its head fails
+-- The limits allow it, and its head fails.
 pub head_fails : (c : Checks) (b : List ℕ) (L : Bounds) (v : Way) (site : Site) (k t at q new : ℕ) (reason : Reason) → v.links < L.depth → v.passed < L.tables → tested_by at new (Some reason) ≡ after q (head_failure c b t)
     → (told site q (budget_failure L v t) ▷ told (record { object = k; field = None }) q (head_failure c b t ▷ reads_failure L q (head_reads c) t))
     ≡ Some (stopped (record { refusal = record { at = at; reason = reason }; site = record { object = k; field = None } }) new)
@@ -159,5 +155,4 @@ head_fails c b L v site k t at q new reason deep fewer x =
     let e : Refusal = record { at = at; reason = reason } in
     let here : Site = record { object = k; field = None } in
     let f = stopped (record { refusal = e; site = here }) new in
-    ap (λ o. told site q o ▷ told here q (head_failure c b t ▷ reads_failure L q (head_reads c) t)) (may_open L v t deep fewer)
-    ∙ told_first here q (head_failure c b t) (reads_failure L q (head_reads c) t) f (told_after here q new (head_failure c b t) e (sym x))
+    rw (lt-ltb v.links L.depth deep, lt-ltb v.passed L.tables fewer) (told_first here q (head_failure c b t) (reads_failure L q (head_reads c) t) f (told_after here q new (head_failure c b t) e (sym x)))

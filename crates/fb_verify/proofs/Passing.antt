@@ -57,10 +57,6 @@ module _ {c : Checks} {b : List ℕ} {S : Rows} {L : Bounds} {s : Origin} {below
   abbrev t : ℕ
   t = (top.table).at
 
-  -- the top, past this field
-  abbrev top_over : Frame
-  top_over = record top { next = top.next + 1 }
-
   -- the row of a string's offset word
   abbrev one_word : ℕ → Row
   one_word p = record { leads = All AText; place = p; left = 1 }
@@ -79,7 +75,7 @@ module _ {c : Checks} {b : List ℕ} {S : Rows} {L : Bounds} {s : Origin} {below
     entered own = pass_more c b S L s below top n d r h.standing f (one_word p) f.number (r + own_reads b t f) rests here refl own word_is refl
 
     -- the string is passed
-    string_passed : (q : ℕ) → q ≡ r + plain_reads b t (step_of f) → plain_failure c b t (step_of f) ≡ None → Standing c b S s below top_over n d q
+    string_passed : (q : ℕ) → q ≡ r + plain_reads b t (step_of f) → plain_failure c b t (step_of f) ≡ None → Standing c b S s below (record top { next = top.next + 1 }) n d q
     unfolding element_failure
     string_passed q z ok =
         let parts = (both_none (own_failure c b S t f) (after (own_reads b t f) (lead_failure c b p to_string))).0 (sym to.chain ∙ ok) in
@@ -91,10 +87,10 @@ module _ {c : Checks} {b : List ℕ} {S : Rows} {L : Bounds} {s : Origin} {below
         record { v = on.v; root = on.root; under = on.under; at = inl (record { none = rests; inside = (at_rest c b S past on.v n d q none on.at).inside }) }
 
   -- a field that holds is passed
-  pub plain_passed : (q : ℕ) → q ≡ r + plain_reads b t (step_of f) → AreAllowed L.reads q → plain_failure c b t (step_of f) ≡ None → IsUnderWay c b S L s below top_over n d q
+  pub plain_passed : (q : ℕ) → q ≡ r + plain_reads b t (step_of f) → AreAllowed L.reads q → plain_failure c b t (step_of f) ≡ None → IsUnderWay c b S L s below (record top { next = top.next + 1 }) n d q
   plain_passed q z cheap ok = elim (comes c b S t f plain) [
     | inl to ↦ field_skipped h f blank.row top.number q rests here (z ∙ ap (λ m. r + m) to.reads) (no_row c b S) cheap refl (sym to.chain ∙ ok) (to.none ∙ sym (row_none b S blank.row refl))
-    | inr x ↦ goes_on h top_over q cheap (frame_next c b S top (field_within _ _ _ here) h.frame) (string_passed x.0 x.1 q z ok)
+    | inr x ↦ goes_on h (record top { next = top.next + 1 }) q cheap (frame_next c b S top (field_within _ _ _ here) h.frame) (string_passed x.0 x.1 q z ok)
   ]
 
   -- Where it fails.
@@ -199,15 +195,12 @@ module _ {w : Walk} {m : Lent} {under : Waiting} {top : Frame} {steps : List Ste
     abbrev plain_field : act_of found.0 (found.0).kind ≡ Other → field_place b table_at (found.0).slot ≡ None
     plain_field = λ e. ap (λ (z : Step). field_place b table_at z.slot) (sym found.2) ∙ plain (ap (λ (z : Step). z.act) found.2 ∙ e)
 
-    chain_is : plain_failure w.checks b table_at step ≡ plain_failure w.checks b table_at (step_of found.0)
-    chain_is = ap (plain_failure w.checks b table_at) found.2
-
     -- its test holds
     pub step_passed : failed ≡ None → (q : ℕ) → q ≡ m.count + plain_reads b table_at step → AreAllowed (w.limits).reads q
         → IsUnderWay w.checks b w.schema.now w.limits under.start under.frames (record top { next = top.next + 1 }) w.tables w.deepest q
     step_passed e q z cheap =
         let none = (after_none k (plain_failure w.checks b table_at step)).0 (sym told ∙ ap (tested_by at new) e) in
-        plain_passed h.walking h.rests found.0 found.1 plain_field q (z ∙ ap (λ x. m.count + plain_reads b table_at x) found.2) cheap (sym chain_is ∙ none)
+        plain_passed h.walking h.rests found.0 found.1 plain_field q (z ∙ ap (λ x. m.count + plain_reads b table_at x) found.2) cheap (ap (plain_failure w.checks b table_at) (sym found.2) ∙ none)
 
     -- or fails, and the walk stops there
     pub stops_paid : {reason : Reason} → failed ≡ Some reason → m.count ≡ k → AreAllowed (w.limits).reads (m.count + own_reads b table_at found.0) → (stop : Stop) → IsStopAt w.schema.now top at reason stop
@@ -215,7 +208,7 @@ module _ {w : Walk} {m : Lent} {under : Waiting} {top : Frame} {steps : List Ste
     stops_paid {reason} e z cheap stop is =
         let by : Refusal = record { at = at; reason = reason } in
         let here = sym told ∙ ap (tested_by at new) e in
-        let x = ap (after k) (sym chain_is) ∙ here in
+        let x = ap (λ z. after k (plain_failure w.checks b table_at z)) (sym found.2) ∙ here in
         subst (λ f. IsStopped w m under.start under.frames f) (stop_is stop by (top.table).object (found.0).number new is.refusal is.object (is.field found.0 found.1))
         (plain_stops h.walking h.rests found.0 found.1 plain_field cheap by new (ap (λ x'. after x' (plain_failure w.checks b table_at (step_of found.0))) z ∙ x))
 

@@ -58,15 +58,12 @@ never_leads (g ∷ fs) zero f p e a =
 never_leads (g ∷ fs) (suc i) f p e a = never_leads fs i f (both_true (is_plain_act (act_of g g.kind)) (are_plain fs) p).1 e a
 
 module _ (c : Checks) (b : List ℕ) (t p : ℕ) (s : Step) where
-  abbrev inline_of : ℕ → ℕ → Option Failure
-  inline_of size align = inline_field_failure c b t p size align
-
-  same_size : (n : ℕ) → (s.size ≡ n) × (s.align ≡ n) → inline_of n n ≡ inline_of s.size s.align
-  same_size n h = sym (ap (λ x. inline_of x s.align) h.0 ∙ ap (λ x. inline_of n x) h.1)
+  same_size : (n : ℕ) → (s.size ≡ n) × (s.align ≡ n) → inline_field_failure c b t p n n ≡ inline_field_failure c b t p s.size s.align
+  same_size n h = rw (h.0, h.1) refl
 
   -- it is asked for its own size and alignment
-  pub inline_step : step_failure c b t s p (inline_act s.required s.size s.align) ≡ inline_of s.size s.align
-  inline_step = inline_acts (λ act. step_failure c b t s p act ≡ inline_of s.size s.align) s.required s.size s.align (λ _. same_size 1) (λ _. same_size 2) (λ _. same_size 4) (λ _. same_size 8) refl
+  pub inline_step : step_failure c b t s p (inline_act s.required s.size s.align) ≡ inline_field_failure c b t p s.size s.align
+  inline_step = inline_acts (λ act. step_failure c b t s p act ≡ inline_field_failure c b t p s.size s.align) s.required s.size s.align (λ _. same_size 1) (λ _. same_size 2) (λ _. same_size 4) (λ _. same_size 8) refl
 
 inline_free : (required : Bool) (size align : ℕ) → step_reads (inline_act required size align) ≡ 0
 inline_free required size align = inline_acts (λ act. step_reads act ≡ 0) required size align (λ _ _. refl) (λ _ _. refl) (λ _ _. refl) (λ _ _. refl) refl

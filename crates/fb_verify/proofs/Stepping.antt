@@ -29,16 +29,12 @@ module _ (c : Checks) (m : Lent) (t : ℕ) (s : Step) (d : ℕ) (inside : has_sl
   abbrev pub slot_read : Lent
   slot_read = record m { count = m.count + 1 }
 
-  one_read : slot_reads m.bytes t s.slot ≡ 1
-  one_read = ap (λ (x : Bool). if x then 1 else 0) inside
-
   counted : m.count + 1 ≡ m.count + slot_reads m.bytes t s.slot
-  counted = omega (arith, one_read)
+  counted = rw inside refl
 
   place_is : field_place m.bytes t s.slot ≡ (if d == 0 then None else Some (t + d))
   unfolding field_place
-  place_is = ap (λ (x : Bool). if x then (if word m.bytes (vtable m.bytes t + s.slot) 2 == 0 then None else Some (t + word m.bytes (vtable m.bytes t + s.slot) 2)) else None) inside
-      ∙ ap (λ (x : ℕ). if x == 0 then None else Some (t + x)) (sym is)
+  place_is = rw (inside, is) refl
 
   is_absent : d ≡ 0 → field_place m.bytes t s.slot ≡ None
   is_absent none = place_is ∙ ap (λ (x : ℕ). if x == 0 then None else Some (t + x)) none

@@ -101,9 +101,6 @@ module _ (w then : Walk) (m new : Lent) (under : Waiting) (old low high : List F
     abbrev above : Waiting
     above = record { start = under.start; frames = under.frames ++ past ∷ [] }
 
-    length_above : length (under.frames ++ past ∷ []) ≡ waiting + 1
-    length_above = omega (arith, length-append under.frames (past ∷ []), many)
-
     frames_opened : OpensChild then last new then-reads above open-frame child → GoesOver w last m then-reads under.start old waiting frames (waiting + 1)
     unfolding work
     frames_opened o =
@@ -119,7 +116,7 @@ module _ (w then : Walk) (m new : Lent) (under : Waiting) (old low high : List F
 
     frames_stop : StopsAtChild then last new then-reads above → WentWrong w last m then-reads under.start frames
     frames_stop o =
-        let links : (last.halt).links ≡ waiting + 1 = o.links ∙ length_above in
+        let links : (last.halt).links ≡ waiting + 1 = omega (arith, o.links, length-append under.frames (past ∷ []), many) in
         let checks = ap (λ (x : Walk). x.checks) h.same in
         let schema = ap (λ (x : Walk). x.schema) h.same in
         let limits = ap (λ (x : Walk). x.limits) h.same in

@@ -3,7 +3,6 @@ use Rattle.fb_schema.specs.Live.{live_fields}
 use Rattle.fb_schema.specs.Steps.{step_of}
 use Rattle.fb_verify.specs.declared.offset_row.Row.{Row}
 use Rattle.fb_verify.specs.declared.stack.Walk.{Walk}
-use Rattle.fb_verify.specs.declared.table.Child.{Child}
 use Rattle.fb_verify.specs.Cost.{lead_reads}
 use Rattle.fb_verify.specs.Fields.{Entry}
 use Rattle.fb_verify.specs.Order.{after, element_failure}
@@ -69,12 +68,9 @@ returns-in-Some g c =
     (word_halts (on g d) c.test_lead-failed.new.reads c.stop_at_word-stop.new.top c.stop_at_word-stop.result c.stop.new.self c.args.waiting (((c.requires.0).members).row).many (kept g d) ((((c.requires.0).members).row).more)
     (rw c.in-Some.is at (told g d)) c.stop_at_word-stop.ensures.stop c.stop_at_word-stop.ensures.past (ap (λ (x : Walk). x.halt) c.stop.ensures.halt))
 
-abbrev child_at : (g : _) → After-count_table g → Child
-child_at g c = record { object = c.in-Table.object; at = c.test_lead-failed.new.at }
-
 -- a word that leads to a table is passed, and the table is counted
 counts : (g : _) (c : After-count_table g)
-    → Counts c.args.self.now c.args.self.now c.count_table.new.self c.args.reads.now c.args.reads.now c.test_lead-failed.new.reads g.under (record c.args.top.now { row = c.args.row.now }) (record c.args.top.now { row = c.args.row.now }) c.advance.new.self (child_at g c) (c.args.waiting + 1)
+    → Counts c.args.self.now c.args.self.now c.count_table.new.self c.args.reads.now c.args.reads.now c.test_lead-failed.new.reads g.under (record c.args.top.now { row = c.args.row.now }) (record c.args.top.now { row = c.args.row.now }) c.advance.new.self (record { object = c.in-Table.object; at = c.test_lead-failed.new.at }) (c.args.waiting + 1)
 counts g c =
     let d = (goal.at.After-count_table g c).After-test_lead-failed in
     let w = c.args.self.now in
