@@ -57,20 +57,10 @@ module _ {w then : Walk} {m new : Lent} {under : Waiting} {past : Frame} {links 
       → Halts w then m new under past
   halts_behind stop is e =
       let all : take (links + 1) (under.frames ++ past ∷ []) ≡ under.frames ++ past ∷ [] = take_all (under.frames ++ past ∷ []) (links + 1) (omega (arith, many, length-append under.frames (past ∷ []))) in
-      record {
-        links = rw is (omega (arith, many));
-        deep = rw is (omega (arith, many, low));
-        err = rw is (rw all e);
-        bytes = bytes;
-      }
+      record { links = rw is (omega (arith, many)); deep = rw is (omega (arith, many, low)); err = rw is (rw all e); bytes = bytes }
 
   -- in a field of the top
   pub halts_in_field : (then.halt).links ≡ links → (then.halt).last ≡ InField → IsStopped w m under.start under.frames (stopped (then.halt).stop new.count) → Halts w then m new under past
   halts_in_field is last e =
       let some : take (then.halt).links (under.frames ++ past ∷ []) ≡ under.frames = ap (λ i. take i (under.frames ++ past ∷ [])) (is ∙ many) ∙ take-append_seam under.frames (past ∷ []) in
-      record {
-        links = omega (arith, is, many);
-        deep = rw last (omega (arith, is, many, low));
-        err = rw (last, some) e;
-        bytes = bytes;
-      }
+      record { links = omega (arith, is, many); deep = rw last (omega (arith, is, many, low)); err = rw (last, some) e; bytes = bytes }
