@@ -120,9 +120,6 @@ module _ (c : Checks) (b : List ℕ) (p t : ℕ) (same : vtable b t ≡ vtable b
     unfolding plain_reads
     reads_alike s small = omega (arith, slot_reads_alike s.slot, reads_free s (field_place b t s.slot) small, reads_free s (field_place b p s.slot) small)
 
-    pub hold_alike : (steps : List Step) → All IsSmallStep steps → StepsHold c b p steps → StepsHold c b t steps
-    hold_alike steps small h = λ i d within. plain_alike _ (small i d within) (h i d within)
-
     pub all_reads_alike : (steps : List Step) → All IsSmallStep steps → steps_reads b t steps ≡ steps_reads b p steps
     all_reads_alike [] small = refl
     all_reads_alike (s ∷ steps) small =
@@ -178,7 +175,7 @@ module _ (w : Walk) (m mid new : Lent) (under : Waiting) (k t v : ℕ) (passed :
         inline = λ _. refl;
       } in
       let r = m.count + head_reads w.checks in
-      let hold = hold_alike w.checks b passed.at t same like.below like.aligned all small kept.hold in
+      let hold : StepsHold w.checks b t all = λ i d within. plain_alike w.checks b passed.at t same like.below like.aligned _ (small i d within) (kept.hold i d within) in
       let count : new.count ≡ r + steps_reads b t all = omega (arith, ap (λ (x : Lent). x.count) is, finds.counted, kept.reads, head_reads_parts w.checks, all_reads_alike w.checks b passed.at t same like.below like.aligned all small) in
       let paid : new.count ≤ m.count + 3 + 6 * length all = omega (arith, ap (λ (x : Lent). x.count) is, finds.counted, kept.few) in
       let cheap = fewer_reads (w.limits).reads (r + steps_reads b t all) (m.count + 3 + 6 * length all) (omega (arith, count, paid)) room in

@@ -20,7 +20,7 @@ use Rattle.fb_verify.specs.declared.site.Site.{Site}
 use Rattle.fb_verify.specs.declared.stack.Walk.{Walk}
 use Rattle.fb_verify.specs.Bounds.{Bounds}
 use Rattle.fb_verify.specs.Places.{target}
-use Rattle.fb_verify.specs.Fields.{Entry, to_table}
+use Rattle.fb_verify.specs.Fields.{to_table}
 use Rattle.fb_verify.specs.Flat.{in_head, Going, MayPass, PassesFlat}
 use Rattle.fb_verify.specs.Cost.{head_reads, lead_reads}
 use Rattle.fb_verify.specs.Order.{after, ◌▷◌, head_failure, lead_failure, element_failure}
@@ -118,11 +118,8 @@ head_flat {w} {m} {new} {under} {k} {t} told bytes = record {
 -- The first word that is left of a row of words to tables of one object.
 module _ (w : Walk) {b : List ℕ} {start : Origin} {below : List Frame} {top : Frame} {r : ℕ} (h : IsUnderWay w.checks b w.schema.now w.limits start below top w.tables w.deepest r)
     (k : ℕ) (leads : (top.row).leads ≡ All (ATable k)) (more : 0 < (top.row).left) where
-  abbrev word : Entry
-  word = first_word b w.schema.now top.row
-
   module _ (new : ℕ) (at : ℕ) (result : Option Reason) (told : tested_by at new result ≡ after r (lead_failure w.checks b (top.row).place (to_table k))) where
-    pub word_tells : tested_by at new result ≡ after r (element_failure w.checks b word)
+    pub word_tells : tested_by at new result ≡ after r (element_failure w.checks b (first_word b w.schema.now top.row))
     word_tells = all_told h (ATable k) leads (tested_by at new result) told
 
     -- where it holds, the walk stands at that table
@@ -133,7 +130,7 @@ module _ (w : Walk) {b : List ℕ} {start : Origin} {below : List Frame} {top : 
       count = omega (arith, paid, all_free h (ATable k) leads, ap lead_reads (sym (all_lead h (ATable k) leads)));
       walking = h;
       more = more;
-      holds = (after_none r (element_failure w.checks b word)).0 (sym word_tells ∙ ap (tested_by at new) none);
+      holds = (after_none r (element_failure w.checks b (first_word b w.schema.now top.row))).0 (sym word_tells ∙ ap (tested_by at new) none);
       leads = sym (all_lead h (ATable k) leads);
       table = table;
       at = is;

@@ -41,9 +41,6 @@ module _ {w : Walk} {m : Lent} {under : Waiting} {waiting : ℕ} {top : Frame} {
   abbrev b : List ℕ
   b = m.bytes
 
-  abbrev r : ℕ
-  r = m.count
-
   abbrev S : Rows
   S = w.schema.now
 
@@ -79,7 +76,7 @@ module _ {w : Walk} {m : Lent} {under : Waiting} {waiting : ℕ} {top : Frame} {
   into_askable = askable at_next
 
   -- it fails
-  pub into_stops : (at new : ℕ) (reason : Reason) → tested_by at new (Some reason) ≡ after r present → (stop : Stop) → IsStopAt S top at reason stop → IsStopped w m under.start under.frames (stopped stop new)
+  pub into_stops : (at new : ℕ) (reason : Reason) → tested_by at new (Some reason) ≡ after m.count present → (stop : Stop) → IsStopAt S top at reason stop → IsStopped w m under.start under.frames (stopped stop new)
   into_stops at new reason told stop is =
       let e : Refusal = record { at = at; reason = reason } in
       let site : Site = record { object = (top.table).object; field = Some f.number } in
@@ -90,7 +87,7 @@ module _ {w : Walk} {m : Lent} {under : Waiting} {waiting : ℕ} {top : Frame} {
       (next_stops at_next fault (told_first site (h.at).before own (reads_failure w.limits (h.at).before (own_reads b t f) t) fault (told_after site (h.at).before new own e x)))
 
   -- or it holds, after these reads
-  module _ (holds : present ≡ None) (q : ℕ) (paid : q ≡ r + present_reads b t f.slot f.kind) where
+  module _ (holds : present ≡ None) (q : ℕ) (paid : q ≡ m.count + present_reads b t f.slot f.kind) where
     own : own_failure c b S t f ≡ None
     own = chain ∙ ap (after 1) holds
 
@@ -98,7 +95,7 @@ module _ {w : Walk} {m : Lent} {under : Waiting} {waiting : ℕ} {top : Frame} {
     spent = omega (arith, paid, (h.at).count, counted)
 
     allowed : AreAllowed (w.limits).reads q
-    allowed = fewer_reads (w.limits).reads q (r + 7) (omega (arith, paid, counted, own_few b t f)) h.room
+    allowed = fewer_reads (w.limits).reads q (m.count + 7) (omega (arith, paid, counted, own_few b t f)) h.room
 
     -- it leads on by these words
     abbrev past : Row → Frame
@@ -107,7 +104,7 @@ module _ {w : Walk} {m : Lent} {under : Waiting} {waiting : ℕ} {top : Frame} {
     pub into_leads : (row : Row) → IsRow b S row → entries_of b S t f place f.kind ≡ words_of b S row → IsUnderWay c b S w.limits under.start under.frames (past row) w.tables w.deepest q
     into_leads row good leads = field_passed (h.at).walking f row f.number q h.rests h.here spent good allowed refl own (entries_are ∙ leads)
 
-    pub into_work : (row : Row) → IsRow b S row → q + frame_work S (past row) ≤ r - 1 + frame_work S top
+    pub into_work : (row : Row) → IsRow b S row → q + frame_work S (past row) ≤ m.count - 1 + frame_work S top
     into_work row good = omega (arith, (h.at).count, field_work (h.at).walking f row f.number q h.rests h.here spent good)
 
     -- or nowhere
@@ -115,7 +112,7 @@ module _ {w : Walk} {m : Lent} {under : Waiting} {waiting : ℕ} {top : Frame} {
     into_over none =
         field_skipped (h.at).walking f blank.row f.number q h.rests h.here spent (no_row c b S) allowed refl own (entries_are ∙ none ∙ sym (row_none b S blank.row refl))
 
-    over_work : q + frame_work S (record top { next = top.next + 1 }) ≤ r - 1 + frame_work S top
+    over_work : q + frame_work S (record top { next = top.next + 1 }) ≤ m.count - 1 + frame_work S top
     over_work = omega (arith, (h.at).count, skip_work (h.at).walking f blank.row f.number q h.rests h.here spent (no_row c b S))
 
 -- what is less for the top is less for the whole stack

@@ -21,7 +21,7 @@ use Rattle.fb_verify.specs.Flat.{in_head, frame_at, MayPass, PassesFlat}
 use Rattle.fb_verify.specs.OffsetRows.{first_word, past_first}
 use Rattle.fb_verify.specs.Order.{after, element_failure}
 use Rattle.fb_verify.specs.Plain.{tested_by}
-use Rattle.fb_verify.specs.Stack.{Waiting, IsAtTable, IsWalking, HaltsIn}
+use Rattle.fb_verify.specs.Stack.{Waiting, IsAtTable, IsWalking, HaltsIn, links_left}
 use Rattle.fb_verify.specs.StopsAt.{IsStopAt}
 use Rattle.fb_verify.specs.Turns.{IsShort, IsAtChild, GoesDown, GoesOn, Rests, Halts}
 use Rattle.fb_verify.proofs.Budgets.{fewer_reads}
@@ -158,17 +158,14 @@ module _ {w then counted : Walk} {m new mid : Lent} {under : Waiting} {top past 
       → ((next ≡ in_head → ⊥) → IsStopAt counted.schema.now (frame_at child.object next) at reason (halted.halt).stop × ((halted.halt).last ≡ InField)) → Halts w halted m q under waits
   table_halts next at reason q halted p many_links head field =
       let all : take links (under.frames ++ waits ∷ []) ≡ under.frames ++ waits ∷ [] = take_all links (under.frames ++ waits ∷ []) (omega (arith, h.many, length-append under.frames (waits ∷ []))) in
-      let err : HaltsIn counted mid under.start below.frames halted.halt q.count =
+      let ends : HaltsIn counted mid under.start below.frames halted.halt q.count × ((halted.halt).links + links_left (halted.halt).last ≤ (w.limits).depth) =
       elim (cases_eq next in_head) [
-        | inl e ↦ rw (head e) (comes_down.stops at q.count reason (p.head e))
-        | inr e ↦ let g = field e in rw g.1 (p.field e (halted.halt).stop g.0)
+        | inl e ↦ (rw (head e) (comes_down.stops at q.count reason (p.head e)), rw (head e) (omega (arith, h.deep)))
+        | inr e ↦ let g = field e in (rw g.1 (p.field e (halted.halt).stop g.0), rw g.1 (omega (arith, many_links, h.deep)))
       ] in
       record {
         links = omega (arith, many_links, h.many);
-        deep = elim (cases_eq next in_head) [
-          | inl e ↦ rw (head e) (omega (arith, h.deep))
-          | inr e ↦ rw (field e).1 (omega (arith, many_links, h.deep))
-        ];
-        err = rw (many_links, all, sym (ap (λ (x : Walk). x.checks) (h.on).same), sym schema, sym limits, sym (h.kept ∙ (h.on).bytes)) (rw (ap (λ (x : Walk). x.checks) h.is, ap (λ (x : Walk). x.schema.now) h.is, ap (λ (x : Walk). x.limits) h.is) at err);
+        deep = ends.1;
+        err = rw (many_links, all, sym (ap (λ (x : Walk). x.checks) (h.on).same), sym schema, sym limits, sym (h.kept ∙ (h.on).bytes)) (rw (ap (λ (x : Walk). x.checks) h.is, ap (λ (x : Walk). x.schema.now) h.is, ap (λ (x : Walk). x.limits) h.is) at ends.0);
         bytes = p.bytes ∙ h.kept ∙ (h.on).bytes;
       }
