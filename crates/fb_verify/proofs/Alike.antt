@@ -1,9 +1,9 @@
 -- What holds of a table whose fields are small holds of those below it that have its vtable and are aligned alike.
-use Rattle.std.proofs.Common.{◌≡◌, ℕ, suc, ◌+◌, ◌*◌, ◌<◌, ◌≤◌, ◌==◌, ◌%◌, ◌&&◌, ◌||◌, ◌⊎◌, inl, inr, Bool, true, false, not, IsTrue, nat_le, List, [], ◌∷◌, map, drop, length, refl, sym, ◌∙◌, ap, subst, arith, Option, Some, None, Ok, if◌then◌else◌}
+use Rattle.std.proofs.Common.{◌≡◌, ℕ, suc, ◌+◌, ◌*◌, ◌<◌, ◌≤◌, ◌==◌, ◌%◌, ◌&&◌, ◌⊎◌, inl, inr, Bool, true, false, not, IsTrue, nat_le, List, [], ◌∷◌, map, drop, length, refl, sym, ◌∙◌, ap, subst, arith, Option, Some, None, Ok, if◌then◌else◌}
 use Rattle.std.specs.List.{All}
 use Rattle.std.proofs.lemmas.Bool.Decides.{nat_tests}
 use Rattle.std.proofs.lemmas.List.{length-map, length-drop}
-use Rattle.std.proofs.lemmas.List.Elements.{All-nil, All-cons, All-head, All-tail}
+use Rattle.std.proofs.lemmas.List.Elements.{All-head, All-tail}
 use Rattle.std.proofs.lemmas.List.Sums.{sum_by-cons}
 use Rattle.fb_bytes.specs.Word.{Lent, word}
 use Rattle.fb_schema.specs.declared.views.Act.{Act}
@@ -27,7 +27,7 @@ use Rattle.fb_verify.specs.Places.{fits, is_aligned, vtable, vtable_size, inline
 use Rattle.fb_verify.specs.Plain.{tested_by, FindsVtable, first_word_failure, vtable_failure, step_failure, step_reads, step_failure_at, step_reads_at, plain_failure, plain_reads, StepsHold, steps_reads}
 use Rattle.fb_verify.specs.Stack.{opened, Waiting, IsWalking}
 use Rattle.fb_verify.specs.Told.{IsHead}
-use Rattle.fb_verify.proofs.BySteps.{first_left, others_left}
+use Rattle.fb_verify.proofs.BySteps.{left_from}
 use Rattle.fb_verify.proofs.Budgets.{fewer_reads}
 use Rattle.fb_verify.proofs.Chains.{after_none, both_none, head_none, table_none, inline_none}
 use Rattle.fb_verify.proofs.Heads.{head_parts, head_reads_parts}
@@ -36,11 +36,8 @@ use Rattle.fb_verify.proofs.Walking.{table_closed}
 
 -- A vtable that holds for one table holds for another.
 quiet : (f g e w : Bool) (p t v : ℕ) → check f OutOfBuffer p 0 (check g Misaligned v 0 (check e BadVtable v 1 (check w OutOfBuffer v 1 None))) ≡ None → check f OutOfBuffer t 0 (check g Misaligned v 0 (check e BadVtable v 1 (check w OutOfBuffer v 1 None))) ≡ None
-quiet false g e w p t v h = absurd cc
-quiet true false e w p t v h = absurd cc
-quiet true true false w p t v h = absurd cc
-quiet true true true false p t v h = absurd cc
 quiet true true true true p t v h = refl
+quiet f g e w p t v h = absurd cc
 
 -- A small field is of one of four acts.
 by_act : (P : Act → Type 0) → P One → P Two → P Four → P Eight → (act : Act) → (act ≡ One) ⊎ (act ≡ Two) ⊎ (act ≡ Four) ⊎ (act ≡ Eight) → P act
@@ -79,17 +76,11 @@ module _ (c : Checks) (b : List ℕ) (p t : ℕ) (same : vtable b t ≡ vtable b
   module _ (below : t < p) (aligned : t % 8 ≡ p % 8) where
     ends_alike : (d n : ℕ) → IsTrue (ends_in_table c b p (p + d) n) → IsTrue (ends_in_table c b t (t + d) n)
     unfolding ends_in_table
-    ends_alike d n h = go c.inline_size h where
-      go : (x : Bool) → IsTrue (not x || nat_le (p + d + n) (p + inline_size b p)) → IsTrue (not x || nat_le (t + d + n) (t + inline_size b t))
-      go false h = refl
-      go true h = let size : inline_size b t ≡ inline_size b p = ap (λ v. word b (v + 2) 2) same in grind (arith, nat_tests)
+    ends_alike d n h = let size : inline_size b t ≡ inline_size b p = ap (λ v. word b (v + 2) 2) same in grind (arith, nat_tests)
 
     aligned_alike : (d n : ℕ) → ((p + d) % n ≡ 0 → (t + d) % n ≡ 0) → IsTrue (is_aligned c (p + d) n) → IsTrue (is_aligned c (t + d) n)
     unfolding is_aligned
-    aligned_alike d n mods h = go c.alignment h where
-      go : (x : Bool) → IsTrue (not x || ((p + d) % n == 0)) → IsTrue (not x || ((t + d) % n == 0))
-      go false h = refl
-      go true h = grind (arith, nat_tests, mods)
+    aligned_alike d n mods h = grind (arith, nat_tests, mods)
 
     inline_alike : (d n : ℕ) → ((p + d) % n ≡ 0 → (t + d) % n ≡ 0) → inline_field_failure c b p (p + d) n n ≡ None → inline_field_failure c b t (t + d) n n ≡ None
     inline_alike d n mods h =
@@ -129,12 +120,6 @@ module _ (c : Checks) (b : List ℕ) (p t : ℕ) (same : vtable b t ≡ vtable b
     unfolding plain_reads
     reads_alike s small = omega (arith, slot_reads_alike s.slot, reads_free s (field_place b t s.slot) small, reads_free s (field_place b p s.slot) small)
 
-    pub hold_alike : (steps : List Step) → All IsSmallStep steps → StepsHold c b p steps → StepsHold c b t steps
-    hold_alike [] small h = All-nil _
-    hold_alike (s ∷ steps) small h =
-        All-cons (λ s. plain_failure c b t s ≡ None) s steps (plain_alike s (All-head IsSmallStep s steps small) (All-head (λ s. plain_failure c b p s ≡ None) s steps h))
-        (hold_alike steps (All-tail IsSmallStep s steps small) (All-tail (λ s. plain_failure c b p s ≡ None) s steps h))
-
     pub all_reads_alike : (steps : List Step) → All IsSmallStep steps → steps_reads b t steps ≡ steps_reads b p steps
     all_reads_alike [] small = refl
     all_reads_alike (s ∷ steps) small =
@@ -165,11 +150,11 @@ module _ (w : Walk) (m : Lent) (under : Waiting) (top : Frame) (rests : (top.row
       let q = r + plain_reads b t s in
       let all : r + steps_reads b t (s ∷ rest) ≡ q + steps_reads b t rest = omega (arith, sum) in
       let next : i + 1 ≡ suc i = omega arith in
-      let here : AtStep w (record m { count = r }) under (record top { next = i }) steps s = record { walking = h; rests = rests; all = refl; got = first_left steps i s rest left } in
+      let here : AtStep w (record m { count = r }) under (record top { next = i }) steps s = record { walking = h; rests = rests; all = refl; got = (left_from steps i s rest left).0 } in
       let told : tested_by t r None ≡ after r (plain_failure w.checks b t s) = sym ((after_none r (plain_failure w.checks b t s)).1 ok) in
       let on = step_passed here (λ e. absurd (no_other s.act (All-head IsSmallStep s rest small) e)) t r r None told refl q refl (fewer_reads (w.limits).reads q (r + steps_reads b t (s ∷ rest)) (omega (arith, all)) cheap) in
       subst (λ n. Comes (length fields) n) (sym all)
-      (through rest (i + 1) q (others_left steps i s rest left ∙ ap (λ n. drop n steps) (sym next)) on (All-tail IsSmallStep s rest small) (All-tail (λ s. plain_failure w.checks b t s ≡ None) s rest hold) (subst (λ n. AreAllowed (w.limits).reads n) all cheap))
+      (through rest (i + 1) q ((left_from steps i s rest left).1 ∙ ap (λ n. drop n steps) (sym next)) on (All-tail IsSmallStep s rest small) (All-tail (λ s. plain_failure w.checks b t s ≡ None) s rest hold) (subst (λ n. AreAllowed (w.limits).reads n) all cheap))
 
 -- So a table is passed that is like the one before.
 module _ (w : Walk) (m mid new : Lent) (under : Waiting) (k t v : ℕ) (passed : Passed) where
@@ -190,7 +175,7 @@ module _ (w : Walk) (m mid new : Lent) (under : Waiting) (k t v : ℕ) (passed :
         inline = λ _. refl;
       } in
       let r = m.count + head_reads w.checks in
-      let hold = hold_alike w.checks b passed.at t same like.below like.aligned all small kept.hold in
+      let hold : StepsHold w.checks b t all = λ i d within. plain_alike w.checks b passed.at t same like.below like.aligned _ (small i d within) (kept.hold i d within) in
       let count : new.count ≡ r + steps_reads b t all = omega (arith, ap (λ (x : Lent). x.count) is, finds.counted, kept.reads, head_reads_parts w.checks, all_reads_alike w.checks b passed.at t same like.below like.aligned all small) in
       let paid : new.count ≤ m.count + 3 + 6 * length all = omega (arith, ap (λ (x : Lent). x.count) is, finds.counted, kept.few) in
       let cheap = fewer_reads (w.limits).reads (r + steps_reads b t all) (m.count + 3 + 6 * length all) (omega (arith, count, paid)) room in

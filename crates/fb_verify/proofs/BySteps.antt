@@ -17,29 +17,20 @@ use Rattle.fb_verify.specs.PassesOn.{StepsPass, IsBetween, HasRoom, EndsBehind, 
 use Rattle.fb_verify.proofs.Budgets.{fewer_reads}
 use Rattle.fb_verify.proofs.Frames.{slot_few}
 use Rattle.fb_verify.proofs.Plains.{plain_few}
-use Rattle.fb_verify.proofs.Passing.{AtStep, next_within, leads_open, same_slot, step_passed, step_stops, at_field, told_grows, stops_here}
+use Rattle.fb_verify.proofs.Passing.{AtStep, next_within, leads_open, same_slot, step_passed, step_stops, at_field, told_grows}
 
 -- The first that is left of a list stands at its place, and the others are left behind it.
-pub first_left : {A : Type 0} (xs : List A) (i : ℕ) (x : A) (more : List A) → x ∷ more ≡ drop i xs → slice_get xs i ≡ Some x
-first_left [] zero x more e = absurd cc
-first_left [] (suc i) x more e = absurd cc
-first_left (y ∷ xs) zero x more e = let w : x ≡ y = cc in ap Some (sym w)
-first_left (y ∷ xs) (suc i) x more e = first_left xs i x more e
-
-pub others_left : {A : Type 0} (xs : List A) (i : ℕ) (x : A) (more : List A) → x ∷ more ≡ drop i xs → more ≡ drop (suc i) xs
-others_left [] zero x more e = absurd cc
-others_left [] (suc i) x more e = absurd cc
-others_left (y ∷ xs) zero x more e = cc
-others_left (y ∷ xs) (suc i) x more e = others_left xs i x more e
+pub left_from : {A : Type 0} (xs : List A) (i : ℕ) (x : A) (more : List A) → x ∷ more ≡ drop i xs → (slice_get xs i ≡ Some x) × (more ≡ drop (suc i) xs)
+left_from [] zero x more e = absurd cc
+left_from [] (suc i) x more e = absurd cc
+left_from (y ∷ xs) zero x more e = (let w : x ≡ y = cc in ap Some (sym w), cc)
+left_from (y ∷ xs) (suc i) x more e = left_from xs i x more e
 
 -- What is known of the steps that are left, in a list.
 pub steps_pass : {w : Walk} {start m : Lent} {first : Frame} (table : Table) (steps rest : List Step) (next : ℕ) → table ≡ first.table → steps ≡ drop first.next (map step_of (live_fields w.schema.now table.object)) → rest ≡ drop next (map step_of (live_fields w.schema.now table.object))
     → (StepsHold w.checks start.bytes (first.table).at rest → StepsHold w.checks start.bytes (first.table).at steps) → m.count + steps_reads start.bytes (first.table).at rest ≡ start.count + steps_reads start.bytes (first.table).at steps
     → StepsPass w start m first (record first { next = next })
-steps_pass {w} {start} {m} {first} table steps rest next same all left hold counted = record {
-  hold = rw (left ∙ ap (λ (t : Table). drop next (map step_of (live_fields w.schema.now t.object))) same, all ∙ ap (λ (t : Table). drop first.next (map step_of (live_fields w.schema.now t.object))) same) at hold;
-  counted = rw (left ∙ ap (λ (t : Table). drop next (map step_of (live_fields w.schema.now t.object))) same, all ∙ ap (λ (t : Table). drop first.next (map step_of (live_fields w.schema.now t.object))) same) at counted;
-}
+steps_pass table steps rest next same all left hold counted = record { hold = rw (left, all, same) at hold; counted = rw (left, all, same) at counted }
 
 -- The walk came from the start and the first frame so far by steps.
 pub record GoesBy (w : Walk) (start m : Lent) (first : Frame) (next : ℕ) : Type 0 where
@@ -76,7 +67,12 @@ module _ {w : Walk} {start m : Lent} {under : Waiting} {first : Frame} {next : �
   to_fault reason e =
       let within = next_within h in
       let room = fewer_reads (w.limits).reads (m.count + 6) (start.count + 6 * fields_left w.schema.now first) (omega (arith, g.paid, within)) (g.room).allowed in
-      stops_here refl (omega (arith, within)) (omega (arith, told_grows _ e.told, g.grows)) (e.bytes ∙ g.bytes) (λ stop is. rw g.bytes at (step_stops h e.plain at m.count new.count (Some reason) e.told refl refl room stop is))
+      record {
+        comes = record { next = omega (arith, within); err = λ stop is. rw g.bytes at (step_stops h e.plain at m.count new.count (Some reason) e.told refl refl room stop is) };
+        same = refl;
+        grows = omega (arith, told_grows _ e.told, g.grows);
+        bytes = e.bytes ∙ g.bytes;
+      }
 
   -- to one that is there and may lead to a table
   to_field : StepLeads m new t step at → PassesOn w start new under first top at (Ok true)
@@ -86,21 +82,16 @@ module _ {w : Walk} {start m : Lent} {under : Waiting} {first : Frame} {next : �
       let count = ap (λ (x : Lent). x.count) e.counted in
       let bytes = ap (λ (x : Lent). x.bytes) e.counted in
       record {
-        walking = λ e. absurd cc;
-        field = λ _. rw bytes (at_field h (Some at) (sym e.there) e.slot e.near new.count count);
-        open-field = λ _ f here. leads_open h e.open-step f here;
+        comes = record {
+          field = rw bytes (at_field h (Some at) (sym e.there) e.slot e.near new.count count);
+          open-field = λ f here. leads_open h e.open-step f here;
+          forth = g.forth;
+          within = omega (arith, within);
+          paid = omega (arith, g.paid, few, count);
+        };
         same = refl;
-        forth = g.forth;
-        within = omega (arith, within);
-        all = λ e. absurd cc;
-        ends = λ e. absurd cc;
-        hold = λ e. absurd cc;
-        counted = λ e. absurd cc;
-        paid = omega (arith, g.paid, few, count);
         grows = omega (arith, g.grows, count);
         bytes = bytes ∙ g.bytes;
-        next = tt;
-        err = tt;
       }
 
   -- to one whose slot lies behind the vtable

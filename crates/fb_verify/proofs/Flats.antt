@@ -1,7 +1,6 @@
 -- A table whose fields lead to no table is passed whole.
-use Rattle.std.proofs.Common.{◌≡◌, ℕ, ◌+◌, ◌*◌, ◌^◌, ◌<◌, ◌≤◌, IsTrue, nat_lt, Bool, true, false, List, map, length, option_map, refl, sym, ◌∙◌, ap, arith, Option, Some, None, Result, Ok, Err}
-use Rattle.std.proofs.lemmas.Bool.Decides.{nat_tests}
-use Rattle.std.proofs.lemmas.Option.{slice_get-map}
+use Rattle.std.proofs.Common.{◌≡◌, ℕ, ◌+◌, ◌*◌, ◌^◌, ◌<◌, ◌≤◌, IsTrue, Bool, true, false, List, map, length, refl, sym, ◌∙◌, ap, arith, Option, Some, None, Result, Ok, Err}
+use Rattle.std.proofs.lemmas.Bool.{lt-ltb}
 use Rattle.fb_bytes.specs.Word.{Lent}
 use Rattle.fb_schema.specs.Rows.{Rows, is_table}
 use Rattle.fb_schema.specs.Live.{live_fields}
@@ -9,6 +8,8 @@ use Rattle.fb_schema.specs.Steps.{is_plain, step_of}
 use Rattle.fb_schema.proofs.Numbers.{slice_get_some}
 use Rattle.fb_verify.specs.declared.checks.Checks.{Checks}
 use Rattle.fb_verify.specs.declared.fault.Reason.{Reason}
+use Rattle.fb_schema.specs.declared.views.Step.{Step}
+use Rattle.fb_verify.specs.declared.table.Head.{Head}
 use Rattle.fb_verify.specs.declared.table.Table.{Table}
 use Rattle.fb_verify.specs.declared.offset_row.Row.{Row}
 use Rattle.fb_verify.specs.declared.offset_row.Leads.TheVariants.{All}
@@ -19,18 +20,21 @@ use Rattle.fb_verify.specs.declared.site.Site.{Site}
 use Rattle.fb_verify.specs.declared.stack.Walk.{Walk}
 use Rattle.fb_verify.specs.Bounds.{Bounds}
 use Rattle.fb_verify.specs.Places.{target}
-use Rattle.fb_verify.specs.Fields.{Entry, to_table}
-use Rattle.fb_verify.specs.Flat.{in_head, PassesFlat}
+use Rattle.fb_verify.specs.Fields.{to_table}
+use Rattle.fb_verify.specs.Flat.{in_head, Going, MayPass, PassesFlat}
 use Rattle.fb_verify.specs.Cost.{head_reads, lead_reads}
 use Rattle.fb_verify.specs.Order.{after, ◌▷◌, head_failure, lead_failure, element_failure}
 use Rattle.fb_verify.specs.OffsetRows.{first_word, past_first}
-use Rattle.fb_verify.specs.PassesOn.{PassesOn}
-use Rattle.fb_verify.specs.Plain.{tested_by, StepsHold, steps_reads}
+use Rattle.fb_verify.specs.PassesOn.{HasRoom, IsBetween, PassesOn}
+use Rattle.fb_verify.specs.Plain.{tested_by, IsTested, StepsHold, steps_reads}
 use Rattle.fb_verify.specs.Stack.{opened, Waiting, Origin, IsUnderWay, IsAtTable, work}
 use Rattle.fb_verify.specs.Stops.{budget_failure, reads_failure}
-use Rattle.fb_verify.specs.Told.{told, stopped}
+use Rattle.fb_verify.specs.Told.{told, stopped, IsHead}
 use Rattle.fb_verify.specs.Way.{Way}
+use Rattle.std.proofs.lemmas.List.{length-map}
+use Rattle.fb_verify.proofs.Budgets.{fewer_reads}
 use Rattle.fb_verify.proofs.Chains.{after_none}
+use Rattle.fb_verify.proofs.Frames.{head_few}
 use Rattle.fb_verify.proofs.LeafRows.{all_lead, all_free, all_told}
 use Rattle.fb_verify.proofs.Passing.{told_grows}
 use Rattle.fb_verify.proofs.Plains.{never_leads}
@@ -41,43 +45,63 @@ use Rattle.fb_verify.proofs.Walking.{table_closed}
 pub never_on : {w : Walk} {m new : Lent} {under : Waiting} {top past : Frame} {at : ℕ} → is_plain w.schema.now (top.table).object ≡ true → past.table ≡ top.table → PassesOn w m new under top past at (Ok true) → ⊥
 never_on {w} {m} {new} {under} {top} {past} plain same e =
     let fs = live_fields w.schema.now (top.table).object in
-    let f = slice_get_some fs past.next (rw same at (e.field refl).within) in
-    never_leads fs past.next (step_of f.0) plain (slice_get-map step_of fs past.next ∙ ap (option_map step_of) f.1) (e.open-field refl f.0 f.1)
+    let f = slice_get_some fs past.next (rw same at ((e.comes).field).within) in
+    never_leads fs past.next f.0 plain f.1 ((e.comes).open-field f.0 f.1)
 
 -- why passing fields failed
 abbrev pub reason_of : Result Bool Reason → Option Reason
 reason_of (Ok more) = None
 reason_of (Err reason) = Some reason
 
--- its head holds, and its fields were passed, or one fails
-module _ (w : Walk) (m mid new : Lent) (under : Waiting) (table : Table) (next at : ℕ) (bytes : mid.bytes ≡ m.bytes) (least : m.count ≤ mid.count) (most : mid.count ≤ m.count + 3)
-    (few : length (live_fields w.schema.now table.object) < 2 ^ 32) where
-  pub flat_came : is_plain w.schema.now table.object ≡ true → (r : Result Bool Reason) → PassesOn w mid new under (opened table) (record (opened table) { next = next }) at r → PassesFlat w m new under table.object table.at next at (reason_of r)
-  flat_came plain (Ok true) e = absurd (never_on plain refl e)
-  flat_came plain (Ok false) e = record {
-    walking = λ _ rest above is. (table_closed (e.walking refl) rest above is refl (e.all refl));
-    paid = λ _. omega (arith, e.ends refl, most);
-    grows = omega (arith, e.grows, least);
-    bytes = e.bytes ∙ bytes;
+-- its head was tested, and holds
+module _ {going : Going} {m mid : Lent} {c : Checks} {S : Rows} {k t tested : ℕ} {steps : List Step} {result : Option Reason} (r : MayPass going m c S k t steps)
+    (e : IsTested m mid tested (head_failure (going.walk).checks m.bytes t) (head_reads (going.walk).checks) result) (none : result ≡ None) (head : Head) where
+  abbrev table : Table
+  table = record { head = head; object = k; at = t }
+
+  pub flat_holds : head_failure (going.walk).checks m.bytes t ≡ None
+  flat_holds = (after_none m.count _).0 (sym e.told ∙ ap (tested_by tested mid.count) none)
+
+  -- there are as many steps as fields
+  pub flat_many : length steps ≡ length (live_fields (going.walk).schema.now k)
+  flat_many = ap length r.its ∙ length-map (live_fields (going.walk).schema.now k) step_of
+
+  -- its fields are to be passed
+  pub flat_between : IsHead (going.walk).checks m.bytes t head → IsBetween going.walk mid going.under (opened table)
+  flat_between is = record { walking = rw (e.bytes, e.counted none) (r.opens table refl refl is flat_holds); rests = refl }
+
+  pub flat_room : HasRoom going.walk mid (opened table)
+  flat_room =
+      let few = head_few (going.walk).checks in
+      record { allowed = fewer_reads ((going.walk).limits).reads _ _ (omega (arith, e.counted none, flat_many, few)) r.room; short = omega (arith, e.counted none, flat_many, few, r.short) }
+
+  -- they were passed, or one fails
+  pub flat_came : {new : Lent} {next at : ℕ} (came : Result Bool Reason) → PassesOn going.walk mid new going.under (opened table) (record (opened table) { next = next }) at came → PassesFlat going.walk m new going.under k t next at (reason_of came)
+  flat_came (Ok true) h = absurd (never_on r.plain refl h)
+  flat_came (Ok false) h = record {
+    walking = λ _ rest above is. (table_closed (h.comes).walking rest above is refl (h.comes).all);
+    paid = λ _. omega (arith, (h.comes).ends, e.counted none, head_few (going.walk).checks);
+    grows = omega (arith, h.grows, e.counted none);
+    bytes = h.bytes ∙ e.bytes;
     head = λ _. tt;
     within = λ _. tt;
     field = λ _. tt;
   }
-  flat_came plain (Err reason) e = record {
+  flat_came (Err reason) h = record {
     walking = λ x. absurd cc;
     paid = λ x. absurd cc;
-    grows = omega (arith, e.grows, least);
-    bytes = e.bytes ∙ bytes;
-    head = λ x. absurd (omega (arith, x, e.next, few));
-    within = λ _. e.next;
-    field = λ _ s is. rw (sym bytes) (e.err s (record { refusal = is.refusal; object = is.object; field = is.field }));
+    grows = omega (arith, h.grows, e.counted none);
+    bytes = h.bytes ∙ e.bytes;
+    head = λ x. absurd (omega (arith, x, (h.comes).next, flat_many, r.few));
+    within = λ _. (h.comes).next;
+    field = λ _ s is. rw (sym e.bytes) ((h.comes).err s (record { refusal = is.refusal; object = is.object; field = is.field }));
   }
 
 -- its fields were passed: they hold, for so many reads
 pub flat_kept : {w : Walk} {m new : Lent} {under : Waiting} {table : Table} {next at : ℕ} → is_plain w.schema.now table.object ≡ true → (more : Bool) → PassesOn w m new under (opened table) (record (opened table) { next = next }) at (Ok more)
     → StepsHold w.checks m.bytes table.at (map step_of (live_fields w.schema.now table.object)) × (new.count ≡ m.count + steps_reads m.bytes table.at (map step_of (live_fields w.schema.now table.object))) × (new.count ≤ m.count + 6 * length (live_fields w.schema.now table.object))
 flat_kept plain true e = absurd (never_on plain refl e)
-flat_kept plain false e = (e.hold refl, e.counted refl, omega (arith, e.ends refl))
+flat_kept plain false e = ((e.comes).hold, (e.comes).counted, omega (arith, (e.comes).ends))
 
 -- its head fails
 pub head_flat : {w : Walk} {m new : Lent} {under : Waiting} {k t at : ℕ} {reason : Reason} → tested_by at new.count (Some reason) ≡ after m.count (head_failure w.checks m.bytes t) → new.bytes ≡ m.bytes → PassesFlat w m new under k t in_head at (Some reason)
@@ -94,30 +118,20 @@ head_flat {w} {m} {new} {under} {k} {t} told bytes = record {
 -- The first word that is left of a row of words to tables of one object.
 module _ (w : Walk) {b : List ℕ} {start : Origin} {below : List Frame} {top : Frame} {r : ℕ} (h : IsUnderWay w.checks b w.schema.now w.limits start below top w.tables w.deepest r)
     (k : ℕ) (leads : (top.row).leads ≡ All (ATable k)) (more : 0 < (top.row).left) where
-  abbrev S : Rows
-  S = w.schema.now
-
-  abbrev word : Entry
-  word = first_word b S top.row
-
-  -- it leads to a table
-  word_leads : to_table k ≡ word.lead
-  word_leads = all_lead h (ATable k) leads
-
   module _ (new : ℕ) (at : ℕ) (result : Option Reason) (told : tested_by at new result ≡ after r (lead_failure w.checks b (top.row).place (to_table k))) where
-    pub word_tells : tested_by at new result ≡ after r (element_failure w.checks b word)
+    pub word_tells : tested_by at new result ≡ after r (element_failure w.checks b (first_word b w.schema.now top.row))
     word_tells = all_told h (ATable k) leads (tested_by at new result) told
 
     -- where it holds, the walk stands at that table
-    pub at_flat : result ≡ None → IsTrue (is_table S k) → new ≡ r + 1 → at ≡ target b (top.row).place → at < 2 ^ 33
+    pub at_flat : result ≡ None → IsTrue (is_table w.schema.now k) → new ≡ r + 1 → at ≡ target b (top.row).place → at < 2 ^ 33
         → IsAtTable w b new start below top (r + 4 * (top.row).left) (record { object = k; at = at })
     at_flat none table paid is near = record {
       before = r;
-      count = omega (arith, paid, all_free h (ATable k) leads, ap lead_reads (sym word_leads));
+      count = omega (arith, paid, all_free h (ATable k) leads, ap lead_reads (sym (all_lead h (ATable k) leads)));
       walking = h;
       more = more;
-      holds = (after_none r (element_failure w.checks b word)).0 (sym word_tells ∙ ap (tested_by at new) none);
-      leads = sym word_leads;
+      holds = (after_none r (element_failure w.checks b (first_word b w.schema.now top.row))).0 (sym word_tells ∙ ap (tested_by at new) none);
+      leads = sym (all_lead h (ATable k) leads);
       table = table;
       at = is;
       near = near;
@@ -130,14 +144,7 @@ pub flat_work : (S : Rows) (L : Bounds) (below : List Frame) (top : Frame) (row 
 unfolding work
 flat_work S L below top row n r u re more fewer cost = omega (arith, more, fewer, cost, ap (λ (x : Row). x.left) re)
 
-pub lt_true : (a b : ℕ) → a < b → nat_lt a b ≡ true
-lt_true a b h = grind (arith, nat_tests)
-
--- the limits allow it
-may_open : (L : Bounds) (v : Way) (t : ℕ) → v.links < L.depth → v.passed < L.tables → budget_failure L v t ≡ None
-may_open L v t deep fewer = rw (lt_true v.links L.depth deep, lt_true v.passed L.tables fewer) refl
-
--- its head fails
+-- The limits allow it, and its head fails.
 pub head_fails : (c : Checks) (b : List ℕ) (L : Bounds) (v : Way) (site : Site) (k t at q new : ℕ) (reason : Reason) → v.links < L.depth → v.passed < L.tables → tested_by at new (Some reason) ≡ after q (head_failure c b t)
     → (told site q (budget_failure L v t) ▷ told (record { object = k; field = None }) q (head_failure c b t ▷ reads_failure L q (head_reads c) t))
     ≡ Some (stopped (record { refusal = record { at = at; reason = reason }; site = record { object = k; field = None } }) new)
@@ -145,5 +152,4 @@ head_fails c b L v site k t at q new reason deep fewer x =
     let e : Refusal = record { at = at; reason = reason } in
     let here : Site = record { object = k; field = None } in
     let f = stopped (record { refusal = e; site = here }) new in
-    ap (λ o. told site q o ▷ told here q (head_failure c b t ▷ reads_failure L q (head_reads c) t)) (may_open L v t deep fewer)
-    ∙ told_first here q (head_failure c b t) (reads_failure L q (head_reads c) t) f (told_after here q new (head_failure c b t) e (sym x))
+    rw (lt-ltb v.links L.depth deep, lt-ltb v.passed L.tables fewer) (told_first here q (head_failure c b t) (reads_failure L q (head_reads c) t) f (told_after here q new (head_failure c b t) e (sym x)))

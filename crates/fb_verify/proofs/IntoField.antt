@@ -1,5 +1,6 @@
 -- The walk goes into a field that may lead on, whose slot was the last read.
 use Rattle.std.proofs.Common.{◌≡◌, ℕ, ◌+◌, ◌-◌, ◌<◌, ◌≤◌, nat_lt, List, [], refl, sym, ◌∙◌, ap, subst, arith, Option, Some, None}
+use Rattle.std.proofs.lemmas.Bool.{lt-ltb}
 use Rattle.fb_bytes.specs.Word.{Lent}
 use Rattle.fb_schema.specs.Rows.{Rows}
 use Rattle.fb_schema.specs.Live.{Live}
@@ -27,7 +28,7 @@ use Rattle.fb_verify.specs.Told.{refused, stopped}
 use Rattle.fb_verify.specs.Turns.{IsAtOpenField, GoesOn, StaysInField, PassedField, BeginsRow, RowTurned, FieldTurned}
 use Rattle.fb_verify.proofs.Budgets.{fewer_reads}
 use Rattle.fb_verify.proofs.Chains.{after_none}
-use Rattle.fb_verify.proofs.Flats.{lt_true}
+use Rattle.fb_verify.proofs.Turning.{halts_on, goes_on, goes_down}
 use Rattle.fb_verify.proofs.Frames.{no_row, own_few, present_few}
 use Rattle.fb_verify.proofs.NextField.{AtNext, askable, next_stops}
 use Rattle.fb_verify.proofs.Passing.{slot_is_one, stop_is}
@@ -39,9 +40,6 @@ use Rattle.fb_verify.proofs.Words.{row_none}
 module _ {w : Walk} {m : Lent} {under : Waiting} {waiting : ℕ} {top : Frame} {place : ℕ} {f : Live} (h : IsAtOpenField w m under waiting top place f) where
   abbrev b : List ℕ
   b = m.bytes
-
-  abbrev r : ℕ
-  r = m.count
 
   abbrev S : Rows
   S = w.schema.now
@@ -78,7 +76,7 @@ module _ {w : Walk} {m : Lent} {under : Waiting} {waiting : ℕ} {top : Frame} {
   into_askable = askable at_next
 
   -- it fails
-  pub into_stops : (at new : ℕ) (reason : Reason) → tested_by at new (Some reason) ≡ after r present → (stop : Stop) → IsStopAt S top at reason stop → IsStopped w m under.start under.frames (stopped stop new)
+  pub into_stops : (at new : ℕ) (reason : Reason) → tested_by at new (Some reason) ≡ after m.count present → (stop : Stop) → IsStopAt S top at reason stop → IsStopped w m under.start under.frames (stopped stop new)
   into_stops at new reason told stop is =
       let e : Refusal = record { at = at; reason = reason } in
       let site : Site = record { object = (top.table).object; field = Some f.number } in
@@ -89,7 +87,7 @@ module _ {w : Walk} {m : Lent} {under : Waiting} {waiting : ℕ} {top : Frame} {
       (next_stops at_next fault (told_first site (h.at).before own (reads_failure w.limits (h.at).before (own_reads b t f) t) fault (told_after site (h.at).before new own e x)))
 
   -- or it holds, after these reads
-  module _ (holds : present ≡ None) (q : ℕ) (paid : q ≡ r + present_reads b t f.slot f.kind) where
+  module _ (holds : present ≡ None) (q : ℕ) (paid : q ≡ m.count + present_reads b t f.slot f.kind) where
     own : own_failure c b S t f ≡ None
     own = chain ∙ ap (after 1) holds
 
@@ -97,7 +95,7 @@ module _ {w : Walk} {m : Lent} {under : Waiting} {waiting : ℕ} {top : Frame} {
     spent = omega (arith, paid, (h.at).count, counted)
 
     allowed : AreAllowed (w.limits).reads q
-    allowed = fewer_reads (w.limits).reads q (r + 7) (omega (arith, paid, counted, own_few b t f)) h.room
+    allowed = fewer_reads (w.limits).reads q (m.count + 7) (omega (arith, paid, counted, own_few b t f)) h.room
 
     -- it leads on by these words
     abbrev past : Row → Frame
@@ -106,7 +104,7 @@ module _ {w : Walk} {m : Lent} {under : Waiting} {waiting : ℕ} {top : Frame} {
     pub into_leads : (row : Row) → IsRow b S row → entries_of b S t f place f.kind ≡ words_of b S row → IsUnderWay c b S w.limits under.start under.frames (past row) w.tables w.deepest q
     into_leads row good leads = field_passed (h.at).walking f row f.number q h.rests h.here spent good allowed refl own (entries_are ∙ leads)
 
-    pub into_work : (row : Row) → IsRow b S row → q + frame_work S (past row) ≤ r - 1 + frame_work S top
+    pub into_work : (row : Row) → IsRow b S row → q + frame_work S (past row) ≤ m.count - 1 + frame_work S top
     into_work row good = omega (arith, (h.at).count, field_work (h.at).walking f row f.number q h.rests h.here spent good)
 
     -- or nowhere
@@ -114,7 +112,7 @@ module _ {w : Walk} {m : Lent} {under : Waiting} {waiting : ℕ} {top : Frame} {
     into_over none =
         field_skipped (h.at).walking f blank.row f.number q h.rests h.here spent (no_row c b S) allowed refl own (entries_are ∙ none ∙ sym (row_none b S blank.row refl))
 
-    over_work : q + frame_work S (record top { next = top.next + 1 }) ≤ r - 1 + frame_work S top
+    over_work : q + frame_work S (record top { next = top.next + 1 }) ≤ m.count - 1 + frame_work S top
     over_work = omega (arith, (h.at).count, skip_work (h.at).walking f blank.row f.number q h.rests h.here spent (no_row c b S))
 
 -- what is less for the top is less for the whole stack
@@ -122,20 +120,25 @@ on_work : (S : Rows) (L : Bounds) (below : List Frame) (on top : Frame) (n q r :
 unfolding work
 on_work S L below on top n q r paid = omega (arith, paid)
 
--- Behind it, a turn through its words is one into it.
-module _ (w then : Walk) (m mid new : Lent) (under : Waiting) (top on past : Frame) (child : Child) (table : on.table ≡ top.table) (next : on.next ≡ top.next + 1)
-    (paid : mid.count + frame_work w.schema.now on ≤ m.count - 1 + frame_work w.schema.now top) (grows : m.count ≤ mid.count) (bytes : mid.bytes ≡ m.bytes) where
-  less : mid.count + work w.schema.now w.limits under.frames on w.tables ≤ m.count - 1 + work w.schema.now w.limits under.frames top w.tables
-  less = on_work w.schema.now w.limits under.frames on top w.tables mid.count (m.count - 1) paid
+-- Behind it, a turn through the row that was put is one into it.
+module _ (w mid then : Walk) (m q new : Lent) (under : Waiting) (waiting : ℕ) (top on past : Frame) (child : Child) (b : BeginsRow w mid m q under waiting top on) where
+  abbrev before : Lent
+  before = record m { count = m.count - 1 }
 
-  stays : GoesOn w then mid new under on past → StaysInField w then m new under top past
-  stays e = record { same = e.same; walking = e.walking; table = e.table ∙ table; falls = omega (arith, e.falls, less); bytes = e.bytes ∙ bytes; short = e.short; grows = omega (arith, e.grows, grows) }
+  kept : mid ≡ record w { tables = mid.tables; deepest = mid.deepest }
+  kept = rw b.same refl
 
-  pub into_turned : (turn : Turn) → RowTurned w then mid new under on past child turn → FieldTurned w then m new under top past child turn
-  into_turned Down e = record { same = e.same; down = e.down; deep = e.deep; falls = omega (arith, e.falls, less); bytes = e.bytes ∙ bytes; short = e.short; grows = omega (arith, e.grows, grows) }
-  into_turned Up e = record { on = stays e.on; rests = e.rests; next = e.next ∙ next }
-  into_turned Slowly e = stays e
-  into_turned Halted e = record { links = e.links; deep = e.deep; err = rw (sym bytes) e.err; bytes = e.bytes ∙ bytes }
+  less : q.count + work w.schema.now w.limits under.frames on mid.tables ≤ m.count - 1 + work w.schema.now w.limits under.frames top w.tables
+  less = rw b.same (on_work w.schema.now w.limits under.frames on top w.tables q.count (m.count - 1) b.paid)
+
+  stays : GoesOn mid then q new under on past → StaysInField w then m new under top past
+  stays e = record { on = goes_on w mid then before q new under kept b.bytes b.table less (omega (arith, e.grows, b.grows)) e; grows = omega (arith, e.grows, b.grows) }
+
+  pub far_turned : (turn : Turn) → RowTurned mid then q new under on past child turn → FieldTurned w then m new under top past child turn
+  far_turned Down e = record { down = goes_down w mid then before q new under kept b.bytes b.table less (omega (arith, e.grows, b.grows)) e; grows = omega (arith, e.grows, b.grows) }
+  far_turned Up e = record { on = stays e.on; rests = e.rests; next = e.next ∙ b.next }
+  far_turned Slowly e = stays e
+  far_turned Halted e = halts_on w mid then m q new under kept b.bytes e
 
 -- The field's own tests hold.
 module _ {w : Walk} {m : Lent} {under : Waiting} {waiting : ℕ} {top : Frame} {place : ℕ} {f : Live} (h : IsAtOpenField w m under waiting top place f) (new : Lent) (at : ℕ) (result : Option Reason)
@@ -156,13 +159,16 @@ module _ {w : Walk} {m : Lent} {under : Waiting} {waiting : ℕ} {top : Frame} {
         let empty = (leads.none (ap (nat_lt 0) zero)).0 in
         record {
           on = record {
-            same = refl;
-            walking = rw e.bytes (into_over h held new.count spent_on empty);
-            table = refl;
-            falls = on_work w.schema.now w.limits under.frames _ top w.tables new.count (m.count - 1) (over_work h held new.count spent_on);
+            on = record {
+              same = refl;
+              walking = rw e.bytes (into_over h held new.count spent_on empty);
+              table = refl;
+              falls = on_work w.schema.now w.limits under.frames _ top w.tables new.count (m.count - 1) (over_work h held new.count spent_on);
+              grows = omega (arith, spent_on);
+              bytes = e.bytes;
+              short = omega (arith, few_spent, h.short);
+            };
             grows = omega (arith, spent_on);
-            bytes = e.bytes;
-            short = omega (arith, few_spent, h.short);
           };
           rests = h.rests;
           next = refl;
@@ -171,14 +177,14 @@ module _ {w : Walk} {m : Lent} {under : Waiting} {waiting : ℕ} {top : Frame} {
     -- or on by these words
     module _ (more : 0 < row.left) where
       good : IsRow m.bytes w.schema.now row
-      good = (leads.row (lt_true 0 row.left more)).0
+      good = (leads.row (lt-ltb 0 row.left more)).0
 
       pub row_begins : BeginsRow w w m new under waiting top (record top { next = top.next + 1; number = f.number; row = row })
       row_begins = record {
         same = refl;
         row = record {
           many = h.many;
-          walking = rw e.bytes (into_leads h held new.count spent_on row good (leads.entries (lt_true 0 row.left more)));
+          walking = rw e.bytes (into_leads h held new.count spent_on row good (leads.entries (lt-ltb 0 row.left more)));
           more = more;
           short = omega (arith, few_spent, h.short);
         };
@@ -188,8 +194,3 @@ module _ {w : Walk} {m : Lent} {under : Waiting} {waiting : ℕ} {top : Frame} {
         grows = omega (arith, spent_on);
         bytes = e.bytes;
       }
-
--- So a turn through the row that was put is one into the field.
-pub far_turned : (w mid then : Walk) (m q new : Lent) (under : Waiting) (waiting : ℕ) (top on past : Frame) (child : Child) → BeginsRow w mid m q under waiting top on → (turn : Turn) → RowTurned mid then q new under on past child turn
-    → FieldTurned w then m new under top past child turn
-far_turned w mid then m q new under waiting top on past child b turn t = into_turned w then m q new under top on past child b.table b.next b.paid b.grows b.bytes turn (rw b.same at t)

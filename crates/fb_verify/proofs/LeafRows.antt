@@ -5,7 +5,7 @@ use Rattle.fb_verify.specs.declared.checks.Checks.{Checks}
 use Rattle.fb_verify.specs.declared.offset_row.Leads.TheVariants.{All}
 use Rattle.fb_verify.specs.declared.offset_row.Referent.{Referent}
 use Rattle.fb_verify.specs.declared.offset_row.Row.{Row}
-use Rattle.fb_verify.specs.declared.offset_row.Referent.TheVariants.{Text as AText, Table as ATable, Struct as AStruct, Nothing}
+use Rattle.fb_verify.specs.declared.offset_row.Referent.TheVariants.{Table as ATable}
 use Rattle.fb_verify.specs.declared.scratch.Frame.{Frame}
 use Rattle.fb_verify.specs.declared.site.Refusal.{Refusal}
 use Rattle.fb_verify.specs.declared.site.Site.{Site}
@@ -22,17 +22,18 @@ use Rattle.fb_verify.proofs.Refusals.{told_after, told_first}
 use Rattle.fb_verify.proofs.Stopping.{word_stops}
 use Rattle.fb_verify.proofs.Words.{first_place}
 
+-- The first word of a row: its type is read, and then it is tested with what it leads to.
+pub word_told : (c : Checks) (b : List ℕ) (S : Rows) (row : Row) (lead : Lead) → lead ≡ (first_word b S row).lead → (m mid : ℕ) → mid ≡ m + (first_word b S row).reads → (x : Option Failure) → x ≡ after mid (lead_failure c b row.place lead)
+    → x ≡ after m (element_failure c b (first_word b S row))
+unfolding element_failure
+word_told c b S row lead e m mid z x told =
+    let w = first_word b S row in
+    rw (e, z) at told ∙ ap (λ p. after (m + w.reads) (lead_failure c b p w.lead)) (sym (first_place b S row)) ∙ sym (after_twice m w.reads (lead_failure c b w.place w.lead))
+
 module _ {c : Checks} {b : List ℕ} {S : Rows} {L : Bounds} {s : Origin} {below : List Frame} {top : Frame} {n d r : ℕ} (h : IsUnderWay c b S L s below top n d r) where
   -- the first word that is left
   abbrev word : Entry
   word = first_word b S top.row
-
-  -- its type is read, and then it is tested with what it leads to
-  pub word_told : (lead : Lead) → lead ≡ word.lead → (m mid : ℕ) → mid ≡ m + word.reads → (x : Option Failure) → x ≡ after mid (lead_failure c b (top.row).place lead) → x ≡ after m (element_failure c b word)
-  unfolding element_failure
-  word_told lead e m mid z x told =
-      told ∙ ap (λ k. after k (lead_failure c b (top.row).place lead)) z ∙ ap (λ y. after (m + word.reads) (lead_failure c b (top.row).place y)) e
-      ∙ ap (λ p. after (m + word.reads) (lead_failure c b p word.lead)) (sym (first_place b S top.row)) ∙ sym (after_twice m word.reads (lead_failure c b word.place word.lead))
 
   -- where all that are left refer to the same, none reads a type
   module _ (referent : Referent) (leads : (top.row).leads ≡ All referent) where
@@ -43,7 +44,7 @@ module _ {c : Checks} {b : List ℕ} {S : Rows} {L : Bounds} {s : Origin} {below
     all_free = ap (λ l. (word_at b S l (top.row).place).reads) leads
 
     pub all_told : (x : Option Failure) → x ≡ after r (lead_failure c b (top.row).place (lead_to referent)) → x ≡ after r (element_failure c b word)
-    all_told x told = word_told (lead_to referent) all_lead r r (omega (arith, all_free)) x told
+    all_told x told = word_told c b S top.row (lead_to referent) all_lead r r (omega (arith, all_free)) x told
 
   -- where it fails
   pub word_fails : (row : Row) → row ≡ past_first top.row → 0 < (top.row).left → (e : Refusal) → (m q : ℕ) → r ≡ m → after m (element_failure c b word) ≡ Some (refused e q) → (stop : Stop) → stop ≡ record { refusal = e; site = record { object = (top.table).object; field = Some top.number } }
@@ -57,7 +58,5 @@ module _ {c : Checks} {b : List ℕ} {S : Rows} {L : Bounds} {s : Origin} {below
 
 -- what is no table is a leaf
 pub is_leaf : (referent : Referent) → ((k : ℕ) → referent ≡ ATable k → ⊥) → IsLeafLead (lead_to referent)
-is_leaf AText n = tt
 is_leaf (ATable k) n = n k refl
-is_leaf (AStruct size align) n = tt
-is_leaf Nothing n = tt
+is_leaf _ n = tt

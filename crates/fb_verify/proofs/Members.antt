@@ -1,44 +1,27 @@
 -- What the schema tells of a type of a union is what its member leads to.
 use Rattle.std.proofs.Common.{◌≡◌, refl, Option, Some, None}
 use Rattle.fb_schema.specs.declared.kinds.Kind.{Kind}
-use Rattle.fb_schema.specs.declared.kinds.Kind.TheVariants.{Scalar, Text, Struct, Table, Union, Scalars, Texts, Structs, Tables, Unions}
+use Rattle.fb_schema.specs.declared.kinds.Kind.TheVariants.{Scalar, Struct, Table}
 use Rattle.fb_schema.specs.declared.views.Target.{Target}
 use Rattle.fb_schema.specs.Rows.{Rows}
 use Rattle.fb_schema.specs.Served.{MemberHolds}
 use Rattle.fb_schema.specs.Targets.{target_of, kind_to}
 use Rattle.fb_verify.specs.Fields.{to_nothing, lead_of}
 use Rattle.fb_verify.specs.declared.offset_row.Referent.{Referent}
-use Rattle.fb_verify.specs.declared.offset_row.Referent.TheVariants.{Text as AText, Table as ATable, Struct as AStruct, Nothing}
+use Rattle.fb_verify.specs.declared.offset_row.Referent.TheVariants.{Nothing}
 use Rattle.fb_verify.specs.OffsetRows.{lead_to, lead_to_goal, GoalHolds}
 
 leads : (S : Rows) (member : Option Kind) → lead_to_goal ((target_of S member).goal) (target_of S member) ≡ lead_of S member
-leads S None = refl
 leads S (Some (Scalar s)) = refl
-leads S (Some Text) = refl
-leads S (Some (Struct k)) = refl
-leads S (Some (Table k)) = refl
-leads S (Some (Union e)) = refl
-leads S (Some (Scalars s)) = refl
-leads S (Some Texts) = refl
-leads S (Some (Structs k)) = refl
-leads S (Some (Tables k)) = refl
-leads S (Some (Unions e)) = refl
+leads S _ = refl
 
 pub goal_leads : (S : Rows) (member : Option Kind) (t : Target) → t ≡ target_of S member → lead_to_goal t.goal t ≡ lead_of S member
 goal_leads S member t is = rw is (leads S member)
 
 holds : (S : Rows) (member : Option Kind) → MemberHolds S member → GoalHolds S ((target_of S member).goal) (target_of S member)
-holds S None h = tt
-holds S (Some (Scalar s)) h = tt
-holds S (Some Text) h = tt
 holds S (Some (Struct k)) h = h.1
 holds S (Some (Table k)) h = h
-holds S (Some (Union e)) h = tt
-holds S (Some (Scalars s)) h = tt
-holds S (Some Texts) h = tt
-holds S (Some (Structs k)) h = tt
-holds S (Some (Tables k)) h = tt
-holds S (Some (Unions e)) h = tt
+holds S _ h = tt
 
 pub goal_holds : (S : Rows) (member : Option Kind) (t : Target) → t ≡ target_of S member → MemberHolds S member → GoalHolds S t.goal t
 goal_holds S member t is h = rw is (holds S member h)
@@ -47,22 +30,12 @@ goal_holds S member t is h = rw is (holds S member h)
 pub no_member : (S : Rows) (member : Option Kind) → kind_to (target_of S member) ≡ member → to_nothing ≡ lead_of S member → member ≡ None
 no_member S None told e = refl
 no_member S (Some (Scalar s)) told e = absurd cc
-no_member S (Some Text) told e = absurd cc
-no_member S (Some (Struct k)) told e = absurd cc
-no_member S (Some (Table k)) told e = absurd cc
-no_member S (Some (Union u)) told e = absurd cc
-no_member S (Some (Scalars s)) told e = absurd cc
-no_member S (Some Texts) told e = absurd cc
-no_member S (Some (Structs k)) told e = absurd cc
-no_member S (Some (Tables k)) told e = absurd cc
-no_member S (Some (Unions u)) told e = absurd cc
+no_member S _ told e = absurd cc
 
 -- what leads to something has one
 no_nothing : (referent : Referent) → lead_to referent ≡ to_nothing → referent ≡ Nothing
-no_nothing AText e = absurd cc
-no_nothing (ATable k) e = absurd cc
-no_nothing (AStruct size align) e = absurd cc
 no_nothing Nothing e = refl
+no_nothing _ e = absurd cc
 
 pub some_member : (S : Rows) (member : Option Kind) (referent : Referent) → lead_to referent ≡ lead_of S member → (referent ≡ Nothing → ⊥) → (kind : Kind) × (member ≡ Some kind)
 some_member S None referent e n = absurd (n (no_nothing referent e))

@@ -1,6 +1,6 @@
 -- A walk goes on past fields that lead to no table, or stops at one.
-use Rattle.std.proofs.Common.{◌≡◌, ℕ, ◌+◌, ◌-◌, ◌^◌, ◌<◌, ◌≤◌, inl, inr, Bool, true, false, IsTrue, IfSome, if◌then◌else◌, List, [], ◌∷◌, map, length, get_or, option_map, refl, sym, ◌∙◌, ap, subst, arith, Option, Some, None, Ok, Err}
-use Rattle.std.specs.Prelude.{◌*◌, slice_get}
+use Rattle.std.proofs.Common.{◌≡◌, ℕ, ◌+◌, ◌-◌, ◌^◌, ◌<◌, ◌≤◌, inl, inr, Bool, true, false, IsTrue, IfSome, if◌then◌else◌, List, [], ◌∷◌, map, length, get_or, option_map, refl, sym, ◌∙◌, ap, subst, arith, Option, Some, None}
+use Rattle.std.specs.Prelude.{slice_get}
 use Rattle.std.proofs.lemmas.List.{length-map}
 use Rattle.std.proofs.lemmas.Option.{slice_get-get_or, slice_get-map}
 use Rattle.fb_bytes.specs.Word.{Lent}
@@ -29,10 +29,9 @@ use Rattle.fb_verify.specs.Fields.{to_string, entries, row}
 use Rattle.fb_verify.specs.Cost.{slot_reads, own_reads}
 use Rattle.fb_verify.specs.Order.{Failure, after, ◌▷◌, lead_failure, own_failure, element_failure}
 use Rattle.fb_verify.specs.OffsetRows.{words_of, first_word, past_first}
-use Rattle.fb_verify.specs.Plain.{tested_by, plain_failure, plain_reads, StepsHold, steps_reads}
+use Rattle.fb_verify.specs.Plain.{tested_by, plain_failure, plain_reads}
 use Rattle.fb_verify.specs.Stack.{blank, frame_link, link_behind, own_link, Origin, Waiting, IsUnderWay, IsWalking, IsAtField, IsStopped, Standing, StopsIn}
 use Rattle.fb_verify.specs.StopsAt.{IsStopAt}
-use Rattle.fb_verify.specs.PassesOn.{fields_left, steps_left, PassesOn}
 use Rattle.fb_verify.specs.Stops.{reads_failure, lead_reads_failure}
 use Rattle.fb_verify.specs.Links.{element_of, type_of, field_link}
 use Rattle.fb_verify.specs.Told.{refused, stopped}
@@ -58,10 +57,6 @@ module _ {c : Checks} {b : List ℕ} {S : Rows} {L : Bounds} {s : Origin} {below
   abbrev t : ℕ
   t = (top.table).at
 
-  -- the top, past this field
-  abbrev top_over : Frame
-  top_over = record top { next = top.next + 1 }
-
   -- the row of a string's offset word
   abbrev one_word : ℕ → Row
   one_word p = record { leads = All AText; place = p; left = 1 }
@@ -80,7 +75,7 @@ module _ {c : Checks} {b : List ℕ} {S : Rows} {L : Bounds} {s : Origin} {below
     entered own = pass_more c b S L s below top n d r h.standing f (one_word p) f.number (r + own_reads b t f) rests here refl own word_is refl
 
     -- the string is passed
-    string_passed : (q : ℕ) → q ≡ r + plain_reads b t (step_of f) → plain_failure c b t (step_of f) ≡ None → Standing c b S s below top_over n d q
+    string_passed : (q : ℕ) → q ≡ r + plain_reads b t (step_of f) → plain_failure c b t (step_of f) ≡ None → Standing c b S s below (record top { next = top.next + 1 }) n d q
     unfolding element_failure
     string_passed q z ok =
         let parts = (both_none (own_failure c b S t f) (after (own_reads b t f) (lead_failure c b p to_string))).0 (sym to.chain ∙ ok) in
@@ -92,10 +87,10 @@ module _ {c : Checks} {b : List ℕ} {S : Rows} {L : Bounds} {s : Origin} {below
         record { v = on.v; root = on.root; under = on.under; at = inl (record { none = rests; inside = (at_rest c b S past on.v n d q none on.at).inside }) }
 
   -- a field that holds is passed
-  pub plain_passed : (q : ℕ) → q ≡ r + plain_reads b t (step_of f) → AreAllowed L.reads q → plain_failure c b t (step_of f) ≡ None → IsUnderWay c b S L s below top_over n d q
+  pub plain_passed : (q : ℕ) → q ≡ r + plain_reads b t (step_of f) → AreAllowed L.reads q → plain_failure c b t (step_of f) ≡ None → IsUnderWay c b S L s below (record top { next = top.next + 1 }) n d q
   plain_passed q z cheap ok = elim (comes c b S t f plain) [
     | inl to ↦ field_skipped h f blank.row top.number q rests here (z ∙ ap (λ m. r + m) to.reads) (no_row c b S) cheap refl (sym to.chain ∙ ok) (to.none ∙ sym (row_none b S blank.row refl))
-    | inr x ↦ goes_on h top_over q cheap (frame_next c b S top (field_within _ _ _ here) h.frame) (string_passed x.0 x.1 q z ok)
+    | inr x ↦ goes_on h (record top { next = top.next + 1 }) q cheap (frame_next c b S top (field_within _ _ _ here) h.frame) (string_passed x.0 x.1 q z ok)
   ]
 
   -- Where it fails.
@@ -150,10 +145,7 @@ module _ {c : Checks} {b : List ℕ} {S : Rows} {L : Bounds} {s : Origin} {below
 
 -- The slot of a field was read that stands there and may lead to a table.
 pub slot_is_one : (b : List ℕ) (at o : ℕ) → IsTrue (has_slot b at o) → slot_reads b at o ≡ 1
-slot_is_one b at o h = go (has_slot b at o) h where
-  go : (x : Bool) → IsTrue x → ◌≡◌ {A = ℕ} (if x then 1 else 0) 1
-  go true h = refl
-  go false h = absurd cc
+slot_is_one b at o h = ap (λ (x : Bool). if x then 1 else 0) h
 
 -- The walk comes to this step of the top's table, between two fields.
 pub record AtStep (w : Walk) (m : Lent) (under : Waiting) (top : Frame) (steps : List Step) (step : Step) : Type 0 where
@@ -199,30 +191,16 @@ module _ {w : Walk} {m : Lent} {under : Waiting} {top : Frame} {steps : List Ste
       let slot = ap (λ (z : Step). z.slot) found.2 in
       rw long (none_required h.walking h.rests found.0 found.1 (omega (arith, past, slot)) none)
 
-  -- or which is
-  pub before_required : vtable_size b table_at < step.slot + 2 → (place : ℕ) → next_required w.schema.now (top.table).object top.next ≡ Some place → IsWalking w m under.start under.frames (record top { next = place })
-  before_required past place some =
-      let slot = ap (λ (z : Step). z.slot) found.2 in
-      required_next h.walking h.rests found.0 found.1 (omega (arith, past, slot)) place some
-
-  pub required_bare : vtable_size b table_at < step.slot + 2 → (place : ℕ) (f : Live) → top.next ≤ place → slice_get fields place ≡ Some f → has_slot b table_at f.slot ≡ false
-  required_bare past place f low at =
-      let slot = ap (λ (z : Step). z.slot) found.2 in
-      no_slot_from h.walking h.rests found.0 found.1 (omega (arith, past, slot)) place f low at
-
   module _ (plain : step.act ≡ Other → field_place b table_at step.slot ≡ None) (at k new : ℕ) (failed : Option Reason) (told : tested_by at new failed ≡ after k (plain_failure w.checks b table_at step)) where
     abbrev plain_field : act_of found.0 (found.0).kind ≡ Other → field_place b table_at (found.0).slot ≡ None
     plain_field = λ e. ap (λ (z : Step). field_place b table_at z.slot) (sym found.2) ∙ plain (ap (λ (z : Step). z.act) found.2 ∙ e)
-
-    chain_is : plain_failure w.checks b table_at step ≡ plain_failure w.checks b table_at (step_of found.0)
-    chain_is = ap (plain_failure w.checks b table_at) found.2
 
     -- its test holds
     pub step_passed : failed ≡ None → (q : ℕ) → q ≡ m.count + plain_reads b table_at step → AreAllowed (w.limits).reads q
         → IsUnderWay w.checks b w.schema.now w.limits under.start under.frames (record top { next = top.next + 1 }) w.tables w.deepest q
     step_passed e q z cheap =
         let none = (after_none k (plain_failure w.checks b table_at step)).0 (sym told ∙ ap (tested_by at new) e) in
-        plain_passed h.walking h.rests found.0 found.1 plain_field q (z ∙ ap (λ x. m.count + plain_reads b table_at x) found.2) cheap (sym chain_is ∙ none)
+        plain_passed h.walking h.rests found.0 found.1 plain_field q (z ∙ ap (λ x. m.count + plain_reads b table_at x) found.2) cheap (ap (plain_failure w.checks b table_at) (sym found.2) ∙ none)
 
     -- or fails, and the walk stops there
     pub stops_paid : {reason : Reason} → failed ≡ Some reason → m.count ≡ k → AreAllowed (w.limits).reads (m.count + own_reads b table_at found.0) → (stop : Stop) → IsStopAt w.schema.now top at reason stop
@@ -230,7 +208,7 @@ module _ {w : Walk} {m : Lent} {under : Waiting} {top : Frame} {steps : List Ste
     stops_paid {reason} e z cheap stop is =
         let by : Refusal = record { at = at; reason = reason } in
         let here = sym told ∙ ap (tested_by at new) e in
-        let x = ap (after k) (sym chain_is) ∙ here in
+        let x = ap (λ z. after k (plain_failure w.checks b table_at z)) (sym found.2) ∙ here in
         subst (λ f. IsStopped w m under.start under.frames f) (stop_is stop by (top.table).object (found.0).number new is.refusal is.object (is.field found.0 found.1))
         (plain_stops h.walking h.rests found.0 found.1 plain_field cheap by new (ap (λ x'. after x' (plain_failure w.checks b table_at (step_of found.0))) z ∙ x))
 
@@ -270,12 +248,13 @@ pub required_stops : {w : Walk} {m : Lent} {under : Waiting} {top : Frame} {step
 required_stops {w} {m} {under} {top} {steps} {step} h past place some stop is =
     let fs = live_fields w.schema.now (top.table).object in
     let d = (found h).0 in
+    let behind : vtable_size m.bytes (top.table).at < d.slot + 2 = omega (arith, past, ap (λ (z : Step). z.slot) (found h).2) in
     let at = some_found fs top.next place some d in
     let f = get_or fs place d in
     let got = slice_get-get_or fs place d at.2 in
-    let bare = required_bare h past place f at.1 got in
+    let bare = no_slot_from h.walking h.rests d (found h).1 behind place f at.1 got in
     let there : AtStep w m under (record top { next = place }) steps (step_of f) = record {
-      walking = before_required h past place some;
+      walking = required_next h.walking h.rests d (found h).1 behind place some;
       rests = h.rests;
       all = h.all;
       got = ap (λ xs. slice_get xs place) h.all ∙ slice_get-map step_of fs place ∙ ap (option_map step_of) got;
@@ -292,46 +271,3 @@ reads_told (Some e) = e.reads
 pub told_grows : {at k new : ℕ} {reason : Reason} (x : Option Failure) → tested_by at new (Some reason) ≡ after k x → k ≤ new
 told_grows None h = absurd cc
 told_grows {at} {k} {new} (Some e) h = omega (arith, ap reads_told h)
-
--- the next field fails
-pub stops_here : {w : Walk} {m new : Lent} {under : Waiting} {top past : Frame} {place : ℕ} {reason : Reason} → past ≡ record top { next = past.next } → past.next < length (live_fields w.schema.now (top.table).object) → m.count ≤ new.count → new.bytes ≡ m.bytes
-    → ((s : Stop) → IsStopAt w.schema.now past place reason s → IsStopped w m under.start under.frames (stopped s new.count)) → PassesOn w m new under top past place (Err reason)
-stops_here same next grows bytes err = record {
-  walking = tt;
-  field = tt;
-  open-field = tt;
-  same = same;
-  forth = tt;
-  within = tt;
-  all = tt;
-  ends = tt;
-  paid = tt;
-  hold = tt;
-  counted = tt;
-  grows = grows;
-  bytes = bytes;
-  next = next;
-  err = err;
-}
-
--- no field was left that may lead to a table
-pub none_left : {w : Walk} {m new : Lent} {under : Waiting} {top past : Frame} {place : ℕ} → past ≡ record top { next = past.next } → IsWalking w new under.start under.frames past → top.next ≤ past.next
-    → past.next ≤ length (live_fields w.schema.now (top.table).object) → length (live_fields w.schema.now (top.table).object) ≤ past.next → new.count + 6 * fields_left w.schema.now past ≤ m.count + 6 * fields_left w.schema.now top
-    → StepsHold w.checks m.bytes (top.table).at (steps_left w.schema.now top) → new.count ≡ m.count + steps_reads m.bytes (top.table).at (steps_left w.schema.now top) → m.count ≤ new.count → new.bytes ≡ m.bytes → PassesOn w m new under top past place (Ok false)
-none_left same walking forth within all ends hold counted grows bytes = record {
-  walking = λ _. walking;
-  field = λ e. absurd cc;
-  open-field = λ e. absurd cc;
-  same = same;
-  forth = forth;
-  within = within;
-  all = λ _. all;
-  ends = λ _. ends;
-  paid = omega arith;
-  hold = λ _. hold;
-  counted = λ _. counted;
-  grows = grows;
-  bytes = bytes;
-  next = tt;
-  err = tt;
-}

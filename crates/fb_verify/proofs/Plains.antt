@@ -3,7 +3,7 @@ use Rattle.std.proofs.Common.{◌≡◌, ℕ, zero, suc, ◌+◌, ◌≤◌, ◌
 use Rattle.std.specs.Prelude.{slice_get}
 use Rattle.std.proofs.lemmas.Bool.Decides.{Decides-eqb, nat_tests}
 use Rattle.fb_schema.specs.declared.kinds.Kind.{Kind}
-use Rattle.fb_schema.specs.declared.kinds.Kind.TheVariants.{Scalar, Text, Struct, Table, Union, Scalars, Texts, Structs, Tables, Unions}
+use Rattle.fb_schema.specs.declared.kinds.Kind.TheVariants.{Scalar, Text, Struct, Table, Scalars, Structs}
 use Rattle.fb_schema.specs.declared.views.Act.{Act}
 use Rattle.fb_schema.specs.declared.views.Act.TheVariants.{One, Two, Four, Eight, Inline, Text as AText, Vector, Other}
 use Rattle.fb_schema.specs.declared.views.Step.{Step}
@@ -27,8 +27,7 @@ step_at (f ∷ fs) (suc i) s e = step_at fs i s e
 
 -- A scalar or struct has one of five acts.
 both_true : (x y : Bool) → (x && y) ≡ true → (x ≡ true) × (y ≡ true)
-both_true true true h = (refl, refl)
-both_true true false h = absurd cc
+both_true true y h = (refl, h)
 both_true false y h = absurd cc
 
 is_own : (n size align : ℕ) → (size == n && align == n) ≡ true → (size ≡ n) × (align ≡ n)
@@ -49,26 +48,22 @@ inline_acts P false size align one two four eight other =
       go false false false true a b c d = d refl
       go false false false false a b c d = other
 
--- Where no field leads to a table, no step does.
-pub never_leads : (fs : List Live) (i : ℕ) (s : Step) → are_plain fs ≡ true → slice_get (map step_of fs) i ≡ Some s → s.act ≡ Other → ⊥
-never_leads [] i s p e a = absurd (let w : None ≡ Some s = e in cc)
-never_leads (f ∷ fs) zero s p e a =
-    let same : step_of f ≡ s = cc in
-    let no : is_plain_act (act_of f f.kind) ≡ true = (both_true (is_plain_act (act_of f f.kind)) (are_plain fs) p).0 in
-    let other : act_of f f.kind ≡ Other = ap (λ (z : Step). z.act) same ∙ a in
-    let clash : true ≡ false = sym no ∙ ap is_plain_act other in cc
-never_leads (f ∷ fs) (suc i) s p e a = never_leads fs i s (both_true (is_plain_act (act_of f f.kind)) (are_plain fs) p).1 e a
+-- Where no field leads to a table, none does.
+pub never_leads : (fs : List Live) (i : ℕ) (f : Live) → are_plain fs ≡ true → slice_get fs i ≡ Some f → act_of f f.kind ≡ Other → ⊥
+never_leads [] i f p e a = absurd (let w : None ≡ Some f = e in cc)
+never_leads (g ∷ fs) zero f p e a =
+    let same : g ≡ f = cc in
+    let no = (both_true (is_plain_act (act_of g g.kind)) (are_plain fs) p).0 in
+    let clash : true ≡ false = sym no ∙ ap (λ (z : Live). is_plain_act (act_of z z.kind)) same ∙ ap is_plain_act a in cc
+never_leads (g ∷ fs) (suc i) f p e a = never_leads fs i f (both_true (is_plain_act (act_of g g.kind)) (are_plain fs) p).1 e a
 
 module _ (c : Checks) (b : List ℕ) (t p : ℕ) (s : Step) where
-  abbrev inline_of : ℕ → ℕ → Option Failure
-  inline_of size align = inline_field_failure c b t p size align
-
-  same_size : (n : ℕ) → (s.size ≡ n) × (s.align ≡ n) → inline_of n n ≡ inline_of s.size s.align
-  same_size n h = sym (ap (λ x. inline_of x s.align) h.0 ∙ ap (λ x. inline_of n x) h.1)
+  same_size : (n : ℕ) → (s.size ≡ n) × (s.align ≡ n) → inline_field_failure c b t p n n ≡ inline_field_failure c b t p s.size s.align
+  same_size n h = rw (h.0, h.1) refl
 
   -- it is asked for its own size and alignment
-  pub inline_step : step_failure c b t s p (inline_act s.required s.size s.align) ≡ inline_of s.size s.align
-  inline_step = inline_acts (λ act. step_failure c b t s p act ≡ inline_of s.size s.align) s.required s.size s.align (λ _. same_size 1) (λ _. same_size 2) (λ _. same_size 4) (λ _. same_size 8) refl
+  pub inline_step : step_failure c b t s p (inline_act s.required s.size s.align) ≡ inline_field_failure c b t p s.size s.align
+  inline_step = inline_acts (λ act. step_failure c b t s p act ≡ inline_field_failure c b t p s.size s.align) s.required s.size s.align (λ _. same_size 1) (λ _. same_size 2) (λ _. same_size 4) (λ _. same_size 8) refl
 
 inline_free : (required : Bool) (size align : ℕ) → step_reads (inline_act required size align) ≡ 0
 inline_free required size align = inline_acts (λ act. step_reads act ≡ 0) required size align (λ _ _. refl) (λ _ _. refl) (λ _ _. refl) (λ _ _. refl) refl
@@ -80,63 +75,36 @@ inline_is s size align h = inline_acts (IsStep s) s.required size align (λ free
 kind_step : (S : Rows) (f : Live) (kind : Kind) → KindHolds S f kind → IsStep (step_of f) (act_of f kind)
 kind_step S f (Scalar s) h = inline_is (step_of f) f.size f.align h
 kind_step S f (Struct k) h = inline_is (step_of f) f.size f.align h
-kind_step S f Text h = tt
-kind_step S f (Table k) h = tt
-kind_step S f (Union e) h = tt
 kind_step S f (Scalars s) h = h
 kind_step S f (Structs k) h = h
-kind_step S f Texts h = tt
-kind_step S f (Tables k) h = tt
-kind_step S f (Unions e) h = tt
+kind_step S f _ h = tt
+
+-- What holds of each field's step holds of each step.
+each_step : (P : Step → Type 0) (fs : List Live) (i : ℕ) (s : Step) → ((f : Live) → slice_get fs i ≡ Some f → P (step_of f)) → slice_get (map step_of fs) i ≡ Some s → P s
+each_step P fs i s h e = let x = step_at fs i s e in subst P (sym x.2) (h x.0 x.1)
 
 pub is_step : (S : Rows) (fs : List Live) (i : ℕ) (s : Step) → ((f : Live) → slice_get fs i ≡ Some f → KindHolds S f f.kind) → slice_get (map step_of fs) i ≡ Some s → IsStep s s.act
-is_step S fs i s h e =
-    let x = step_at fs i s e in
-    subst (λ z. IsStep z z.act) (sym x.2) (kind_step S x.0 (x.0).kind (h x.0 x.1))
+is_step S fs i s h e = each_step (λ z. IsStep z z.act) fs i s (λ f here. kind_step S f f.kind (h f here)) e
 
 -- A step has the bit of its act, and the slot of its field.
 bit_is : (s : Step) (act : Act) → s.bit ≡ bit_of act → HasBit s act
-bit_is s One e = e
-bit_is s Two e = e
-bit_is s Four e = e
-bit_is s Eight e = e
-bit_is s Inline e = e
-bit_is s AText e = e
-bit_is s Vector e = e
 bit_is s Other e = inl e
+bit_is s _ e = e
 
 bit_at : (s : Step) (f : Live) (kind : Kind) → s.bit ≡ bits_of f kind → HasBit s (act_of f kind)
-bit_at s f (Scalar z) e = bit_is s (inline_act f.required f.size f.align) e
-bit_at s f (Struct z) e = bit_is s (inline_act f.required f.size f.align) e
-bit_at s f Text e = e
 bit_at s f (Table k) e = inr e
-bit_at s f (Union z) e = inl e
-bit_at s f (Scalars z) e = e
-bit_at s f (Structs z) e = e
-bit_at s f Texts e = inl e
-bit_at s f (Tables z) e = inl e
-bit_at s f (Unions z) e = inl e
+bit_at s f kind e = bit_is s (act_of f kind) e
 
 pub has_bit : (fs : List Live) (i : ℕ) (s : Step) → slice_get (map step_of fs) i ≡ Some s → HasBit s s.act
-has_bit fs i s e =
-    let x = step_at fs i s e in
-    subst (λ z. HasBit z z.act) (sym x.2) (bit_at (step_of x.0) x.0 (x.0).kind refl)
+has_bit fs i s e = each_step (λ z. HasBit z z.act) fs i s (λ f _. bit_at (step_of f) f f.kind refl) e
 
 pub is_even : (fs : List Live) (i : ℕ) (s : Step) → ((f : Live) → slice_get fs i ≡ Some f → f.slot % 2 ≡ 0) → slice_get (map step_of fs) i ≡ Some s → s.slot % 2 ≡ 0
-is_even fs i s h e =
-    let x = step_at fs i s e in
-    subst (λ z. z.slot % 2 ≡ 0) (sym x.2) (h x.0 x.1)
+is_even fs i s h e = each_step (λ z. z.slot % 2 ≡ 0) fs i s h e
 
 -- A step reads four times at most.
 act_few : (act : Act) → step_reads act ≤ 3
-act_few One = omega arith
-act_few Two = omega arith
-act_few Four = omega arith
-act_few Eight = omega arith
-act_few Inline = omega arith
 act_few AText = omega arith
-act_few Vector = omega arith
-act_few Other = omega arith
+act_few _ = omega arith
 
 at_few : (s : Step) (place : Option ℕ) → step_reads_at s place ≤ 3
 at_few s None = omega arith
@@ -164,17 +132,11 @@ module _ (c : Checks) (b : List ℕ) (t m mid new : ℕ) (s : Step) (place : Opt
   plain_counted h = let w = ap (step_reads_at s) here in omega (arith, h, count, w)
 
 -- A slot that tells a word tells the place so many bytes behind the table, or that there is none.
-same_place : (t w : ℕ) → (w == 0) ≡ true → (t + w == t) ≡ true
-same_place t w h = grind (arith, nat_tests)
-
-other_place : (t w : ℕ) → (w == 0) ≡ false → (t + w == t) ≡ false
-other_place t w h = grind (arith, nat_tests)
+same_place : (t w : ℕ) → (t + w == t) ≡ (w == 0)
+same_place t w = grind (arith, nat_tests)
 
 pub place_told : (t w : ℕ) → place_from t (t + w) ≡ (if w == 0 then None else Some (t + w))
-place_told t w = go (w == 0) refl where
-  go : (x : Bool) → (w == 0) ≡ x → place_from t (t + w) ≡ (if x then None else Some (t + w))
-  go true e = ap (λ y. if y then None else Some (t + w)) (same_place t w e)
-  go false e = ap (λ y. if y then None else Some (t + w)) (other_place t w e)
+place_told t w = ap (λ y. if y then None else Some (t + w)) (same_place t w)
 
 pub place_none : (t : ℕ) → place_from t t ≡ None
 place_none t = ap (λ y. if y then None else Some t) ((Decides-eqb t t).1 refl)
@@ -274,13 +236,9 @@ module _ (c : Checks) (b : List ℕ) (S : Rows) (t : ℕ) (f : Live) where
           reads = plain_reads_are p here Text e ∙ ap (λ m. m + 3) (sym own_count);
         },
       )
-  present p here (Table z) e n = not_there p here (n refl)
-  present p here (Union z) e n = not_there p here (n refl)
   present p here (Scalars s) e n = nowhere p here (Scalars s) e (vector_is_own p here (Scalars s) e refl) refl refl
   present p here (Structs z) e n = nowhere p here (Structs z) e (vector_is_own p here (Structs z) e refl) refl refl
-  present p here Texts e n = not_there p here (n refl)
-  present p here (Tables z) e n = not_there p here (n refl)
-  present p here (Unions e') e n = not_there p here (n refl)
+  present p here _ e n = not_there p here (n refl)
 
   pub comes : (act_of f f.kind ≡ Other → field_place b t f.slot ≡ None) → Comes
   comes n = go (field_place b t f.slot) refl where

@@ -21,7 +21,7 @@ use Rattle.fb_verify.specs.Flat.{in_head, frame_at, MayPass, PassesFlat}
 use Rattle.fb_verify.specs.OffsetRows.{first_word, past_first}
 use Rattle.fb_verify.specs.Order.{after, element_failure}
 use Rattle.fb_verify.specs.Plain.{tested_by}
-use Rattle.fb_verify.specs.Stack.{Waiting, IsAtTable, IsWalking, HaltsIn}
+use Rattle.fb_verify.specs.Stack.{Waiting, IsAtTable, IsWalking, HaltsIn, links_left}
 use Rattle.fb_verify.specs.StopsAt.{IsStopAt}
 use Rattle.fb_verify.specs.Turns.{IsShort, IsAtChild, GoesDown, GoesOn, Rests, Halts}
 use Rattle.fb_verify.proofs.Budgets.{fewer_reads}
@@ -39,35 +39,24 @@ pub stays : (w : Walk) (m : Lent) (under : Waiting) (top : Frame) → IsWalking 
 stays w m under top h short = record { same = refl; walking = h; table = refl; falls = omega arith; grows = omega arith; bytes = refl; short = short }
 
 module _ {w then : Walk} {m new : Lent} {under : Waiting} {top past : Frame} (on : GoesOn w then m new under top past) where
-  -- all the words that are left are passed
-  pub words_passed : (last : Frame) (q : Lent) → IsWalking then q under.start under.frames last → last ≡ record past { row = last.row } → (last.row).left ≡ 0 → past.next ≡ top.next
-      → q.count ≤ new.count + 4 * (past.row).left → new.count ≤ q.count → q.bytes ≡ new.bytes → IsShort q.count → Rests w then m q under top last
-  words_passed last q h same none next paid grows bytes short = record {
-    on = record {
-      same = on.same;
-      walking = h;
-      table = ap (λ (x : Frame). x.table) same ∙ on.table;
-      falls = omega (arith, on.falls, words_work w.schema.now w.limits under.frames past last then.tables new.count q.count same (omega (arith, paid, none)) (omega (arith, none)));
-      grows = omega (arith, on.grows, grows);
-      bytes = bytes ∙ on.bytes;
-      short = short;
-    };
-    rests = none;
-    next = ap (λ (x : Frame). x.next) same ∙ next;
-  }
-
-  -- or one of them, which leads to no table
-  pub word_passed : (row : Row) (q : Lent) → IsWalking then q under.start under.frames (record past { row = row }) → q.count + 4 * row.left ≤ new.count + 4 * (past.row).left → row.left ≤ (past.row).left → new.count ≤ q.count
-      → q.bytes ≡ new.bytes → IsShort q.count → GoesOn w then m q under top (record past { row = row })
-  word_passed row q h paid less grows bytes short = record {
+  -- a word is passed that leads to no table
+  pub word_passed : (last : Frame) (q : Lent) → IsWalking then q under.start under.frames last → last ≡ record past { row = last.row } → q.count + 4 * (last.row).left ≤ new.count + 4 * (past.row).left → (last.row).left ≤ (past.row).left
+      → new.count ≤ q.count → q.bytes ≡ new.bytes → IsShort q.count → GoesOn w then m q under top last
+  word_passed last q h same paid less grows bytes short = record {
     same = on.same;
     walking = h;
-    table = on.table;
-    falls = omega (arith, on.falls, words_work w.schema.now w.limits under.frames past (record past { row = row }) then.tables new.count q.count refl paid less);
+    table = ap (λ (x : Frame). x.table) same ∙ on.table;
+    falls = omega (arith, on.falls, words_work w.schema.now w.limits under.frames past last then.tables new.count q.count same paid less);
     grows = omega (arith, on.grows, grows);
     bytes = bytes ∙ on.bytes;
     short = short;
   }
+
+  -- or all that are left
+  pub words_passed : (last : Frame) (q : Lent) → IsWalking then q under.start under.frames last → last ≡ record past { row = last.row } → (last.row).left ≡ 0 → past.next ≡ top.next
+      → q.count ≤ new.count + 4 * (past.row).left → new.count ≤ q.count → q.bytes ≡ new.bytes → IsShort q.count → Rests w then m q under top last
+  words_passed last q h same none next paid grows bytes short =
+      record { on = word_passed last q h same (omega (arith, paid, none)) (omega (arith, none)) grows bytes short; rests = none; next = ap (λ (x : Frame). x.next) same ∙ next }
 
   -- or it fails, and the walk stops behind it
   pub word_halts : {at : ℕ} {reason : Reason} (q : Lent) (last : Frame) (stop : Stop) (halted : Walk) (links : ℕ) → links ≡ length under.frames → q.bytes ≡ new.bytes → 0 < (past.row).left
@@ -169,17 +158,14 @@ module _ {w then counted : Walk} {m new mid : Lent} {under : Waiting} {top past 
       → ((next ≡ in_head → ⊥) → IsStopAt counted.schema.now (frame_at child.object next) at reason (halted.halt).stop × ((halted.halt).last ≡ InField)) → Halts w halted m q under waits
   table_halts next at reason q halted p many_links head field =
       let all : take links (under.frames ++ waits ∷ []) ≡ under.frames ++ waits ∷ [] = take_all links (under.frames ++ waits ∷ []) (omega (arith, h.many, length-append under.frames (waits ∷ []))) in
-      let err : HaltsIn counted mid under.start below.frames halted.halt q.count =
+      let ends : HaltsIn counted mid under.start below.frames halted.halt q.count × ((halted.halt).links + links_left (halted.halt).last ≤ (w.limits).depth) =
       elim (cases_eq next in_head) [
-        | inl e ↦ rw (head e) (comes_down.stops at q.count reason (p.head e))
-        | inr e ↦ let g = field e in rw g.1 (p.field e (halted.halt).stop g.0)
+        | inl e ↦ (rw (head e) (comes_down.stops at q.count reason (p.head e)), rw (head e) (omega (arith, h.deep)))
+        | inr e ↦ let g = field e in (rw g.1 (p.field e (halted.halt).stop g.0), rw g.1 (omega (arith, many_links, h.deep)))
       ] in
       record {
         links = omega (arith, many_links, h.many);
-        deep = elim (cases_eq next in_head) [
-          | inl e ↦ rw (head e) (omega (arith, h.deep))
-          | inr e ↦ rw (field e).1 (omega (arith, many_links, h.deep))
-        ];
-        err = rw (many_links, all, sym (ap (λ (x : Walk). x.checks) (h.on).same), sym schema, sym limits, sym (h.kept ∙ (h.on).bytes)) (rw (ap (λ (x : Walk). x.checks) h.is, ap (λ (x : Walk). x.schema.now) h.is, ap (λ (x : Walk). x.limits) h.is) at err);
+        deep = ends.1;
+        err = rw (many_links, all, sym (ap (λ (x : Walk). x.checks) (h.on).same), sym schema, sym limits, sym (h.kept ∙ (h.on).bytes)) (rw (ap (λ (x : Walk). x.checks) h.is, ap (λ (x : Walk). x.schema.now) h.is, ap (λ (x : Walk). x.limits) h.is) at ends.0);
         bytes = p.bytes ∙ h.kept ∙ (h.on).bytes;
       }

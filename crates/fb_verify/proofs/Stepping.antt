@@ -1,9 +1,9 @@
 -- A field is passed by its step, once its slot is read.
-use Rattle.std.proofs.Common.{◌≡◌, ℕ, zero, suc, ◌+◌, ◌%◌, ◌^◌, ◌<◌, ◌≤◌, ◌==◌, Bool, true, false, bit_and, List, inl, inr, refl, sym, ◌∙◌, ap, subst, arith, Some, None, if◌then◌else◌}
+use Rattle.std.proofs.Common.{◌≡◌, ℕ, zero, suc, ◌+◌, ◌%◌, ◌^◌, ◌<◌, ◌≤◌, ◌==◌, Bool, true, false, bit_and, List, inl, inr, refl, sym, ◌∙◌, ap, subst, arith, Option, Some, None, if◌then◌else◌}
 use Rattle.std.proofs.lemmas.Bool.Decides.{nat_tests}
 use Rattle.fb_bytes.specs.Word.{word, Lent}
 use Rattle.fb_schema.specs.declared.views.Act.{Act}
-use Rattle.fb_schema.specs.declared.views.Act.TheVariants.{One, Two, Four, Eight, Inline, Text as AText, Vector, Other}
+use Rattle.fb_schema.specs.declared.views.Act.TheVariants.{One, Two, Four, Eight, Other}
 use Rattle.fb_schema.specs.declared.views.Step.{Step}
 use Rattle.fb_verify.specs.declared.checks.Checks.{Checks}
 use Rattle.fb_verify.specs.declared.fault.Reason.TheVariants.{MissingRequired}
@@ -11,8 +11,9 @@ use Rattle.fb_verify.specs.declared.plain.Came.{Came}
 use Rattle.fb_verify.specs.declared.plain.Came.TheVariants.{Past, ToEnd, ToField, ToFault}
 use Rattle.fb_verify.specs.Places.{vtable, vtable_size, has_slot, field_place}
 use Rattle.fb_verify.specs.Cost.{slot_reads}
-use Rattle.fb_verify.specs.Order.{inline_field_failure}
-use Rattle.fb_verify.specs.Plain.{tested_by, step_failure, step_reads, IsStep, HasBit, IsCame, StepTested, Filled, Stepped}
+use Rattle.fb_verify.specs.declared.fault.Reason.{Reason}
+use Rattle.fb_verify.specs.Order.{after, inline_field_failure}
+use Rattle.fb_verify.specs.Plain.{tested_by, IsTested, step_failure, step_failure_at, step_reads, IsStep, HasBit, IsCame, StepTested, Filled, Stepped}
 use Rattle.fb_verify.proofs.Plains.{plain_told, plain_counted}
 
 -- Of two even numbers the smaller is smaller by two.
@@ -28,16 +29,12 @@ module _ (c : Checks) (m : Lent) (t : ℕ) (s : Step) (d : ℕ) (inside : has_sl
   abbrev pub slot_read : Lent
   slot_read = record m { count = m.count + 1 }
 
-  one_read : slot_reads m.bytes t s.slot ≡ 1
-  one_read = ap (λ (x : Bool). if x then 1 else 0) inside
-
   counted : m.count + 1 ≡ m.count + slot_reads m.bytes t s.slot
-  counted = omega (arith, one_read)
+  counted = rw inside refl
 
   place_is : field_place m.bytes t s.slot ≡ (if d == 0 then None else Some (t + d))
   unfolding field_place
-  place_is = ap (λ (x : Bool). if x then (if word m.bytes (vtable m.bytes t + s.slot) 2 == 0 then None else Some (t + word m.bytes (vtable m.bytes t + s.slot) 2)) else None) inside
-      ∙ ap (λ (x : ℕ). if x == 0 then None else Some (t + x)) (sym is)
+  place_is = rw (inside, is) refl
 
   is_absent : d ≡ 0 → field_place m.bytes t s.slot ≡ None
   is_absent none = place_is ∙ ap (λ (x : ℕ). if x == 0 then None else Some (t + x)) none
@@ -46,35 +43,33 @@ module _ (c : Checks) (m : Lent) (t : ℕ) (s : Step) (d : ℕ) (inside : has_sl
   is_there some = place_is ∙ ap (λ (x : Bool). if x then None else Some (t + d)) some
 
   -- it is absent
-  pub absent_required : d ≡ 0 → s.required ≡ true → StepTested c m slot_read t s t (Some MissingRequired)
-  absent_required none needed = record {
+  absent_tested : d ≡ 0 → (result : Option Reason) → tested_by t (m.count + 1) result ≡ after (m.count + 1) (step_failure_at c m.bytes t s None) → StepTested c m slot_read t s t result
+  absent_tested none result told = record {
     plain = λ _. is_absent none;
-    told = plain_told c m.bytes t m.count (m.count + 1) (m.count + 1) s None (sym (is_absent none)) counted (tested_by t (m.count + 1) (Some MissingRequired)) (rw needed (let e : m.count + 1 ≡ m.count + 1 + 0 = omega arith in ap (λ r. tested_by t r (Some MissingRequired)) e));
-    counted = λ e. absurd cc;
-    bytes = refl;
-    base = refl;
-  }
-
-  pub absent_passed : d ≡ 0 → s.required ≡ false → StepTested c m slot_read t s t None
-  absent_passed none free = record {
-    plain = λ _. is_absent none;
-    told = plain_told c m.bytes t m.count (m.count + 1) (m.count + 1) s None (sym (is_absent none)) counted None (rw free refl);
+    told = plain_told c m.bytes t m.count (m.count + 1) (m.count + 1) s None (sym (is_absent none)) counted _ told;
     counted = λ _. plain_counted c m.bytes t m.count (m.count + 1) (m.count + 1) s None (sym (is_absent none)) counted (omega arith);
     bytes = refl;
     base = refl;
   }
 
+  pub absent_required : d ≡ 0 → s.required ≡ true → StepTested c m slot_read t s t (Some MissingRequired)
+  absent_required none needed = absent_tested none _ (rw needed (let e : m.count + 1 ≡ m.count + 1 + 0 = omega arith in ap (λ r. tested_by t r (Some MissingRequired)) e))
+
+  pub absent_passed : d ≡ 0 → s.required ≡ false → StepTested c m slot_read t s t None
+  absent_passed none free = absent_tested none _ (rw free refl)
+
   -- it is there
+  there_tested : (d == 0) ≡ false → (new : Lent) (at : ℕ) (result : Option Reason) → (s.act ≡ Other → ⊥) × IsTested slot_read new at (step_failure c m.bytes t s (t + d) s.act) (step_reads s.act) result → StepTested c m new t s at result
+  there_tested some new at result h = record {
+    plain = λ e. absurd (h.0 e);
+    told = plain_told c m.bytes t m.count (m.count + 1) new.count s (Some (t + d)) (sym (is_there some)) counted _ (h.1).told;
+    counted = λ e. plain_counted c m.bytes t m.count (m.count + 1) new.count s (Some (t + d)) (sym (is_there some)) counted ((h.1).counted e);
+    bytes = (h.1).bytes;
+    base = (h.1).base;
+  }
+
   pub there_passed : (d == 0) ≡ false → t + d < 2 ^ 34 → (new : Lent) (at : ℕ) (r : Came) → Filled c slot_read new t s (t + d) at r → Stepped c m new t s at r
-  there_passed some near new at Past h =
-      let here = sym (is_there some) in
-      record {
-        plain = λ e. absurd (h.0 e);
-        told = plain_told c m.bytes t m.count (m.count + 1) new.count s (Some (t + d)) here counted _ (h.1).told;
-        counted = λ e. plain_counted c m.bytes t m.count (m.count + 1) new.count s (Some (t + d)) here counted ((h.1).counted e);
-        bytes = (h.1).bytes;
-        base = (h.1).base;
-      }
+  there_passed some near new at Past h = there_tested some new at None h
   there_passed some near new at ToEnd h = absurd h
   there_passed some near new at ToField h = record {
     open-step = h.0;
@@ -83,15 +78,7 @@ module _ (c : Checks) (m : Lent) (t : ℕ) (s : Step) (d : ℕ) (inside : has_sl
     near = omega (arith, h.2);
     counted = h.1 ∙ ap (λ n. record m { count = n }) counted;
   }
-  there_passed some near new at (ToFault reason) h =
-      let here = sym (is_there some) in
-      record {
-        plain = λ e. absurd (h.0 e);
-        told = plain_told c m.bytes t m.count (m.count + 1) new.count s (Some (t + d)) here counted _ (h.1).told;
-        counted = λ e. absurd cc;
-        bytes = (h.1).bytes;
-        base = (h.1).base;
-      }
+  there_passed some near new at (ToFault reason) h = there_tested some new at (Some reason) h
 
 -- A small one was passed, whether it's there or not.
 module _ (c : Checks) (b : List ℕ) (t p n : ℕ) (s : Step) where
@@ -101,11 +88,9 @@ module _ (c : Checks) (b : List ℕ) (t p n : ℕ) (s : Step) where
   small_came Two r bit some h = (λ e. absurd cc, refl, rw bit at h)
   small_came Four r bit some h = (λ e. absurd cc, refl, rw bit at h)
   small_came Eight r bit some h = (λ e. absurd cc, refl, rw bit at h)
-  small_came Inline r bit some h = absurd (some (ap (λ x. bit_and x 15) bit))
-  small_came AText r bit some h = absurd (some (ap (λ x. bit_and x 15) bit))
-  small_came Vector r bit some h = absurd (some (ap (λ x. bit_and x 15) bit))
   small_came Other r (inl bit) some h = absurd (some (ap (λ x. bit_and x 15) bit))
   small_came Other r (inr bit) some h = absurd (some (ap (λ x. bit_and x 15) bit))
+  small_came _ r bit some h = absurd (some (ap (λ x. bit_and x 15) bit))
 
 -- It may be absent.
 pub small_free : (s : Step) (act : Act) → IsStep s act → HasBit s act → (bit_and s.bit 15 ≡ 0 → ⊥) → s.required ≡ false
@@ -113,11 +98,9 @@ small_free s One free bit some = free
 small_free s Two free bit some = free
 small_free s Four free bit some = free
 small_free s Eight free bit some = free
-small_free s Inline h bit some = absurd (some (ap (λ x. bit_and x 15) bit))
-small_free s AText h bit some = absurd (some (ap (λ x. bit_and x 15) bit))
-small_free s Vector h bit some = absurd (some (ap (λ x. bit_and x 15) bit))
 small_free s Other h (inl bit) some = absurd (some (ap (λ x. bit_and x 15) bit))
 small_free s Other h (inr bit) some = absurd (some (ap (λ x. bit_and x 15) bit))
+small_free s _ h bit some = absurd (some (ap (λ x. bit_and x 15) bit))
 
 small_filled : (c : Checks) (m : Lent) (t p : ℕ) (s : Step) (r : Came) → HasBit s s.act → (bit_and s.bit 15 ≡ 0 → ⊥) → IsCame p m.count (inline_field_failure c m.bytes t p s.bit s.bit) r → Filled c m m t s p p r
 small_filled c m t p s Past bit some h =

@@ -1,5 +1,5 @@
 -- The steps of a walk in one table.
-use Rattle.std.proofs.Common.{◌≡◌, ℕ, suc, ◌+◌, ◌≤◌, List, [], ◌∷◌, length, take, refl, sym, ◌∙◌, ap, subst, arith, Option, Some, None}
+use Rattle.std.proofs.Common.{◌≡◌, ℕ, suc, ◌+◌, ◌≤◌, List, [], ◌∷◌, length, take, refl, sym, ◌∙◌, ap, subst, arith, Some, None}
 use Rattle.std.specs.Prelude.{slice_get}
 use Rattle.fb_schema.specs.Rows.{Rows}
 use Rattle.fb_schema.specs.Live.{Live, live_fields}
@@ -19,19 +19,10 @@ use Rattle.fb_verify.specs.Links.{field_link, element_link, object_led_to, links
 use Rattle.fb_verify.specs.Walked.{at_number, TableWalked, IsInside, IsInField, Waits}
 use Rattle.fb_verify.proofs.Pushes.{elements_push, kids_push, elements_pushed, kids_pushed, front_of, rest_of, all_of, take_all, ElementsUnfold-push, elements_cost-push, FieldsUnfold-push, kids_cost-push}
 
-abbrev the_way : (links passed deepest paid leading object : ℕ) → Option ℕ → Way
-the_way links passed deepest paid leading object field =
-    record { links = links; passed = passed; deepest = deepest; paid = paid; leading = leading; object = object; field = field }
-
 -- two ways are one where their parts are
-same_parts : (links passed deepest paid leading object links' passed' deepest' paid' leading' object' : ℕ) (field field' : Option ℕ)
-    → links ≡ links' → passed ≡ passed' → deepest ≡ deepest' → paid ≡ paid' → leading ≡ leading' → object ≡ object' → field ≡ field'
-    → the_way links passed deepest paid leading object field ≡ the_way links' passed' deepest' paid' leading' object' field'
-same_parts links passed deepest paid leading object links' passed' deepest' paid' leading' object' field field' a b c d e f g = cc
-
 pub same_way : (v w : Way) → v.links ≡ w.links → v.passed ≡ w.passed → v.deepest ≡ w.deepest → v.paid ≡ w.paid → v.leading ≡ w.leading → v.object ≡ w.object → v.field ≡ w.field → v ≡ w
 same_way v w a b c d e f g =
-    same_parts v.links v.passed v.deepest v.paid v.leading v.object w.links w.passed w.deepest w.paid w.leading w.object v.field w.field a b c d e f g
+    let parts : record v { links = v.links; passed = v.passed; deepest = v.deepest; paid = v.paid; leading = v.leading; object = v.object; field = v.field } ≡ w = rw (a, b, c, d, e, f, g) refl in parts
 
 module _ (c : Checks) (b : List ℕ) (S : Rows) (k t : ℕ) (w : Way) where
   -- the depth reached counts the open tables

@@ -101,9 +101,6 @@ module _ (w then : Walk) (m new : Lent) (under : Waiting) (old low high : List F
     abbrev above : Waiting
     above = record { start = under.start; frames = under.frames ++ past ∷ [] }
 
-    length_above : length (under.frames ++ past ∷ []) ≡ waiting + 1
-    length_above = omega (arith, length-append under.frames (past ∷ []), many)
-
     frames_opened : OpensChild then last new then-reads above open-frame child → GoesOver w last m then-reads under.start old waiting frames (waiting + 1)
     unfolding work
     frames_opened o =
@@ -119,7 +116,7 @@ module _ (w then : Walk) (m new : Lent) (under : Waiting) (old low high : List F
 
     frames_stop : StopsAtChild then last new then-reads above → WentWrong w last m then-reads under.start frames
     frames_stop o =
-        let links : (last.halt).links ≡ waiting + 1 = o.links ∙ length_above in
+        let links : (last.halt).links ≡ waiting + 1 = omega (arith, o.links, length-append under.frames (past ∷ []), many) in
         let checks = ap (λ (x : Walk). x.checks) h.same in
         let schema = ap (λ (x : Walk). x.schema) h.same in
         let limits = ap (λ (x : Walk). x.limits) h.same in
@@ -157,33 +154,44 @@ module _ (w mid then : Walk) (m been new : Lent) (under : Waiting) (kept : mid �
     bytes = h.bytes ∙ bytes;
   }
 
-  module _ (top t past : Frame) (child : Child) (table : t.table ≡ top.table) (grows : m.count ≤ been.count)
-      (falls : been.count - 1 + work w.schema.now w.limits under.frames t mid.tables ≤ m.count + work w.schema.now w.limits under.frames top w.tables) where
-    -- past a field that leads on
-    pub field_turned : (turn : Turn) → (turn ≡ Up → ⊥) → FieldTurned mid then been new under t past child turn → Turned w then m new under top past child turn
-    field_turned Down un h = record {
-      same = same_on h.same;
-      down = h.down;
-      deep = rw limits_kept at h.deep;
-      falls = omega (arith, (rw (schema_kept, limits_kept) at h.falls), falls);
-      grows = omega (arith, grows, h.grows);
-      bytes = h.bytes ∙ bytes;
-      short = h.short;
-    }
-    field_turned Up un h = absurd (un refl)
-    field_turned Slowly un h = record {
+  module _ {top t past : Frame} (table : t.table ≡ top.table) (falls : been.count + work w.schema.now w.limits under.frames t mid.tables ≤ m.count + work w.schema.now w.limits under.frames top w.tables)
+      (grows : m.count ≤ new.count) where
+    pub goes_on : GoesOn mid then been new under t past → GoesOn w then m new under top past
+    goes_on h = record {
       same = same_on h.same;
       walking = h.walking;
       table = h.table ∙ table;
       falls = omega (arith, (rw (schema_kept, limits_kept) at h.falls), falls);
-      grows = omega (arith, grows, h.grows);
+      grows = grows;
       bytes = h.bytes ∙ bytes;
       short = h.short;
     }
-    field_turned Halted un h = halts_on h
 
-    pub field_over : PassedField mid then been new under t past → GoesOn w then m new under top past × ((past.row).left ≡ 0)
-    field_over h = (field_turned Slowly (λ e. cc) h.on, h.rests)
+    pub goes_down : {child : Child} → GoesDown mid then been new under t past child → GoesDown w then m new under top past child
+    goes_down h = record {
+      same = same_on h.same;
+      down = h.down;
+      deep = rw limits_kept at h.deep;
+      falls = omega (arith, (rw (schema_kept, limits_kept) at h.falls), falls);
+      grows = grows;
+      bytes = h.bytes ∙ bytes;
+      short = h.short;
+    }
+
+-- Past a field that leads on.
+module _ (w mid then : Walk) (m been new : Lent) (under : Waiting) (kept : mid ≡ record w { tables = mid.tables; deepest = mid.deepest }) (bytes : been.bytes ≡ m.bytes) (top t past : Frame) (child : Child) (table : t.table ≡ top.table)
+    (grows : m.count ≤ been.count) (falls : been.count - 1 + work w.schema.now w.limits under.frames t mid.tables ≤ m.count + work w.schema.now w.limits under.frames top w.tables) where
+  abbrev before : Lent
+  before = record been { count = been.count - 1 }
+
+  pub field_turned : (turn : Turn) → (turn ≡ Up → ⊥) → FieldTurned mid then been new under t past child turn → Turned w then m new under top past child turn
+  field_turned Down un h = goes_down w mid then m before new under kept bytes table falls (omega (arith, grows, h.grows)) h.down
+  field_turned Up un h = absurd (un refl)
+  field_turned Slowly un h = goes_on w mid then m before new under kept bytes table falls (omega (arith, grows, h.grows)) h.on
+  field_turned Halted un h = halts_on w mid then m been new under kept bytes h
+
+  pub field_over : PassedField mid then been new under t past → GoesOn w then m new under top past × ((past.row).left ≡ 0)
+  field_over h = (field_turned Slowly (λ e. cc) h.on, h.rests)
 
 -- what wasn't passed at the root is as it was
 pub root_kept : (w then : Walk) (m new : Lent) (s : Origin) (turn : Turn) → (turn ≡ Up → ⊥) → (turn ≡ Halted → ⊥) → RootTurned w then m new s turn → (then ≡ w) × (new ≡ m)

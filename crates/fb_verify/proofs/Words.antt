@@ -13,24 +13,21 @@ use Rattle.fb_verify.specs.OffsetRows.{words, words_of, word_at, first_word, lea
 module _ (b : List ℕ) (S : Rows) where
   words-front : (leads : Leads) (p n : ℕ) → 0 < n → words b S leads p n ≡ word_at b S leads p ∷ words b S (leads_after leads) (p + 4) (n - 1)
   unfolding row union_row
-  words-front (All referent) p zero h = absurd (omega arith)
-  words-front (All referent) p (suc n) h = let e : suc n - 1 ≡ n = omega arith in rw e refl
-  words-front (ByType e q) p zero h = absurd (omega arith)
+  words-front leads p zero h = absurd (omega arith)
+  words-front (All referent) p (suc n) h = let i : suc n - 1 ≡ n = omega arith in rw i refl
   words-front (ByType e q) p (suc n) h = let i : suc n - 1 ≡ n = omega arith in rw i refl
 
-  words-none : (leads : Leads) (p n : ℕ) → n ≡ 0 → words b S leads p n ≡ []
+  words-none : (leads : Leads) (p : ℕ) → words b S leads p 0 ≡ []
   unfolding row union_row
-  words-none (All referent) p zero h = refl
-  words-none (All referent) p (suc n) h = absurd (omega arith)
-  words-none (ByType e q) p zero h = refl
-  words-none (ByType e q) p (suc n) h = absurd (omega arith)
+  words-none (All referent) p = refl
+  words-none (ByType e q) p = refl
 
   -- the first, and the others
   pub row_front : (r : Row) → 0 < r.left → words_of b S r ≡ first_word b S r ∷ words_of b S (past_first r)
   row_front r h = words-front r.leads r.place r.left h
 
   pub row_none : (r : Row) → r.left ≡ 0 → words_of b S r ≡ []
-  row_none r h = words-none r.leads r.place r.left h
+  row_none r h = rw h (words-none r.leads r.place)
 
   place-of : (leads : Leads) (p : ℕ) → (word_at b S leads p).place ≡ p
   place-of (All referent) p = refl
@@ -51,7 +48,7 @@ module _ (b : List ℕ) (S : Rows) where
       → LeavesRow b S (words b S leads p n) old new (nat_lt 0 new.left)
   words_left leads p zero old new rests none some good =
       subst (λ (y : Row). LeavesRow b S (words b S leads p zero) old y (nat_lt 0 y.left)) (sym (none refl))
-      (rw rests (record { none = λ _. (words-none leads p zero refl, refl); entries = λ e. absurd (let w : false ≡ true = e in cc); row = λ e. absurd (let w : false ≡ true = e in cc) }))
+      (rw rests (record { none = λ _. (words-none leads p, refl); entries = λ e. absurd (let w : false ≡ true = e in cc); row = λ e. absurd (let w : false ≡ true = e in cc) }))
   words_left leads p (suc n) old new rests none some good =
       subst (λ (y : Row). LeavesRow b S (words b S leads p (suc n)) old y (nat_lt 0 y.left)) (sym (some (omega arith)))
       (record { none = λ e. absurd (let t : nat_lt 0 (suc n) ≡ true = grind (arith, nat_tests) in let w : true ≡ false = sym t ∙ e in cc); entries = λ _. refl; row = λ _. (good (omega arith), omega arith) })

@@ -50,24 +50,41 @@ pub record StepsPass (w : Walk) (m new : Lent) (top past : Frame) : Type 0 where
   pub hold : StepsHold w.checks m.bytes (top.table).at (steps_left w.schema.now past) → StepsHold w.checks m.bytes (top.table).at (steps_left w.schema.now top)
   pub counted : new.count + steps_reads m.bytes (top.table).at (steps_left w.schema.now past) ≡ m.count + steps_reads m.bytes (top.table).at (steps_left w.schema.now top)
 
--- fields of the top that lead to no table were passed, for six reads each at most, until one was there that may lead to
--- a table, at this place, or none was left (more tells which); or the next one fails, at this place, for this reason
+-- a field was there that may lead to a table, at this place
+pub record ComesToField (w : Walk) (m new : Lent) (under : Waiting) (top past : Frame) (place : ℕ) : Type 0 where
+  pub field : IsAtField w new.bytes new.count under.start under.frames past place
+  pub open-field : (f : Live) → slice_get (live_fields w.schema.now (top.table).object) past.next ≡ Some f → act_of f f.kind ≡ Other
+  pub forth : top.next ≤ past.next
+  pub within : past.next ≤ length (live_fields w.schema.now (top.table).object)
+  pub paid : new.count + 6 * fields_left w.schema.now past ≤ m.count + 6 * fields_left w.schema.now top + 1
+
+-- none was left
+pub record ComesToEnd (w : Walk) (m new : Lent) (under : Waiting) (top past : Frame) : Type 0 where
+  pub walking : IsWalking w new under.start under.frames past
+  pub forth : top.next ≤ past.next
+  pub within : past.next ≤ length (live_fields w.schema.now (top.table).object)
+  pub all : length (live_fields w.schema.now (top.table).object) ≤ past.next
+  pub ends : new.count + 6 * fields_left w.schema.now past ≤ m.count + 6 * fields_left w.schema.now top
+  pub hold : StepsHold w.checks m.bytes (top.table).at (steps_left w.schema.now top)
+  pub counted : new.count ≡ m.count + steps_reads m.bytes (top.table).at (steps_left w.schema.now top)
+
+-- the next one fails, at this place, for this reason
+pub record ComesToFault (w : Walk) (m new : Lent) (under : Waiting) (top past : Frame) (place : ℕ) (reason : Reason) : Type 0 where
+  pub next : past.next < length (live_fields w.schema.now (top.table).object)
+  pub err : (s : Stop) → IsStopAt w.schema.now past place reason s → IsStopped w m under.start under.frames (stopped s new.count)
+
+abbrev pub Comes : (w : Walk) → (m new : Lent) → (under : Waiting) → (top past : Frame) → (place : ℕ) → Result Bool Reason → Type 0
+Comes w m new under top past place (Ok true) = ComesToField w m new under top past place
+Comes w m new under top past place (Ok false) = ComesToEnd w m new under top past
+Comes w m new under top past place (Err reason) = ComesToFault w m new under top past place reason
+
+-- fields of the top that lead to no table were passed, for six reads each at most, up to one of these (true, false and a
+-- reason tell which)
 pub record PassesOn (w : Walk) (m new : Lent) (under : Waiting) (top past : Frame) (place : ℕ) (result : Result Bool Reason) : Type 0 where
-  pub walking : IfOk result (λ more. more ≡ false → IsWalking w new under.start under.frames past)
-  pub field : IfOk result (λ more. more ≡ true → IsAtField w new.bytes new.count under.start under.frames past place)
-  pub open-field : IfOk result (λ more. more ≡ true → (f : Live) → slice_get (live_fields w.schema.now (top.table).object) past.next ≡ Some f → act_of f f.kind ≡ Other)
+  pub comes : Comes w m new under top past place result
   pub same : past ≡ record top { next = past.next }
-  pub forth : IfOk result (λ _. top.next ≤ past.next)
-  pub within : IfOk result (λ _. past.next ≤ length (live_fields w.schema.now (top.table).object))
-  pub all : IfOk result (λ more. more ≡ false → length (live_fields w.schema.now (top.table).object) ≤ past.next)
-  pub ends : IfOk result (λ more. more ≡ false → new.count + 6 * fields_left w.schema.now past ≤ m.count + 6 * fields_left w.schema.now top)
-  pub paid : IfOk result (λ _. new.count + 6 * fields_left w.schema.now past ≤ m.count + 6 * fields_left w.schema.now top + 1)
-  pub hold : IfOk result (λ more. more ≡ false → StepsHold w.checks m.bytes (top.table).at (steps_left w.schema.now top))
-  pub counted : IfOk result (λ more. more ≡ false → new.count ≡ m.count + steps_reads m.bytes (top.table).at (steps_left w.schema.now top))
   pub grows : m.count ≤ new.count
   pub bytes : new.bytes ≡ m.bytes
-  pub next : IfErr result (λ _. past.next < length (live_fields w.schema.now (top.table).object))
-  pub err : IfErr result (λ reason. (s : Stop) → IsStopAt w.schema.now past place reason s → IsStopped w m under.start under.frames (stopped s new.count))
 
 -- fields of the top were passed until one leads on, or none was left (more tells which); or the walk stops at one
 pub record PassesFields (w : Walk) (m new : Lent) (under : Waiting) (top past : Frame) (result : Result Bool Stop) : Type 0 where

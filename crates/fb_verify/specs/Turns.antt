@@ -141,35 +141,28 @@ pub record PassesMember (w then : Walk) (m new : Lent) (under : Waiting) (top pa
   pub same : past ≡ top
   pub word : left ≡ past_first row
 
+-- what holds where a turn goes down, up, on in the same table, or stops the walk
+abbrev pub ByTurn : (down up slowly halted : Type 0) → Turn → Type 0
+ByTurn down up slowly halted Down = down
+ByTurn down up slowly halted Up = up
+ByTurn down up slowly halted Slowly = slowly
+ByTurn down up slowly halted Halted = halted
+
 -- or it leads to a table that is to be opened, or it fails
 abbrev pub MemberTurned : (w then : Walk) → (m new : Lent) → (under : Waiting) → (top past : Frame) → (row left : Row) → (child : Child) → Turn → Type 0
-MemberTurned w then m new under top past row left child Down = GoesDown w then m new under (record top { row = row }) past child
-MemberTurned w then m new under top past row left child Up = PassesMember w then m new under top past row left
-MemberTurned w then m new under top past row left child Slowly = ⊥
-MemberTurned w then m new under top past row left child Halted = Halts w then m new under past
+MemberTurned w then m new under top past row left child = ByTurn (GoesDown w then m new under (record top { row = row }) past child) (PassesMember w then m new under top past row left) ⊥ (Halts w then m new under past)
 
 -- a turn through the words of the top's row
 abbrev pub RowTurned : (w then : Walk) → (m new : Lent) → (under : Waiting) → (top past : Frame) → (child : Child) → Turn → Type 0
-RowTurned w then m new under top past child Down = GoesDown w then m new under top past child
-RowTurned w then m new under top past child Up = Rests w then m new under top past
-RowTurned w then m new under top past child Slowly = GoesOn w then m new under top past
-RowTurned w then m new under top past child Halted = Halts w then m new under past
+RowTurned w then m new under top past child = ByTurn (GoesDown w then m new under top past child) (Rests w then m new under top past) (GoesOn w then m new under top past) (Halts w then m new under past)
 
 -- a turn through the row and the fields of the top
 abbrev pub Turned : (w then : Walk) → (m new : Lent) → (under : Waiting) → (top past : Frame) → (child : Child) → Turn → Type 0
-Turned w then m new under top past child Down = GoesDown w then m new under top past child
-Turned w then m new under top past child Up = Ends w then m new under top past
-Turned w then m new under top past child Slowly = GoesOn w then m new under top past
-Turned w then m new under top past child Halted = Halts w then m new under past
+Turned w then m new under top past child = ByTurn (GoesDown w then m new under top past child) (Ends w then m new under top past) (GoesOn w then m new under top past) (Halts w then m new under past)
 
 -- after a field that may lead on, whose slot was the last read, the walk goes on in the same table
 pub record StaysInField (w then : Walk) (m new : Lent) (under : Waiting) (top past : Frame) : Type 0 where
-  pub same : then ≡ record w { tables = then.tables; deepest = then.deepest }
-  pub walking : IsWalking then new under.start under.frames past
-  pub table : past.table ≡ top.table
-  pub falls : new.count + work w.schema.now w.limits under.frames past then.tables ≤ m.count - 1 + work w.schema.now w.limits under.frames top w.tables
-  pub bytes : new.bytes ≡ m.bytes
-  pub short : IsShort new.count
+  pub on : GoesOn w then (record m { count = m.count - 1 }) new under top past
   pub grows : m.count ≤ new.count
 
 -- past that field
@@ -180,12 +173,7 @@ pub record PassedField (w then : Walk) (m new : Lent) (under : Waiting) (top pas
 
 -- in a table below
 pub record GoesIntoField (w then : Walk) (m new : Lent) (under : Waiting) (top past : Frame) (child : Child) : Type 0 where
-  pub same : then ≡ record w { tables = then.tables; deepest = then.deepest }
-  pub down : IsAtChild then new under.start (under.frames ++ past ∷ []) child
-  pub deep : length under.frames + 1 < (w.limits).depth
-  pub falls : new.count + 3 + work w.schema.now w.limits (under.frames ++ past ∷ []) (frame_of child) then.tables < m.count - 1 + work w.schema.now w.limits under.frames top w.tables
-  pub bytes : new.bytes ≡ m.bytes
-  pub short : IsShort (new.count + 3)
+  pub down : GoesDown w then (record m { count = m.count - 1 }) new under top past child
   pub grows : m.count ≤ new.count
 
 -- or up to the words by which it leads on, which are in the row
@@ -199,17 +187,11 @@ pub record BeginsRow (w then : Walk) (m new : Lent) (under : Waiting) (waiting :
   pub bytes : new.bytes ≡ m.bytes
 
 abbrev pub WordsPut : (w then : Walk) → (m new : Lent) → (under : Waiting) → (waiting : ℕ) → (top past : Frame) → Turn → Type 0
-WordsPut w then m new under waiting top past Down = BeginsRow w then m new under waiting top past
-WordsPut w then m new under waiting top past Up = PassedField w then m new under top past
-WordsPut w then m new under waiting top past Slowly = ⊥
-WordsPut w then m new under waiting top past Halted = Halts w then m new under past
+WordsPut w then m new under waiting top past = ByTurn (BeginsRow w then m new under waiting top past) (PassedField w then m new under top past) ⊥ (Halts w then m new under past)
 
 -- a turn into a field that may lead on
 abbrev pub FieldTurned : (w then : Walk) → (m new : Lent) → (under : Waiting) → (top past : Frame) → (child : Child) → Turn → Type 0
-FieldTurned w then m new under top past child Down = GoesIntoField w then m new under top past child
-FieldTurned w then m new under top past child Up = PassedField w then m new under top past
-FieldTurned w then m new under top past child Slowly = StaysInField w then m new under top past
-FieldTurned w then m new under top past child Halted = Halts w then m new under past
+FieldTurned w then m new under top past child = ByTurn (GoesIntoField w then m new under top past child) (PassedField w then m new under top past) (StaysInField w then m new under top past) (Halts w then m new under past)
 
 -- a child was opened, or the walk stops at its head
 pub record OpensChild (w then : Walk) (m new : Lent) (under : Waiting) (below : Frame) (child : Child) : Type 0 where
@@ -227,10 +209,7 @@ pub record StopsAtChild (w then : Walk) (m new : Lent) (under : Waiting) : Type 
   pub bytes : new.bytes ≡ m.bytes
 
 abbrev pub Opened : (w then : Walk) → (m new : Lent) → (under : Waiting) → (frame : Frame) → (child : Child) → Turn → Type 0
-Opened w then m new under frame child Down = OpensChild w then m new under frame child
-Opened w then m new under frame child Up = ⊥
-Opened w then m new under frame child Slowly = ⊥
-Opened w then m new under frame child Halted = StopsAtChild w then m new under
+Opened w then m new under frame child = ByTurn (OpensChild w then m new under frame child) ⊥ ⊥ (StopsAtChild w then m new under)
 
 -- the walk goes on over these frames, of which so many wait now, with less work
 pub record GoesOver (w then : Walk) (m new : Lent) (s : Origin) (old : List Frame) (waiting : ℕ) (frames : List Frame) (left : ℕ) : Type 0 where
@@ -272,24 +251,15 @@ pub record GoesUp (w then : Walk) (m new : Lent) (s : Origin) (old : List Frame)
 
 -- one turn over frames
 abbrev pub FramesTurned : (w then : Walk) → (m new : Lent) → (s : Origin) → (old frames : List Frame) → (waiting : ℕ) → Turn → Type 0
-FramesTurned w then m new s old frames waiting Down = GoesOver w then m new s old waiting frames (waiting + 1)
-FramesTurned w then m new s old frames waiting Up = GoesUp w then m new s old waiting frames
-FramesTurned w then m new s old frames waiting Slowly = WentOn w then m new s old waiting frames waiting
-FramesTurned w then m new s old frames waiting Halted = WentWrong w then m new s frames
+FramesTurned w then m new s old frames waiting = ByTurn (GoesOver w then m new s old waiting frames (waiting + 1)) (GoesUp w then m new s old waiting frames) (WentOn w then m new s old waiting frames waiting) (WentWrong w then m new s frames)
 
 -- the root table, whose fields lead on nowhere, is passed, or it isn't begun, or the walk stops there
 abbrev pub RootTurned : (w then : Walk) → (m new : Lent) → (s : Origin) → Turn → Type 0
-RootTurned w then m new s Down = ⊥
-RootTurned w then m new s Up = WentOver w then m new s
-RootTurned w then m new s Slowly = (then ≡ w) × (new ≡ m)
-RootTurned w then m new s Halted = WentWrong w then m new s [] × ((then.halt).links ≡ 0)
+RootTurned w then m new s = ByTurn ⊥ (WentOver w then m new s) ((then ≡ w) × (new ≡ m)) (WentWrong w then m new s [] × ((then.halt).links ≡ 0))
 
 -- a quick walk over frames: it is over, stops, or can't go on quickly
 abbrev pub Walked : (w then : Walk) → (m new : Lent) → (s : Origin) → (old : List Frame) → (waiting : ℕ) → (frames : List Frame) → (left : ℕ) → Turn → Type 0
-Walked w then m new s old waiting frames left Down = ⊥
-Walked w then m new s old waiting frames left Up = WentOver w then m new s
-Walked w then m new s old waiting frames left Slowly = WentOn w then m new s old waiting frames left
-Walked w then m new s old waiting frames left Halted = WentWrong w then m new s frames
+Walked w then m new s old waiting frames left = ByTurn ⊥ (WentOver w then m new s) (WentOn w then m new s old waiting frames left) (WentWrong w then m new s frames)
 
 -- a walk over these frames, of which so many wait below the top, whose work that is left a count holds
 pub record IsUnderWayOver (w : Walk) (m : Lent) (s : Origin) (frames : List Frame) (waiting : ℕ) : Type 0 where

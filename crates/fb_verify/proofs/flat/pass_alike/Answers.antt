@@ -1,22 +1,14 @@
-use Rattle.std.proofs.Common.{◌≡◌, ◌+◌, ◌*◌, length, refl, sym, ◌∙◌, ap, arith, None}
-use Rattle.std.proofs.lemmas.List.{length-map}
-use Rattle.fb_schema.specs.Live.{live_fields}
-use Rattle.fb_schema.specs.Steps.{step_of}
+use Rattle.std.proofs.Common.{◌≡◌, length, length, refl, ap, arith}
 use Rattle.fb_verify.specs.Cost.{head_reads}
 use Rattle.fb_verify.specs.Flat.{PassesFlat}
 use Rattle.fb_verify.specs.Order.{head_failure}
-use Rattle.fb_verify.specs.PassesOn.{fields_left}
-use Rattle.fb_verify.specs.Plain.{tested_by, IsTested}
-use Rattle.fb_verify.specs.Stack.{opened}
-use Rattle.fb_verify.specs.declared.table.Table.{Table}
+use Rattle.fb_verify.specs.Plain.{IsTested}
 use Rattle.fb_verify.proofs.Alike.{alike_passes}
-use Rattle.fb_verify.proofs.Budgets.{fewer_reads}
-use Rattle.fb_verify.proofs.Chains.{after_none}
-use Rattle.fb_verify.proofs.Flats.{flat_came, flat_kept, head_flat, reason_of}
+use Rattle.fb_verify.proofs.Flats.{flat_holds, flat_many, flat_between, flat_room, flat_came, flat_kept, head_flat, reason_of}
 use Rattle.fb_verify.proofs.Frames.{head_few}
 use Rattle.fb_verify.proofs.Heads.{first_fails, head_reads_parts, vtable_tested}
 use Rattle.fb_verify.proofs.flat.pass_alike.Goals as goal
-use Rattle.fb_verify.proofs.flat.pass_alike.Goals.{After-test_vtable-failed, In_default, After-pass_steps}
+use Rattle.fb_verify.proofs.flat.pass_alike.Goals.{After-test_vtable-failed, After-pass_steps}
 
 pub returns-in-Err-clause-passes : goal.returns-in-Err-clause-passes
 returns-in-Err-clause-passes g c =
@@ -44,74 +36,42 @@ returns-in-Some-clause-passes g c =
     let e = tested g (goal.at.returns-in-Some-clause-passes g c).After-test_vtable-failed in
     head_flat (rw c.in-Some.is at e.told) e.bytes
 
--- the table, with the head that was read
-abbrev table : (g : _) → In_default g → Table
-table g c = record { head = c.test_vtable-failed.new.head; object = c.args.object; at = c.args.at.now }
-
-counted : (g : _) (c : In_default g) → c.test_vtable-failed.new.reads.count ≡ c.args.reads.now.count + head_reads (g.going).walk.checks
-counted g c = (tested g (goal.at.In_default g c).After-test_vtable-failed).counted c.in_default.is
-
--- there are as many steps as fields
-many : (g : _) (c : In_default g) → length c.args.steps.now ≡ length (live_fields (g.going).walk.schema.now c.args.object)
-many g c = ap length (c.requires.0).its ∙ length-map (live_fields (g.going).walk.schema.now c.args.object) step_of
-
-holds : (g : _) (c : In_default g) → head_failure (g.going).walk.checks c.args.reads.now.bytes c.args.at.now ≡ None
-holds g c =
-    let e = tested g (goal.at.In_default g c).After-test_vtable-failed in
-    let new = c.test_vtable-failed.new in
-    (after_none c.args.reads.now.count (head_failure (g.going).walk.checks c.args.reads.now.bytes c.args.at.now)).0 (sym e.told ∙ ap (tested_by new.at new.reads.count) c.in_default.is)
-
 pub pass_steps-requires : goal.pass_steps-requires
 pass_steps-requires g c =
-    let d = (goal.at.pass_steps-requires g c).In_default in
-    let w = (g.going).walk in
+    let e = tested g (goal.at.pass_steps-requires g c).After-test_vtable-failed in
+    let none = c.in_default.is in
     let r = c.requires.0 in
-    let new = c.test_vtable-failed.new.reads in
-    let e = tested g (goal.at.In_default g d).After-test_vtable-failed in
-    let head = rw (c.test_first_word.ensures.bytes, r.same) at (c.test_vtable-failed.ensures.head c.in_default.is) in (
-      record { walking = rw (e.bytes, counted g d) (r.opens (table g d) refl refl head (holds g d)); rests = refl },
-      (
-        record {
-          allowed = fewer_reads (w.limits).reads (new.count + 6 * fields_left w.schema.now (opened (table g d))) (c.args.reads.now.count + 3 + 6 * length c.args.steps.now) (omega (arith, counted g d, many g d, head_few w.checks)) r.room;
-          short = omega (arith, counted g d, many g d, head_few w.checks, r.short);
-        },
-        (r.same, (r.schema, (refl, (refl, (r.its, r.few))))),
-      ),
-    )
+    let head = rw (c.test_first_word.ensures.bytes, r.same) at (c.test_vtable-failed.ensures.head none) in
+    (flat_between r e none _ head, (flat_room r e none c.test_vtable-failed.new.head, (r.same, (r.schema, (refl, (refl, (r.its, r.few)))))))
 
 -- its fields were passed, or one fails
 came : (g : _) (c : After-pass_steps g)
     → PassesFlat (g.going).walk c.args.reads.now c.pass_steps.new.reads (g.going).under c.args.object c.args.at.now c.pass_steps.new.next c.pass_steps.new.at (reason_of c.pass_steps.result)
-came g c =
-    let d = (goal.at.After-pass_steps g c).In_default in
-    let w = (g.going).walk in
-    let r = c.requires.0 in
-    flat_came w c.args.reads.now c.test_vtable-failed.new.reads c.pass_steps.new.reads (g.going).under (table g d) c.pass_steps.new.next c.pass_steps.new.at (tested g (goal.at.In_default g d).After-test_vtable-failed).bytes
-    (omega (arith, counted g d)) (omega (arith, counted g d, head_few w.checks)) (omega (arith, many g d, r.few)) r.plain c.pass_steps.result c.pass_steps.ensures
+came g c = flat_came c.requires.0 (tested g (goal.at.After-pass_steps g c).After-test_vtable-failed) c.in_default.is c.test_vtable-failed.new.head c.pass_steps.result c.pass_steps.ensures
 
 pub returns-in-Ok-pass_steps-clause-passes : goal.returns-in-Ok-pass_steps-clause-passes
 returns-in-Ok-pass_steps-clause-passes g c = rw c.in-Ok-pass_steps.is at (came g (goal.at.returns-in-Ok-pass_steps-clause-passes g c).After-pass_steps)
 
 pub returns-in-Ok-pass_steps-clause-kept : goal.returns-in-Ok-pass_steps-clause-kept
 returns-in-Ok-pass_steps-clause-kept g c none =
-    let p = (goal.at.returns-in-Ok-pass_steps-clause-kept g c).After-pass_steps in
-    let d = (goal.at.After-pass_steps g p).In_default in
+    let e = tested g (goal.at.returns-in-Ok-pass_steps-clause-kept g c).After-test_vtable-failed in
     let r = c.requires.0 in
-    let w = (g.going).walk in
-    let e = tested g (goal.at.In_default g d).After-test_vtable-failed in
+    let head = c.test_vtable-failed.new.head in
+    let counted = e.counted c.in_default.is in
     let kept = rw e.bytes at (flat_kept r.plain c.in-Ok-pass_steps.field-0 (rw c.in-Ok-pass_steps.is at c.pass_steps.ensures)) in
     let first = rw c.in-Ok.is at c.test_first_word.ensures in
-    let long = length-map (live_fields w.schema.now c.args.object) step_of in
-    let end : c.count.result ≡ c.pass_steps.new.reads.count = c.count.ensures.all (omega (arith, kept.2, counted g d, head_few w.checks, many g d, r.short)) in
+    let many = flat_many r e c.in_default.is head in
+    let few = head_few (g.going).walk.checks in
+    let end : c.count.result ≡ c.pass_steps.new.reads.count = c.count.ensures.all (omega (arith, kept.2, counted, few, many, r.short)) in
     let begun : c.count-begun.result ≡ c.test_first_word.new.reads.count = c.count-begun.ensures.all (omega (arith, first.counted, r.short)) in
     record {
       small = (c.requires.1).small;
       holds = λ some. rw (r.same, r.its) (record {
-        head = holds g d;
+        head = flat_holds r e c.in_default.is head;
         vtable = first.value;
         hold = kept.0;
-        reads = omega (arith, end, begun, kept.1, counted g d, first.counted, head_reads_parts w.checks);
-        few = omega (arith, end, begun, kept.2, counted g d, first.counted, head_few w.checks, long);
+        reads = omega (arith, end, begun, kept.1, counted, first.counted, head_reads_parts (g.going).walk.checks);
+        few = omega (arith, end, begun, kept.2, counted, first.counted, few, many, ap length r.its);
       });
     }
 

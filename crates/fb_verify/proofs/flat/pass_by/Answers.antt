@@ -12,7 +12,7 @@ use Rattle.fb_verify.specs.Plain.{plain_failure, plain_reads, steps_reads}
 use Rattle.fb_verify.proofs.Chains.{after_none}
 use Rattle.fb_verify.proofs.Plains.{is_step, has_bit, is_even}
 use Rattle.fb_verify.proofs.Passing.{AtStep}
-use Rattle.fb_verify.proofs.BySteps.{steps_pass, first_left, others_left, GoesBy, step_by, came_to}
+use Rattle.fb_verify.proofs.BySteps.{steps_pass, left_from, GoesBy, step_by, came_to}
 use Rattle.fb_verify.proofs.flat.pass_by.Goals as goal
 use Rattle.fb_verify.proofs.flat.pass_by.Goals.{In-Some}
 
@@ -25,7 +25,7 @@ place g c = length (fields g c) - length c.loop-step.rest.now
 
 -- the step that comes stands there
 stands : (g : _) (c : In-Some g) → slice_get (map step_of (fields g c)) (place g c) ≡ Some c.in-Some.step.now
-stands g c = first_left (map step_of (fields g c)) (place g c) c.in-Some.step.now c.in-Some.more.now (sym c.in-Some.ensures.cases.0 ∙ c.loop-step.invariant.rest)
+stands g c = (left_from (map step_of (fields g c)) (place g c) c.in-Some.step.now c.in-Some.more.now (sym c.in-Some.ensures.cases.0 ∙ c.loop-step.invariant.rest)).0
 
 pub pass_step-requires-clause-even : goal.pass_step-requires-clause-even
 pass_step-requires-clause-even g c =
@@ -101,7 +101,7 @@ loop-step-preserved g c =
       base = passed.base ∙ i.base;
       grows = omega (arith, on.1, i.grows);
       within = omega (arith, rest.1, i.within);
-      rest = others_left (map step_of (fields g d)) (place g d) c.in-Some.step.now c.in-Some.more.now (sym rest.0 ∙ i.rest) ∙ ap (λ n. drop n (map step_of (fields g d))) up;
+      rest = (left_from (map step_of (fields g d)) (place g d) c.in-Some.step.now c.in-Some.more.now (sym rest.0 ∙ i.rest)).1 ∙ ap (λ n. drop n (map step_of (fields g d))) up;
       between = subst (λ n. IsBetween (g.of).walk c.pass_step.new.reads (g.of).under (record (g.of).top { next = n })) next on.0;
       hold = λ more. i.hold (rw rest.0 (All-cons (λ s. plain_failure (g.of).walk.checks b t s ≡ None) c.in-Some.step.now c.in-Some.more.now ok more));
       counted = omega (arith, rw i.bytes at (passed.counted (let none : ◌≡◌ {A = Option Reason} None None = refl in none)), ap (steps_reads b t) rest.0, sum_by-cons (plain_reads b t) c.in-Some.step.now c.in-Some.more.now, i.counted);

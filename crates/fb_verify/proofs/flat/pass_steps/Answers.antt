@@ -15,7 +15,7 @@ use Rattle.fb_verify.specs.PassesOn.{steps_left, EndsBehind, CameTo}
 use Rattle.fb_verify.specs.Plain.{StepsHold, steps_reads}
 use Rattle.fb_verify.proofs.Absent.{rest_holds, rest_free}
 use Rattle.fb_verify.specs.Stack.{Waiting}
-use Rattle.fb_verify.proofs.Passing.{AtStep, none_left, rest_absent, required_within, required_stops, stops_here}
+use Rattle.fb_verify.proofs.Passing.{AtStep, rest_absent, required_within, required_stops}
 use Rattle.fb_verify.proofs.flat.pass_steps.Goals as goal
 use Rattle.fb_verify.proofs.flat.pass_steps.Goals.{After-next_required}
 
@@ -80,7 +80,21 @@ returns-in_default-next_required g c =
     let e = behind g d in
     let s = here g d in
     let all = many g d ∙ ap length (same g d) in
-    none_left refl (rest_absent s (e.behind _ (first g d).1) (sym (looks g d) ∙ c.in_default-next_required.is)) (omega (arith, e.forth, e.within, all)) (omega (arith, all)) (omega (arith, all)) (omega (arith, e.paid, all)) (rest_none g d c.in_default-next_required.is).0 (rest_none g d c.in_default-next_required.is).1 e.grows e.bytes
+    let rest = rest_none g d c.in_default-next_required.is in
+    record {
+      comes = record {
+        walking = rest_absent s (e.behind _ (first g d).1) (sym (looks g d) ∙ c.in_default-next_required.is);
+        forth = omega (arith, e.forth, e.within, all);
+        within = omega (arith, all);
+        all = omega (arith, all);
+        ends = omega (arith, e.paid, all);
+        hold = rest.0;
+        counted = rest.1;
+      };
+      same = refl;
+      grows = e.grows;
+      bytes = e.bytes;
+    }
 
 pub returns-in-Some : goal.returns-in-Some
 returns-in-Some g c =
@@ -88,7 +102,13 @@ returns-in-Some g c =
     let e = behind g d in
     let s = here g d in
     let some = sym (looks g d) ∙ c.in-Some.is in
-    rw c.requires.1.1.1.1.0 (stops_here refl (required_within s c.in-Some.needed some) e.grows e.bytes (λ stop is. rw e.bytes at (required_stops s (e.behind _ (first g d).1) c.in-Some.needed some stop is)))
+    rw c.requires.1.1.1.1.0
+    (record {
+      comes = record { next = required_within s c.in-Some.needed some; err = λ stop is. rw e.bytes at (required_stops s (e.behind _ (first g d).1) c.in-Some.needed some stop is) };
+      same = refl;
+      grows = e.grows;
+      bytes = e.bytes;
+    })
 
 pub returns-in-ToFault : goal.returns-in-ToFault
 returns-in-ToFault g c = rw (ap length c.requires.1.1.1.1.1.1.0 ∙ length-map (live_fields (g.of).walk.schema.now (c.args.table).object) step_of) (rw c.in-ToFault.is at c.pass_by-came.ensures.came)

@@ -1,40 +1,38 @@
 use Rattle.std.proofs.Common.{◌≡◌, ◌∙◌, refl, sym, ap, arith}
 use Rattle.fb_schema.specs.declared.kinds.Kind.{Kind}
-use Rattle.fb_schema.specs.declared.kinds.Kind.TheVariants.{Scalar, Text, Struct, Table, Union, Scalars, Texts, Structs, Tables, Unions}
+use Rattle.fb_schema.specs.declared.kinds.Kind.TheVariants.{Scalar, Text, Struct, Table, Scalars, Structs}
 use Rattle.fb_schema.specs.declared.views.Act.TheVariants.{Other}
 use Rattle.fb_schema.specs.declared.views.Step.{Step}
 use Rattle.fb_schema.specs.Live.{Live}
-use Rattle.fb_schema.specs.Steps.{act_of, bits_of, size_of}
+use Rattle.fb_schema.specs.Steps.{inline_act, act_of, bits_of, size_of}
 use Rattle.std.specs.Int.Bits.{bit_and}
 use Rattle.fb_verify.specs.Turns.{IsFar}
 use Rattle.fb_verify.proofs.Plains.{inline_acts}
 use Rattle.fb_verify.proofs.stack.Walk.go_into.Goals as goal
 
+-- a scalar or struct leads to no table
+no_other : (f : Live) → inline_act f.required f.size f.align ≡ Other → ⊥
+no_other f e = inline_acts (λ act. act ≡ Other → ⊥) f.required f.size f.align (λ _ _ x. cc) (λ _ _ x. cc) (λ _ _ x. cc) (λ _ _ x. cc) (λ x. cc) e
+
 -- what a step leaves out leads by a vector or by a union, if it has no bit of a table
 is_far : (f : Live) (kind : Kind) → act_of f kind ≡ Other → (bits_of f kind ≡ 384 → ⊥) → IsFar kind
-is_far f (Scalar s) e n = absurd (inline_acts (λ act. act ≡ Other → ⊥) f.required f.size f.align (λ _ _ x. cc) (λ _ _ x. cc) (λ _ _ x. cc) (λ _ _ x. cc) (λ x. cc) e)
-is_far f (Struct k) e n = absurd (inline_acts (λ act. act ≡ Other → ⊥) f.required f.size f.align (λ _ _ x. cc) (λ _ _ x. cc) (λ _ _ x. cc) (λ _ _ x. cc) (λ x. cc) e)
+is_far f (Scalar s) e n = no_other f e
+is_far f (Struct k) e n = no_other f e
+is_far f (Table k) e n = n refl
 is_far f Text e n = absurd cc
-is_far f (Table k) e n = absurd (n refl)
-is_far f (Union u) e n = tt
 is_far f (Scalars s) e n = absurd cc
 is_far f (Structs k) e n = absurd cc
-is_far f Texts e n = tt
-is_far f (Tables k) e n = tt
-is_far f (Unions u) e n = tt
+is_far f _ e n = tt
 
 -- if it has, to one table
 to_table : (f : Live) (kind : Kind) → act_of f kind ≡ Other → (bits_of f kind ≡ 128 → ⊥) → kind ≡ Table (size_of f kind)
-to_table f (Scalar s) e n = absurd (inline_acts (λ act. act ≡ Other → ⊥) f.required f.size f.align (λ _ _ x. cc) (λ _ _ x. cc) (λ _ _ x. cc) (λ _ _ x. cc) (λ x. cc) e)
-to_table f (Struct k) e n = absurd (inline_acts (λ act. act ≡ Other → ⊥) f.required f.size f.align (λ _ _ x. cc) (λ _ _ x. cc) (λ _ _ x. cc) (λ _ _ x. cc) (λ x. cc) e)
-to_table f Text e n = absurd cc
 to_table f (Table k) e n = refl
-to_table f (Union u) e n = absurd (n refl)
+to_table f (Scalar s) e n = absurd (no_other f e)
+to_table f (Struct k) e n = absurd (no_other f e)
+to_table f Text e n = absurd cc
 to_table f (Scalars s) e n = absurd cc
 to_table f (Structs k) e n = absurd cc
-to_table f Texts e n = absurd (n refl)
-to_table f (Tables k) e n = absurd (n refl)
-to_table f (Unions u) e n = absurd (n refl)
+to_table f _ e n = absurd (n refl)
 
 pub go_to_table-requires : goal.go_to_table-requires
 go_to_table-requires g c =

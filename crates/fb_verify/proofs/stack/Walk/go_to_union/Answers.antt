@@ -16,7 +16,7 @@ use Rattle.fb_verify.specs.OffsetRows.{LeavesRow, AreAll}
 use Rattle.fb_verify.specs.Order.{present_failure}
 use Rattle.fb_verify.specs.Plain.{IsTested}
 use Rattle.fb_verify.specs.Stack.{blank, Waiting}
-use Rattle.fb_verify.specs.Turns.{BeginsRow, PassesMember, MemberTurned, Rests, RowTurned}
+use Rattle.fb_verify.specs.Turns.{BeginsRow, MemberTurned, RowTurned}
 use Rattle.fb_verify.proofs.IntoField.{into_askable, into_stops, few_spent, passed_over, row_begins, far_turned}
 use Rattle.fb_verify.proofs.Turns.{halts_in_field}
 use Rattle.fb_verify.proofs.stack.Walk.go_to_union.Goals as goal
@@ -83,11 +83,7 @@ pass_member-turn-requires g c =
       (rw (all_of _ one.1).1 tt, c.requires.1.1),
     )
 
--- a turn past its word, or one that stays before it, is one through its row
-row_over : (w then : Walk) (m new : Lent) (under : Waiting) (top past : Frame) (row left : Row) → PassesMember w then m new under top past row left → left.left ≡ 0
-    → Rests w then m new under (record top { row = row }) (record past { row = left })
-row_over w then m new under top past row left p none = record { on = rw p.same p.on; rests = none; next = ap (λ (x : Frame). x.next) p.same }
-
+-- a turn that stays before its word is one through its row
 row_left : (w then : Walk) (m new : Lent) (under : Waiting) (top past : Frame) (row left : Row) (child : Child) (turn : Turn) → (turn ≡ Up → ⊥) → MemberTurned w then m new under top past row left child turn
     → RowTurned w then m new under (record top { row = row }) past child turn
 row_left w then m new under top past row left child Down n h = h
@@ -106,7 +102,7 @@ returns-in-Up g c =
     let left : new.row.left ≡ 0 = omega (arith, ap (λ (x : Row). x.left) p.word, one.0) in
     rw c.in-Up.is
     (far_turned c.args.self.now c.args.self.now new.self c.args.reads.now c.put_union-failed.new.reads new.reads g.under c.args.waiting c.args.top.now _ (record new.top { row = new.row }) new.child (begins g d none more) Up
-    (row_over _ _ _ _ _ _ _ _ _ p left))
+    (record { on = rw p.same p.on; rests = left; next = ap (λ (x : Frame). x.next) p.same }))
 
 pub returns-in_default-turn : goal.returns-in_default-turn
 returns-in_default-turn g c =

@@ -1,5 +1,5 @@
-use Rattle.std.proofs.Common.{◌≡◌, ℕ, nat_lt, true, ◌+◌, ◌<◌, map, length, option_map, refl, sym, ◌∙◌, ap, arith}
-use Rattle.std.proofs.lemmas.Bool.Decides.{nat_tests}
+use Rattle.std.proofs.Common.{◌≡◌, ◌+◌, ◌<◌, map, length, option_map, refl, sym, ◌∙◌, ap, arith}
+use Rattle.std.proofs.lemmas.Bool.{ltb-true}
 use Rattle.std.proofs.lemmas.Option.{slice_get-map}
 use Rattle.fb_schema.specs.Live.{live_fields, live_of_view}
 use Rattle.fb_schema.specs.Steps.{step_of}
@@ -10,9 +10,6 @@ use Rattle.fb_verify.proofs.NextField.{err_exit, AtNext, askable, next_stops, st
 use Rattle.fb_verify.proofs.Passing.{AtStep, long, rest_absent, required_within, required_stops}
 use Rattle.fb_verify.proofs.stack.Walk.pass_each.Goals as goal
 use Rattle.fb_verify.proofs.stack.Walk.pass_each.Goals.{In-Some}
-
-below : (a b : ℕ) → nat_lt a b ≡ true → a < b
-below a b e = grind (arith, nat_tests)
 
 -- the field that comes
 here : (g : _) (c : In-Some g) → AtNext c.args.self.now c.loop-field.loan g.under c.loop-field.top (live_of_view c.in-Some.field.now)
@@ -50,7 +47,7 @@ returns-in_default-next_required g c =
     let fields = c.fields_of-fields.result.now in
     let all = rw (sym i.table) at (ap length c.fields_of-fields.ensures.value) in
     let all_fields : length fields ≡ length (live_fields c.args.self.now.schema.now (top.table).object) = omega (arith, length_map live_of_view fields, all) in
-    let past : vtable_size c.loop-field.loan.bytes (top.table).at < (c.in-Some.field.now).slot + 2 = omega (arith, below _ _ (sym c.ends_before.ensures ∙ c.if-ends_before.true), ((((h.walking).frame).head).vtable).size) in
+    let past : vtable_size c.loop-field.loan.bytes (top.table).at < (c.in-Some.field.now).slot + 2 = omega (arith, ltb-true _ _ (sym c.ends_before.ensures ∙ c.if-ends_before.true), ((((h.walking).frame).head).vtable).size) in
     let next = ((h.walking).frame).next in
     record {
       walking = rw (all_fields ∙ sym (long s)) (rest_absent s past (sym c.next_required.ensures ∙ c.in_default-next_required.is));
@@ -69,7 +66,7 @@ returns-then-ends_before g c =
     let s = stepped g (goal.at.returns-then-ends_before g c).In-Some in
     let i = c.loop-field.invariant in
     let e = c.stop_at.ensures in
-    let past : vtable_size c.loop-field.loan.bytes (c.loop-field.top.table).at < (c.in-Some.field.now).slot + 2 = omega (arith, below _ _ (sym c.ends_before.ensures ∙ c.if-ends_before.true), ((((h.walking).frame).head).vtable).size) in
+    let past : vtable_size c.loop-field.loan.bytes (c.loop-field.top.table).at < (c.in-Some.field.now).slot + 2 = omega (arith, ltb-true _ _ (sym c.ends_before.ensures ∙ c.if-ends_before.true), ((((h.walking).frame).head).vtable).size) in
     let some = sym c.next_required.ensures ∙ c.in-Some-next_required.is in
     stops_at_field c.stop_at.result i.bytes (rw i.bytes at (required_stops s past c.in-Some-next_required.needed some c.stop_at.result (record { refusal = e.refusal; object = e.object; field = e.field })))
 

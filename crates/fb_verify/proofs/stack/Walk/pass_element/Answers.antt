@@ -1,37 +1,15 @@
-use Rattle.std.proofs.Common.{◌≡◌, ℕ, ◌+◌, List, Option, refl, sym, ◌∙◌, ap, None, arith}
+use Rattle.std.proofs.Common.{◌≡◌, ◌+◌, refl, sym, ◌∙◌, ap, None, arith}
 use Rattle.fb_bytes.specs.Word.{Lent}
-use Rattle.fb_schema.specs.Rows.{Rows}
-use Rattle.fb_verify.specs.declared.checks.Checks.{Checks}
-use Rattle.fb_verify.specs.declared.fault.Reason.{Reason}
-use Rattle.fb_verify.specs.declared.offset_row.Referent.{Referent}
-use Rattle.fb_verify.specs.declared.offset_row.Referent.TheVariants.{Text as AText, Table as ATable, Struct as AStruct, Nothing}
-use Rattle.fb_verify.specs.declared.offset_row.Row.{Row}
 use Rattle.fb_verify.specs.Cost.{lead_reads}
-use Rattle.fb_verify.specs.OffsetRows.{lead_to, first_word, IsLeafLead}
-use Rattle.fb_verify.specs.Order.{after, lead_failure, element_failure}
-use Rattle.fb_verify.specs.Plain.{tested_by}
+use Rattle.fb_verify.specs.OffsetRows.{first_word}
+use Rattle.fb_verify.specs.Order.{element_failure}
 use Rattle.fb_verify.proofs.ByUnits.{unfound, tested_tells}
 use Rattle.fb_verify.proofs.Frames.{if_err_exit}
-use Rattle.fb_verify.proofs.Plains.{after_twice}
+use Rattle.fb_verify.proofs.LeafRows.{word_told, is_leaf}
 use Rattle.fb_verify.proofs.Refusals.{spent, told_lead_reads}
 use Rattle.fb_verify.proofs.Words.{first_place}
 use Rattle.fb_verify.proofs.stack.Walk.pass_element.Goals as goal
 use Rattle.fb_verify.proofs.stack.Walk.pass_element.Goals.{In_ok-tell}
-
--- What its type tells is read, and then its offset word is tested.
-module _ (c : Checks) (b : List ℕ) (S : Rows) (row : Row) (referent : Referent) (at k m n : ℕ) (failed : Option Reason) (lead : lead_to referent ≡ (first_word b S row).lead) (count : n ≡ m + (first_word b S row).reads) where
-  element_found : tested_by at k failed ≡ after n (lead_failure c b row.place (lead_to referent)) → tested_by at k failed ≡ after m (element_failure c b (first_word b S row))
-  unfolding element_failure
-  element_found h =
-      let x = first_word b S row in
-      (rw (lead, count) at h) ∙ ap (λ p. after (m + x.reads) (lead_failure c b p x.lead)) (sym (first_place b S row)) ∙ sym (after_twice m x.reads (lead_failure c b x.place x.lead))
-
--- what is no table leads to none
-leaf : (referent : Referent) → ((object : ℕ) → referent ≡ ATable object → ⊥) → IsLeafLead (lead_to referent)
-leaf AText other = tt
-leaf (ATable k) other = absurd (other k refl)
-leaf (AStruct size align) other = tt
-leaf Nothing other = tt
 
 -- an element of which no test failed holds
 holds : (c : In_ok-tell) → element_failure c.args.self.now.checks c.args.loan.now.bytes (first_word c.args.loan.now.bytes c.args.self.now.schema.now c.args.row) ≡ None
@@ -41,7 +19,7 @@ holds c =
     let lent = c.lend-reads.ensures in
     let r = rw lent.lent at c.first_referent-referent.ensures in
     let t = rw r.counted at c.test_lead-failed.ensures in
-    unfound _ _ _ _ _ (element_found c.args.self.now.checks m.bytes S c.args.row c.first_referent-referent.result _ _ _ _ _ r.lead refl t.told) c.in_ok-tell.ensures.ok
+    unfound _ _ _ _ _ (word_told c.args.self.now.checks m.bytes S c.args.row _ r.lead _ _ refl _ t.told) c.in_ok-tell.ensures.ok
 
 pub returns-in_err-tell-clause-err : goal.returns-in_err-tell-clause-err
 returns-in_err-tell-clause-err c =
@@ -51,7 +29,7 @@ returns-in_err-tell-clause-err c =
     let r = rw lent.lent at c.first_referent-referent.ensures in
     let t = rw r.counted at c.test_lead-failed.ensures in
     let e = c.in_err-tell.ensures.err in
-    let found = element_found c.args.self.now.checks m.bytes S c.args.row c.first_referent-referent.result _ _ _ _ _ r.lead refl t.told in
+    let found = word_told c.args.self.now.checks m.bytes S c.args.row _ r.lead _ _ refl _ t.told in
     if_err_exit _ _ _ c.from_residual.ensures.1 (rw (e.1, c.settle.ensures) (tested_tells c.args.site m.count _ _ _ _ _ (rw e.0 at found)))
 
 pub returns-in-Table-clause-ok : goal.returns-in-Table-clause-ok
@@ -68,7 +46,7 @@ returns-in_err-ask_reads-clause-err c =
     let count = rw r.lead at t.counted c.in_ok-tell.ensures.ok in
     let paid = ap (λ (n : Lent). n.count) c.settle.ensures in
     let e = c.in_err-ask_reads.ensures in
-    let lead = leaf c.first_referent-referent.result c.in_default.not-Table in
+    let lead = is_leaf c.first_referent-referent.result c.in_default.not-Table in
     let all : c.settle.new.self.count ≡ m.count + (x.reads + lead_reads x.lead) = omega (arith, count, paid) in
     if_err_exit _ _ _ c.from_residual-in_err-ask_reads.ensures.1
     (told_lead_reads c.args.self.now.limits c.args.site m.count _ x x.lead _ _ (rw r.lead at lead) (holds (goal.at.returns-in_err-ask_reads-clause-err c).In_ok-tell) all e.spent (e.err ∙ ap (spent c.args.site) (sym (first_place m.bytes S c.args.row))))
@@ -79,5 +57,5 @@ returns-clause-ok c = holds (goal.at.returns-clause-ok c).In_ok-tell
 pub returns-clause-child : goal.returns-clause-child
 returns-clause-child c =
     let r = rw c.lend-reads.ensures.lent at c.first_referent-referent.ensures in
-    let lead = leaf c.first_referent-referent.result c.in_default.not-Table in
+    let lead = is_leaf c.first_referent-referent.result c.in_default.not-Table in
     rw r.lead at lead

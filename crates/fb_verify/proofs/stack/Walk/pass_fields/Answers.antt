@@ -7,7 +7,8 @@ use Rattle.std.proofs.lemmas.Option.{slice_get-get_or}
 use Rattle.fb_bytes.specs.Word.{Lent}
 use Rattle.fb_verify.specs.declared.scratch.Frame.{Frame}
 use Rattle.fb_verify.specs.declared.stack.Walk.{Walk}
-use Rattle.fb_verify.specs.Stack.{work, IsAtField, Waiting}
+use Rattle.fb_verify.specs.PassesOn.{ComesToField}
+use Rattle.fb_verify.specs.Stack.{work, Waiting}
 use Rattle.fb_verify.specs.Turns.{IsAtOpenField, IsAtStep}
 use Rattle.fb_verify.proofs.Budgets.{fewer_reads}
 use Rattle.fb_verify.proofs.Frames.{length_map}
@@ -19,8 +20,8 @@ use Rattle.fb_verify.proofs.stack.Walk.pass_fields.Goals as goal
 use Rattle.fb_verify.proofs.stack.Walk.pass_fields.Goals.{In-Ok-true}
 
 -- what the loop over plain fields came to
-come : (g : _) (c : In-Ok-true g) → IsAtField c.loop-steps.self c.pass_plain.new.reads.bytes c.pass_plain.new.reads.count (g.under).start (g.under).frames c.pass_plain.new.top c.pass_plain.new.at
-come g c = (rw c.in-Ok-true.is at c.pass_plain.ensures.field) c.in-Ok-true.field-0-test
+comes : (g : _) (c : In-Ok-true g) → ComesToField c.loop-steps.self c.loop-steps.reads c.pass_plain.new.reads g.under c.loop-steps.top c.pass_plain.new.top c.pass_plain.new.at
+comes g c = rw (c.in-Ok-true.is, c.in-Ok-true.field-0-test) at c.pass_plain.ensures.comes
 
 -- after work that left room for it
 falls : (g : _) (c : In-Ok-true g) → c.pass_plain.new.reads.count - 1 + work c.args.self.now.schema.now c.args.self.now.limits (g.under).frames c.pass_plain.new.top c.loop-steps.self.tables
@@ -33,10 +34,8 @@ falls g c =
     let schema = ap (λ (x : Walk). x.schema.now) i.same in
     let long = ap (λ x. length (live_fields S (x.table).object)) p.same in
     let left = ap (λ x. (x.row).left) p.same in
-    let forth = rw c.in-Ok-true.is at p.forth in
-    let within = rw schema at (rw c.in-Ok-true.is at p.within) in
-    let paid = rw schema at (rw c.in-Ok-true.is at p.paid) in
-    omega (arith, paid, forth, within, (come g c).count, long, left, i.falls)
+    let e = comes g c in
+    omega (arith, rw schema at e.paid, e.forth, rw schema at e.within, (e.field).count, long, left, i.falls)
 
 pub returns-in-Ok-false : goal.returns-in-Ok-false
 unfolding work
@@ -44,25 +43,23 @@ returns-in-Ok-false g c =
     let i = c.loop-steps.invariant in
     let p = c.pass_plain.ensures in
     let S = c.args.self.now.schema.now in
-    let ok = c.in-Ok-false.is in
-    let none = c.in-Ok-false.field-0-test in
+    let e = rw (c.in-Ok-false.is, c.in-Ok-false.field-0-test) at p.comes in
     let schema = ap (λ (x : Walk). x.schema.now) i.same in
     let long = ap (λ x. length (live_fields S (x.table).object)) p.same in
     let left = ap (λ x. (x.row).left) p.same in
-    let all = rw schema at ((rw ok at p.all) none) in
-    let ends = rw schema at ((rw ok at p.ends) none) in
+    let ends = rw schema at e.ends in
     record {
       on = record {
         same = i.same;
-        walking = (rw ok at p.walking) none;
+        walking = e.walking;
         table = ap (λ x. x.table) p.same ∙ i.table;
-        falls = omega (arith, ends, (rw ok at p.forth), (rw schema at (rw ok at p.within)), long, left, i.falls);
+        falls = omega (arith, ends, e.forth, rw schema at e.within, long, left, i.falls);
         grows = omega (arith, p.grows, i.grows);
         bytes = p.bytes ∙ i.bytes;
-        short = omega (arith, (rw ok at p.forth), ends, (rw schema at (c.has_room.ensures c.loop-steps-test.true).short));
+        short = omega (arith, e.forth, ends, (rw schema at (c.has_room.ensures c.loop-steps-test.true).short));
       };
       rests = left ∙ (i.between).rests;
-      all = omega (arith, all, long);
+      all = omega (arith, rw schema at e.all, long);
     }
 
 pub returns-in-Err : goal.returns-in-Err
@@ -71,7 +68,7 @@ returns-in-Err g c =
     let p = c.pass_plain.ensures in
     let e = c.stop_in_field.ensures in
     let w = c.loop-steps.self in
-    let stops = (rw c.in-Err.is at p.err) (c.stop_in_field.new.self.halt).stop (record { refusal = e.refusal; object = e.object; field = e.field }) in
+    let stops = (rw c.in-Err.is at p.comes).err (c.stop_in_field.new.self.halt).stop (record { refusal = e.refusal; object = e.object; field = e.field }) in
     rw e.turn
     (halts_on c.args.self.now w c.stop_in_field.new.self c.args.reads.now c.loop-steps.reads c.pass_plain.new.reads g.under i.same i.bytes
     (halts_in_field c.requires.0 p.bytes ((i.between).walking).links e.links e.last stops))
@@ -91,27 +88,23 @@ go_into-requires g c =
     let d = (goal.at.go_into-requires g c).In-Ok-true in
     let i = c.loop-steps.invariant in
     let p = c.pass_plain.ensures in
-    let ok = c.in-Ok-true.is in
-    let yes = c.in-Ok-true.field-0-test in
+    let e = comes g d in
     let S = c.loop-steps.self.schema.now in
-    let o = come g d in
     let schema = ap (λ (x : Walk). x.schema.now) i.same in
     let table = ap (λ x. x.table) p.same in
     let steps = c.steps_of-steps.result.now in
     let its : steps ≡ map step_of (live_fields S (c.pass_plain.new.top.table).object) = rw (schema, table ∙ i.table) c.steps_of-steps.ensures.value in
-    let paid = rw ok at p.paid in
-    let within = rw ok at p.within in
     let long = ap (λ x. length (live_fields S (x.table).object)) p.same in
     let room = c.has_room.ensures c.loop-steps-test.true in (
-      at_step steps _ its o.within (λ f here.
+      at_step steps _ its (e.field).within (λ f here.
           record {
             many = c.requires.0;
-            at = o;
+            at = e.field;
             rests = ap (λ x. (x.row).left) p.same ∙ (i.between).rests;
             here = here;
-            act = ((rw ok at p.open-field) yes) f (rw (ap (λ (x : Table). live_fields S x.object) table) at here);
-            room = fewer_reads (c.loop-steps.self.limits).reads _ _ (omega (arith, paid, within, long)) room.more;
-            short = omega (arith, paid, within, long, room.short);
+            act = e.open-field f (rw (ap (λ (x : Table). live_fields S x.object) table) at here);
+            room = fewer_reads (c.loop-steps.self.limits).reads _ _ (omega (arith, e.paid, e.within, long)) room.more;
+            short = omega (arith, e.paid, e.within, long, room.short);
           }),
       c.requires.1.1.1.1 ∙ sym (ap (λ (x : Walk). x.checks) i.same),
     )

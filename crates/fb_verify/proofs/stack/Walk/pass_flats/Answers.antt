@@ -1,11 +1,9 @@
 use Rattle.std.proofs.Common.{◌≡◌, ◌≤◌, ◌+◌, ◌*◌, max, length, refl, sym, ◌∙◌, ap, arith}
 use Rattle.fb_schema.specs.Live.{live_fields}
 use Rattle.fb_schema.specs.Steps.{step_of}
-use Rattle.fb_verify.specs.declared.table.Child.{Child}
 use Rattle.fb_verify.specs.declared.offset_row.Row.{Row}
 use Rattle.fb_verify.specs.declared.offset_row.Leads.TheVariants.{All}
 use Rattle.fb_verify.specs.declared.offset_row.Referent.TheVariants.{Table as ATable}
-use Rattle.fb_verify.specs.declared.scratch.Frame.{Frame}
 use Rattle.fb_verify.specs.declared.stack.Walk.{Walk}
 use Rattle.fb_verify.specs.Fields.{to_table}
 use Rattle.fb_verify.specs.Order.{after, lead_failure}
@@ -18,21 +16,13 @@ use Rattle.fb_verify.proofs.RowTurns.{two, Counts, counted_same, flat_comes, tab
 use Rattle.fb_verify.proofs.stack.Walk.pass_flats.Goals as goal
 use Rattle.fb_verify.proofs.stack.Walk.pass_flats.Goals.{After-test_lead-failed, After-count_table}
 
--- the frame with the row that is left
-abbrev top_at : (g : _) → After-test_lead-failed g → Frame
-top_at g c = record c.loop-schema.top { row = c.loop-schema.row }
-
 leads : (g : _) (c : After-test_lead-failed g) → (c.loop-schema.row).leads ≡ All (ATable c.args.object)
 leads g c = (c.loop-schema.invariant).leads ∙ (c.requires.0).leads
-
--- the walk's checks are those that are made
-checks : (g : _) (c : After-test_lead-failed g) → c.args.checks ≡ c.loop-schema.self.checks
-checks g c = c.requires.1.0 ∙ sym (ap (λ (x : Walk). x.checks) ((c.loop-schema.invariant).on).same)
 
 -- what the test of its first word tells
 told : (g : _) (c : After-test_lead-failed g)
     → tested_by c.test_lead-failed.new.at c.test_lead-failed.new.reads.count c.test_lead-failed.result ≡ after c.loop-schema.reads.count (lead_failure c.loop-schema.self.checks c.loop-schema.reads.bytes (c.loop-schema.row).place (to_table c.args.object))
-told g c = rw (checks g c) at c.test_lead-failed.ensures.told
+told g c = rw (c.requires.1.0 ∙ sym (ap (λ (x : Walk). x.checks) ((c.loop-schema.invariant).on).same)) at c.test_lead-failed.ensures.told
 
 pub returns-in-Some : goal.returns-in-Some
 returns-in-Some g c child =
@@ -45,13 +35,6 @@ returns-in-Some g c child =
     (word_halts i new.reads c.stop_at_word-stop.new.top c.stop_at_word-stop.result c.stop.new.self c.args.waiting (((c.requires.0).down).row).many c.test_lead-failed.ensures.bytes more (rw c.in-Some.is at word)
     c.stop_at_word-stop.ensures.stop c.stop_at_word-stop.ensures.past (ap (λ (x : Walk). x.halt) c.stop.ensures.halt))
 
--- the walk, once a table more is counted
-abbrev counted : (g : _) → After-count_table g → Walk
-counted g c = c.count_table.new.self
-
-abbrev child_at : (g : _) → After-count_table g → Child
-child_at g c = record { object = c.args.object; at = c.test_lead-failed.new.at }
-
 paid : (g : _) (c : After-count_table g) → c.test_lead-failed.new.reads.count ≡ c.loop-schema.reads.count + 1
 paid g c = c.test_lead-failed.ensures.counted c.in_default.is
 
@@ -60,7 +43,7 @@ room g c = omega (arith, c.has_flat.ensures.room c.loop-schema-test.true)
 
 -- where its word holds, the table is counted
 counts : (g : _) (c : After-count_table g)
-    → Counts c.args.self.now c.loop-schema.self (counted g c) c.args.reads.now c.loop-schema.reads c.test_lead-failed.new.reads g.under c.args.top.now (top_at g (goal.at.After-count_table g c).After-test_lead-failed) c.advance_all.new.self (child_at g c) (c.args.waiting + 1)
+    → Counts c.args.self.now c.loop-schema.self c.count_table.new.self c.args.reads.now c.loop-schema.reads c.test_lead-failed.new.reads g.under c.args.top.now (record c.loop-schema.top { row = c.loop-schema.row }) c.advance_all.new.self (record { object = c.args.object; at = c.test_lead-failed.new.at }) (c.args.waiting + 1)
 counts g c =
     let d = (goal.at.After-count_table g c).After-test_lead-failed in
     let i = (c.loop-schema.invariant).on in

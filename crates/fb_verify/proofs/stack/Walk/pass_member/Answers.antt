@@ -3,7 +3,6 @@ use Rattle.fb_schema.specs.Live.{live_fields}
 use Rattle.fb_schema.specs.Steps.{step_of}
 use Rattle.fb_verify.specs.declared.offset_row.Row.{Row}
 use Rattle.fb_verify.specs.declared.stack.Walk.{Walk}
-use Rattle.fb_verify.specs.declared.table.Child.{Child}
 use Rattle.fb_verify.specs.Cost.{lead_reads}
 use Rattle.fb_verify.specs.Fields.{Entry}
 use Rattle.fb_verify.specs.Order.{after, element_failure}
@@ -29,10 +28,6 @@ on g c =
     let r = ((c.requires.0).members).row in
     stays c.args.self.now c.args.reads.now g.under _ r.walking r.short
 
--- the word leads to what was found
-leads : (g : _) (c : After-test_lead-failed g) → lead_to c.first_referent-referent.result ≡ (first g c).lead
-leads g c = c.first_referent-referent.ensures.lead
-
 -- its type was read
 typed : (g : _) (c : After-test_lead-failed g) → c.first_referent-referent.new.reads.count ≡ c.args.reads.now.count + (first g c).reads
 typed g c = ap (λ x. x.count) c.first_referent-referent.ensures.counted
@@ -42,7 +37,7 @@ told : (g : _) (c : After-test_lead-failed g)
     → tested_by c.test_lead-failed.new.at c.test_lead-failed.new.reads.count c.test_lead-failed.result ≡ after c.args.reads.now.count (element_failure c.args.self.now.checks c.args.reads.now.bytes (first g c))
 told g c =
     let r = c.args.reads.now.count in
-    word_told (((c.requires.0).members).row).walking (lead_to c.first_referent-referent.result) (leads g c)
+    word_told c.args.self.now.checks c.args.reads.now.bytes c.args.self.now.schema.now c.args.row.now (lead_to c.first_referent-referent.result) c.first_referent-referent.ensures.lead
     r c.first_referent-referent.new.reads.count (typed g c) _ (rw (ap (λ x. x.bytes) c.first_referent-referent.ensures.counted, c.requires.1.1) at c.test_lead-failed.ensures.told)
 
 -- where it tells nothing, the word holds
@@ -52,7 +47,7 @@ holds g c none =
 
 -- and was paid for
 paid : (g : _) (c : After-test_lead-failed g) → c.test_lead-failed.result ≡ None → c.test_lead-failed.new.reads.count ≡ c.args.reads.now.count + (first g c).reads + lead_reads (first g c).lead
-paid g c none = omega (arith, c.test_lead-failed.ensures.counted none, ap lead_reads (leads g c), typed g c)
+paid g c none = omega (arith, c.test_lead-failed.ensures.counted none, ap lead_reads c.first_referent-referent.ensures.lead, typed g c)
 
 -- by few reads
 few : (g : _) (c : After-test_lead-failed g) → c.test_lead-failed.result ≡ None → c.test_lead-failed.new.reads.count ≤ c.args.reads.now.count + 4
@@ -69,12 +64,9 @@ returns-in-Some g c =
     (word_halts (on g d) c.test_lead-failed.new.reads c.stop_at_word-stop.new.top c.stop_at_word-stop.result c.stop.new.self c.args.waiting (((c.requires.0).members).row).many (kept g d) ((((c.requires.0).members).row).more)
     (rw c.in-Some.is at (told g d)) c.stop_at_word-stop.ensures.stop c.stop_at_word-stop.ensures.past (ap (λ (x : Walk). x.halt) c.stop.ensures.halt))
 
-abbrev child_at : (g : _) → After-count_table g → Child
-child_at g c = record { object = c.in-Table.object; at = c.test_lead-failed.new.at }
-
 -- a word that leads to a table is passed, and the table is counted
 counts : (g : _) (c : After-count_table g)
-    → Counts c.args.self.now c.args.self.now c.count_table.new.self c.args.reads.now c.args.reads.now c.test_lead-failed.new.reads g.under (record c.args.top.now { row = c.args.row.now }) (record c.args.top.now { row = c.args.row.now }) c.advance.new.self (child_at g c) (c.args.waiting + 1)
+    → Counts c.args.self.now c.args.self.now c.count_table.new.self c.args.reads.now c.args.reads.now c.test_lead-failed.new.reads g.under (record c.args.top.now { row = c.args.row.now }) (record c.args.top.now { row = c.args.row.now }) c.advance.new.self (record { object = c.in-Table.object; at = c.test_lead-failed.new.at }) (c.args.waiting + 1)
 counts g c =
     let d = (goal.at.After-count_table g c).After-test_lead-failed in
     let w = c.args.self.now in
@@ -92,7 +84,7 @@ counts g c =
             walking = (((c.requires.0).members).row).walking;
             more = (((c.requires.0).members).row).more;
             holds = holds g d none;
-            leads = sym (leads g d) ∙ ap lead_to c.in-Table.is;
+            leads = sym found.lead ∙ ap lead_to c.in-Table.is;
             table = subst (λ x. IsReferent w.schema.now x) c.in-Table.is found.referent;
             at = rw (ap (λ x. x.bytes) found.counted) at (e.value none c.in-Table.object c.in-Table.is);
             near = e.near none c.in-Table.object c.in-Table.is;
@@ -155,11 +147,11 @@ returns-in_default-referent g c =
     let cost = few g d none in
     let room = (c.requires.0).few in
     let left = ap (λ (x : Row). x.left) c.advance.ensures in
-    let leaf = subst (λ x. IsLeafLead x) (leads g d) (is_leaf c.first_referent-referent.result (λ k e. c.in_default-referent.not-Table k e)) in
+    let leaf = subst (λ x. IsLeafLead x) c.first_referent-referent.ensures.lead (is_leaf c.first_referent-referent.result (λ k e. c.in_default-referent.not-Table k e)) in
     let cheap = fewer_reads (w.limits).reads q.count c.args.room (omega (arith, cost, room)) (c.requires.0).allowed in
     let passed = leaf_passed i.walking c.advance.new.self q.count c.advance.ensures more (holds g d none) (paid g d none) leaf cheap in
     record {
-      on = word_passed i c.advance.new.self q (rw (kept g d) passed) (omega (arith, cost, more, left)) (omega (arith, left)) (omega (arith, paid g d none)) (kept g d) (omega (arith, cost, room, (c.requires.0).short));
+      on = word_passed i _ q (rw (kept g d) passed) refl (omega (arith, cost, more, left)) (omega (arith, left)) (omega (arith, paid g d none)) (kept g d) (omega (arith, cost, room, (c.requires.0).short));
       same = refl;
       word = c.advance.ensures;
     }

@@ -14,7 +14,7 @@ use Rattle.fb_verify.proofs.stack.Walk.pass_root.Goals as goal
 root_over : (w : Walk) (m new : Lent) (under : Waiting) (table : Table) (next at : ℕ) → under.frames ≡ [] → is_plain w.schema.now table.object ≡ true → (more : Bool)
     → PassesOn w m new under (opened table) (record (opened table) { next = next }) at (Ok more) → WentOver w w m new under.start
 root_over w m new under table next at none plain true p = absurd (never_on plain refl p)
-root_over w m new under table next at none plain false p = went_over under _ refl (p.walking refl) none refl (p.all refl) p.bytes
+root_over w m new under table next at none plain false p = went_over under _ refl (p.comes).walking none refl (p.comes).all p.bytes
 
 pub returns-in-Ok : goal.returns-in-Ok
 returns-in-Ok g c =
@@ -27,7 +27,7 @@ pub returns-in-Err : goal.returns-in-Err
 returns-in-Err g c =
     let p = rw (c.lend-reads.ensures.lent, c.requires.0, c.in-Err.is) at c.pass_steps-passed.ensures in
     let e = c.stop_in_field.ensures in
-    let stops = p.err (c.stop_in_field.new.self.halt).stop (record { refusal = e.refusal; object = e.object; field = e.field }) in
+    let stops = (p.comes).err (c.stop_in_field.new.self.halt).stop (record { refusal = e.refusal; object = e.object; field = e.field }) in
     rw (e.turn, c.settle.ensures) (
       record {
         deep = rw (e.links, e.last) (omega (arith, (c.requires.1.0).links));

@@ -1,5 +1,4 @@
 use Rattle.std.proofs.Common.{◌≡◌, ◌+◌, ◌*◌, refl, sym, ◌∙◌, ap, subst, arith}
-use Rattle.fb_verify.specs.declared.scratch.Frame.{Frame}
 use Rattle.fb_verify.specs.declared.offset_row.Row.{Row}
 use Rattle.fb_verify.specs.Cost.{lead_reads}
 use Rattle.fb_verify.specs.Fields.{Entry}
@@ -14,19 +13,13 @@ use Rattle.fb_verify.proofs.Walking.{leaf_passed}
 use Rattle.fb_verify.proofs.stack.Walk.pass_words_of.Goals as goal
 use Rattle.fb_verify.proofs.stack.Walk.pass_words_of.Goals.{After-test_lead-failed}
 
--- the frame with the row that is left
-abbrev top_at : (g : _) → After-test_lead-failed g → Frame
-top_at g c = record c.args.top.now { row = c.loop-row.row }
-
 -- the first word of that row
 abbrev first : (g : _) → After-test_lead-failed g → Entry
 first g c = first_word c.loop-row.reads.bytes c.args.self.now.schema.now c.loop-row.row
 
 -- the word leads to what all refer to
 lead : (g : _) (c : After-test_lead-failed g) → lead_to c.args.referent ≡ (first g c).lead
-lead g c =
-    let i = c.loop-row.invariant in
-    all_lead i.walking c.args.referent i.leads
+lead g c = let i = c.loop-row.invariant in all_lead i.walking c.args.referent i.leads
 
 -- what its test tells
 told : (g : _) (c : After-test_lead-failed g)

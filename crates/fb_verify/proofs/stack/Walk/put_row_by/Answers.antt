@@ -1,6 +1,6 @@
 use Rattle.std.proofs.Common.{◌≡◌, ℕ, refl}
 use Rattle.fb_schema.specs.declared.kinds.Kind.{Kind}
-use Rattle.fb_schema.specs.declared.kinds.Kind.TheVariants.{Scalar, Text, Struct, Table, Union, Scalars, Texts, Structs, Tables, Unions}
+use Rattle.fb_schema.specs.declared.kinds.Kind.TheVariants.{Union, Texts, Tables, Unions}
 use Rattle.fb_verify.specs.Turns.{IsFar}
 use Rattle.fb_verify.proofs.Words.{vector_left}
 use Rattle.fb_verify.proofs.stack.Walk.put_row_by.Goals as goal
@@ -18,16 +18,11 @@ returns-in-Tables-clause-leads c =
 
 -- what is none of the others is a vector of strings
 texts : (kind : Kind) → IsFar kind → ((x : ℕ) → kind ≡ Union x → ⊥) → ((x : ℕ) → kind ≡ Tables x → ⊥) → ((x : ℕ) → kind ≡ Unions x → ⊥) → kind ≡ Texts
-texts (Scalar s) far a b c = absurd far
-texts Text far a b c = absurd far
-texts (Struct k) far a b c = absurd far
-texts (Table k) far a b c = absurd far
-texts (Union e) far a b c = absurd (a e refl)
-texts (Scalars s) far a b c = absurd far
 texts Texts far a b c = refl
-texts (Structs k) far a b c = absurd far
+texts (Union e) far a b c = absurd (a e refl)
 texts (Tables k) far a b c = absurd (b k refl)
 texts (Unions e) far a b c = absurd (c e refl)
+texts _ far a b c = absurd far
 
 pub returns-in_default : goal.returns-in_default
 returns-in_default c =
