@@ -11,12 +11,10 @@ abbrev pub IsBrokenIn : List Demand → ℕ → Code → Type 0
 IsBrokenIn ds line code = slice_get ds line ≡ Some (record { code = code; broken = true })
 
 pub passed_over : (b : Bool) (c : Code) (rest : Option Code) → (if b then Some c else rest) ≡ None → (b ≡ false) × (rest ≡ None)
-passed_over true c rest e = absurd (cc)
-passed_over false c rest e = (refl, e)
+passed_over b c rest e = grind arith
 
 found_here : (b : Bool) (c code : Code) (rest : Option Code) → (if b then Some c else rest) ≡ Some code → ((b ≡ true) × (c ≡ code)) ⊎ ((b ≡ false) × (rest ≡ Some code))
-found_here true c code rest e = inl (refl, (let w : c ≡ code = cc in w))
-found_here false c code rest e = inr (refl, e)
+found_here b c code rest e = grind arith
 
 is_broken : (d : Demand) (code : Code) → Some d ≡ Some (record { code = code; broken = true }) → d.broken ≡ true
 is_broken d code e = let w : d ≡ (record { code = code; broken = true }) = cc in ap (λ (d : Demand). d.broken) w
@@ -128,8 +126,7 @@ past_fields rows n zero (Some o) h = absurd (omega arith)
 past_fields rows n (suc p) (Some o) h = past_list rows o.is_struct o.bytesize o.fields p (omega arith)
 
 pub nothing_asked : (b : Bool) (ds : List Demand) → first_code ds ≡ None → first_code (if b then ds else []) ≡ None
-nothing_asked true ds h = h
-nothing_asked false ds h = refl
+nothing_asked b ds h = grind arith
 
 past_members : (rows : Rows) (place : ℕ) (e : Option Enum) → enum_end e ≤ place → first_code (demands_of_enum rows place e) ≡ None
 unfolding enum_end
@@ -145,20 +142,6 @@ past_places rows (suc (suc level)) n place h = refl
 
 pub is_legal : (rows : Rows) → ((level n place : ℕ) → IsClear rows level n place) → IsLegal rows
 is_legal rows clear = record { none = λ k c b. none_broken _ (clear k.level k.number k.place) k.line c b }
-
--- objects and enums are clear
-pub both_clear : (rows : Rows) → AreClearBelow rows 0 (length rows.objects) → AreClearBelow rows 1 (length rows.enums) → IsLegal rows
-both_clear rows objects enums = is_legal rows clear where
-  clear : (level n place : ℕ) → IsClear rows level n place
-  clear zero n place = elim (le_or_lt (length rows.objects) n) [ inl past ↦ past_objects rows n place past | inr lt ↦ objects.at n place lt ]
-  clear (suc zero) n place = elim (le_or_lt (length rows.enums) n) [ inl past ↦ past_enums rows n place past | inr lt ↦ enums.at n place lt ]
-  clear (suc (suc level)) n place = refl
-
-pub objects_clear : (rows : Rows) → AreClearBelow rows 0 (length rows.objects) → AreLevelsClear rows 1
-objects_clear rows objects = record { at = go } where
-  go : (l m place : ℕ) → l < 1 → IsClear rows l m place
-  go zero m place lt = elim (le_or_lt (length rows.objects) m) [ inl past ↦ past_objects rows m place past | inr low ↦ objects.at m place low ]
-  go (suc l) m place lt = absurd (omega arith)
 
 pub no_levels : (rows : Rows) → AreLevelsClear rows 0
 no_levels rows = record { at = λ l m place lt. absurd (omega arith) }

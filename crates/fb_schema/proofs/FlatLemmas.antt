@@ -1,6 +1,6 @@
 -- A list that is added behind others leaves them as they are.
 use Rattle.std.proofs.Common.{◌≡◌, ◌≤◌, ◌<◌, ◌-◌, ◌+◌, ◌^◌, ℕ, zero, suc, [], ◌∷◌, ◌++◌, map, length, List, take, drop, get_or, refl, ◌∙◌, ap, arith, length-append, subst, sym, Bool, true, false, if◌then◌else◌}
-use Rattle.std.proofs.lemmas.List.{map-append, length-take}
+use Rattle.std.proofs.lemmas.List.{map-append}
 use Rattle.std.proofs.lemmas.List.Elements.{All-head, All-tail}
 use Rattle.std.proofs.Math.Seq.{take-length}
 use Rattle.std.specs.List.{All}
@@ -79,10 +79,6 @@ parts_step range xs ys new os owners o parts n r is few =
     let last : IsPart (length new) (length xs, length new) = record { ordered = omega arith; within = omega arith; few = omega arith } in
     subst (All (λ o. IsPart (length new) (range o))) (sym r)
     (all_pushed (λ o. IsPart (length new) (range o)) os o (λ k d lt. let p = parts k d lt in record { ordered = p.ordered; within = omega (arith, p.within); few = p.few }) (subst (IsPart (length new)) (sym is) last))
-
--- a part has few rows
-pub part_few : {T : Type 0} (rows : List T) (r : ℕ × ℕ) → IsPart (length rows) r → length (part rows r) < 2 ^ 31
-part_few rows r h = let long = length-take (r.1 - r.0) (drop r.0 rows) in omega (arith, long, h.few)
 
 pub within_pushed : {T : Type 0} (xs ys new : List T) (rs ranges : List (ℕ × ℕ)) (start end : ℕ) → AreWithin xs rs → new ≡ xs ++ ys → ranges ≡ rs ++ (start, end) ∷ [] → start ≡ length xs → end ≡ length new → AreWithin new ranges
 within_pushed xs ys new rs ranges start end within n r s e =

@@ -1,8 +1,8 @@
 -- The steps by which the index of a schema is made.
 use Rattle.std.proofs.Common.{◌≡◌, ℕ, zero, suc, ◌+◌, ◌<◌, ◌≤◌, ◌⊎◌, inl, inr, Bool, true, false, not, ◌||◌, ◌&&◌, ◌==◌, ◌%◌, nat_lt, List, [], ◌∷◌, ◌++◌, length, get_or, slice_get, take, map, max, Some, None, refl, sym, ◌∙◌, ap, subst, arith, if◌then◌else◌}
-use Rattle.std.proofs.lemmas.List.{length-map, map-append, get_or-take, get_or-map, length-take-le}
+use Rattle.std.proofs.lemmas.List.{map-append, get_or-take, get_or-map, length-take-le, length_push}
 use Rattle.std.proofs.lemmas.List.Folds.{list_any-from_Any}
-use Rattle.std.proofs.lemmas.Option.{slice_get-get_or}
+use Rattle.std.proofs.lemmas.Option.{slice_get-get_or, slice_get_within}
 use Rattle.std.proofs.lemmas.Bool.Decides.{Decides-eqb}
 use Rattle.std.proofs.lemmas.Grind.{take_at_read}
 use Rattle.fb_schema.specs.declared.fault.Code.TheVariants.{BadSlot}
@@ -15,18 +15,12 @@ use Rattle.fb_schema.specs.Rows.{Rows, Field, Object, field_of}
 use Rattle.fb_schema.proofs.Numbers.{lt_or_eq, le_or_lt, get_or_default}
 use Rattle.fb_schema.proofs.WalkLemmas.{mapped_at}
 
-pub same_length : {X Y Z : Type 0} (f : X → Z) (g : Y → Z) (xs : List X) (ys : List Y) → map f xs ≡ map g ys → length xs ≡ length ys
-same_length f g xs ys e = sym (length-map xs f) ∙ ap length e ∙ length-map ys g
-
 -- In a legal table no slot stands twice.
 or_true : (a b c : Bool) → c ≡ true → (a || b || c) ≡ true
-or_true true b c e = refl
-or_true false true c e = refl
-or_true false false c e = e
+or_true a b c e = grind arith
 
 pub table_list : (b : Bool) (some other : List Demand) → b ≡ false → (if b then some else other) ≡ other
-table_list true some other e = absurd (let w : true ≡ false = e in cc)
-table_list false some other e = refl
+table_list b some other e = grind arith
 
 no_slot_again : (rows : Rows) (n : ℕ) (o : Object) → IsLegal rows → slice_get rows.objects n ≡ Some o → o.is_struct ≡ false → (i j : ℕ) (d : Field) → i < j → j < length o.fields → (get_or o.fields i d).slot ≡ (get_or o.fields j d).slot → ⊥
 no_slot_again rows n o legal at table i j d lt within e =
@@ -56,25 +50,16 @@ slice_get_end [] x y (suc n) e = absurd (let w : None ≡ Some y = e in cc)
 slice_get_end (z ∷ zs) x y zero e = inl e
 slice_get_end (z ∷ zs) x y (suc n) e = elim (slice_get_end zs x y n e) [ inl a ↦ inl a | inr b ↦ inr (ap suc b.0, b.1) ]
 
-pub slice_get_below : {X : Type 0} (xs : List X) (x : X) (n : ℕ) → slice_get xs n ≡ Some x → n < length xs
-slice_get_below [] x n e = absurd (let w : None ≡ Some x = e in cc)
-slice_get_below (y ∷ ys) x zero e = omega arith
-slice_get_below (y ∷ ys) x (suc n) e = let w = slice_get_below ys x n e in omega arith
-
-pub length_one : {X : Type 0} (xs : List X) (x : X) → length (xs ++ x ∷ []) ≡ suc (length xs)
-length_one [] x = refl
-length_one (y ∷ ys) x = ap suc (length_one ys x)
-
 pub matched_more : {X Y : Type 0} (R : X → Y → Type 0) (xs : List X) (ys : List Y) (x : X) (y : Y) → AreMatched R xs ys → R x y → AreMatched R (xs ++ x ∷ []) (ys ++ y ∷ [])
 matched_more R xs ys x y h r = record {
-  long = length_one ys y ∙ ap suc h.long ∙ sym (length_one xs x);
+  long = omega (arith, length_push ys y, length_push xs x, h.long);
   at = λ n a b e f. elim (slice_get_end xs x a n e) [
     | inl old ↦ elim (slice_get_end ys y b n f) [
       | inl there ↦ h.at n a b old there
-      | inr here ↦ absurd (let lt = slice_get_below xs a n old in let m = here.0 in let l = h.long in omega arith)
+      | inr here ↦ absurd (let lt = slice_get_within xs n a old in let m = here.0 in let l = h.long in omega arith)
     ]
     | inr new ↦ elim (slice_get_end ys y b n f) [
-      | inl there ↦ absurd (let lt = slice_get_below ys b n there in let m = new.0 in let l = h.long in omega arith)
+      | inl there ↦ absurd (let lt = slice_get_within ys n b there in let m = new.0 in let l = h.long in omega arith)
       | inr here ↦ subst (λ z. R z b) new.1 (subst (R x) here.1 r)
     ]
   ];
@@ -119,12 +104,6 @@ mapped_read f xs i d lt = let x = get_or xs i d in ap f (get_or_default xs i d x
 pub mapped_twice : {X Y Z : Type 0} (g : Y → Z) (f : X → Y) (xs : List X) → map (λ x. g (f x)) xs ≡ map g (map f xs)
 mapped_twice g f [] = refl
 mapped_twice g f (x ∷ xs) = ap (λ zs. g (f x) ∷ zs) (mapped_twice g f xs)
-
--- a step of the loop over live rows
-pub views_step : {X Y Z W : Type 0} (f : X → Y) (g : Y → Z) (v : W → Z) (xs : List X) (i : ℕ) (d : X) (old new : List W) (w : W) → i < length xs → map v old ≡ map g (map f (take i xs)) → new ≡ old ++ w ∷ [] → v w ≡ g (f (get_or xs i d)) → map v new ≡ map g (map f (take (i + 1) xs))
-views_step f g v xs i d old new w lt h e r =
-    ap (map v) e ∙ map-append v old (w ∷ []) ∙ ap (λ zs. zs ++ v w ∷ []) h ∙ ap (λ z. map g (map f (take i xs)) ++ z ∷ []) r
-    ∙ sym (map-append g (map f (take i xs)) (f (get_or xs i d) ∷ [])) ∙ ap (map g) (sym (map-append f (take i xs) (get_or xs i d ∷ []))) ∙ ap (λ z. map g (map f z)) (sym (take_at_read xs i d lt).1)
 
 -- a slot of 16 bits leaves room below it for so many others
 pub few_step : (live : List FieldRow) (i : ℕ) (d : FieldRow) → AreSpaced (map field_of live) → i < length live → (get_or live i d).slot < 65536 → i + 1 ≤ 32766

@@ -1,6 +1,7 @@
 -- Rows are judged by computing: the first level, in it the first owner, and in it the first place where a demand is
 -- broken.
 use Rattle.std.proofs.Common.{◌≡◌, ℕ, zero, suc, ◌<◌, ◌⊎◌, inl, inr, Option, Some, None, refl, sym, ap, subst, arith}
+use Rattle.std.proofs.lemmas.Option.{same_Some}
 use Rattle.std.specs.Prelude.{option_map}
 use Rattle.fb_schema.specs.declared.fault.Code.{Code}
 use Rattle.fb_schema.specs.declared.fault.SchemaFault.{SchemaFault}
@@ -8,9 +9,6 @@ use Rattle.fb_schema.specs.Rows.{Rows}
 use Rattle.fb_schema.specs.Demands.{IsLegal, IsFirstIllegal, demands_at, first_code, part_of}
 use Rattle.fb_schema.proofs.Numbers.{lt_or_eq, le_or_lt}
 use Rattle.fb_schema.proofs.DemandLaws.{IsClear, levels_end, owners_end, places_end, past_levels, past_owners, past_places, is_legal, first_illegal}
-
-some_same : {A : Type 0} {x y : A} → Some x ≡ Some y → x ≡ y
-some_same h = cc
 
 -- what was found before, or what is found at n
 unfoldable pub or_at : {A : Type 0} → Option (A × ℕ) → ℕ → Option A → Option (A × ℕ)
@@ -34,7 +32,7 @@ unfolding or_at
 or_some (Some x) n found y h = inl h
 or_some None n None y h = absurd (cc)
 or_some {A} None n (Some a) y h =
-    let same : ◌≡◌ {A = A × ℕ} (a, n) y = some_same h in
+    let same : ◌≡◌ {A = A × ℕ} (a, n) y = same_Some _ _ h in
     inr (refl, ap (λ (z : A × ℕ). Some z.0) same, ap (λ (z : A × ℕ). z.1) same)
 
 module _ {A : Type 0} (f : ℕ → Option A) where
@@ -116,7 +114,7 @@ module _ (rows : Rows) where
 
   one_fault : (x : Option (((Code × ℕ) × ℕ) × ℕ)) (f : SchemaFault) → in_rows rows ≡ x → option_map fault_of x ≡ Some f → IsFirstIllegal rows f
   one_fault None f e h = absurd (cc)
-  one_fault (Some x) f e h = subst (IsFirstIllegal rows) (some_same h) (first_in x e)
+  one_fault (Some x) f e h = subst (IsFirstIllegal rows) (same_Some _ _ h) (first_in x e)
 
 -- rows without a fault are legal, and a fault is the first
 pub legal : {rows : Rows} → first_fault rows ≡ None → IsLegal rows

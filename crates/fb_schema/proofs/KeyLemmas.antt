@@ -1,6 +1,6 @@
 -- The keys of a list, one after another, and the test whether an item stood before.
-use Rattle.std.proofs.Common.{◌≡◌, ℕ, zero, suc, ◌+◌, ◌<◌, ◌==◌, inl, inr, Bool, true, false, ◌||◌, List, [], ◌∷◌, ◌++◌, length, slice_get, get_or, take, map, Option, Some, None, refl, sym, ◌∙◌, ap, subst, arith, zero-add, Decides}
-use Rattle.std.proofs.lemmas.List.{get_or-take, length-take-le, map-append, get_or-map, length-map}
+use Rattle.std.proofs.Common.{◌≡◌, ℕ, suc, ◌+◌, ◌<◌, ◌==◌, inl, inr, Bool, true, false, ◌||◌, List, [], ◌∷◌, ◌++◌, length, slice_get, get_or, take, map, Option, Some, None, refl, sym, ◌∙◌, ap, subst, arith, zero-add, Decides}
+use Rattle.std.proofs.lemmas.List.{get_or-take, length-take-le, map-append, get_or-map, length-map, take-map}
 use Rattle.std.proofs.lemmas.List.Folds.{Any-from_list_any, list_any-from_Any}
 use Rattle.std.proofs.lemmas.Option.{slice_get_within, get_or_from_slice_get}
 use Rattle.std.proofs.lemmas.Bool.Decides.{Decides-eqb}
@@ -29,11 +29,6 @@ numbered_more key xs i d es lt h =
 pub list_any-map : {X Y : Type 0} (p : Y → Bool) (f : X → Y) (xs : List X) → list_any p (map f xs) ≡ list_any (λ x. p (f x)) xs
 list_any-map p f [] = refl
 list_any-map p f (x ∷ xs) = ap (λ b. p (f x) || b) (list_any-map p f xs)
-
-pub take-map : {X Y : Type 0} (f : X → Y) (n : ℕ) (xs : List X) → take n (map f xs) ≡ map f (take n xs)
-take-map f zero xs = refl
-take-map f (suc n) [] = refl
-take-map f (suc n) (x ∷ xs) = ap (λ ys. f x ∷ ys) (take-map f n xs)
 
 -- rows in memory with their keys, and how the definitions see them: two are the same where their keys are alike
 module _ {X Y K : Type 0} (R : K → K → Ordering) (key : X → K) (f : X → Y) (same : Y → Y → Bool) (agrees : (a b : X) → Decides (same (f a) (f b)) (R (key a) (key b) ≡ Equal)) (xs : List X) (p : ℕ) (x : X) (at : slice_get xs p ≡ Some x) where

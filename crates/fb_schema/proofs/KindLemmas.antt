@@ -1,5 +1,6 @@
 -- What the kinds of legal rows name.
-use Rattle.std.proofs.Common.{◌≡◌, ℕ, ◌^◌, ◌<◌, ◌==◌, ℤ, pos, negsuc, Bool, true, false, not, ◌&&◌, ◌||◌, int_lt, List, [], ◌∷◌, map, length, slice_get, Option, Some, None, IsTrue, refl, sym, ◌∙◌, ap, subst, find, unsigned_abs, option_map, if◌then◌else◌}
+use Rattle.std.proofs.Common.{◌≡◌, ℕ, ◌^◌, ◌<◌, ◌==◌, ℤ, pos, negsuc, Bool, true, false, not, ◌&&◌, ◌||◌, int_lt, List, [], ◌∷◌, map, length, slice_get, Option, Some, None, IsTrue, refl, sym, ◌∙◌, ap, subst, find, unsigned_abs, option_map, if◌then◌else◌, arith}
+use Rattle.std.proofs.lemmas.Option.{slice_get_within, same_Some}
 use Rattle.std.proofs.lemmas.Bool.Decides.{Decides-eqb}
 use Rattle.std.specs.List.{list_any}
 use Rattle.std.specs.Option.{option_and_then}
@@ -19,7 +20,6 @@ use Rattle.fb_schema.specs.Rows.{Rows, Object, Enum, Member, entry_at, is_table,
 use Rattle.fb_schema.specs.Served.{IsAlignment, MemberHolds}
 use Rattle.fb_schema.proofs.DemandLaws.{clear_line}
 use Rattle.fb_schema.proofs.LegalLemmas.{legal_clear}
-use Rattle.fb_schema.proofs.UnionLemmas.{read_within}
 
 -- a vector has the kind of a vector of what its element alone would have
 pub vector_kind : (rows : Rows) (index : ℤ) (e : Element) → shape_kind rows index (Some (Vector e)) ≡ option_map vector_of (shape_kind rows index (Some (One e)))
@@ -69,20 +69,14 @@ aligned (pos n) h = power_of n (0 ∷ 1 ∷ 2 ∷ 3 ∷ 4 ∷ 5 ∷ 6 ∷ 7 ∷ 
 aligned (negsuc n) h = absurd (let w : false ≡ true = h in cc)
 
 asked_of_struct : (a b c : Bool) → (a && (b || not c)) ≡ false → a ≡ true → c ≡ true
-asked_of_struct true true c h e = absurd (let w : true ≡ false = h in cc)
-asked_of_struct true false true h e = refl
-asked_of_struct true false false h e = absurd (let w : true ≡ false = h in cc)
-asked_of_struct false b c h e = absurd (let w : false ≡ true = e in cc)
+asked_of_struct a b c h e = grind arith
 
 struct_there : (rows : Rows) → IsLegal rows → (k : ℕ) (o : Object) → slice_get rows.objects k ≡ Some o → o.is_struct ≡ true → IsStruct rows k
 struct_there rows legal k o at struct =
     let named = stands_before same_object_name rows.objects k o in
     let clear : first_code (object_demands o named) ≡ None = sym (ap (λ x. first_code (demands_of_object rows k 0 x)) at) ∙ legal_clear rows legal 0 k 0 in
     let line = clear_line (object_demands o named) clear 1 _ refl in
-    (read_within rows.objects k o at, subst (λ x. IsAlignment (align_in x)) (sym at) (aligned o.minalign (asked_of_struct o.is_struct (int_lt o.bytesize (pos 1)) (is_alignment o.minalign) line struct)))
-
-pub some_is : {X : Type 0} (x y : X) → Some x ≡ Some y → x ≡ y
-some_is x y e = let w : x ≡ y = cc in w
+    (slice_get_within rows.objects k o at, subst (λ x. IsAlignment (align_in x)) (sym at) (aligned o.minalign (asked_of_struct o.is_struct (int_lt o.bytesize (pos 1)) (is_alignment o.minalign) line struct)))
 
 module _ (rows : Rows) (legal : IsLegal rows) (struct table : ℕ → Kind) (of_struct : (k : ℕ) → IsStruct rows k → NamesObject rows (struct k)) (of_table : (k : ℕ) → IsTrue (is_table rows k) → NamesObject rows (table k)) where
   one_of : (k : ℕ) (o : Object) (b : Bool) (kind : Kind) → slice_get rows.objects k ≡ Some o → o.is_struct ≡ b → (if b then struct k else table k) ≡ kind → NamesObject rows kind
@@ -91,7 +85,7 @@ module _ (rows : Rows) (legal : IsLegal rows) (struct table : ℕ → Kind) (of_
 
   there : (k : ℕ) (o : Option Object) (kind : Kind) → slice_get rows.objects k ≡ o → object_kind (pos k) struct table o ≡ Some kind → NamesObject rows kind
   there k None kind at e = absurd (let w : None ≡ Some kind = e in cc)
-  there k (Some o) kind at e = one_of k o o.is_struct kind at refl (some_is (if o.is_struct then struct k else table k) kind e)
+  there k (Some o) kind at e = one_of k o o.is_struct kind at refl (same_Some (if o.is_struct then struct k else table k) kind e)
 
   pub object_there : (index : ℤ) (kind : Kind) → object_kind index struct table (entry_at rows.objects index) ≡ Some kind → NamesObject rows kind
   object_there (pos k) kind e = there k (slice_get rows.objects k) kind refl e
@@ -101,20 +95,20 @@ module _ (rows : Rows) (legal : IsLegal rows) (struct table : ℕ → Kind) (of_
 pub object_kind_is : (P : Kind → Type 0) (struct table : ℕ → Kind) → ((k : ℕ) → P (struct k)) → ((k : ℕ) → P (table k)) → (index : ℤ) (o : Option Object) (kind : Kind) → object_kind index struct table o ≡ Some kind → P kind
 object_kind_is P struct table a b index None kind e = absurd (let w : None ≡ Some kind = e in cc)
 object_kind_is P struct table a b (negsuc k) (Some o) kind e = absurd (let w : None ≡ Some kind = e in cc)
-object_kind_is P struct table a b (pos k) (Some o) kind e = subst P (some_is (if o.is_struct then struct k else table k) kind e) (go o.is_struct) where
+object_kind_is P struct table a b (pos k) (Some o) kind e = subst P (same_Some (if o.is_struct then struct k else table k) kind e) (go o.is_struct) where
   go : (c : Bool) → P (if c then struct k else table k)
   go true = a k
   go false = b k
 
 pub union_kind_is : (P : Kind → Type 0) (union : ℕ → Kind) → ((k : ℕ) → P (union k)) → (index : ℤ) (e : Option Enum) (kind : Kind) → union_kind index union e ≡ Some kind → P kind
 union_kind_is P union a index None kind h = absurd (let w : None ≡ Some kind = h in cc)
-union_kind_is P union a (pos k) (Some e) kind h = subst P (some_is (union k) kind h) (a k)
+union_kind_is P union a (pos k) (Some e) kind h = subst P (same_Some (union k) kind h) (a k)
 union_kind_is P union a (negsuc k) (Some e) kind h = absurd (let w : None ≡ Some kind = h in cc)
 
 module _ (rows : Rows) (union : ℕ → Kind) where
   in_enum : (k : ℕ) (e : Option Enum) (kind : Kind) → ((k : ℕ) → IsTrue (is_union rows k) → NamesUnion rows (union k)) → slice_get rows.enums k ≡ e → union_kind (pos k) union e ≡ Some kind → not (is_some_union e) ≡ false → NamesUnion rows kind
   in_enum k None kind of at h is = absurd (let w : None ≡ Some kind = h in cc)
-  in_enum k (Some e) kind of at h is = subst (NamesUnion rows) (some_is (union k) kind h) (of k (ap is_some_union at ∙ positive e.is_union is)) where
+  in_enum k (Some e) kind of at h is = subst (NamesUnion rows) (same_Some (union k) kind h) (of k (ap is_some_union at ∙ positive e.is_union is)) where
     positive : (b : Bool) → not b ≡ false → b ≡ true
     positive true h = refl
     positive false h = absurd (let w : true ≡ false = h in cc)
@@ -125,12 +119,12 @@ module _ (rows : Rows) (union : ℕ → Kind) where
 
 object_of_shape : (rows : Rows) → IsLegal rows → (index : ℤ) (s : Option Shape) (kind : Kind) → shape_kind rows index s ≡ Some kind → NamesObject rows kind
 object_of_shape rows legal index None kind e = absurd (let w : None ≡ Some kind = e in cc)
-object_of_shape rows legal index (Some (One (OfScalar s))) kind e = subst (NamesObject rows) (some_is (Scalar s) kind e) tt
-object_of_shape rows legal index (Some (One OfText)) kind e = subst (NamesObject rows) (some_is Text kind e) tt
+object_of_shape rows legal index (Some (One (OfScalar s))) kind e = subst (NamesObject rows) (same_Some (Scalar s) kind e) tt
+object_of_shape rows legal index (Some (One OfText)) kind e = subst (NamesObject rows) (same_Some Text kind e) tt
 object_of_shape rows legal index (Some (One OfObject)) kind e = object_there rows legal Struct Table (λ k h. h) (λ k h. h) index kind e
 object_of_shape rows legal index (Some (One OfUnion)) kind e = union_kind_is (NamesObject rows) Union (λ k. tt) index (entry_at rows.enums index) kind e
-object_of_shape rows legal index (Some (Vector (OfScalar s))) kind e = subst (NamesObject rows) (some_is (Scalars s) kind e) tt
-object_of_shape rows legal index (Some (Vector OfText)) kind e = subst (NamesObject rows) (some_is Texts kind e) tt
+object_of_shape rows legal index (Some (Vector (OfScalar s))) kind e = subst (NamesObject rows) (same_Some (Scalars s) kind e) tt
+object_of_shape rows legal index (Some (Vector OfText)) kind e = subst (NamesObject rows) (same_Some Texts kind e) tt
 object_of_shape rows legal index (Some (Vector OfObject)) kind e = object_there rows legal Structs Tables (λ k h. h) (λ k h. h) index kind e
 object_of_shape rows legal index (Some (Vector OfUnion)) kind e = union_kind_is (NamesObject rows) Unions (λ k. tt) index (entry_at rows.enums index) kind e
 object_of_shape rows legal index (Some (Array s)) kind e = absurd (let w : None ≡ Some kind = e in cc)
@@ -143,12 +137,12 @@ names_object rows legal ty kind e = object_of_shape rows legal ty.index (shape_o
 -- so is its union, where the type names no union that isn't there
 pub union_of_shape : (rows : Rows) (index : ℤ) (s : Option Shape) (kind : Kind) → shape_kind rows index s ≡ Some kind → (is_union_shape s && not (is_some_union (entry_at rows.enums index))) ≡ false → NamesUnion rows kind
 union_of_shape rows index None kind e h = absurd (let w : None ≡ Some kind = e in cc)
-union_of_shape rows index (Some (One (OfScalar s))) kind e h = subst (NamesUnion rows) (some_is (Scalar s) kind e) tt
-union_of_shape rows index (Some (One OfText)) kind e h = subst (NamesUnion rows) (some_is Text kind e) tt
+union_of_shape rows index (Some (One (OfScalar s))) kind e h = subst (NamesUnion rows) (same_Some (Scalar s) kind e) tt
+union_of_shape rows index (Some (One OfText)) kind e h = subst (NamesUnion rows) (same_Some Text kind e) tt
 union_of_shape rows index (Some (One OfObject)) kind e h = object_kind_is (NamesUnion rows) Struct Table (λ k. tt) (λ k. tt) index (entry_at rows.objects index) kind e
 union_of_shape rows index (Some (One OfUnion)) kind e h = union_there rows Union index kind (λ k h. h) e h
-union_of_shape rows index (Some (Vector (OfScalar s))) kind e h = subst (NamesUnion rows) (some_is (Scalars s) kind e) tt
-union_of_shape rows index (Some (Vector OfText)) kind e h = subst (NamesUnion rows) (some_is Texts kind e) tt
+union_of_shape rows index (Some (Vector (OfScalar s))) kind e h = subst (NamesUnion rows) (same_Some (Scalars s) kind e) tt
+union_of_shape rows index (Some (Vector OfText)) kind e h = subst (NamesUnion rows) (same_Some Texts kind e) tt
 union_of_shape rows index (Some (Vector OfObject)) kind e h = object_kind_is (NamesUnion rows) Structs Tables (λ k. tt) (λ k. tt) index (entry_at rows.objects index) kind e
 union_of_shape rows index (Some (Vector OfUnion)) kind e h = union_there rows Unions index kind (λ k h. h) e h
 union_of_shape rows index (Some (Array s)) kind e h = absurd (let w : None ≡ Some kind = e in cc)

@@ -1,5 +1,5 @@
 -- The live fields of legal rows have a kind.
-use Rattle.std.proofs.Common.{◌≡◌, ℕ, ℤ, pos, negsuc, Bool, true, false, not, ◌&&◌, ◌||◌, List, slice_get, Option, Some, None, is_none, length, option_map, option_and_then, is_some, refl, sym, ◌∙◌, ap, subst}
+use Rattle.std.proofs.Common.{◌≡◌, ℕ, ℤ, pos, negsuc, Bool, true, false, not, ◌&&◌, ◌||◌, List, slice_get, Option, Some, None, is_none, length, option_map, option_and_then, is_some, refl, sym, ◌∙◌, ap, subst, arith}
 use Rattle.fb_schema.specs.declared.kinds.Kind.{Kind}
 use Rattle.fb_schema.specs.declared.kinds.Kind.TheVariants.{Scalar, Text, Struct, Table, Union, Scalars, Texts, Structs, Tables, Unions}
 use Rattle.fb_schema.specs.declared.kinds.Element.TheVariants.{Scalar as OfScalar, Text as OfText, Object as OfObject, Union as OfUnion}
@@ -43,9 +43,7 @@ shape_has_kind rows index (Some (Vector OfObject)) h o u = object_has_kind rows 
 shape_has_kind rows index (Some (Vector OfUnion)) h o u = union_has_kind rows index Unions u
 
 neither : (a b : Bool) → (a || not b) ≡ false → b ≡ true
-neither true b h = absurd (let w : true ≡ false = h in cc)
-neither false true h = refl
-neither false false h = absurd (let w : true ≡ false = h in cc)
+neither a b h = grind arith
 
 pub field_has_kind : (rows : Rows) → IsLegal rows → (k i : ℕ) (o : Object) (g : Field) → IsRowOf rows k i o g → (kind : Kind) × (kind_of rows g.ty ≡ Some kind)
 unfolding kind_of names_no_object names_no_union

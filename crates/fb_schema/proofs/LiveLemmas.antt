@@ -4,7 +4,7 @@ use Rattle.std.proofs.lemmas.Cmp.{nat_cmp_total, tied_itself}
 use Rattle.std.proofs.lemmas.List.{length-map, get_or-map}
 use Rattle.std.proofs.lemmas.List.Sorted.{IsPermutation-keeps, IsPermutation-map, Contains-permutation, IsPermutation-sym}
 use Rattle.std.proofs.lemmas.List.Edits.{swapped_from_swap}
-use Rattle.std.proofs.lemmas.List.Elements.{Contains-get_or}
+use Rattle.std.proofs.lemmas.List.Elements.{Contains-get_or, All-contains, All-filter, All-contains_itself}
 use Rattle.std.proofs.lemmas.Bool.Decides.{Decides-eqb}
 use borrow.Author.Tests.{leb-true, le-leb}
 use Rattle.std.specs.List.{Contains, swap}
@@ -136,26 +136,14 @@ is_by_slot xs ys apart p up =
 -- Live fields.
 filter-map : {X Y : Type 0} (p : Y → Bool) (f : X → Y) (xs : List X) → filter p (map f xs) ≡ map f (filter (λ x. p (f x)) xs)
 filter-map p f [] = refl
-filter-map p f (x ∷ xs) = go (p (f x)) (filter-map p f xs) where
-  go : (b : Bool) → filter p (map f xs) ≡ map f (filter (λ x. p (f x)) xs) → cond b (f x ∷ filter p (map f xs)) (filter p (map f xs)) ≡ map f (cond b (x ∷ filter (λ x. p (f x)) xs) (filter (λ x. p (f x)) xs))
-  go true ih = ap (λ ys. f x ∷ ys) ih
-  go false ih = ih
-
-shorter_cond : {X : Type 0} (b : Bool) (x : X) (ys xs : List X) → length ys ≤ length xs → length (cond b (x ∷ ys) ys) ≤ length (x ∷ xs)
-shorter_cond true x ys xs h = omega arith
-shorter_cond false x ys xs h = omega arith
+filter-map p f (x ∷ xs) = grind (arith, filter-map p f xs)
 
 pub shorter : {X : Type 0} (p : X → Bool) (xs : List X) → length (filter p xs) ≤ length xs
 shorter p [] = omega arith
-shorter p (x ∷ xs) = shorter_cond (p x) x (filter p xs) xs (shorter p xs)
-
-contains_cond : (b : Bool) (f z : Field) (gs fs : List Field) → (Contains gs z → Contains fs z) → Contains (cond b (f ∷ gs) gs) z → Contains (f ∷ fs) z
-contains_cond true f z gs fs ih h = elim (contains_cases f z gs h) [ inl e ↦ subst (Contains (f ∷ fs)) e (contains_head f fs) | inr t ↦ contains_tail f z fs (ih t) ]
-contains_cond false f z gs fs ih h = contains_tail f z fs (ih h)
+shorter p (x ∷ xs) = grind (arith, shorter p xs)
 
 pub filter_contains : (p : Field → Bool) (fs : List Field) (z : Field) → Contains (filter p fs) z → Contains fs z
-filter_contains p [] z h = h
-filter_contains p (f ∷ fs) z h = contains_cond (p f) f z (filter p fs) fs (filter_contains p fs z) h
+filter_contains p fs z h = All-contains (Contains fs) (filter p fs) z (All-filter p (Contains fs) fs (All-contains_itself fs)) h
 
 apart_cons : (f : Field) (gs : List Field) → ((g : Field) → Contains gs g → f.slot ≢ g.slot) → AreApart gs → AreApart (f ∷ gs)
 apart_cons f gs head tail = record { at = go } where

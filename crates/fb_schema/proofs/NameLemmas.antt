@@ -85,8 +85,7 @@ live_names fields apart one i j d lt within e =
     omega arith
 
 live_list : (b : Bool) (xs : List Field) → b ≡ false → (if b then [] else xs) ≡ xs
-live_list true xs e = absurd (let w : true ≡ false = e in cc)
-live_list false xs e = refl
+live_list b xs e = grind arith
 
 named_alike : (rows : Rows) (live : List Field) (g : Field) (f : Live) (kind : Option Kind) → option_map (live_as rows live g) kind ≡ Some f → f.name ≡ g.name
 named_alike rows live g f None e = absurd (let w : None ≡ Some f = e in cc)

@@ -6,15 +6,14 @@ use Rattle.std.specs.Slice.{IsItemAt}
 use Rattle.std.proofs.Math.Seq.{drop-length}
 use Rattle.std.proofs.Math.ListN.{drop_of_length-le}
 use Rattle.std.proofs.lemmas.Bool.Decides.{nat_tests}
-use Rattle.std.proofs.lemmas.Option.{slice_get-get_or}
+use Rattle.std.proofs.lemmas.Option.{slice_get-get_or, slice_get_within, get_or_from_slice_get}
 use Rattle.std.proofs.lemmas.List.{at_drop_more, length-map, get_or-map}
 use Rattle.std.proofs.lemmas.Grind.{common_steps}
 use Rattle.fb_schema.specs.Index.{AreNextRequired}
 use Rattle.fb_schema.specs.Live.{Live, live_in, live_fields, next_required_of}
 use Rattle.fb_schema.specs.Matched.{AreMatched}
 use Rattle.fb_schema.specs.Rows.{Rows, Object, is_table, is_some_table}
-use Rattle.fb_schema.proofs.IndexLemmas.{slice_get_below}
-use Rattle.fb_schema.proofs.Numbers.{lt_or_eq, slice_get_reads, get_or_default}
+use Rattle.fb_schema.proofs.Numbers.{lt_or_eq}
 
 abbrev pub is_required : Live → Bool
 is_required f = f.required
@@ -78,8 +77,8 @@ next_is fs i lt = go (position_or_len is_required (drop i fs)) (length (drop i f
 module _ (fs : List Live) (places : List ℕ) (i : ℕ) (all : AreNextRequired fs places) (place : ℕ) (at : slice_get places i ≡ Some place) where
   place_is : (i < length fs) × (place ≡ first_from fs i)
   place_is =
-      let lt = slice_get_below places place i at in
-      let got : place ≡ get_or places i 0 = slice_get_reads places i place at ∙ get_or_default places i place 0 lt in
+      let lt = slice_get_within places i place at in
+      let got : place ≡ get_or places i 0 = sym (get_or_from_slice_get places i place 0 at) in
       let here : i < length fs = omega (arith, all.long) in
       (here, got ∙ all.at i here)
 

@@ -95,13 +95,7 @@ module _ {K : Type 0} (R : K → K → Ordering) (o : IsTotalOrder R) where
   turned : (a b : K) → R a b ≡ Equal → R b a ≡ Equal
   turned a b e = o.antisymm b a ∙ ap ordering_reverse e
 
-  tied : (a b c : K) → R a b ≡ Equal → R b c ≡ Equal → R a c ≡ Equal
-  tied a b c e f = o.congr a b c e ∙ f
-
   module _ (keys : List K) (order : List (K × ℕ)) (h : IsOrderOf R keys order) where
-    pub as_long : length order ≡ length keys
-    as_long = length_permutation _ _ h.same ∙ length-numbered keys 0
-
     -- each key stands in the order
     pub stands : (i : ℕ) (d : K) → i < length keys → (u : ℕ) × (u < length order) × (get_or order u (get_or keys i d, i) ≡ (get_or keys i d, i))
     stands i d lt =

@@ -1,5 +1,7 @@
 -- The fields of the structs of legal rows lie in them.
 use Rattle.std.proofs.Common.{◌≡◌, ◌<◌, ℕ, suc, ◌+◌, ◌*◌, ◌≤◌, ℤ, pos, negsuc, ◌+ℤ◌, ◌*ℤ◌, Bool, true, false, not, ◌&&◌, ◌||◌, int_lt, List, [], length, slice_get, Option, Some, None, refl, sym, ◌∙◌, ap, subst, arith, unsigned_abs, if◌then◌else◌}
+use Rattle.fb_schema.proofs.Numbers.{not_false}
+use Rattle.std.proofs.lemmas.Option.{slice_get_within, same_Some}
 use Rattle.std.specs.Option.{option_and_then, option_map}
 use Rattle.fb_schema.specs.declared.kinds.Kind.{Kind}
 use Rattle.fb_schema.specs.declared.kinds.Kind.TheVariants.{Scalar, Struct, Table, Scalars, Structs, Tables}
@@ -14,8 +16,6 @@ use Rattle.fb_schema.specs.Parts.{PartFits, part_at, part_count, part_kind, part
 use Rattle.fb_schema.specs.Rows.{Field, Object, Rows, entry_at, is_some_table}
 use Rattle.fb_schema.proofs.DemandLaws.{clear_line}
 use Rattle.fb_schema.proofs.LegalLemmas.{legal_clear}
-use Rattle.fb_schema.proofs.UnionLemmas.{read_within}
-use Rattle.fb_schema.proofs.KindLemmas.{some_is}
 use Rattle.std.proofs.lemmas.Bool.Decides.{nat_tests}
 
 -- the field at place i of struct k, with its object
@@ -83,7 +83,7 @@ module _ (rows : Rows) (legal : IsLegal rows) (bytes : ℤ) (place count : ℕ) 
   struct_fits j o all times at struct h =
       let m = struct_bytes rows legal j o at struct in
       let size : struct_size rows j ≡ m.0 = ap size_in at ∙ ap unsigned_abs m.1 in
-      (read_within rows.objects j o at, subst (λ n. place + count * n ≤ unsigned_abs bytes) (sym size) (ends m.0 (all o.bytesize) (ap all m.1 ∙ times m.0) h))
+      (slice_get_within rows.objects j o at, subst (λ n. place + count * n ≤ unsigned_abs bytes) (sym size) (ends m.0 (all o.bytesize) (ap all m.1 ∙ times m.0) h))
 
   module _ (struct table : ℕ → Kind) (all : ℤ → ℤ) (times : (m : ℕ) → all (pos m) ≡ pos (count * m)) (fits : (j : ℕ) → (j < length rows.objects) × (place + count * struct_size rows j ≤ unsigned_abs bytes) → Fits (struct j)) where
     one_object : (kind : Kind) (j : ℕ) (o : Object) (b : Bool) → slice_get rows.objects j ≡ Some o → o.is_struct ≡ b → (if b then struct j else table j) ≡ kind → not b ≡ false → EndsAt (all o.bytesize) → Fits kind
@@ -92,7 +92,7 @@ module _ (rows : Rows) (legal : IsLegal rows) (bytes : ℤ) (place count : ℕ) 
 
     at_index : (kind : Kind) (j : ℕ) (o : Option Object) → slice_get rows.objects j ≡ o → object_kind (pos j) struct table o ≡ Some kind → is_some_table o ≡ false → EndsAt (all (bytes_in o)) → Fits kind
     at_index kind j None at e no_table h = absurd (let w : None ≡ Some kind = e in cc)
-    at_index kind j (Some o) at e no_table h = one_object kind j o o.is_struct at refl (some_is (if o.is_struct then struct j else table j) kind e) no_table h
+    at_index kind j (Some o) at e no_table h = one_object kind j o o.is_struct at refl (same_Some (if o.is_struct then struct j else table j) kind e) no_table h
 
     of_object : (index : ℤ) (kind : Kind) → object_kind index struct table (entry_at rows.objects index) ≡ Some kind → is_some_table (entry_at rows.objects index) ≡ false → EndsAt (all (bytes_in (entry_at rows.objects index))) → Fits kind
     of_object (pos j) kind e no_table h = at_index kind j (slice_get rows.objects j) refl e no_table h
@@ -105,14 +105,14 @@ module _ (rows : Rows) (legal : IsLegal rows) (index bytes : ℤ) (place length 
 
   of_one : (e : Element) (kind : Kind) → is_inline (Some (One e)) ≡ true → shape_kind rows index (Some (One e)) ≡ Some kind → (is_object (Some (One e)) && is_some_table (entry_at rows.objects index)) ≡ false
       → EndsAt rows legal bytes place 1 (element_bytes (entry_at rows.objects index) e) → Fits rows legal bytes place 1 kind
-  of_one (OfScalar s) kind inline e no_table h = subst (Fits rows legal bytes place 1) (some_is (Scalar s) kind e) (let w = ends rows legal bytes place 1 (scalar_size s) (pos (scalar_size s)) (one_times (scalar_size s)) h in omega (arith, w))
+  of_one (OfScalar s) kind inline e no_table h = subst (Fits rows legal bytes place 1) (same_Some (Scalar s) kind e) (let w = ends rows legal bytes place 1 (scalar_size s) (pos (scalar_size s)) (one_times (scalar_size s)) h in omega (arith, w))
   of_one OfText kind inline e no_table h = absurd (let w : false ≡ true = inline in cc)
   of_one OfObject kind inline e no_table h = of_object rows legal bytes place 1 Struct Table (λ z. z) one_times (λ j f. (f.0, omega (arith, f.1))) index kind e no_table h
   of_one OfUnion kind inline e no_table h = absurd (let w : false ≡ true = inline in cc)
 
   of_array : (e : Element) (kind : Kind) → is_inline (Some (Array e)) ≡ true → shape_kind rows index (Some (Vector e)) ≡ Some kind → (is_object (Some (Array e)) && is_some_table (entry_at rows.objects index)) ≡ false
       → EndsAt rows legal bytes place length (pos length *ℤ element_bytes (entry_at rows.objects index) e) → Fits rows legal bytes place length kind
-  of_array (OfScalar s) kind inline e no_table h = subst (Fits rows legal bytes place length) (some_is (Scalars s) kind e) (ends rows legal bytes place length (scalar_size s) (pos length *ℤ pos (scalar_size s)) refl h)
+  of_array (OfScalar s) kind inline e no_table h = subst (Fits rows legal bytes place length) (same_Some (Scalars s) kind e) (ends rows legal bytes place length (scalar_size s) (pos length *ℤ pos (scalar_size s)) refl h)
   of_array OfText kind inline e no_table h = absurd (let w : false ≡ true = inline in cc)
   of_array OfObject kind inline e no_table h = of_object rows legal bytes place length Structs Tables (λ z. pos length *ℤ z) (λ m. refl) (λ j f. f) index kind e no_table h
   of_array OfUnion kind inline e no_table h = absurd (let w : false ≡ true = inline in cc)
@@ -123,10 +123,6 @@ module _ (rows : Rows) (legal : IsLegal rows) (index bytes : ℤ) (place length 
   of_shape (Some (One x)) kind inline e no_table h = of_one x kind inline e no_table h
   of_shape (Some (Vector x)) kind inline e no_table h = absurd (let w : false ≡ true = inline in cc)
   of_shape (Some (Array x)) kind inline e no_table h = of_array x kind inline e no_table h
-
-not_false : (b : Bool) → not b ≡ false → b ≡ true
-not_false true h = refl
-not_false false h = absurd (let w : true ≡ false = h in cc)
 
 -- what a part is of
 part_is : (rows : Rows) (f : Field) (kind : Option Kind) (part : PartView) → part_kind rows f.ty.index (shape_of f.ty) ≡ kind

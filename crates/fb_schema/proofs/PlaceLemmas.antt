@@ -1,5 +1,5 @@
 -- Keys are found by their order.
-use Rattle.std.proofs.Common.{◌≡◌, ℕ, ◌<◌, inl, inr, Bool, false, List, length, get_or, map, Option, Some, None, refl, sym, ◌∙◌, ap, arith, position, Decides}
+use Rattle.std.proofs.Common.{◌≡◌, ℕ, ◌<◌, inl, inr, Bool, false, List, length, get_or, map, Option, Some, None, sym, ◌∙◌, ap, arith, position, Decides}
 use Rattle.std.proofs.lemmas.List.{length-map, get_or-map}
 use Rattle.std.specs.Cmp.{IsTotalOrder}
 use Rattle.std.specs.List.{HoldsAt}
@@ -14,9 +14,7 @@ use Rattle.fb_schema.proofs.PositionLemmas.{found_position, no_position}
 use Rattle.fb_schema.proofs.Search.{search_missed}
 
 not_less_first : (p q : Ordering) → is_lt (ordering_then p q) ≡ false → is_lt p ≡ false
-not_less_first Less q h = h
-not_less_first Equal q h = refl
-not_less_first Greater q h = refl
+not_less_first p q h = grind arith
 
 module _ {K : Type 0} (R : K → K → Ordering) (o : IsTotalOrder R) (keys : List K) (order : List (K × ℕ)) (h : IsOrderOf R keys order) (key : K) where
   keys_rise : IsSortedBy (λ (a b : K × ℕ). is_lt (R a.0 b.0)) order

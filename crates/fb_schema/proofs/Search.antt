@@ -24,8 +24,7 @@ search_missed R o key xs x at up split k d lt tied =
     ]
 
 pub not_true : (b : Bool) → (b ≡ true → ⊥) → b ≡ false
-not_true true h = absurd (h refl)
-not_true false h = refl
+not_true b h = grind arith
 
 pub nat_tied : (x y : ℕ) → nat_cmp x y ≡ Equal → x ≡ y
 nat_tied x y h = by_ranked (x < y) (x ≡ y) (y < x) (nat_cmp x y) (ranked x y _ refl) (λ e lt. absurd (let w : Less ≡ Equal = sym e ∙ h in cc)) (λ _ e. e) (λ e lt. absurd (let w : Greater ≡ Equal = sym e ∙ h in cc))

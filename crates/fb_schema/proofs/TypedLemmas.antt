@@ -1,5 +1,7 @@
 -- What the live fields of legal rows give.
 use Rattle.std.proofs.Common.{◌≡◌, ℕ, zero, suc, ◌+◌, ◌-◌, ◌*◌, ◌/◌, ◌<◌, ◌≤◌, ◌==◌, ◌%◌, nat_lt, inl, inr, ℤ, Bool, true, false, not, ◌&&◌, ◌||◌, List, [], ◌∷◌, slice_get, filter, Option, Some, None, refl, sym, ◌∙◌, ap, subst, arith, cond, if◌then◌else◌}
+use Rattle.std.proofs.lemmas.Option.{same_Some}
+use Rattle.std.proofs.lemmas.List.Folds.{Any-from_list_any}
 use Rattle.std.proofs.lemmas.Bool.Decides.{Decides-eqb, nat_tests}
 use Rattle.std.specs.List.{Contains, list_any}
 use Rattle.fb_schema.specs.declared.kinds.Kind.{Kind}
@@ -16,21 +18,16 @@ use Rattle.fb_schema.specs.Live.{Live, live_fields, live_rows, live_as, by_slot,
 use Rattle.fb_schema.specs.Rows.{Rows, Field, Object, entry_at, is_some_union}
 use Rattle.fb_schema.specs.Served.{IsAlignment, KindHolds, HasTypeField, IsTyped, IsServed}
 use Rattle.fb_schema.proofs.DemandLaws.{clear_line}
-use Rattle.fb_schema.proofs.KindLemmas.{NamesObject, NamesUnion, names_object, union_of_shape, object_kind_is, union_kind_is, some_is, member_holds}
+use Rattle.fb_schema.proofs.KindLemmas.{NamesObject, NamesUnion, names_object, union_of_shape, object_kind_is, union_kind_is, member_holds}
 use Rattle.fb_schema.proofs.Kinded.{listed, row_of, field_sized}
 use Rattle.fb_schema.proofs.LiveLemmas.{Rises, sorted_members}
 use Rattle.fb_schema.proofs.LookLemmas.{within_widest}
-use Rattle.fb_schema.proofs.Numbers.{le_or_lt, lt_or_eq}
+use Rattle.fb_schema.proofs.Numbers.{le_or_lt, lt_or_eq, not_false}
 use Rattle.fb_schema.proofs.PartLemmas.{parts_fit}
 use Rattle.fb_schema.proofs.RowLemmas.{contains_at, place_in, rises_at, IsRowOf, row_in, asked, live_line, rows_rise}
 
--- Places of lists.
 any_found : {X : Type 0} (p : X → Bool) (xs : List X) → list_any p xs ≡ true → (x : X) × Contains xs x × (p x ≡ true)
-any_found p [] h = absurd (let w : false ≡ true = h in cc)
-any_found {X} p (x ∷ xs) h = go (p x) refl h (any_found p xs) where
-  go : (b : Bool) → p x ≡ b → (b || list_any p xs) ≡ true → (list_any p xs ≡ true → (y : X) × Contains xs y × (p y ≡ true)) → (y : X) × Contains (x ∷ xs) y × (p y ≡ true)
-  go true e h later = (x, (0, omega arith, refl), e)
-  go false e h later = let w = later h in (w.0, (suc w.1.0, omega (arith, w.1.1), w.1.2), w.2)
+any_found p xs h = let a = Any-from_list_any p xs h in (a.1, (a.0, a.2, a.3), a.4)
 
 filter_keeps : {X : Type 0} (p : X → Bool) (xs : List X) (k : ℕ) (z : X) → slice_get xs k ≡ Some z → p z ≡ true → Contains (filter p xs) z
 filter_keeps p [] k z e q = absurd (let w : None ≡ Some z = e in cc)
@@ -126,10 +123,7 @@ size_of_type rows ForUnion = refl
 size_of_type rows ForUnions = refl
 
 three : (a b c : Bool) → (a && b && c) ≡ true → (a ≡ true) × (b ≡ true) × (c ≡ true)
-three true true true h = (refl, refl, refl)
-three true true false h = absurd (let w : false ≡ true = h in cc)
-three true false c h = absurd (let w : false ≡ true = h in cc)
-three false b c h = absurd (let w : false ≡ true = h in cc)
+three a b c h = grind arith
 
 -- a live row has a place among the live rows
 live_place : (o : Object) (h : Field) → o.is_struct ≡ false → Contains o.fields h → is_live h ≡ true → (j : ℕ) × (slice_get (live_rows o) j ≡ Some h)
@@ -161,20 +155,16 @@ HasAsked byte vector (Union e) = byte ≡ true
 HasAsked byte vector (Unions e) = vector ≡ true
 HasAsked byte vector _ = Unit {0}
 
-affirmed : (b : Bool) → not b ≡ false → b ≡ true
-affirmed true h = refl
-affirmed false h = absurd (let w : true ≡ false = h in cc)
-
 has_asked : (rows : Rows) (byte vector : Bool) (index : ℤ) (s : Option Shape) (kind : Kind) → shape_kind rows index s ≡ Some kind → lacks_type_field s byte vector ≡ false → HasAsked byte vector kind
 has_asked rows byte vector index None kind e h = absurd (let w : None ≡ Some kind = e in cc)
-has_asked rows byte vector index (Some (One (OfScalar s))) kind e h = subst (HasAsked byte vector) (some_is (Scalar s) kind e) tt
-has_asked rows byte vector index (Some (One OfText)) kind e h = subst (HasAsked byte vector) (some_is Text kind e) tt
+has_asked rows byte vector index (Some (One (OfScalar s))) kind e h = subst (HasAsked byte vector) (same_Some (Scalar s) kind e) tt
+has_asked rows byte vector index (Some (One OfText)) kind e h = subst (HasAsked byte vector) (same_Some Text kind e) tt
 has_asked rows byte vector index (Some (One OfObject)) kind e h = object_kind_is (HasAsked byte vector) Struct Table (λ k. tt) (λ k. tt) index (entry_at rows.objects index) kind e
-has_asked rows byte vector index (Some (One OfUnion)) kind e h = union_kind_is (HasAsked byte vector) Union (λ k. affirmed byte h) index (entry_at rows.enums index) kind e
-has_asked rows byte vector index (Some (Vector (OfScalar s))) kind e h = subst (HasAsked byte vector) (some_is (Scalars s) kind e) tt
-has_asked rows byte vector index (Some (Vector OfText)) kind e h = subst (HasAsked byte vector) (some_is Texts kind e) tt
+has_asked rows byte vector index (Some (One OfUnion)) kind e h = union_kind_is (HasAsked byte vector) Union (λ k. not_false byte h) index (entry_at rows.enums index) kind e
+has_asked rows byte vector index (Some (Vector (OfScalar s))) kind e h = subst (HasAsked byte vector) (same_Some (Scalars s) kind e) tt
+has_asked rows byte vector index (Some (Vector OfText)) kind e h = subst (HasAsked byte vector) (same_Some Texts kind e) tt
 has_asked rows byte vector index (Some (Vector OfObject)) kind e h = object_kind_is (HasAsked byte vector) Structs Tables (λ k. tt) (λ k. tt) index (entry_at rows.objects index) kind e
-has_asked rows byte vector index (Some (Vector OfUnion)) kind e h = union_kind_is (HasAsked byte vector) Unions (λ k. affirmed vector h) index (entry_at rows.enums index) kind e
+has_asked rows byte vector index (Some (Vector OfUnion)) kind e h = union_kind_is (HasAsked byte vector) Unions (λ k. not_false vector h) index (entry_at rows.enums index) kind e
 has_asked rows byte vector index (Some (Array s)) kind e h = absurd (let w : None ≡ Some kind = e in cc)
 
 kind_typed : (fs : List Live) (i slot : ℕ) (byte vector : Bool) (kind : Kind) → HasAsked byte vector kind → (byte ≡ true → HasTypeField fs i slot (Scalar UType)) → (vector ≡ true → HasTypeField fs i slot (Scalars UType)) → IsTyped fs i slot kind
@@ -198,9 +188,7 @@ field_typed rows legal k i f e =
 
 -- Slots.
 asked_of_slot : (a b c : Bool) → (not a || b || c) ≡ false → (a ≡ true) × (b ≡ false)
-asked_of_slot false b c h = absurd (let w : true ≡ false = h in cc)
-asked_of_slot true true c h = absurd (let w : true ≡ false = h in cc)
-asked_of_slot true false c h = (refl, refl)
+asked_of_slot a b c h = grind arith
 
 abbrev IsSlot : Field → Type 0
 IsSlot f = (f.slot % 2 ≡ 0) × (4 ≤ f.slot)

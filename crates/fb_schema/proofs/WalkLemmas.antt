@@ -89,9 +89,7 @@ module _ (rows : Rows) (bytesize : ℤ) (fields : List FieldRow) where
 
 -- Tables.
 pub or_false : (a b c : Bool) → (a || b || c) ≡ false → c ≡ false
-or_false true b c e = absurd (let w : true ≡ false = e in cc)
-or_false false true c e = absurd (let w : true ≡ false = e in cc)
-or_false false false c e = e
+or_false a b c e = grind arith
 
 module _ (rows : Rows) (fields : List FieldRow) where
   table_asked_at : ℕ → FieldRow → List Demand
