@@ -33,14 +33,11 @@ union_has_kind rows (pos n) union h = go (slice_get rows.enums n) h where
 shape_has_kind : (rows : Rows) (index : ℤ) (s : Option Shape) → is_supported s ≡ true → (is_object s && is_none (entry_at rows.objects index)) ≡ false → (is_union_shape s && not (is_some_union (entry_at rows.enums index))) ≡ false → (k : Kind) × (shape_kind rows index s ≡ Some k)
 shape_has_kind rows index None h o u = absurd (let w : false ≡ true = h in cc)
 shape_has_kind rows index (Some (Array e)) h o u = absurd (let w : false ≡ true = h in cc)
-shape_has_kind rows index (Some (One (OfScalar s))) h o u = (Scalar s, refl)
-shape_has_kind rows index (Some (One OfText)) h o u = (Text, refl)
 shape_has_kind rows index (Some (One OfObject)) h o u = object_has_kind rows index Struct Table o
 shape_has_kind rows index (Some (One OfUnion)) h o u = union_has_kind rows index Union u
-shape_has_kind rows index (Some (Vector (OfScalar s))) h o u = (Scalars s, refl)
-shape_has_kind rows index (Some (Vector OfText)) h o u = (Texts, refl)
 shape_has_kind rows index (Some (Vector OfObject)) h o u = object_has_kind rows index Structs Tables o
 shape_has_kind rows index (Some (Vector OfUnion)) h o u = union_has_kind rows index Unions u
+shape_has_kind rows index s h o u = (_, refl)
 
 neither : (a b : Bool) → (a || not b) ≡ false → b ≡ true
 neither a b h = grind arith

@@ -38,12 +38,9 @@ object_told rows (pos k) (Some o) = go o.is_struct where
 
 shape_told : (rows : Rows) (index : ℤ) (s : Option Shape) → is_for_member s ≡ true → kind_to (target_of rows (shape_kind rows index s)) ≡ shape_kind rows index s
 shape_told rows index None h = refl
-shape_told rows index (Some (One (OfScalar s))) h = absurd (let w : false ≡ true = h in cc)
 shape_told rows index (Some (One OfText)) h = refl
 shape_told rows index (Some (One OfObject)) h = object_told rows index (entry_at rows.objects index)
-shape_told rows index (Some (One OfUnion)) h = absurd (let w : false ≡ true = h in cc)
-shape_told rows index (Some (Vector e)) h = absurd (let w : false ≡ true = h in cc)
-shape_told rows index (Some (Array e)) h = absurd (let w : false ≡ true = h in cc)
+shape_told rows index s h = absurd (let w : false ≡ true = h in cc)
 
 type_told : (rows : Rows) (m : Member) → is_for_member (shape_of m.ty) ≡ true → kind_to (target_of rows (kind_of rows m.ty)) ≡ kind_of rows m.ty
 unfolding kind_of

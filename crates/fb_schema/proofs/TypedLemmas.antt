@@ -1,6 +1,6 @@
 -- What the live fields of legal rows give.
-use Rattle.std.proofs.Common.{◌≡◌, ℕ, zero, suc, ◌+◌, ◌-◌, ◌*◌, ◌/◌, ◌<◌, ◌≤◌, ◌==◌, ◌%◌, nat_lt, inl, inr, ℤ, Bool, true, false, not, ◌&&◌, ◌||◌, List, [], ◌∷◌, slice_get, filter, Option, Some, None, refl, sym, ◌∙◌, ap, subst, arith, cond, if◌then◌else◌}
-use Rattle.std.proofs.lemmas.Option.{same_Some}
+use Rattle.std.proofs.Common.{◌≡◌, ℕ, zero, suc, ◌+◌, ◌-◌, ◌*◌, ◌/◌, ◌<◌, ◌≤◌, ◌==◌, ◌%◌, nat_lt, inl, inr, ℤ, Bool, true, false, not, ◌&&◌, ◌||◌, List, [], ◌∷◌, slice_get, filter, Option, Some, None, refl, sym, ◌∙◌, ap, subst, arith, cond, if◌then◌else◌, IfSome}
+use Rattle.std.proofs.lemmas.Option.{same_Some, MatchOption-at_some}
 use Rattle.std.proofs.lemmas.List.Folds.{Any-from_list_any}
 use Rattle.std.proofs.lemmas.Bool.Decides.{Decides-eqb, nat_tests}
 use Rattle.std.specs.List.{Contains, list_any}
@@ -18,7 +18,7 @@ use Rattle.fb_schema.specs.Live.{Live, live_fields, live_rows, live_as, by_slot,
 use Rattle.fb_schema.specs.Rows.{Rows, Field, Object, entry_at, is_some_union}
 use Rattle.fb_schema.specs.Served.{IsAlignment, KindHolds, HasTypeField, IsTyped, IsServed}
 use Rattle.fb_schema.proofs.DemandLaws.{clear_line}
-use Rattle.fb_schema.proofs.KindLemmas.{NamesObject, NamesUnion, names_object, union_of_shape, object_kind_is, union_kind_is, member_holds}
+use Rattle.fb_schema.proofs.KindLemmas.{NamesObject, NamesUnion, names_object, union_of_shape, object_kinds, union_kinds, member_holds, power_of}
 use Rattle.fb_schema.proofs.Kinded.{listed, row_of, field_sized}
 use Rattle.fb_schema.proofs.LiveLemmas.{Rises, sorted_members}
 use Rattle.fb_schema.proofs.LookLemmas.{within_widest}
@@ -49,39 +49,27 @@ place_below fs r i j f g a b lt = elim (le_or_lt i j) [
   | inr less ↦ less
 ]
 
--- Kinds.
 scalar_aligned : (s : _) → IsAlignment (scalar_size s)
-scalar_aligned UType = (0, refl)
-scalar_aligned AsBool = (0, refl)
-scalar_aligned Byte = (0, refl)
-scalar_aligned UByte = (0, refl)
-scalar_aligned Short = (1, refl)
-scalar_aligned UShort = (1, refl)
-scalar_aligned Int = (2, refl)
-scalar_aligned UInt = (2, refl)
-scalar_aligned Long = (3, refl)
-scalar_aligned ULong = (3, refl)
-scalar_aligned Float = (2, refl)
-scalar_aligned Double = (3, refl)
+scalar_aligned s = power_of (scalar_size s) (0 ∷ 1 ∷ 2 ∷ 3 ∷ []) (is_one s) where
+  is_one : (s : _) → list_any (λ a. scalar_size s == a) (1 ∷ 2 ∷ 4 ∷ 8 ∷ []) ≡ true
+  is_one UType = refl
+  is_one s = refl
 
 kind_holds : (rows : Rows) (f : Live) (kind : Kind) → f.align ≡ kind_align rows kind → NamesObject rows kind → NamesUnion rows kind → KindHolds rows f kind
 kind_holds rows f (Scalar s) e h u = subst IsAlignment (sym e) (scalar_aligned s)
-kind_holds rows f Text e h u = tt
-kind_holds rows f (Struct k) e h u = subst IsAlignment (sym e) h.1
-kind_holds rows f (Table k) e h u = h
-kind_holds rows f (Union k) e h u = u
 kind_holds rows f (Scalars s) e h u = subst IsAlignment (sym e) (scalar_aligned s)
-kind_holds rows f Texts e h u = tt
+kind_holds rows f (Struct k) e h u = subst IsAlignment (sym e) h.1
 kind_holds rows f (Structs k) e h u = subst IsAlignment (sym e) h.1
-kind_holds rows f (Tables k) e h u = h
+kind_holds rows f (Union k) e h u = u
 kind_holds rows f (Unions k) e h u = u
+kind_holds rows f kind e h u = h
 
 -- the union of a live field is there
 union_named : (rows : Rows) → IsLegal rows → (k i : ℕ) (o : Object) (g : Field) → IsRowOf rows k i o g → (kind : Kind) → kind_of rows g.ty ≡ Some kind → NamesUnion rows kind
 unfolding kind_of names_no_union
 union_named rows legal k i o g r kind e =
     let line = clear_line (table_field_demands rows g _ _ _ _) (asked rows legal k i o g r) 4 _ refl in
-    union_of_shape rows g.ty.index (shape_of g.ty) kind e (live_line g.deprecated (is_union_shape (shape_of g.ty) && not (is_some_union (entry_at rows.enums g.ty.index))) line r.live)
+    MatchOption-at_some _ (NamesUnion rows) kind e (union_of_shape rows g.ty.index (shape_of g.ty) (live_line g.deprecated (is_union_shape (shape_of g.ty) && not (is_some_union (entry_at rows.enums g.ty.index))) line r.live))
 
 -- what a live field's kind names is there
 pub field_holds : (rows : Rows) → IsLegal rows → (k i : ℕ) (f : Live) → slice_get (live_fields rows k) i ≡ Some f → KindHolds rows f f.kind
@@ -155,17 +143,12 @@ HasAsked byte vector (Union e) = byte ≡ true
 HasAsked byte vector (Unions e) = vector ≡ true
 HasAsked byte vector _ = Unit {0}
 
-has_asked : (rows : Rows) (byte vector : Bool) (index : ℤ) (s : Option Shape) (kind : Kind) → shape_kind rows index s ≡ Some kind → lacks_type_field s byte vector ≡ false → HasAsked byte vector kind
-has_asked rows byte vector index None kind e h = absurd (let w : None ≡ Some kind = e in cc)
-has_asked rows byte vector index (Some (One (OfScalar s))) kind e h = subst (HasAsked byte vector) (same_Some (Scalar s) kind e) tt
-has_asked rows byte vector index (Some (One OfText)) kind e h = subst (HasAsked byte vector) (same_Some Text kind e) tt
-has_asked rows byte vector index (Some (One OfObject)) kind e h = object_kind_is (HasAsked byte vector) Struct Table (λ k. tt) (λ k. tt) index (entry_at rows.objects index) kind e
-has_asked rows byte vector index (Some (One OfUnion)) kind e h = union_kind_is (HasAsked byte vector) Union (λ k. not_false byte h) index (entry_at rows.enums index) kind e
-has_asked rows byte vector index (Some (Vector (OfScalar s))) kind e h = subst (HasAsked byte vector) (same_Some (Scalars s) kind e) tt
-has_asked rows byte vector index (Some (Vector OfText)) kind e h = subst (HasAsked byte vector) (same_Some Texts kind e) tt
-has_asked rows byte vector index (Some (Vector OfObject)) kind e h = object_kind_is (HasAsked byte vector) Structs Tables (λ k. tt) (λ k. tt) index (entry_at rows.objects index) kind e
-has_asked rows byte vector index (Some (Vector OfUnion)) kind e h = union_kind_is (HasAsked byte vector) Unions (λ k. not_false vector h) index (entry_at rows.enums index) kind e
-has_asked rows byte vector index (Some (Array s)) kind e h = absurd (let w : None ≡ Some kind = e in cc)
+has_asked : (rows : Rows) (byte vector : Bool) (index : ℤ) (s : Option Shape) → lacks_type_field s byte vector ≡ false → IfSome (shape_kind rows index s) (HasAsked byte vector)
+has_asked rows byte vector index (Some (One OfObject)) h = object_kinds rows (HasAsked byte vector) Struct Table index (λ _ _ _ _ _. tt) (λ _ _ _ _ _. tt)
+has_asked rows byte vector index (Some (One OfUnion)) h = union_kinds rows (HasAsked byte vector) Union index (λ _ _ _ _. not_false byte h)
+has_asked rows byte vector index (Some (Vector OfObject)) h = object_kinds rows (HasAsked byte vector) Structs Tables index (λ _ _ _ _ _. tt) (λ _ _ _ _ _. tt)
+has_asked rows byte vector index (Some (Vector OfUnion)) h = union_kinds rows (HasAsked byte vector) Unions index (λ _ _ _ _. not_false vector h)
+has_asked rows byte vector index s h = tt
 
 kind_typed : (fs : List Live) (i slot : ℕ) (byte vector : Bool) (kind : Kind) → HasAsked byte vector kind → (byte ≡ true → HasTypeField fs i slot (Scalar UType)) → (vector ≡ true → HasTypeField fs i slot (Scalars UType)) → IsTyped fs i slot kind
 kind_typed fs i slot byte vector (Union e) h one many = one h
@@ -178,7 +161,7 @@ row_typed rows legal k i o g r kind e =
     let byte = stands_below ForUnion o.fields g.slot in
     let vector = stands_below ForUnions o.fields g.slot in
     let line = live_line g.deprecated (lacks_type_field (shape_of g.ty) byte vector) (clear_line (table_field_demands rows g _ _ _ _) (asked rows legal k i o g r) 5 _ refl) r.live in
-    kind_typed (live_fields rows k) i g.slot byte vector kind (has_asked rows byte vector g.ty.index (shape_of g.ty) kind e line) (type_before rows legal k i o g r ForUnion) (type_before rows legal k i o g r ForUnions)
+    kind_typed (live_fields rows k) i g.slot byte vector kind (MatchOption-at_some _ (HasAsked byte vector) kind e (has_asked rows byte vector g.ty.index (shape_of g.ty) line)) (type_before rows legal k i o g r ForUnion) (type_before rows legal k i o g r ForUnions)
 
 -- a live union has its type field before it
 pub field_typed : (rows : Rows) → IsLegal rows → (k i : ℕ) (f : Live) → slice_get (live_fields rows k) i ≡ Some f → IsTyped (live_fields rows k) i f.slot f.kind
