@@ -4,7 +4,7 @@ use Rattle.fb_schema.specs.declared.fault.Code.{Code}
 use Rattle.fb_schema.specs.declared.fault.SchemaFault.{SchemaFault}
 use Rattle.fb_schema.specs.Rows.{Field, Object, Enum, Rows}
 use Rattle.fb_schema.specs.Demands.{Demand, Key, IsBefore, IsBroken, IsLegal, IsFirstIllegal, demands_at, demands_of_object, demands_of_struct_field, demands_of_table_field, demands_of_enum, demands_of_member, first_code, part_of}
-use Rattle.fb_schema.proofs.Numbers.{lt_or_eq, le_or_lt, least, is_none_or_some, slice_get_past}
+use Rattle.fb_schema.proofs.Numbers.{lt_or_eq, le_or_lt, slice_get_past}
 
 -- a broken demand of a list
 abbrev pub IsBrokenIn : List Demand → ℕ → Code → Type 0
@@ -192,40 +192,6 @@ one_first rows f g a b = elim (is_before_or_same a.key b.key) [
   ]
 ]
 
--- Rows are legal or have a first illegal demand: the least level, in it the least owner, in it the least place.
-abbrev IsRefusedAt : Rows → ℕ → ℕ → Type 0
-IsRefusedAt rows level n = (place : ℕ) × (code : Code) × (first_code (demands_at rows level n place) ≡ Some code) × IsClearBelow rows level n place
-
-abbrev IsRefusedIn : Rows → ℕ → Type 0
-IsRefusedIn rows level = (n : ℕ) × IsRefusedAt rows level n × AreClearBelow rows level n
-
-decide_owner : (rows : Rows) (level n : ℕ) → ((place : ℕ) → IsClear rows level n place) ⊎ IsRefusedAt rows level n
-decide_owner rows level n =
-    elim (least (λ p. (code : Code) × (first_code (demands_at rows level n p) ≡ Some code)) (IsClear rows level n) (λ p. is_none_or_some (first_code (demands_at rows level n p))) (places_end rows level n)) [
-      | inl clear ↦ inl (λ p. elim (le_or_lt (places_end rows level n) p) [ inl past ↦ past_places rows level n p past | inr lt ↦ clear p lt ])
-      | inr found ↦ inr (found.0, found.2.0, found.2.1, record { at = found.3 })
-    ]
-
-decide_level : (rows : Rows) (level : ℕ) → ((n place : ℕ) → IsClear rows level n place) ⊎ IsRefusedIn rows level
-decide_level rows level =
-    elim (least (IsRefusedAt rows level) (λ n. (place : ℕ) → IsClear rows level n place) (decide_owner rows level) (owners_end rows level)) [
-      | inl clear ↦ inl (λ n p. elim (le_or_lt (owners_end rows level) n) [ inl past ↦ past_owners rows level n p past | inr lt ↦ clear n lt p ])
-      | inr found ↦ inr (found.0, found.2, record { at = λ m p lt. found.3 m lt p })
-    ]
-
-pub decide : (rows : Rows) → IsLegal rows ⊎ ((f : SchemaFault) × IsFirstIllegal rows f)
-decide rows =
-    elim (least (IsRefusedIn rows) (λ l. (n place : ℕ) → IsClear rows l n place) (decide_level rows) levels_end) [
-      | inl clear ↦ inl (is_legal rows (λ l n p. elim (le_or_lt levels_end l) [ inl past ↦ past_levels rows l n p past | inr lt ↦ clear l lt n p ]))
-      | inr found ↦ (let here = found.2.1 in inr (
-        record { code = here.1; owner = found.2.0; part = part_of here.0 },
-        first_illegal rows found.0 found.2.0 here.0 here.1 (record { at = λ l m p lt. found.3 l lt m p }) found.2.2 here.3 here.2,
-      ))
-    ]
-
--- Rows are legal exactly where no fault is the first.
-pub legal_without_first : (rows : Rows) → ((f : SchemaFault) → IsFirstIllegal rows f → ⊥) → IsLegal rows
-legal_without_first rows none = elim (decide rows) [ inl legal ↦ legal | inr found ↦ absurd (none found.0 found.1) ]
-
+-- Of legal rows no fault is the first.
 pub no_first_if_legal : (rows : Rows) → IsLegal rows → (f : SchemaFault) → IsFirstIllegal rows f → ⊥
 no_first_if_legal rows legal f first = legal.none first.key f.code first.broken

@@ -12,7 +12,7 @@ use Rattle.fb_schema.specs.Live.{Live, AreApart, AreSpaced, live_rows, widest_of
 use Rattle.fb_schema.specs.Matched.{AreMatched}
 use Rattle.fb_schema.specs.Steps.{act_of, is_plain_act, are_plain}
 use Rattle.fb_schema.specs.Rows.{Rows, Field, Object, field_of}
-use Rattle.fb_schema.proofs.Numbers.{lt_or_eq, le_or_lt, get_or_default}
+use Rattle.fb_schema.proofs.Numbers.{lt_or_eq, le_or_lt, get_or_default, neither_below}
 use Rattle.fb_schema.proofs.WalkLemmas.{mapped_at}
 
 -- In a legal table no slot stands twice.
@@ -37,10 +37,7 @@ no_slot_again rows n o legal at table i j d lt within e =
 
 pub legal_slots : (rows : Rows) (n : ℕ) (o : Object) → IsLegal rows → slice_get rows.objects n ≡ Some o → o.is_struct ≡ false → AreApart o.fields
 legal_slots rows n o legal at table = record {
-  at = λ i j d a b e. elim (le_or_lt i j) [
-    | inl le ↦ elim (lt_or_eq i j le) [ inl lt ↦ absurd (no_slot_again rows n o legal at table i j d lt b e) | inr same ↦ same ]
-    | inr lt ↦ absurd (no_slot_again rows n o legal at table j i d lt a (sym e))
-  ];
+  at = λ i j d a b e. neither_below i j (λ lt. no_slot_again rows n o legal at table i j d lt b e) (λ lt. no_slot_again rows n o legal at table j i d lt a (sym e));
 }
 
 -- Matched lists grow together.

@@ -124,3 +124,10 @@ legal {rows} h = is_legal rows (all_clear rows (no_fault rows (in_rows rows) h))
 pub refused : {rows : Rows} {f : SchemaFault} → first_fault rows ≡ Some f → IsFirstIllegal rows f
 unfolding first_fault
 refused {rows} {f} h = one_fault rows (in_rows rows) f refl h
+
+-- rows of which no fault is the first are legal
+pub legal_without_first : (rows : Rows) → ((f : SchemaFault) → IsFirstIllegal rows f → ⊥) → IsLegal rows
+legal_without_first rows none = go (first_fault rows) refl where
+  go : (o : Option SchemaFault) → first_fault rows ≡ o → IsLegal rows
+  go None e = legal e
+  go (Some f) e = absurd (none f (refused e))

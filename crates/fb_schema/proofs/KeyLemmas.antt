@@ -10,7 +10,7 @@ use Rattle.std.specs.declared.cmp.Ordering.{Ordering}
 use Rattle.std.specs.declared.cmp.Ordering.TheVariants.{Equal}
 use Rattle.fb_schema.specs.Sorting.{numbered, IsAgain, IsFirstAgain}
 use Rattle.fb_schema.specs.Demands.{stands_before, is_at}
-use Rattle.fb_schema.proofs.Numbers.{lt_or_eq, le_or_lt, get_or_default}
+use Rattle.fb_schema.proofs.Numbers.{lt_or_eq, le_or_lt, get_or_default, slice_get_some}
 
 numbered-push : {K : Type 0} (keys : List K) (n : ℕ) (key : K) → numbered n (keys ++ key ∷ []) ≡ numbered n keys ++ (key, n + length keys) ∷ []
 numbered-push [] n key = ap (λ m. (key, m) ∷ []) (let w : n ≡ n + 0 = omega arith in w)
@@ -29,6 +29,15 @@ numbered_more key xs i d es lt h =
 pub list_any-map : {X Y : Type 0} (p : Y → Bool) (f : X → Y) (xs : List X) → list_any p (map f xs) ≡ list_any (λ x. p (f x)) xs
 list_any-map p f [] = refl
 list_any-map p f (x ∷ xs) = ap (λ b. p (f x) || b) (list_any-map p f xs)
+
+-- a key of a list stands again behind one that is like it
+pub again_at : {X K : Type 0} (R : K → K → Ordering) (key : X → K) (xs : List X) (i j : ℕ) (x : X) → i < j → j < length xs → R (key (get_or xs i x)) (key (get_or xs j x)) ≡ Equal → IsAgain R (map key xs) j
+again_at R key xs i j x lt within e = record {
+  earlier = i;
+  before = lt;
+  within = rw length-map within;
+  alike = λ d. ap (λ z. R z (get_or (map key xs) j d)) (get_or-map key xs i x d (omega arith)) ∙ ap (R (key (get_or xs i x))) (get_or-map key xs j x d within) ∙ e;
+}
 
 -- rows in memory with their keys, and how the definitions see them: two are the same where their keys are alike
 module _ {X Y K : Type 0} (R : K → K → Ordering) (key : X → K) (f : X → Y) (same : Y → Y → Bool) (agrees : (a b : X) → Decides (same (f a) (f b)) (R (key a) (key b) ≡ Equal)) (xs : List X) (p : ℕ) (x : X) (at : slice_get xs p ≡ Some x) where
@@ -80,3 +89,10 @@ module _ {X Y K : Type 0} (R : K → K → Ordering) (key : X → K) (f : X → 
       | inl le ↦ elim (lt_or_eq p k le) [ inl lt ↦ absurd (h.1 p lt (g refl)) | inr e ↦ f' (sym e) ]
       | inr lt ↦ absurd (none k lt h.0)
     ]
+
+-- no key stands again where the test says that no item like the one there stands before it
+pub never_again : {X Y K : Type 0} (R : K → K → Ordering) (key : X → K) (f : X → Y) (same : Y → Y → Bool) (agrees : (a b : X) → Decides (same (f a) (f b)) (R (key a) (key b) ≡ Equal)) (xs : List X) (q : ℕ) → IsAgain R (map key xs) q
+    → ((x : X) → slice_get xs q ≡ Some x → stands_before same (map f xs) q (f x) ≡ false) → ⊥
+never_again R key f same agrees xs q a none =
+    let here = slice_get_some xs q (rw length-map at a.within) in
+    let w : true ≡ false = sym (test_from_again R key f same agrees xs q here.0 here.1 a) ∙ none here.0 here.1 in cc

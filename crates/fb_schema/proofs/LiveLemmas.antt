@@ -14,7 +14,7 @@ use Rattle.std.specs.declared.cmp.Ordering.TheVariants.{Less, Equal, Greater}
 use Rattle.fb_schema.specs.declared.rows.FieldRow.{FieldRow}
 use Rattle.fb_schema.specs.Rows.{Field, field_of}
 use Rattle.fb_schema.specs.Live.{insert_by_slot, by_slot, is_live, AreApart, AreRising}
-use Rattle.fb_schema.proofs.Numbers.{lt_or_eq, le_or_lt, slice_get_some}
+use Rattle.fb_schema.proofs.Numbers.{lt_or_eq, le_or_lt, slice_get_some, neither_below}
 use Rattle.fb_schema.proofs.OrderLemmas.{length-swap}
 use Rattle.fb_schema.proofs.PositionLemmas.{found_position, no_position}
 use Rattle.fb_schema.proofs.Search.{nat_tied, search_missed, not_true}
@@ -200,10 +200,7 @@ module _ (live : List FieldRow) (rising : AreRising live) (slot : ℕ) where
   slot_at k d lt = ap (λ (f : Field). f.slot) (get_or-map field_of live k d (field_of d) lt)
 
   one_slot : (i j : ℕ) (d : FieldRow) → i < length live → j < length live → (get_or live i d).slot ≡ (get_or live j d).slot → i ≡ j
-  one_slot i j d a b e = elim (le_or_lt i j) [
-    | inl le ↦ elim (lt_or_eq i j le) [ inl lt ↦ absurd (let w = rising.at i j d lt b in omega arith) | inr same ↦ same ]
-    | inr lt ↦ absurd (let w = rising.at j i d lt a in omega arith)
-  ]
+  one_slot i j d a b e = neither_below i j (λ lt. let w = rising.at i j d lt b in omega arith) (λ lt. let w = rising.at j i d lt a in omega arith)
 
   rising_order : IsSortedBy (λ (a b : FieldRow). is_lt (nat_cmp a.slot b.slot)) live
   rising_order k d _ lt = not_true _ (λ e. below_itself (get_or live (k + 1) d).slot (get_or live k d).slot e (rising.at k (k + 1) d (omega arith) lt)) where

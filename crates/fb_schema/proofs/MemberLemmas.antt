@@ -1,5 +1,6 @@
 -- The steps of the walk over the members of a union.
 use Rattle.std.proofs.Common.{◌≡◌, ℕ, ◌<◌, ◌≤◌, pos, ◌⊎◌, inl, inr, Bool, true, false, not, ◌&&◌, List, [], ◌∷◌, length, slice_get, take, map, int_lt, Option, Some, None, refl, sym, ◌∙◌, ap, Decides, arith}
+use Rattle.fb_schema.proofs.Search.{not_true}
 use Rattle.std.proofs.lemmas.List.Folds.{list_any_none}
 use Rattle.std.proofs.lemmas.List.{length-map}
 use Rattle.std.specs.Cmp.{signed_Decides}
@@ -13,7 +14,7 @@ use Rattle.fb_schema.specs.Sorting.{IsAgain, IsFirstAgain, name_cmp, member_cmp,
 use Rattle.fb_schema.specs.Rows.{Rows, Member, member_of_row}
 use Rattle.fb_schema.specs.Demands.{is_at, first_code, stands_before, same_value, same_member_name, Demand, member_demands, members_asked, demands_of_member}
 use Rattle.fb_schema.proofs.DemandLaws.{clear_line}
-use Rattle.fb_schema.proofs.KeyLemmas.{test_from_again, is_at_test}
+use Rattle.fb_schema.proofs.KeyLemmas.{test_from_again, is_at_test, never_again}
 use Rattle.fb_schema.proofs.Numbers.{slice_get_some}
 use Rattle.fb_schema.proofs.WalkLemmas.{names_agree, mapped_at, values_agree, or_false, past_list}
 
@@ -75,21 +76,17 @@ module _ (rows : Rows) (members : List MemberRow) where
   not_taken_member : (q : ℕ) → first_code (members_asked rows (map member_of_row members) q) ≡ None → (row : MemberRow) → slice_get members q ≡ Some row → stands_before same_value (map member_of_row members) q (member_of_row row) ≡ true → ⊥
   unfolding asked_at
   not_taken_member q clear row at old =
-      let c : first_code (asked_at q row) ≡ None = ap first_code (sym (member_at q row at)) ∙ clear in
-      let new = or_false (int_lt row.value (pos 0)) (int_lt (pos 255) row.value) (stands_before same_value (map member_of_row members) q (member_of_row row)) (clear_line (asked_at q row) c 0 _ refl) in
+      let new = or_false (int_lt row.value (pos 0)) (int_lt (pos 255) row.value) (stands_before same_value (map member_of_row members) q (member_of_row row)) (clear_line (asked_at q row) (clear_demands q row at clear) 0 _ refl) in
       let w : true ≡ false = sym old ∙ new in cc
 
   not_named_member : (q : ℕ) → first_code (members_asked rows (map member_of_row members) q) ≡ None → (row : MemberRow) → slice_get members q ≡ Some row → stands_before same_member_name (map member_of_row members) q (member_of_row row) ≡ true → ⊥
   unfolding asked_at
   not_named_member q clear row at old =
-      let c : first_code (asked_at q row) ≡ None = ap first_code (sym (member_at q row at)) ∙ clear in
-      let new = clear_line (asked_at q row) c 1 _ refl in
+      let new = clear_line (asked_at q row) (clear_demands q row at clear) 1 _ refl in
       let w : true ≡ false = sym old ∙ new in cc
 
   pub value_not_again : (q : ℕ) → first_code (members_asked rows (map member_of_row members) q) ≡ None → IsAgain int_cmp (map member_value members) q → ⊥
-  value_not_again q clear a =
-      let here = slice_get_some members q (rw length-map at a.within) in
-      not_taken_member q clear here.0 here.1 (test_from_again int_cmp member_value member_of_row same_value values_agree members q here.0 here.1 a)
+  value_not_again q clear a = never_again int_cmp member_value member_of_row same_value values_agree members q a (λ row at. not_true _ (not_taken_member q clear row at))
 
   pub name_not_again : (q : ℕ) → first_code (members_asked rows (map member_of_row members) q) ≡ None → IsAgain member_cmp (map member_key members) q → ⊥
   name_not_again q clear a =

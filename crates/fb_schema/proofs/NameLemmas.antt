@@ -1,5 +1,6 @@
 -- The live fields of a legal table are found by name.
 use Rattle.std.proofs.Common.{◌≡◌, ℕ, zero, suc, ◌<◌, inl, inr, Bool, true, false, not, IsTrue, if◌then◌else◌, List, [], ◌∷◌, length, get_or, slice_get, map, filter, option_map, option_and_then, Option, Some, None, refl, sym, ◌∙◌, ap, arith}
+use Rattle.fb_schema.proofs.KeyLemmas.{again_at}
 use Rattle.std.proofs.lemmas.List.{length-map, get_or-map}
 use Rattle.std.proofs.lemmas.Option.{slice_get-get_or}
 use Rattle.std.proofs.lemmas.List.Elements.{Contains-get_or}
@@ -24,7 +25,7 @@ use Rattle.fb_schema.proofs.IndexLemmas.{legal_slots, table_list}
 use Rattle.fb_schema.proofs.Kinded.{live_long, live_at}
 use Rattle.fb_schema.proofs.LegalLemmas.{legal_clear}
 use Rattle.fb_schema.proofs.LiveLemmas.{Rises, sorted_rises, sorted_members, filter_apart, filter_contains}
-use Rattle.fb_schema.proofs.Numbers.{lt_or_eq, le_or_lt, get_or_default, slice_get_some}
+use Rattle.fb_schema.proofs.Numbers.{lt_or_eq, le_or_lt, get_or_default, slice_get_some, neither_below}
 use Rattle.fb_schema.proofs.WalkLemmas.{mapped_at, not_named_table}
 
 -- no field of a legal table has an earlier one's name
@@ -39,26 +40,15 @@ no_name_again rows n all row legal at table q a =
 -- two of a table's fields with one name are one
 one_name : (rows : Rows) (n : ℕ) (all : List FieldRow) (row : ObjectPart) → IsLegal rows → slice_get rows.objects n ≡ Some (object_in all row) → row.is_struct ≡ false
     → (i j : ℕ) (d : Field) → i < length (map field_of (part all row.fields)) → j < length (map field_of (part all row.fields)) → (get_or (map field_of (part all row.fields)) i d).name ≡ (get_or (map field_of (part all row.fields)) j d).name → i ≡ j
-one_name rows n all row legal at table i j d a b e = elim (le_or_lt i j) [
-  | inl le ↦ elim (lt_or_eq i j le) [ inl lt ↦ absurd (no_name_again rows n all row legal at table j (again i j lt b e)) | inr same ↦ same ]
-  | inr lt ↦ absurd (no_name_again rows n all row legal at table i (again j i lt a (sym e)))
-] where
+one_name rows n all row legal at table i j d a b e = neither_below i j (λ lt. no_name_again rows n all row legal at table j (again i j lt b e)) (λ lt. no_name_again rows n all row legal at table i (again j i lt a (sym e))) where
   again : (i j : ℕ) → i < j → j < length (map field_of (part all row.fields)) → (get_or (map field_of (part all row.fields)) i d).name ≡ (get_or (map field_of (part all row.fields)) j d).name → IsAgain name_cmp (map field_name (part all row.fields)) j
   again i j lt within e =
       let rs = (part all row.fields) in
       let low : j < length rs = rw length-map at within in
       let x = (slice_get_some rs j low).0 in
-      let first : i < length rs = omega arith in
-      let name_i = ap (λ (f : Field). f.name) (get_or-map field_of rs i x d first) in
-      let name_j = ap (λ (f : Field). f.name) (get_or-map field_of rs j x d low) in
-      let same : (get_or rs i x).name.now ≡ (get_or rs j x).name.now = sym name_i ∙ e ∙ name_j in
-      record {
-        earlier = i;
-        before = lt;
-        within = rw length-map low;
-        alike = λ z. ap (λ y. name_cmp y (get_or (map field_name rs) j z)) (get_or-map field_name rs i x z first) ∙ ap (name_cmp (get_or rs i x).name) (get_or-map field_name rs j x z low)
-            ∙ ap (λ y. slice_cmp nat_cmp y (get_or rs j x).name.now) same ∙ tied_itself nat_list_cmp_total (get_or rs j x).name.now;
-      }
+      let name_at = λ (k : ℕ) (lt : k < length rs). ap (λ (f : Field). f.name) (get_or-map field_of rs k x d lt) in
+      let same : (get_or rs i x).name.now ≡ (get_or rs j x).name.now = sym (name_at i (omega arith)) ∙ e ∙ name_at j low in
+      again_at name_cmp field_name rs i j x lt low (ap (λ y. slice_cmp nat_cmp y (get_or rs j x).name.now) same ∙ tied_itself nat_list_cmp_total (get_or rs j x).name.now)
 
 rises_at : (fs : List Field) → Rises fs → (i j : ℕ) (d : Field) → i < j → j < length fs → (get_or fs i d).slot < (get_or fs j d).slot
 rises_at [] r i j d lt within = absurd (omega arith)

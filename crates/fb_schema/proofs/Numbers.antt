@@ -10,21 +10,6 @@ lt_or_eq a b h = grind arith
 pub le_or_lt : (a b : ℕ) → (a ≤ b) ⊎ (b < a)
 le_or_lt a b = grind arith
 
--- what holds of each number below n, or of the least one where it doesn't
-pub least : (P C : ℕ → Type 0) → ((m : ℕ) → C m ⊎ P m) → (n : ℕ) → ((m : ℕ) → m < n → C m) ⊎ ((m : ℕ) × (m < n) × P m × ((q : ℕ) → q < m → C q))
-least P C decide zero = inl (λ m lt. absurd (omega arith))
-least P C decide (suc n) = elim (least P C decide n) [
-  | inr found ↦ inr (found.0, omega (arith, found.1), found.2, found.3)
-  | inl none ↦ elim (decide n) [
-    | inr here ↦ inr (n, omega arith, here, none)
-    | inl clear ↦ inl (λ m lt. elim (lt_or_eq m n (omega arith)) [ inl l ↦ none m l | inr e ↦ subst C (sym e) clear ])
-  ]
-]
-
-pub is_none_or_some : {X : Type 0} (o : Option X) → (o ≡ None) ⊎ ((x : X) × (o ≡ Some x))
-is_none_or_some None = inl refl
-is_none_or_some (Some x) = inr (x, refl)
-
 pub slice_get_some : {X : Type 0} (xs : List X) (i : ℕ) → i < length xs → (x : X) × (slice_get xs i ≡ Some x)
 slice_get_some xs i h = elim (slice_get_cases xs i).1 [ inl c ↦ (c.0, c.2) | inr c ↦ absurd (omega arith) ]
 

@@ -22,7 +22,7 @@ use Rattle.fb_schema.proofs.KindLemmas.{NamesObject, NamesUnion, names_object, u
 use Rattle.fb_schema.proofs.Kinded.{listed, row_of, field_sized}
 use Rattle.fb_schema.proofs.LiveLemmas.{Rises, sorted_members}
 use Rattle.fb_schema.proofs.LookLemmas.{within_widest}
-use Rattle.fb_schema.proofs.Numbers.{le_or_lt, lt_or_eq, not_false}
+use Rattle.fb_schema.proofs.Numbers.{le_or_lt, lt_or_eq, not_false, neither_below}
 use Rattle.fb_schema.proofs.PartLemmas.{parts_fit}
 use Rattle.fb_schema.proofs.RowLemmas.{contains_at, place_in, rises_at, IsRowOf, row_in, asked, live_line, rows_rise}
 
@@ -240,10 +240,7 @@ numbers_apart rows legal k i j f g a b e =
     let n : ((p.field).slot - 4) / 2 ≡ ((q.field).slot - 4) / 2 = sym (ap (λ (f : Live). f.number) p.same) ∙ e ∙ ap (λ (f : Live). f.number) q.same in
     let one = same_number (p.field).slot (q.field).slot s.0 s.1 t.0 t.1 n in
     let here : f.slot ≡ g.slot = ap (λ (f : Live). f.slot) p.same ∙ one ∙ sym (ap (λ (f : Live). f.slot) q.same) in
-    elim (le_or_lt i j) [
-      | inl le ↦ elim (lt_or_eq i j le) [ inl lt ↦ absurd (let w = fields_rise rows legal k i j f g a b lt in omega arith) | inr same ↦ same ]
-      | inr lt ↦ absurd (let w = fields_rise rows legal k j i g f b a lt in omega arith)
-    ]
+    neither_below i j (λ lt. let w = fields_rise rows legal k i j f g a b lt in omega arith) (λ lt. let w = fields_rise rows legal k j i g f b a lt in omega arith)
 
 -- What legal rows give, where no table has more live fields than slots.
 pub served_by : (rows : Rows) → IsLegal rows → widest rows ≤ 32766 → IsServed rows

@@ -22,7 +22,7 @@ use Rattle.fb_schema.specs.FlatRows.{object_in}
 use Rattle.fb_schema.specs.Demands.{Demand, is_at, first_code, stands_before, same_object_name, same_field_name, same_slot, same_value, struct_field_demands, struct_asked, demands_of_struct_field, Demand, table_field_demands, table_asked, demands_of_table_field, stands_below}
 use Rattle.fb_schema.specs.declared.kinds.TypeField.TheVariants.{ForUnion, ForUnions}
 use Rattle.fb_schema.proofs.DemandLaws.{passed_over, clear_line}
-use Rattle.fb_schema.proofs.KeyLemmas.{test_from_again, is_at_test}
+use Rattle.fb_schema.proofs.KeyLemmas.{test_from_again, is_at_test, never_again}
 use Rattle.fb_schema.proofs.Numbers.{slice_get_some, slice_get_past, le_or_lt}
 use Rattle.fb_schema.proofs.Search.{nat_tied}
 
@@ -68,12 +68,8 @@ module _ (rows : Rows) (bytesize : ℤ) (fields : List FieldRow) where
   struct_at p row at = ap (demands_of_struct_field rows bytesize (map field_of fields) p) (mapped_at field_of fields p row at)
 
   not_again_struct : (q : ℕ) → first_code (struct_asked rows bytesize (map field_of fields) q) ≡ None → IsAgain name_cmp (map field_name fields) q → ⊥
-  not_again_struct q clear a =
-      let here = slice_get_some fields q (rw length-map at a.within) in
-      let c : first_code (struct_field_demands rows bytesize (field_of here.0) (stands_before same_field_name (map field_of fields) q (field_of here.0))) ≡ None = ap first_code (sym (struct_at q here.0 here.1)) ∙ clear in
-      let new = (passed_over _ _ _ c).0 in
-      let old = test_from_again name_cmp field_name field_of same_field_name field_names_agree fields q here.0 here.1 a in
-      let w : true ≡ false = sym old ∙ new in cc
+  not_again_struct q clear a = never_again name_cmp field_name field_of same_field_name field_names_agree fields q a
+      (λ row at. clear_line (struct_field_demands rows bytesize (field_of row) _) (ap first_code (sym (struct_at q row at)) ∙ clear) 0 _ refl)
 
   -- what the walk computes at p is what is demanded there
   pub struct_code : (p : ℕ) (row : FieldRow) (first : Option ℕ) (named : Bool) → slice_get fields p ≡ Some row → IsFirstAgain name_cmp (map field_name fields) first
@@ -102,22 +98,12 @@ module _ (rows : Rows) (fields : List FieldRow) where
 
   pub not_named_table : (q : ℕ) → first_code (table_asked rows (map field_of fields) q) ≡ None → IsAgain name_cmp (map field_name fields) q → ⊥
   unfolding table_asked_at
-  not_named_table q clear a =
-      let here = slice_get_some fields q (rw length-map at a.within) in
-      let c : first_code (table_asked_at q here.0) ≡ None = ap first_code (sym (table_at q here.0 here.1)) ∙ clear in
-      let new = clear_line (table_asked_at q here.0) c 0 _ refl in
-      let old = test_from_again name_cmp field_name field_of same_field_name field_names_agree fields q here.0 here.1 a in
-      let w : true ≡ false = sym old ∙ new in cc
+  not_named_table q clear a = never_again name_cmp field_name field_of same_field_name field_names_agree fields q a (λ row at. clear_line (table_asked_at q row) (ap first_code (sym (table_at q row at)) ∙ clear) 0 _ refl)
 
   not_taken_table : (q : ℕ) → first_code (table_asked rows (map field_of fields) q) ≡ None → IsAgain nat_cmp (map field_slot fields) q → ⊥
   unfolding table_asked_at
-  not_taken_table q clear a =
-      let here = slice_get_some fields q (rw length-map at a.within) in
-      let c : first_code (table_asked_at q here.0) ≡ None = ap first_code (sym (table_at q here.0 here.1)) ∙ clear in
-      let row = here.0 in
-      let new = or_false (not (row.slot % 2 == 0)) (nat_lt row.slot 4) (stands_before same_slot (map field_of fields) q (field_of row)) (clear_line (table_asked_at q row) c 1 _ refl) in
-      let old = test_from_again nat_cmp field_slot field_of same_slot slots_agree fields q here.0 here.1 a in
-      let w : true ≡ false = sym old ∙ new in cc
+  not_taken_table q clear a = never_again nat_cmp field_slot field_of same_slot slots_agree fields q a
+      (λ row at. or_false (not (row.slot % 2 == 0)) (nat_lt row.slot 4) (stands_before same_slot (map field_of fields) q (field_of row)) (clear_line (table_asked_at q row) (ap first_code (sym (table_at q row at)) ∙ clear) 1 _ refl))
 
   -- what the walk computes at p is what is demanded there
   pub table_code : (p : ℕ) (row : FieldRow) (name_again slot_again : Option ℕ) (named taken byte vector : Bool) → slice_get fields p ≡ Some row

@@ -1,4 +1,5 @@
-use Rattle.fb_schema.proofs.DemandLaws.{legal_without_first, no_first_if_legal}
+use Rattle.fb_schema.proofs.DemandLaws.{no_first_if_legal}
+use Rattle.fb_schema.proofs.Judged.{legal_without_first}
 use Rattle.fb_schema.proofs.laws.legal_where_none_is_first.Goals as goal
 
 pub returns : goal.returns
