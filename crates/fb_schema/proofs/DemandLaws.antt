@@ -148,31 +148,7 @@ no_levels rows = record { at = λ l m place lt. absurd (omega arith) }
 
 -- Of two keys one is before the other, or they are the same.
 is_before_or_same : (a b : Key) → IsBefore a b ⊎ (IsBefore b a ⊎ (a ≡ b))
-is_before_or_same a b = elim (le_or_lt a.level b.level) [
-  | inr more ↦ inr (inl (inl more))
-  | inl le ↦ elim (lt_or_eq a.level b.level le) [
-    | inl less ↦ inl (inl less)
-    | inr v ↦ elim (le_or_lt a.number b.number) [
-      | inr more ↦ inr (inl (inr (sym v, inl more)))
-      | inl le ↦ elim (lt_or_eq a.number b.number le) [
-        | inl less ↦ inl (inr (v, inl less))
-        | inr n ↦ elim (le_or_lt a.place b.place) [
-          | inr more ↦ inr (inl (inr (sym v, inr (sym n, inl more))))
-          | inl le ↦ elim (lt_or_eq a.place b.place le) [
-            | inl less ↦ inl (inr (v, inr (n, inl less)))
-            | inr p ↦ elim (le_or_lt a.line b.line) [
-              | inr more ↦ inr (inl (inr (sym v, inr (sym n, inr (sym p, more)))))
-              | inl le ↦ elim (lt_or_eq a.line b.line le) [
-                | inl less ↦ inl (inr (v, inr (n, inr (p, less))))
-                | inr l ↦ inr (inr (λ i. record { level = v i; number = n i; place = p i; line = l i }))
-              ]
-            ]
-          ]
-        ]
-      ]
-    ]
-  ]
-]
+is_before_or_same a b = grind arith
 
 same_code : (c d : Code) → ◌≡◌ {A = Option Demand} (Some (record { code = c; broken = true })) (Some (record { code = d; broken = true })) → c ≡ d
 same_code c d e = let w : ◌≡◌ {A = Demand} (record { code = c; broken = true }) (record { code = d; broken = true }) = cc in ap (λ (d : Demand). d.code) w

@@ -1,6 +1,6 @@
 -- The steps by which the index of a schema is made.
 use Rattle.std.proofs.Common.{◌≡◌, ℕ, zero, suc, ◌+◌, ◌<◌, ◌≤◌, ◌⊎◌, inl, inr, Bool, true, false, not, ◌||◌, ◌&&◌, ◌==◌, ◌%◌, nat_lt, List, [], ◌∷◌, ◌++◌, length, get_or, slice_get, take, map, max, Some, None, refl, sym, ◌∙◌, ap, subst, arith, if◌then◌else◌}
-use Rattle.std.proofs.lemmas.List.{map-append, get_or-take, get_or-map, length-take-le, length_push}
+use Rattle.std.proofs.lemmas.List.{map-append, get_or-take, get_or-map, length-take-le, length_push, map_more}
 use Rattle.std.proofs.lemmas.List.Folds.{list_any-from_Any}
 use Rattle.std.proofs.lemmas.Option.{slice_get-get_or, slice_get_within}
 use Rattle.std.proofs.lemmas.Bool.Decides.{Decides-eqb}
@@ -72,11 +72,6 @@ matched_step R xs i x old new y lt is h e r =
     let more : take i xs ++ x ∷ [] ≡ take (i + 1) xs = ap (λ z. take i xs ++ z ∷ []) is ∙ sym (take_at_read xs i x lt).1 in
     subst (λ zs. AreMatched R zs new) more (subst (AreMatched R (take i xs ++ x ∷ [])) (sym e) grown)
 
-pub lists_step : {X Y Z : Type 0} (f : List Y → Z) (g : X → Z) (xs : List X) (i : ℕ) (x : X) (old new : List (List Y)) (y : List Y) → i < length xs → x ≡ get_or xs i x → map f old ≡ map g (take i xs) → new ≡ old ++ y ∷ [] → f y ≡ g x → map f new ≡ map g (take (i + 1) xs)
-lists_step f g xs i x old new y lt is h e r =
-    ap (map f) e ∙ map-append f old (y ∷ []) ∙ ap (λ zs. zs ++ f y ∷ []) h ∙ ap (λ z. map g (take i xs) ++ z ∷ []) (r ∙ ap g is)
-    ∙ sym (map-append g (take i xs) (get_or xs i x ∷ [])) ∙ ap (map g) (sym (take_at_read xs i x lt).1)
-
 widest_end : (xs : List Object) (o : Object) → widest_of (xs ++ o ∷ []) ≡ max (widest_of xs) (length (live_rows o))
 widest_end [] o = omega arith
 widest_end (x ∷ xs) o = let e = widest_end xs o in omega arith
@@ -87,9 +82,10 @@ widest_step xs i o old new count lt is h e c =
 
 -- a step of the loop over objects, for what is one number of each
 pub value_step : {X Y : Type 0} (g : X → Y) (xs : List X) (i : ℕ) (x : X) (old new : List Y) (y : Y) → i < length xs → x ≡ get_or xs i x → old ≡ map g (take i xs) → new ≡ old ++ y ∷ [] → y ≡ g x → new ≡ map g (take (i + 1) xs)
-value_step g xs i x old new y lt is h e r =
-    e ∙ ap (λ zs. zs ++ y ∷ []) h ∙ ap (λ z. map g (take i xs) ++ z ∷ []) (r ∙ ap g is)
-    ∙ sym (map-append g (take i xs) (get_or xs i x ∷ [])) ∙ ap (map g) (sym (take_at_read xs i x lt).1)
+value_step g xs i x old new y lt is h e r = e ∙ ap (λ zs. zs ++ y ∷ []) h ∙ ap (λ z. map g (take i xs) ++ z ∷ []) (r ∙ ap g is) ∙ sym (map_more g xs i x lt)
+
+pub lists_step : {X Y Z : Type 0} (f : List Y → Z) (g : X → Z) (xs : List X) (i : ℕ) (x : X) (old new : List (List Y)) (y : List Y) → i < length xs → x ≡ get_or xs i x → map f old ≡ map g (take i xs) → new ≡ old ++ y ∷ [] → f y ≡ g x → map f new ≡ map g (take (i + 1) xs)
+lists_step f g xs i x old new y lt is h e r = value_step g xs i x (map f old) (map f new) (f y) lt is h (ap (map f) e ∙ map-append f old (y ∷ [])) r
 
 pub kept_read : {X Y : Type 0} (f : X → Y) (xs : List X) (i : ℕ) (d : X) → i < length xs → slice_get (map f xs) i ≡ Some (f (get_or xs i d))
 kept_read f xs i d lt = mapped_at f xs i (get_or xs i d) (slice_get-get_or xs i d lt)
@@ -111,10 +107,9 @@ plain_more : (fs : List Live) (f : Live) (b : Bool) → is_plain_act (act_of f f
 plain_more [] f true e = ap (λ b. b && true) e
 plain_more [] f false e = ap (λ b. b && true) e
 plain_more (g ∷ gs) f true e = ap (λ x. is_plain_act (act_of g g.kind) && x) (plain_more gs f true e)
-plain_more (g ∷ gs) f false e = ap (λ x. is_plain_act (act_of g g.kind) && x) (plain_more gs f false e) ∙ go (is_plain_act (act_of g g.kind)) where
-  go : (b : Bool) → (b && false) ≡ false
-  go true = refl
-  go false = refl
+plain_more (g ∷ gs) f false e = ap (λ x. is_plain_act (act_of g g.kind) && x) (plain_more gs f false e) ∙ both_false (is_plain_act (act_of g g.kind)) where
+  both_false : (b : Bool) → (b && false) ≡ false
+  both_false b = grind arith
 
 pub plain_step : {X : Type 0} (v : X → Live) (xs : List X) (i : ℕ) (d : X) (b : Bool) → i < length xs → is_plain_act (act_of (v (get_or xs i d)) (v (get_or xs i d)).kind) ≡ b
     → are_plain (map v (take (i + 1) xs)) ≡ if b then are_plain (map v (take i xs)) else false

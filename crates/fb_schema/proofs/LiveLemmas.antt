@@ -3,7 +3,7 @@ use Rattle.std.proofs.Common.{◌≡◌, ◌≢◌, ℕ, zero, suc, ◌+◌, ◌
 use Rattle.std.proofs.lemmas.Cmp.{nat_cmp_total, tied_itself}
 use Rattle.std.proofs.lemmas.List.{length-map, get_or-map}
 use Rattle.std.proofs.lemmas.List.Sorted.{IsPermutation-keeps, IsPermutation-map, Contains-permutation, IsPermutation-sym}
-use Rattle.std.proofs.lemmas.List.Edits.{swapped_from_swap}
+use Rattle.std.proofs.lemmas.List.Edits.{swapped_from_swap, length-swap}
 use Rattle.std.proofs.lemmas.List.Elements.{Contains-get_or, All-contains, All-filter, All-contains_itself}
 use Rattle.std.proofs.lemmas.Bool.Decides.{Decides-eqb}
 use borrow.Author.Tests.{leb-true, le-leb}
@@ -15,7 +15,6 @@ use Rattle.fb_schema.specs.declared.rows.FieldRow.{FieldRow}
 use Rattle.fb_schema.specs.Rows.{Field, field_of}
 use Rattle.fb_schema.specs.Live.{insert_by_slot, by_slot, is_live, AreApart, AreRising}
 use Rattle.fb_schema.proofs.Numbers.{lt_or_eq, le_or_lt, slice_get_some, neither_below}
-use Rattle.fb_schema.proofs.OrderLemmas.{length-swap}
 use Rattle.fb_schema.proofs.PositionLemmas.{found_position, no_position}
 use Rattle.fb_schema.proofs.Search.{nat_tied, search_missed, not_true}
 
@@ -121,8 +120,8 @@ apart_permutation : (xs ys : List Field) → IsPermutation xs ys → AreApart xs
 apart_permutation xs ys p h = IsPermutation-keeps xs AreApart h (λ l i j p q old. record {
   at = λ a b d la lb e.
       let s = swapped_from_swap l (swap l i j) i j d p q refl in
-      let la' : a < length l = rw (length-swap l i j p q) at la in
-      let lb' : b < length l = rw (length-swap l i j p q) at lb in
+      let la' : a < length l = rw (length-swap l i j) at la in
+      let lb' : b < length l = rw (length-swap l i j) at lb in
       let o = old.at in
       grind (arith, s, o);
 }) ys p

@@ -38,13 +38,8 @@ or_second a b c e = grind arith
 
 -- a value of legal rows that isn't 0 is a member's
 real_is : (z : ℤ) → int_lt z (pos 0) ≡ false → int_lt (pos 255) z ≡ false → int_eq z (pos 0) ≡ false → is_member_value z ≡ true
-real_is (pos n) a b c = positive n b (not_zero n c) where
-  not_zero : (n : ℕ) → int_eq (pos n) (pos 0) ≡ false → (n ≡ 0 → ⊥)
-  not_zero n c e = let w : true ≡ false = sym ((signed_Decides (pos n) (pos 0)).1 (ap pos e)) ∙ c in cc
-
-  positive : (n : ℕ) → int_lt (pos 255) (pos n) ≡ false → (n ≡ 0 → ⊥) → (nat_lt 0 n && nat_lt n 256) ≡ true
-  positive zero b c = absurd (c refl)
-  positive (suc n) b c = grind (arith, nat_tests, b)
+real_is (pos zero) a b c = absurd (let w : true ≡ false = c in cc)
+real_is (pos (suc n)) a b c = grind (arith, nat_tests, b)
 real_is (negsuc n) a b c = absurd (let w : true ≡ false = a in cc)
 
 pub not_none : (z : ℤ) → is_member_value z ≡ true → int_eq z (pos 0) ≡ false

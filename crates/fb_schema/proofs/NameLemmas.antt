@@ -1,5 +1,6 @@
 -- The live fields of a legal table are found by name.
 use Rattle.std.proofs.Common.{◌≡◌, ℕ, zero, suc, ◌<◌, inl, inr, Bool, true, false, not, IsTrue, if◌then◌else◌, List, [], ◌∷◌, length, get_or, slice_get, map, filter, option_map, option_and_then, Option, Some, None, refl, sym, ◌∙◌, ap, arith}
+use Rattle.fb_schema.proofs.RowLemmas.{rises_at}
 use Rattle.fb_schema.proofs.KeyLemmas.{again_at}
 use Rattle.std.proofs.lemmas.List.{length-map, get_or-map}
 use Rattle.std.proofs.lemmas.Option.{slice_get-get_or}
@@ -25,7 +26,7 @@ use Rattle.fb_schema.proofs.IndexLemmas.{legal_slots, table_list}
 use Rattle.fb_schema.proofs.Kinded.{live_long, live_at}
 use Rattle.fb_schema.proofs.LegalLemmas.{legal_clear}
 use Rattle.fb_schema.proofs.LiveLemmas.{Rises, sorted_rises, sorted_members, filter_apart, filter_contains}
-use Rattle.fb_schema.proofs.Numbers.{lt_or_eq, le_or_lt, get_or_default, slice_get_some, neither_below}
+use Rattle.fb_schema.proofs.Numbers.{lt_or_eq, le_or_lt, get_or_default, slice_get_some, neither_below, negated}
 use Rattle.fb_schema.proofs.WalkLemmas.{mapped_at, not_named_table}
 
 -- no field of a legal table has an earlier one's name
@@ -50,13 +51,6 @@ one_name rows n all row legal at table i j d a b e = neither_below i j (λ lt. n
       let same : (get_or rs i x).name.now ≡ (get_or rs j x).name.now = sym (name_at i (omega arith)) ∙ e ∙ name_at j low in
       again_at name_cmp field_name rs i j x lt low (ap (λ y. slice_cmp nat_cmp y (get_or rs j x).name.now) same ∙ tied_itself nat_list_cmp_total (get_or rs j x).name.now)
 
-rises_at : (fs : List Field) → Rises fs → (i j : ℕ) (d : Field) → i < j → j < length fs → (get_or fs i d).slot < (get_or fs j d).slot
-rises_at [] r i j d lt within = absurd (omega arith)
-rises_at (f ∷ fs) r zero zero d lt within = absurd (omega arith)
-rises_at (f ∷ fs) r zero (suc j) d lt within = r.0 (get_or fs j d) (Contains-get_or fs j d (omega arith))
-rises_at (f ∷ fs) r (suc i) zero d lt within = absurd (omega arith)
-rises_at (f ∷ fs) r (suc i) (suc j) d lt within = rises_at fs r.1 i j d (omega arith) (omega arith)
-
 -- nor do two live fields have one name
 live_names : (fields : List Field) → AreApart fields → ((i j : ℕ) (d : Field) → i < length fields → j < length fields → (get_or fields i d).name ≡ (get_or fields j d).name → i ≡ j)
     → (i j : ℕ) (d : Field) → i < j → j < length (by_slot (filter is_live fields)) → (get_or (by_slot (filter is_live fields)) i d).name ≡ (get_or (by_slot (filter is_live fields)) j d).name → ⊥
@@ -71,7 +65,7 @@ live_names fields apart one i j d lt within e =
     let same : a.0 ≡ b.0 = one a.0 b.0 d a.1 b.1 (ap (λ (f : Field). f.name) x_at ∙ e ∙ ap (λ (f : Field). f.name) (sym y_at)) in
     let one_field : x ≡ y = sym x_at ∙ ap (λ k. get_or fields k d) same ∙ y_at in
     let slots = ap (λ (f : Field). f.slot) one_field in
-    let up = rises_at live (sorted_rises (filter is_live fields) (filter_apart is_live fields apart)) i j d lt within in
+    let up = rises_at live (sorted_rises (filter is_live fields) (filter_apart is_live fields apart)) i j x y (slice_get-get_or live i d (omega arith)) (slice_get-get_or live j d within) lt in
     omega arith
 
 live_list : (b : Bool) (xs : List Field) → b ≡ false → (if b then [] else xs) ≡ xs
@@ -108,8 +102,5 @@ view_not_again rows n all row legal at table views same q a =
 -- a table's row
 pub table_at : (all : List FieldRow) (objects : List ObjectPart) (n : ℕ) → IsTrue (is_some_table (slice_get (map (object_in all) objects) n)) → (row : ObjectPart) × (slice_get objects n ≡ Some row) × (row.is_struct ≡ false)
 table_at all [] n h = absurd (let w : false ≡ true = h in cc)
-table_at all (o ∷ os) zero h = (o, refl, not_it o.is_struct h) where
-  not_it : (b : Bool) → not b ≡ true → b ≡ false
-  not_it true h = absurd (let w : false ≡ true = h in cc)
-  not_it false h = refl
+table_at all (o ∷ os) zero h = (o, refl, negated o.is_struct h)
 table_at all (o ∷ os) (suc n) h = table_at all os n h

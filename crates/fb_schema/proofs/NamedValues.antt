@@ -15,9 +15,7 @@ use Rattle.fb_schema.proofs.UnionLemmas.{members_read, none_of}
 
 -- a test that implies another, asked with it
 with_implied : (a b : Bool) → (b ≡ true → a ≡ true) → (a && b) ≡ b
-with_implied true b h = refl
-with_implied false true h = h refl
-with_implied false false h = refl
+with_implied a b h = grind (arith, h)
 
 real_value : (v : ℕ) → 0 < v → v < 256 → is_member_value (pos v) ≡ true
 real_value v a b = grind (arith, nat_tests)
@@ -43,10 +41,7 @@ no_name_of_zero rows n = ap (option_map (λ (m : Member). m.name)) (none_of (sli
 
 no_members : (e : Option Enum) → is_some_union e ≡ false → members_in e ≡ []
 no_members None h = refl
-no_members (Some e) h = go e.is_union h where
-  go : (b : Bool) → b ≡ false → (if b then filter (λ m. is_member_value m.value) e.members else []) ≡ []
-  go true h = absurd (let w : true ≡ false = h in cc)
-  go false h = refl
+no_members (Some e) h = grind (arith, h)
 
 -- nor has what is no union's
 pub no_name_of_other : (rows : Rows) (n v : ℕ) → is_union rows n ≡ false → member_name rows n v ≡ None

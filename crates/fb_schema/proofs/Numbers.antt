@@ -26,3 +26,6 @@ all_true a b e h = grind arith
 
 pub both_true : (a b : Bool) → (a && b) ≡ true → (a ≡ true) × (b ≡ true)
 both_true a b h = grind arith
+
+pub negated : (b : Bool) → not b ≡ true → b ≡ false
+negated b h = grind arith

@@ -3,7 +3,7 @@ use Rattle.std.proofs.Common.{◌≡◌, ℕ, zero, suc, ◌+◌, ◌-◌, ◌<�
 use Rattle.std.proofs.lemmas.Cmp.{ranked, by_ranked, nat_cmp_total, then_total, on_total}
 use Rattle.std.proofs.lemmas.List.Sorted.{sorted_far, ranks_by, Contains-permutation, IsPermutation-sym, length_permutation, IsPermutation-keeps, IsPermutation-swap}
 use Rattle.std.proofs.lemmas.List.Elements.{Contains-get_or}
-use Rattle.std.proofs.lemmas.List.Edits.{swapped_from_swap}
+use Rattle.std.proofs.lemmas.List.Edits.{swapped_from_swap, length-swap}
 use Rattle.std.specs.Cmp.{IsTotalOrder, IsStrictWeakOrder}
 use Rattle.std.specs.Ordering.{nat_cmp, ordering_then, is_lt, ordering_reverse}
 use Rattle.std.specs.List.{Contains, swap}
@@ -44,9 +44,6 @@ not_less x y h = by_ranked (x < y) (x ≡ y) (y < x) (nat_cmp x y) (ranked x y _
 
 less_is : (x y : ℕ) → x < y → is_lt (nat_cmp x y) ≡ true
 less_is x y h = by_ranked (x < y) (x ≡ y) (y < x) (nat_cmp x y) (ranked x y _ refl) (λ e _. ap is_lt e) (λ _ e. absurd (omega arith)) (λ _ lt. absurd (omega arith))
-
-pub length-swap : {X : Type 0} (l : List X) (i j : ℕ) → i < length l → j < length l → length (swap l i j) ≡ length l
-length-swap l i j p q = length_permutation _ _ (IsPermutation-swap l (swap l i j) i j p q refl)
 
 -- two neighbours whose keys are alike
 abbrev pub Alike : {K : Type 0} → (K → K → Ordering) → List (K × ℕ) → K × ℕ → ℕ → Type 0
@@ -130,8 +127,8 @@ module _ {K : Type 0} (R : K → K → Ordering) (o : IsTotalOrder R) where
     apart : AreApart order
     apart = IsPermutation-keeps _ AreApart (apart_numbered keys) (λ l i j p q old a b d la lb e.
         let s = swapped_from_swap l (swap l i j) i j d p q refl in
-        let la' : a < length l = rw (length-swap l i j p q) at la in
-        let lb' : b < length l = rw (length-swap l i j p q) at lb in
+        let la' : a < length l = rw (length-swap l i j) at la in
+        let lb' : b < length l = rw (length-swap l i j) at lb in
         grind (arith, s, old)) order h.same
 
     key_at : (u : ℕ) (d : K × ℕ) (e : K) → u < length order → get_or keys (get_or order u d).1 e ≡ (get_or order u d).0

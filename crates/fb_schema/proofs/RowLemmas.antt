@@ -1,5 +1,6 @@
 -- The rows of live fields, and what is demanded of them.
 use Rattle.std.proofs.Common.{◌≡◌, ℕ, zero, suc, ◌<◌, Bool, true, false, not, ◌&&◌, List, [], ◌∷◌, slice_get, filter, Some, None, refl, sym, ◌∙◌, ap, arith, if◌then◌else◌}
+use Rattle.fb_schema.proofs.Numbers.{negated}
 use Rattle.std.proofs.lemmas.List.Elements.{filter_passes, All-contains}
 use Rattle.std.proofs.lemmas.Option.{slice_get-get_or, slice_get_within, get_or_from_slice_get}
 use Rattle.std.specs.List.{Contains}
@@ -38,15 +39,12 @@ table_rows : (o : Object) (b : Bool) → o.is_struct ≡ b → (i : ℕ) (f : Fi
 table_rows o true is i f e = absurd (let w : None ≡ Some f = sym (ap (λ b. slice_get (if b then [] else by_slot (filter is_live o.fields)) i) is) ∙ e in cc)
 table_rows o false is i f e = (is, contains_at (by_slot (filter is_live o.fields)) i f (sym (ap (λ b. slice_get (if b then [] else by_slot (filter is_live o.fields)) i) is) ∙ e))
 
-not_false : (b : Bool) → not b ≡ true → b ≡ false
-not_false b h = grind arith
-
 pub row_in : (rows : Rows) (k i : ℕ) (o : Object) (f : Field) → slice_get rows.objects k ≡ Some o → slice_get (live_rows o) i ≡ Some f → IsRowOf rows k i o f
 row_in rows k i o f at here =
     let t = table_rows o o.is_struct refl i f here in
     let c = (sorted_members f (filter is_live o.fields)).0 t.1 in
     let p = place_in o.fields f (filter_contains is_live o.fields f c) in
-    record { at = at; table = t.0; here = here; live = not_false f.deprecated (All-contains (λ f. is_live f ≡ true) (filter is_live o.fields) f (filter_passes is_live o.fields) c); place = p.0; there = p.1 }
+    record { at = at; table = t.0; here = here; live = negated f.deprecated (All-contains (λ f. is_live f ≡ true) (filter is_live o.fields) f (filter_passes is_live o.fields) c); place = p.0; there = p.1 }
 
 -- the demands of a live field
 abbrev pub IsAsked : Rows → Object → Field → ℕ → Type 0

@@ -78,35 +78,21 @@ field_holds rows legal k i f e =
     subst (λ (f : Live). KindHolds rows f f.kind) (sym r.same)
     (kind_holds rows (live_as rows (live_rows r.object) r.field r.kind) r.kind refl (names_object rows legal r.field.ty r.kind r.kind_is) (union_named rows legal k i r.object r.field r.row r.kind r.kind_is))
 
--- Type fields.
-scalar_type : (s : _) → is_type_field ForUnion (Some (One (OfScalar s))) ≡ true → Some (Scalar s) ≡ Some (Scalar UType)
-scalar_type UType h = refl
-scalar_type s h = absurd (let w : false ≡ true = h in cc)
-
-scalars_type : (s : _) → is_type_field ForUnions (Some (Vector (OfScalar s))) ≡ true → Some (Scalars s) ≡ Some (Scalars UType)
-scalars_type UType h = refl
-scalars_type s h = absurd (let w : false ≡ true = h in cc)
-
-byte_shape : (rows : Rows) (index : ℤ) (s : Option Shape) → is_type_field ForUnion s ≡ true → shape_kind rows index s ≡ Some (Scalar UType)
-byte_shape rows index (Some (One (OfScalar s))) h = scalar_type s h
-byte_shape rows index s h = absurd (let w : false ≡ true = h in cc)
-
-bytes_shape : (rows : Rows) (index : ℤ) (s : Option Shape) → is_type_field ForUnions s ≡ true → shape_kind rows index s ≡ Some (Scalars UType)
-bytes_shape rows index (Some (Vector (OfScalar s))) h = scalars_type s h
-bytes_shape rows index s h = absurd (let w : false ≡ true = h in cc)
-
 -- the kind of a type field
-type_kind : TypeField → Kind
+abbrev type_kind : TypeField → Kind
 type_kind ForUnion = Scalar UType
 type_kind ForUnions = Scalars UType
 
+type_shape : (rows : Rows) (index : ℤ) (wanted : TypeField) (s : Option Shape) → is_type_field wanted s ≡ true → shape_kind rows index s ≡ Some (type_kind wanted)
+type_shape rows index ForUnion (Some (One (OfScalar UType))) h = refl
+type_shape rows index ForUnions (Some (Vector (OfScalar UType))) h = refl
+type_shape rows index wanted s h = absurd (let w : false ≡ true = h in cc)
+
 kind_of_type : (rows : Rows) (wanted : TypeField) (h : Field) → is_type_field wanted (shape_of h.ty) ≡ true → kind_of rows h.ty ≡ Some (type_kind wanted)
-unfolding kind_of type_kind
-kind_of_type rows ForUnion h e = byte_shape rows h.ty.index (shape_of h.ty) e
-kind_of_type rows ForUnions h e = bytes_shape rows h.ty.index (shape_of h.ty) e
+unfolding kind_of
+kind_of_type rows wanted h e = type_shape rows h.ty.index wanted (shape_of h.ty) e
 
 size_of_type : (rows : Rows) (wanted : TypeField) → kind_size rows (type_kind wanted) ≡ 1
-unfolding type_kind
 size_of_type rows ForUnion = refl
 size_of_type rows ForUnions = refl
 
@@ -156,7 +142,7 @@ kind_typed fs i slot byte vector (Unions e) h one many = many h
 kind_typed fs i slot byte vector kind h one many = tt
 
 row_typed : (rows : Rows) → IsLegal rows → (k i : ℕ) (o : Object) (g : Field) → IsRowOf rows k i o g → (kind : Kind) → kind_of rows g.ty ≡ Some kind → IsTyped (live_fields rows k) i g.slot kind
-unfolding kind_of type_kind
+unfolding kind_of
 row_typed rows legal k i o g r kind e =
     let byte = stands_below ForUnion o.fields g.slot in
     let vector = stands_below ForUnions o.fields g.slot in
@@ -182,9 +168,7 @@ row_slot rows legal k i o f r =
     let is = asked_of_slot (f.slot % 2 == 0) (nat_lt f.slot 4) (stands_before same_slot o.fields r.place f) line in
     ((Decides-eqb (f.slot % 2) 0).0 is.0, at_least f.slot is.1) where
       at_least : (n : ℕ) → nat_lt n 4 ≡ false → 4 ≤ n
-      at_least n h = elim (le_or_lt 4 n) [ inl le ↦ le | inr lt ↦ absurd (let w : true ≡ false = sym (below n lt) ∙ h in cc) ] where
-        below : (n : ℕ) → n < 4 → nat_lt n 4 ≡ true
-        below n lt = grind (arith, nat_tests)
+      at_least n h = grind (arith, nat_tests, h)
 
 spaced_from : (low : ℕ) (fs : List Field) → low % 2 ≡ 0 → Rises fs → ((f : Field) → Contains fs f → (f.slot % 2 ≡ 0) × (low ≤ f.slot)) → (i : ℕ) (f : Field) → slice_get fs i ≡ Some f → low + 2 * i ≤ f.slot
 spaced_from low [] even r all i f e = absurd (let w : None ≡ Some f = e in cc)
