@@ -61,26 +61,22 @@ is_true_or_false true = inl refl
 is_true_or_false false = inr refl
 
 module _ (rows : Rows) (members : List MemberRow) where
-  pub asked_at : ℕ → MemberRow → List Demand
+  abbrev pub asked_at : ℕ → MemberRow → List Demand
   asked_at p row = member_demands rows (member_of_row row) (stands_before same_value (map member_of_row members) p (member_of_row row)) (stands_before same_member_name (map member_of_row members) p (member_of_row row))
 
   pub member_at : (p : ℕ) (row : MemberRow) → slice_get members p ≡ Some row → members_asked rows (map member_of_row members) p ≡ asked_at p row
-  unfolding asked_at
   member_at p row at = ap (demands_of_member rows (map member_of_row members) p) (mapped_at member_of_row members p row at)
 
   pub clear_demands : (q : ℕ) (row : MemberRow) → slice_get members q ≡ Some row → first_code (members_asked rows (map member_of_row members) q) ≡ None
       → first_code (member_demands rows (member_of_row row) (stands_before same_value (map member_of_row members) q (member_of_row row)) (stands_before same_member_name (map member_of_row members) q (member_of_row row))) ≡ None
-  unfolding asked_at
   clear_demands q row at clear = ap first_code (sym (member_at q row at)) ∙ clear
 
   not_taken_member : (q : ℕ) → first_code (members_asked rows (map member_of_row members) q) ≡ None → (row : MemberRow) → slice_get members q ≡ Some row → stands_before same_value (map member_of_row members) q (member_of_row row) ≡ true → ⊥
-  unfolding asked_at
   not_taken_member q clear row at old =
       let new = or_false (int_lt row.value (pos 0)) (int_lt (pos 255) row.value) (stands_before same_value (map member_of_row members) q (member_of_row row)) (clear_line (asked_at q row) (clear_demands q row at clear) 0 _ refl) in
       let w : true ≡ false = sym old ∙ new in cc
 
   not_named_member : (q : ℕ) → first_code (members_asked rows (map member_of_row members) q) ≡ None → (row : MemberRow) → slice_get members q ≡ Some row → stands_before same_member_name (map member_of_row members) q (member_of_row row) ≡ true → ⊥
-  unfolding asked_at
   not_named_member q clear row at old =
       let new = clear_line (asked_at q row) (clear_demands q row at clear) 1 _ refl in
       let w : true ≡ false = sym old ∙ new in cc
@@ -113,7 +109,6 @@ module _ (rows : Rows) (members : List MemberRow) where
       → ((q : ℕ) → q < p → first_code (members_asked rows (map member_of_row members) q) ≡ None)
       → taken ≡ is_at value_again p → named ≡ (not (int_eq row.value (pos 0)) && is_at name_again p)
       → first_code (member_demands rows (member_of_row row) taken named) ≡ first_code (members_asked rows (map member_of_row members) p)
-  unfolding asked_at
   member_code p row value_again name_again taken named at h k clear t n =
       let same_taken = t ∙ is_at_test int_cmp member_value member_of_row same_value values_agree members p row at value_again h (λ q lt. value_not_again q (clear q lt)) in
       let same_named = n ∙ name_test p row name_again at k clear in

@@ -52,25 +52,19 @@ false_eq : (a : Bool) → is_eq (bool_cmp a false) ≡ true → a ≡ false
 false_eq a e = grind arith
 
 module _ (rows : Rows) (members : List MemberRow) (clear : (q : ℕ) → first_code (members_asked rows (map member_of_row members) q) ≡ None) (name : Bor (List ℕ)) where
-  key : Bool × Bor (List ℕ)
-  key = (false, name)
-
-  keyed : Member → Bool
+  abbrev keyed : Member → Bool
   keyed m = is_eq (bool_cmp (int_eq m.value (pos 0)) false) && bytes_eq m.name name.now
 
-  test : Member → Bool
+  abbrev test : Member → Bool
   test m = is_member_value m.value && bytes_eq m.name name.now
 
   agrees : (x : MemberRow) → Decides (keyed (member_of_row x)) (member_cmp (member_key x) (false, name) ≡ Equal)
-  unfolding keyed
   agrees x = both_equal (bool_cmp (int_eq x.value (pos 0)) false) (name_cmp x.name name) (bytes_eq x.name.now name.now) (names_agree x.name.now name.now)
 
   tied : (m : MemberRow) → test (member_of_row m) ≡ true → member_cmp (member_key m) (false, name) ≡ Equal
-  unfolding keyed test
   tied m h = (agrees m).0 (all_true (is_eq (bool_cmp (int_eq m.value (pos 0)) false)) (bytes_eq m.name.now name.now) (eq_false (int_eq m.value (pos 0)) (not_none m.value (both_true (is_member_value m.value) (bytes_eq m.name.now name.now) h).0)) (both_true (is_member_value m.value) (bytes_eq m.name.now name.now) h).1)
 
   pub real_at : (k : ℕ) (x : MemberRow) → k < length members → member_cmp (member_key (get_or members k x)) (false, name) ≡ Equal → is_member_value (get_or members k x).value ≡ true
-  unfolding keyed
   real_at k x lt e =
       let m = get_or members k x in
       let c = clear_demands rows members k m (slice_get-get_or members k x lt) (clear k) in
@@ -81,14 +75,12 @@ module _ (rows : Rows) (members : List MemberRow) (clear : (q : ℕ) → first_c
       (false_eq (int_eq m.value (pos 0)) (both_true (is_eq (bool_cmp (int_eq m.value (pos 0)) false)) (bytes_eq m.name.now name.now) ((agrees m).1 e)).0)
 
   tested : (k : ℕ) (x : MemberRow) → k < length members → member_cmp (member_key (get_or members k x)) (false, name) ≡ Equal → test (member_of_row (get_or members k x)) ≡ true
-  unfolding keyed test
   tested k x lt e =
       let m = get_or members k x in
       all_true (is_member_value m.value) (bytes_eq m.name.now name.now) (real_at k x lt e) (both_true (is_eq (bool_cmp (int_eq m.value (pos 0)) false)) (bytes_eq m.name.now name.now) ((agrees m).1 e)).1
 
   pub name_found : (k : ℕ) (x : MemberRow) → k < length members → member_cmp (member_key (get_or members k x)) (false, name) ≡ Equal
       → find (λ m. bytes_eq m.name name.now) (filter (λ m. is_member_value m.value) (map member_of_row members)) ≡ Some (member_of_row (get_or members k x))
-  unfolding test
   name_found k x lt e =
       let at : (j : ℕ) → j < length members → get_or (map member_of_row members) j (member_of_row x) ≡ member_of_row (get_or members j x) = λ j lt. get_or-map member_of_row members j x (member_of_row x) lt in
       find_filter (λ m. bytes_eq m.name name.now) (λ m. is_member_value m.value) (map member_of_row members)
@@ -99,7 +91,6 @@ module _ (rows : Rows) (members : List MemberRow) (clear : (q : ℕ) → first_c
 
   pub name_missing : ((k : ℕ) (x : MemberRow) → k < length members → member_cmp (member_key (get_or members k x)) (false, name) ≡ Equal → ⊥)
       → find (λ m. bytes_eq m.name name.now) (filter (λ m. is_member_value m.value) (map member_of_row members)) ≡ None
-  unfolding test
   name_missing never =
       find_filter (λ m. bytes_eq m.name name.now) (λ m. is_member_value m.value) (map member_of_row members)
       ∙ no_item test (map member_of_row members) (λ j d within h.

@@ -46,18 +46,16 @@ members_read rows all enums same n row at union =
     ∙ union_list row.is_union (filter (λ m. is_member_value m.value) (map member_of_row (part all row.members))) union
 
 module _ (rows : Rows) (members : List MemberRow) (clear : (q : ℕ) → first_code (members_asked rows (map member_of_row members) q) ≡ None) where
-  test : ℕ → Member → Bool
+  abbrev test : ℕ → Member → Bool
   test v y = is_member_value y.value && int_eq y.value (pos v)
 
   real_value : (v : ℕ) → 0 < v → v < 256 → is_member_value (pos v) ≡ true
   real_value v a b = grind (arith, nat_tests)
 
   passes : (v : ℕ) → 0 < v → v < 256 → (y : Member) → y.value ≡ pos v → test v y ≡ true
-  unfolding test
   passes v a b y e = all_true (is_member_value y.value) (int_eq y.value (pos v)) (ap is_member_value e ∙ real_value v a b) ((signed_Decides y.value (pos v)).1 e)
 
   named : (v : ℕ) (y : Member) → test v y ≡ true → y.value ≡ pos v
-  unfolding test
   named v y h = (signed_Decides y.value (pos v)).0 (both_true (is_member_value y.value) (int_eq y.value (pos v)) h).1
 
   at_row : (k : ℕ) (x : MemberRow) → k < length members → get_or (map member_of_row members) k (member_of_row x) ≡ member_of_row (get_or members k x)
@@ -69,7 +67,6 @@ module _ (rows : Rows) (members : List MemberRow) (clear : (q : ℕ) → first_c
   -- the member that the place of a value names is the one that is found
   pub value_found : (v k : ℕ) (x : MemberRow) → 0 < v → v < 256 → k < length members → ((d : ℤ) → int_cmp (get_or (map member_value members) k d) (pos v) ≡ Equal)
       → find (λ m. int_eq m.value (pos v)) (filter (λ m. is_member_value m.value) (map member_of_row members)) ≡ Some (member_of_row (get_or members k x))
-  unfolding test
   value_found v k x a b lt h =
       let here : (get_or members k x).value ≡ pos v = value_of v k x lt h in
       find_filter (λ m. int_eq m.value (pos v)) (λ m. is_member_value m.value) (map member_of_row members)
@@ -82,7 +79,6 @@ module _ (rows : Rows) (members : List MemberRow) (clear : (q : ℕ) → first_c
 
   pub value_missing : (v : ℕ) → ((k : ℕ) (d : ℤ) → k < length members → int_cmp (get_or (map member_value members) k d) (pos v) ≡ Equal → ⊥)
       → find (λ m. int_eq m.value (pos v)) (filter (λ m. is_member_value m.value) (map member_of_row members)) ≡ None
-  unfolding test
   value_missing v never =
       find_filter (λ m. int_eq m.value (pos v)) (λ m. is_member_value m.value) (map member_of_row members)
       ∙ no_item (test v) (map member_of_row members) (λ j d within e.

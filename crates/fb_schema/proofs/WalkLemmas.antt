@@ -88,20 +88,17 @@ pub or_false : (a b c : Bool) → (a || b || c) ≡ false → c ≡ false
 or_false a b c e = grind arith
 
 module _ (rows : Rows) (fields : List FieldRow) where
-  table_asked_at : ℕ → FieldRow → List Demand
+  abbrev table_asked_at : ℕ → FieldRow → List Demand
   table_asked_at p row = table_field_demands rows (field_of row) (stands_before same_field_name (map field_of fields) p (field_of row)) (stands_before same_slot (map field_of fields) p (field_of row))
       (stands_below ForUnion (map field_of fields) row.slot) (stands_below ForUnions (map field_of fields) row.slot)
 
   table_at : (p : ℕ) (row : FieldRow) → slice_get fields p ≡ Some row → table_asked rows (map field_of fields) p ≡ table_asked_at p row
-  unfolding table_asked_at
   table_at p row at = ap (demands_of_table_field rows (map field_of fields) p) (mapped_at field_of fields p row at)
 
   pub not_named_table : (q : ℕ) → first_code (table_asked rows (map field_of fields) q) ≡ None → IsAgain name_cmp (map field_name fields) q → ⊥
-  unfolding table_asked_at
   not_named_table q clear a = never_again name_cmp field_name field_of same_field_name field_names_agree fields q a (λ row at. clear_line (table_asked_at q row) (ap first_code (sym (table_at q row at)) ∙ clear) 0 _ refl)
 
   not_taken_table : (q : ℕ) → first_code (table_asked rows (map field_of fields) q) ≡ None → IsAgain nat_cmp (map field_slot fields) q → ⊥
-  unfolding table_asked_at
   not_taken_table q clear a = never_again nat_cmp field_slot field_of same_slot slots_agree fields q a
       (λ row at. or_false (not (row.slot % 2 == 0)) (nat_lt row.slot 4) (stands_before same_slot (map field_of fields) q (field_of row)) (clear_line (table_asked_at q row) (ap first_code (sym (table_at q row at)) ∙ clear) 1 _ refl))
 
@@ -111,7 +108,6 @@ module _ (rows : Rows) (fields : List FieldRow) where
       → ((q : ℕ) → q < p → first_code (table_asked rows (map field_of fields) q) ≡ None)
       → named ≡ is_at name_again p → taken ≡ is_at slot_again p → byte ≡ stands_below ForUnion (map field_of fields) row.slot → vector ≡ stands_below ForUnions (map field_of fields) row.slot
       → first_code (table_field_demands rows (field_of row) named taken byte vector) ≡ first_code (table_asked rows (map field_of fields) p)
-  unfolding table_asked_at
   table_code p row name_again slot_again named taken byte vector at h k clear n t b v =
       let same_named = n ∙ is_at_test name_cmp field_name field_of same_field_name field_names_agree fields p row at name_again h (λ q lt. not_named_table q (clear q lt)) in
       let same_taken = t ∙ is_at_test nat_cmp field_slot field_of same_slot slots_agree fields p row at slot_again k (λ q lt. not_taken_table q (clear q lt)) in

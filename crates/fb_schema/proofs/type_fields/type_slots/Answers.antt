@@ -17,6 +17,3 @@ returns g c =
           ∙ c.loop-field.invariant slot
           ∙ ap (λ fs. stands_below c.args.wanted (map field_of fs) slot) all;
     }
-
-pub loop-field-preserved : goal.loop-field-preserved
-loop-field-preserved g c = grind (arith, common_steps)
