@@ -19,16 +19,14 @@ found_here b c code rest e = grind arith
 is_broken : (d : Demand) (code : Code) → Some d ≡ Some (record { code = code; broken = true }) → d.broken ≡ true
 is_broken d code e = let w : d ≡ (record { code = code; broken = true }) = cc in ap (λ (d : Demand). d.broken) w
 
-pub none_broken : (ds : List Demand) → first_code ds ≡ None → (line : ℕ) (code : Code) → IsBrokenIn ds line code → ⊥
-none_broken [] h line code b = cc
-none_broken (d ∷ ds) h zero code b = let p = passed_over d.broken d.code (first_code ds) h in let q = is_broken d code b in let w : true ≡ false = sym q ∙ p.0 in cc
-none_broken (d ∷ ds) h (suc line) code b = none_broken ds (passed_over d.broken d.code (first_code ds) h).1 line code b
-
 -- where no demand of a list is broken, the one at this line isn't
 pub clear_line : (ds : List Demand) → first_code ds ≡ None → (line : ℕ) (d : Demand) → slice_get ds line ≡ Some d → d.broken ≡ false
 clear_line [] h line d e = absurd (cc)
 clear_line (x ∷ ds) h zero d e = let same : x ≡ d = cc in ap (λ (d : Demand). d.broken) (sym same) ∙ (passed_over x.broken x.code (first_code ds) h).0
 clear_line (x ∷ ds) h (suc line) d e = clear_line ds (passed_over x.broken x.code (first_code ds) h).1 line d e
+
+pub none_broken : (ds : List Demand) → first_code ds ≡ None → (line : ℕ) (code : Code) → IsBrokenIn ds line code → ⊥
+none_broken ds h line code b = let w : true ≡ false = clear_line ds h line (record { code = code; broken = true }) b in cc
 
 -- the line of the first broken demand
 pub first_line : (ds : List Demand) (code : Code) → first_code ds ≡ Some code → (line : ℕ) × IsBrokenIn ds line code × ((m : ℕ) (c : Code) → m < line → IsBrokenIn ds m c → ⊥)

@@ -23,17 +23,11 @@ first_below f (suc n) = or_at (first_below f n) n (f n)
 
 or_none : {A : Type 0} (x : Option (A × ℕ)) (n : ℕ) (found : Option A) → or_at x n found ≡ None → (x ≡ None) × (found ≡ None)
 unfolding or_at
-or_none (Some x) n found h = absurd (cc)
-or_none None n None h = (refl, refl)
-or_none None n (Some a) h = absurd (cc)
+or_none x n found h = grind (arith, h)
 
 or_some : {A : Type 0} (x : Option (A × ℕ)) (n : ℕ) (found : Option A) (y : A × ℕ) → or_at x n found ≡ Some y → (x ≡ Some y) ⊎ ((x ≡ None) × (found ≡ Some y.0) × (n ≡ y.1))
 unfolding or_at
-or_some (Some x) n found y h = inl h
-or_some None n None y h = absurd (cc)
-or_some {A} None n (Some a) y h =
-    let same : ◌≡◌ {A = A × ℕ} (a, n) y = same_Some _ _ h in
-    inr (refl, ap (λ (z : A × ℕ). Some z.0) same, ap (λ (z : A × ℕ). z.1) same)
+or_some x n found y h = grind (arith, h)
 
 module _ {A : Type 0} (f : ℕ → Option A) where
   -- nothing is found below n
@@ -109,8 +103,7 @@ module _ (rows : Rows) where
       place.0
 
   no_fault : (x : Option (((Code × ℕ) × ℕ) × ℕ)) → option_map fault_of x ≡ None → x ≡ None
-  no_fault None h = refl
-  no_fault (Some x) h = absurd (cc)
+  no_fault x h = grind (arith, h)
 
   one_fault : (x : Option (((Code × ℕ) × ℕ) × ℕ)) (f : SchemaFault) → in_rows rows ≡ x → option_map fault_of x ≡ Some f → IsFirstIllegal rows f
   one_fault None f e h = absurd (cc)

@@ -24,7 +24,7 @@ use Rattle.fb_schema.proofs.MemberLemmas.{name_not_again, clear_demands, both_eq
 use Rattle.fb_schema.proofs.Numbers.{slice_get_some, both_true, all_true}
 use Rattle.fb_schema.proofs.PlaceLemmas.{alike_one}
 use Rattle.fb_schema.proofs.Search.{not_true}
-use Rattle.fb_schema.proofs.UnionLemmas.{members_read}
+use Rattle.fb_schema.proofs.UnionLemmas.{members_read, not_none}
 use Rattle.fb_schema.proofs.WalkLemmas.{names_agree, names_total}
 
 pub members_total : IsTotalOrder member_cmp
@@ -41,9 +41,6 @@ real_is : (z : ℤ) → int_lt z (pos 0) ≡ false → int_lt (pos 255) z ≡ fa
 real_is (pos zero) a b c = absurd (let w : true ≡ false = c in cc)
 real_is (pos (suc n)) a b c = grind (arith, nat_tests, b)
 real_is (negsuc n) a b c = absurd (let w : true ≡ false = a in cc)
-
-pub not_none : (z : ℤ) → is_member_value z ≡ true → int_eq z (pos 0) ≡ false
-not_none z h = not_true (int_eq z (pos 0)) (λ e. let w : true ≡ false = sym h ∙ ap is_member_value ((signed_Decides z (pos 0)).0 e) in cc)
 
 eq_false : (a : Bool) → a ≡ false → is_eq (bool_cmp a false) ≡ true
 eq_false a e = grind arith

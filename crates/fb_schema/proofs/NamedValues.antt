@@ -11,14 +11,11 @@ use Rattle.fb_schema.specs.Rows.{Rows, Member, Enum, member_of_row, is_union, is
 use Rattle.fb_schema.specs.Flat.{part}
 use Rattle.fb_schema.specs.FlatRows.{enum_in}
 use Rattle.fb_schema.proofs.FindLemmas.{find_filter}
-use Rattle.fb_schema.proofs.UnionLemmas.{members_read, none_of}
+use Rattle.fb_schema.proofs.UnionLemmas.{members_read, none_of, real_value}
 
 -- a test that implies another, asked with it
 with_implied : (a b : Bool) → (b ≡ true → a ≡ true) → (a && b) ≡ b
 with_implied a b h = grind (arith, h)
-
-real_value : (v : ℕ) → 0 < v → v < 256 → is_member_value (pos v) ≡ true
-real_value v a b = grind (arith, nat_tests)
 
 -- a row with a member's value is a member's
 asked_once : (v : ℕ) → 0 < v → v < 256 → (z : ℤ) → (is_member_value z && int_eq z (pos v)) ≡ int_eq z (pos v)

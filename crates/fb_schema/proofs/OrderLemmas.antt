@@ -35,15 +35,13 @@ apart_numbered keys i j d p q e =
 
 -- neither key is below the other, where each is one of two ends that are alike
 tied_between : (p q x y : Ordering) → p ≡ ordering_reverse q → is_lt (ordering_then p x) ≡ false → is_lt (ordering_then q y) ≡ false → (q ≡ Equal) × (is_lt x ≡ false) × (is_lt y ≡ false)
-tied_between p Less x y e a b = absurd (cc)
-tied_between p Greater x y e a b = absurd (let w : is_lt (ordering_then Less x) ≡ false = subst (λ r. is_lt (ordering_then r x) ≡ false) e a in cc)
-tied_between p Equal x y e a b = (refl, subst (λ r. is_lt (ordering_then r x) ≡ false) e a, b)
+tied_between p q x y e a b = grind (arith, e, a, b)
 
 not_less : (x y : ℕ) → is_lt (nat_cmp x y) ≡ false → y ≤ x
-not_less x y h = by_ranked (x < y) (x ≡ y) (y < x) (nat_cmp x y) (ranked x y _ refl) (λ e lt. absurd (let w : true ≡ false = sym (ap is_lt e) ∙ h in cc)) (λ _ e. omega arith) (λ _ lt. omega arith)
+not_less x y h = grind (arith, h)
 
 less_is : (x y : ℕ) → x < y → is_lt (nat_cmp x y) ≡ true
-less_is x y h = by_ranked (x < y) (x ≡ y) (y < x) (nat_cmp x y) (ranked x y _ refl) (λ e _. ap is_lt e) (λ _ e. absurd (omega arith)) (λ _ lt. absurd (omega arith))
+less_is x y h = grind (arith, h)
 
 -- two neighbours whose keys are alike
 abbrev pub Alike : {K : Type 0} → (K → K → Ordering) → List (K × ℕ) → K × ℕ → ℕ → Type 0

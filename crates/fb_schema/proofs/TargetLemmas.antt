@@ -20,14 +20,9 @@ use Rattle.fb_schema.proofs.UnionLemmas.{none_for_zero}
 pub only_item : {X : Type 0} (old new : List X) (x : X) → old ≡ [] → new ≡ old ++ x ∷ [] → new ≡ x ∷ []
 only_item old new x e f = f ∙ ap (λ xs. xs ++ x ∷ []) e
 
-abbrev no_places : List ℕ
-no_places = 0 ∷ []
-
 pub first_place : (places : List ℕ) → places ≡ 0 ∷ [] → (k : ℕ) → get_or places k 0 ≡ 0
-first_place places e k = ap (λ ps. get_or ps k 0) e ∙ go k where
-  go : (k : ℕ) → get_or no_places k 0 ≡ 0
-  go zero = refl
-  go (suc k) = refl
+first_place places e zero = ap (λ ps. get_or ps 0 0) e
+first_place places e (suc k) = ap (λ ps. get_or ps (suc k) 0) e
 
 -- the value 0 leads to nothing
 pub zero_target : (rows : Rows) (members : List Member) → nothing ≡ target_of rows (kind_among rows members 0)

@@ -16,8 +16,7 @@ use Rattle.fb_schema.specs.Rows.{Rows, Object, Member, Enum, entry_at}
 use Rattle.fb_schema.specs.Targets.{target_of, kind_to, kind_among}
 use Rattle.fb_schema.proofs.DemandLaws.{clear_line}
 use Rattle.fb_schema.proofs.FindLemmas.{find_filter}
-use Rattle.fb_schema.proofs.MemberNames.{not_none}
-use Rattle.fb_schema.proofs.UnionLemmas.{union_list}
+use Rattle.fb_schema.proofs.UnionLemmas.{union_list, not_none}
 use Rattle.fb_schema.proofs.LegalLemmas.{legal_clear}
 
 -- what is found passes the test and stands in the list

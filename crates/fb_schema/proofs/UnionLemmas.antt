@@ -1,5 +1,6 @@
 -- The members of a union of legal rows.
 use Rattle.std.proofs.Common.{◌≡◌, ℕ, zero, suc, ◌<◌, ℤ, pos, Bool, true, false, ◌&&◌, List, [], ◌∷◌, length, get_or, slice_get, filter, map, Option, Some, None, IsTrue, refl, sym, ◌∙◌, ap, arith, find, if◌then◌else◌}
+use Rattle.fb_schema.proofs.Search.{not_true}
 use Rattle.std.proofs.lemmas.Bool.Decides.{nat_tests}
 use Rattle.std.proofs.lemmas.List.{length-map, get_or-map}
 use Rattle.std.specs.Cmp.{Equal-is, signed_Decides}
@@ -32,6 +33,13 @@ union_at all (e ∷ es) (suc n) h = union_at all es n h
 pub union_list : {X : Type 0} (b : Bool) (xs : List X) → b ≡ true → (if b then xs else []) ≡ xs
 union_list b xs e = grind arith
 
+-- a member's value is from 1 to 255
+pub real_value : (v : ℕ) → 0 < v → v < 256 → is_member_value (pos v) ≡ true
+real_value v a b = grind (arith, nat_tests)
+
+pub not_none : (z : ℤ) → is_member_value z ≡ true → int_eq z (pos 0) ≡ false
+not_none z h = not_true (int_eq z (pos 0)) (λ e. let w : true ≡ false = sym h ∙ ap is_member_value ((signed_Decides z (pos 0)).0 e) in cc)
+
 -- no member of a union of legal rows breaks a demand
 pub members_clear : (rows : Rows) (all : List MemberRow) (enums : List EnumPart) → rows.enums ≡ map (enum_in all) enums → IsLegal rows → (n : ℕ) (row : EnumPart) → slice_get enums n ≡ Some row → row.is_union ≡ true → (q : ℕ) → first_code (members_asked rows (map member_of_row (part all row.members)) q) ≡ None
 members_clear rows all enums same legal n row at union q =
@@ -48,9 +56,6 @@ members_read rows all enums same n row at union =
 module _ (rows : Rows) (members : List MemberRow) (clear : (q : ℕ) → first_code (members_asked rows (map member_of_row members) q) ≡ None) where
   abbrev test : ℕ → Member → Bool
   test v y = is_member_value y.value && int_eq y.value (pos v)
-
-  real_value : (v : ℕ) → 0 < v → v < 256 → is_member_value (pos v) ≡ true
-  real_value v a b = grind (arith, nat_tests)
 
   passes : (v : ℕ) → 0 < v → v < 256 → (y : Member) → y.value ≡ pos v → test v y ≡ true
   passes v a b y e = all_true (is_member_value y.value) (int_eq y.value (pos v)) (ap is_member_value e ∙ real_value v a b) ((signed_Decides y.value (pos v)).1 e)
@@ -95,9 +100,7 @@ unfolding member_of
 member_of_row_is rows all enums same n row at union v = ap (λ ms. option_and_then (λ (m : Member). kind_of rows m.ty) (find (λ m. int_eq m.value (pos v)) ms)) (members_read rows all enums same n row at union)
 
 zero_test : (z : ℤ) → (is_member_value z && int_eq z (pos 0)) ≡ true → ⊥
-zero_test z h = go z ((signed_Decides z (pos 0)).0 (both_true (is_member_value z) (int_eq z (pos 0)) h).1) h where
-  go : (z : ℤ) → z ≡ pos 0 → (is_member_value z && int_eq z (pos 0)) ≡ true → ⊥
-  go z e h = let w : false ≡ true = ap (λ z. is_member_value z && int_eq z (pos 0)) (sym e) ∙ h in cc
+zero_test z h = let both = both_true (is_member_value z) (int_eq z (pos 0)) h in let w : true ≡ false = sym both.1 ∙ not_none z both.0 in cc
 
 pub none_for_zero : (ms : List Member) → find (λ m. int_eq m.value (pos 0)) (filter (λ m. is_member_value m.value) ms) ≡ None
 none_for_zero ms = find_filter (λ m. int_eq m.value (pos 0)) (λ m. is_member_value m.value) ms ∙ no_item (λ m. is_member_value m.value && int_eq m.value (pos 0)) ms (λ j d lt e. zero_test (get_or ms j d).value e)
