@@ -4,7 +4,7 @@ use Rattle.fb_schema.specs.declared.fault.Code.{Code}
 use Rattle.fb_schema.specs.declared.fault.SchemaFault.{SchemaFault}
 use Rattle.fb_schema.specs.Rows.{Field, Object, Enum, Rows}
 use Rattle.fb_schema.specs.Demands.{Demand, Key, IsBefore, IsBroken, IsLegal, IsFirstIllegal, demands_at, demands_of_object, demands_of_struct_field, demands_of_table_field, demands_of_enum, demands_of_member, first_code, part_of}
-use Rattle.fb_schema.proofs.Numbers.{lt_or_eq, le_or_lt, slice_get_past}
+use Rattle.fb_schema.proofs.Numbers.{slice_get_past}
 
 -- a broken demand of a list
 abbrev pub IsBrokenIn : List Demand → ℕ → Code → Type 0

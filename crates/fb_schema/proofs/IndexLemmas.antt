@@ -12,7 +12,7 @@ use Rattle.fb_schema.specs.Live.{Live, AreApart, AreSpaced, live_rows, widest_of
 use Rattle.fb_schema.specs.Matched.{AreMatched}
 use Rattle.fb_schema.specs.Steps.{act_of, is_plain_act, are_plain}
 use Rattle.fb_schema.specs.Rows.{Rows, Field, Object, field_of}
-use Rattle.fb_schema.proofs.Numbers.{lt_or_eq, le_or_lt, get_or_default, neither_below}
+use Rattle.fb_schema.proofs.Numbers.{get_or_default, neither_below}
 use Rattle.fb_schema.proofs.WalkLemmas.{mapped_at}
 
 -- In a legal table no slot stands twice.

@@ -1,8 +1,8 @@
 -- The live fields of legal rows have a kind.
 use Rattle.std.proofs.Common.{◌≡◌, ℕ, ℤ, pos, negsuc, Bool, true, false, not, ◌&&◌, ◌||◌, List, slice_get, Option, Some, None, is_none, length, option_map, option_and_then, is_some, refl, sym, ◌∙◌, ap, subst, arith}
 use Rattle.fb_schema.specs.declared.kinds.Kind.{Kind}
-use Rattle.fb_schema.specs.declared.kinds.Kind.TheVariants.{Scalar, Text, Struct, Table, Union, Scalars, Texts, Structs, Tables, Unions}
-use Rattle.fb_schema.specs.declared.kinds.Element.TheVariants.{Scalar as OfScalar, Text as OfText, Object as OfObject, Union as OfUnion}
+use Rattle.fb_schema.specs.declared.kinds.Kind.TheVariants.{Struct, Table, Union, Structs, Tables, Unions}
+use Rattle.fb_schema.specs.declared.kinds.Element.TheVariants.{Object as OfObject, Union as OfUnion}
 use Rattle.fb_schema.specs.declared.kinds.Shape.{Shape}
 use Rattle.fb_schema.specs.declared.kinds.Shape.TheVariants.{One, Vector, Array}
 use Rattle.fb_schema.specs.Demands.{IsLegal, table_field_demands, is_supported, is_object, is_union_shape, names_no_object, names_no_union}

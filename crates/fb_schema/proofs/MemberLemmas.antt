@@ -57,8 +57,7 @@ none_value members p m e = any_weaker (λ y. same_key y m) (λ y. same_value y m
     (signed_Decides y.value m.value).1 (there ∙ sym here)) (take p members)
 
 pub is_true_or_false : (b : Bool) → (b ≡ true) ⊎ (b ≡ false)
-is_true_or_false true = inl refl
-is_true_or_false false = inr refl
+is_true_or_false b = grind arith
 
 module _ (rows : Rows) (members : List MemberRow) where
   abbrev pub asked_at : ℕ → MemberRow → List Demand

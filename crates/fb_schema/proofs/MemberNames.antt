@@ -1,11 +1,11 @@
 -- The members of a union of legal rows are found by name.
-use Rattle.std.proofs.Common.{◌≡◌, ℕ, zero, suc, ◌<◌, ℤ, pos, negsuc, Bool, true, false, ◌&&◌, ◌||◌, nat_lt, int_lt, unsigned_abs, List, length, get_or, slice_get, filter, map, Some, None, refl, sym, ◌∙◌, ap, arith, find, Decides, FitsSigned, w64}
+use Rattle.std.proofs.Common.{◌≡◌, ℕ, zero, suc, ◌<◌, ℤ, pos, negsuc, Bool, true, false, ◌&&◌, ◌||◌, int_lt, unsigned_abs, List, length, get_or, slice_get, filter, map, Some, None, refl, sym, ◌∙◌, ap, arith, find, Decides, FitsSigned, w64}
 use Rattle.std.proofs.lemmas.Bool.Decides.{nat_tests}
 use Rattle.std.proofs.lemmas.Cmp.{on_total, then_total}
 use Rattle.std.proofs.lemmas.List.{length-map, get_or-map}
 use Rattle.std.proofs.lemmas.Option.{slice_get-get_or}
 use Rattle.std.specs.Borrow.{Bor}
-use Rattle.std.specs.Cmp.{signed_Decides, IsTotalOrder, bool_cmp_total}
+use Rattle.std.specs.Cmp.{IsTotalOrder, bool_cmp_total}
 use Rattle.std.specs.Option.{option_map}
 use Rattle.std.specs.Ordering.{int_eq, bool_cmp, is_eq}
 use Rattle.std.specs.Str.{bytes_eq}
@@ -23,7 +23,6 @@ use Rattle.fb_schema.proofs.FindLemmas.{find_filter, found_item, no_item}
 use Rattle.fb_schema.proofs.MemberLemmas.{name_not_again, clear_demands, both_equal}
 use Rattle.fb_schema.proofs.Numbers.{slice_get_some, both_true, all_true}
 use Rattle.fb_schema.proofs.PlaceLemmas.{alike_one}
-use Rattle.fb_schema.proofs.Search.{not_true}
 use Rattle.fb_schema.proofs.UnionLemmas.{members_read, not_none}
 use Rattle.fb_schema.proofs.WalkLemmas.{names_agree, names_total}
 

@@ -1,5 +1,5 @@
 -- The live fields of a legal table are found by name.
-use Rattle.std.proofs.Common.{◌≡◌, ℕ, zero, suc, ◌<◌, inl, inr, Bool, true, false, not, IsTrue, if◌then◌else◌, List, [], ◌∷◌, length, get_or, slice_get, map, filter, option_map, option_and_then, Option, Some, None, refl, sym, ◌∙◌, ap, arith}
+use Rattle.std.proofs.Common.{◌≡◌, ℕ, zero, suc, ◌<◌, Bool, true, false, IsTrue, if◌then◌else◌, List, [], ◌∷◌, length, get_or, slice_get, map, filter, option_map, option_and_then, Option, Some, None, refl, sym, ◌∙◌, ap, arith}
 use Rattle.fb_schema.proofs.RowLemmas.{rises_at}
 use Rattle.fb_schema.proofs.KeyLemmas.{again_at}
 use Rattle.std.proofs.lemmas.List.{length-map, get_or-map}
@@ -25,8 +25,8 @@ use Rattle.fb_schema.specs.FlatRows.{object_in}
 use Rattle.fb_schema.proofs.IndexLemmas.{legal_slots, table_list}
 use Rattle.fb_schema.proofs.Kinded.{live_long, live_at}
 use Rattle.fb_schema.proofs.LegalLemmas.{legal_clear}
-use Rattle.fb_schema.proofs.LiveLemmas.{Rises, sorted_rises, sorted_members, filter_apart, filter_contains}
-use Rattle.fb_schema.proofs.Numbers.{lt_or_eq, le_or_lt, get_or_default, slice_get_some, neither_below, negated}
+use Rattle.fb_schema.proofs.LiveLemmas.{sorted_rises, sorted_members, filter_apart, filter_contains}
+use Rattle.fb_schema.proofs.Numbers.{get_or_default, slice_get_some, neither_below, negated}
 use Rattle.fb_schema.proofs.WalkLemmas.{mapped_at, not_named_table}
 
 -- no field of a legal table has an earlier one's name

@@ -1,5 +1,5 @@
 -- Small facts on numbers and lists that the other files share.
-use Rattle.std.proofs.Common.{◌≡◌, ℕ, zero, suc, ◌<◌, ◌≤◌, ◌⊎◌, inl, inr, List, length, slice_get, Option, Some, None, refl, sym, subst, arith, Bool, true, false, not, ◌&&◌}
+use Rattle.std.proofs.Common.{◌≡◌, ℕ, ◌<◌, ◌≤◌, ◌⊎◌, inl, inr, List, length, slice_get, Some, arith, Bool, true, false, not, ◌&&◌}
 use Rattle.std.proofs.lemmas.Option.{slice_get_cases}
 pub use Rattle.std.proofs.lemmas.List.{get_or_default}
 pub use Rattle.std.proofs.lemmas.Option.{slice_get_past}
@@ -29,3 +29,7 @@ both_true a b h = grind arith
 
 pub negated : (b : Bool) → not b ≡ true → b ≡ false
 negated b h = grind arith
+
+-- two tests that follow from one another
+pub same_test : (a b : Bool) → (a ≡ true → b ≡ true) → (b ≡ true → a ≡ true) → a ≡ b
+same_test a b f g = grind (arith, f, g)

@@ -2,12 +2,12 @@
 use Rattle.std.proofs.Common.{◌≡◌, ◌<◌, ℕ, suc, ◌+◌, ◌*◌, ◌≤◌, ℤ, pos, negsuc, ◌+ℤ◌, ◌*ℤ◌, Bool, true, false, not, ◌&&◌, ◌||◌, int_lt, List, [], length, slice_get, Option, Some, None, refl, sym, ◌∙◌, ap, subst, arith, unsigned_abs, if◌then◌else◌, IfSome}
 use Rattle.fb_schema.proofs.KindLemmas.{object_kinds}
 use Rattle.fb_schema.proofs.Numbers.{not_false}
-use Rattle.std.proofs.lemmas.Option.{slice_get_within, same_Some, MatchOption-at_some}
+use Rattle.std.proofs.lemmas.Option.{slice_get_within, MatchOption-at_some}
 use Rattle.std.specs.Option.{option_and_then, option_map}
 use Rattle.fb_schema.specs.declared.kinds.Kind.{Kind}
-use Rattle.fb_schema.specs.declared.kinds.Kind.TheVariants.{Scalar, Struct, Table, Scalars, Structs, Tables}
+use Rattle.fb_schema.specs.declared.kinds.Kind.TheVariants.{Struct, Table, Structs, Tables}
 use Rattle.fb_schema.specs.declared.kinds.Element.{Element}
-use Rattle.fb_schema.specs.declared.kinds.Element.TheVariants.{Scalar as OfScalar, Text as OfText, Object as OfObject, Union as OfUnion}
+use Rattle.fb_schema.specs.declared.kinds.Element.TheVariants.{Scalar as OfScalar, Object as OfObject}
 use Rattle.fb_schema.specs.declared.kinds.Shape.{Shape}
 use Rattle.fb_schema.specs.declared.kinds.Shape.TheVariants.{One, Vector, Array}
 use Rattle.fb_schema.specs.declared.views.PartView.{PartView}

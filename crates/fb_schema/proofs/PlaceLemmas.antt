@@ -1,5 +1,5 @@
 -- Keys are found by their order.
-use Rattle.std.proofs.Common.{◌≡◌, ℕ, ◌<◌, inl, inr, Bool, false, List, length, get_or, map, Option, Some, None, sym, ◌∙◌, ap, arith, position, Decides}
+use Rattle.std.proofs.Common.{◌≡◌, ℕ, ◌<◌, Bool, false, List, length, get_or, map, Option, Some, None, sym, ◌∙◌, ap, arith, position, Decides}
 use Rattle.fb_schema.proofs.KeyLemmas.{again_at}
 use Rattle.std.proofs.lemmas.List.{length-map, get_or-map}
 use Rattle.std.specs.Cmp.{IsTotalOrder}
@@ -9,7 +9,7 @@ use Rattle.std.specs.Ordering.{is_lt, ordering_index, ordering_then, ordering_re
 use Rattle.std.specs.declared.cmp.Ordering.{Ordering}
 use Rattle.std.specs.declared.cmp.Ordering.TheVariants.{Less, Equal, Greater}
 use Rattle.fb_schema.specs.Sorting.{IsOrderOf, IsPlaceOf, IsAgain}
-use Rattle.fb_schema.proofs.Numbers.{lt_or_eq, le_or_lt, get_or_default, slice_get_some, neither_below}
+use Rattle.fb_schema.proofs.Numbers.{get_or_default, slice_get_some, neither_below}
 use Rattle.fb_schema.proofs.OrderLemmas.{is_key, stands}
 use Rattle.fb_schema.proofs.PositionLemmas.{found_position, no_position}
 use Rattle.fb_schema.proofs.Search.{search_missed}

@@ -7,8 +7,8 @@ use Rattle.std.specs.Ordering.{int_eq}
 use Rattle.fb_schema.specs.declared.kinds.Kind.{Kind}
 use Rattle.fb_schema.specs.declared.kinds.Kind.TheVariants.{Struct, Table}
 use Rattle.fb_schema.specs.declared.kinds.Shape.{Shape}
-use Rattle.fb_schema.specs.declared.kinds.Shape.TheVariants.{One, Vector, Array}
-use Rattle.fb_schema.specs.declared.kinds.Element.TheVariants.{Scalar as OfScalar, Text as OfText, Object as OfObject, Union as OfUnion}
+use Rattle.fb_schema.specs.declared.kinds.Shape.TheVariants.{One}
+use Rattle.fb_schema.specs.declared.kinds.Element.TheVariants.{Text as OfText, Object as OfObject}
 use Rattle.fb_schema.specs.Demands.{IsLegal, first_code, members_asked, member_demands, demands_of_member, demands_of_enum, is_for_member}
 use Rattle.fb_schema.specs.Kinds.{kind_of, shape_of, shape_kind, object_kind}
 use Rattle.fb_schema.specs.Members.{is_member_value, member_of, members_in}
@@ -30,10 +30,7 @@ found_with p P (x ∷ xs) h m e = go (found_with p P xs (λ j y a t. h (suc j) y
 object_told : (rows : Rows) (index : ℤ) (o : Option Object) → kind_to (target_of rows (object_kind index Struct Table o)) ≡ object_kind index Struct Table o
 object_told rows index None = refl
 object_told rows (negsuc k) (Some o) = refl
-object_told rows (pos k) (Some o) = go o.is_struct where
-  go : (b : Bool) → kind_to (target_of rows (Some (if b then Struct k else Table k))) ≡ Some (if b then Struct k else Table k)
-  go true = refl
-  go false = refl
+object_told rows (pos k) (Some o) = grind arith
 
 shape_told : (rows : Rows) (index : ℤ) (s : Option Shape) → is_for_member s ≡ true → kind_to (target_of rows (shape_kind rows index s)) ≡ shape_kind rows index s
 shape_told rows index None h = refl

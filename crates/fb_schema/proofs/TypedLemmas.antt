@@ -1,15 +1,15 @@
 -- What the live fields of legal rows give.
 use Rattle.std.proofs.Common.{◌≡◌, ℕ, zero, suc, ◌+◌, ◌-◌, ◌*◌, ◌/◌, ◌<◌, ◌≤◌, ◌==◌, ◌%◌, nat_lt, inl, inr, ℤ, Bool, true, false, not, ◌&&◌, ◌||◌, List, [], ◌∷◌, slice_get, filter, Option, Some, None, refl, sym, ◌∙◌, ap, subst, arith, cond, if◌then◌else◌, IfSome}
-use Rattle.std.proofs.lemmas.Option.{same_Some, MatchOption-at_some}
+use Rattle.std.proofs.lemmas.Option.{MatchOption-at_some}
 use Rattle.std.proofs.lemmas.List.Folds.{Any-from_list_any}
 use Rattle.std.proofs.lemmas.Bool.Decides.{Decides-eqb, nat_tests}
 use Rattle.std.specs.List.{Contains, list_any}
 use Rattle.fb_schema.specs.declared.kinds.Kind.{Kind}
-use Rattle.fb_schema.specs.declared.kinds.Kind.TheVariants.{Scalar, Text, Struct, Table, Union, Scalars, Texts, Structs, Tables, Unions}
-use Rattle.fb_schema.specs.declared.kinds.Scalar.TheVariants.{UType, Bool as AsBool, Byte, UByte, Short, UShort, Int, UInt, Long, ULong, Float, Double}
-use Rattle.fb_schema.specs.declared.kinds.Element.TheVariants.{Scalar as OfScalar, Text as OfText, Object as OfObject, Union as OfUnion}
+use Rattle.fb_schema.specs.declared.kinds.Kind.TheVariants.{Scalar, Struct, Table, Union, Scalars, Structs, Tables, Unions}
+use Rattle.fb_schema.specs.declared.kinds.Scalar.TheVariants.{UType}
+use Rattle.fb_schema.specs.declared.kinds.Element.TheVariants.{Scalar as OfScalar, Object as OfObject, Union as OfUnion}
 use Rattle.fb_schema.specs.declared.kinds.Shape.{Shape}
-use Rattle.fb_schema.specs.declared.kinds.Shape.TheVariants.{One, Vector, Array}
+use Rattle.fb_schema.specs.declared.kinds.Shape.TheVariants.{One, Vector}
 use Rattle.fb_schema.specs.declared.kinds.TypeField.{TypeField}
 use Rattle.fb_schema.specs.declared.kinds.TypeField.TheVariants.{ForUnion, ForUnions}
 use Rattle.fb_schema.specs.Demands.{IsLegal, table_field_demands, stands_before, same_slot, stands_below, is_type_field, lacks_type_field, is_union_shape, names_no_union}

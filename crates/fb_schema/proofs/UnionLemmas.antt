@@ -106,8 +106,7 @@ pub none_for_zero : (ms : List Member) → find (λ m. int_eq m.value (pos 0)) (
 none_for_zero ms = find_filter (λ m. int_eq m.value (pos 0)) (λ m. is_member_value m.value) ms ∙ no_item (λ m. is_member_value m.value && int_eq m.value (pos 0)) ms (λ j d lt e. zero_test (get_or ms j d).value e)
 
 none_in : (b : Bool) (ms : List Member) → find (λ m. int_eq m.value (pos 0)) (if b then filter (λ m. is_member_value m.value) ms else []) ≡ None
-none_in true ms = none_for_zero ms
-none_in false ms = refl
+none_in b ms = grind (arith, none_for_zero ms)
 
 pub none_of : (e : Option Enum) → find (λ m. int_eq m.value (pos 0)) (members_in e) ≡ None
 none_of None = refl

@@ -1,5 +1,5 @@
 -- The steps of the walk over the rows.
-use Rattle.std.proofs.Common.{◌≡◌, ℕ, ◌<◌, ◌≤◌, ℤ, inl, inr, Bool, true, false, not, ◌||◌, ◌==◌, ◌%◌, nat_lt, List, [], length, slice_get, map, Option, Some, None, refl, sym, ◌∙◌, ap, arith, Decides}
+use Rattle.std.proofs.Common.{◌≡◌, ℕ, ◌<◌, ◌≤◌, ℤ, inl, inr, Bool, false, not, ◌||◌, ◌==◌, ◌%◌, nat_lt, List, [], length, slice_get, map, Option, Some, None, refl, sym, ◌∙◌, ap, arith, Decides}
 use Rattle.std.proofs.lemmas.List.{length-map}
 use Rattle.std.proofs.lemmas.Option.{slice_get-map}
 use Rattle.std.proofs.lemmas.Slice.Eq.{bytes_eq-Decides}
@@ -21,9 +21,9 @@ use Rattle.fb_schema.specs.Rows.{Rows, field_of, member_of_row}
 use Rattle.fb_schema.specs.FlatRows.{object_in}
 use Rattle.fb_schema.specs.Demands.{Demand, is_at, first_code, stands_before, same_object_name, same_field_name, same_slot, same_value, struct_field_demands, struct_asked, demands_of_struct_field, Demand, table_field_demands, table_asked, demands_of_table_field, stands_below}
 use Rattle.fb_schema.specs.declared.kinds.TypeField.TheVariants.{ForUnion, ForUnions}
-use Rattle.fb_schema.proofs.DemandLaws.{passed_over, clear_line}
-use Rattle.fb_schema.proofs.KeyLemmas.{test_from_again, is_at_test, never_again}
-use Rattle.fb_schema.proofs.Numbers.{slice_get_some, slice_get_past, le_or_lt}
+use Rattle.fb_schema.proofs.DemandLaws.{clear_line}
+use Rattle.fb_schema.proofs.KeyLemmas.{is_at_test, never_again}
+use Rattle.fb_schema.proofs.Numbers.{slice_get_past, le_or_lt}
 use Rattle.fb_schema.proofs.Search.{nat_tied}
 
 pub names_agree : (a b : List ℕ) → Decides (bytes_eq a b) (slice_cmp nat_cmp a b ≡ Equal)
