@@ -2,7 +2,7 @@
 use Rattle.std.proofs.Common.{◌≡◌, ◌≢◌, ℕ, zero, suc, ◌+◌, ◌-◌, ◌<◌, ◌≤◌, ◌==◌, ◌⊎◌, inl, inr, Bool, true, false, List, [], ◌∷◌, length, get_or, map, filter, position, Some, None, refl, sym, ◌∙◌, ap, subst, arith, IsPermutation, nat_le, if◌then◌else◌, cond}
 use Rattle.std.proofs.lemmas.Cmp.{nat_cmp_total, tied_itself}
 use Rattle.std.proofs.lemmas.List.{length-map, get_or-map}
-use Rattle.std.proofs.lemmas.List.Sorted.{IsPermutation-keeps, IsPermutation-map, Contains-permutation, IsPermutation-sym}
+use Rattle.std.proofs.lemmas.List.Sorted.{IsPermutation-keeps, IsPermutation-map, Contains-permutation, IsPermutation-sym, IsPermutation-refl, IsPermutation-trans, IsPermutation-swap, IsPermutation-cons}
 use Rattle.std.proofs.lemmas.List.Edits.{swapped_from_swap, length-swap}
 use Rattle.std.proofs.lemmas.List.Elements.{Contains-get_or, All-contains, All-filter, All-contains_itself}
 use Rattle.std.proofs.lemmas.Bool.Decides.{Decides-eqb}
@@ -53,22 +53,21 @@ same_rising (x ∷ xs) (y ∷ ys) r s f g =
 abbrev SameMembers : List Field → List Field → Field → Type 0
 SameMembers xs ys z = (Contains xs z → Contains ys z) × (Contains ys z → Contains xs z)
 
-one_inserted : (f g z : Field) (gs rest : List Field) → SameMembers rest (f ∷ gs) z → (b : Bool) → SameMembers (if b then f ∷ g ∷ gs else g ∷ rest) (f ∷ g ∷ gs) z
-one_inserted f g z gs rest ih true = (λ h. h, λ h. h)
-one_inserted f g z gs rest ih false = (
-  λ h. elim (contains_cases g z rest h) [
-    | inl e ↦ contains_tail f z (g ∷ gs) (subst (Contains (g ∷ gs)) e (contains_head g gs))
-    | inr t ↦ elim (contains_cases f z gs (ih.0 t)) [ inl e ↦ subst (Contains (f ∷ g ∷ gs)) e (contains_head f (g ∷ gs)) | inr u ↦ contains_tail f z (g ∷ gs) (contains_tail g z gs u) ]
-  ],
-  λ h. elim (contains_cases f z (g ∷ gs) h) [
-    | inl e ↦ contains_tail g z rest (ih.1 (subst (Contains (f ∷ gs)) e (contains_head f gs)))
-    | inr t ↦ elim (contains_cases g z gs t) [ inl e ↦ subst (Contains (g ∷ rest)) e (contains_head g rest) | inr u ↦ contains_tail g z rest (ih.1 (contains_tail f z gs u)) ]
-  ],
-)
+-- a field put in its place, and all in their order, are the same fields
+inserted : (f : Field) (gs : List Field) → IsPermutation (f ∷ gs) (insert_by_slot f gs)
+inserted f [] = IsPermutation-refl (f ∷ [])
+inserted f (g ∷ gs) = go (inserted f gs) (nat_le f.slot g.slot) where
+  go : IsPermutation (f ∷ gs) (insert_by_slot f gs) → (b : Bool) → IsPermutation (f ∷ g ∷ gs) (if b then f ∷ g ∷ gs else g ∷ insert_by_slot f gs)
+  go later true = IsPermutation-refl (f ∷ g ∷ gs)
+  go later false = IsPermutation-trans (f ∷ g ∷ gs) (g ∷ f ∷ gs) (g ∷ insert_by_slot f gs) (IsPermutation-swap (f ∷ g ∷ gs) (g ∷ f ∷ gs) 0 1 (omega arith) (omega arith) refl)
+      (IsPermutation-cons g (f ∷ gs) (insert_by_slot f gs) later)
 
-inserted : (f z : Field) (gs : List Field) → SameMembers (insert_by_slot f gs) (f ∷ gs) z
-inserted f z [] = (λ h. h, λ h. h)
-inserted f z (g ∷ gs) = one_inserted f g z gs (insert_by_slot f gs) (inserted f z gs) (nat_le f.slot g.slot)
+sorted : (fs : List Field) → IsPermutation fs (by_slot fs)
+sorted [] = IsPermutation-refl []
+sorted (f ∷ fs) = IsPermutation-trans (f ∷ fs) (f ∷ by_slot fs) (by_slot (f ∷ fs)) (IsPermutation-cons f fs (by_slot fs) (sorted fs)) (inserted f (by_slot fs))
+
+pub sorted_members : (z : Field) (fs : List Field) → SameMembers (by_slot fs) fs z
+sorted_members z fs = (Contains-permutation (by_slot fs) fs z (IsPermutation-sym fs (by_slot fs) (sorted fs)), Contains-permutation fs (by_slot fs) z (sorted fs))
 
 one_rises : (f g : Field) (gs rest : List Field) → Rises (g ∷ gs) → ((z : Field) → Contains (g ∷ gs) z → f.slot ≢ z.slot) → ((z : Field) → Contains rest z → Contains (f ∷ gs) z) → Rises rest
     → (b : Bool) → (b ≡ true → f.slot ≤ g.slot) → (f.slot ≤ g.slot → b ≡ true) → Rises (if b then f ∷ g ∷ gs else g ∷ rest)
@@ -90,14 +89,7 @@ one_rises f g gs rest r apart members ih false _ less = (
 insert_rises : (f : Field) (gs : List Field) → Rises gs → ((g : Field) → Contains gs g → f.slot ≢ g.slot) → Rises (insert_by_slot f gs)
 insert_rises f [] r apart = (λ g h. absurd (omega (arith, h.1)), tt)
 insert_rises f (g ∷ gs) r apart =
-    one_rises f g gs (insert_by_slot f gs) r apart (λ z. (inserted f z gs).0) (insert_rises f gs r.1 (λ z h. apart z (contains_tail g z gs h))) (nat_le f.slot g.slot) (leb-true f.slot g.slot) (le-leb f.slot g.slot)
-
-pub sorted_members : (z : Field) (fs : List Field) → SameMembers (by_slot fs) fs z
-sorted_members z [] = (λ h. h, λ h. h)
-sorted_members z (f ∷ fs) = (
-  λ h. elim (contains_cases f z (by_slot fs) ((inserted f z (by_slot fs)).0 h)) [ inl e ↦ subst (Contains (f ∷ fs)) e (contains_head f fs) | inr t ↦ contains_tail f z fs ((sorted_members z fs).0 t) ],
-  λ h. (inserted f z (by_slot fs)).1 (elim (contains_cases f z fs h) [ inl e ↦ subst (Contains (f ∷ by_slot fs)) e (contains_head f (by_slot fs)) | inr t ↦ contains_tail f z (by_slot fs) ((sorted_members z fs).1 t) ]),
-)
+    one_rises f g gs (insert_by_slot f gs) r apart (λ z. Contains-permutation (insert_by_slot f gs) (f ∷ gs) z (IsPermutation-sym (f ∷ gs) (insert_by_slot f gs) (inserted f gs))) (insert_rises f gs r.1 (λ z h. apart z (contains_tail g z gs h))) (nat_le f.slot g.slot) (leb-true f.slot g.slot) (le-leb f.slot g.slot)
 
 apart_tail : (f : Field) (fs : List Field) → AreApart (f ∷ fs) → AreApart fs
 apart_tail f fs h = record { at = λ i j d a b e. (let w : suc i ≡ suc j = h.at (suc i) (suc j) d (omega arith) (omega arith) e in omega arith) }

@@ -4,12 +4,7 @@ use Rattle.std.proofs.lemmas.Option.{MatchOption-at_some}
 use Rattle.std.proofs.lemmas.List.Folds.{Any-from_list_any}
 use Rattle.std.proofs.lemmas.Bool.Decides.{Decides-eqb, nat_tests}
 use Rattle.std.specs.List.{Contains, list_any}
-use Rattle.fb_schema.specs.declared.kinds.Kind.{Kind}
-use Rattle.fb_schema.specs.declared.kinds.Kind.TheVariants.{Scalar, Struct, Table, Union, Scalars, Structs, Tables, Unions}
 use Rattle.fb_schema.specs.declared.kinds.Scalar.TheVariants.{UType}
-use Rattle.fb_schema.specs.declared.kinds.Element.TheVariants.{Scalar as OfScalar, Object as OfObject, Union as OfUnion}
-use Rattle.fb_schema.specs.declared.kinds.Shape.{Shape}
-use Rattle.fb_schema.specs.declared.kinds.Shape.TheVariants.{One, Vector}
 use Rattle.fb_schema.specs.declared.kinds.TypeField.{TypeField}
 use Rattle.fb_schema.specs.declared.kinds.TypeField.TheVariants.{ForUnion, ForUnions}
 use Rattle.fb_schema.specs.Demands.{IsLegal, table_field_demands, stands_before, same_slot, stands_below, is_type_field, lacks_type_field, is_union_shape, names_no_union}
@@ -17,6 +12,7 @@ use Rattle.fb_schema.specs.Kinds.{kind_of, shape_of, shape_kind, kind_size, kind
 use Rattle.fb_schema.specs.Live.{Live, live_fields, live_rows, live_as, by_slot, is_live, widest, AreSpaced}
 use Rattle.fb_schema.specs.Rows.{Rows, Field, Object, entry_at, is_some_union}
 use Rattle.fb_schema.specs.Served.{IsAlignment, KindHolds, HasTypeField, IsTyped, IsServed}
+use Rattle.fb_schema.proofs.KindWords.{Kind, Scalar, Struct, Table, Union, Scalars, Structs, Tables, Unions, OfScalar, OfObject, OfUnion, Shape, One, Vector}
 use Rattle.fb_schema.proofs.DemandLaws.{clear_line}
 use Rattle.fb_schema.proofs.KindLemmas.{NamesObject, NamesUnion, names_object, union_of_shape, object_kinds, union_kinds, member_holds, power_of}
 use Rattle.fb_schema.proofs.Kinded.{listed, row_of, field_sized}
