@@ -1,15 +1,11 @@
 -- The members of a union of legal rows are found by name.
-use Rattle.std.proofs.Common.{◌≡◌, ℕ, zero, suc, ◌<◌, ℤ, pos, negsuc, Bool, true, false, ◌&&◌, ◌||◌, int_lt, unsigned_abs, List, length, get_or, slice_get, filter, map, Some, None, refl, sym, ◌∙◌, ap, arith, find, Decides, FitsSigned, w64}
+use Rattle.std.proofs.Common.{◌≡◌, ℕ, zero, suc, ◌<◌, ℤ, pos, negsuc, Bool, true, false, ◌&&◌, ◌||◌, int_lt, unsigned_abs, List, length, get_or, slice_get, filter, map, Some, None, refl, sym, ◌∙◌, ap, arith, find, Decides, FitsSigned, w64, Bor, option_map, bytes_eq, Equal}
 use Rattle.std.proofs.lemmas.Bool.Decides.{nat_tests}
 use Rattle.std.proofs.lemmas.Cmp.{on_total, then_total}
 use Rattle.std.proofs.lemmas.List.{length-map, get_or-map}
 use Rattle.std.proofs.lemmas.Option.{slice_get-get_or}
-use Rattle.std.specs.Borrow.{Bor}
 use Rattle.std.specs.Cmp.{IsTotalOrder, bool_cmp_total}
-use Rattle.std.specs.Option.{option_map}
 use Rattle.std.specs.Ordering.{int_eq, bool_cmp, is_eq}
-use Rattle.std.specs.Str.{bytes_eq}
-use Rattle.std.specs.declared.cmp.Ordering.TheVariants.{Equal}
 use Rattle.fb_schema.specs.declared.flat.EnumPart.{EnumPart}
 use Rattle.fb_schema.specs.declared.rows.MemberRow.{MemberRow}
 use Rattle.fb_schema.specs.Demands.{first_code, members_asked, member_demands, stands_before, same_value, same_member_name}

@@ -1,5 +1,5 @@
 -- The live fields of a legal table are found by name.
-use Rattle.std.proofs.Common.{◌≡◌, ℕ, zero, suc, ◌<◌, Bool, true, false, IsTrue, if◌then◌else◌, List, [], ◌∷◌, length, get_or, slice_get, map, filter, option_map, option_and_then, Option, Some, None, refl, sym, ◌∙◌, ap, arith}
+use Rattle.std.proofs.Common.{◌≡◌, ℕ, zero, suc, ◌<◌, Bool, true, false, IsTrue, if◌then◌else◌, List, [], ◌∷◌, length, get_or, slice_get, map, filter, option_map, option_and_then, Option, Some, None, refl, sym, ◌∙◌, ap, arith, nat_cmp, Equal}
 use Rattle.fb_schema.proofs.RowLemmas.{rises_at}
 use Rattle.fb_schema.proofs.KeyLemmas.{again_at}
 use Rattle.std.proofs.lemmas.List.{length-map, get_or-map}
@@ -8,8 +8,6 @@ use Rattle.std.proofs.lemmas.List.Elements.{Contains-get_or}
 use Rattle.std.proofs.lemmas.Cmp.{tied_itself, nat_list_cmp_total}
 use Rattle.std.proofs.lemmas.Map.Lookups.{exact_bytes}
 use Rattle.std.specs.Cmp.Lexicographic.{slice_cmp}
-use Rattle.std.specs.Ordering.{nat_cmp}
-use Rattle.std.specs.declared.cmp.Ordering.TheVariants.{Equal}
 use Rattle.fb_schema.specs.declared.kinds.Kind.{Kind}
 use Rattle.fb_schema.specs.declared.flat.ObjectPart.{ObjectPart}
 use Rattle.fb_schema.specs.declared.views.FieldView.{FieldView}

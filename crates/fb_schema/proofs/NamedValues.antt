@@ -1,8 +1,6 @@
 -- The name of a union's member is that of the row with its value.
-use Rattle.std.proofs.Common.{◌≡◌, ℕ, ◌<◌, ℤ, pos, Bool, true, false, ◌&&◌, List, [], map, slice_get, Option, Some, None, refl, ◌∙◌, ap, arith, find}
+use Rattle.std.proofs.Common.{◌≡◌, ℕ, ◌<◌, ℤ, pos, Bool, true, false, ◌&&◌, List, [], map, slice_get, Option, Some, None, refl, ◌∙◌, ap, arith, find, option_map, int_eq}
 use Rattle.std.specs.Cmp.{signed_Decides}
-use Rattle.std.specs.Option.{option_map}
-use Rattle.std.specs.Ordering.{int_eq}
 use Rattle.fb_schema.specs.declared.flat.EnumPart.{EnumPart}
 use Rattle.fb_schema.specs.declared.rows.MemberRow.{MemberRow}
 use Rattle.fb_schema.specs.Members.{is_member_value, members_in, member_name}

@@ -1,13 +1,10 @@
 -- Keys are found by their order.
-use Rattle.std.proofs.Common.{◌≡◌, ℕ, ◌<◌, Bool, false, List, length, get_or, map, Option, Some, None, sym, ◌∙◌, ap, arith, position, Decides}
+use Rattle.std.proofs.Common.{◌≡◌, ℕ, ◌<◌, Bool, false, List, length, get_or, map, Option, Some, None, sym, ◌∙◌, ap, arith, position, Decides, HoldsAt, Ordering, Less, Equal, Greater}
 use Rattle.fb_schema.proofs.KeyLemmas.{again_at}
 use Rattle.std.proofs.lemmas.List.{length-map, get_or-map}
 use Rattle.std.specs.Cmp.{IsTotalOrder}
-use Rattle.std.specs.List.{HoldsAt}
 use Rattle.std.specs.List.Sorted.{IsSortedBy, IsNonDecreasingBy, IsPartitionPoint}
 use Rattle.std.specs.Ordering.{is_lt, ordering_index, ordering_then, ordering_reverse}
-use Rattle.std.specs.declared.cmp.Ordering.{Ordering}
-use Rattle.std.specs.declared.cmp.Ordering.TheVariants.{Less, Equal, Greater}
 use Rattle.fb_schema.specs.Sorting.{IsOrderOf, IsPlaceOf, IsAgain}
 use Rattle.fb_schema.proofs.Numbers.{get_or_default, slice_get_some, neither_below}
 use Rattle.fb_schema.proofs.OrderLemmas.{is_key, stands}

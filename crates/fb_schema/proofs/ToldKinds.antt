@@ -1,10 +1,8 @@
 -- The kind of a union's member is told from where it leads.
-use Rattle.std.proofs.Common.{◌≡◌, ℕ, suc, ℤ, pos, negsuc, Bool, true, false, not, ◌&&◌, cond, List, [], ◌∷◌, slice_get, filter, Option, Some, None, refl, sym, ◌∙◌, ap, subst, find, if◌then◌else◌, arith}
+use Rattle.std.proofs.Common.{◌≡◌, ℕ, suc, ℤ, pos, negsuc, Bool, true, false, not, ◌&&◌, cond, List, [], ◌∷◌, slice_get, filter, Option, Some, None, refl, sym, ◌∙◌, ap, subst, find, if◌then◌else◌, arith, option_and_then, int_eq}
 use Rattle.std.proofs.lemmas.Option.{same_Some}
 use Rattle.fb_schema.proofs.KindWords.{Kind, Struct, Table, Shape, One, OfText, OfObject}
 use Rattle.fb_schema.proofs.Numbers.{both_true}
-use Rattle.std.specs.Option.{option_and_then}
-use Rattle.std.specs.Ordering.{int_eq}
 use Rattle.fb_schema.specs.Demands.{IsLegal, first_code, members_asked, member_demands, demands_of_member, demands_of_enum, is_for_member}
 use Rattle.fb_schema.specs.Kinds.{kind_of, shape_of, shape_kind, object_kind}
 use Rattle.fb_schema.specs.Members.{is_member_value, member_of, members_in}

@@ -1,12 +1,9 @@
 -- The members of a union of legal rows.
-use Rattle.std.proofs.Common.{◌≡◌, ℕ, zero, suc, ◌<◌, ℤ, pos, Bool, true, false, ◌&&◌, List, [], ◌∷◌, length, get_or, slice_get, filter, map, Option, Some, None, IsTrue, refl, sym, ◌∙◌, ap, arith, find, if◌then◌else◌}
+use Rattle.std.proofs.Common.{◌≡◌, ℕ, zero, suc, ◌<◌, ℤ, pos, Bool, true, false, ◌&&◌, List, [], ◌∷◌, length, get_or, slice_get, filter, map, Option, Some, None, IsTrue, refl, sym, ◌∙◌, ap, arith, find, if◌then◌else◌, int_cmp, int_eq, option_and_then, Equal}
 use Rattle.fb_schema.proofs.Search.{not_true}
 use Rattle.std.proofs.lemmas.Bool.Decides.{nat_tests}
 use Rattle.std.proofs.lemmas.List.{length-map, get_or-map}
 use Rattle.std.specs.Cmp.{Equal-is, signed_Decides}
-use Rattle.std.specs.Ordering.{int_cmp, int_eq}
-use Rattle.std.specs.Option.{option_and_then}
-use Rattle.std.specs.declared.cmp.Ordering.TheVariants.{Equal}
 use Rattle.std.proofs.lemmas.Cmp.{int_cmp_total}
 use Rattle.fb_schema.specs.declared.flat.EnumPart.{EnumPart}
 use Rattle.fb_schema.specs.declared.rows.MemberRow.{MemberRow}

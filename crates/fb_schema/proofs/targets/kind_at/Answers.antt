@@ -1,9 +1,7 @@
-use Rattle.std.proofs.Common.{◌<◌, pos, List, Some, map, length, get_or, FitsSigned, w64, sym, ap, subst, ◌∙◌, arith, rules}
-use Rattle.std.proofs.lemmas.Option.{get_or_from_slice_get}
+use Rattle.std.proofs.Common.{◌<◌, pos, List, Some, map, length, get_or, FitsSigned, w64, sym, ap, subst, ◌∙◌, arith, rules, option_and_then, int_cmp}
 use Rattle.std.proofs.lemmas.Int.{to_z-of_z}
+use Rattle.std.proofs.lemmas.Option.{get_or_from_slice_get}
 use Rattle.std.proofs.lemmas.List.{length-map, get_or-map}
-use Rattle.std.specs.Option.{option_and_then}
-use Rattle.std.specs.Ordering.{int_cmp}
 use Rattle.fb_schema.specs.declared.rows.MemberRow.{MemberRow}
 use Rattle.fb_schema.specs.Kinds.{kind_of}
 use Rattle.fb_schema.specs.Sorting.{IsPlaceOf, member_value}

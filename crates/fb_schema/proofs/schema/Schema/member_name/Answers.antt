@@ -1,7 +1,5 @@
-use Rattle.std.proofs.Common.{◌≡◌, ◌<◌, pos, List, Some, find, map, slice_get, IsTrue, true, refl, sym, ap, subst, ◌∙◌, arith}
+use Rattle.std.proofs.Common.{◌≡◌, ◌<◌, pos, List, Some, find, map, slice_get, IsTrue, true, refl, sym, ap, subst, ◌∙◌, arith, option_map, int_eq}
 use Rattle.std.proofs.lemmas.Option.{slice_get_within}
-use Rattle.std.specs.Option.{option_map}
-use Rattle.std.specs.Ordering.{int_eq}
 use Rattle.fb_schema.specs.declared.flat.EnumPart.{EnumPart}
 use Rattle.fb_schema.specs.declared.rows.MemberRow.{MemberRow}
 use Rattle.fb_schema.specs.Members.{member_name}

@@ -1,5 +1,4 @@
-use Rattle.std.proofs.Common.{map, ap, ◌∙◌, position, refl}
-use Rattle.std.specs.Str.{bytes_eq}
+use Rattle.std.proofs.Common.{map, ap, ◌∙◌, position, refl, bytes_eq}
 use Rattle.fb_schema.specs.Sorting.{name_cmp, object_name}
 use Rattle.fb_schema.specs.FlatRows.{flat_rows, object_in}
 use Rattle.fb_schema.specs.Rows.{Object, Rows}
