@@ -4,33 +4,29 @@ use Rattle.fb_schema.specs.declared.fault.Code.{Code}
 use Rattle.fb_schema.specs.declared.fault.SchemaFault.{SchemaFault}
 use Rattle.fb_schema.specs.Rows.{Field, Object, Enum, Rows}
 use Rattle.fb_schema.specs.Demands.{Demand, Key, IsBefore, IsBroken, IsLegal, IsFirstIllegal, demands_at, demands_of_object, demands_of_struct_field, demands_of_table_field, demands_of_enum, demands_of_member, first_code, part_of}
-use Rattle.fb_schema.proofs.Numbers.{lt_or_eq, le_or_lt, least, is_none_or_some, slice_get_past}
+use Rattle.fb_schema.proofs.Numbers.{slice_get_past}
 
 -- a broken demand of a list
 abbrev pub IsBrokenIn : List Demand → ℕ → Code → Type 0
 IsBrokenIn ds line code = slice_get ds line ≡ Some (record { code = code; broken = true })
 
 pub passed_over : (b : Bool) (c : Code) (rest : Option Code) → (if b then Some c else rest) ≡ None → (b ≡ false) × (rest ≡ None)
-passed_over true c rest e = absurd (cc)
-passed_over false c rest e = (refl, e)
+passed_over b c rest e = grind arith
 
 found_here : (b : Bool) (c code : Code) (rest : Option Code) → (if b then Some c else rest) ≡ Some code → ((b ≡ true) × (c ≡ code)) ⊎ ((b ≡ false) × (rest ≡ Some code))
-found_here true c code rest e = inl (refl, (let w : c ≡ code = cc in w))
-found_here false c code rest e = inr (refl, e)
+found_here b c code rest e = grind arith
 
 is_broken : (d : Demand) (code : Code) → Some d ≡ Some (record { code = code; broken = true }) → d.broken ≡ true
 is_broken d code e = let w : d ≡ (record { code = code; broken = true }) = cc in ap (λ (d : Demand). d.broken) w
-
-pub none_broken : (ds : List Demand) → first_code ds ≡ None → (line : ℕ) (code : Code) → IsBrokenIn ds line code → ⊥
-none_broken [] h line code b = cc
-none_broken (d ∷ ds) h zero code b = let p = passed_over d.broken d.code (first_code ds) h in let q = is_broken d code b in let w : true ≡ false = sym q ∙ p.0 in cc
-none_broken (d ∷ ds) h (suc line) code b = none_broken ds (passed_over d.broken d.code (first_code ds) h).1 line code b
 
 -- where no demand of a list is broken, the one at this line isn't
 pub clear_line : (ds : List Demand) → first_code ds ≡ None → (line : ℕ) (d : Demand) → slice_get ds line ≡ Some d → d.broken ≡ false
 clear_line [] h line d e = absurd (cc)
 clear_line (x ∷ ds) h zero d e = let same : x ≡ d = cc in ap (λ (d : Demand). d.broken) (sym same) ∙ (passed_over x.broken x.code (first_code ds) h).0
 clear_line (x ∷ ds) h (suc line) d e = clear_line ds (passed_over x.broken x.code (first_code ds) h).1 line d e
+
+pub none_broken : (ds : List Demand) → first_code ds ≡ None → (line : ℕ) (code : Code) → IsBrokenIn ds line code → ⊥
+none_broken ds h line code b = let w : true ≡ false = clear_line ds h line (record { code = code; broken = true }) b in cc
 
 -- the line of the first broken demand
 pub first_line : (ds : List Demand) (code : Code) → first_code ds ≡ Some code → (line : ℕ) × IsBrokenIn ds line code × ((m : ℕ) (c : Code) → m < line → IsBrokenIn ds m c → ⊥)
@@ -128,8 +124,7 @@ past_fields rows n zero (Some o) h = absurd (omega arith)
 past_fields rows n (suc p) (Some o) h = past_list rows o.is_struct o.bytesize o.fields p (omega arith)
 
 pub nothing_asked : (b : Bool) (ds : List Demand) → first_code ds ≡ None → first_code (if b then ds else []) ≡ None
-nothing_asked true ds h = h
-nothing_asked false ds h = refl
+nothing_asked b ds h = grind arith
 
 past_members : (rows : Rows) (place : ℕ) (e : Option Enum) → enum_end e ≤ place → first_code (demands_of_enum rows place e) ≡ None
 unfolding enum_end
@@ -146,50 +141,12 @@ past_places rows (suc (suc level)) n place h = refl
 pub is_legal : (rows : Rows) → ((level n place : ℕ) → IsClear rows level n place) → IsLegal rows
 is_legal rows clear = record { none = λ k c b. none_broken _ (clear k.level k.number k.place) k.line c b }
 
--- objects and enums are clear
-pub both_clear : (rows : Rows) → AreClearBelow rows 0 (length rows.objects) → AreClearBelow rows 1 (length rows.enums) → IsLegal rows
-both_clear rows objects enums = is_legal rows clear where
-  clear : (level n place : ℕ) → IsClear rows level n place
-  clear zero n place = elim (le_or_lt (length rows.objects) n) [ inl past ↦ past_objects rows n place past | inr lt ↦ objects.at n place lt ]
-  clear (suc zero) n place = elim (le_or_lt (length rows.enums) n) [ inl past ↦ past_enums rows n place past | inr lt ↦ enums.at n place lt ]
-  clear (suc (suc level)) n place = refl
-
-pub objects_clear : (rows : Rows) → AreClearBelow rows 0 (length rows.objects) → AreLevelsClear rows 1
-objects_clear rows objects = record { at = go } where
-  go : (l m place : ℕ) → l < 1 → IsClear rows l m place
-  go zero m place lt = elim (le_or_lt (length rows.objects) m) [ inl past ↦ past_objects rows m place past | inr low ↦ objects.at m place low ]
-  go (suc l) m place lt = absurd (omega arith)
-
 pub no_levels : (rows : Rows) → AreLevelsClear rows 0
 no_levels rows = record { at = λ l m place lt. absurd (omega arith) }
 
 -- Of two keys one is before the other, or they are the same.
 is_before_or_same : (a b : Key) → IsBefore a b ⊎ (IsBefore b a ⊎ (a ≡ b))
-is_before_or_same a b = elim (le_or_lt a.level b.level) [
-  | inr more ↦ inr (inl (inl more))
-  | inl le ↦ elim (lt_or_eq a.level b.level le) [
-    | inl less ↦ inl (inl less)
-    | inr v ↦ elim (le_or_lt a.number b.number) [
-      | inr more ↦ inr (inl (inr (sym v, inl more)))
-      | inl le ↦ elim (lt_or_eq a.number b.number le) [
-        | inl less ↦ inl (inr (v, inl less))
-        | inr n ↦ elim (le_or_lt a.place b.place) [
-          | inr more ↦ inr (inl (inr (sym v, inr (sym n, inl more))))
-          | inl le ↦ elim (lt_or_eq a.place b.place le) [
-            | inl less ↦ inl (inr (v, inr (n, inl less)))
-            | inr p ↦ elim (le_or_lt a.line b.line) [
-              | inr more ↦ inr (inl (inr (sym v, inr (sym n, inr (sym p, more)))))
-              | inl le ↦ elim (lt_or_eq a.line b.line le) [
-                | inl less ↦ inl (inr (v, inr (n, inr (p, less))))
-                | inr l ↦ inr (inr (λ i. record { level = v i; number = n i; place = p i; line = l i }))
-              ]
-            ]
-          ]
-        ]
-      ]
-    ]
-  ]
-]
+is_before_or_same a b = grind arith
 
 same_code : (c d : Code) → ◌≡◌ {A = Option Demand} (Some (record { code = c; broken = true })) (Some (record { code = d; broken = true })) → c ≡ d
 same_code c d e = let w : ◌≡◌ {A = Demand} (record { code = c; broken = true }) (record { code = d; broken = true }) = cc in ap (λ (d : Demand). d.code) w
@@ -209,40 +166,6 @@ one_first rows f g a b = elim (is_before_or_same a.key b.key) [
   ]
 ]
 
--- Rows are legal or have a first illegal demand: the least level, in it the least owner, in it the least place.
-abbrev IsRefusedAt : Rows → ℕ → ℕ → Type 0
-IsRefusedAt rows level n = (place : ℕ) × (code : Code) × (first_code (demands_at rows level n place) ≡ Some code) × IsClearBelow rows level n place
-
-abbrev IsRefusedIn : Rows → ℕ → Type 0
-IsRefusedIn rows level = (n : ℕ) × IsRefusedAt rows level n × AreClearBelow rows level n
-
-decide_owner : (rows : Rows) (level n : ℕ) → ((place : ℕ) → IsClear rows level n place) ⊎ IsRefusedAt rows level n
-decide_owner rows level n =
-    elim (least (λ p. (code : Code) × (first_code (demands_at rows level n p) ≡ Some code)) (IsClear rows level n) (λ p. is_none_or_some (first_code (demands_at rows level n p))) (places_end rows level n)) [
-      | inl clear ↦ inl (λ p. elim (le_or_lt (places_end rows level n) p) [ inl past ↦ past_places rows level n p past | inr lt ↦ clear p lt ])
-      | inr found ↦ inr (found.0, found.2.0, found.2.1, record { at = found.3 })
-    ]
-
-decide_level : (rows : Rows) (level : ℕ) → ((n place : ℕ) → IsClear rows level n place) ⊎ IsRefusedIn rows level
-decide_level rows level =
-    elim (least (IsRefusedAt rows level) (λ n. (place : ℕ) → IsClear rows level n place) (decide_owner rows level) (owners_end rows level)) [
-      | inl clear ↦ inl (λ n p. elim (le_or_lt (owners_end rows level) n) [ inl past ↦ past_owners rows level n p past | inr lt ↦ clear n lt p ])
-      | inr found ↦ inr (found.0, found.2, record { at = λ m p lt. found.3 m lt p })
-    ]
-
-pub decide : (rows : Rows) → IsLegal rows ⊎ ((f : SchemaFault) × IsFirstIllegal rows f)
-decide rows =
-    elim (least (IsRefusedIn rows) (λ l. (n place : ℕ) → IsClear rows l n place) (decide_level rows) levels_end) [
-      | inl clear ↦ inl (is_legal rows (λ l n p. elim (le_or_lt levels_end l) [ inl past ↦ past_levels rows l n p past | inr lt ↦ clear l lt n p ]))
-      | inr found ↦ (let here = found.2.1 in inr (
-        record { code = here.1; owner = found.2.0; part = part_of here.0 },
-        first_illegal rows found.0 found.2.0 here.0 here.1 (record { at = λ l m p lt. found.3 l lt m p }) found.2.2 here.3 here.2,
-      ))
-    ]
-
--- Rows are legal exactly where no fault is the first.
-pub legal_without_first : (rows : Rows) → ((f : SchemaFault) → IsFirstIllegal rows f → ⊥) → IsLegal rows
-legal_without_first rows none = elim (decide rows) [ inl legal ↦ legal | inr found ↦ absurd (none found.0 found.1) ]
-
+-- Of legal rows no fault is the first.
 pub no_first_if_legal : (rows : Rows) → IsLegal rows → (f : SchemaFault) → IsFirstIllegal rows f → ⊥
 no_first_if_legal rows legal f first = legal.none first.key f.code first.broken

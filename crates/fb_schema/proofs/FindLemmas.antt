@@ -1,23 +1,17 @@
 -- The one item of a list that passes a test.
-use Rattle.std.proofs.Common.{◌≡◌, ℕ, zero, suc, ◌<◌, Bool, true, false, ◌&&◌, List, [], ◌∷◌, length, get_or, filter, Option, Some, None, refl, ◌∙◌, ap, arith, cond, find}
+use Rattle.std.proofs.Common.{◌≡◌, ℕ, zero, suc, ◌<◌, Bool, true, false, ◌&&◌, List, [], ◌∷◌, length, get_or, filter, Option, Some, None, refl, ◌∙◌, arith, cond, find}
 use Rattle.fb_schema.proofs.Search.{not_true}
-
-find_cond : {X : Type 0} (p q : X → Bool) (x : X) (xs : List X) (a b : Bool) → p x ≡ b → find p (filter q xs) ≡ find (λ y. q y && p y) xs → find p (cond a (x ∷ filter q xs) (filter q xs)) ≡ cond (a && p x) (Some x) (find (λ y. q y && p y) xs)
-find_cond p q x xs true b e ih = ap (cond (p x) (Some x)) ih
-find_cond p q x xs false b e ih = ih
 
 -- to look among those that pass one test is to ask both
 pub find_filter : {X : Type 0} (p q : X → Bool) (xs : List X) → find p (filter q xs) ≡ find (λ y. q y && p y) xs
 find_filter p q [] = refl
-find_filter p q (x ∷ xs) = find_cond p q x xs (q x) (p x) refl (find_filter p q xs)
+find_filter p q (x ∷ xs) = grind (arith, find_filter p q xs)
 
 found_head : {X : Type 0} (b : Bool) (x : X) (rest : Option X) → b ≡ true → cond b (Some x) rest ≡ Some x
-found_head true x rest e = refl
-found_head false x rest e = absurd (let w : false ≡ true = e in cc)
+found_head b x rest e = grind arith
 
 found_later : {X : Type 0} (b : Bool) (x : X) (rest : Option X) → b ≡ false → cond b (Some x) rest ≡ rest
-found_later true x rest e = absurd (let w : true ≡ false = e in cc)
-found_later false x rest e = refl
+found_later b x rest e = grind arith
 
 pub found_item : {X : Type 0} (p : X → Bool) (xs : List X) (k : ℕ) (d : X) → k < length xs → p (get_or xs k d) ≡ true → ((j : ℕ) → j < length xs → p (get_or xs j d) ≡ true → j ≡ k) → find p xs ≡ Some (get_or xs k d)
 found_item p [] k d lt e only = absurd (omega arith)

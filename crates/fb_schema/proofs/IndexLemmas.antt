@@ -1,8 +1,8 @@
 -- The steps by which the index of a schema is made.
 use Rattle.std.proofs.Common.{◌≡◌, ℕ, zero, suc, ◌+◌, ◌<◌, ◌≤◌, ◌⊎◌, inl, inr, Bool, true, false, not, ◌||◌, ◌&&◌, ◌==◌, ◌%◌, nat_lt, List, [], ◌∷◌, ◌++◌, length, get_or, slice_get, take, map, max, Some, None, refl, sym, ◌∙◌, ap, subst, arith, if◌then◌else◌}
-use Rattle.std.proofs.lemmas.List.{length-map, map-append, get_or-take, get_or-map, length-take-le}
+use Rattle.std.proofs.lemmas.List.{map-append, get_or-take, get_or-map, length-take-le, length_push, map_more}
 use Rattle.std.proofs.lemmas.List.Folds.{list_any-from_Any}
-use Rattle.std.proofs.lemmas.Option.{slice_get-get_or}
+use Rattle.std.proofs.lemmas.Option.{slice_get-get_or, slice_get_within}
 use Rattle.std.proofs.lemmas.Bool.Decides.{Decides-eqb}
 use Rattle.std.proofs.lemmas.Grind.{take_at_read}
 use Rattle.fb_schema.specs.declared.fault.Code.TheVariants.{BadSlot}
@@ -12,21 +12,15 @@ use Rattle.fb_schema.specs.Live.{Live, AreApart, AreSpaced, live_rows, widest_of
 use Rattle.fb_schema.specs.Matched.{AreMatched}
 use Rattle.fb_schema.specs.Steps.{act_of, is_plain_act, are_plain}
 use Rattle.fb_schema.specs.Rows.{Rows, Field, Object, field_of}
-use Rattle.fb_schema.proofs.Numbers.{lt_or_eq, le_or_lt, get_or_default}
+use Rattle.fb_schema.proofs.Numbers.{get_or_default, neither_below}
 use Rattle.fb_schema.proofs.WalkLemmas.{mapped_at}
-
-pub same_length : {X Y Z : Type 0} (f : X → Z) (g : Y → Z) (xs : List X) (ys : List Y) → map f xs ≡ map g ys → length xs ≡ length ys
-same_length f g xs ys e = sym (length-map xs f) ∙ ap length e ∙ length-map ys g
 
 -- In a legal table no slot stands twice.
 or_true : (a b c : Bool) → c ≡ true → (a || b || c) ≡ true
-or_true true b c e = refl
-or_true false true c e = refl
-or_true false false c e = e
+or_true a b c e = grind arith
 
 pub table_list : (b : Bool) (some other : List Demand) → b ≡ false → (if b then some else other) ≡ other
-table_list true some other e = absurd (let w : true ≡ false = e in cc)
-table_list false some other e = refl
+table_list b some other e = grind arith
 
 no_slot_again : (rows : Rows) (n : ℕ) (o : Object) → IsLegal rows → slice_get rows.objects n ≡ Some o → o.is_struct ≡ false → (i j : ℕ) (d : Field) → i < j → j < length o.fields → (get_or o.fields i d).slot ≡ (get_or o.fields j d).slot → ⊥
 no_slot_again rows n o legal at table i j d lt within e =
@@ -43,10 +37,7 @@ no_slot_again rows n o legal at table i j d lt within e =
 
 pub legal_slots : (rows : Rows) (n : ℕ) (o : Object) → IsLegal rows → slice_get rows.objects n ≡ Some o → o.is_struct ≡ false → AreApart o.fields
 legal_slots rows n o legal at table = record {
-  at = λ i j d a b e. elim (le_or_lt i j) [
-    | inl le ↦ elim (lt_or_eq i j le) [ inl lt ↦ absurd (no_slot_again rows n o legal at table i j d lt b e) | inr same ↦ same ]
-    | inr lt ↦ absurd (no_slot_again rows n o legal at table j i d lt a (sym e))
-  ];
+  at = λ i j d a b e. neither_below i j (λ lt. no_slot_again rows n o legal at table i j d lt b e) (λ lt. no_slot_again rows n o legal at table j i d lt a (sym e));
 }
 
 -- Matched lists grow together.
@@ -56,25 +47,16 @@ slice_get_end [] x y (suc n) e = absurd (let w : None ≡ Some y = e in cc)
 slice_get_end (z ∷ zs) x y zero e = inl e
 slice_get_end (z ∷ zs) x y (suc n) e = elim (slice_get_end zs x y n e) [ inl a ↦ inl a | inr b ↦ inr (ap suc b.0, b.1) ]
 
-pub slice_get_below : {X : Type 0} (xs : List X) (x : X) (n : ℕ) → slice_get xs n ≡ Some x → n < length xs
-slice_get_below [] x n e = absurd (let w : None ≡ Some x = e in cc)
-slice_get_below (y ∷ ys) x zero e = omega arith
-slice_get_below (y ∷ ys) x (suc n) e = let w = slice_get_below ys x n e in omega arith
-
-pub length_one : {X : Type 0} (xs : List X) (x : X) → length (xs ++ x ∷ []) ≡ suc (length xs)
-length_one [] x = refl
-length_one (y ∷ ys) x = ap suc (length_one ys x)
-
 pub matched_more : {X Y : Type 0} (R : X → Y → Type 0) (xs : List X) (ys : List Y) (x : X) (y : Y) → AreMatched R xs ys → R x y → AreMatched R (xs ++ x ∷ []) (ys ++ y ∷ [])
 matched_more R xs ys x y h r = record {
-  long = length_one ys y ∙ ap suc h.long ∙ sym (length_one xs x);
+  long = omega (arith, length_push ys y, length_push xs x, h.long);
   at = λ n a b e f. elim (slice_get_end xs x a n e) [
     | inl old ↦ elim (slice_get_end ys y b n f) [
       | inl there ↦ h.at n a b old there
-      | inr here ↦ absurd (let lt = slice_get_below xs a n old in let m = here.0 in let l = h.long in omega arith)
+      | inr here ↦ absurd (let lt = slice_get_within xs n a old in let m = here.0 in let l = h.long in omega arith)
     ]
     | inr new ↦ elim (slice_get_end ys y b n f) [
-      | inl there ↦ absurd (let lt = slice_get_below ys b n there in let m = new.0 in let l = h.long in omega arith)
+      | inl there ↦ absurd (let lt = slice_get_within ys n b there in let m = new.0 in let l = h.long in omega arith)
       | inr here ↦ subst (λ z. R z b) new.1 (subst (R x) here.1 r)
     ]
   ];
@@ -90,11 +72,6 @@ matched_step R xs i x old new y lt is h e r =
     let more : take i xs ++ x ∷ [] ≡ take (i + 1) xs = ap (λ z. take i xs ++ z ∷ []) is ∙ sym (take_at_read xs i x lt).1 in
     subst (λ zs. AreMatched R zs new) more (subst (AreMatched R (take i xs ++ x ∷ [])) (sym e) grown)
 
-pub lists_step : {X Y Z : Type 0} (f : List Y → Z) (g : X → Z) (xs : List X) (i : ℕ) (x : X) (old new : List (List Y)) (y : List Y) → i < length xs → x ≡ get_or xs i x → map f old ≡ map g (take i xs) → new ≡ old ++ y ∷ [] → f y ≡ g x → map f new ≡ map g (take (i + 1) xs)
-lists_step f g xs i x old new y lt is h e r =
-    ap (map f) e ∙ map-append f old (y ∷ []) ∙ ap (λ zs. zs ++ f y ∷ []) h ∙ ap (λ z. map g (take i xs) ++ z ∷ []) (r ∙ ap g is)
-    ∙ sym (map-append g (take i xs) (get_or xs i x ∷ [])) ∙ ap (map g) (sym (take_at_read xs i x lt).1)
-
 widest_end : (xs : List Object) (o : Object) → widest_of (xs ++ o ∷ []) ≡ max (widest_of xs) (length (live_rows o))
 widest_end [] o = omega arith
 widest_end (x ∷ xs) o = let e = widest_end xs o in omega arith
@@ -105,9 +82,10 @@ widest_step xs i o old new count lt is h e c =
 
 -- a step of the loop over objects, for what is one number of each
 pub value_step : {X Y : Type 0} (g : X → Y) (xs : List X) (i : ℕ) (x : X) (old new : List Y) (y : Y) → i < length xs → x ≡ get_or xs i x → old ≡ map g (take i xs) → new ≡ old ++ y ∷ [] → y ≡ g x → new ≡ map g (take (i + 1) xs)
-value_step g xs i x old new y lt is h e r =
-    e ∙ ap (λ zs. zs ++ y ∷ []) h ∙ ap (λ z. map g (take i xs) ++ z ∷ []) (r ∙ ap g is)
-    ∙ sym (map-append g (take i xs) (get_or xs i x ∷ [])) ∙ ap (map g) (sym (take_at_read xs i x lt).1)
+value_step g xs i x old new y lt is h e r = e ∙ ap (λ zs. zs ++ y ∷ []) h ∙ ap (λ z. map g (take i xs) ++ z ∷ []) (r ∙ ap g is) ∙ sym (map_more g xs i x lt)
+
+pub lists_step : {X Y Z : Type 0} (f : List Y → Z) (g : X → Z) (xs : List X) (i : ℕ) (x : X) (old new : List (List Y)) (y : List Y) → i < length xs → x ≡ get_or xs i x → map f old ≡ map g (take i xs) → new ≡ old ++ y ∷ [] → f y ≡ g x → map f new ≡ map g (take (i + 1) xs)
+lists_step f g xs i x old new y lt is h e r = value_step g xs i x (map f old) (map f new) (f y) lt is h (ap (map f) e ∙ map-append f old (y ∷ [])) r
 
 pub kept_read : {X Y : Type 0} (f : X → Y) (xs : List X) (i : ℕ) (d : X) → i < length xs → slice_get (map f xs) i ≡ Some (f (get_or xs i d))
 kept_read f xs i d lt = mapped_at f xs i (get_or xs i d) (slice_get-get_or xs i d lt)
@@ -120,12 +98,6 @@ pub mapped_twice : {X Y Z : Type 0} (g : Y → Z) (f : X → Y) (xs : List X) �
 mapped_twice g f [] = refl
 mapped_twice g f (x ∷ xs) = ap (λ zs. g (f x) ∷ zs) (mapped_twice g f xs)
 
--- a step of the loop over live rows
-pub views_step : {X Y Z W : Type 0} (f : X → Y) (g : Y → Z) (v : W → Z) (xs : List X) (i : ℕ) (d : X) (old new : List W) (w : W) → i < length xs → map v old ≡ map g (map f (take i xs)) → new ≡ old ++ w ∷ [] → v w ≡ g (f (get_or xs i d)) → map v new ≡ map g (map f (take (i + 1) xs))
-views_step f g v xs i d old new w lt h e r =
-    ap (map v) e ∙ map-append v old (w ∷ []) ∙ ap (λ zs. zs ++ v w ∷ []) h ∙ ap (λ z. map g (map f (take i xs)) ++ z ∷ []) r
-    ∙ sym (map-append g (map f (take i xs)) (f (get_or xs i d) ∷ [])) ∙ ap (map g) (sym (map-append f (take i xs) (get_or xs i d ∷ []))) ∙ ap (λ z. map g (map f z)) (sym (take_at_read xs i d lt).1)
-
 -- a slot of 16 bits leaves room below it for so many others
 pub few_step : (live : List FieldRow) (i : ℕ) (d : FieldRow) → AreSpaced (map field_of live) → i < length live → (get_or live i d).slot < 65536 → i + 1 ≤ 32766
 few_step live i d spaced lt range = let least = spaced.at i (field_of (get_or live i d)) (mapped_at field_of live i (get_or live i d) (slice_get-get_or live i d lt)) in omega (arith, least, range)
@@ -135,10 +107,9 @@ plain_more : (fs : List Live) (f : Live) (b : Bool) → is_plain_act (act_of f f
 plain_more [] f true e = ap (λ b. b && true) e
 plain_more [] f false e = ap (λ b. b && true) e
 plain_more (g ∷ gs) f true e = ap (λ x. is_plain_act (act_of g g.kind) && x) (plain_more gs f true e)
-plain_more (g ∷ gs) f false e = ap (λ x. is_plain_act (act_of g g.kind) && x) (plain_more gs f false e) ∙ go (is_plain_act (act_of g g.kind)) where
-  go : (b : Bool) → (b && false) ≡ false
-  go true = refl
-  go false = refl
+plain_more (g ∷ gs) f false e = ap (λ x. is_plain_act (act_of g g.kind) && x) (plain_more gs f false e) ∙ both_false (is_plain_act (act_of g g.kind)) where
+  both_false : (b : Bool) → (b && false) ≡ false
+  both_false b = grind arith
 
 pub plain_step : {X : Type 0} (v : X → Live) (xs : List X) (i : ℕ) (d : X) (b : Bool) → i < length xs → is_plain_act (act_of (v (get_or xs i d)) (v (get_or xs i d)).kind) ≡ b
     → are_plain (map v (take (i + 1) xs)) ≡ if b then are_plain (map v (take i xs)) else false

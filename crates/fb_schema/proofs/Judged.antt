@@ -1,16 +1,13 @@
 -- Rows are judged by computing: the first level, in it the first owner, and in it the first place where a demand is
 -- broken.
-use Rattle.std.proofs.Common.{◌≡◌, ℕ, zero, suc, ◌<◌, ◌⊎◌, inl, inr, Option, Some, None, refl, sym, ap, subst, arith}
-use Rattle.std.specs.Prelude.{option_map}
+use Rattle.std.proofs.Common.{◌≡◌, ℕ, zero, suc, ◌<◌, ◌⊎◌, inl, inr, Option, Some, None, refl, sym, subst, arith, option_map}
+use Rattle.std.proofs.lemmas.Option.{same_Some}
 use Rattle.fb_schema.specs.declared.fault.Code.{Code}
 use Rattle.fb_schema.specs.declared.fault.SchemaFault.{SchemaFault}
 use Rattle.fb_schema.specs.Rows.{Rows}
 use Rattle.fb_schema.specs.Demands.{IsLegal, IsFirstIllegal, demands_at, first_code, part_of}
 use Rattle.fb_schema.proofs.Numbers.{lt_or_eq, le_or_lt}
 use Rattle.fb_schema.proofs.DemandLaws.{IsClear, levels_end, owners_end, places_end, past_levels, past_owners, past_places, is_legal, first_illegal}
-
-some_same : {A : Type 0} {x y : A} → Some x ≡ Some y → x ≡ y
-some_same h = cc
 
 -- what was found before, or what is found at n
 unfoldable pub or_at : {A : Type 0} → Option (A × ℕ) → ℕ → Option A → Option (A × ℕ)
@@ -25,17 +22,11 @@ first_below f (suc n) = or_at (first_below f n) n (f n)
 
 or_none : {A : Type 0} (x : Option (A × ℕ)) (n : ℕ) (found : Option A) → or_at x n found ≡ None → (x ≡ None) × (found ≡ None)
 unfolding or_at
-or_none (Some x) n found h = absurd (cc)
-or_none None n None h = (refl, refl)
-or_none None n (Some a) h = absurd (cc)
+or_none x n found h = grind (arith, h)
 
 or_some : {A : Type 0} (x : Option (A × ℕ)) (n : ℕ) (found : Option A) (y : A × ℕ) → or_at x n found ≡ Some y → (x ≡ Some y) ⊎ ((x ≡ None) × (found ≡ Some y.0) × (n ≡ y.1))
 unfolding or_at
-or_some (Some x) n found y h = inl h
-or_some None n None y h = absurd (cc)
-or_some {A} None n (Some a) y h =
-    let same : ◌≡◌ {A = A × ℕ} (a, n) y = some_same h in
-    inr (refl, ap (λ (z : A × ℕ). Some z.0) same, ap (λ (z : A × ℕ). z.1) same)
+or_some x n found y h = grind (arith, h)
 
 module _ {A : Type 0} (f : ℕ → Option A) where
   -- nothing is found below n
@@ -111,12 +102,11 @@ module _ (rows : Rows) where
       place.0
 
   no_fault : (x : Option (((Code × ℕ) × ℕ) × ℕ)) → option_map fault_of x ≡ None → x ≡ None
-  no_fault None h = refl
-  no_fault (Some x) h = absurd (cc)
+  no_fault x h = grind (arith, h)
 
   one_fault : (x : Option (((Code × ℕ) × ℕ) × ℕ)) (f : SchemaFault) → in_rows rows ≡ x → option_map fault_of x ≡ Some f → IsFirstIllegal rows f
   one_fault None f e h = absurd (cc)
-  one_fault (Some x) f e h = subst (IsFirstIllegal rows) (some_same h) (first_in x e)
+  one_fault (Some x) f e h = subst (IsFirstIllegal rows) (same_Some _ _ h) (first_in x e)
 
 -- rows without a fault are legal, and a fault is the first
 pub legal : {rows : Rows} → first_fault rows ≡ None → IsLegal rows
@@ -126,3 +116,10 @@ legal {rows} h = is_legal rows (all_clear rows (no_fault rows (in_rows rows) h))
 pub refused : {rows : Rows} {f : SchemaFault} → first_fault rows ≡ Some f → IsFirstIllegal rows f
 unfolding first_fault
 refused {rows} {f} h = one_fault rows (in_rows rows) f refl h
+
+-- rows of which no fault is the first are legal
+pub legal_without_first : (rows : Rows) → ((f : SchemaFault) → IsFirstIllegal rows f → ⊥) → IsLegal rows
+legal_without_first rows none = go (first_fault rows) refl where
+  go : (o : Option SchemaFault) → first_fault rows ≡ o → IsLegal rows
+  go None e = legal e
+  go (Some f) e = absurd (none f (refused e))

@@ -5,14 +5,10 @@ use Rattle.std.proofs.lemmas.List.Elements.{filter_map-append}
 use Rattle.std.proofs.lemmas.Grind.{take_at_read}
 use Rattle.std.specs.List.{cons_option}
 
-shorter_cons : {Y : Type 0} (o : Option Y) (ys : List Y) (n : ℕ) → length ys ≤ n → length (cons_option o ys) ≤ suc n
-shorter_cons None ys n h = omega arith
-shorter_cons (Some y) ys n h = omega arith
-
 -- the list made is no longer
 pub kept_fewer : {X Y : Type 0} (h : X → Option Y) (xs : List X) → length (filter_map h xs) ≤ length xs
 kept_fewer h [] = omega arith
-kept_fewer h (x ∷ xs) = shorter_cons (h x) (filter_map h xs) (length xs) (kept_fewer h xs)
+kept_fewer h (x ∷ xs) = grind (arith, kept_fewer h xs)
 
 -- an item of it was made of one
 pub kept_from : {X Y : Type 0} (h : X → Option Y) (xs : List X) (i : ℕ) (y : Y) → slice_get (filter_map h xs) i ≡ Some y → (x : X) × (h x ≡ Some y)

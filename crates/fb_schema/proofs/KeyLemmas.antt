@@ -1,16 +1,15 @@
 -- The keys of a list, one after another, and the test whether an item stood before.
-use Rattle.std.proofs.Common.{◌≡◌, ℕ, zero, suc, ◌+◌, ◌<◌, ◌==◌, inl, inr, Bool, true, false, ◌||◌, List, [], ◌∷◌, ◌++◌, length, slice_get, get_or, take, map, Option, Some, None, refl, sym, ◌∙◌, ap, subst, arith, zero-add, Decides}
-use Rattle.std.proofs.lemmas.List.{get_or-take, length-take-le, map-append, get_or-map, length-map}
+use Rattle.std.proofs.Common.{◌≡◌, ℕ, suc, ◌+◌, ◌<◌, Bool, true, false, ◌||◌, List, [], ◌∷◌, ◌++◌, length, slice_get, get_or, take, map, Option, Some, None, refl, sym, ◌∙◌, ap, subst, arith, zero-add, Decides, Ordering, Equal}
+use Rattle.fb_schema.proofs.Search.{not_true}
+use Rattle.std.proofs.lemmas.List.{get_or-take, length-take-le, map-append, get_or-map, length-map, take-map}
 use Rattle.std.proofs.lemmas.List.Folds.{Any-from_list_any, list_any-from_Any}
 use Rattle.std.proofs.lemmas.Option.{slice_get_within, get_or_from_slice_get}
 use Rattle.std.proofs.lemmas.Bool.Decides.{Decides-eqb}
 use Rattle.std.proofs.lemmas.Grind.{take_at_read}
 use Rattle.std.specs.List.{list_any}
-use Rattle.std.specs.declared.cmp.Ordering.{Ordering}
-use Rattle.std.specs.declared.cmp.Ordering.TheVariants.{Equal}
 use Rattle.fb_schema.specs.Sorting.{numbered, IsAgain, IsFirstAgain}
 use Rattle.fb_schema.specs.Demands.{stands_before, is_at}
-use Rattle.fb_schema.proofs.Numbers.{lt_or_eq, le_or_lt, get_or_default}
+use Rattle.fb_schema.proofs.Numbers.{get_or_default, slice_get_some, neither_below, same_test}
 
 numbered-push : {K : Type 0} (keys : List K) (n : ℕ) (key : K) → numbered n (keys ++ key ∷ []) ≡ numbered n keys ++ (key, n + length keys) ∷ []
 numbered-push [] n key = ap (λ m. (key, m) ∷ []) (let w : n ≡ n + 0 = omega arith in w)
@@ -30,10 +29,14 @@ pub list_any-map : {X Y : Type 0} (p : Y → Bool) (f : X → Y) (xs : List X) �
 list_any-map p f [] = refl
 list_any-map p f (x ∷ xs) = ap (λ b. p (f x) || b) (list_any-map p f xs)
 
-pub take-map : {X Y : Type 0} (f : X → Y) (n : ℕ) (xs : List X) → take n (map f xs) ≡ map f (take n xs)
-take-map f zero xs = refl
-take-map f (suc n) [] = refl
-take-map f (suc n) (x ∷ xs) = ap (λ ys. f x ∷ ys) (take-map f n xs)
+-- a key of a list stands again behind one that is like it
+pub again_at : {X K : Type 0} (R : K → K → Ordering) (key : X → K) (xs : List X) (i j : ℕ) (x : X) → i < j → j < length xs → R (key (get_or xs i x)) (key (get_or xs j x)) ≡ Equal → IsAgain R (map key xs) j
+again_at R key xs i j x lt within e = record {
+  earlier = i;
+  before = lt;
+  within = rw length-map within;
+  alike = λ d. ap (λ z. R z (get_or (map key xs) j d)) (get_or-map key xs i x d (omega arith)) ∙ ap (R (key (get_or xs i x))) (get_or-map key xs j x d within) ∙ e;
+}
 
 -- rows in memory with their keys, and how the definitions see them: two are the same where their keys are alike
 module _ {X Y K : Type 0} (R : K → K → Ordering) (key : X → K) (f : X → Y) (same : Y → Y → Bool) (agrees : (a b : X) → Decides (same (f a) (f b)) (R (key a) (key b) ≡ Equal)) (xs : List X) (p : ℕ) (x : X) (at : slice_get xs p ≡ Some x) where
@@ -73,15 +76,13 @@ module _ {X Y K : Type 0} (R : K → K → Ordering) (key : X → K) (f : X → 
 
   -- what the first place again tells of this one, where no earlier place is again
   pub is_at_test : (first : Option ℕ) → IsFirstAgain R (map key xs) first → ((q : ℕ) → q < p → IsAgain R (map key xs) q → ⊥) → is_at first p ≡ stands_before same (map f xs) p (f x)
-  is_at_test None h none = test_false _ (λ t. h p (again_from_test t)) where
-    test_false : (b : Bool) → (b ≡ true → ⊥) → false ≡ b
-    test_false true h = absurd (h refl)
-    test_false false h = refl
-  is_at_test (Some k) h none = go (k == p) (stands_before same (map f xs) p (f x)) (λ e. (Decides-eqb k p).0 e) (λ e. (Decides-eqb k p).1 e) again_from_test test_from_again where
-    go : (a b : Bool) → (a ≡ true → k ≡ p) → (k ≡ p → a ≡ true) → (b ≡ true → IsAgain R (map key xs) p) → (IsAgain R (map key xs) p → b ≡ true) → a ≡ b
-    go true b f f' g g' = sym (g' (subst (IsAgain R (map key xs)) (f refl) h.0))
-    go false false f f' g g' = refl
-    go false true f f' g g' = elim (le_or_lt p k) [
-      | inl le ↦ elim (lt_or_eq p k le) [ inl lt ↦ absurd (h.1 p lt (g refl)) | inr e ↦ f' (sym e) ]
-      | inr lt ↦ absurd (none k lt h.0)
-    ]
+  is_at_test None h none = sym (not_true _ (λ t. h p (again_from_test t)))
+  is_at_test (Some k) h none = same_test _ _ (λ e. test_from_again (subst (IsAgain R (map key xs)) ((Decides-eqb k p).0 e) h.0))
+      (λ t. (Decides-eqb k p).1 (neither_below k p (λ lt. none k lt h.0) (λ lt. h.1 p lt (again_from_test t))))
+
+-- no key stands again where the test says that no item like the one there stands before it
+pub never_again : {X Y K : Type 0} (R : K → K → Ordering) (key : X → K) (f : X → Y) (same : Y → Y → Bool) (agrees : (a b : X) → Decides (same (f a) (f b)) (R (key a) (key b) ≡ Equal)) (xs : List X) (q : ℕ) → IsAgain R (map key xs) q
+    → ((x : X) → slice_get xs q ≡ Some x → stands_before same (map f xs) q (f x) ≡ false) → ⊥
+never_again R key f same agrees xs q a none =
+    let here = slice_get_some xs q (rw length-map at a.within) in
+    let w : true ≡ false = sym (test_from_again R key f same agrees xs q here.0 here.1 a) ∙ none here.0 here.1 in cc

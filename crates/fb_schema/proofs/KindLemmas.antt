@@ -1,15 +1,10 @@
 -- What the kinds of legal rows name.
-use Rattle.std.proofs.Common.{◌≡◌, ℕ, ◌^◌, ◌<◌, ◌==◌, ℤ, pos, negsuc, Bool, true, false, not, ◌&&◌, ◌||◌, int_lt, List, [], ◌∷◌, map, length, slice_get, Option, Some, None, IsTrue, refl, sym, ◌∙◌, ap, subst, find, unsigned_abs, option_map, if◌then◌else◌}
+use Rattle.std.proofs.Common.{◌≡◌, ℕ, ◌^◌, ◌<◌, ◌==◌, ℤ, pos, negsuc, Bool, true, false, not, ◌&&◌, ◌||◌, int_lt, List, [], ◌∷◌, map, length, slice_get, Option, Some, None, IsTrue, refl, sym, ◌∙◌, ap, subst, find, unsigned_abs, option_map, if◌then◌else◌, arith, IfSome, option_and_then, int_eq}
+use Rattle.fb_schema.proofs.KindWords.{Kind, Struct, Table, Union, Structs, Tables, Unions, Element, OfScalar, OfText, OfObject, OfUnion, Shape, One, Vector}
+use Rattle.fb_schema.proofs.Numbers.{not_false}
+use Rattle.std.proofs.lemmas.Option.{slice_get_within, MatchOption-at_some}
 use Rattle.std.proofs.lemmas.Bool.Decides.{Decides-eqb}
 use Rattle.std.specs.List.{list_any}
-use Rattle.std.specs.Option.{option_and_then}
-use Rattle.std.specs.Ordering.{int_eq}
-use Rattle.fb_schema.specs.declared.kinds.Kind.{Kind}
-use Rattle.fb_schema.specs.declared.kinds.Kind.TheVariants.{Scalar, Text, Struct, Table, Union, Scalars, Texts, Structs, Tables, Unions}
-use Rattle.fb_schema.specs.declared.kinds.Element.{Element}
-use Rattle.fb_schema.specs.declared.kinds.Element.TheVariants.{Scalar as OfScalar, Text as OfText, Object as OfObject, Union as OfUnion}
-use Rattle.fb_schema.specs.declared.kinds.Shape.{Shape}
-use Rattle.fb_schema.specs.declared.kinds.Shape.TheVariants.{One, Vector, Array}
 use Rattle.fb_schema.specs.declared.rows.TypeRow.{TypeRow}
 use Rattle.fb_schema.specs.Demands.{IsLegal, first_code, demands_of_object, object_demands, stands_before, same_object_name, is_alignment, is_union_shape}
 use Rattle.fb_schema.specs.Kinds.{kind_of, shape_of, shape_kind, object_kind, union_kind, struct_align, align_in}
@@ -19,7 +14,6 @@ use Rattle.fb_schema.specs.Rows.{Rows, Object, Enum, Member, entry_at, is_table,
 use Rattle.fb_schema.specs.Served.{IsAlignment, MemberHolds}
 use Rattle.fb_schema.proofs.DemandLaws.{clear_line}
 use Rattle.fb_schema.proofs.LegalLemmas.{legal_clear}
-use Rattle.fb_schema.proofs.UnionLemmas.{read_within}
 
 -- a vector has the kind of a vector of what its element alone would have
 pub vector_kind : (rows : Rows) (index : ℤ) (e : Element) → shape_kind rows index (Some (Vector e)) ≡ option_map vector_of (shape_kind rows index (Some (One e)))
@@ -29,10 +23,7 @@ vector_kind rows index OfObject = go index (entry_at rows.objects index) where
   go : (i : ℤ) (o : Option Object) → object_kind i Structs Tables o ≡ option_map vector_of (object_kind i Struct Table o)
   go i None = refl
   go (negsuc k) (Some o) = refl
-  go (pos k) (Some o) = chosen o.is_struct where
-    chosen : (b : Bool) → Some (if b then Structs k else Tables k) ≡ Some (vector_of (if b then Struct k else Table k))
-    chosen true = refl
-    chosen false = refl
+  go (pos k) (Some o) = grind arith
 vector_kind rows index OfUnion = go index (entry_at rows.enums index) where
   go : (i : ℤ) (e : Option Enum) → union_kind i Unions e ≡ option_map vector_of (union_kind i Union e)
   go i None = refl
@@ -57,7 +48,7 @@ NamesUnion rows (Union e) = IsTrue (is_union rows e)
 NamesUnion rows (Unions e) = IsTrue (is_union rows e)
 NamesUnion rows _ = Unit {0}
 
-power_of : (n : ℕ) (ks : List ℕ) → list_any (λ a. n == a) (map (λ k. 2 ^ k) ks) ≡ true → IsAlignment n
+pub power_of : (n : ℕ) (ks : List ℕ) → list_any (λ a. n == a) (map (λ k. 2 ^ k) ks) ≡ true → IsAlignment n
 power_of n [] h = absurd (let w : false ≡ true = h in cc)
 power_of n (k ∷ ks) h = go (n == 2 ^ k) refl h (power_of n ks) where
   go : (b : Bool) → (n == 2 ^ k) ≡ b → (b || list_any (λ a. n == a) (map (λ k. 2 ^ k) ks)) ≡ true → (list_any (λ a. n == a) (map (λ k. 2 ^ k) ks) ≡ true → IsAlignment n) → IsAlignment n
@@ -69,110 +60,63 @@ aligned (pos n) h = power_of n (0 ∷ 1 ∷ 2 ∷ 3 ∷ 4 ∷ 5 ∷ 6 ∷ 7 ∷ 
 aligned (negsuc n) h = absurd (let w : false ≡ true = h in cc)
 
 asked_of_struct : (a b c : Bool) → (a && (b || not c)) ≡ false → a ≡ true → c ≡ true
-asked_of_struct true true c h e = absurd (let w : true ≡ false = h in cc)
-asked_of_struct true false true h e = refl
-asked_of_struct true false false h e = absurd (let w : true ≡ false = h in cc)
-asked_of_struct false b c h e = absurd (let w : false ≡ true = e in cc)
+asked_of_struct a b c h e = grind arith
 
 struct_there : (rows : Rows) → IsLegal rows → (k : ℕ) (o : Object) → slice_get rows.objects k ≡ Some o → o.is_struct ≡ true → IsStruct rows k
 struct_there rows legal k o at struct =
     let named = stands_before same_object_name rows.objects k o in
     let clear : first_code (object_demands o named) ≡ None = sym (ap (λ x. first_code (demands_of_object rows k 0 x)) at) ∙ legal_clear rows legal 0 k 0 in
     let line = clear_line (object_demands o named) clear 1 _ refl in
-    (read_within rows.objects k o at, subst (λ x. IsAlignment (align_in x)) (sym at) (aligned o.minalign (asked_of_struct o.is_struct (int_lt o.bytesize (pos 1)) (is_alignment o.minalign) line struct)))
+    (slice_get_within rows.objects k o at, subst (λ x. IsAlignment (align_in x)) (sym at) (aligned o.minalign (asked_of_struct o.is_struct (int_lt o.bytesize (pos 1)) (is_alignment o.minalign) line struct)))
 
-pub some_is : {X : Type 0} (x y : X) → Some x ≡ Some y → x ≡ y
-some_is x y e = let w : x ≡ y = cc in w
+-- what holds of the kind that an object gives, where it holds of a struct and of a table that is there
+pub object_kinds : (rows : Rows) (P : Kind → Type 0) (struct table : ℕ → Kind) (index : ℤ) → ((k : ℕ) (o : Object) → entry_at rows.objects index ≡ Some o → slice_get rows.objects k ≡ Some o → o.is_struct ≡ true → P (struct k))
+    → ((k : ℕ) (o : Object) → entry_at rows.objects index ≡ Some o → slice_get rows.objects k ≡ Some o → o.is_struct ≡ false → P (table k)) → IfSome (object_kind index struct table (entry_at rows.objects index)) P
+object_kinds rows P struct table (negsuc k) a b = tt
+object_kinds rows P struct table (pos k) a b = go (slice_get rows.objects k) refl where
+  go : (o : Option Object) → slice_get rows.objects k ≡ o → IfSome (object_kind (pos k) struct table o) P
+  go None at = tt
+  go (Some o) at = chosen o.is_struct refl where
+    chosen : (c : Bool) → o.is_struct ≡ c → P (if c then struct k else table k)
+    chosen true is = a k o at at is
+    chosen false is = b k o at at is
 
-module _ (rows : Rows) (legal : IsLegal rows) (struct table : ℕ → Kind) (of_struct : (k : ℕ) → IsStruct rows k → NamesObject rows (struct k)) (of_table : (k : ℕ) → IsTrue (is_table rows k) → NamesObject rows (table k)) where
-  one_of : (k : ℕ) (o : Object) (b : Bool) (kind : Kind) → slice_get rows.objects k ≡ Some o → o.is_struct ≡ b → (if b then struct k else table k) ≡ kind → NamesObject rows kind
-  one_of k o true kind at is e = subst (NamesObject rows) e (of_struct k (struct_there rows legal k o at is))
-  one_of k o false kind at is e = subst (NamesObject rows) e (of_table k (ap is_some_table at ∙ ap not is))
+-- and of the kind that a union gives
+pub union_kinds : (rows : Rows) (P : Kind → Type 0) (union : ℕ → Kind) (index : ℤ) → ((k : ℕ) (e : Enum) → entry_at rows.enums index ≡ Some e → slice_get rows.enums k ≡ Some e → P (union k)) → IfSome (union_kind index union (entry_at rows.enums index)) P
+union_kinds rows P union (negsuc k) of = tt
+union_kinds rows P union (pos k) of = go (slice_get rows.enums k) refl where
+  go : (e : Option Enum) → slice_get rows.enums k ≡ e → IfSome (union_kind (pos k) union e) P
+  go None at = tt
+  go (Some e) at = of k e at at
 
-  there : (k : ℕ) (o : Option Object) (kind : Kind) → slice_get rows.objects k ≡ o → object_kind (pos k) struct table o ≡ Some kind → NamesObject rows kind
-  there k None kind at e = absurd (let w : None ≡ Some kind = e in cc)
-  there k (Some o) kind at e = one_of k o o.is_struct kind at refl (some_is (if o.is_struct then struct k else table k) kind e)
-
-  pub object_there : (index : ℤ) (kind : Kind) → object_kind index struct table (entry_at rows.objects index) ≡ Some kind → NamesObject rows kind
-  object_there (pos k) kind e = there k (slice_get rows.objects k) kind refl e
-  object_there (negsuc k) kind e = absurd (let w : None ≡ Some kind = e in cc)
-
--- what holds of each kind that an object, or a union, gives
-pub object_kind_is : (P : Kind → Type 0) (struct table : ℕ → Kind) → ((k : ℕ) → P (struct k)) → ((k : ℕ) → P (table k)) → (index : ℤ) (o : Option Object) (kind : Kind) → object_kind index struct table o ≡ Some kind → P kind
-object_kind_is P struct table a b index None kind e = absurd (let w : None ≡ Some kind = e in cc)
-object_kind_is P struct table a b (negsuc k) (Some o) kind e = absurd (let w : None ≡ Some kind = e in cc)
-object_kind_is P struct table a b (pos k) (Some o) kind e = subst P (some_is (if o.is_struct then struct k else table k) kind e) (go o.is_struct) where
-  go : (c : Bool) → P (if c then struct k else table k)
-  go true = a k
-  go false = b k
-
-pub union_kind_is : (P : Kind → Type 0) (union : ℕ → Kind) → ((k : ℕ) → P (union k)) → (index : ℤ) (e : Option Enum) (kind : Kind) → union_kind index union e ≡ Some kind → P kind
-union_kind_is P union a index None kind h = absurd (let w : None ≡ Some kind = h in cc)
-union_kind_is P union a (pos k) (Some e) kind h = subst P (some_is (union k) kind h) (a k)
-union_kind_is P union a (negsuc k) (Some e) kind h = absurd (let w : None ≡ Some kind = h in cc)
-
-module _ (rows : Rows) (union : ℕ → Kind) where
-  in_enum : (k : ℕ) (e : Option Enum) (kind : Kind) → ((k : ℕ) → IsTrue (is_union rows k) → NamesUnion rows (union k)) → slice_get rows.enums k ≡ e → union_kind (pos k) union e ≡ Some kind → not (is_some_union e) ≡ false → NamesUnion rows kind
-  in_enum k None kind of at h is = absurd (let w : None ≡ Some kind = h in cc)
-  in_enum k (Some e) kind of at h is = subst (NamesUnion rows) (some_is (union k) kind h) (of k (ap is_some_union at ∙ positive e.is_union is)) where
-    positive : (b : Bool) → not b ≡ false → b ≡ true
-    positive true h = refl
-    positive false h = absurd (let w : true ≡ false = h in cc)
-
-  pub union_there : (index : ℤ) (kind : Kind) → ((k : ℕ) → IsTrue (is_union rows k) → NamesUnion rows (union k)) → union_kind index union (entry_at rows.enums index) ≡ Some kind → not (is_some_union (entry_at rows.enums index)) ≡ false → NamesUnion rows kind
-  union_there (pos k) kind of h is = in_enum k (slice_get rows.enums k) kind of refl h is
-  union_there (negsuc k) kind of h is = absurd (let w : None ≡ Some kind = h in cc)
-
-object_of_shape : (rows : Rows) → IsLegal rows → (index : ℤ) (s : Option Shape) (kind : Kind) → shape_kind rows index s ≡ Some kind → NamesObject rows kind
-object_of_shape rows legal index None kind e = absurd (let w : None ≡ Some kind = e in cc)
-object_of_shape rows legal index (Some (One (OfScalar s))) kind e = subst (NamesObject rows) (some_is (Scalar s) kind e) tt
-object_of_shape rows legal index (Some (One OfText)) kind e = subst (NamesObject rows) (some_is Text kind e) tt
-object_of_shape rows legal index (Some (One OfObject)) kind e = object_there rows legal Struct Table (λ k h. h) (λ k h. h) index kind e
-object_of_shape rows legal index (Some (One OfUnion)) kind e = union_kind_is (NamesObject rows) Union (λ k. tt) index (entry_at rows.enums index) kind e
-object_of_shape rows legal index (Some (Vector (OfScalar s))) kind e = subst (NamesObject rows) (some_is (Scalars s) kind e) tt
-object_of_shape rows legal index (Some (Vector OfText)) kind e = subst (NamesObject rows) (some_is Texts kind e) tt
-object_of_shape rows legal index (Some (Vector OfObject)) kind e = object_there rows legal Structs Tables (λ k h. h) (λ k h. h) index kind e
-object_of_shape rows legal index (Some (Vector OfUnion)) kind e = union_kind_is (NamesObject rows) Unions (λ k. tt) index (entry_at rows.enums index) kind e
-object_of_shape rows legal index (Some (Array s)) kind e = absurd (let w : None ≡ Some kind = e in cc)
+object_of_shape : (rows : Rows) → IsLegal rows → (index : ℤ) (s : Option Shape) → IfSome (shape_kind rows index s) (NamesObject rows)
+object_of_shape rows legal index (Some (One OfObject)) = object_kinds rows (NamesObject rows) Struct Table index (λ k o _ at is. struct_there rows legal k o at is) (λ k o _ at is. ap is_some_table at ∙ ap not is)
+object_of_shape rows legal index (Some (One OfUnion)) = union_kinds rows (NamesObject rows) Union index (λ _ _ _ _. tt)
+object_of_shape rows legal index (Some (Vector OfObject)) = object_kinds rows (NamesObject rows) Structs Tables index (λ k o _ at is. struct_there rows legal k o at is) (λ k o _ at is. ap is_some_table at ∙ ap not is)
+object_of_shape rows legal index (Some (Vector OfUnion)) = union_kinds rows (NamesObject rows) Unions index (λ _ _ _ _. tt)
+object_of_shape rows legal index s = tt
 
 -- the object that a kind names is there
 pub names_object : (rows : Rows) → IsLegal rows → (ty : TypeRow) (kind : Kind) → kind_of rows ty ≡ Some kind → NamesObject rows kind
 unfolding kind_of
-names_object rows legal ty kind e = object_of_shape rows legal ty.index (shape_of ty) kind e
+names_object rows legal ty kind e = MatchOption-at_some _ (NamesObject rows) kind e (object_of_shape rows legal ty.index (shape_of ty))
 
 -- so is its union, where the type names no union that isn't there
-pub union_of_shape : (rows : Rows) (index : ℤ) (s : Option Shape) (kind : Kind) → shape_kind rows index s ≡ Some kind → (is_union_shape s && not (is_some_union (entry_at rows.enums index))) ≡ false → NamesUnion rows kind
-union_of_shape rows index None kind e h = absurd (let w : None ≡ Some kind = e in cc)
-union_of_shape rows index (Some (One (OfScalar s))) kind e h = subst (NamesUnion rows) (some_is (Scalar s) kind e) tt
-union_of_shape rows index (Some (One OfText)) kind e h = subst (NamesUnion rows) (some_is Text kind e) tt
-union_of_shape rows index (Some (One OfObject)) kind e h = object_kind_is (NamesUnion rows) Struct Table (λ k. tt) (λ k. tt) index (entry_at rows.objects index) kind e
-union_of_shape rows index (Some (One OfUnion)) kind e h = union_there rows Union index kind (λ k h. h) e h
-union_of_shape rows index (Some (Vector (OfScalar s))) kind e h = subst (NamesUnion rows) (some_is (Scalars s) kind e) tt
-union_of_shape rows index (Some (Vector OfText)) kind e h = subst (NamesUnion rows) (some_is Texts kind e) tt
-union_of_shape rows index (Some (Vector OfObject)) kind e h = object_kind_is (NamesUnion rows) Structs Tables (λ k. tt) (λ k. tt) index (entry_at rows.objects index) kind e
-union_of_shape rows index (Some (Vector OfUnion)) kind e h = union_there rows Unions index kind (λ k h. h) e h
-union_of_shape rows index (Some (Array s)) kind e h = absurd (let w : None ≡ Some kind = e in cc)
-
--- Members.
-of_member : (rows : Rows) (kind : Kind) → NamesObject rows kind → MemberHolds rows (Some kind)
-of_member rows (Scalar s) h = tt
-of_member rows Text h = tt
-of_member rows (Struct k) h = h
-of_member rows (Table k) h = h
-of_member rows (Union e) h = tt
-of_member rows (Scalars s) h = tt
-of_member rows Texts h = tt
-of_member rows (Structs k) h = tt
-of_member rows (Tables k) h = tt
-of_member rows (Unions e) h = tt
+pub union_of_shape : (rows : Rows) (index : ℤ) (s : Option Shape) → (is_union_shape s && not (is_some_union (entry_at rows.enums index))) ≡ false → IfSome (shape_kind rows index s) (NamesUnion rows)
+union_of_shape rows index (Some (One OfObject)) h = object_kinds rows (NamesUnion rows) Struct Table index (λ _ _ _ _ _. tt) (λ _ _ _ _ _. tt)
+union_of_shape rows index (Some (One OfUnion)) h = union_kinds rows (NamesUnion rows) Union index (λ k e here at. ap is_some_union (at ∙ sym here) ∙ not_false _ h)
+union_of_shape rows index (Some (Vector OfObject)) h = object_kinds rows (NamesUnion rows) Structs Tables index (λ _ _ _ _ _. tt) (λ _ _ _ _ _. tt)
+union_of_shape rows index (Some (Vector OfUnion)) h = union_kinds rows (NamesUnion rows) Unions index (λ k e here at. ap is_some_union (at ∙ sym here) ∙ not_false _ h)
+union_of_shape rows index s h = tt
 
 pub member_holds : (rows : Rows) → IsLegal rows → (e value : ℕ) → MemberHolds rows (member_of rows e value)
-unfolding member_of
+unfolding member_of kind_of
 member_holds rows legal e value = found (find (λ m. int_eq m.value (pos value)) (members_of rows e)) where
-  of_kind : (ty : TypeRow) (kind : Option Kind) → kind_of rows ty ≡ kind → MemberHolds rows kind
-  of_kind ty None e = tt
-  of_kind ty (Some kind) e = of_member rows kind (names_object rows legal ty kind e)
+  of_kind : (kind : Option Kind) → IfSome kind (NamesObject rows) → MemberHolds rows kind
+  of_kind (Some (Struct k)) h = h
+  of_kind (Some (Table k)) h = h
+  of_kind kind h = tt
 
   found : (m : Option Member) → MemberHolds rows (option_and_then (λ (m : Member). kind_of rows m.ty) m)
   found None = tt
-  found (Some m) = of_kind m.ty (kind_of rows m.ty) refl
+  found (Some m) = of_kind (kind_of rows m.ty) (object_of_shape rows legal m.ty.index (shape_of m.ty))

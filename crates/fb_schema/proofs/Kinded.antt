@@ -1,15 +1,11 @@
 -- The live fields of legal rows have a kind.
-use Rattle.std.proofs.Common.{◌≡◌, ℕ, ℤ, pos, negsuc, Bool, true, false, not, ◌&&◌, ◌||◌, List, slice_get, Option, Some, None, is_none, length, option_map, option_and_then, is_some, refl, sym, ◌∙◌, ap, subst}
-use Rattle.fb_schema.specs.declared.kinds.Kind.{Kind}
-use Rattle.fb_schema.specs.declared.kinds.Kind.TheVariants.{Scalar, Text, Struct, Table, Union, Scalars, Texts, Structs, Tables, Unions}
-use Rattle.fb_schema.specs.declared.kinds.Element.TheVariants.{Scalar as OfScalar, Text as OfText, Object as OfObject, Union as OfUnion}
-use Rattle.fb_schema.specs.declared.kinds.Shape.{Shape}
-use Rattle.fb_schema.specs.declared.kinds.Shape.TheVariants.{One, Vector, Array}
+use Rattle.std.proofs.Common.{◌≡◌, ℕ, ℤ, pos, negsuc, Bool, true, false, not, ◌&&◌, ◌||◌, List, slice_get, Option, Some, None, is_none, length, option_map, option_and_then, is_some, refl, sym, ◌∙◌, ap, subst, arith}
 use Rattle.fb_schema.specs.Demands.{IsLegal, table_field_demands, is_supported, is_object, is_union_shape, names_no_object, names_no_union}
 use Rattle.fb_schema.specs.Kinds.{kind_of, shape_of, shape_kind, object_kind, union_kind}
 use Rattle.fb_schema.specs.Live.{Live, live_rows, live_as, live_of, live_in, live_fields, AreKinded}
 use Rattle.fb_schema.specs.Rows.{Rows, Field, Object, Enum, entry_at, is_some_union}
 use Rattle.fb_schema.specs.Served.{IsSized, HaveKinds}
+use Rattle.fb_schema.proofs.KindWords.{Kind, Struct, Table, Union, Structs, Tables, Unions, OfObject, OfUnion, Shape, One, Vector, Array}
 use Rattle.fb_schema.proofs.DemandLaws.{clear_line}
 use Rattle.fb_schema.proofs.Kept.{kept_from, kept_long, kept_at}
 use Rattle.fb_schema.proofs.RowLemmas.{IsRowOf, row_in, asked, live_line}
@@ -33,19 +29,14 @@ union_has_kind rows (pos n) union h = go (slice_get rows.enums n) h where
 shape_has_kind : (rows : Rows) (index : ℤ) (s : Option Shape) → is_supported s ≡ true → (is_object s && is_none (entry_at rows.objects index)) ≡ false → (is_union_shape s && not (is_some_union (entry_at rows.enums index))) ≡ false → (k : Kind) × (shape_kind rows index s ≡ Some k)
 shape_has_kind rows index None h o u = absurd (let w : false ≡ true = h in cc)
 shape_has_kind rows index (Some (Array e)) h o u = absurd (let w : false ≡ true = h in cc)
-shape_has_kind rows index (Some (One (OfScalar s))) h o u = (Scalar s, refl)
-shape_has_kind rows index (Some (One OfText)) h o u = (Text, refl)
 shape_has_kind rows index (Some (One OfObject)) h o u = object_has_kind rows index Struct Table o
 shape_has_kind rows index (Some (One OfUnion)) h o u = union_has_kind rows index Union u
-shape_has_kind rows index (Some (Vector (OfScalar s))) h o u = (Scalars s, refl)
-shape_has_kind rows index (Some (Vector OfText)) h o u = (Texts, refl)
 shape_has_kind rows index (Some (Vector OfObject)) h o u = object_has_kind rows index Structs Tables o
 shape_has_kind rows index (Some (Vector OfUnion)) h o u = union_has_kind rows index Unions u
+shape_has_kind rows index s h o u = (_, refl)
 
 neither : (a b : Bool) → (a || not b) ≡ false → b ≡ true
-neither true b h = absurd (let w : true ≡ false = h in cc)
-neither false true h = refl
-neither false false h = absurd (let w : true ≡ false = h in cc)
+neither a b h = grind arith
 
 pub field_has_kind : (rows : Rows) → IsLegal rows → (k i : ℕ) (o : Object) (g : Field) → IsRowOf rows k i o g → (kind : Kind) × (kind_of rows g.ty ≡ Some kind)
 unfolding kind_of names_no_object names_no_union

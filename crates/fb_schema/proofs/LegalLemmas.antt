@@ -1,13 +1,12 @@
 -- What legal rows give.
-use Rattle.std.proofs.Common.{◌≡◌, ℕ, suc, Bool, true, false, List, [], ◌∷◌, Option, Some, None, refl, ap, if◌then◌else◌}
+use Rattle.std.proofs.Common.{◌≡◌, ℕ, suc, Bool, true, false, List, [], ◌∷◌, Option, Some, None, refl, ap, if◌then◌else◌, arith}
 use Rattle.fb_schema.specs.declared.fault.Code.{Code}
 use Rattle.fb_schema.specs.Demands.{Demand, IsLegal, demands_at, first_code}
 use Rattle.fb_schema.specs.Rows.{Rows}
 use Rattle.fb_schema.proofs.DemandLaws.{IsBrokenIn, IsClear}
 
 clear_step : (b : Bool) (code : Code) (rest : Option Code) → b ≡ false → rest ≡ None → (if b then Some code else rest) ≡ None
-clear_step true code rest e r = absurd (let w : true ≡ false = e in cc)
-clear_step false code rest e r = r
+clear_step b code rest e r = grind arith
 
 not_broken : (d : Demand) → ((code : Code) → Some d ≡ Some (record { code = code; broken = true }) → ⊥) → (b : Bool) → d.broken ≡ b → d.broken ≡ false
 not_broken d none true e = absurd (none d.code (ap Some (let w : d ≡ (record { code = d.code; broken = true }) = λ i. record { code = d.code; broken = e i } in w)))

@@ -23,6 +23,7 @@ pub mod TargetLemmas
 pub mod NameLemmas
 pub mod MemberNames
 pub mod NamedValues
+pub mod KindWords
 pub mod KindLemmas
 pub mod ToldKinds
 pub mod PartLemmas

@@ -1,21 +1,18 @@
 -- Fields in rising slot are those that an insertion sort gives.
-use Rattle.std.proofs.Common.{◌≡◌, ◌≢◌, ℕ, zero, suc, ◌+◌, ◌-◌, ◌<◌, ◌≤◌, ◌==◌, ◌⊎◌, inl, inr, Bool, true, false, List, [], ◌∷◌, length, get_or, map, filter, position, Some, None, refl, sym, ◌∙◌, ap, subst, arith, IsPermutation, nat_le, if◌then◌else◌, cond}
+use Rattle.std.proofs.Common.{◌≡◌, ◌≢◌, ℕ, zero, suc, ◌+◌, ◌-◌, ◌<◌, ◌≤◌, ◌==◌, ◌⊎◌, inl, inr, Bool, true, false, List, [], ◌∷◌, length, get_or, map, filter, position, Some, None, refl, sym, ◌∙◌, ap, subst, arith, IsPermutation, nat_le, if◌then◌else◌, cond, Contains, swap, Less, Equal, Greater}
 use Rattle.std.proofs.lemmas.Cmp.{nat_cmp_total, tied_itself}
 use Rattle.std.proofs.lemmas.List.{length-map, get_or-map}
-use Rattle.std.proofs.lemmas.List.Sorted.{IsPermutation-keeps, IsPermutation-map, Contains-permutation, IsPermutation-sym}
-use Rattle.std.proofs.lemmas.List.Edits.{swapped_from_swap}
-use Rattle.std.proofs.lemmas.List.Elements.{Contains-get_or}
+use Rattle.std.proofs.lemmas.List.Sorted.{IsPermutation-keeps, IsPermutation-map, Contains-permutation, IsPermutation-sym, IsPermutation-refl, IsPermutation-trans, IsPermutation-swap, IsPermutation-cons}
+use Rattle.std.proofs.lemmas.List.Edits.{swapped_from_swap, length-swap}
+use Rattle.std.proofs.lemmas.List.Elements.{Contains-get_or, All-contains, All-filter, All-contains_itself}
 use Rattle.std.proofs.lemmas.Bool.Decides.{Decides-eqb}
 use borrow.Author.Tests.{leb-true, le-leb}
-use Rattle.std.specs.List.{Contains, swap}
 use Rattle.std.specs.List.Sorted.{IsSortedBy, IsNonDecreasingBy, IsPartitionPoint}
 use Rattle.std.specs.Ordering.{nat_cmp, is_lt, ordering_index}
-use Rattle.std.specs.declared.cmp.Ordering.TheVariants.{Less, Equal, Greater}
 use Rattle.fb_schema.specs.declared.rows.FieldRow.{FieldRow}
 use Rattle.fb_schema.specs.Rows.{Field, field_of}
 use Rattle.fb_schema.specs.Live.{insert_by_slot, by_slot, is_live, AreApart, AreRising}
-use Rattle.fb_schema.proofs.Numbers.{lt_or_eq, le_or_lt, slice_get_some}
-use Rattle.fb_schema.proofs.OrderLemmas.{length-swap}
+use Rattle.fb_schema.proofs.Numbers.{lt_or_eq, le_or_lt, slice_get_some, neither_below}
 use Rattle.fb_schema.proofs.PositionLemmas.{found_position, no_position}
 use Rattle.fb_schema.proofs.Search.{nat_tied, search_missed, not_true}
 
@@ -54,22 +51,21 @@ same_rising (x ∷ xs) (y ∷ ys) r s f g =
 abbrev SameMembers : List Field → List Field → Field → Type 0
 SameMembers xs ys z = (Contains xs z → Contains ys z) × (Contains ys z → Contains xs z)
 
-one_inserted : (f g z : Field) (gs rest : List Field) → SameMembers rest (f ∷ gs) z → (b : Bool) → SameMembers (if b then f ∷ g ∷ gs else g ∷ rest) (f ∷ g ∷ gs) z
-one_inserted f g z gs rest ih true = (λ h. h, λ h. h)
-one_inserted f g z gs rest ih false = (
-  λ h. elim (contains_cases g z rest h) [
-    | inl e ↦ contains_tail f z (g ∷ gs) (subst (Contains (g ∷ gs)) e (contains_head g gs))
-    | inr t ↦ elim (contains_cases f z gs (ih.0 t)) [ inl e ↦ subst (Contains (f ∷ g ∷ gs)) e (contains_head f (g ∷ gs)) | inr u ↦ contains_tail f z (g ∷ gs) (contains_tail g z gs u) ]
-  ],
-  λ h. elim (contains_cases f z (g ∷ gs) h) [
-    | inl e ↦ contains_tail g z rest (ih.1 (subst (Contains (f ∷ gs)) e (contains_head f gs)))
-    | inr t ↦ elim (contains_cases g z gs t) [ inl e ↦ subst (Contains (g ∷ rest)) e (contains_head g rest) | inr u ↦ contains_tail g z rest (ih.1 (contains_tail f z gs u)) ]
-  ],
-)
+-- a field put in its place, and all in their order, are the same fields
+inserted : (f : Field) (gs : List Field) → IsPermutation (f ∷ gs) (insert_by_slot f gs)
+inserted f [] = IsPermutation-refl (f ∷ [])
+inserted f (g ∷ gs) = go (inserted f gs) (nat_le f.slot g.slot) where
+  go : IsPermutation (f ∷ gs) (insert_by_slot f gs) → (b : Bool) → IsPermutation (f ∷ g ∷ gs) (if b then f ∷ g ∷ gs else g ∷ insert_by_slot f gs)
+  go later true = IsPermutation-refl (f ∷ g ∷ gs)
+  go later false = IsPermutation-trans (f ∷ g ∷ gs) (g ∷ f ∷ gs) (g ∷ insert_by_slot f gs) (IsPermutation-swap (f ∷ g ∷ gs) (g ∷ f ∷ gs) 0 1 (omega arith) (omega arith) refl)
+      (IsPermutation-cons g (f ∷ gs) (insert_by_slot f gs) later)
 
-inserted : (f z : Field) (gs : List Field) → SameMembers (insert_by_slot f gs) (f ∷ gs) z
-inserted f z [] = (λ h. h, λ h. h)
-inserted f z (g ∷ gs) = one_inserted f g z gs (insert_by_slot f gs) (inserted f z gs) (nat_le f.slot g.slot)
+sorted : (fs : List Field) → IsPermutation fs (by_slot fs)
+sorted [] = IsPermutation-refl []
+sorted (f ∷ fs) = IsPermutation-trans (f ∷ fs) (f ∷ by_slot fs) (by_slot (f ∷ fs)) (IsPermutation-cons f fs (by_slot fs) (sorted fs)) (inserted f (by_slot fs))
+
+pub sorted_members : (z : Field) (fs : List Field) → SameMembers (by_slot fs) fs z
+sorted_members z fs = (Contains-permutation (by_slot fs) fs z (IsPermutation-sym fs (by_slot fs) (sorted fs)), Contains-permutation fs (by_slot fs) z (sorted fs))
 
 one_rises : (f g : Field) (gs rest : List Field) → Rises (g ∷ gs) → ((z : Field) → Contains (g ∷ gs) z → f.slot ≢ z.slot) → ((z : Field) → Contains rest z → Contains (f ∷ gs) z) → Rises rest
     → (b : Bool) → (b ≡ true → f.slot ≤ g.slot) → (f.slot ≤ g.slot → b ≡ true) → Rises (if b then f ∷ g ∷ gs else g ∷ rest)
@@ -91,14 +87,7 @@ one_rises f g gs rest r apart members ih false _ less = (
 insert_rises : (f : Field) (gs : List Field) → Rises gs → ((g : Field) → Contains gs g → f.slot ≢ g.slot) → Rises (insert_by_slot f gs)
 insert_rises f [] r apart = (λ g h. absurd (omega (arith, h.1)), tt)
 insert_rises f (g ∷ gs) r apart =
-    one_rises f g gs (insert_by_slot f gs) r apart (λ z. (inserted f z gs).0) (insert_rises f gs r.1 (λ z h. apart z (contains_tail g z gs h))) (nat_le f.slot g.slot) (leb-true f.slot g.slot) (le-leb f.slot g.slot)
-
-pub sorted_members : (z : Field) (fs : List Field) → SameMembers (by_slot fs) fs z
-sorted_members z [] = (λ h. h, λ h. h)
-sorted_members z (f ∷ fs) = (
-  λ h. elim (contains_cases f z (by_slot fs) ((inserted f z (by_slot fs)).0 h)) [ inl e ↦ subst (Contains (f ∷ fs)) e (contains_head f fs) | inr t ↦ contains_tail f z fs ((sorted_members z fs).0 t) ],
-  λ h. (inserted f z (by_slot fs)).1 (elim (contains_cases f z fs h) [ inl e ↦ subst (Contains (f ∷ by_slot fs)) e (contains_head f (by_slot fs)) | inr t ↦ contains_tail f z (by_slot fs) ((sorted_members z fs).1 t) ]),
-)
+    one_rises f g gs (insert_by_slot f gs) r apart (λ z. Contains-permutation (insert_by_slot f gs) (f ∷ gs) z (IsPermutation-sym (f ∷ gs) (insert_by_slot f gs) (inserted f gs))) (insert_rises f gs r.1 (λ z h. apart z (contains_tail g z gs h))) (nat_le f.slot g.slot) (leb-true f.slot g.slot) (le-leb f.slot g.slot)
 
 apart_tail : (f : Field) (fs : List Field) → AreApart (f ∷ fs) → AreApart fs
 apart_tail f fs h = record { at = λ i j d a b e. (let w : suc i ≡ suc j = h.at (suc i) (suc j) d (omega arith) (omega arith) e in omega arith) }
@@ -121,8 +110,8 @@ apart_permutation : (xs ys : List Field) → IsPermutation xs ys → AreApart xs
 apart_permutation xs ys p h = IsPermutation-keeps xs AreApart h (λ l i j p q old. record {
   at = λ a b d la lb e.
       let s = swapped_from_swap l (swap l i j) i j d p q refl in
-      let la' : a < length l = rw (length-swap l i j p q) at la in
-      let lb' : b < length l = rw (length-swap l i j p q) at lb in
+      let la' : a < length l = rw (length-swap l i j) at la in
+      let lb' : b < length l = rw (length-swap l i j) at lb in
       let o = old.at in
       grind (arith, s, o);
 }) ys p
@@ -136,26 +125,14 @@ is_by_slot xs ys apart p up =
 -- Live fields.
 filter-map : {X Y : Type 0} (p : Y → Bool) (f : X → Y) (xs : List X) → filter p (map f xs) ≡ map f (filter (λ x. p (f x)) xs)
 filter-map p f [] = refl
-filter-map p f (x ∷ xs) = go (p (f x)) (filter-map p f xs) where
-  go : (b : Bool) → filter p (map f xs) ≡ map f (filter (λ x. p (f x)) xs) → cond b (f x ∷ filter p (map f xs)) (filter p (map f xs)) ≡ map f (cond b (x ∷ filter (λ x. p (f x)) xs) (filter (λ x. p (f x)) xs))
-  go true ih = ap (λ ys. f x ∷ ys) ih
-  go false ih = ih
-
-shorter_cond : {X : Type 0} (b : Bool) (x : X) (ys xs : List X) → length ys ≤ length xs → length (cond b (x ∷ ys) ys) ≤ length (x ∷ xs)
-shorter_cond true x ys xs h = omega arith
-shorter_cond false x ys xs h = omega arith
+filter-map p f (x ∷ xs) = grind (arith, filter-map p f xs)
 
 pub shorter : {X : Type 0} (p : X → Bool) (xs : List X) → length (filter p xs) ≤ length xs
 shorter p [] = omega arith
-shorter p (x ∷ xs) = shorter_cond (p x) x (filter p xs) xs (shorter p xs)
-
-contains_cond : (b : Bool) (f z : Field) (gs fs : List Field) → (Contains gs z → Contains fs z) → Contains (cond b (f ∷ gs) gs) z → Contains (f ∷ fs) z
-contains_cond true f z gs fs ih h = elim (contains_cases f z gs h) [ inl e ↦ subst (Contains (f ∷ fs)) e (contains_head f fs) | inr t ↦ contains_tail f z fs (ih t) ]
-contains_cond false f z gs fs ih h = contains_tail f z fs (ih h)
+shorter p (x ∷ xs) = grind (arith, shorter p xs)
 
 pub filter_contains : (p : Field → Bool) (fs : List Field) (z : Field) → Contains (filter p fs) z → Contains fs z
-filter_contains p [] z h = h
-filter_contains p (f ∷ fs) z h = contains_cond (p f) f z (filter p fs) fs (filter_contains p fs z) h
+filter_contains p fs z h = All-contains (Contains fs) (filter p fs) z (All-filter p (Contains fs) fs (All-contains_itself fs)) h
 
 apart_cons : (f : Field) (gs : List Field) → ((g : Field) → Contains gs g → f.slot ≢ g.slot) → AreApart gs → AreApart (f ∷ gs)
 apart_cons f gs head tail = record { at = go } where
@@ -212,10 +189,7 @@ module _ (live : List FieldRow) (rising : AreRising live) (slot : ℕ) where
   slot_at k d lt = ap (λ (f : Field). f.slot) (get_or-map field_of live k d (field_of d) lt)
 
   one_slot : (i j : ℕ) (d : FieldRow) → i < length live → j < length live → (get_or live i d).slot ≡ (get_or live j d).slot → i ≡ j
-  one_slot i j d a b e = elim (le_or_lt i j) [
-    | inl le ↦ elim (lt_or_eq i j le) [ inl lt ↦ absurd (let w = rising.at i j d lt b in omega arith) | inr same ↦ same ]
-    | inr lt ↦ absurd (let w = rising.at j i d lt a in omega arith)
-  ]
+  one_slot i j d a b e = neither_below i j (λ lt. let w = rising.at i j d lt b in omega arith) (λ lt. let w = rising.at j i d lt a in omega arith)
 
   rising_order : IsSortedBy (λ (a b : FieldRow). is_lt (nat_cmp a.slot b.slot)) live
   rising_order k d _ lt = not_true _ (λ e. below_itself (get_or live (k + 1) d).slot (get_or live k d).slot e (rising.at k (k + 1) d (omega arith) lt)) where

@@ -7,23 +7,19 @@ use Rattle.fb_schema.specs.Rows.{Rows, Object, entry_at, is_table, is_some_table
 use Rattle.fb_schema.specs.Steps.{step_of, are_plain, is_plain}
 use Rattle.fb_schema.proofs.Kept.{kept_fewer}
 
-read_list : (rows : Rows) (objects : List Object) (n : ℕ) (y : List Live) → slice_get (map (λ o. live_in rows (Some o)) objects) n ≡ Some y → y ≡ live_in rows (slice_get objects n)
-read_list rows [] n y e = absurd (let w : None ≡ Some y = e in cc)
-read_list rows (o ∷ os) zero y e = let w : live_in rows (Some o) ≡ y = cc in sym w
-read_list rows (o ∷ os) (suc n) y e = read_list rows os n y e
+-- what is made of the item that there may be at a place
+read_made : {X Y : Type 0} (g : Option X → Y) (xs : List X) (n : ℕ) (y : Y) → slice_get (map (λ x. g (Some x)) xs) n ≡ Some y → y ≡ g (slice_get xs n)
+read_made g [] n y e = absurd (let w : None ≡ Some y = e in cc)
+read_made g (x ∷ xs) zero y e = let w : g (Some x) ≡ y = cc in sym w
+read_made g (x ∷ xs) (suc n) y e = read_made g xs n y e
 
 pub live_read : (rows : Rows) (objects : List Object) (lists : List (List Live)) (n : ℕ) (y : List Live) → lists ≡ map (λ o. live_in rows (Some o)) objects → slice_get lists n ≡ Some y → y ≡ live_in rows (slice_get objects n)
-live_read rows objects lists n y e at = read_list rows objects n y (ap (λ ls. slice_get ls n) (sym e) ∙ at)
-
-read_steps : (rows : Rows) (objects : List Object) (n : ℕ) (y : List Step) → slice_get (map (λ o. map step_of (live_in rows (Some o))) objects) n ≡ Some y → y ≡ map step_of (live_in rows (slice_get objects n))
-read_steps rows [] n y e = absurd (let w : None ≡ Some y = e in cc)
-read_steps rows (o ∷ os) zero y e = let w : map step_of (live_in rows (Some o)) ≡ y = cc in sym w
-read_steps rows (o ∷ os) (suc n) y e = read_steps rows os n y e
+live_read rows objects lists n y e at = read_made (live_in rows) objects n y (ap (λ ls. slice_get ls n) (sym e) ∙ at)
 
 -- the steps of a table's live fields
 pub steps_read : (rows : Rows) (lists : List (List Step)) (n : ℕ) (y : List Step) → lists ≡ map (λ o. map step_of (live_in rows (Some o))) rows.objects → slice_get lists n ≡ Some y → y ≡ map step_of (live_fields rows n)
 unfolding live_fields
-steps_read rows lists n y e at = read_steps rows rows.objects n y (ap (λ ls. slice_get ls n) (sym e) ∙ at)
+steps_read rows lists n y e at = read_made (λ o. map step_of (live_in rows o)) rows.objects n y (ap (λ ls. slice_get ls n) (sym e) ∙ at)
 
 read_plain : (rows : Rows) (objects : List Object) (n : ℕ) (x : Bool) → IsTrue (is_some_table (slice_get objects n)) → x ≡ get_or (map (λ o. are_plain (live_in rows (Some o))) objects) n x → x ≡ are_plain (live_in rows (slice_get objects n))
 read_plain rows [] n x t h = absurd cc

@@ -1,18 +1,17 @@
 -- The steps of the walk over the members of a union.
-use Rattle.std.proofs.Common.{◌≡◌, ℕ, ◌<◌, ◌≤◌, pos, ◌⊎◌, inl, inr, Bool, true, false, not, ◌&&◌, ◌||◌, List, [], ◌∷◌, length, slice_get, take, map, int_lt, Option, Some, None, refl, sym, ◌∙◌, ap, Decides}
+use Rattle.std.proofs.Common.{◌≡◌, ℕ, ◌<◌, ◌≤◌, pos, ◌⊎◌, inl, inr, Bool, true, false, not, ◌&&◌, List, [], ◌∷◌, length, slice_get, take, map, int_lt, Option, Some, None, refl, sym, ◌∙◌, ap, Decides, arith, bytes_eq, Ordering, Equal}
+use Rattle.fb_schema.proofs.Search.{not_true}
+use Rattle.std.proofs.lemmas.List.Folds.{list_any_none}
 use Rattle.std.proofs.lemmas.List.{length-map}
 use Rattle.std.specs.Cmp.{signed_Decides}
 use Rattle.std.specs.List.{list_any}
 use Rattle.std.specs.Ordering.{int_cmp, bool_cmp, int_eq, is_eq, ordering_then}
-use Rattle.std.specs.Str.{bytes_eq}
-use Rattle.std.specs.declared.cmp.Ordering.{Ordering}
-use Rattle.std.specs.declared.cmp.Ordering.TheVariants.{Less, Equal, Greater}
 use Rattle.fb_schema.specs.declared.rows.MemberRow.{MemberRow}
 use Rattle.fb_schema.specs.Sorting.{IsAgain, IsFirstAgain, name_cmp, member_cmp, member_value, member_key}
 use Rattle.fb_schema.specs.Rows.{Rows, Member, member_of_row}
 use Rattle.fb_schema.specs.Demands.{is_at, first_code, stands_before, same_value, same_member_name, Demand, member_demands, members_asked, demands_of_member}
 use Rattle.fb_schema.proofs.DemandLaws.{clear_line}
-use Rattle.fb_schema.proofs.KeyLemmas.{test_from_again, is_at_test}
+use Rattle.fb_schema.proofs.KeyLemmas.{test_from_again, is_at_test, never_again}
 use Rattle.fb_schema.proofs.Numbers.{slice_get_some}
 use Rattle.fb_schema.proofs.WalkLemmas.{names_agree, mapped_at, values_agree, or_false, past_list}
 
@@ -21,50 +20,31 @@ abbrev same_key : Member → Member → Bool
 same_key a b = is_eq (bool_cmp (int_eq a.value (pos 0)) (int_eq b.value (pos 0))) && bytes_eq a.name b.name
 
 pub both_equal : (p q : Ordering) (b : Bool) → Decides b (q ≡ Equal) → Decides (is_eq p && b) (ordering_then p q ≡ Equal)
-both_equal Less q b d = (λ e. absurd (let w : false ≡ true = e in cc), λ e. absurd (let w : Less ≡ Equal = e in cc))
-both_equal Equal q b d = d
-both_equal Greater q b d = (λ e. absurd (let w : false ≡ true = e in cc), λ e. absurd (let w : Greater ≡ Equal = e in cc))
+both_equal p q b d = grind (arith, d)
 
 keys_agree : (a b : MemberRow) → Decides (same_key (member_of_row a) (member_of_row b)) (member_cmp (member_key a) (member_key b) ≡ Equal)
 keys_agree a b = both_equal (bool_cmp (int_eq a.value (pos 0)) (int_eq b.value (pos 0))) (name_cmp a.name b.name) (bytes_eq a.name.now b.name.now) (names_agree a.name.now b.name.now)
 
 real_pair : (zero_a zero_b named : Bool) → zero_b ≡ false → (is_eq (bool_cmp zero_a zero_b) && named) ≡ (not zero_a && not zero_b && named)
-real_pair true true named e = absurd (let w : true ≡ false = e in cc)
-real_pair true false named e = refl
-real_pair false true named e = absurd (let w : true ≡ false = e in cc)
-real_pair false false named e = refl
+real_pair zero_a zero_b named e = grind arith
 
 none_pair : (zero_a zero_b named : Bool) → zero_b ≡ true → (not zero_a && not zero_b && named) ≡ false
-none_pair true zero_b named e = refl
-none_pair false true named e = refl
-none_pair false false named e = absurd (let w : false ≡ true = e in cc)
+none_pair zero_a zero_b named e = grind arith
 
 -- of a member the test by keys is the one by names
 real_test : (members : List Member) (p : ℕ) (m : Member) → int_eq m.value (pos 0) ≡ false → stands_before same_key members p m ≡ stands_before same_member_name members p m
 real_test members p m e = ap (λ t. list_any t (take p members)) (λ i y. real_pair (int_eq y.value (pos 0)) (int_eq m.value (pos 0)) (bytes_eq y.name m.name) e i)
 
-none_any : {X : Type 0} (xs : List X) → list_any (λ _. false) xs ≡ false
-none_any [] = refl
-none_any (x ∷ xs) = none_any xs
-
 -- of the union without a value none is asked
 none_test : (members : List Member) (p : ℕ) (m : Member) → int_eq m.value (pos 0) ≡ true → stands_before same_member_name members p m ≡ false
-none_test members p m e = ap (λ t. list_any t (take p members)) (λ i y. none_pair (int_eq y.value (pos 0)) (int_eq m.value (pos 0)) (bytes_eq y.name m.name) e i) ∙ none_any (take p members)
-
-or_weaker : (a b c d : Bool) → (a ≡ true → b ≡ true) → (c ≡ true → d ≡ true) → (a || c) ≡ true → (b || d) ≡ true
-or_weaker true true c d f g h = refl
-or_weaker true false c d f g h = absurd (let w : false ≡ true = f refl in cc)
-or_weaker false true c d f g h = refl
-or_weaker false false c d f g h = g h
+none_test members p m e = list_any_none (λ y. same_member_name y m) (take p members) (λ k d lt. none_pair _ _ _ e)
 
 any_weaker : {X : Type 0} (s t : X → Bool) → ((x : X) → s x ≡ true → t x ≡ true) → (xs : List X) → list_any s xs ≡ true → list_any t xs ≡ true
 any_weaker s t f [] h = h
-any_weaker s t f (x ∷ xs) h = or_weaker (s x) (t x) (list_any s xs) (list_any t xs) (f x) (any_weaker s t f xs) h
+any_weaker s t f (x ∷ xs) h = grind (arith, f x, any_weaker s t f xs)
 
 both_none : (zero_a zero_b named : Bool) → zero_b ≡ true → (is_eq (bool_cmp zero_a zero_b) && named) ≡ true → zero_a ≡ true
-both_none true zero_b named e h = refl
-both_none false true named e h = absurd (let w : false ≡ true = h in cc)
-both_none false false named e h = absurd (let w : false ≡ true = e in cc)
+both_none zero_a zero_b named e h = grind arith
 
 -- two rows without a value have one value
 none_value : (members : List Member) (p : ℕ) (m : Member) → int_eq m.value (pos 0) ≡ true → stands_before same_key members p m ≡ true → stands_before same_value members p m ≡ true
@@ -74,40 +54,31 @@ none_value members p m e = any_weaker (λ y. same_key y m) (λ y. same_value y m
     (signed_Decides y.value m.value).1 (there ∙ sym here)) (take p members)
 
 pub is_true_or_false : (b : Bool) → (b ≡ true) ⊎ (b ≡ false)
-is_true_or_false true = inl refl
-is_true_or_false false = inr refl
+is_true_or_false b = grind arith
 
 module _ (rows : Rows) (members : List MemberRow) where
-  pub asked_at : ℕ → MemberRow → List Demand
+  abbrev pub asked_at : ℕ → MemberRow → List Demand
   asked_at p row = member_demands rows (member_of_row row) (stands_before same_value (map member_of_row members) p (member_of_row row)) (stands_before same_member_name (map member_of_row members) p (member_of_row row))
 
   pub member_at : (p : ℕ) (row : MemberRow) → slice_get members p ≡ Some row → members_asked rows (map member_of_row members) p ≡ asked_at p row
-  unfolding asked_at
   member_at p row at = ap (demands_of_member rows (map member_of_row members) p) (mapped_at member_of_row members p row at)
 
   pub clear_demands : (q : ℕ) (row : MemberRow) → slice_get members q ≡ Some row → first_code (members_asked rows (map member_of_row members) q) ≡ None
       → first_code (member_demands rows (member_of_row row) (stands_before same_value (map member_of_row members) q (member_of_row row)) (stands_before same_member_name (map member_of_row members) q (member_of_row row))) ≡ None
-  unfolding asked_at
   clear_demands q row at clear = ap first_code (sym (member_at q row at)) ∙ clear
 
   not_taken_member : (q : ℕ) → first_code (members_asked rows (map member_of_row members) q) ≡ None → (row : MemberRow) → slice_get members q ≡ Some row → stands_before same_value (map member_of_row members) q (member_of_row row) ≡ true → ⊥
-  unfolding asked_at
   not_taken_member q clear row at old =
-      let c : first_code (asked_at q row) ≡ None = ap first_code (sym (member_at q row at)) ∙ clear in
-      let new = or_false (int_lt row.value (pos 0)) (int_lt (pos 255) row.value) (stands_before same_value (map member_of_row members) q (member_of_row row)) (clear_line (asked_at q row) c 0 _ refl) in
+      let new = or_false (int_lt row.value (pos 0)) (int_lt (pos 255) row.value) (stands_before same_value (map member_of_row members) q (member_of_row row)) (clear_line (asked_at q row) (clear_demands q row at clear) 0 _ refl) in
       let w : true ≡ false = sym old ∙ new in cc
 
   not_named_member : (q : ℕ) → first_code (members_asked rows (map member_of_row members) q) ≡ None → (row : MemberRow) → slice_get members q ≡ Some row → stands_before same_member_name (map member_of_row members) q (member_of_row row) ≡ true → ⊥
-  unfolding asked_at
   not_named_member q clear row at old =
-      let c : first_code (asked_at q row) ≡ None = ap first_code (sym (member_at q row at)) ∙ clear in
-      let new = clear_line (asked_at q row) c 1 _ refl in
+      let new = clear_line (asked_at q row) (clear_demands q row at clear) 1 _ refl in
       let w : true ≡ false = sym old ∙ new in cc
 
   pub value_not_again : (q : ℕ) → first_code (members_asked rows (map member_of_row members) q) ≡ None → IsAgain int_cmp (map member_value members) q → ⊥
-  value_not_again q clear a =
-      let here = slice_get_some members q (rw length-map at a.within) in
-      not_taken_member q clear here.0 here.1 (test_from_again int_cmp member_value member_of_row same_value values_agree members q here.0 here.1 a)
+  value_not_again q clear a = never_again int_cmp member_value member_of_row same_value values_agree members q a (λ row at. not_true _ (not_taken_member q clear row at))
 
   pub name_not_again : (q : ℕ) → first_code (members_asked rows (map member_of_row members) q) ≡ None → IsAgain member_cmp (map member_key members) q → ⊥
   name_not_again q clear a =
@@ -134,7 +105,6 @@ module _ (rows : Rows) (members : List MemberRow) where
       → ((q : ℕ) → q < p → first_code (members_asked rows (map member_of_row members) q) ≡ None)
       → taken ≡ is_at value_again p → named ≡ (not (int_eq row.value (pos 0)) && is_at name_again p)
       → first_code (member_demands rows (member_of_row row) taken named) ≡ first_code (members_asked rows (map member_of_row members) p)
-  unfolding asked_at
   member_code p row value_again name_again taken named at h k clear t n =
       let same_taken = t ∙ is_at_test int_cmp member_value member_of_row same_value values_agree members p row at value_again h (λ q lt. value_not_again q (clear q lt)) in
       let same_named = n ∙ name_test p row name_again at k clear in

@@ -1,15 +1,11 @@
 -- The members of a union of legal rows are found by name.
-use Rattle.std.proofs.Common.{◌≡◌, ℕ, zero, suc, ◌<◌, ℤ, pos, negsuc, Bool, true, false, ◌&&◌, ◌||◌, nat_lt, int_lt, unsigned_abs, List, length, get_or, slice_get, filter, map, Some, None, refl, sym, ◌∙◌, ap, arith, find, Decides, FitsSigned, w64}
+use Rattle.std.proofs.Common.{◌≡◌, ℕ, zero, suc, ◌<◌, ℤ, pos, negsuc, Bool, true, false, ◌&&◌, ◌||◌, int_lt, unsigned_abs, List, length, get_or, slice_get, filter, map, Some, None, refl, sym, ◌∙◌, ap, arith, find, Decides, FitsSigned, w64, Bor, option_map, bytes_eq, Equal}
 use Rattle.std.proofs.lemmas.Bool.Decides.{nat_tests}
 use Rattle.std.proofs.lemmas.Cmp.{on_total, then_total}
 use Rattle.std.proofs.lemmas.List.{length-map, get_or-map}
 use Rattle.std.proofs.lemmas.Option.{slice_get-get_or}
-use Rattle.std.specs.Borrow.{Bor}
-use Rattle.std.specs.Cmp.{signed_Decides, IsTotalOrder, bool_cmp_total}
-use Rattle.std.specs.Option.{option_map}
+use Rattle.std.specs.Cmp.{IsTotalOrder, bool_cmp_total}
 use Rattle.std.specs.Ordering.{int_eq, bool_cmp, is_eq}
-use Rattle.std.specs.Str.{bytes_eq}
-use Rattle.std.specs.declared.cmp.Ordering.TheVariants.{Equal}
 use Rattle.fb_schema.specs.declared.flat.EnumPart.{EnumPart}
 use Rattle.fb_schema.specs.declared.rows.MemberRow.{MemberRow}
 use Rattle.fb_schema.specs.Demands.{first_code, members_asked, member_demands, stands_before, same_value, same_member_name}
@@ -21,70 +17,46 @@ use Rattle.fb_schema.specs.FlatRows.{enum_in}
 use Rattle.fb_schema.proofs.DemandLaws.{clear_line}
 use Rattle.fb_schema.proofs.FindLemmas.{find_filter, found_item, no_item}
 use Rattle.fb_schema.proofs.MemberLemmas.{name_not_again, clear_demands, both_equal}
-use Rattle.fb_schema.proofs.Numbers.{slice_get_some}
+use Rattle.fb_schema.proofs.Numbers.{slice_get_some, both_true, all_true}
 use Rattle.fb_schema.proofs.PlaceLemmas.{alike_one}
-use Rattle.fb_schema.proofs.Search.{not_true}
-use Rattle.fb_schema.proofs.UnionLemmas.{members_read, both_true, all_true}
+use Rattle.fb_schema.proofs.UnionLemmas.{members_read, not_none}
 use Rattle.fb_schema.proofs.WalkLemmas.{names_agree, names_total}
 
 pub members_total : IsTotalOrder member_cmp
 members_total = then_total (on_total (λ (m : Bool × Bor (List ℕ)). m.0) bool_cmp_total) (on_total (λ (m : Bool × Bor (List ℕ)). m.1) names_total)
 
 or_first : (a b c : Bool) → (a || b || c) ≡ false → a ≡ false
-or_first true b c e = absurd (let w : true ≡ false = e in cc)
-or_first false b c e = refl
+or_first a b c e = grind arith
 
 or_second : (a b c : Bool) → (a || b || c) ≡ false → b ≡ false
-or_second true b c e = absurd (let w : true ≡ false = e in cc)
-or_second false true c e = absurd (let w : true ≡ false = e in cc)
-or_second false false c e = refl
+or_second a b c e = grind arith
 
 -- a value of legal rows that isn't 0 is a member's
 real_is : (z : ℤ) → int_lt z (pos 0) ≡ false → int_lt (pos 255) z ≡ false → int_eq z (pos 0) ≡ false → is_member_value z ≡ true
-real_is (pos n) a b c = positive n b (not_zero n c) where
-  not_zero : (n : ℕ) → int_eq (pos n) (pos 0) ≡ false → (n ≡ 0 → ⊥)
-  not_zero n c e = let w : true ≡ false = sym ((signed_Decides (pos n) (pos 0)).1 (ap pos e)) ∙ c in cc
-
-  positive : (n : ℕ) → int_lt (pos 255) (pos n) ≡ false → (n ≡ 0 → ⊥) → (nat_lt 0 n && nat_lt n 256) ≡ true
-  positive zero b c = absurd (c refl)
-  positive (suc n) b c = grind (arith, nat_tests, b)
+real_is (pos zero) a b c = absurd (let w : true ≡ false = c in cc)
+real_is (pos (suc n)) a b c = grind (arith, nat_tests, b)
 real_is (negsuc n) a b c = absurd (let w : true ≡ false = a in cc)
 
-and_first : (a b : Bool) → (a && b) ≡ true → a ≡ true
-and_first true b h = refl
-and_first false b h = absurd (let w : false ≡ true = h in cc)
-
-pub not_none : (z : ℤ) → is_member_value z ≡ true → int_eq z (pos 0) ≡ false
-not_none z h = not_true (int_eq z (pos 0)) (λ e. let w : true ≡ false = sym h ∙ ap is_member_value ((signed_Decides z (pos 0)).0 e) in cc)
-
 eq_false : (a : Bool) → a ≡ false → is_eq (bool_cmp a false) ≡ true
-eq_false true e = absurd (let w : true ≡ false = e in cc)
-eq_false false e = refl
+eq_false a e = grind arith
 
 false_eq : (a : Bool) → is_eq (bool_cmp a false) ≡ true → a ≡ false
-false_eq true e = absurd (let w : false ≡ true = e in cc)
-false_eq false e = refl
+false_eq a e = grind arith
 
 module _ (rows : Rows) (members : List MemberRow) (clear : (q : ℕ) → first_code (members_asked rows (map member_of_row members) q) ≡ None) (name : Bor (List ℕ)) where
-  key : Bool × Bor (List ℕ)
-  key = (false, name)
-
-  keyed : Member → Bool
+  abbrev keyed : Member → Bool
   keyed m = is_eq (bool_cmp (int_eq m.value (pos 0)) false) && bytes_eq m.name name.now
 
-  test : Member → Bool
+  abbrev test : Member → Bool
   test m = is_member_value m.value && bytes_eq m.name name.now
 
   agrees : (x : MemberRow) → Decides (keyed (member_of_row x)) (member_cmp (member_key x) (false, name) ≡ Equal)
-  unfolding keyed
   agrees x = both_equal (bool_cmp (int_eq x.value (pos 0)) false) (name_cmp x.name name) (bytes_eq x.name.now name.now) (names_agree x.name.now name.now)
 
   tied : (m : MemberRow) → test (member_of_row m) ≡ true → member_cmp (member_key m) (false, name) ≡ Equal
-  unfolding keyed test
-  tied m h = (agrees m).0 (all_true (is_eq (bool_cmp (int_eq m.value (pos 0)) false)) (bytes_eq m.name.now name.now) (eq_false (int_eq m.value (pos 0)) (not_none m.value (and_first (is_member_value m.value) (bytes_eq m.name.now name.now) h))) (both_true (is_member_value m.value) (bytes_eq m.name.now name.now) h))
+  tied m h = (agrees m).0 (all_true (is_eq (bool_cmp (int_eq m.value (pos 0)) false)) (bytes_eq m.name.now name.now) (eq_false (int_eq m.value (pos 0)) (not_none m.value (both_true (is_member_value m.value) (bytes_eq m.name.now name.now) h).0)) (both_true (is_member_value m.value) (bytes_eq m.name.now name.now) h).1)
 
   pub real_at : (k : ℕ) (x : MemberRow) → k < length members → member_cmp (member_key (get_or members k x)) (false, name) ≡ Equal → is_member_value (get_or members k x).value ≡ true
-  unfolding keyed
   real_at k x lt e =
       let m = get_or members k x in
       let c = clear_demands rows members k m (slice_get-get_or members k x lt) (clear k) in
@@ -92,17 +64,15 @@ module _ (rows : Rows) (members : List MemberRow) (clear : (q : ℕ) → first_c
       let ds = member_demands rows (member_of_row m) stood (stands_before same_member_name (map member_of_row members) k (member_of_row m)) in
       let range = clear_line ds c 0 _ refl in
       real_is m.value (or_first (int_lt m.value (pos 0)) (int_lt (pos 255) m.value) stood range) (or_second (int_lt m.value (pos 0)) (int_lt (pos 255) m.value) stood range)
-      (false_eq (int_eq m.value (pos 0)) (and_first (is_eq (bool_cmp (int_eq m.value (pos 0)) false)) (bytes_eq m.name.now name.now) ((agrees m).1 e)))
+      (false_eq (int_eq m.value (pos 0)) (both_true (is_eq (bool_cmp (int_eq m.value (pos 0)) false)) (bytes_eq m.name.now name.now) ((agrees m).1 e)).0)
 
   tested : (k : ℕ) (x : MemberRow) → k < length members → member_cmp (member_key (get_or members k x)) (false, name) ≡ Equal → test (member_of_row (get_or members k x)) ≡ true
-  unfolding keyed test
   tested k x lt e =
       let m = get_or members k x in
-      all_true (is_member_value m.value) (bytes_eq m.name.now name.now) (real_at k x lt e) (both_true (is_eq (bool_cmp (int_eq m.value (pos 0)) false)) (bytes_eq m.name.now name.now) ((agrees m).1 e))
+      all_true (is_member_value m.value) (bytes_eq m.name.now name.now) (real_at k x lt e) (both_true (is_eq (bool_cmp (int_eq m.value (pos 0)) false)) (bytes_eq m.name.now name.now) ((agrees m).1 e)).1
 
   pub name_found : (k : ℕ) (x : MemberRow) → k < length members → member_cmp (member_key (get_or members k x)) (false, name) ≡ Equal
       → find (λ m. bytes_eq m.name name.now) (filter (λ m. is_member_value m.value) (map member_of_row members)) ≡ Some (member_of_row (get_or members k x))
-  unfolding test
   name_found k x lt e =
       let at : (j : ℕ) → j < length members → get_or (map member_of_row members) j (member_of_row x) ≡ member_of_row (get_or members j x) = λ j lt. get_or-map member_of_row members j x (member_of_row x) lt in
       find_filter (λ m. bytes_eq m.name name.now) (λ m. is_member_value m.value) (map member_of_row members)
@@ -113,7 +83,6 @@ module _ (rows : Rows) (members : List MemberRow) (clear : (q : ℕ) → first_c
 
   pub name_missing : ((k : ℕ) (x : MemberRow) → k < length members → member_cmp (member_key (get_or members k x)) (false, name) ≡ Equal → ⊥)
       → find (λ m. bytes_eq m.name name.now) (filter (λ m. is_member_value m.value) (map member_of_row members)) ≡ None
-  unfolding test
   name_missing never =
       find_filter (λ m. bytes_eq m.name name.now) (λ m. is_member_value m.value) (map member_of_row members)
       ∙ no_item test (map member_of_row members) (λ j d within h.

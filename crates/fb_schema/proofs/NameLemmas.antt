@@ -1,13 +1,13 @@
 -- The live fields of a legal table are found by name.
-use Rattle.std.proofs.Common.{◌≡◌, ℕ, zero, suc, ◌<◌, inl, inr, Bool, true, false, not, IsTrue, if◌then◌else◌, List, [], ◌∷◌, length, get_or, slice_get, map, filter, option_map, option_and_then, Option, Some, None, refl, sym, ◌∙◌, ap, arith}
+use Rattle.std.proofs.Common.{◌≡◌, ℕ, zero, suc, ◌<◌, Bool, true, false, IsTrue, if◌then◌else◌, List, [], ◌∷◌, length, get_or, slice_get, map, filter, option_map, option_and_then, Option, Some, None, refl, sym, ◌∙◌, ap, arith, nat_cmp, Equal}
+use Rattle.fb_schema.proofs.RowLemmas.{rises_at}
+use Rattle.fb_schema.proofs.KeyLemmas.{again_at}
 use Rattle.std.proofs.lemmas.List.{length-map, get_or-map}
 use Rattle.std.proofs.lemmas.Option.{slice_get-get_or}
 use Rattle.std.proofs.lemmas.List.Elements.{Contains-get_or}
 use Rattle.std.proofs.lemmas.Cmp.{tied_itself, nat_list_cmp_total}
 use Rattle.std.proofs.lemmas.Map.Lookups.{exact_bytes}
 use Rattle.std.specs.Cmp.Lexicographic.{slice_cmp}
-use Rattle.std.specs.Ordering.{nat_cmp}
-use Rattle.std.specs.declared.cmp.Ordering.TheVariants.{Equal}
 use Rattle.fb_schema.specs.declared.kinds.Kind.{Kind}
 use Rattle.fb_schema.specs.declared.flat.ObjectPart.{ObjectPart}
 use Rattle.fb_schema.specs.declared.views.FieldView.{FieldView}
@@ -23,8 +23,8 @@ use Rattle.fb_schema.specs.FlatRows.{object_in}
 use Rattle.fb_schema.proofs.IndexLemmas.{legal_slots, table_list}
 use Rattle.fb_schema.proofs.Kinded.{live_long, live_at}
 use Rattle.fb_schema.proofs.LegalLemmas.{legal_clear}
-use Rattle.fb_schema.proofs.LiveLemmas.{Rises, sorted_rises, sorted_members, filter_apart, filter_contains}
-use Rattle.fb_schema.proofs.Numbers.{lt_or_eq, le_or_lt, get_or_default, slice_get_some}
+use Rattle.fb_schema.proofs.LiveLemmas.{sorted_rises, sorted_members, filter_apart, filter_contains}
+use Rattle.fb_schema.proofs.Numbers.{get_or_default, slice_get_some, neither_below, negated}
 use Rattle.fb_schema.proofs.WalkLemmas.{mapped_at, not_named_table}
 
 -- no field of a legal table has an earlier one's name
@@ -39,33 +39,15 @@ no_name_again rows n all row legal at table q a =
 -- two of a table's fields with one name are one
 one_name : (rows : Rows) (n : ℕ) (all : List FieldRow) (row : ObjectPart) → IsLegal rows → slice_get rows.objects n ≡ Some (object_in all row) → row.is_struct ≡ false
     → (i j : ℕ) (d : Field) → i < length (map field_of (part all row.fields)) → j < length (map field_of (part all row.fields)) → (get_or (map field_of (part all row.fields)) i d).name ≡ (get_or (map field_of (part all row.fields)) j d).name → i ≡ j
-one_name rows n all row legal at table i j d a b e = elim (le_or_lt i j) [
-  | inl le ↦ elim (lt_or_eq i j le) [ inl lt ↦ absurd (no_name_again rows n all row legal at table j (again i j lt b e)) | inr same ↦ same ]
-  | inr lt ↦ absurd (no_name_again rows n all row legal at table i (again j i lt a (sym e)))
-] where
+one_name rows n all row legal at table i j d a b e = neither_below i j (λ lt. no_name_again rows n all row legal at table j (again i j lt b e)) (λ lt. no_name_again rows n all row legal at table i (again j i lt a (sym e))) where
   again : (i j : ℕ) → i < j → j < length (map field_of (part all row.fields)) → (get_or (map field_of (part all row.fields)) i d).name ≡ (get_or (map field_of (part all row.fields)) j d).name → IsAgain name_cmp (map field_name (part all row.fields)) j
   again i j lt within e =
       let rs = (part all row.fields) in
       let low : j < length rs = rw length-map at within in
       let x = (slice_get_some rs j low).0 in
-      let first : i < length rs = omega arith in
-      let name_i = ap (λ (f : Field). f.name) (get_or-map field_of rs i x d first) in
-      let name_j = ap (λ (f : Field). f.name) (get_or-map field_of rs j x d low) in
-      let same : (get_or rs i x).name.now ≡ (get_or rs j x).name.now = sym name_i ∙ e ∙ name_j in
-      record {
-        earlier = i;
-        before = lt;
-        within = rw length-map low;
-        alike = λ z. ap (λ y. name_cmp y (get_or (map field_name rs) j z)) (get_or-map field_name rs i x z first) ∙ ap (name_cmp (get_or rs i x).name) (get_or-map field_name rs j x z low)
-            ∙ ap (λ y. slice_cmp nat_cmp y (get_or rs j x).name.now) same ∙ tied_itself nat_list_cmp_total (get_or rs j x).name.now;
-      }
-
-rises_at : (fs : List Field) → Rises fs → (i j : ℕ) (d : Field) → i < j → j < length fs → (get_or fs i d).slot < (get_or fs j d).slot
-rises_at [] r i j d lt within = absurd (omega arith)
-rises_at (f ∷ fs) r zero zero d lt within = absurd (omega arith)
-rises_at (f ∷ fs) r zero (suc j) d lt within = r.0 (get_or fs j d) (Contains-get_or fs j d (omega arith))
-rises_at (f ∷ fs) r (suc i) zero d lt within = absurd (omega arith)
-rises_at (f ∷ fs) r (suc i) (suc j) d lt within = rises_at fs r.1 i j d (omega arith) (omega arith)
+      let name_at = λ (k : ℕ) (lt : k < length rs). ap (λ (f : Field). f.name) (get_or-map field_of rs k x d lt) in
+      let same : (get_or rs i x).name.now ≡ (get_or rs j x).name.now = sym (name_at i (omega arith)) ∙ e ∙ name_at j low in
+      again_at name_cmp field_name rs i j x lt low (ap (λ y. slice_cmp nat_cmp y (get_or rs j x).name.now) same ∙ tied_itself nat_list_cmp_total (get_or rs j x).name.now)
 
 -- nor do two live fields have one name
 live_names : (fields : List Field) → AreApart fields → ((i j : ℕ) (d : Field) → i < length fields → j < length fields → (get_or fields i d).name ≡ (get_or fields j d).name → i ≡ j)
@@ -81,12 +63,11 @@ live_names fields apart one i j d lt within e =
     let same : a.0 ≡ b.0 = one a.0 b.0 d a.1 b.1 (ap (λ (f : Field). f.name) x_at ∙ e ∙ ap (λ (f : Field). f.name) (sym y_at)) in
     let one_field : x ≡ y = sym x_at ∙ ap (λ k. get_or fields k d) same ∙ y_at in
     let slots = ap (λ (f : Field). f.slot) one_field in
-    let up = rises_at live (sorted_rises (filter is_live fields) (filter_apart is_live fields apart)) i j d lt within in
+    let up = rises_at live (sorted_rises (filter is_live fields) (filter_apart is_live fields apart)) i j x y (slice_get-get_or live i d (omega arith)) (slice_get-get_or live j d within) lt in
     omega arith
 
 live_list : (b : Bool) (xs : List Field) → b ≡ false → (if b then [] else xs) ≡ xs
-live_list true xs e = absurd (let w : true ≡ false = e in cc)
-live_list false xs e = refl
+live_list b xs e = grind arith
 
 named_alike : (rows : Rows) (live : List Field) (g : Field) (f : Live) (kind : Option Kind) → option_map (live_as rows live g) kind ≡ Some f → f.name ≡ g.name
 named_alike rows live g f None e = absurd (let w : None ≡ Some f = e in cc)
@@ -119,8 +100,5 @@ view_not_again rows n all row legal at table views same q a =
 -- a table's row
 pub table_at : (all : List FieldRow) (objects : List ObjectPart) (n : ℕ) → IsTrue (is_some_table (slice_get (map (object_in all) objects) n)) → (row : ObjectPart) × (slice_get objects n ≡ Some row) × (row.is_struct ≡ false)
 table_at all [] n h = absurd (let w : false ≡ true = h in cc)
-table_at all (o ∷ os) zero h = (o, refl, not_it o.is_struct h) where
-  not_it : (b : Bool) → not b ≡ true → b ≡ false
-  not_it true h = absurd (let w : false ≡ true = h in cc)
-  not_it false h = refl
+table_at all (o ∷ os) zero h = (o, refl, negated o.is_struct h)
 table_at all (o ∷ os) (suc n) h = table_at all os n h

@@ -1,9 +1,6 @@
 -- The name of a union's member is that of the row with its value.
-use Rattle.std.proofs.Common.{◌≡◌, ℕ, ◌<◌, ℤ, pos, Bool, true, false, ◌&&◌, if◌then◌else◌, List, [], map, filter, slice_get, Option, Some, None, refl, ◌∙◌, ap, arith, find}
-use Rattle.std.proofs.lemmas.Bool.Decides.{nat_tests}
+use Rattle.std.proofs.Common.{◌≡◌, ℕ, ◌<◌, ℤ, pos, Bool, true, false, ◌&&◌, List, [], map, slice_get, Option, Some, None, refl, ◌∙◌, ap, arith, find, option_map, int_eq}
 use Rattle.std.specs.Cmp.{signed_Decides}
-use Rattle.std.specs.Option.{option_map}
-use Rattle.std.specs.Ordering.{int_eq}
 use Rattle.fb_schema.specs.declared.flat.EnumPart.{EnumPart}
 use Rattle.fb_schema.specs.declared.rows.MemberRow.{MemberRow}
 use Rattle.fb_schema.specs.Members.{is_member_value, members_in, member_name}
@@ -11,16 +8,11 @@ use Rattle.fb_schema.specs.Rows.{Rows, Member, Enum, member_of_row, is_union, is
 use Rattle.fb_schema.specs.Flat.{part}
 use Rattle.fb_schema.specs.FlatRows.{enum_in}
 use Rattle.fb_schema.proofs.FindLemmas.{find_filter}
-use Rattle.fb_schema.proofs.UnionLemmas.{members_read, none_of}
+use Rattle.fb_schema.proofs.UnionLemmas.{members_read, none_of, real_value}
 
 -- a test that implies another, asked with it
 with_implied : (a b : Bool) → (b ≡ true → a ≡ true) → (a && b) ≡ b
-with_implied true b h = refl
-with_implied false true h = h refl
-with_implied false false h = refl
-
-real_value : (v : ℕ) → 0 < v → v < 256 → is_member_value (pos v) ≡ true
-real_value v a b = grind (arith, nat_tests)
+with_implied a b h = grind (arith, h)
 
 -- a row with a member's value is a member's
 asked_once : (v : ℕ) → 0 < v → v < 256 → (z : ℤ) → (is_member_value z && int_eq z (pos v)) ≡ int_eq z (pos v)
@@ -43,10 +35,7 @@ no_name_of_zero rows n = ap (option_map (λ (m : Member). m.name)) (none_of (sli
 
 no_members : (e : Option Enum) → is_some_union e ≡ false → members_in e ≡ []
 no_members None h = refl
-no_members (Some e) h = go e.is_union h where
-  go : (b : Bool) → b ≡ false → (if b then filter (λ m. is_member_value m.value) e.members else []) ≡ []
-  go true h = absurd (let w : true ≡ false = h in cc)
-  go false h = refl
+no_members (Some e) h = grind (arith, h)
 
 -- nor has what is no union's
 pub no_name_of_other : (rows : Rows) (n v : ℕ) → is_union rows n ≡ false → member_name rows n v ≡ None

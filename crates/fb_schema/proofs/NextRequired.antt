@@ -1,20 +1,17 @@
 -- The next required field of a table, from a place on.
-use Rattle.std.proofs.Common.{◌≡◌, ℕ, ◌+◌, ◌-◌, ◌<◌, ◌≤◌, Bool, true, false, not, cond, nat_lt, List, [], ◌∷◌, length, drop, map, get_or, slice_get, set, position, option_map, IsTrue, Option, Some, None, refl, sym, ◌∙◌, ap, subst, arith, length-drop, inl, inr}
-use Rattle.std.specs.Borrow.{Bor}
+use Rattle.std.proofs.Common.{◌≡◌, ℕ, ◌+◌, ◌-◌, ◌<◌, ◌≤◌, Bool, true, false, not, cond, nat_lt, List, [], ◌∷◌, length, drop, map, get_or, slice_get, set, position, option_map, IsTrue, Option, Some, None, refl, sym, ◌∙◌, ap, subst, arith, length-drop, inl, inr, Bor, drop_of_length-le}
 use Rattle.std.specs.List.{position_or_len}
 use Rattle.std.specs.Slice.{IsItemAt}
 use Rattle.std.proofs.Math.Seq.{drop-length}
-use Rattle.std.proofs.Math.ListN.{drop_of_length-le}
 use Rattle.std.proofs.lemmas.Bool.Decides.{nat_tests}
-use Rattle.std.proofs.lemmas.Option.{slice_get-get_or}
+use Rattle.std.proofs.lemmas.Option.{slice_get-get_or, slice_get_within, get_or_from_slice_get}
 use Rattle.std.proofs.lemmas.List.{at_drop_more, length-map, get_or-map}
 use Rattle.std.proofs.lemmas.Grind.{common_steps}
 use Rattle.fb_schema.specs.Index.{AreNextRequired}
 use Rattle.fb_schema.specs.Live.{Live, live_in, live_fields, next_required_of}
 use Rattle.fb_schema.specs.Matched.{AreMatched}
 use Rattle.fb_schema.specs.Rows.{Rows, Object, is_table, is_some_table}
-use Rattle.fb_schema.proofs.IndexLemmas.{slice_get_below}
-use Rattle.fb_schema.proofs.Numbers.{lt_or_eq, slice_get_reads, get_or_default}
+use Rattle.fb_schema.proofs.Numbers.{lt_or_eq}
 
 abbrev pub is_required : Live → Bool
 is_required f = f.required
@@ -45,14 +42,9 @@ module _ {X : Type 0} (v : X → Live) (xs : List X) (i : ℕ) (d : X) (lt : i <
 pub filled_more : (fs : List Live) (places : List ℕ) (at n count next : ℕ) → n ≡ at + 1 → at < length places → next ≡ first_from fs at → ((k : ℕ) → n ≤ k → k < count → get_or places k 0 ≡ first_from fs k)
     → (k : ℕ) → at ≤ k → k < count → get_or (set places at next) k 0 ≡ first_from fs k
 filled_more fs places at n count next e lt is filled k le within = elim (lt_or_eq at k le) [
-  | inl above ↦ get_or-set_other_at places at k next (omega arith) ∙ filled k (omega arith) within
-  | inr same ↦ subst (λ j. get_or (set places at next) j 0 ≡ first_from fs j) same (get_or-set_same_at places at next lt ∙ is)
-] where
-  get_or-set_other_at : (places : List ℕ) (at k next : ℕ) → at < k → get_or (set places at next) k 0 ≡ get_or places k 0
-  get_or-set_other_at places at k next lt = grind (arith, common_steps)
-
-  get_or-set_same_at : (places : List ℕ) (at next : ℕ) → at < length places → get_or (set places at next) at 0 ≡ next
-  get_or-set_same_at places at next lt = grind (arith, common_steps)
+  | inl above ↦ (let kept : get_or (set places at next) k 0 ≡ get_or places k 0 = grind (arith, common_steps) in kept ∙ filled k (omega arith) within)
+  | inr same ↦ subst (λ j. get_or (set places at next) j 0 ≡ first_from fs j) same (let put : get_or (set places at next) at 0 ≡ next = grind (arith, common_steps) in put ∙ is)
+]
 
 -- What is looked up.
 
@@ -68,18 +60,13 @@ no_item_lent xs i r h e = let g = subst (λ o. IsItemAt xs i o) e h in g.3
 next_is : (fs : List Live) (i : ℕ) → i < length fs → next_required_of fs i ≡ cond (nat_lt (first_from fs i) (length fs)) (Some (first_from fs i)) None
 next_is fs i lt = go (position_or_len is_required (drop i fs)) (length (drop i fs)) (length fs) (length-drop i fs) where
   go : (p left all : ℕ) → left ≡ all - i → option_map (λ j. i + j) (cond (nat_lt p left) (Some p) None) ≡ cond (nat_lt (i + p) all) (Some (i + p)) None
-  go p left all e = tests (nat_lt p left) (nat_lt (i + p) all) refl refl where
-    tests : (a b : Bool) → nat_lt p left ≡ a → nat_lt (i + p) all ≡ b → option_map (λ j. i + j) (cond a (Some p) None) ≡ cond b (Some (i + p)) None
-    tests true true x y = refl
-    tests false false x y = refl
-    tests true false x y = absurd (grind (arith, nat_tests))
-    tests false true x y = absurd (grind (arith, nat_tests))
+  go p left all e = grind (arith, nat_tests, e)
 
 module _ (fs : List Live) (places : List ℕ) (i : ℕ) (all : AreNextRequired fs places) (place : ℕ) (at : slice_get places i ≡ Some place) where
   place_is : (i < length fs) × (place ≡ first_from fs i)
   place_is =
-      let lt = slice_get_below places place i at in
-      let got : place ≡ get_or places i 0 = slice_get_reads places i place at ∙ get_or_default places i place 0 lt in
+      let lt = slice_get_within places i place at in
+      let got : place ≡ get_or places i 0 = sym (get_or_from_slice_get places i place 0 at) in
       let here : i < length fs = omega (arith, all.long) in
       (here, got ∙ all.at i here)
 

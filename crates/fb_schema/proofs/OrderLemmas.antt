@@ -1,14 +1,11 @@
 -- What the order of a list of keys says of the keys.
-use Rattle.std.proofs.Common.{◌≡◌, ℕ, zero, suc, ◌+◌, ◌-◌, ◌<◌, ◌≤◌, true, false, List, [], ◌∷◌, length, get_or, refl, sym, ◌∙◌, ap, subst, arith, add-zero, zero-add, Option, Some, None, MatchOption, min, max, inl, inr}
-use Rattle.std.proofs.lemmas.Cmp.{ranked, by_ranked, nat_cmp_total, then_total, on_total}
-use Rattle.std.proofs.lemmas.List.Sorted.{sorted_far, ranks_by, Contains-permutation, IsPermutation-sym, length_permutation, IsPermutation-keeps, IsPermutation-swap}
+use Rattle.std.proofs.Common.{◌≡◌, ℕ, zero, suc, ◌+◌, ◌-◌, ◌<◌, ◌≤◌, true, false, List, [], ◌∷◌, length, get_or, refl, sym, ◌∙◌, ap, subst, arith, add-zero, zero-add, Option, Some, None, MatchOption, min, max, inl, inr, Contains, swap, Ordering, Equal}
+use Rattle.std.proofs.lemmas.Cmp.{nat_cmp_total, then_total, on_total}
+use Rattle.std.proofs.lemmas.List.Sorted.{sorted_far, ranks_by, Contains-permutation, IsPermutation-sym, IsPermutation-keeps}
 use Rattle.std.proofs.lemmas.List.Elements.{Contains-get_or}
-use Rattle.std.proofs.lemmas.List.Edits.{swapped_from_swap}
+use Rattle.std.proofs.lemmas.List.Edits.{swapped_from_swap, length-swap}
 use Rattle.std.specs.Cmp.{IsTotalOrder, IsStrictWeakOrder}
 use Rattle.std.specs.Ordering.{nat_cmp, ordering_then, is_lt, ordering_reverse}
-use Rattle.std.specs.List.{Contains, swap}
-use Rattle.std.specs.declared.cmp.Ordering.{Ordering}
-use Rattle.std.specs.declared.cmp.Ordering.TheVariants.{Less, Equal, Greater}
 use Rattle.fb_schema.specs.Sorting.{entry_cmp, numbered, IsOrderOf, IsAgain, IsFirstAgain}
 use Rattle.fb_schema.proofs.Numbers.{lt_or_eq, le_or_lt, get_or_default, slice_get_some}
 
@@ -35,18 +32,13 @@ apart_numbered keys i j d p q e =
 
 -- neither key is below the other, where each is one of two ends that are alike
 tied_between : (p q x y : Ordering) → p ≡ ordering_reverse q → is_lt (ordering_then p x) ≡ false → is_lt (ordering_then q y) ≡ false → (q ≡ Equal) × (is_lt x ≡ false) × (is_lt y ≡ false)
-tied_between p Less x y e a b = absurd (cc)
-tied_between p Greater x y e a b = absurd (let w : is_lt (ordering_then Less x) ≡ false = subst (λ r. is_lt (ordering_then r x) ≡ false) e a in cc)
-tied_between p Equal x y e a b = (refl, subst (λ r. is_lt (ordering_then r x) ≡ false) e a, b)
+tied_between p q x y e a b = grind (arith, e, a, b)
 
 not_less : (x y : ℕ) → is_lt (nat_cmp x y) ≡ false → y ≤ x
-not_less x y h = by_ranked (x < y) (x ≡ y) (y < x) (nat_cmp x y) (ranked x y _ refl) (λ e lt. absurd (let w : true ≡ false = sym (ap is_lt e) ∙ h in cc)) (λ _ e. omega arith) (λ _ lt. omega arith)
+not_less x y h = grind (arith, h)
 
 less_is : (x y : ℕ) → x < y → is_lt (nat_cmp x y) ≡ true
-less_is x y h = by_ranked (x < y) (x ≡ y) (y < x) (nat_cmp x y) (ranked x y _ refl) (λ e _. ap is_lt e) (λ _ e. absurd (omega arith)) (λ _ lt. absurd (omega arith))
-
-pub length-swap : {X : Type 0} (l : List X) (i j : ℕ) → i < length l → j < length l → length (swap l i j) ≡ length l
-length-swap l i j p q = length_permutation _ _ (IsPermutation-swap l (swap l i j) i j p q refl)
+less_is x y h = grind (arith, h)
 
 -- two neighbours whose keys are alike
 abbrev pub Alike : {K : Type 0} → (K → K → Ordering) → List (K × ℕ) → K × ℕ → ℕ → Type 0
@@ -95,13 +87,7 @@ module _ {K : Type 0} (R : K → K → Ordering) (o : IsTotalOrder R) where
   turned : (a b : K) → R a b ≡ Equal → R b a ≡ Equal
   turned a b e = o.antisymm b a ∙ ap ordering_reverse e
 
-  tied : (a b c : K) → R a b ≡ Equal → R b c ≡ Equal → R a c ≡ Equal
-  tied a b c e f = o.congr a b c e ∙ f
-
   module _ (keys : List K) (order : List (K × ℕ)) (h : IsOrderOf R keys order) where
-    pub as_long : length order ≡ length keys
-    as_long = length_permutation _ _ h.same ∙ length-numbered keys 0
-
     -- each key stands in the order
     pub stands : (i : ℕ) (d : K) → i < length keys → (u : ℕ) × (u < length order) × (get_or order u (get_or keys i d, i) ≡ (get_or keys i d, i))
     stands i d lt =
@@ -136,8 +122,8 @@ module _ {K : Type 0} (R : K → K → Ordering) (o : IsTotalOrder R) where
     apart : AreApart order
     apart = IsPermutation-keeps _ AreApart (apart_numbered keys) (λ l i j p q old a b d la lb e.
         let s = swapped_from_swap l (swap l i j) i j d p q refl in
-        let la' : a < length l = rw (length-swap l i j p q) at la in
-        let lb' : b < length l = rw (length-swap l i j p q) at lb in
+        let la' : a < length l = rw (length-swap l i j) at la in
+        let lb' : b < length l = rw (length-swap l i j) at lb in
         grind (arith, s, old)) order h.same
 
     key_at : (u : ℕ) (d : K × ℕ) (e : K) → u < length order → get_or keys (get_or order u d).1 e ≡ (get_or order u d).0

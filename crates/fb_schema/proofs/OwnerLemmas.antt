@@ -1,16 +1,15 @@
 -- The steps of the walk over objects and enums.
-use Rattle.std.proofs.Common.{◌≡◌, ℕ, zero, suc, ◌+◌, ◌<◌, ◌≤◌, inl, inr, Bool, true, false, List, length, slice_get, map, Option, Some, None, refl, sym, ◌∙◌, ap, subst, arith, Result, Ok, Err, OnOk}
-use Rattle.std.proofs.lemmas.List.{length-map}
+use Rattle.std.proofs.Common.{◌≡◌, ℕ, zero, suc, ◌+◌, ◌<◌, ◌≤◌, inl, inr, Bool, List, length, slice_get, map, Option, Some, None, refl, sym, ◌∙◌, ap, subst, arith, Result, Ok, Err, OnOk}
 use Rattle.fb_schema.specs.declared.fault.Code.{Code}
 use Rattle.fb_schema.specs.declared.flat.ObjectPart.{ObjectPart}
 use Rattle.fb_schema.specs.Sorting.{IsAgain, IsFirstAgain, name_cmp, object_name}
 use Rattle.fb_schema.specs.declared.rows.FieldRow.{FieldRow}
 use Rattle.fb_schema.specs.FlatRows.{object_in}
-use Rattle.fb_schema.specs.Rows.{Rows, Object, Enum}
+use Rattle.fb_schema.specs.Rows.{Rows, Enum}
 use Rattle.fb_schema.specs.Demands.{is_at, first_code, stands_before, same_object_name, object_demands, demands_of_object, demands_of_enum, demands_of_field, demands_of_union, demands_at, IsFirstOf, IsFirstIllegal, IsLegal, AreClear}
 use Rattle.fb_schema.proofs.DemandLaws.{IsClear, AreLevelsClear, AreClearBelow, clear_line, first_illegal, is_legal, no_levels, past_objects, past_enums}
-use Rattle.fb_schema.proofs.KeyLemmas.{test_from_again, is_at_test}
-use Rattle.fb_schema.proofs.Numbers.{slice_get_some, le_or_lt, lt_or_eq}
+use Rattle.fb_schema.proofs.KeyLemmas.{is_at_test, never_again}
+use Rattle.fb_schema.proofs.Numbers.{le_or_lt, lt_or_eq}
 use Rattle.fb_schema.proofs.WalkLemmas.{object_names_agree, mapped_at}
 
 pub level_clear : (rows : Rows) (level n : ℕ) → AreClearBelow rows level n → ((m place : ℕ) → n ≤ m → IsClear rows level m place) → AreClear rows level
@@ -40,45 +39,30 @@ objects_level rows objects = record { at = go } where
 pub one_more : (rows : Rows) (level n : ℕ) → AreClearBelow rows level n → ((place : ℕ) → IsClear rows level n place) → AreClearBelow rows level (n + 1)
 one_more rows level n clear here = record { at = λ m place lt. elim (lt_or_eq m n (omega arith)) [ inl l ↦ clear.at m place l | inr e ↦ subst (λ m. IsClear rows level m place) (sym e) (here place) ] }
 
--- where all heads are clear, no object's name stood before
-pub no_object_again : (rows : Rows) (fields : List FieldRow) (objects : List ObjectPart) → rows.objects ≡ map (object_in fields) objects → ((q : ℕ) → IsClear rows 0 q 0) → (q : ℕ) → IsAgain name_cmp (map object_name objects) q → ⊥
-no_object_again rows fields objects same clear q a =
-    let here = slice_get_some objects q (rw length-map at a.within) in
-    let r = here.0 in
-    let at : slice_get rows.objects q ≡ Some (object_in fields r) = ap (λ os. slice_get os q) same ∙ mapped_at (object_in fields) objects q r here.1 in
-    let head : first_code (demands_at rows 0 q 0) ≡ first_code (object_demands (object_in fields r) (stands_before same_object_name (map (object_in fields) objects) q (object_in fields r))) = ap (λ x. first_code (demands_of_object rows q 0 x)) at ∙ ap (λ os. first_code (object_demands (object_in fields r) (stands_before same_object_name os q (object_in fields r)))) same in
-    let old = test_from_again name_cmp object_name (object_in fields) same_object_name (object_names_agree fields) objects q r here.1 a in
-    let new = clear_line (object_demands (object_in fields r) (stands_before same_object_name (map (object_in fields) objects) q (object_in fields r))) (sym head ∙ clear q) 0 _ refl in
-    let w : true ≡ false = sym old ∙ new in cc
-
--- Objects: the list of rows in memory, the object at n among them, and the first whose name stood before.
-module _ (rows : Rows) (fields : List FieldRow) (objects : List ObjectPart) (same : rows.objects ≡ map (object_in fields) objects) (n : ℕ) (row : ObjectPart) (at : slice_get objects n ≡ Some row) (again : Option ℕ) (h : IsFirstAgain name_cmp (map object_name objects) again) (clear : AreClearBelow rows 0 n) where
-  o : Object
-  o = object_in fields row
-
+-- Objects: the list of rows in memory.
+module _ (rows : Rows) (fields : List FieldRow) (objects : List ObjectPart) (same : rows.objects ≡ map (object_in fields) objects) where
   object_at : (q : ℕ) (r : ObjectPart) → slice_get objects q ≡ Some r → slice_get rows.objects q ≡ Some (object_in fields r)
   object_at q r at = ap (λ os. slice_get os q) same ∙ mapped_at (object_in fields) objects q r at
 
   head_at : (q : ℕ) (r : ObjectPart) → slice_get objects q ≡ Some r → first_code (demands_at rows 0 q 0) ≡ first_code (object_demands (object_in fields r) (stands_before same_object_name (map (object_in fields) objects) q (object_in fields r)))
   head_at q r at = ap (λ x. first_code (demands_of_object rows q 0 x)) (object_at q r at) ∙ ap (λ os. first_code (object_demands (object_in fields r) (stands_before same_object_name os q (object_in fields r)))) same
 
-  not_again : (q : ℕ) → IsClear rows 0 q 0 → IsAgain name_cmp (map object_name objects) q → ⊥
-  not_again q clear a =
-      let here = slice_get_some objects q (rw length-map at a.within) in
-      let old = test_from_again name_cmp object_name (object_in fields) same_object_name (object_names_agree fields) objects q here.0 here.1 a in
-      let new = clear_line (object_demands (object_in fields here.0) (stands_before same_object_name (map (object_in fields) objects) q (object_in fields here.0))) (sym (head_at q here.0 here.1) ∙ clear) 0 _ refl in
-      let w : true ≡ false = sym old ∙ new in cc
+  -- where the head is clear, the object's name didn't stand before
+  pub no_object_again : (q : ℕ) → IsClear rows 0 q 0 → IsAgain name_cmp (map object_name objects) q → ⊥
+  no_object_again q clear a = never_again name_cmp object_name (object_in fields) same_object_name (object_names_agree fields) objects q a (λ r at. clear_line (object_demands (object_in fields r) _) (sym (head_at q r at) ∙ clear) 0 _ refl)
 
+-- The object at n, and the first whose name stood before.
+module _ (rows : Rows) (fields : List FieldRow) (objects : List ObjectPart) (same : rows.objects ≡ map (object_in fields) objects) (n : ℕ) (row : ObjectPart) (at : slice_get objects n ≡ Some row) (again : Option ℕ) (h : IsFirstAgain name_cmp (map object_name objects) again) (clear : AreClearBelow rows 0 n) where
   head_code : (named : Bool) → named ≡ is_at again n → first_code (object_demands (object_in fields row) named) ≡ first_code (demands_at rows 0 n 0)
   head_code named e =
-      ap (λ b. first_code (object_demands (object_in fields row) b)) (e ∙ is_at_test name_cmp object_name (object_in fields) same_object_name (object_names_agree fields) objects n row at again h (λ q lt. not_again q (clear.at q 0 lt)))
-      ∙ sym (head_at n row at)
+      ap (λ b. first_code (object_demands (object_in fields row) b)) (e ∙ is_at_test name_cmp object_name (object_in fields) same_object_name (object_names_agree fields) objects n row at again h (λ q lt. no_object_again rows fields objects same q (clear.at q 0 lt)))
+      ∙ sym (head_at rows fields objects same n row at)
 
   pub refused_object : (named : Bool) (code : Code) → named ≡ is_at again n → Some code ≡ first_code (object_demands (object_in fields row) named) → IsFirstIllegal rows (record { code = code; owner = n; part = None })
   refused_object named code e h = first_illegal rows 0 n 0 code (no_levels rows) clear (record { at = λ p lt. absurd (omega arith) }) (sym (head_code named e) ∙ sym h)
 
   field_at : (p : ℕ) → first_code (demands_at rows 0 n (suc p)) ≡ first_code (demands_of_field rows (object_in fields row) p)
-  field_at p = ap (λ x. first_code (demands_of_object rows n (suc p) x)) (object_at n row at)
+  field_at p = ap (λ x. first_code (demands_of_object rows n (suc p) x)) (object_at rows fields objects same n row at)
 
   pub refused_field : (named : Bool) → named ≡ is_at again n → None ≡ first_code (object_demands (object_in fields row) named) → (code : Code) (p : ℕ) → IsFirstOf (demands_of_field rows (object_in fields row)) (Some (code, p)) → IsFirstIllegal rows (record { code = code; owner = n; part = Some p })
   refused_field named e none code p r = first_illegal rows 0 n (suc p) code (no_levels rows) clear (record { at = below }) (field_at p ∙ r.0) where

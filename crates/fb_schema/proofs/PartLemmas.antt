@@ -1,12 +1,9 @@
 -- The fields of the structs of legal rows lie in them.
-use Rattle.std.proofs.Common.{◌≡◌, ◌<◌, ℕ, suc, ◌+◌, ◌*◌, ◌≤◌, ℤ, pos, negsuc, ◌+ℤ◌, ◌*ℤ◌, Bool, true, false, not, ◌&&◌, ◌||◌, int_lt, List, [], length, slice_get, Option, Some, None, refl, sym, ◌∙◌, ap, subst, arith, unsigned_abs, if◌then◌else◌}
-use Rattle.std.specs.Option.{option_and_then, option_map}
-use Rattle.fb_schema.specs.declared.kinds.Kind.{Kind}
-use Rattle.fb_schema.specs.declared.kinds.Kind.TheVariants.{Scalar, Struct, Table, Scalars, Structs, Tables}
-use Rattle.fb_schema.specs.declared.kinds.Element.{Element}
-use Rattle.fb_schema.specs.declared.kinds.Element.TheVariants.{Scalar as OfScalar, Text as OfText, Object as OfObject, Union as OfUnion}
-use Rattle.fb_schema.specs.declared.kinds.Shape.{Shape}
-use Rattle.fb_schema.specs.declared.kinds.Shape.TheVariants.{One, Vector, Array}
+use Rattle.std.proofs.Common.{◌≡◌, ◌<◌, ℕ, suc, ◌+◌, ◌*◌, ◌≤◌, ℤ, pos, negsuc, ◌+ℤ◌, ◌*ℤ◌, Bool, true, false, not, ◌&&◌, ◌||◌, int_lt, List, [], length, slice_get, Option, Some, None, refl, sym, ◌∙◌, ap, subst, arith, unsigned_abs, if◌then◌else◌, IfSome, option_and_then, option_map}
+use Rattle.fb_schema.proofs.KindWords.{Kind, Struct, Table, Structs, Tables, Element, OfScalar, OfObject, Shape, One, Vector, Array}
+use Rattle.fb_schema.proofs.KindLemmas.{object_kinds}
+use Rattle.fb_schema.proofs.Numbers.{not_false}
+use Rattle.std.proofs.lemmas.Option.{slice_get_within, MatchOption-at_some}
 use Rattle.fb_schema.specs.declared.views.PartView.{PartView}
 use Rattle.fb_schema.specs.Demands.{IsLegal, first_code, demands_of_object, demands_of_struct_field, demands_of_table_field, object_demands, struct_field_demands, stands_before, same_object_name, same_field_name, is_inline, is_object, is_alignment, shape_bytes, element_bytes, inline_bytes, bytes_in, names_table}
 use Rattle.fb_schema.specs.Kinds.{scalar_size, struct_size, size_in, shape_of, shape_kind, object_kind}
@@ -14,8 +11,6 @@ use Rattle.fb_schema.specs.Parts.{PartFits, part_at, part_count, part_kind, part
 use Rattle.fb_schema.specs.Rows.{Field, Object, Rows, entry_at, is_some_table}
 use Rattle.fb_schema.proofs.DemandLaws.{clear_line}
 use Rattle.fb_schema.proofs.LegalLemmas.{legal_clear}
-use Rattle.fb_schema.proofs.UnionLemmas.{read_within}
-use Rattle.fb_schema.proofs.KindLemmas.{some_is}
 use Rattle.std.proofs.lemmas.Bool.Decides.{nat_tests}
 
 -- the field at place i of struct k, with its object
@@ -33,8 +28,7 @@ row_of rows k i f (Some o) at e = go o.is_struct refl e where
   go false is e = absurd (let w : None ≡ Some f = e in cc)
 
 struct_list : {X : Type 0} (b : Bool) (xs ys : List X) → b ≡ true → (if b then xs else ys) ≡ xs
-struct_list true xs ys e = refl
-struct_list false xs ys e = absurd (let w : false ≡ true = e in cc)
+struct_list b xs ys e = grind arith
 
 -- what is demanded of it, in an order that begins with its name
 abbrev IsAskedOf : Rows → Object → Field → ℕ → Type 0
@@ -49,9 +43,7 @@ asked rows legal k i f r =
 
 -- a struct of legal rows has a size
 sized : (a b c : Bool) → (a && (b || c)) ≡ false → a ≡ true → b ≡ false
-sized true true c h e = absurd (let w : true ≡ false = h in cc)
-sized true false c h e = refl
-sized false b c h e = absurd (let w : false ≡ true = e in cc)
+sized a b c h e = grind arith
 
 positive : (z : ℤ) → int_lt z (pos 1) ≡ false → (m : ℕ) × (z ≡ pos m)
 positive (pos m) h = (m, refl)
@@ -83,50 +75,36 @@ module _ (rows : Rows) (legal : IsLegal rows) (bytes : ℤ) (place count : ℕ) 
   struct_fits j o all times at struct h =
       let m = struct_bytes rows legal j o at struct in
       let size : struct_size rows j ≡ m.0 = ap size_in at ∙ ap unsigned_abs m.1 in
-      (read_within rows.objects j o at, subst (λ n. place + count * n ≤ unsigned_abs bytes) (sym size) (ends m.0 (all o.bytesize) (ap all m.1 ∙ times m.0) h))
+      (slice_get_within rows.objects j o at, subst (λ n. place + count * n ≤ unsigned_abs bytes) (sym size) (ends m.0 (all o.bytesize) (ap all m.1 ∙ times m.0) h))
 
   module _ (struct table : ℕ → Kind) (all : ℤ → ℤ) (times : (m : ℕ) → all (pos m) ≡ pos (count * m)) (fits : (j : ℕ) → (j < length rows.objects) × (place + count * struct_size rows j ≤ unsigned_abs bytes) → Fits (struct j)) where
-    one_object : (kind : Kind) (j : ℕ) (o : Object) (b : Bool) → slice_get rows.objects j ≡ Some o → o.is_struct ≡ b → (if b then struct j else table j) ≡ kind → not b ≡ false → EndsAt (all o.bytesize) → Fits kind
-    one_object kind j o true at is e no_table h = subst Fits e (fits j (struct_fits j o all times at is h))
-    one_object kind j o false at is e no_table h = absurd (let w : true ≡ false = no_table in cc)
-
-    at_index : (kind : Kind) (j : ℕ) (o : Option Object) → slice_get rows.objects j ≡ o → object_kind (pos j) struct table o ≡ Some kind → is_some_table o ≡ false → EndsAt (all (bytes_in o)) → Fits kind
-    at_index kind j None at e no_table h = absurd (let w : None ≡ Some kind = e in cc)
-    at_index kind j (Some o) at e no_table h = one_object kind j o o.is_struct at refl (some_is (if o.is_struct then struct j else table j) kind e) no_table h
-
-    of_object : (index : ℤ) (kind : Kind) → object_kind index struct table (entry_at rows.objects index) ≡ Some kind → is_some_table (entry_at rows.objects index) ≡ false → EndsAt (all (bytes_in (entry_at rows.objects index))) → Fits kind
-    of_object (pos j) kind e no_table h = at_index kind j (slice_get rows.objects j) refl e no_table h
-    of_object (negsuc j) kind e no_table h = absurd (let w : None ≡ Some kind = e in cc)
+    of_object : (index : ℤ) → is_some_table (entry_at rows.objects index) ≡ false → EndsAt (all (bytes_in (entry_at rows.objects index))) → IfSome (object_kind index struct table (entry_at rows.objects index)) Fits
+    of_object index no_table h = object_kinds rows Fits struct table index
+        (λ j o here at is. fits j (struct_fits j o all times at is (subst (λ x. EndsAt (all (bytes_in x))) here h)))
+        (λ j o here at is. absurd (let w : true ≡ false = sym (ap is_some_table here ∙ ap not is) ∙ no_table in cc))
 
 -- by what a type is one, or an array, of
 module _ (rows : Rows) (legal : IsLegal rows) (index bytes : ℤ) (place length : ℕ) where
   abbrev one_times : (m : ℕ) → pos m ≡ pos (1 * m)
   one_times m = ap pos (let w : m ≡ 1 * m = omega arith in w)
 
-  of_one : (e : Element) (kind : Kind) → is_inline (Some (One e)) ≡ true → shape_kind rows index (Some (One e)) ≡ Some kind → (is_object (Some (One e)) && is_some_table (entry_at rows.objects index)) ≡ false
-      → EndsAt rows legal bytes place 1 (element_bytes (entry_at rows.objects index) e) → Fits rows legal bytes place 1 kind
-  of_one (OfScalar s) kind inline e no_table h = subst (Fits rows legal bytes place 1) (some_is (Scalar s) kind e) (let w = ends rows legal bytes place 1 (scalar_size s) (pos (scalar_size s)) (one_times (scalar_size s)) h in omega (arith, w))
-  of_one OfText kind inline e no_table h = absurd (let w : false ≡ true = inline in cc)
-  of_one OfObject kind inline e no_table h = of_object rows legal bytes place 1 Struct Table (λ z. z) one_times (λ j f. (f.0, omega (arith, f.1))) index kind e no_table h
-  of_one OfUnion kind inline e no_table h = absurd (let w : false ≡ true = inline in cc)
+  of_one : (e : Element) → is_inline (Some (One e)) ≡ true → (is_object (Some (One e)) && is_some_table (entry_at rows.objects index)) ≡ false
+      → EndsAt rows legal bytes place 1 (element_bytes (entry_at rows.objects index) e) → IfSome (shape_kind rows index (Some (One e))) (Fits rows legal bytes place 1)
+  of_one (OfScalar s) inline no_table h = let w = ends rows legal bytes place 1 (scalar_size s) (pos (scalar_size s)) (one_times (scalar_size s)) h in omega (arith, w)
+  of_one OfObject inline no_table h = of_object rows legal bytes place 1 Struct Table (λ z. z) one_times (λ j f. (f.0, omega (arith, f.1))) index no_table h
+  of_one e inline no_table h = absurd (let w : false ≡ true = inline in cc)
 
-  of_array : (e : Element) (kind : Kind) → is_inline (Some (Array e)) ≡ true → shape_kind rows index (Some (Vector e)) ≡ Some kind → (is_object (Some (Array e)) && is_some_table (entry_at rows.objects index)) ≡ false
-      → EndsAt rows legal bytes place length (pos length *ℤ element_bytes (entry_at rows.objects index) e) → Fits rows legal bytes place length kind
-  of_array (OfScalar s) kind inline e no_table h = subst (Fits rows legal bytes place length) (some_is (Scalars s) kind e) (ends rows legal bytes place length (scalar_size s) (pos length *ℤ pos (scalar_size s)) refl h)
-  of_array OfText kind inline e no_table h = absurd (let w : false ≡ true = inline in cc)
-  of_array OfObject kind inline e no_table h = of_object rows legal bytes place length Structs Tables (λ z. pos length *ℤ z) (λ m. refl) (λ j f. f) index kind e no_table h
-  of_array OfUnion kind inline e no_table h = absurd (let w : false ≡ true = inline in cc)
+  of_array : (e : Element) → is_inline (Some (Array e)) ≡ true → (is_object (Some (Array e)) && is_some_table (entry_at rows.objects index)) ≡ false
+      → EndsAt rows legal bytes place length (pos length *ℤ element_bytes (entry_at rows.objects index) e) → IfSome (shape_kind rows index (Some (Vector e))) (Fits rows legal bytes place length)
+  of_array (OfScalar s) inline no_table h = ends rows legal bytes place length (scalar_size s) (pos length *ℤ pos (scalar_size s)) refl h
+  of_array OfObject inline no_table h = of_object rows legal bytes place length Structs Tables (λ z. pos length *ℤ z) (λ m. refl) (λ j f. f) index no_table h
+  of_array e inline no_table h = absurd (let w : false ≡ true = inline in cc)
 
-  of_shape : (shape : Option Shape) (kind : Kind) → is_inline shape ≡ true → part_kind rows index shape ≡ Some kind → (is_object shape && is_some_table (entry_at rows.objects index)) ≡ false
-      → int_lt bytes (pos place +ℤ shape_bytes length (entry_at rows.objects index) shape) ≡ false → Fits rows legal bytes place (part_count length shape) kind
-  of_shape None kind inline e no_table h = absurd (let w : false ≡ true = inline in cc)
-  of_shape (Some (One x)) kind inline e no_table h = of_one x kind inline e no_table h
-  of_shape (Some (Vector x)) kind inline e no_table h = absurd (let w : false ≡ true = inline in cc)
-  of_shape (Some (Array x)) kind inline e no_table h = of_array x kind inline e no_table h
-
-not_false : (b : Bool) → not b ≡ false → b ≡ true
-not_false true h = refl
-not_false false h = absurd (let w : true ≡ false = h in cc)
+  of_shape : (shape : Option Shape) → is_inline shape ≡ true → (is_object shape && is_some_table (entry_at rows.objects index)) ≡ false
+      → int_lt bytes (pos place +ℤ shape_bytes length (entry_at rows.objects index) shape) ≡ false → IfSome (part_kind rows index shape) (Fits rows legal bytes place (part_count length shape))
+  of_shape (Some (One x)) inline no_table h = of_one x inline no_table h
+  of_shape (Some (Array x)) inline no_table h = of_array x inline no_table h
+  of_shape shape inline no_table h = absurd (let w : false ≡ true = inline in cc)
 
 -- what a part is of
 part_is : (rows : Rows) (f : Field) (kind : Option Kind) (part : PartView) → part_kind rows f.ty.index (shape_of f.ty) ≡ kind
@@ -144,8 +122,8 @@ part_fits rows legal k i f r part e =
     let ds = struct_field_demands rows o.bytesize f (stands_before same_field_name o.fields i f) in
     let clear = asked rows legal k i f r in
     let is = part_is rows f (part_kind rows f.ty.index (shape_of f.ty)) part refl e in
-    let fits = of_shape rows legal f.ty.index o.bytesize f.slot f.ty.fixed_length (shape_of f.ty) part.kind
-    (not_false (is_inline (shape_of f.ty)) (clear_line ds clear 1 _ refl)) is.0 (clear_line ds clear 3 _ refl) (clear_line ds clear 4 _ refl) in
+    let fits = MatchOption-at_some _ (Fits rows legal o.bytesize f.slot (part_count f.ty.fixed_length (shape_of f.ty))) part.kind is.0 (of_shape rows legal f.ty.index o.bytesize f.slot f.ty.fixed_length (shape_of f.ty)
+    (not_false (is_inline (shape_of f.ty)) (clear_line ds clear 1 _ refl)) (clear_line ds clear 3 _ refl) (clear_line ds clear 4 _ refl)) in
     let size : struct_size rows k ≡ unsigned_abs o.bytesize = ap size_in r.at in
     subst (λ (n : ℕ). PartFits rows n part part.kind) (sym size) (subst (λ (p : PartView). PartFits rows (unsigned_abs o.bytesize) p part.kind) (sym is.1) fits)
 

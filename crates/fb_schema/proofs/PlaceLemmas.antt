@@ -1,22 +1,18 @@
 -- Keys are found by their order.
-use Rattle.std.proofs.Common.{◌≡◌, ℕ, ◌<◌, inl, inr, Bool, false, List, length, get_or, map, Option, Some, None, refl, sym, ◌∙◌, ap, arith, position, Decides}
+use Rattle.std.proofs.Common.{◌≡◌, ℕ, ◌<◌, Bool, false, List, length, get_or, map, Option, Some, None, sym, ◌∙◌, ap, arith, position, Decides, HoldsAt, Ordering, Less, Equal, Greater}
+use Rattle.fb_schema.proofs.KeyLemmas.{again_at}
 use Rattle.std.proofs.lemmas.List.{length-map, get_or-map}
 use Rattle.std.specs.Cmp.{IsTotalOrder}
-use Rattle.std.specs.List.{HoldsAt}
 use Rattle.std.specs.List.Sorted.{IsSortedBy, IsNonDecreasingBy, IsPartitionPoint}
 use Rattle.std.specs.Ordering.{is_lt, ordering_index, ordering_then, ordering_reverse}
-use Rattle.std.specs.declared.cmp.Ordering.{Ordering}
-use Rattle.std.specs.declared.cmp.Ordering.TheVariants.{Less, Equal, Greater}
 use Rattle.fb_schema.specs.Sorting.{IsOrderOf, IsPlaceOf, IsAgain}
-use Rattle.fb_schema.proofs.Numbers.{lt_or_eq, le_or_lt, get_or_default, slice_get_some}
+use Rattle.fb_schema.proofs.Numbers.{get_or_default, slice_get_some, neither_below}
 use Rattle.fb_schema.proofs.OrderLemmas.{is_key, stands}
 use Rattle.fb_schema.proofs.PositionLemmas.{found_position, no_position}
 use Rattle.fb_schema.proofs.Search.{search_missed}
 
 not_less_first : (p q : Ordering) → is_lt (ordering_then p q) ≡ false → is_lt p ≡ false
-not_less_first Less q h = h
-not_less_first Equal q h = refl
-not_less_first Greater q h = refl
+not_less_first p q h = grind arith
 
 module _ {K : Type 0} (R : K → K → Ordering) (o : IsTotalOrder R) (keys : List K) (order : List (K × ℕ)) (h : IsOrderOf R keys order) (key : K) where
   keys_rise : IsSortedBy (λ (a b : K × ℕ). is_lt (R a.0 b.0)) order
@@ -41,18 +37,9 @@ module _ {X Y K : Type 0} (R : K → K → Ordering) (o : IsTotalOrder R) (name 
   passes k x lt = ap p (get_or-map f xs k x (f x) lt)
 
   pub alike_one : ((q : ℕ) → IsAgain R (map name xs) q → ⊥) → (i j : ℕ) (x : X) → i < length xs → j < length xs → R (name (get_or xs i x)) key ≡ Equal → R (name (get_or xs j x)) key ≡ Equal → i ≡ j
-  alike_one none i j x a b e e' = elim (le_or_lt i j) [
-    | inl le ↦ elim (lt_or_eq i j le) [ inl lt ↦ absurd (none j (again i j lt b e e')) | inr same ↦ same ]
-    | inr lt ↦ absurd (none i (again j i lt a e' e))
-  ] where
-    again : (i j : ℕ) → i < j → j < length xs → R (name (get_or xs i x)) key ≡ Equal → R (name (get_or xs j x)) key ≡ Equal → IsAgain R (map name xs) j
-    again i j lt b e e' = record {
-      earlier = i;
-      before = lt;
-      within = rw length-map b;
-      alike = λ d. ap (λ z. R z (get_or (map name xs) j d)) (get_or-map name xs i x d (omega arith)) ∙ ap (R (name (get_or xs i x))) (get_or-map name xs j x d b)
-          ∙ o.congr (name (get_or xs i x)) key (name (get_or xs j x)) e ∙ o.antisymm key (name (get_or xs j x)) ∙ ap ordering_reverse e';
-    }
+  alike_one none i j x a b e e' = neither_below i j (λ lt. none j (again_at R name xs i j x lt b (alike _ _ e e'))) (λ lt. none i (again_at R name xs j i x lt a (alike _ _ e' e))) where
+    alike : (y z : K) → R y key ≡ Equal → R z key ≡ Equal → R y z ≡ Equal
+    alike y z e e' = o.congr y key z e ∙ o.antisymm key z ∙ ap ordering_reverse e'
 
   pub place_position : ((q : ℕ) → IsAgain R (map name xs) q → ⊥) → (place : Option ℕ) → IsPlaceOf R (map name xs) key place → place ≡ position p (map f xs)
   place_position none None h = sym (no_position p (map f xs) (λ j d within e.

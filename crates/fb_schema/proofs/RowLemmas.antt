@@ -1,7 +1,8 @@
 -- The rows of live fields, and what is demanded of them.
-use Rattle.std.proofs.Common.{◌≡◌, ℕ, zero, suc, ◌<◌, Bool, true, false, not, ◌&&◌, List, [], ◌∷◌, get_or, length, slice_get, filter, Some, None, refl, sym, ◌∙◌, ap, arith, cond, if◌then◌else◌}
-use Rattle.std.proofs.lemmas.Option.{slice_get-get_or}
-use Rattle.std.specs.List.{Contains}
+use Rattle.std.proofs.Common.{◌≡◌, ℕ, zero, suc, ◌<◌, Bool, true, false, not, ◌&&◌, List, [], ◌∷◌, slice_get, filter, Some, None, refl, sym, ◌∙◌, ap, arith, if◌then◌else◌, Contains}
+use Rattle.fb_schema.proofs.Numbers.{negated}
+use Rattle.std.proofs.lemmas.List.Elements.{filter_passes, All-contains}
+use Rattle.std.proofs.lemmas.Option.{slice_get-get_or, slice_get_within, get_or_from_slice_get}
 use Rattle.fb_schema.specs.declared.kinds.TypeField.TheVariants.{ForUnion, ForUnions}
 use Rattle.fb_schema.specs.Demands.{IsLegal, first_code, demands_of_object, demands_of_table_field, demands_of_struct_field, table_field_demands, stands_before, same_field_name, same_slot, stands_below}
 use Rattle.fb_schema.specs.Live.{live_rows, by_slot, is_live}
@@ -12,23 +13,10 @@ use Rattle.fb_schema.proofs.LiveLemmas.{Rises, sorted_rises, sorted_members, fil
 
 -- Places of lists.
 pub contains_at : {X : Type 0} (xs : List X) (i : ℕ) (x : X) → slice_get xs i ≡ Some x → Contains xs x
-contains_at [] i x e = absurd (let w : None ≡ Some x = e in cc)
-contains_at (y ∷ ys) zero x e = (0, omega arith, (let w : y ≡ x = cc in w))
-contains_at (y ∷ ys) (suc i) x e = let c = contains_at ys i x e in (suc c.0, omega (arith, c.1), c.2)
+contains_at xs i x e = (i, slice_get_within xs i x e, get_or_from_slice_get xs i x x e)
 
 pub place_in : {X : Type 0} (xs : List X) (x : X) → Contains xs x → (i : ℕ) × (slice_get xs i ≡ Some x)
 place_in xs x c = (c.0, slice_get-get_or xs c.0 x c.1 ∙ ap Some c.2)
-
-filter_passes : {X : Type 0} (p : X → Bool) (xs : List X) (z : X) → Contains (filter p xs) z → p z ≡ true
-filter_passes p [] z c = absurd (omega (arith, c.1))
-filter_passes p (x ∷ xs) z c = go (p x) refl c (filter_passes p xs z) where
-  here : (k : ℕ) → k < suc (length (filter p xs)) → get_or (x ∷ filter p xs) k z ≡ z → p x ≡ true → (Contains (filter p xs) z → p z ≡ true) → p z ≡ true
-  here zero lt e q later = ap p (sym e) ∙ q
-  here (suc k) lt e q later = later (k, omega arith, e)
-
-  go : (b : Bool) → p x ≡ b → Contains (cond b (x ∷ filter p xs) (filter p xs)) z → (Contains (filter p xs) z → p z ≡ true) → p z ≡ true
-  go true e c later = here c.0 c.1 c.2 e later
-  go false e c later = later c
 
 -- Rising slots.
 pub rises_at : (fs : List Field) → Rises fs → (i j : ℕ) (f g : Field) → slice_get fs i ≡ Some f → slice_get fs j ≡ Some g → i < j → f.slot < g.slot
@@ -50,16 +38,12 @@ table_rows : (o : Object) (b : Bool) → o.is_struct ≡ b → (i : ℕ) (f : Fi
 table_rows o true is i f e = absurd (let w : None ≡ Some f = sym (ap (λ b. slice_get (if b then [] else by_slot (filter is_live o.fields)) i) is) ∙ e in cc)
 table_rows o false is i f e = (is, contains_at (by_slot (filter is_live o.fields)) i f (sym (ap (λ b. slice_get (if b then [] else by_slot (filter is_live o.fields)) i) is) ∙ e))
 
-not_false : (b : Bool) → not b ≡ true → b ≡ false
-not_false true h = absurd (let w : false ≡ true = h in cc)
-not_false false h = refl
-
 pub row_in : (rows : Rows) (k i : ℕ) (o : Object) (f : Field) → slice_get rows.objects k ≡ Some o → slice_get (live_rows o) i ≡ Some f → IsRowOf rows k i o f
 row_in rows k i o f at here =
     let t = table_rows o o.is_struct refl i f here in
     let c = (sorted_members f (filter is_live o.fields)).0 t.1 in
     let p = place_in o.fields f (filter_contains is_live o.fields f c) in
-    record { at = at; table = t.0; here = here; live = not_false f.deprecated (filter_passes is_live o.fields f c); place = p.0; there = p.1 }
+    record { at = at; table = t.0; here = here; live = negated f.deprecated (All-contains (λ f. is_live f ≡ true) (filter is_live o.fields) f (filter_passes is_live o.fields) c); place = p.0; there = p.1 }
 
 -- the demands of a live field
 abbrev pub IsAsked : Rows → Object → Field → ℕ → Type 0
@@ -73,8 +57,7 @@ asked rows legal k i o f r =
     ∙ legal_clear rows legal 0 k (suc r.place)
 
 pub live_line : (a b : Bool) → (not a && b) ≡ false → a ≡ false → b ≡ false
-live_line true b h e = absurd (let w : true ≡ false = e in cc)
-live_line false b h e = h
+live_line a b h e = grind arith
 
 -- the slots of a legal table's live fields rise
 pub rows_rise : (rows : Rows) → IsLegal rows → (k : ℕ) (o : Object) → slice_get rows.objects k ≡ Some o → Rises (live_rows o)

@@ -1,15 +1,13 @@
 -- What a binary search by a key finds.
-use Rattle.std.proofs.Common.{◌≡◌, ℕ, ◌+◌, ◌-◌, ◌<◌, ◌≤◌, ◌==◌, inl, inr, Bool, true, false, List, length, get_or, refl, sym, ap, ◌∙◌, arith, is_ok, Result, Ok, Err}
+use Rattle.std.proofs.Common.{◌≡◌, ℕ, ◌+◌, ◌-◌, ◌<◌, ◌≤◌, ◌==◌, inl, inr, Bool, true, false, List, length, get_or, refl, sym, ap, ◌∙◌, arith, is_ok, Result, Ok, Err, Ordering, Less, Equal, Greater}
 use Rattle.std.proofs.lemmas.Cmp.{nat_cmp_total, ranked, by_ranked, tied_itself}
-use Rattle.std.proofs.lemmas.Bool.Decides.{Decides-eqb}
+use Rattle.std.proofs.lemmas.Bool.Decides.{Decides-eqb, nat_tests}
 use Rattle.std.proofs.lemmas.List.Folds.{list_any_at, list_any_none}
 use Rattle.std.specs.List.{list_any}
 use Rattle.std.proofs.lemmas.List.Sorted.{searchable_from_sorted}
 use Rattle.std.specs.Cmp.{IsTotalOrder}
 use Rattle.std.specs.List.Sorted.{IsSorted, IsSortedBy, IsNonDecreasingBy, IsPartitionPoint, IsBinarySearchResult, IsSearchInRange}
 use Rattle.std.specs.Ordering.{nat_cmp, is_lt, ordering_index}
-use Rattle.std.specs.declared.cmp.Ordering.{Ordering}
-use Rattle.std.specs.declared.cmp.Ordering.TheVariants.{Less, Equal, Greater}
 use Rattle.fb_schema.proofs.Numbers.{le_or_lt}
 
 -- where the search found nothing, no item has the key
@@ -24,8 +22,7 @@ search_missed R o key xs x at up split k d lt tied =
     ]
 
 pub not_true : (b : Bool) → (b ≡ true → ⊥) → b ≡ false
-not_true true h = absurd (h refl)
-not_true false h = refl
+not_true b h = grind arith
 
 pub nat_tied : (x y : ℕ) → nat_cmp x y ≡ Equal → x ≡ y
 nat_tied x y h = by_ranked (x < y) (x ≡ y) (y < x) (nat_cmp x y) (ranked x y _ refl) (λ e lt. absurd (let w : Less ≡ Equal = sym e ∙ h in cc)) (λ _ e. e) (λ e lt. absurd (let w : Greater ≡ Equal = sym e ∙ h in cc))
@@ -37,11 +34,7 @@ number_found xs x (Err k) up range split = sym (list_any_none (λ s. s == x) xs 
     search_missed nat_cmp nat_cmp_total (λ (y : ℕ). y) xs x k up split i d lt (ap (λ y. nat_cmp y x) ((Decides-eqb (get_or xs i d) x).0 e) ∙ tied_itself nat_cmp_total x))))
 
 same_tests : (slot s : ℕ) → 2 ≤ slot → (s == slot - 2) ≡ (s + 2 == slot)
-same_tests slot s h = go (s == slot - 2) (s + 2 == slot) (Decides-eqb s (slot - 2)).0 (Decides-eqb s (slot - 2)).1 (Decides-eqb (s + 2) slot).0 (Decides-eqb (s + 2) slot).1 where
-  go : (a b : Bool) → (a ≡ true → s ≡ slot - 2) → (s ≡ slot - 2 → a ≡ true) → (b ≡ true → s + 2 ≡ slot) → (s + 2 ≡ slot → b ≡ true) → a ≡ b
-  go true b f f' g g' = sym (g' (let e = f refl in omega arith))
-  go false true f f' g g' = f' (let e = g refl in omega arith)
-  go false false f f' g g' = refl
+same_tests slot s h = grind (arith, nat_tests)
 
 -- a slot two below is looked for two below
 pub two_below : (xs : List ℕ) (slot : ℕ) → 2 ≤ slot → list_any (λ s. s == slot - 2) xs ≡ list_any (λ s. s + 2 == slot) xs

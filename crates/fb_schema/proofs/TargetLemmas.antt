@@ -1,9 +1,9 @@
 -- The targets of a union are found by the values that its members have.
-use Rattle.std.proofs.Common.{◌≡◌, ℕ, zero, suc, ◌+◌, ◌<◌, ◌≤◌, ◌⊎◌, inl, inr, List, [], ◌∷◌, ◌++◌, length, get_or, take, map, true, refl, sym, subst, ◌∙◌, ap, arith}
-use Rattle.std.proofs.lemmas.List.{get_or_append_left}
+use Rattle.std.proofs.Common.{◌≡◌, ℕ, zero, suc, ◌+◌, ◌<◌, ◌≤◌, ◌⊎◌, inl, inr, List, [], ◌∷◌, ◌++◌, length, get_or, take, map, true, refl, sym, subst, ◌∙◌, ap, arith, option_and_then}
+use Rattle.std.proofs.lemmas.Option.{slice_get_within}
+use Rattle.std.proofs.lemmas.List.{get_or_append_left, length_push}
 use Rattle.std.proofs.Math.Seq.{get_or-append_seam}
 use Rattle.std.proofs.lemmas.Grind.{take_at_read}
-use Rattle.std.specs.Option.{option_and_then}
 use Rattle.fb_schema.specs.declared.flat.EnumPart.{EnumPart}
 use Rattle.fb_schema.specs.declared.views.Target.{Target}
 use Rattle.fb_schema.specs.declared.rows.MemberRow.{MemberRow}
@@ -11,7 +11,7 @@ use Rattle.fb_schema.specs.Flat.{part}
 use Rattle.fb_schema.specs.Kinds.{kind_of}
 use Rattle.fb_schema.specs.Rows.{Rows, Member, member_of_row}
 use Rattle.fb_schema.specs.Targets.{nothing, target_at, target_of, kind_among, AreTargets, HaveTargets}
-use Rattle.fb_schema.proofs.IndexLemmas.{length_one, slice_get_end, slice_get_below}
+use Rattle.fb_schema.proofs.IndexLemmas.{slice_get_end}
 use Rattle.fb_schema.proofs.Numbers.{lt_or_eq}
 use Rattle.fb_schema.proofs.UnionLemmas.{none_for_zero}
 
@@ -19,14 +19,9 @@ use Rattle.fb_schema.proofs.UnionLemmas.{none_for_zero}
 pub only_item : {X : Type 0} (old new : List X) (x : X) → old ≡ [] → new ≡ old ++ x ∷ [] → new ≡ x ∷ []
 only_item old new x e f = f ∙ ap (λ xs. xs ++ x ∷ []) e
 
-abbrev no_places : List ℕ
-no_places = 0 ∷ []
-
 pub first_place : (places : List ℕ) → places ≡ 0 ∷ [] → (k : ℕ) → get_or places k 0 ≡ 0
-first_place places e k = ap (λ ps. get_or ps k 0) e ∙ go k where
-  go : (k : ℕ) → get_or no_places k 0 ≡ 0
-  go zero = refl
-  go (suc k) = refl
+first_place places e zero = ap (λ ps. get_or ps 0 0) e
+first_place places e (suc k) = ap (λ ps. get_or ps (suc k) 0) e
 
 -- the value 0 leads to nothing
 pub zero_target : (rows : Rows) (members : List Member) → nothing ≡ target_of rows (kind_among rows members 0)
@@ -41,7 +36,7 @@ grown (p ∷ ps) place (suc k) = elim (grown ps place k) [ inl e ↦ inl e | inr
 
 module _ (places : List ℕ) (place n : ℕ) (long : length places ≡ n) where
   pub long_step : length (places ++ place ∷ []) ≡ n + 1
-  long_step = let one = length_one places place in omega (arith, one, long)
+  long_step = omega (arith, length_push places place, long)
 
   pub within_step : (old new : ℕ) → old ≤ new → place < new → ((k : ℕ) → get_or places k 0 < old) → (k : ℕ) → get_or (places ++ place ∷ []) k 0 < new
   within_step old new le lt h k = elim (grown places place k) [ inl e ↦ (let w = h k in omega arith) | inr here ↦ (let w = here.1 in omega arith) ]
@@ -66,19 +61,19 @@ module _ (places : List ℕ) (place n : ℕ) (long : length places ≡ n) where
 have_more : (rows : Rows) (all : List MemberRow) (enums : List EnumPart) (places : List (List ℕ)) (targets : List (List Target)) (row : EnumPart) (ps : List ℕ) (ts : List Target) → HaveTargets rows all enums places targets
     → (row.is_union ≡ true → AreTargets rows (map member_of_row (part all row.members)) ps ts) → HaveTargets rows all (enums ++ row ∷ []) (places ++ ps ∷ []) (targets ++ ts ∷ [])
 have_more rows all enums places targets row ps ts h r = record {
-  long_places = length_one places ps ∙ ap suc h.long_places ∙ sym (length_one enums row);
-  long_targets = length_one targets ts ∙ ap suc h.long_targets ∙ sym (length_one enums row);
+  long_places = omega (arith, length_push places ps, length_push enums row, h.long_places);
+  long_targets = omega (arith, length_push targets ts, length_push enums row, h.long_targets);
   at = λ n a b d e f k. elim (slice_get_end enums row a n e) [
     | inl old ↦ (
-        let low = slice_get_below enums a n old in
+        let low = slice_get_within enums n a old in
         elim (slice_get_end places ps b n f) [
           | inr here ↦ absurd (let m = here.0 in let l = h.long_places in omega arith)
           | inl there ↦ elim (slice_get_end targets ts d n k) [ inr here ↦ absurd (let m = here.0 in let l = h.long_targets in omega arith) | inl too ↦ h.at n a b d old there too ]
         ])
     | inr new ↦ elim (slice_get_end places ps b n f) [
-      | inl there ↦ absurd (let lt = slice_get_below places b n there in let m = new.0 in let l = h.long_places in omega arith)
+      | inl there ↦ absurd (let lt = slice_get_within places n b there in let m = new.0 in let l = h.long_places in omega arith)
       | inr here ↦ elim (slice_get_end targets ts d n k) [
-        | inl there ↦ absurd (let lt = slice_get_below targets d n there in let m = new.0 in let l = h.long_targets in omega arith)
+        | inl there ↦ absurd (let lt = slice_get_within targets n d there in let m = new.0 in let l = h.long_targets in omega arith)
         | inr last ↦ subst (λ x. x.is_union ≡ true → AreTargets rows (map member_of_row (part all x.members)) b d) new.1
             (subst (λ y. row.is_union ≡ true → AreTargets rows (map member_of_row (part all row.members)) y d) here.1
             (subst (λ z. row.is_union ≡ true → AreTargets rows (map member_of_row (part all row.members)) ps z) last.1 r))

@@ -1,12 +1,8 @@
 -- The kind of a union's member is told from where it leads.
-use Rattle.std.proofs.Common.{◌≡◌, ℕ, suc, ℤ, pos, negsuc, Bool, true, false, not, ◌&&◌, cond, List, [], ◌∷◌, slice_get, filter, Option, Some, None, refl, sym, ◌∙◌, ap, subst, find, if◌then◌else◌}
-use Rattle.std.specs.Option.{option_and_then}
-use Rattle.std.specs.Ordering.{int_eq}
-use Rattle.fb_schema.specs.declared.kinds.Kind.{Kind}
-use Rattle.fb_schema.specs.declared.kinds.Kind.TheVariants.{Struct, Table}
-use Rattle.fb_schema.specs.declared.kinds.Shape.{Shape}
-use Rattle.fb_schema.specs.declared.kinds.Shape.TheVariants.{One, Vector, Array}
-use Rattle.fb_schema.specs.declared.kinds.Element.TheVariants.{Scalar as OfScalar, Text as OfText, Object as OfObject, Union as OfUnion}
+use Rattle.std.proofs.Common.{◌≡◌, ℕ, suc, ℤ, pos, negsuc, Bool, true, false, not, ◌&&◌, cond, List, [], ◌∷◌, slice_get, filter, Option, Some, None, refl, sym, ◌∙◌, ap, subst, find, if◌then◌else◌, arith, option_and_then, int_eq}
+use Rattle.std.proofs.lemmas.Option.{same_Some}
+use Rattle.fb_schema.proofs.KindWords.{Kind, Struct, Table, Shape, One, OfText, OfObject}
+use Rattle.fb_schema.proofs.Numbers.{both_true}
 use Rattle.fb_schema.specs.Demands.{IsLegal, first_code, members_asked, member_demands, demands_of_member, demands_of_enum, is_for_member}
 use Rattle.fb_schema.specs.Kinds.{kind_of, shape_of, shape_kind, object_kind}
 use Rattle.fb_schema.specs.Members.{is_member_value, member_of, members_in}
@@ -14,9 +10,7 @@ use Rattle.fb_schema.specs.Rows.{Rows, Object, Member, Enum, entry_at}
 use Rattle.fb_schema.specs.Targets.{target_of, kind_to, kind_among}
 use Rattle.fb_schema.proofs.DemandLaws.{clear_line}
 use Rattle.fb_schema.proofs.FindLemmas.{find_filter}
-use Rattle.fb_schema.proofs.KindLemmas.{some_is}
-use Rattle.fb_schema.proofs.MemberNames.{not_none}
-use Rattle.fb_schema.proofs.UnionLemmas.{union_list}
+use Rattle.fb_schema.proofs.UnionLemmas.{union_list, not_none}
 use Rattle.fb_schema.proofs.LegalLemmas.{legal_clear}
 
 -- what is found passes the test and stands in the list
@@ -24,34 +18,26 @@ found_with : {X : Type 0} (p : X → Bool) (P : X → Type 0) (xs : List X) → 
 found_with p P [] h m e = absurd (let w : None ≡ Some m = e in cc)
 found_with p P (x ∷ xs) h m e = go (found_with p P xs (λ j y a t. h (suc j) y a t) m) (p x) refl e where
   go : (find p xs ≡ Some m → P m) → (b : Bool) → p x ≡ b → cond b (Some x) (find p xs) ≡ Some m → P m
-  go later true t e = subst P (some_is x m e) (h 0 x refl t)
+  go later true t e = subst P (same_Some x m e) (h 0 x refl t)
   go later false t e = later e
 
 object_told : (rows : Rows) (index : ℤ) (o : Option Object) → kind_to (target_of rows (object_kind index Struct Table o)) ≡ object_kind index Struct Table o
 object_told rows index None = refl
 object_told rows (negsuc k) (Some o) = refl
-object_told rows (pos k) (Some o) = go o.is_struct where
-  go : (b : Bool) → kind_to (target_of rows (Some (if b then Struct k else Table k))) ≡ Some (if b then Struct k else Table k)
-  go true = refl
-  go false = refl
+object_told rows (pos k) (Some o) = grind arith
 
 shape_told : (rows : Rows) (index : ℤ) (s : Option Shape) → is_for_member s ≡ true → kind_to (target_of rows (shape_kind rows index s)) ≡ shape_kind rows index s
 shape_told rows index None h = refl
-shape_told rows index (Some (One (OfScalar s))) h = absurd (let w : false ≡ true = h in cc)
 shape_told rows index (Some (One OfText)) h = refl
 shape_told rows index (Some (One OfObject)) h = object_told rows index (entry_at rows.objects index)
-shape_told rows index (Some (One OfUnion)) h = absurd (let w : false ≡ true = h in cc)
-shape_told rows index (Some (Vector e)) h = absurd (let w : false ≡ true = h in cc)
-shape_told rows index (Some (Array e)) h = absurd (let w : false ≡ true = h in cc)
+shape_told rows index s h = absurd (let w : false ≡ true = h in cc)
 
 type_told : (rows : Rows) (m : Member) → is_for_member (shape_of m.ty) ≡ true → kind_to (target_of rows (kind_of rows m.ty)) ≡ kind_of rows m.ty
 unfolding kind_of
 type_told rows m h = shape_told rows (m.ty).index (shape_of m.ty) h
 
 both_asked : (zero for : Bool) → zero ≡ false → (not zero && not for) ≡ false → for ≡ true
-both_asked true for z h = absurd (let w : true ≡ false = z in cc)
-both_asked false true z h = refl
-both_asked false false z h = absurd (let w : true ≡ false = h in cc)
+both_asked zero for z h = grind arith
 
 -- of members that break no demand, the kind of the one with a value is told by its target
 pub told_again : (rows : Rows) (members : List Member) → ((q : ℕ) → first_code (members_asked rows members q) ≡ None) → (value : ℕ) → kind_to (target_of rows (kind_among rows members value)) ≡ kind_among rows members value
@@ -63,14 +49,10 @@ told_again rows members clear value =
       same : find (λ m. int_eq m.value (pos value)) (filter (λ m. is_member_value m.value) members) ≡ find test members
       same = find_filter (λ m. int_eq m.value (pos value)) (λ m. is_member_value m.value) members
 
-      first : (a b : Bool) → (a && b) ≡ true → a ≡ true
-      first true b h = refl
-      first false b h = absurd (let w : false ≡ true = h in cc)
-
       holds : (j : ℕ) (m : Member) → slice_get members j ≡ Some m → test m ≡ true → is_for_member (shape_of m.ty) ≡ true
       holds j m at t =
           let c = ap first_code (sym (ap (demands_of_member rows members j) at)) ∙ clear j in
-          both_asked (int_eq m.value (pos 0)) (is_for_member (shape_of m.ty)) (not_none m.value (first (is_member_value m.value) (int_eq m.value (pos value)) t)) (clear_line (member_demands rows m _ _) c 2 _ refl)
+          both_asked (int_eq m.value (pos 0)) (is_for_member (shape_of m.ty)) (not_none m.value (both_true (is_member_value m.value) (int_eq m.value (pos value)) t).0) (clear_line (member_demands rows m _ _) c 2 _ refl)
 
       go : (found : Option Member) → find test members ≡ found → kind_to (target_of rows (option_and_then (λ (m : Member). kind_of rows m.ty) found)) ≡ option_and_then (λ (m : Member). kind_of rows m.ty) found
       go None e = refl

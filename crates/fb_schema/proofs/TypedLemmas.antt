@@ -1,13 +1,10 @@
 -- What the live fields of legal rows give.
-use Rattle.std.proofs.Common.{◌≡◌, ℕ, zero, suc, ◌+◌, ◌-◌, ◌*◌, ◌/◌, ◌<◌, ◌≤◌, ◌==◌, ◌%◌, nat_lt, inl, inr, ℤ, Bool, true, false, not, ◌&&◌, ◌||◌, List, [], ◌∷◌, slice_get, filter, Option, Some, None, refl, sym, ◌∙◌, ap, subst, arith, cond, if◌then◌else◌}
+use Rattle.std.proofs.Common.{◌≡◌, ℕ, zero, suc, ◌+◌, ◌-◌, ◌*◌, ◌/◌, ◌<◌, ◌≤◌, ◌==◌, ◌%◌, nat_lt, inl, inr, ℤ, Bool, true, false, not, ◌&&◌, ◌||◌, List, [], ◌∷◌, slice_get, filter, Option, Some, None, refl, sym, ◌∙◌, ap, subst, arith, cond, if◌then◌else◌, IfSome}
+use Rattle.std.proofs.lemmas.Option.{MatchOption-at_some}
+use Rattle.std.proofs.lemmas.List.Folds.{Any-from_list_any}
 use Rattle.std.proofs.lemmas.Bool.Decides.{Decides-eqb, nat_tests}
 use Rattle.std.specs.List.{Contains, list_any}
-use Rattle.fb_schema.specs.declared.kinds.Kind.{Kind}
-use Rattle.fb_schema.specs.declared.kinds.Kind.TheVariants.{Scalar, Text, Struct, Table, Union, Scalars, Texts, Structs, Tables, Unions}
-use Rattle.fb_schema.specs.declared.kinds.Scalar.TheVariants.{UType, Bool as AsBool, Byte, UByte, Short, UShort, Int, UInt, Long, ULong, Float, Double}
-use Rattle.fb_schema.specs.declared.kinds.Element.TheVariants.{Scalar as OfScalar, Text as OfText, Object as OfObject, Union as OfUnion}
-use Rattle.fb_schema.specs.declared.kinds.Shape.{Shape}
-use Rattle.fb_schema.specs.declared.kinds.Shape.TheVariants.{One, Vector, Array}
+use Rattle.fb_schema.specs.declared.kinds.Scalar.TheVariants.{UType}
 use Rattle.fb_schema.specs.declared.kinds.TypeField.{TypeField}
 use Rattle.fb_schema.specs.declared.kinds.TypeField.TheVariants.{ForUnion, ForUnions}
 use Rattle.fb_schema.specs.Demands.{IsLegal, table_field_demands, stands_before, same_slot, stands_below, is_type_field, lacks_type_field, is_union_shape, names_no_union}
@@ -15,22 +12,18 @@ use Rattle.fb_schema.specs.Kinds.{kind_of, shape_of, shape_kind, kind_size, kind
 use Rattle.fb_schema.specs.Live.{Live, live_fields, live_rows, live_as, by_slot, is_live, widest, AreSpaced}
 use Rattle.fb_schema.specs.Rows.{Rows, Field, Object, entry_at, is_some_union}
 use Rattle.fb_schema.specs.Served.{IsAlignment, KindHolds, HasTypeField, IsTyped, IsServed}
+use Rattle.fb_schema.proofs.KindWords.{Kind, Scalar, Struct, Table, Union, Scalars, Structs, Tables, Unions, OfScalar, OfObject, OfUnion, Shape, One, Vector}
 use Rattle.fb_schema.proofs.DemandLaws.{clear_line}
-use Rattle.fb_schema.proofs.KindLemmas.{NamesObject, NamesUnion, names_object, union_of_shape, object_kind_is, union_kind_is, some_is, member_holds}
+use Rattle.fb_schema.proofs.KindLemmas.{NamesObject, NamesUnion, names_object, union_of_shape, object_kinds, union_kinds, member_holds, power_of}
 use Rattle.fb_schema.proofs.Kinded.{listed, row_of, field_sized}
 use Rattle.fb_schema.proofs.LiveLemmas.{Rises, sorted_members}
 use Rattle.fb_schema.proofs.LookLemmas.{within_widest}
-use Rattle.fb_schema.proofs.Numbers.{le_or_lt, lt_or_eq}
+use Rattle.fb_schema.proofs.Numbers.{le_or_lt, lt_or_eq, not_false, neither_below}
 use Rattle.fb_schema.proofs.PartLemmas.{parts_fit}
 use Rattle.fb_schema.proofs.RowLemmas.{contains_at, place_in, rises_at, IsRowOf, row_in, asked, live_line, rows_rise}
 
--- Places of lists.
 any_found : {X : Type 0} (p : X → Bool) (xs : List X) → list_any p xs ≡ true → (x : X) × Contains xs x × (p x ≡ true)
-any_found p [] h = absurd (let w : false ≡ true = h in cc)
-any_found {X} p (x ∷ xs) h = go (p x) refl h (any_found p xs) where
-  go : (b : Bool) → p x ≡ b → (b || list_any p xs) ≡ true → (list_any p xs ≡ true → (y : X) × Contains xs y × (p y ≡ true)) → (y : X) × Contains (x ∷ xs) y × (p y ≡ true)
-  go true e h later = (x, (0, omega arith, refl), e)
-  go false e h later = let w = later h in (w.0, (suc w.1.0, omega (arith, w.1.1), w.1.2), w.2)
+any_found p xs h = let a = Any-from_list_any p xs h in (a.1, (a.0, a.2, a.3), a.4)
 
 filter_keeps : {X : Type 0} (p : X → Bool) (xs : List X) (k : ℕ) (z : X) → slice_get xs k ≡ Some z → p z ≡ true → Contains (filter p xs) z
 filter_keeps p [] k z e q = absurd (let w : None ≡ Some z = e in cc)
@@ -52,39 +45,27 @@ place_below fs r i j f g a b lt = elim (le_or_lt i j) [
   | inr less ↦ less
 ]
 
--- Kinds.
 scalar_aligned : (s : _) → IsAlignment (scalar_size s)
-scalar_aligned UType = (0, refl)
-scalar_aligned AsBool = (0, refl)
-scalar_aligned Byte = (0, refl)
-scalar_aligned UByte = (0, refl)
-scalar_aligned Short = (1, refl)
-scalar_aligned UShort = (1, refl)
-scalar_aligned Int = (2, refl)
-scalar_aligned UInt = (2, refl)
-scalar_aligned Long = (3, refl)
-scalar_aligned ULong = (3, refl)
-scalar_aligned Float = (2, refl)
-scalar_aligned Double = (3, refl)
+scalar_aligned s = power_of (scalar_size s) (0 ∷ 1 ∷ 2 ∷ 3 ∷ []) (is_one s) where
+  is_one : (s : _) → list_any (λ a. scalar_size s == a) (1 ∷ 2 ∷ 4 ∷ 8 ∷ []) ≡ true
+  is_one UType = refl
+  is_one s = refl
 
 kind_holds : (rows : Rows) (f : Live) (kind : Kind) → f.align ≡ kind_align rows kind → NamesObject rows kind → NamesUnion rows kind → KindHolds rows f kind
 kind_holds rows f (Scalar s) e h u = subst IsAlignment (sym e) (scalar_aligned s)
-kind_holds rows f Text e h u = tt
-kind_holds rows f (Struct k) e h u = subst IsAlignment (sym e) h.1
-kind_holds rows f (Table k) e h u = h
-kind_holds rows f (Union k) e h u = u
 kind_holds rows f (Scalars s) e h u = subst IsAlignment (sym e) (scalar_aligned s)
-kind_holds rows f Texts e h u = tt
+kind_holds rows f (Struct k) e h u = subst IsAlignment (sym e) h.1
 kind_holds rows f (Structs k) e h u = subst IsAlignment (sym e) h.1
-kind_holds rows f (Tables k) e h u = h
+kind_holds rows f (Union k) e h u = u
 kind_holds rows f (Unions k) e h u = u
+kind_holds rows f kind e h u = h
 
 -- the union of a live field is there
 union_named : (rows : Rows) → IsLegal rows → (k i : ℕ) (o : Object) (g : Field) → IsRowOf rows k i o g → (kind : Kind) → kind_of rows g.ty ≡ Some kind → NamesUnion rows kind
 unfolding kind_of names_no_union
 union_named rows legal k i o g r kind e =
     let line = clear_line (table_field_demands rows g _ _ _ _) (asked rows legal k i o g r) 4 _ refl in
-    union_of_shape rows g.ty.index (shape_of g.ty) kind e (live_line g.deprecated (is_union_shape (shape_of g.ty) && not (is_some_union (entry_at rows.enums g.ty.index))) line r.live)
+    MatchOption-at_some _ (NamesUnion rows) kind e (union_of_shape rows g.ty.index (shape_of g.ty) (live_line g.deprecated (is_union_shape (shape_of g.ty) && not (is_some_union (entry_at rows.enums g.ty.index))) line r.live))
 
 -- what a live field's kind names is there
 pub field_holds : (rows : Rows) → IsLegal rows → (k i : ℕ) (f : Live) → slice_get (live_fields rows k) i ≡ Some f → KindHolds rows f f.kind
@@ -93,43 +74,26 @@ field_holds rows legal k i f e =
     subst (λ (f : Live). KindHolds rows f f.kind) (sym r.same)
     (kind_holds rows (live_as rows (live_rows r.object) r.field r.kind) r.kind refl (names_object rows legal r.field.ty r.kind r.kind_is) (union_named rows legal k i r.object r.field r.row r.kind r.kind_is))
 
--- Type fields.
-scalar_type : (s : _) → is_type_field ForUnion (Some (One (OfScalar s))) ≡ true → Some (Scalar s) ≡ Some (Scalar UType)
-scalar_type UType h = refl
-scalar_type s h = absurd (let w : false ≡ true = h in cc)
-
-scalars_type : (s : _) → is_type_field ForUnions (Some (Vector (OfScalar s))) ≡ true → Some (Scalars s) ≡ Some (Scalars UType)
-scalars_type UType h = refl
-scalars_type s h = absurd (let w : false ≡ true = h in cc)
-
-byte_shape : (rows : Rows) (index : ℤ) (s : Option Shape) → is_type_field ForUnion s ≡ true → shape_kind rows index s ≡ Some (Scalar UType)
-byte_shape rows index (Some (One (OfScalar s))) h = scalar_type s h
-byte_shape rows index s h = absurd (let w : false ≡ true = h in cc)
-
-bytes_shape : (rows : Rows) (index : ℤ) (s : Option Shape) → is_type_field ForUnions s ≡ true → shape_kind rows index s ≡ Some (Scalars UType)
-bytes_shape rows index (Some (Vector (OfScalar s))) h = scalars_type s h
-bytes_shape rows index s h = absurd (let w : false ≡ true = h in cc)
-
 -- the kind of a type field
-type_kind : TypeField → Kind
+abbrev type_kind : TypeField → Kind
 type_kind ForUnion = Scalar UType
 type_kind ForUnions = Scalars UType
 
+type_shape : (rows : Rows) (index : ℤ) (wanted : TypeField) (s : Option Shape) → is_type_field wanted s ≡ true → shape_kind rows index s ≡ Some (type_kind wanted)
+type_shape rows index ForUnion (Some (One (OfScalar UType))) h = refl
+type_shape rows index ForUnions (Some (Vector (OfScalar UType))) h = refl
+type_shape rows index wanted s h = absurd (let w : false ≡ true = h in cc)
+
 kind_of_type : (rows : Rows) (wanted : TypeField) (h : Field) → is_type_field wanted (shape_of h.ty) ≡ true → kind_of rows h.ty ≡ Some (type_kind wanted)
-unfolding kind_of type_kind
-kind_of_type rows ForUnion h e = byte_shape rows h.ty.index (shape_of h.ty) e
-kind_of_type rows ForUnions h e = bytes_shape rows h.ty.index (shape_of h.ty) e
+unfolding kind_of
+kind_of_type rows wanted h e = type_shape rows h.ty.index wanted (shape_of h.ty) e
 
 size_of_type : (rows : Rows) (wanted : TypeField) → kind_size rows (type_kind wanted) ≡ 1
-unfolding type_kind
 size_of_type rows ForUnion = refl
 size_of_type rows ForUnions = refl
 
 three : (a b c : Bool) → (a && b && c) ≡ true → (a ≡ true) × (b ≡ true) × (c ≡ true)
-three true true true h = (refl, refl, refl)
-three true true false h = absurd (let w : false ≡ true = h in cc)
-three true false c h = absurd (let w : false ≡ true = h in cc)
-three false b c h = absurd (let w : false ≡ true = h in cc)
+three a b c h = grind arith
 
 -- a live row has a place among the live rows
 live_place : (o : Object) (h : Field) → o.is_struct ≡ false → Contains o.fields h → is_live h ≡ true → (j : ℕ) × (slice_get (live_rows o) j ≡ Some h)
@@ -161,21 +125,12 @@ HasAsked byte vector (Union e) = byte ≡ true
 HasAsked byte vector (Unions e) = vector ≡ true
 HasAsked byte vector _ = Unit {0}
 
-affirmed : (b : Bool) → not b ≡ false → b ≡ true
-affirmed true h = refl
-affirmed false h = absurd (let w : true ≡ false = h in cc)
-
-has_asked : (rows : Rows) (byte vector : Bool) (index : ℤ) (s : Option Shape) (kind : Kind) → shape_kind rows index s ≡ Some kind → lacks_type_field s byte vector ≡ false → HasAsked byte vector kind
-has_asked rows byte vector index None kind e h = absurd (let w : None ≡ Some kind = e in cc)
-has_asked rows byte vector index (Some (One (OfScalar s))) kind e h = subst (HasAsked byte vector) (some_is (Scalar s) kind e) tt
-has_asked rows byte vector index (Some (One OfText)) kind e h = subst (HasAsked byte vector) (some_is Text kind e) tt
-has_asked rows byte vector index (Some (One OfObject)) kind e h = object_kind_is (HasAsked byte vector) Struct Table (λ k. tt) (λ k. tt) index (entry_at rows.objects index) kind e
-has_asked rows byte vector index (Some (One OfUnion)) kind e h = union_kind_is (HasAsked byte vector) Union (λ k. affirmed byte h) index (entry_at rows.enums index) kind e
-has_asked rows byte vector index (Some (Vector (OfScalar s))) kind e h = subst (HasAsked byte vector) (some_is (Scalars s) kind e) tt
-has_asked rows byte vector index (Some (Vector OfText)) kind e h = subst (HasAsked byte vector) (some_is Texts kind e) tt
-has_asked rows byte vector index (Some (Vector OfObject)) kind e h = object_kind_is (HasAsked byte vector) Structs Tables (λ k. tt) (λ k. tt) index (entry_at rows.objects index) kind e
-has_asked rows byte vector index (Some (Vector OfUnion)) kind e h = union_kind_is (HasAsked byte vector) Unions (λ k. affirmed vector h) index (entry_at rows.enums index) kind e
-has_asked rows byte vector index (Some (Array s)) kind e h = absurd (let w : None ≡ Some kind = e in cc)
+has_asked : (rows : Rows) (byte vector : Bool) (index : ℤ) (s : Option Shape) → lacks_type_field s byte vector ≡ false → IfSome (shape_kind rows index s) (HasAsked byte vector)
+has_asked rows byte vector index (Some (One OfObject)) h = object_kinds rows (HasAsked byte vector) Struct Table index (λ _ _ _ _ _. tt) (λ _ _ _ _ _. tt)
+has_asked rows byte vector index (Some (One OfUnion)) h = union_kinds rows (HasAsked byte vector) Union index (λ _ _ _ _. not_false byte h)
+has_asked rows byte vector index (Some (Vector OfObject)) h = object_kinds rows (HasAsked byte vector) Structs Tables index (λ _ _ _ _ _. tt) (λ _ _ _ _ _. tt)
+has_asked rows byte vector index (Some (Vector OfUnion)) h = union_kinds rows (HasAsked byte vector) Unions index (λ _ _ _ _. not_false vector h)
+has_asked rows byte vector index s h = tt
 
 kind_typed : (fs : List Live) (i slot : ℕ) (byte vector : Bool) (kind : Kind) → HasAsked byte vector kind → (byte ≡ true → HasTypeField fs i slot (Scalar UType)) → (vector ≡ true → HasTypeField fs i slot (Scalars UType)) → IsTyped fs i slot kind
 kind_typed fs i slot byte vector (Union e) h one many = one h
@@ -183,12 +138,12 @@ kind_typed fs i slot byte vector (Unions e) h one many = many h
 kind_typed fs i slot byte vector kind h one many = tt
 
 row_typed : (rows : Rows) → IsLegal rows → (k i : ℕ) (o : Object) (g : Field) → IsRowOf rows k i o g → (kind : Kind) → kind_of rows g.ty ≡ Some kind → IsTyped (live_fields rows k) i g.slot kind
-unfolding kind_of type_kind
+unfolding kind_of
 row_typed rows legal k i o g r kind e =
     let byte = stands_below ForUnion o.fields g.slot in
     let vector = stands_below ForUnions o.fields g.slot in
     let line = live_line g.deprecated (lacks_type_field (shape_of g.ty) byte vector) (clear_line (table_field_demands rows g _ _ _ _) (asked rows legal k i o g r) 5 _ refl) r.live in
-    kind_typed (live_fields rows k) i g.slot byte vector kind (has_asked rows byte vector g.ty.index (shape_of g.ty) kind e line) (type_before rows legal k i o g r ForUnion) (type_before rows legal k i o g r ForUnions)
+    kind_typed (live_fields rows k) i g.slot byte vector kind (MatchOption-at_some _ (HasAsked byte vector) kind e (has_asked rows byte vector g.ty.index (shape_of g.ty) line)) (type_before rows legal k i o g r ForUnion) (type_before rows legal k i o g r ForUnions)
 
 -- a live union has its type field before it
 pub field_typed : (rows : Rows) → IsLegal rows → (k i : ℕ) (f : Live) → slice_get (live_fields rows k) i ≡ Some f → IsTyped (live_fields rows k) i f.slot f.kind
@@ -198,9 +153,7 @@ field_typed rows legal k i f e =
 
 -- Slots.
 asked_of_slot : (a b c : Bool) → (not a || b || c) ≡ false → (a ≡ true) × (b ≡ false)
-asked_of_slot false b c h = absurd (let w : true ≡ false = h in cc)
-asked_of_slot true true c h = absurd (let w : true ≡ false = h in cc)
-asked_of_slot true false c h = (refl, refl)
+asked_of_slot a b c h = grind arith
 
 abbrev IsSlot : Field → Type 0
 IsSlot f = (f.slot % 2 ≡ 0) × (4 ≤ f.slot)
@@ -211,9 +164,7 @@ row_slot rows legal k i o f r =
     let is = asked_of_slot (f.slot % 2 == 0) (nat_lt f.slot 4) (stands_before same_slot o.fields r.place f) line in
     ((Decides-eqb (f.slot % 2) 0).0 is.0, at_least f.slot is.1) where
       at_least : (n : ℕ) → nat_lt n 4 ≡ false → 4 ≤ n
-      at_least n h = elim (le_or_lt 4 n) [ inl le ↦ le | inr lt ↦ absurd (let w : true ≡ false = sym (below n lt) ∙ h in cc) ] where
-        below : (n : ℕ) → n < 4 → nat_lt n 4 ≡ true
-        below n lt = grind (arith, nat_tests)
+      at_least n h = grind (arith, nat_tests, h)
 
 spaced_from : (low : ℕ) (fs : List Field) → low % 2 ≡ 0 → Rises fs → ((f : Field) → Contains fs f → (f.slot % 2 ≡ 0) × (low ≤ f.slot)) → (i : ℕ) (f : Field) → slice_get fs i ≡ Some f → low + 2 * i ≤ f.slot
 spaced_from low [] even r all i f e = absurd (let w : None ≡ Some f = e in cc)
@@ -269,10 +220,7 @@ numbers_apart rows legal k i j f g a b e =
     let n : ((p.field).slot - 4) / 2 ≡ ((q.field).slot - 4) / 2 = sym (ap (λ (f : Live). f.number) p.same) ∙ e ∙ ap (λ (f : Live). f.number) q.same in
     let one = same_number (p.field).slot (q.field).slot s.0 s.1 t.0 t.1 n in
     let here : f.slot ≡ g.slot = ap (λ (f : Live). f.slot) p.same ∙ one ∙ sym (ap (λ (f : Live). f.slot) q.same) in
-    elim (le_or_lt i j) [
-      | inl le ↦ elim (lt_or_eq i j le) [ inl lt ↦ absurd (let w = fields_rise rows legal k i j f g a b lt in omega arith) | inr same ↦ same ]
-      | inr lt ↦ absurd (let w = fields_rise rows legal k j i g f b a lt in omega arith)
-    ]
+    neither_below i j (λ lt. let w = fields_rise rows legal k i j f g a b lt in omega arith) (λ lt. let w = fields_rise rows legal k j i g f b a lt in omega arith)
 
 -- What legal rows give, where no table has more live fields than slots.
 pub served_by : (rows : Rows) → IsLegal rows → widest rows ≤ 32766 → IsServed rows

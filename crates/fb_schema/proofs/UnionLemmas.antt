@@ -1,17 +1,14 @@
 -- The members of a union of legal rows.
-use Rattle.std.proofs.Common.{◌≡◌, ℕ, zero, suc, ◌<◌, ℤ, pos, Bool, true, false, ◌&&◌, List, [], ◌∷◌, length, get_or, slice_get, filter, map, Option, Some, None, IsTrue, refl, sym, ◌∙◌, ap, arith, find, if◌then◌else◌}
+use Rattle.std.proofs.Common.{◌≡◌, ℕ, zero, suc, ◌<◌, ℤ, pos, Bool, true, false, ◌&&◌, List, [], ◌∷◌, length, get_or, slice_get, filter, map, Option, Some, None, IsTrue, refl, sym, ◌∙◌, ap, arith, find, if◌then◌else◌, int_cmp, int_eq, option_and_then, Equal}
+use Rattle.fb_schema.proofs.Search.{not_true}
 use Rattle.std.proofs.lemmas.Bool.Decides.{nat_tests}
 use Rattle.std.proofs.lemmas.List.{length-map, get_or-map}
 use Rattle.std.specs.Cmp.{Equal-is, signed_Decides}
-use Rattle.std.specs.Ordering.{int_cmp, int_eq}
-use Rattle.std.specs.Option.{option_and_then}
-use Rattle.std.specs.declared.cmp.Ordering.TheVariants.{Equal}
 use Rattle.std.proofs.lemmas.Cmp.{int_cmp_total}
 use Rattle.fb_schema.specs.declared.flat.EnumPart.{EnumPart}
 use Rattle.fb_schema.specs.declared.rows.MemberRow.{MemberRow}
-use Rattle.fb_schema.specs.Demands.{Demand, IsLegal, first_code, members_asked, demands_of_enum}
+use Rattle.fb_schema.specs.Demands.{IsLegal, first_code, members_asked, demands_of_enum}
 use Rattle.fb_schema.specs.Kinds.{kind_of}
-use Rattle.fb_schema.specs.Matched.{AreMatched}
 use Rattle.fb_schema.specs.Members.{is_member_value, member_of, members_in}
 use Rattle.fb_schema.specs.Sorting.{member_value}
 use Rattle.fb_schema.specs.Rows.{Rows, Member, Enum, member_of_row, is_some_union}
@@ -20,7 +17,7 @@ use Rattle.fb_schema.specs.FlatRows.{enum_in}
 use Rattle.fb_schema.proofs.FindLemmas.{find_filter, found_item, no_item}
 use Rattle.fb_schema.proofs.LegalLemmas.{legal_clear}
 use Rattle.fb_schema.proofs.MemberLemmas.{value_not_again}
-use Rattle.fb_schema.proofs.Numbers.{slice_get_some}
+use Rattle.fb_schema.proofs.Numbers.{slice_get_some, both_true, all_true}
 use Rattle.fb_schema.proofs.PlaceLemmas.{alike_one}
 use Rattle.fb_schema.proofs.WalkLemmas.{mapped_at}
 
@@ -30,24 +27,15 @@ union_at all [] n h = absurd (let w : false ≡ true = h in cc)
 union_at all (e ∷ es) zero h = (e, refl, h)
 union_at all (e ∷ es) (suc n) h = union_at all es n h
 
-pub read_within : {X : Type 0} (xs : List X) (n : ℕ) (x : X) → slice_get xs n ≡ Some x → n < length xs
-read_within [] n x e = absurd (let w : None ≡ Some x = e in cc)
-read_within (y ∷ ys) zero x e = omega arith
-read_within (y ∷ ys) (suc n) x e = let w = read_within ys n x e in omega arith
+pub union_list : {X : Type 0} (b : Bool) (xs : List X) → b ≡ true → (if b then xs else []) ≡ xs
+union_list b xs e = grind arith
 
--- what a matched list has at a place
-pub matched_at : {X Y : Type 0} (R : X → Y → Type 0) (xs : List X) (ys : List Y) (n : ℕ) (x : X) → AreMatched R xs ys → slice_get xs n ≡ Some x → (y : Y) × (slice_get ys n ≡ Some y) × R x y
-matched_at R xs ys n x h at =
-    let y = slice_get_some ys n (let w = read_within xs n x at in let l = h.long in omega arith) in
-    (y.0, y.1, h.at n x y.0 at y.1)
+-- a member's value is from 1 to 255
+pub real_value : (v : ℕ) → 0 < v → v < 256 → is_member_value (pos v) ≡ true
+real_value v a b = grind (arith, nat_tests)
 
-pub union_list : (b : Bool) (ds : List Demand) → b ≡ true → (if b then ds else []) ≡ ds
-union_list true ds e = refl
-union_list false ds e = absurd (let w : false ≡ true = e in cc)
-
-union_members : (b : Bool) (ms : List Member) → b ≡ true → (if b then ms else []) ≡ ms
-union_members true ms e = refl
-union_members false ms e = absurd (let w : false ≡ true = e in cc)
+pub not_none : (z : ℤ) → is_member_value z ≡ true → int_eq z (pos 0) ≡ false
+not_none z h = not_true (int_eq z (pos 0)) (λ e. let w : true ≡ false = sym h ∙ ap is_member_value ((signed_Decides z (pos 0)).0 e) in cc)
 
 -- no member of a union of legal rows breaks a demand
 pub members_clear : (rows : Rows) (all : List MemberRow) (enums : List EnumPart) → rows.enums ≡ map (enum_in all) enums → IsLegal rows → (n : ℕ) (row : EnumPart) → slice_get enums n ≡ Some row → row.is_union ≡ true → (q : ℕ) → first_code (members_asked rows (map member_of_row (part all row.members)) q) ≡ None
@@ -60,30 +48,17 @@ members_clear rows all enums same legal n row at union q =
 pub members_read : (rows : Rows) (all : List MemberRow) (enums : List EnumPart) → rows.enums ≡ map (enum_in all) enums → (n : ℕ) (row : EnumPart) → slice_get enums n ≡ Some row → row.is_union ≡ true → members_in (slice_get rows.enums n) ≡ filter (λ m. is_member_value m.value) (map member_of_row (part all row.members))
 members_read rows all enums same n row at union =
     ap members_in (ap (λ es. slice_get es n) same ∙ mapped_at (enum_in all) enums n row at)
-    ∙ union_members row.is_union (filter (λ m. is_member_value m.value) (map member_of_row (part all row.members))) union
-
-pub both_true : (a b : Bool) → (a && b) ≡ true → b ≡ true
-both_true true b h = h
-both_true false b h = absurd (let w : false ≡ true = h in cc)
-
-pub all_true : (a b : Bool) → a ≡ true → b ≡ true → (a && b) ≡ true
-all_true true b e h = h
-all_true false b e h = absurd (let w : false ≡ true = e in cc)
+    ∙ union_list row.is_union (filter (λ m. is_member_value m.value) (map member_of_row (part all row.members))) union
 
 module _ (rows : Rows) (members : List MemberRow) (clear : (q : ℕ) → first_code (members_asked rows (map member_of_row members) q) ≡ None) where
-  test : ℕ → Member → Bool
+  abbrev test : ℕ → Member → Bool
   test v y = is_member_value y.value && int_eq y.value (pos v)
 
-  real_value : (v : ℕ) → 0 < v → v < 256 → is_member_value (pos v) ≡ true
-  real_value v a b = grind (arith, nat_tests)
-
   passes : (v : ℕ) → 0 < v → v < 256 → (y : Member) → y.value ≡ pos v → test v y ≡ true
-  unfolding test
   passes v a b y e = all_true (is_member_value y.value) (int_eq y.value (pos v)) (ap is_member_value e ∙ real_value v a b) ((signed_Decides y.value (pos v)).1 e)
 
   named : (v : ℕ) (y : Member) → test v y ≡ true → y.value ≡ pos v
-  unfolding test
-  named v y h = (signed_Decides y.value (pos v)).0 (both_true (is_member_value y.value) (int_eq y.value (pos v)) h)
+  named v y h = (signed_Decides y.value (pos v)).0 (both_true (is_member_value y.value) (int_eq y.value (pos v)) h).1
 
   at_row : (k : ℕ) (x : MemberRow) → k < length members → get_or (map member_of_row members) k (member_of_row x) ≡ member_of_row (get_or members k x)
   at_row k x lt = get_or-map member_of_row members k x (member_of_row x) lt
@@ -94,7 +69,6 @@ module _ (rows : Rows) (members : List MemberRow) (clear : (q : ℕ) → first_c
   -- the member that the place of a value names is the one that is found
   pub value_found : (v k : ℕ) (x : MemberRow) → 0 < v → v < 256 → k < length members → ((d : ℤ) → int_cmp (get_or (map member_value members) k d) (pos v) ≡ Equal)
       → find (λ m. int_eq m.value (pos v)) (filter (λ m. is_member_value m.value) (map member_of_row members)) ≡ Some (member_of_row (get_or members k x))
-  unfolding test
   value_found v k x a b lt h =
       let here : (get_or members k x).value ≡ pos v = value_of v k x lt h in
       find_filter (λ m. int_eq m.value (pos v)) (λ m. is_member_value m.value) (map member_of_row members)
@@ -107,7 +81,6 @@ module _ (rows : Rows) (members : List MemberRow) (clear : (q : ℕ) → first_c
 
   pub value_missing : (v : ℕ) → ((k : ℕ) (d : ℤ) → k < length members → int_cmp (get_or (map member_value members) k d) (pos v) ≡ Equal → ⊥)
       → find (λ m. int_eq m.value (pos v)) (filter (λ m. is_member_value m.value) (map member_of_row members)) ≡ None
-  unfolding test
   value_missing v never =
       find_filter (λ m. int_eq m.value (pos v)) (λ m. is_member_value m.value) (map member_of_row members)
       ∙ no_item (test v) (map member_of_row members) (λ j d within e.
@@ -124,22 +97,14 @@ unfolding member_of
 member_of_row_is rows all enums same n row at union v = ap (λ ms. option_and_then (λ (m : Member). kind_of rows m.ty) (find (λ m. int_eq m.value (pos v)) ms)) (members_read rows all enums same n row at union)
 
 zero_test : (z : ℤ) → (is_member_value z && int_eq z (pos 0)) ≡ true → ⊥
-zero_test z h = go z ((signed_Decides z (pos 0)).0 (both_true (is_member_value z) (int_eq z (pos 0)) h)) h where
-  go : (z : ℤ) → z ≡ pos 0 → (is_member_value z && int_eq z (pos 0)) ≡ true → ⊥
-  go z e h = let w : false ≡ true = ap (λ z. is_member_value z && int_eq z (pos 0)) (sym e) ∙ h in cc
+zero_test z h = let both = both_true (is_member_value z) (int_eq z (pos 0)) h in let w : true ≡ false = sym both.1 ∙ not_none z both.0 in cc
 
 pub none_for_zero : (ms : List Member) → find (λ m. int_eq m.value (pos 0)) (filter (λ m. is_member_value m.value) ms) ≡ None
 none_for_zero ms = find_filter (λ m. int_eq m.value (pos 0)) (λ m. is_member_value m.value) ms ∙ no_item (λ m. is_member_value m.value && int_eq m.value (pos 0)) ms (λ j d lt e. zero_test (get_or ms j d).value e)
 
 none_in : (b : Bool) (ms : List Member) → find (λ m. int_eq m.value (pos 0)) (if b then filter (λ m. is_member_value m.value) ms else []) ≡ None
-none_in true ms = none_for_zero ms
-none_in false ms = refl
+none_in b ms = grind (arith, none_for_zero ms)
 
 pub none_of : (e : Option Enum) → find (λ m. int_eq m.value (pos 0)) (members_in e) ≡ None
 none_of None = refl
 none_of (Some e) = none_in e.is_union e.members
-
--- the value 0 is no member's
-pub member_of_zero : (rows : Rows) (n : ℕ) → member_of rows n 0 ≡ None
-unfolding member_of
-member_of_zero rows n = ap (option_and_then (λ (m : Member). kind_of rows m.ty)) (none_of (slice_get rows.enums n))

@@ -1,18 +1,13 @@
 -- The steps of the walk over the rows.
-use Rattle.std.proofs.Common.{◌≡◌, ℕ, ◌<◌, ◌≤◌, ℤ, inl, inr, Bool, true, false, not, ◌||◌, ◌==◌, ◌%◌, nat_lt, List, [], length, slice_get, map, Option, Some, None, refl, sym, ◌∙◌, ap, arith, Decides}
+use Rattle.std.proofs.Common.{◌≡◌, ℕ, ◌<◌, ◌≤◌, ℤ, inl, inr, Bool, false, not, ◌||◌, ◌==◌, ◌%◌, nat_lt, List, [], length, slice_get, map, Option, Some, None, refl, sym, ◌∙◌, ap, arith, Decides, option_map, Bor, nat_cmp, int_cmp, bytes_eq, Equal}
 use Rattle.std.proofs.lemmas.List.{length-map}
 use Rattle.std.proofs.lemmas.Option.{slice_get-map}
 use Rattle.std.proofs.lemmas.Slice.Eq.{bytes_eq-Decides}
 use Rattle.std.proofs.lemmas.Bool.Decides.{Decides-eqb}
 use Rattle.std.proofs.lemmas.Cmp.{nat_list_cmp_total, nat_cmp_total, tied_itself, on_total}
 use Rattle.std.proofs.lemmas.Map.Lookups.{exact_bytes}
-use Rattle.std.specs.Option.{option_map}
-use Rattle.std.specs.Borrow.{Bor}
 use Rattle.std.specs.Cmp.{Equal-is, IsTotalOrder}
 use Rattle.std.specs.Cmp.Lexicographic.{slice_cmp}
-use Rattle.std.specs.Ordering.{nat_cmp, int_cmp}
-use Rattle.std.specs.Str.{bytes_eq}
-use Rattle.std.specs.declared.cmp.Ordering.TheVariants.{Equal}
 use Rattle.fb_schema.specs.declared.flat.ObjectPart.{ObjectPart}
 use Rattle.fb_schema.specs.declared.rows.FieldRow.{FieldRow}
 use Rattle.fb_schema.specs.declared.rows.MemberRow.{MemberRow}
@@ -21,9 +16,9 @@ use Rattle.fb_schema.specs.Rows.{Rows, field_of, member_of_row}
 use Rattle.fb_schema.specs.FlatRows.{object_in}
 use Rattle.fb_schema.specs.Demands.{Demand, is_at, first_code, stands_before, same_object_name, same_field_name, same_slot, same_value, struct_field_demands, struct_asked, demands_of_struct_field, Demand, table_field_demands, table_asked, demands_of_table_field, stands_below}
 use Rattle.fb_schema.specs.declared.kinds.TypeField.TheVariants.{ForUnion, ForUnions}
-use Rattle.fb_schema.proofs.DemandLaws.{passed_over, clear_line}
-use Rattle.fb_schema.proofs.KeyLemmas.{test_from_again, is_at_test}
-use Rattle.fb_schema.proofs.Numbers.{slice_get_some, slice_get_past, le_or_lt}
+use Rattle.fb_schema.proofs.DemandLaws.{clear_line}
+use Rattle.fb_schema.proofs.KeyLemmas.{is_at_test, never_again}
+use Rattle.fb_schema.proofs.Numbers.{slice_get_past, le_or_lt}
 use Rattle.fb_schema.proofs.Search.{nat_tied}
 
 pub names_agree : (a b : List ℕ) → Decides (bytes_eq a b) (slice_cmp nat_cmp a b ≡ Equal)
@@ -68,12 +63,8 @@ module _ (rows : Rows) (bytesize : ℤ) (fields : List FieldRow) where
   struct_at p row at = ap (demands_of_struct_field rows bytesize (map field_of fields) p) (mapped_at field_of fields p row at)
 
   not_again_struct : (q : ℕ) → first_code (struct_asked rows bytesize (map field_of fields) q) ≡ None → IsAgain name_cmp (map field_name fields) q → ⊥
-  not_again_struct q clear a =
-      let here = slice_get_some fields q (rw length-map at a.within) in
-      let c : first_code (struct_field_demands rows bytesize (field_of here.0) (stands_before same_field_name (map field_of fields) q (field_of here.0))) ≡ None = ap first_code (sym (struct_at q here.0 here.1)) ∙ clear in
-      let new = (passed_over _ _ _ c).0 in
-      let old = test_from_again name_cmp field_name field_of same_field_name field_names_agree fields q here.0 here.1 a in
-      let w : true ≡ false = sym old ∙ new in cc
+  not_again_struct q clear a = never_again name_cmp field_name field_of same_field_name field_names_agree fields q a
+      (λ row at. clear_line (struct_field_demands rows bytesize (field_of row) _) (ap first_code (sym (struct_at q row at)) ∙ clear) 0 _ refl)
 
   -- what the walk computes at p is what is demanded there
   pub struct_code : (p : ℕ) (row : FieldRow) (first : Option ℕ) (named : Bool) → slice_get fields p ≡ Some row → IsFirstAgain name_cmp (map field_name fields) first
@@ -89,37 +80,22 @@ module _ (rows : Rows) (bytesize : ℤ) (fields : List FieldRow) where
 
 -- Tables.
 pub or_false : (a b c : Bool) → (a || b || c) ≡ false → c ≡ false
-or_false true b c e = absurd (let w : true ≡ false = e in cc)
-or_false false true c e = absurd (let w : true ≡ false = e in cc)
-or_false false false c e = e
+or_false a b c e = grind arith
 
 module _ (rows : Rows) (fields : List FieldRow) where
-  table_asked_at : ℕ → FieldRow → List Demand
+  abbrev table_asked_at : ℕ → FieldRow → List Demand
   table_asked_at p row = table_field_demands rows (field_of row) (stands_before same_field_name (map field_of fields) p (field_of row)) (stands_before same_slot (map field_of fields) p (field_of row))
       (stands_below ForUnion (map field_of fields) row.slot) (stands_below ForUnions (map field_of fields) row.slot)
 
   table_at : (p : ℕ) (row : FieldRow) → slice_get fields p ≡ Some row → table_asked rows (map field_of fields) p ≡ table_asked_at p row
-  unfolding table_asked_at
   table_at p row at = ap (demands_of_table_field rows (map field_of fields) p) (mapped_at field_of fields p row at)
 
   pub not_named_table : (q : ℕ) → first_code (table_asked rows (map field_of fields) q) ≡ None → IsAgain name_cmp (map field_name fields) q → ⊥
-  unfolding table_asked_at
-  not_named_table q clear a =
-      let here = slice_get_some fields q (rw length-map at a.within) in
-      let c : first_code (table_asked_at q here.0) ≡ None = ap first_code (sym (table_at q here.0 here.1)) ∙ clear in
-      let new = clear_line (table_asked_at q here.0) c 0 _ refl in
-      let old = test_from_again name_cmp field_name field_of same_field_name field_names_agree fields q here.0 here.1 a in
-      let w : true ≡ false = sym old ∙ new in cc
+  not_named_table q clear a = never_again name_cmp field_name field_of same_field_name field_names_agree fields q a (λ row at. clear_line (table_asked_at q row) (ap first_code (sym (table_at q row at)) ∙ clear) 0 _ refl)
 
   not_taken_table : (q : ℕ) → first_code (table_asked rows (map field_of fields) q) ≡ None → IsAgain nat_cmp (map field_slot fields) q → ⊥
-  unfolding table_asked_at
-  not_taken_table q clear a =
-      let here = slice_get_some fields q (rw length-map at a.within) in
-      let c : first_code (table_asked_at q here.0) ≡ None = ap first_code (sym (table_at q here.0 here.1)) ∙ clear in
-      let row = here.0 in
-      let new = or_false (not (row.slot % 2 == 0)) (nat_lt row.slot 4) (stands_before same_slot (map field_of fields) q (field_of row)) (clear_line (table_asked_at q row) c 1 _ refl) in
-      let old = test_from_again nat_cmp field_slot field_of same_slot slots_agree fields q here.0 here.1 a in
-      let w : true ≡ false = sym old ∙ new in cc
+  not_taken_table q clear a = never_again nat_cmp field_slot field_of same_slot slots_agree fields q a
+      (λ row at. or_false (not (row.slot % 2 == 0)) (nat_lt row.slot 4) (stands_before same_slot (map field_of fields) q (field_of row)) (clear_line (table_asked_at q row) (ap first_code (sym (table_at q row at)) ∙ clear) 1 _ refl))
 
   -- what the walk computes at p is what is demanded there
   pub table_code : (p : ℕ) (row : FieldRow) (name_again slot_again : Option ℕ) (named taken byte vector : Bool) → slice_get fields p ≡ Some row
@@ -127,7 +103,6 @@ module _ (rows : Rows) (fields : List FieldRow) where
       → ((q : ℕ) → q < p → first_code (table_asked rows (map field_of fields) q) ≡ None)
       → named ≡ is_at name_again p → taken ≡ is_at slot_again p → byte ≡ stands_below ForUnion (map field_of fields) row.slot → vector ≡ stands_below ForUnions (map field_of fields) row.slot
       → first_code (table_field_demands rows (field_of row) named taken byte vector) ≡ first_code (table_asked rows (map field_of fields) p)
-  unfolding table_asked_at
   table_code p row name_again slot_again named taken byte vector at h k clear n t b v =
       let same_named = n ∙ is_at_test name_cmp field_name field_of same_field_name field_names_agree fields p row at name_again h (λ q lt. not_named_table q (clear q lt)) in
       let same_taken = t ∙ is_at_test nat_cmp field_slot field_of same_slot slots_agree fields p row at slot_again k (λ q lt. not_taken_table q (clear q lt)) in

@@ -112,16 +112,8 @@ pub record StructHeads : Type 0 where
   pub no_byte : IsRefused (sized (pos 0) (pos 1)) BadStruct 0 None
   pub bytes_below_zero : IsRefused (sized (negsuc 0) (pos 1)) BadStruct 0 None
   pub each_alignment : IsLegal (with_objects (
-      aligned (codes "a") 1
-      ∷ aligned (codes "b") 2
-      ∷ aligned (codes "c") 4
-      ∷ aligned (codes "d") 8
-      ∷ aligned (codes "e") 16
-      ∷ aligned (codes "f") 32
-      ∷ aligned (codes "g") 64
-      ∷ aligned (codes "h") 128
-      ∷ aligned (codes "i") 256
-      ∷ []))
+      aligned (codes "a") 1 ∷ aligned (codes "b") 2 ∷ aligned (codes "c") 4 ∷ aligned (codes "d") 8 ∷ aligned (codes "e") 16
+      ∷ aligned (codes "f") 32 ∷ aligned (codes "g") 64 ∷ aligned (codes "h") 128 ∷ aligned (codes "i") 256 ∷ []))
   pub alignment_0 : IsRefused (sized (pos 1) (pos 0)) BadStruct 0 None
   pub alignment_3 : IsRefused (sized (pos 1) (pos 3)) BadStruct 0 None
   pub alignment_512 : IsRefused (sized (pos 1) (pos 512)) BadStruct 0 None

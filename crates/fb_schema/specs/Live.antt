@@ -1,7 +1,5 @@
 -- The live fields of a table in rising slot, with what a reader of buffers needs.
-use Rattle.std.specs.Prelude.{◌≡◌, ◌<◌, ◌≤◌, slice_index_or, ℕ, ◌+◌, ◌*◌, ◌-◌, ◌/◌, ℤ, Bool, not, nat_le, ◌==◌, if◌then◌else◌, List, [], ◌∷◌, filter, length, drop, max, position, slice_get, Option, Some, None, IsSome, option_map}
-use Rattle.std.specs.List.{filter_map}
-use Rattle.std.specs.Str.{bytes_eq}
+use Rattle.std.specs.Prelude.{◌≡◌, ◌<◌, ◌≤◌, slice_index_or, ℕ, ◌+◌, ◌*◌, ◌-◌, ◌/◌, ℤ, Bool, not, nat_le, ◌==◌, if◌then◌else◌, List, [], ◌∷◌, filter, length, drop, max, position, slice_get, Option, Some, None, IsSome, option_map, filter_map, bytes_eq}
 use Rattle.fb_schema.specs.declared.kinds.Kind.{Kind}
 use Rattle.fb_schema.specs.declared.kinds.Kind.TheVariants.{Union, Unions}
 use Rattle.fb_schema.specs.declared.views.FieldView.{FieldView}

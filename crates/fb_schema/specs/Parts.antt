@@ -1,6 +1,5 @@
 -- The fields of structs, as a reader of a struct's bytes sees them.
-use Rattle.std.specs.Prelude.{ℕ, ◌+◌, ◌*◌, ◌<◌, ◌≤◌, ℤ, if◌then◌else◌, List, [], length, position, slice_get, Option, Some, None, option_map, option_and_then}
-use Rattle.std.specs.Str.{bytes_eq}
+use Rattle.std.specs.Prelude.{ℕ, ◌+◌, ◌*◌, ◌<◌, ◌≤◌, ℤ, if◌then◌else◌, List, [], length, position, slice_get, Option, Some, None, option_map, option_and_then, bytes_eq}
 use Rattle.fb_schema.specs.declared.kinds.Shape.{Shape}
 use Rattle.fb_schema.specs.declared.kinds.Shape.TheVariants.{One, Vector, Array}
 use Rattle.fb_schema.specs.declared.kinds.Kind.{Kind}

@@ -1,7 +1,5 @@
 -- The rows of a schema, as contracts see them: plain records without references.
-use Rattle.std.specs.Prelude.{ℕ, ◌<◌, ◌^◌, All, length, vec_len, ℤ, pos, negsuc, Bool, false, not, List, map, slice_get, Option, Some, None, position, if◌then◌else◌}
-use Rattle.std.specs.Option.{option_and_then}
-use Rattle.std.specs.Str.{bytes_eq}
+use Rattle.std.specs.Prelude.{ℕ, ◌<◌, ◌^◌, All, length, vec_len, ℤ, pos, negsuc, Bool, false, not, List, map, slice_get, Option, Some, None, position, if◌then◌else◌, option_and_then, bytes_eq}
 use Rattle.fb_schema.specs.declared.rows.TypeRow.{TypeRow}
 use Rattle.fb_schema.specs.declared.rows.FieldRow.{FieldRow}
 use Rattle.fb_schema.specs.declared.rows.ObjectRow.{ObjectRow}

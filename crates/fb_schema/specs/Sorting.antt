@@ -1,6 +1,5 @@
 -- Keys in order, each with its place in the list that it comes from.
-use Rattle.std.specs.Prelude.{◌≡◌, ◌==◌, ◌+◌, ℕ, ℤ, pos, Bool, suc, ◌<◌, List, [], ◌∷◌, length, slice_index_or, IsPermutation, Option, MatchOption}
-use Rattle.std.specs.List.Sorted.{IsSorted}
+use Rattle.std.specs.Prelude.{◌≡◌, ◌==◌, ◌+◌, ℕ, ℤ, pos, Bool, suc, ◌<◌, List, [], ◌∷◌, length, slice_index_or, IsPermutation, Option, MatchOption, IsSorted}
 use Rattle.std.specs.Borrow.{Bor}
 use Rattle.std.specs.Fn.{Shared, FnReturnsAt}
 use Rattle.std.specs.Cmp.Lexicographic.{slice_cmp}

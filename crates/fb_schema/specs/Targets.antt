@@ -1,6 +1,5 @@
 -- What the offset words of a union lead to, found by their types.
-use Rattle.std.specs.Prelude.{◌≡◌, ℕ, ℤ, pos, ◌<◌, true, List, map, filter, find, length, slice_get, slice_index_or, Option, Some, None}
-use Rattle.std.specs.Option.{option_and_then}
+use Rattle.std.specs.Prelude.{◌≡◌, ℕ, ℤ, pos, ◌<◌, true, List, map, filter, find, length, slice_get, slice_index_or, Option, Some, None, option_and_then}
 use Rattle.std.specs.Ordering.{int_eq, int_cmp}
 use Rattle.fb_schema.specs.declared.kinds.Kind.{Kind}
 use Rattle.fb_schema.specs.declared.kinds.Kind.TheVariants.{Scalar, Text, Struct, Table, Union, Scalars, Texts, Structs, Tables, Unions}

@@ -4,14 +4,14 @@ ghost use Rattle.fb_schema.specs.Examples.{StructHeads, ObjectNames, StructField
 ghost use Rattle.fb_schema.specs.LookUps.{ScalarFields, KindFields, UnionMembers};
 
 /// Objects that are legal, and others that aren't.
-#[tactic(auto, using(crate::proofs::Shown::struct_heads, crate::proofs::Shown::object_names))]
+#[tactic(auto, using(crate::proofs::Shown::objects_shown))]
 pub fn objects()
     ensures bytes_and_alignments { StructHeads }
     ensures names { ObjectNames }
 {}
 
 /// Fields of structs.
-#[tactic(auto, using(crate::proofs::Shown::struct_field_names, crate::proofs::Shown::struct_field_types, crate::proofs::Shown::struct_field_objects, crate::proofs::Shown::struct_field_ends))]
+#[tactic(auto, using(crate::proofs::Shown::struct_fields_shown))]
 pub fn fields_of_structs()
     ensures names { StructFieldNames }
     ensures types { StructFieldTypes }
@@ -20,7 +20,7 @@ pub fn fields_of_structs()
 {}
 
 /// Fields of tables.
-#[tactic(auto, using(crate::proofs::Shown::slots, crate::proofs::Shown::table_field_types, crate::proofs::Shown::table_field_objects, crate::proofs::Shown::type_fields))]
+#[tactic(auto, using(crate::proofs::Shown::table_fields_shown))]
 pub fn fields_of_tables()
     ensures names_and_slots { Slots }
     ensures types { TableFieldTypes }
@@ -29,20 +29,20 @@ pub fn fields_of_tables()
 {}
 
 /// Members of unions.
-#[tactic(auto, using(crate::proofs::Shown::member_values, crate::proofs::Shown::member_types))]
+#[tactic(auto, using(crate::proofs::Shown::members_shown))]
 pub fn members()
     ensures values { MemberValues }
     ensures names_and_types { MemberTypes }
 {}
 
 /// Rows that break two demands, in two places: the first of both.
-#[tactic(auto, using(crate::proofs::Shown::firsts))]
+#[tactic(auto, using(crate::proofs::Shown::firsts_shown))]
 pub fn order()
     ensures { Firsts }
 {}
 
 /// What is looked up in rows: live fields, and members.
-#[tactic(auto, using(crate::proofs::Shown::scalar_fields, crate::proofs::Shown::kind_fields, crate::proofs::Shown::union_members))]
+#[tactic(auto, using(crate::proofs::Shown::look_ups_shown))]
 pub fn look_ups()
     ensures scalars { ScalarFields }
     ensures kinds { KindFields }

@@ -11,6 +11,7 @@ pub fn one_fault_is_first()
 {}
 
 /// Rows are legal exactly where no fault is the first.
+#[tactic(auto, using(crate::proofs::DemandLaws::no_first_if_legal, crate::proofs::Judged::legal_without_first))]
 pub fn legal_where_none_is_first()
     ensures { (rows : Rows) → IsLegal rows ↔ ((f : SchemaFault) → IsFirstIllegal rows f → ⊥) }
 {}

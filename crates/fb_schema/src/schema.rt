@@ -288,6 +288,7 @@ impl<'n, A: Allocator + Copy> Schema<'n, A> {
     }
 
     /// The greatest number of live fields of a table, 0 without tables.
+    #[tactic(auto, unfolding(crate::specs::Live::widest))]
     pub fn widest(&self) -> u32
         ensures { result ≡ widest self.now }
     {

@@ -1,6 +1,5 @@
-use Rattle.std.proofs.Common.{◌≡◌, map, get_or, sym, ◌∙◌, below_more, rules}
+use Rattle.std.proofs.Common.{◌≡◌, map, get_or, sym, ◌∙◌, below_more, rules, nat_cmp}
 use Rattle.std.proofs.lemmas.Option.{slice_get-get_or}
-use Rattle.std.specs.Ordering.{nat_cmp}
 use Rattle.fb_schema.specs.declared.kinds.TypeField.TheVariants.{ForUnion, ForUnions}
 use Rattle.fb_schema.specs.Sorting.{IsFirstAgain, name_cmp, field_name, field_slot, AreTypeSlots}
 use Rattle.fb_schema.specs.FlatRows.{borrowed_rows}

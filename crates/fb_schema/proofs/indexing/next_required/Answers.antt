@@ -1,6 +1,5 @@
-use Rattle.std.proofs.Common.{◌≡◌, ◌+◌, ◌-◌, ◌<◌, map, length, sym, ◌∙◌, ap, arith}
+use Rattle.std.proofs.Common.{◌≡◌, ◌+◌, ◌-◌, ◌<◌, map, length, sym, ◌∙◌, ap, arith, length-set}
 use Rattle.std.proofs.lemmas.List.{length-map}
-use Rattle.std.proofs.Math.ListN.{length-set}
 use Rattle.fb_schema.specs.Live.{live_of_view}
 use Rattle.fb_schema.proofs.Blank.{blank_view}
 use Rattle.fb_schema.proofs.NextRequired.{first_from, first_at_end, first_here, first_later, filled_more}

@@ -1,5 +1,4 @@
-use Rattle.std.proofs.Common.{◌++◌, ◌∷◌, [], map, refl, ap, ◌∙◌}
-use Rattle.std.proofs.lemmas.List.{take_all}
+use Rattle.std.proofs.Common.{◌++◌, ◌∷◌, [], map, refl, ap, ◌∙◌, take_all}
 use Rattle.fb_schema.specs.Sorting.{numbered}
 use Rattle.fb_schema.proofs.KeyLemmas.{numbered_more}
 use Rattle.fb_schema.proofs.keys.in_order.Goals as goal

@@ -1,5 +1,4 @@
-use Rattle.std.proofs.Common.{◌≡◌, drop, find, map, pos}
-use Rattle.std.specs.Ordering.{int_eq}
+use Rattle.std.proofs.Common.{◌≡◌, drop, find, map, pos, int_eq}
 use Rattle.fb_schema.specs.Rows.{member_of_row}
 use Rattle.fb_schema.proofs.schema.name_of.Given as goal
 

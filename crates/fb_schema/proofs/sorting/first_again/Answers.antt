@@ -1,6 +1,5 @@
-use Rattle.std.proofs.Common.{◌≡◌, true, false, ap, sym, ◌∙◌, arith}
+use Rattle.std.proofs.Common.{◌≡◌, true, false, ap, sym, ◌∙◌, arith, is_eq}
 use Rattle.std.specs.Cmp.{Equal-is}
-use Rattle.std.specs.Ordering.{is_eq}
 use Rattle.fb_schema.proofs.Numbers.{get_or_default}
 use Rattle.fb_schema.proofs.OrderLemmas.{least_apart, least_alike, least_first, neighbours}
 use Rattle.fb_schema.proofs.sorting.first_again.Goals as goal

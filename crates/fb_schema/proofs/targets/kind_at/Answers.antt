@@ -1,8 +1,7 @@
-use Rattle.std.proofs.Common.{◌<◌, pos, List, Some, map, length, get_or, FitsSigned, w64, sym, ap, subst, ◌∙◌, arith, rules}
+use Rattle.std.proofs.Common.{◌<◌, pos, List, Some, map, length, get_or, FitsSigned, w64, sym, ap, subst, ◌∙◌, arith, rules, option_and_then, int_cmp}
 use Rattle.std.proofs.lemmas.Int.{to_z-of_z}
+use Rattle.std.proofs.lemmas.Option.{get_or_from_slice_get}
 use Rattle.std.proofs.lemmas.List.{length-map, get_or-map}
-use Rattle.std.specs.Option.{option_and_then}
-use Rattle.std.specs.Ordering.{int_cmp}
 use Rattle.fb_schema.specs.declared.rows.MemberRow.{MemberRow}
 use Rattle.fb_schema.specs.Kinds.{kind_of}
 use Rattle.fb_schema.specs.Sorting.{IsPlaceOf, member_value}
@@ -10,7 +9,6 @@ use Rattle.fb_schema.specs.Rows.{Rows, Member, member_of_row}
 use Rattle.fb_schema.specs.Targets.{kind_among, AreSorted}
 use Rattle.fb_schema.proofs.Blank.{blank_member}
 use Rattle.fb_schema.proofs.NextRequired.{item_lent}
-use Rattle.fb_schema.proofs.Numbers.{slice_get_reads}
 use Rattle.fb_schema.proofs.UnionLemmas.{none_for_zero, value_found, value_missing}
 use Rattle.fb_schema.proofs.targets.kind_at.Goals as goal
 use Rattle.fb_schema.proofs.targets.kind_at.Goals.{After-place_of}
@@ -31,7 +29,7 @@ returns-in-Some-get c = λ rows members h.
     let lt : place < length members = rw length-map at p.0 in
     let real : 0 < c.args.value = omega arith in
     let small : c.args.value < 256 = omega arith in
-    slice_get_reads c.args.kinds.now place c.in-Some-get.kind.now (item_lent _ _ _ _ c.get.ensures.lookup c.in-Some-get.is)
+    sym (get_or_from_slice_get c.args.kinds.now place c.in-Some-get.kind.now _ (item_lent _ _ _ _ c.get.ensures.lookup c.in-Some-get.is))
     ∙ ap (λ ks. get_or ks place c.in-Some-get.kind.now) h.are
     ∙ get_or-map (λ m. kind_of rows (member_of_row m).ty) members place blank_member c.in-Some-get.kind.now lt
     ∙ sym (ap (option_and_then (λ (m : Member). kind_of rows m.ty)) (value_found rows members h.clear c.args.value place blank_member real small lt p.1))

@@ -1,5 +1,4 @@
 use Rattle.std.proofs.Common.{◌≡◌, ◌==◌, ◌+◌, map, take, length, sym, ap, ◌∙◌, arith}
-use Rattle.std.proofs.lemmas.Grind.{common_steps}
 use Rattle.std.proofs.lemmas.List.Sorted.{list_any-IsPermutation}
 use Rattle.std.proofs.Math.Seq.{take-length}
 use Rattle.fb_schema.specs.Rows.{field_of}
@@ -17,6 +16,3 @@ returns g c =
           ∙ c.loop-field.invariant slot
           ∙ ap (λ fs. stands_below c.args.wanted (map field_of fs) slot) all;
     }
-
-pub loop-field-preserved : goal.loop-field-preserved
-loop-field-preserved g c = grind (arith, common_steps)

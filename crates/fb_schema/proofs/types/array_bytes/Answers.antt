@@ -1,5 +1,4 @@
-use Rattle.std.proofs.Common.{ℕ, ◌*◌, ◌^◌, ◌-◌, ◌<◌, ◌≤◌, ℤ, pos, negsuc, neg_ℤ, ◌*ℤ◌, ◌<ℤ◌, unsigned_abs, arith, subst, sym}
-use Rattle.std.proofs.Math.Nat.{mul-le-mul}
+use Rattle.std.proofs.Common.{ℕ, ◌*◌, ◌^◌, ◌-◌, ◌<◌, ◌≤◌, ℤ, pos, negsuc, neg_ℤ, ◌*ℤ◌, ◌<ℤ◌, unsigned_abs, arith, subst, sym, mul-le-mul}
 use Rattle.std.proofs.lemmas.Grind.{common_steps}
 use Rattle.std.proofs.lemmas.Int.{unsigned_abs-mul, ints}
 use Rattle.fb_schema.proofs.types.array_bytes.Goals as goal

@@ -1,5 +1,4 @@
-use Rattle.std.proofs.Common.{◌≡◌, slice_index_or, slice_get, Some, true, map, refl, sym, subst, ◌∙◌, ap, rules}
-use Rattle.std.specs.Ordering.{int_cmp}
+use Rattle.std.proofs.Common.{◌≡◌, slice_index_or, slice_get, Some, true, map, refl, sym, subst, ◌∙◌, ap, rules, int_cmp}
 use Rattle.fb_schema.specs.Kinds.{kind_of}
 use Rattle.std.proofs.lemmas.Option.{slice_get-get_or}
 use Rattle.fb_schema.specs.Flat.{part}

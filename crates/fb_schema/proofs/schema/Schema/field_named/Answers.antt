@@ -1,5 +1,5 @@
-use Rattle.std.proofs.Common.{◌≡◌, IsTrue, Some, map, position, sym, ap, subst, ◌∙◌, arith}
-use Rattle.std.specs.Str.{bytes_eq}
+use Rattle.std.proofs.Common.{◌≡◌, IsTrue, Some, map, position, sym, ap, subst, ◌∙◌, arith, bytes_eq}
+use Rattle.std.proofs.lemmas.Option.{slice_get_within}
 use Rattle.fb_schema.specs.FlatLists.{lists_of}
 use Rattle.fb_schema.specs.Index.{view_name}
 use Rattle.fb_schema.specs.Live.{Live, live_in, live_fields, live_of_view}
@@ -10,7 +10,6 @@ use Rattle.fb_schema.proofs.LookLemmas.{live_read}
 use Rattle.fb_schema.proofs.NameLemmas.{table_at, view_not_again}
 use Rattle.fb_schema.proofs.Numbers.{slice_get_some}
 use Rattle.fb_schema.proofs.PlaceLemmas.{place_position}
-use Rattle.fb_schema.proofs.UnionLemmas.{read_within}
 use Rattle.fb_schema.proofs.WalkLemmas.{mapped_at, names_agree, names_total}
 use Rattle.fb_schema.proofs.schema.Schema.field_named.Goals as goal
 
@@ -24,7 +23,7 @@ returns g c =
     let t = table_at s.rows.fields.items s.rows.objects.items n (subst (λ (r : Rows). IsTrue (is_table r n)) (sym c.self.view_is) c.requires) in
     let lists = lists_of s.live.fields in
     let long = c.self.invariant.fields.names.long in
-    let in_names = read_within (lists_of s.live.names) n c.get.result.now c.get.ensures in
+    let in_names = slice_get_within (lists_of s.live.names) n c.get.result.now c.get.ensures in
     let views = slice_get_some lists n (omega arith) in
     let order = c.self.invariant.fields.names.at n views.0 c.get.result.now views.1 c.get.ensures in
     let value = live_read rows rows.objects (map (map live_of_view) lists) n (map live_of_view views.0) c.self.invariant.fields.live (mapped_at (map live_of_view) lists n views.0 views.1) in

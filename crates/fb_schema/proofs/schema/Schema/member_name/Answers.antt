@@ -1,13 +1,12 @@
-use Rattle.std.proofs.Common.{◌≡◌, ◌<◌, pos, List, Some, find, map, slice_get, IsTrue, true, refl, sym, ap, subst, ◌∙◌, arith}
-use Rattle.std.specs.Option.{option_map}
-use Rattle.std.specs.Ordering.{int_eq}
+use Rattle.std.proofs.Common.{◌≡◌, ◌<◌, pos, List, Some, find, map, slice_get, IsTrue, true, refl, sym, ap, subst, ◌∙◌, arith, option_map, int_eq}
+use Rattle.std.proofs.lemmas.Option.{slice_get_within}
 use Rattle.fb_schema.specs.declared.flat.EnumPart.{EnumPart}
 use Rattle.fb_schema.specs.declared.rows.MemberRow.{MemberRow}
 use Rattle.fb_schema.specs.Members.{member_name}
 use Rattle.fb_schema.specs.FlatRows.{flat_rows}
 use Rattle.fb_schema.specs.Rows.{Rows, Member, is_union, member_of_row}
 use Rattle.fb_schema.proofs.NamedValues.{member_name_is, no_name_of_zero, no_name_of_other}
-use Rattle.fb_schema.proofs.UnionLemmas.{union_at, read_within}
+use Rattle.fb_schema.proofs.UnionLemmas.{union_at}
 use Rattle.fb_schema.proofs.schema.Schema.member_name.Goals as goal
 use Rattle.fb_schema.proofs.schema.Schema.member_name.Goals.{After-self, then-value-eq0-via-then-value-eq0, then-value-eq0-via-else-value-eq0+then-not-is_union}
 
@@ -22,7 +21,7 @@ union_row : (g : _) (c : After-self g) → (row : EnumPart) × (slice_get c.self
 union_row g c = union_at c.self.inside.rows.members.items c.self.inside.rows.enums.items c.args.e (subst (λ (r : Rows). IsTrue (is_union r c.args.e)) (sym c.self.view_is) (sym c.is_union.ensures ∙ c.if-not-is_union.false))
 
 pub members_at-requires-clause-here : goal.members_at-requires-clause-here
-members_at-requires-clause-here g c = read_within c.self.inside.rows.enums.items c.args.e (union_row g c).0 (union_row g c).1
+members_at-requires-clause-here g c = slice_get_within c.self.inside.rows.enums.items c.args.e (union_row g c).0 (union_row g c).1
 
 pub returns : goal.returns
 returns g c =

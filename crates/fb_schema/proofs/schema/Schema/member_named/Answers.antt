@@ -1,8 +1,6 @@
-use Rattle.std.proofs.Common.{◌≡◌, ◌<◌, ℕ, Some, None, List, map, length, slice_get, get_or, find, filter, IsTrue, true, false, unsigned_abs, refl, sym, ap, subst, ◌∙◌, arith, to_z, of_z, w64}
+use Rattle.std.proofs.Common.{◌≡◌, ◌<◌, ℕ, Some, None, List, map, length, slice_get, get_or, find, filter, IsTrue, true, false, unsigned_abs, refl, sym, ap, subst, ◌∙◌, arith, to_z, of_z, w64, option_map, bytes_eq, Equal}
+use Rattle.std.proofs.lemmas.Int.{to_z-of_z}
 use Rattle.std.proofs.lemmas.List.{length-map, get_or-map}
-use Rattle.std.specs.Option.{option_map}
-use Rattle.std.specs.Str.{bytes_eq}
-use Rattle.std.specs.declared.cmp.Ordering.TheVariants.{Equal}
 use Rattle.fb_schema.specs.declared.flat.EnumPart.{EnumPart}
 use Rattle.fb_schema.specs.Demands.{first_code, members_asked}
 use Rattle.fb_schema.specs.Flat.{part}
@@ -14,7 +12,6 @@ use Rattle.fb_schema.specs.Rows.{Rows, Member, is_union, member_of_row}
 use Rattle.fb_schema.proofs.Blank.{blank_member}
 use Rattle.fb_schema.proofs.UnionLemmas.{union_at, members_clear}
 use Rattle.fb_schema.proofs.MemberNames.{name_found, name_missing, member_named_is, real_at, small_value, fits_small}
-use Rattle.std.proofs.lemmas.Int.{to_z-of_z}
 use Rattle.fb_schema.specs.declared.rows.MemberRow.{MemberRow}
 use Rattle.fb_schema.proofs.schema.Schema.member_named.Goals as goal
 use Rattle.fb_schema.proofs.schema.Schema.member_named.Goals.{After-place_of}
@@ -22,30 +19,26 @@ use Rattle.fb_schema.proofs.schema.Schema.member_named.Goals.{After-place_of}
 union_row : (g : _) (c : After-place_of g) → (row : EnumPart) × (slice_get c.self.inside.rows.enums.items c.args.e ≡ Some row) × (row.is_union ≡ true)
 union_row g c = union_at c.self.inside.rows.members.items c.self.inside.rows.enums.items c.args.e (subst (λ (r : Rows). IsTrue (is_union r c.args.e)) (sym c.self.view_is) c.requires)
 
-rows : (g : _) (c : After-place_of g) → Rows
+abbrev rows : (g : _) (c : After-place_of g) → Rows
 rows g c = flat_rows c.self.inside.rows
 
 -- the members of the union
-listed : (g : _) (c : After-place_of g) → List MemberRow
+abbrev listed : (g : _) (c : After-place_of g) → List MemberRow
 listed g c = part c.self.inside.rows.members.items (union_row g c).0.members
 
 placed : (g : _) (c : After-place_of g) → IsPlaceOf member_cmp (map member_key (listed g c)) (false, c.args.name) c.place_of.result
-unfolding listed
 placed g c =
     let row = (union_row g c).0 in
     let list = part c.self.inside.rows.members.items row.members in
     c.place_of.ensures (map member_key list) (subst (λ b. IsOrderOf member_cmp (map member_key (kept_members b list)) c.get-names.result.now) (union_row g c).2 (c.self.invariant.kinds.names.at c.args.e row c.get-names.result.now (union_row g c).1 c.get-names.ensures))
 
 clear : (g : _) (c : After-place_of g) (q : ℕ) → first_code (members_asked (rows g c) (map member_of_row (listed g c)) q) ≡ None
-unfolding rows listed
 clear g c = members_clear (rows g c) c.self.inside.rows.members.items c.self.inside.rows.enums.items refl c.self.invariant.legal c.args.e (union_row g c).0 (union_row g c).1 (union_row g c).2
 
 read : (g : _) (c : After-place_of g) → member_named (rows g c) c.args.e c.args.name.now ≡ option_map (λ m. unsigned_abs m.value) (find (λ m. bytes_eq m.name c.args.name.now) (filter (λ m. is_member_value m.value) (map member_of_row (listed g c))))
-unfolding rows listed
 read g c = member_named_is (rows g c) c.self.inside.rows.members.items c.self.inside.rows.enums.items refl c.args.e (union_row g c).0 (union_row g c).1 (union_row g c).2 c.args.name.now
 
 seen : (g : _) (c : After-place_of g) → member_named (rows g c) c.args.e c.args.name.now ≡ member_named c.args.self.now c.args.e c.args.name.now
-unfolding rows
 seen g c = ap (λ r. member_named r c.args.e c.args.name.now) c.self.view_is
 
 pub returns-in-None : goal.returns-in-None
@@ -65,7 +58,6 @@ found g c place is =
     (lt, ap (λ z. member_cmp z (false, c.args.name)) (sym (get_or-map member_key members place blank_member (member_key blank_member) lt)) ∙ h.1 (member_key blank_member))
 
 pub bounds-members_at-place : goal.bounds-members_at-place
-unfolding listed
 bounds-members_at-place g c =
     let d = (goal.at.bounds-members_at-place g c).After-place_of in
     let lt = (found g d c.in-Some.place c.in-Some.is).0 in
@@ -87,14 +79,12 @@ read_value g c place is lent n e k =
     )
 
 pub overflow_cast-result : goal.overflow_cast-result
-unfolding listed
 overflow_cast-result g c =
     let d = (goal.at.overflow_cast-result g c).After-place_of in
     let small = (read_value g d c.in-Some.place c.in-Some.is _ c.unsigned_abs.result (c.members_at.ensures (union_row g d).0 (union_row g d).1) c.unsigned_abs.ensures.value).0 in
     record { fits = omega arith }
 
 pub returns-in-Some : goal.returns-in-Some
-unfolding listed
 returns-in-Some g c =
     let d = (goal.at.returns-in-Some g c).After-place_of in
     (read_value g d c.in-Some.place c.in-Some.is _ c.unsigned_abs.result (c.members_at.ensures (union_row g d).0 (union_row g d).1) c.unsigned_abs.ensures.value).1

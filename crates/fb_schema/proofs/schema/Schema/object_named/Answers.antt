@@ -1,5 +1,4 @@
-use Rattle.std.proofs.Common.{map, ap, ◌∙◌, position, refl}
-use Rattle.std.specs.Str.{bytes_eq}
+use Rattle.std.proofs.Common.{map, ap, ◌∙◌, position, refl, bytes_eq}
 use Rattle.fb_schema.specs.Sorting.{name_cmp, object_name}
 use Rattle.fb_schema.specs.FlatRows.{flat_rows, object_in}
 use Rattle.fb_schema.specs.Rows.{Object, Rows}
@@ -16,5 +15,5 @@ returns g c =
     let name = c.args.name in
     let found = c.place_of.ensures (map object_name s.rows.objects.items) (rw c.deref.ensures.value c.self.invariant.names) in
     place_position name_cmp names_total object_name (object_in s.rows.fields.items) s.rows.objects.items name (λ (o : Object). bytes_eq o.name name.now) (λ o. names_agree o.name.now name.now)
-    (no_object_again rows s.rows.fields.items s.rows.objects.items refl (λ q. legal_clear rows c.self.invariant.legal 0 q 0)) c.place_of.result found
+    (λ q. no_object_again rows s.rows.fields.items s.rows.objects.items refl q (legal_clear rows c.self.invariant.legal 0 q 0)) c.place_of.result found
     ∙ ap (λ (r : Rows). position (λ (o : Object). bytes_eq o.name name.now) r.objects) c.self.view_is

@@ -1,5 +1,4 @@
-use Rattle.std.proofs.Common.{◌≡◌, List, map, slice_get, ◌∙◌, ap}
-use Rattle.std.specs.Option.{option_and_then}
+use Rattle.std.proofs.Common.{◌≡◌, List, map, slice_get, ◌∙◌, ap, option_and_then}
 use Rattle.fb_schema.specs.FlatRows.{object_in, enum_in, borrowed_rows, flat_rows}
 use Rattle.fb_schema.specs.Parts.{part_at, part_of}
 use Rattle.fb_schema.specs.Rows.{Field, Rows, field_of}

@@ -1,5 +1,0 @@
-use Rattle.fb_schema.proofs.DemandLaws.{legal_without_first, no_first_if_legal}
-use Rattle.fb_schema.proofs.laws.legal_where_none_is_first.Goals as goal
-
-pub returns : goal.returns
-returns c = λ rows. (no_first_if_legal rows, legal_without_first rows)
