@@ -6,7 +6,7 @@ use Rattle.fb_verify.specs.WellFormed.{IsWellFormed, IsWithin}
 use Rattle.fb_verify.specs.declared.start.Ident.{Ident}
 use Rattle.fb_bfbs.specs.declared.loading.Loaded.{Loaded}
 use Rattle.fbcheck_calls.specs.declared.answer.Answer.{Answer}
-use Rattle.fbcheck_calls.specs.declared.answer.Answer.TheVariants.{Done, Good, Bad, UnknownOptions, OutOfRange, NoIdent, NoRoot, TooLong, NoSchema, NoSpan, BadStream, BadPath, NoRoom, Misfit}
+use Rattle.fbcheck_calls.specs.declared.answer.Answer.TheVariants.{Good, Bad, UnknownOptions, OutOfRange, NoIdent, NoRoot, TooLong}
 use Rattle.fbcheck_calls.specs.declared.options.Options.{Options}
 use Rattle.fbcheck_calls.specs.Answered.{IsBadFrom, IsChecked, IsGoodFrom, IsUnserved, Serves}
 use Rattle.fbcheck_calls.specs.AnswerLaws.{CanServe}
@@ -19,20 +19,10 @@ at_value o x P e h = subst (λ v. IsSomeAnd v P) e h
 
 -- what is answered where no check can begin is answered of every buffer
 pub unserved_is_checked : (l : Loaded) (n : ℕ) (o : Options) (b : List ℕ) (a : Answer) → IsUnserved l n o a → IsChecked l n o b a
-unserved_is_checked l n o b Done h = h
 unserved_is_checked l n o b (Good r) h = absurd h
 unserved_is_checked l n o b (Bad f) h = absurd h
-unserved_is_checked l n o b UnknownOptions h = h
-unserved_is_checked l n o b OutOfRange h = h
-unserved_is_checked l n o b NoIdent h = h
-unserved_is_checked l n o b NoRoot h = h
 unserved_is_checked l n o b TooLong h = absurd h
-unserved_is_checked l n o b (NoSchema fault) h = h
-unserved_is_checked l n o b NoSpan h = h
-unserved_is_checked l n o b (BadStream fault) h = h
-unserved_is_checked l n o b (BadPath fault) h = h
-unserved_is_checked l n o b NoRoom h = h
-unserved_is_checked l n o b (Misfit place) h = h
+unserved_is_checked l n o b _ h = h
 
 module _ (l : Loaded) (n : ℕ) (o : Options) (b : List ℕ) (root : ℕ) (ident : Ident) (c : CanServe l n o root ident) where
   served : (P : ℕ → Ident → Type 0) → Serves l n o P → P root ident
@@ -42,47 +32,29 @@ module _ (l : Loaded) (n : ℕ) (o : Options) (b : List ℕ) (root : ℕ) (ident
       → IsWithin (question_of l o b root ident) b y → length b < 2 ^ 31 → IsChecked l n o b a → (told a).status ≡ 0
   good_gets_yes y (Good r) w i short h = refl
   good_gets_yes y (Bad f) w i short h = let bad = served (IsBadFrom l o b f) h.1 in absurd (bad.none y w i)
-  good_gets_yes y Done w i short h = absurd h
   good_gets_yes y UnknownOptions w i short h = absurd (h c.limits.known)
   good_gets_yes y OutOfRange w i short h = let room = c.limits.depth in let past = h.1 in absurd (omega arith)
   good_gets_yes y NoIdent w i short h = let e = c.ident_is in let none = h.2 in cc
   good_gets_yes y NoRoot w i short h = let e = c.root_is in let none = h.1 in cc
   good_gets_yes y TooLong w i short h = let long = served (λ r d. 2 ^ 31 ≤ length b) h in absurd (omega arith)
-  good_gets_yes y (NoSchema fault) w i short h = absurd h
-  good_gets_yes y NoSpan w i short h = absurd h
-  good_gets_yes y (BadStream fault) w i short h = absurd h
-  good_gets_yes y (BadPath fault) w i short h = absurd h
-  good_gets_yes y NoRoom w i short h = absurd h
-  good_gets_yes y (Misfit place) w i short h = absurd h
+  good_gets_yes y _ w i short h = absurd h
 
   pub bad_gets_no : (a : Answer) → HasNone (question_of l o b root ident) b → length b < 2 ^ 31 → IsChecked l n o b a → (told a).status ≡ 1
   bad_gets_no (Good r) none short h = let good = served (IsGoodFrom l o b r) h.1 in absurd (none good.found good.well_formed good.within)
   bad_gets_no (Bad f) none short h = refl
-  bad_gets_no Done none short h = absurd h
   bad_gets_no UnknownOptions none short h = absurd (h c.limits.known)
   bad_gets_no OutOfRange none short h = let room = c.limits.depth in let past = h.1 in absurd (omega arith)
   bad_gets_no NoIdent none short h = let e = c.ident_is in let no = h.2 in cc
   bad_gets_no NoRoot none short h = let e = c.root_is in let no = h.1 in cc
   bad_gets_no TooLong none short h = let long = served (λ r d. 2 ^ 31 ≤ length b) h in absurd (omega arith)
-  bad_gets_no (NoSchema fault) none short h = absurd h
-  bad_gets_no NoSpan none short h = absurd h
-  bad_gets_no (BadStream fault) none short h = absurd h
-  bad_gets_no (BadPath fault) none short h = absurd h
-  bad_gets_no NoRoom none short h = absurd h
-  bad_gets_no (Misfit place) none short h = absurd h
+  bad_gets_no _ none short h = absurd h
 
   pub long_gets_its_number : (a : Answer) → 2 ^ 31 ≤ length b → IsChecked l n o b a → (told a).status ≡ 7
   long_gets_its_number (Good r) long h = let short = h.0 in absurd (omega arith)
   long_gets_its_number (Bad f) long h = let short = h.0 in absurd (omega arith)
-  long_gets_its_number Done long h = absurd h
   long_gets_its_number UnknownOptions long h = absurd (h c.limits.known)
   long_gets_its_number OutOfRange long h = let room = c.limits.depth in let past = h.1 in absurd (omega arith)
   long_gets_its_number NoIdent long h = let e = c.ident_is in let no = h.2 in cc
   long_gets_its_number NoRoot long h = let e = c.root_is in let no = h.1 in cc
   long_gets_its_number TooLong long h = refl
-  long_gets_its_number (NoSchema fault) long h = absurd h
-  long_gets_its_number NoSpan long h = absurd h
-  long_gets_its_number (BadStream fault) long h = absurd h
-  long_gets_its_number (BadPath fault) long h = absurd h
-  long_gets_its_number NoRoom long h = absurd h
-  long_gets_its_number (Misfit place) long h = absurd h
+  long_gets_its_number _ long h = absurd h

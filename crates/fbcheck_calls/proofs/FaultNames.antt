@@ -14,7 +14,7 @@ use Rattle.fb_verify.specs.declared.fault.Reason.{Reason}
 use Rattle.fb_verify.specs.declared.fault.Reason.TheVariants.{WrongPrefix, OutOfBuffer, Misaligned, ZeroOffset, WrongIdentifier, TooDeep, TooManyTables, BadVtable, MissingRequired, NoTerminator, LengthsDiffer, PastTable, TooManyReads}
 use Rattle.fbcheck_calls.specs.Names.{FaultsHaveTheirNames, IsCodeName, IsFaultName, IsPathName, IsReasonName}
 use Rattle.fbcheck_calls.specs.Told.{code_number}
-use Rattle.fbcheck_calls.specs.declared.answer.Answer.TheVariants.{Done, Good, Bad, UnknownOptions, OutOfRange, NoIdent, NoRoot, TooLong, NoSchema, NoSpan, BadStream, BadPath, NoRoom, Misfit}
+use Rattle.fbcheck_calls.specs.declared.answer.Answer.TheVariants.{Bad, NoSchema, BadStream, BadPath}
 
 -- what stands at its number in a list of names is the name of each that has this number
 module _ (X : Type 0) (number : X → ℕ) (text : X → List ℕ) (names : List (List ℕ)) (at : (x : X) → slice_get names (number x) ≡ Some (text x)) where
@@ -26,18 +26,7 @@ reason_names = [] ∷ map reason_text (WrongPrefix ∷ OutOfBuffer ∷ Misaligne
 
 reason_at : (r : Reason) → slice_get reason_names (reason_number r) ≡ Some (reason_text r)
 reason_at WrongPrefix = refl
-reason_at OutOfBuffer = refl
-reason_at Misaligned = refl
-reason_at ZeroOffset = refl
-reason_at WrongIdentifier = refl
-reason_at TooDeep = refl
-reason_at TooManyTables = refl
-reason_at BadVtable = refl
-reason_at MissingRequired = refl
-reason_at NoTerminator = refl
-reason_at LengthsDiffer = refl
-reason_at PastTable = refl
-reason_at TooManyReads = refl
+reason_at _ = refl
 
 reason_named : (r : Reason) (name : Option (List ℕ)) → IsReasonName (reason_number r) name → name ≡ Some (reason_text r)
 reason_named r (Some text) h = ap Some h.2 ∙ same_name Reason reason_number reason_text reason_names reason_at r h.0 h.1
@@ -48,14 +37,7 @@ code_names = [] ∷ map code_text (NoSuchObject ∷ NoSuchEnum ∷ Unsupported �
 
 code_at : (c : Code) → slice_get code_names (code_number c) ≡ Some (code_text c)
 code_at NoSuchObject = refl
-code_at NoSuchEnum = refl
-code_at Unsupported = refl
-code_at BadSlot = refl
-code_at NoTypeField = refl
-code_at BadStruct = refl
-code_at BadMember = refl
-code_at NameTwice = refl
-code_at NoMemory = refl
+code_at _ = refl
 
 code_named : (c : Code) (name : Option (List ℕ)) → IsCodeName (code_number c) name → name ≡ Some (code_text c)
 code_named c (Some text) h = ap Some h.2 ∙ same_name Code code_number code_text code_names code_at c h.0 h.1
@@ -66,12 +48,7 @@ path_names = [] ∷ map (λ (f : PathFault). (path_code f).1) (path.BadText 0 �
 
 path_at : (f : PathFault) → slice_get path_names (path_code f).0 ≡ Some (path_code f).1
 path_at (path.BadText at) = refl
-path_at (path.NoSuchField step) = refl
-path_at (path.NotIndexable step) = refl
-path_at (path.NotAUnion step) = refl
-path_at (path.NoSuchMember step) = refl
-path_at (path.NotATable step) = refl
-path_at path.OutOfMemory = refl
+path_at _ = refl
 
 path_named : (f : PathFault) (name : Option (List ℕ)) → IsPathName (path_code f).0 name → name ≡ Some (path_code f).1
 path_named f (Some text) h = ap Some h.2 ∙ same_name PathFault (λ g. (path_code g).0) (λ g. (path_code g).1) path_names path_at f h.0 h.1
@@ -91,28 +68,8 @@ pub its_name : FaultsHaveTheirNames
 its_name (Bad f) name h = reason_named f.reason name (h.of_buffer refl)
 its_name (NoSchema (load.NotWellFormed f)) name h = reason_named f.reason name (h.of_file refl)
 its_name (NoSchema (load.BadSchema f)) name h = code_named f.code name (h.of_rows refl)
-its_name (BadPath (path.BadText at)) name h = path_named (path.BadText at) name (h.of_text refl)
-its_name (BadPath (path.NoSuchField step)) name h = path_named (path.NoSuchField step) name (h.of_text refl)
-its_name (BadPath (path.NotIndexable step)) name h = path_named (path.NotIndexable step) name (h.of_text refl)
-its_name (BadPath (path.NotAUnion step)) name h = path_named (path.NotAUnion step) name (h.of_text refl)
-its_name (BadPath (path.NoSuchMember step)) name h = path_named (path.NoSuchMember step) name (h.of_text refl)
-its_name (BadPath (path.NotATable step)) name h = path_named (path.NotATable step) name (h.of_text refl)
 its_name (BadPath path.OutOfMemory) name h = unnamed 11 0 name refl h
-its_name Done name h = unnamed 0 0 name refl h
-its_name (Good r) name h = unnamed 0 0 name refl h
-its_name UnknownOptions name h = unnamed 3 0 name refl h
-its_name OutOfRange name h = unnamed 4 0 name refl h
-its_name NoIdent name h = unnamed 5 0 name refl h
-its_name NoRoot name h = unnamed 6 0 name refl h
-its_name TooLong name h = unnamed 7 0 name refl h
-its_name (NoSchema load.TooLong) name h = unnamed 7 0 name refl h
-its_name (NoSchema load.RootNotListed) name h = unnamed 10 0 name refl h
-its_name (NoSchema load.OutOfMemory) name h = unnamed 11 0 name refl h
-its_name (NoSchema load.TooMuchShared) name h = unnamed 20 0 name refl h
-its_name NoSpan name h = unnamed 12 0 name refl h
-its_name (BadStream stream.OutOfMemory) name h = unnamed 11 0 name refl h
-its_name (BadStream (stream.Oversize number)) name h = unnamed 14 0 name refl h
-its_name (BadStream (stream.Truncated held)) name h = unnamed 15 0 name refl h
-its_name (BadStream stream.Failed) name h = unnamed 16 0 name refl h
-its_name NoRoom name h = unnamed 18 0 name refl h
-its_name (Misfit place) name h = unnamed 19 0 name refl h
+its_name (BadPath f) name h = path_named f name (h.of_text refl)
+its_name (NoSchema load.OutOfMemory) name h = unnamed _ 0 name refl h
+its_name (BadStream stream.Failed) name h = unnamed _ 0 name refl h
+its_name _ name h = unnamed _ 0 name refl h

@@ -3,14 +3,14 @@
 ghost use Rattle.fbcheck_calls.specs.Examples.{Paths, Pieces, Questions, Values, Verdicts};
 
 /// What is told of an answer, and what options ask.
-#[tactic(auto, using(crate::proofs::Shown::verdicts_shown, crate::proofs::Shown::questions_shown))]
+#[tactic(auto, using(crate::proofs::Shown::verdicts_shown))]
 pub fn answers()
     ensures verdicts { Verdicts }
     ensures questions { Questions }
 {}
 
 /// The steps of a path, what is told of a value, and what is cut of a block, of a place and of a name.
-#[tactic(auto, using(crate::proofs::Shown::paths_shown, crate::proofs::Shown::values_shown, crate::proofs::Shown::pieces_shown))]
+#[tactic(auto, using(crate::proofs::Shown::values_shown))]
 pub fn parts()
     ensures paths { Paths }
     ensures values { Values }
