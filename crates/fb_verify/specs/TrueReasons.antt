@@ -169,7 +169,7 @@ pub record FailsAtStart (q : Question) (b : List ℕ) (f : Fault) : Type 0 where
   pub field : f.field ≡ None
   pub because : PrefixIsFalse b q.start f.reason f.at ⊎ (IdentIsFalse b (base q.start + 4) q.ident f.reason f.at ⊎ (OffsetIsFalse q.checks b (base q.start) f.reason f.at ⊎ IsOverBudget q.limits (base q.start) f))
 
--- with so many tables above the one at t: as many are open, or were opened, as is allowed
+-- with so many tables above the one at t: as many are open as is allowed, or as many were opened, which TablesRunOut says
 abbrev pub LimitIsReached : Bounds → ℕ → ℕ → Reason → ℕ → Type 0
 LimitIsReached L t above TooDeep at = (at ≡ t) × (L.depth ≤ above)
 LimitIsReached L t above TooManyTables at = at ≡ t
