@@ -16,10 +16,3 @@ texts_more (x ∷ xs) b = ap (λ l. byte_text x ++ l) (texts_more xs b) ∙ sym 
 pub answers_each : (answers : List Answer) → flat_map spaced_answer answers ≡ answers_text (map shown answers)
 answers_each [] = refl
 answers_each (answer ∷ answers) = ap (λ l. spaced_answer answer ++ l) (answers_each answers)
-
--- one answer more
-pub answers_more : (answers : List Answer) (i : ℕ) (answer : Answer) → i < length answers → get_or answers i answer ≡ answer
-    → flat_map spaced_answer (take (i + 1) answers) ≡ flat_map spaced_answer (take i answers) ++ spaced_answer answer
-answers_more answers i answer inside is =
-    ap (flat_map spaced_answer) (take_more answers i answer inside ∙ ap (λ a. take i answers ++ a ∷ []) is)
-    ∙ flat_map-append spaced_answer (take i answers) (answer ∷ []) ∙ ap (λ l. flat_map spaced_answer (take i answers) ++ l) (append-nil (spaced_answer answer))

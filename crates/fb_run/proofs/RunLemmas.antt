@@ -147,3 +147,6 @@ ends_answer first now turns tally end answer is ends = subst (λ (e : End). Ends
 pub err_exit : {A E : Type 0} (answer : Result A E) (x : E) (P : Result A E → Type 0) → IsErrAnd answer (λ e. e ≡ x) → P (Err x) → P answer
 err_exit (Ok a) x P h p = absurd h
 err_exit (Err e) x P h p = subst (λ e. P (Err e)) (sym h) p
+
+pub err_is : {A E : Type 0} (answer : Result A E) (x : E) → IsErrAnd answer (λ e. e ≡ x) → answer ≡ Err x
+err_is answer x h = err_exit answer x (λ a. a ≡ Err x) h refl

@@ -52,13 +52,6 @@ splits_one limit m is = record {
 pub tells_nothing : (job : Job) → Tells job [] silent no_tally []
 tells_nothing job = ([], splits_rest job.limit [] (inl (empty_partial job.limit)), (refl, refl))
 
--- more bytes are held
-tells_held : (job : Job) (tally : Tally) (bytes more held held' : List ℕ) (text : Texts) → held' ≡ held ++ more → IsPartial job.limit held'
-    → Tells job bytes text tally held → Tells job (bytes ++ more) text tally held'
-tells_held job tally bytes more held held' text is part (xs, splits, lines) =
-    let behind : Splits job.limit (held ++ more) [] held' = subst (λ (l : List ℕ). Splits job.limit l [] held') is (splits_rest job.limit held' (inl part)) in
-    (xs, subst (λ (l : List (List ℕ)). Splits job.limit (bytes ++ more) l held') (append-nil xs) (splits_then job.limit bytes more held held' xs [] splits behind), lines)
-
 -- a message was whole and got its line
 pub tells_line : (job : Job) (tally tally' : Tally) (bytes more held message : List ℕ) (text text' : Texts) → message ≡ held ++ more → IsMessage job.limit message
     → AddsTold job (1 + (tally.yes + tally.no)) message text tally text' tally' → (written : Texts)
@@ -113,17 +106,6 @@ halts_memory job before piece text tally same counted bytes written tells =
     rests_memory job tally bytes piece before.held (followed written text)
     (subst (λ (l : Texts). Tells job bytes (followed written l) tally before.held) (sym same)
     (subst (λ (t : Tally). Tells job bytes (followed written before.text) t before.held) (sym counted) tells))
-
--- the front of a piece was fed, and no message was whole
-pub onward_partial : (job : Job) (before after : Standing) (old new : Framing) (piece : List ℕ) (used : ℕ) (whole : Bool) → old.limit ≡ job.limit → old.held ≡ before.held
-    → Feeds old new piece used whole → IsPartial new.limit new.held → new.held ≡ after.held → after.text ≡ before.text → after.tally ≡ before.tally
-    → Onward job before (take used piece) after
-onward_partial job before after old new piece used whole limit held feeds part is same counted bytes written tells =
-    let grown : after.held ≡ before.held ++ take used piece = sym is ∙ feeds.held ∙ ap (λ l. l ++ take used piece) held in
-    let part' : IsPartial job.limit after.held = subst (IsPartial job.limit) is (subst (λ (n : ℕ). IsPartial n new.held) (feeds.limit ∙ limit) part) in
-    let more = tells_held job before.tally bytes (take used piece) before.held after.held (followed written before.text) grown part' tells in
-    subst (λ (l : Texts). Tells job (bytes ++ take used piece) (followed written l) after.tally after.held) (sym same)
-    (subst (λ (t : Tally). Tells job (bytes ++ take used piece) (followed written before.text) t after.held) (sym counted) more)
 
 -- bytes came by which a message was whole, and it got its line
 pub onward_message : (job : Job) (before after : Standing) (piece message : List ℕ) → message ≡ before.held ++ piece → IsMessage job.limit message → after.held ≡ []

@@ -18,27 +18,9 @@ use Rattle.fb_run.specs.declared.fault.RunFault.{RunFault}
 use Rattle.fb_run.specs.declared.fault.RunFault.TheVariants as run
 use Rattle.fb_run.proofs.Pieces.{front-more}
 use Rattle.fb_run.proofs.RunLemmas.{Sofar, fails_write, told_empty}
-use Rattle.fb_run.proofs.StreamLemmas.{gathers_front, halts_memory, onward_line, onward_partial}
+use Rattle.fb_run.proofs.StreamLemmas.{gathers_front, halts_memory, onward_line}
 use Rattle.fb_run.proofs.TakesLemmas.{takes_none, takes_nothing, takes_then, writes_nothing, writes_then}
 use Rattle.fb_run.proofs.TextsLemmas.{followed_assoc, followed_silent}
-
--- nothing was written at once
-pub through_waiting : (job : Job) (before after : Standing) (piece : List ℕ) (s : Option (List ℕ)) → after.written.out ≡ before.written.out → Onward job before piece after
-    → OnwardThrough job before piece after s s
-through_waiting job before after piece s same onward = record { front = []; onward = onward; wrote = Appends-nil s; written_is = omega (arith, same) }
-
--- no byte was passed
-pub through_none : (job : Job) (stand : Standing) (s : Option (List ℕ)) → OnwardThrough job stand [] stand s s
-through_none job stand s =
-    through_waiting job stand stand [] s refl
-    (λ bytes written tells. subst (λ (l : List ℕ). Tells job l (followed written stand.text) stand.tally stand.held) (sym (append-nil bytes)) tells)
-
--- a part of a message was passed
-pub through_partial : (job : Job) (before after : Standing) (old new : Framing) (piece : List ℕ) (used : ℕ) (whole : Bool) (s : Option (List ℕ))
-    → after.written.out ≡ before.written.out → old.limit ≡ job.limit → old.held ≡ before.held → Feeds old new piece used whole → IsPartial new.limit new.held → new.held ≡ after.held
-    → after.text ≡ before.text → after.tally ≡ before.tally → OnwardThrough job before (take used piece) after s s
-through_partial job before after old new piece used whole s same limit held feeds part is texts counted =
-    through_waiting job before after (take used piece) s same (onward_partial job before after old new piece used whole limit held feeds part is texts counted)
 
 -- a message was whole and its line came through
 pub through_line : (job : Job) (before after : Standing) (old new : Framing) (piece message : List ℕ) (used : ℕ) (whole : Bool) (s s' : Option (List ℕ))

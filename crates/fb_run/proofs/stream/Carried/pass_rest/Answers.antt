@@ -36,16 +36,12 @@ fronts-preserved g c =
 
 pub returns-in_err-used-clause-stops : goal.returns-in_err-used-clause-stops
 returns-in_err-used-clause-stops g c =
-    if_err_exit c.from_residual.result _ (StopsAmid c.args.checker.now (standing c.args.self.now) _ _ _ _) c.from_residual.ensures.1
-    (stops_rest _ (standing c.args.self.now) _ _ _ _ _ _ c.fronts.invariant.passed _ c.in_err-used.field-0.0 c.in_err-used.ensures.stops)
+    if_err_exit _ _ _ c.from_residual.ensures.1 (stops_rest _ (standing c.args.self.now) _ _ _ _ _ _ c.fronts.invariant.passed _ c.in_err-used.field-0.0 c.in_err-used.ensures.stops)
 
 pub returns-in_err-used-clause-failed : goal.returns-in_err-used-clause-failed
 returns-in_err-used-clause-failed g c =
     let before = c.fronts.invariant in
-    if_err_exit c.from_residual.result _
-    (IsCausedOut (outs_of g.K.Sink g.N.Sink c.args.writer.now c.args.notes.now) (outs_of g.K.Sink g.N.Sink c.pass_front.new.writer c.pass_front.new.notes))
-    c.from_residual.ensures.1
-    (λ reads left ended. caused_then reads reads left ended (outs_of g.K.Sink g.N.Sink c.args.writer.now c.args.notes.now) (outs_of g.K.Sink g.N.Sink c.fronts.writer c.fronts.notes)
+    if_err_exit _ _ _ c.from_residual.ensures.1 (λ reads left ended. caused_then reads reads left ended (outs_of g.K.Sink g.N.Sink c.args.writer.now c.args.notes.now) (outs_of g.K.Sink g.N.Sink c.fronts.writer c.fronts.notes)
     (outs_of g.K.Sink g.N.Sink c.pass_front.new.writer c.pass_front.new.notes) c.in_err-used.field-0.0 refl before.unfailed c.in_err-used.ensures.failed)
 
 pub returns-then-is_empty-clause-passes : goal.returns-then-is_empty-clause-passes

@@ -24,8 +24,7 @@ loop-rest-preserved g c =
 
 pub returns-in_err-used-clause-halts : goal.returns-in_err-used-clause-halts
 returns-in_err-used-clause-halts g c =
-    if_err_exit c.from_residual.result _ (Halts _ (standing c.args.self.now) _ _ _) c.from_residual.ensures.1
-    (halts_after _ (standing c.args.self.now) (standing c.loop-rest.self) _ c.loop-rest.rest.now _ _ _ c.loop-rest.invariant.passed c.in_err-used.ensures.halts)
+    if_err_exit _ _ _ c.from_residual.ensures.1 (halts_after _ (standing c.args.self.now) (standing c.loop-rest.self) _ c.loop-rest.rest.now _ _ _ c.loop-rest.invariant.passed c.in_err-used.ensures.halts)
 
 pub returns-in_err-used-clause-gathers : goal.returns-in_err-used-clause-gathers
 returns-in_err-used-clause-gathers g c =
