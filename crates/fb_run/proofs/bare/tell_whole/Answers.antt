@@ -1,8 +1,6 @@
 use Rattle.std.proofs.Common.{ap, refl, subst, sym, true}
 use Rattle.fb_run.specs.Bare.{FailsBare}
 use Rattle.fb_run.specs.Ends.{beside, outs_of, writer_of}
-use Rattle.fb_run.specs.Faults.{EndsWith, failed}
-use Rattle.fb_run.specs.Run.{IsBareRun}
 use Rattle.fb_run.specs.Texts.{Sizes, written_by}
 use Rattle.fb_run.specs.declared.tally.Tally.{Tally}
 use Rattle.fb_run.proofs.BareLemmas.{fails_part, fails_through, passes_through}

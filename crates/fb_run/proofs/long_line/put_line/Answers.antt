@@ -1,12 +1,8 @@
-use Rattle.std.proofs.Common.{codes, arith}
-use Rattle.std.proofs.lemmas.Grind.{common_steps}
+use Rattle.std.proofs.Common.{codes}
 use Rattle.std.proofs.lemmas.Result.{IfErr-weaker, on_ok_weaker}
 use Rattle.fb_verify.proofs.Frames.{if_err_exit}
 use Rattle.fb_run.proofs.BehindLemmas.{behind_more, front_behind, front_more}
 use Rattle.fb_run.proofs.long_line.put_line.Goals as goal
-
-pub returns-in_err-put-clause-err : goal.returns-in_err-put-clause-err
-returns-in_err-put-clause-err g c = grind (arith, common_steps)
 
 pub returns-in_err-put-2-clause-err : goal.returns-in_err-put-2-clause-err
 returns-in_err-put-2-clause-err g c =

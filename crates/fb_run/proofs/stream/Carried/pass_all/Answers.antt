@@ -1,9 +1,7 @@
 use Rattle.std.proofs.Common.{rules, ap, refl, subst, sym}
 use mathlib.Core.Logic.{inl, inr}
 use Rattle.std.specs.Io.KnownBytes.{Consumes}
-use Rattle.fb_run.specs.Faults.{EndsBeside}
 use Rattle.fb_run.specs.Prompt.{IsBarePrompt}
-use Rattle.fb_run.specs.Run.{IsRunBeside}
 use Rattle.fb_run.specs.Ends.{ends_of, outs_of, reader_of}
 use Rattle.fb_run.specs.Stream.{Standing, standing}
 use Rattle.fb_run.proofs.BareLemmas.{fails_untold}

@@ -1,6 +1,6 @@
 use Rattle.std.proofs.Common.{refl, rules}
 use Rattle.fb_verify.proofs.Frames.{if_err_exit}
-use Rattle.fb_run.specs.Stream.{StopsAmid, standing}
+use Rattle.fb_run.specs.Stream.{standing}
 use Rattle.fb_run.proofs.ThroughLemmas.{passes_flushed, stops_flush, stops_flushed}
 use Rattle.fb_run.proofs.stream.Carried.pass_front.Goals as goal
 

@@ -1,7 +1,7 @@
 use Rattle.std.proofs.Common.{refl, rules}
 use Rattle.std.proofs.lemmas.List.{take_rest}
 use Rattle.fb_verify.proofs.Frames.{if_err_exit}
-use Rattle.fb_run.specs.Stream.{Halts, standing}
+use Rattle.fb_run.specs.Stream.{standing}
 use Rattle.fb_run.proofs.StreamLemmas.{gathers_front, gathers_halts, halts_after, onward_front, passed_more, passed_none}
 use Rattle.fb_run.proofs.stream.Carried.use_up.Goals as goal
 

@@ -1,4 +1,4 @@
-use Rattle.std.proofs.Common.{◌≡◌, rules, sym}
+use Rattle.std.proofs.Common.{◌≡◌, rules}
 use Rattle.fb_verify.proofs.Frames.{if_err_exit}
 use Rattle.fb_run.proofs.BehindLemmas.{behind_flushed, behind_more, behind_written, front_behind}
 use Rattle.fb_run.proofs.writing.Pending.put.Goals as goal
