@@ -5,12 +5,9 @@ use Rattle.fb_run.proofs.BehindLemmas.{each_fails, each_more}
 use Rattle.fb_run.proofs.long_line.put_bytes.Goals as goal
 
 pub loop-byte-preserved : goal.loop-byte-preserved
-loop-byte-preserved g c = record {
-  told = each_more (spelled c.args.spelling) c.args.bytes.now c.loop-byte.byte-index 0 (search rules) c.spell-length.ensures.text c.loop-byte.invariant.told c.in_ok-put.ensures.ok;
-  calls = search rules;
-  count = search rules;
-  failures = search rules;
-}
+loop-byte-preserved g c =
+    let told = each_more (spelled c.args.spelling) c.args.bytes.now c.loop-byte.byte-index 0 (search rules) c.spell-length.ensures.text c.loop-byte.invariant.told c.in_ok-put.ensures.ok in
+    search rules
 
 pub returns-in_err-put-clause-err : goal.returns-in_err-put-clause-err
 returns-in_err-put-clause-err g c =

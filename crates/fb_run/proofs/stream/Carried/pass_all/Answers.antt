@@ -1,5 +1,4 @@
-use Rattle.std.proofs.Common.{rules, ap, refl, subst, sym}
-use mathlib.Core.Logic.{inl, inr}
+use Rattle.std.proofs.Common.{rules, ap, subst, sym}
 use Rattle.std.specs.Io.KnownBytes.{Consumes}
 use Rattle.fb_run.specs.Prompt.{IsBarePrompt}
 use Rattle.fb_run.specs.Ends.{ends_of, outs_of, reader_of}
@@ -47,40 +46,19 @@ pull_piece-requires-clause-leave g c =
     c.requires.leave now (prompt_stream _ _ (ends_of g.S.Input g.K.Sink g.N.Sink c.args.reader.now c.args.writer.now c.args.notes.now) now c.is_bare.ensures c.if-is_bare.false (search rules)) before.asks
 
 pub loop-left-init : goal.loop-left-init
-loop-left-init g c = record {
-  room = search rules;
-  ready = c.requires.ready;
-  empty = ap (λ (s : Standing). s.text) c.requires.start;
-  told = sofar_nothing _ (standing c.args.self.now) (ends_of g.S.Input g.K.Sink g.N.Sink c.args.reader.now c.args.writer.now c.args.notes.now) c.requires.start;
-  fewer = search rules;
-  calls = search rules;
-  few = search rules;
-  load = search rules;
-  tells = search rules;
-  asks = (refl, inr (refl, refl));
-  unfailed = (refl, refl);
-}
+loop-left-init g c =
+    let empty = ap (λ (s : Standing). s.text) c.requires.start in
+    let told = sofar_nothing c.args.checker.now (standing c.args.self.now) (ends_of g.S.Input g.K.Sink g.N.Sink c.args.reader.now c.args.writer.now c.args.notes.now) c.requires.start in
+    search rules
 
 pub loop-left-preserved : goal.loop-left-preserved
 loop-left-preserved g c =
     let before = c.loop-left.invariant in
-    let passed = c.in_ok-pass_piece.ensures in
     let first = ends_of g.S.Input g.K.Sink g.N.Sink c.args.reader.now c.args.writer.now c.args.notes.now in
     let now = ends_of g.S.Input g.K.Sink g.N.Sink c.loop-left.reader c.loop-left.writer c.loop-left.notes in
-    record {
-      room = search rules;
-      ready = passed.ready;
-      empty = passed.empty;
-      told = sofar_piece _ (standing c.loop-left.self) _ _ _ first now (reader_of g.S.Input c.pull_piece.new.source) (outs_of g.K.Sink g.N.Sink c.pass_piece.new.writer c.pass_piece.new.notes)
-          c.as_slice-in-loop-left.ensures.value before.empty before.told c.in-Ok.ensures.ok _ passed.passes;
-      fewer = search rules;
-      calls = search rules;
-      few = search rules;
-      load = search rules;
-      tells = search rules;
-      asks = (search rules, inl (c.in-Ok.ensures.unended (search rules)));
-      unfailed = search rules;
-    }
+    let told = sofar_piece _ (standing c.loop-left.self) _ _ _ first now (reader_of g.S.Input c.pull_piece.new.source) (outs_of g.K.Sink g.N.Sink c.pass_piece.new.writer c.pass_piece.new.notes)
+    c.as_slice-in-loop-left.ensures.value before.empty before.told c.in-Ok.ensures.ok _ c.in_ok-pass_piece.ensures.passes in
+    search rules
 
 pub returns-in_err-pass_piece-clause-run : goal.returns-in_err-pass_piece-clause-run
 returns-in_err-pass_piece-clause-run g c =

@@ -1,4 +1,4 @@
-use Rattle.std.proofs.Common.{◌∙◌, refl, rules}
+use Rattle.std.proofs.Common.{refl, rules}
 use Rattle.std.proofs.lemmas.List.{length-drop, take_rest}
 use Rattle.fb_verify.proofs.Frames.{if_err_exit}
 use Rattle.fb_run.specs.Ends.{outs_of}
@@ -8,30 +8,16 @@ use Rattle.fb_run.proofs.ThroughLemmas.{passes_last, stops_rest, written_more, w
 use Rattle.fb_run.proofs.stream.Carried.pass_rest.Goals as goal
 
 pub fronts-init : goal.fronts-init
-fronts-init g c = record {
-  ready = c.requires.ready;
-  passed = written_none _ (standing c.args.self.now) _ _;
-  within = search rules;
-  few = search rules;
-  load = search rules;
-  unfailed = (refl, refl);
-}
+fronts-init g c =
+    let passed = written_none c.args.checker.now (standing c.args.self.now) c.args.piece.now (outs_of g.K.Sink g.N.Sink c.args.writer.now c.args.notes.now) in
+    search rules
 
 pub fronts-preserved : goal.fronts-preserved
 fronts-preserved g c =
-    let before = c.fronts.invariant in
     let front = c.in_ok-used.ensures in
-    let more = c.if-is_empty.false in
     let left = length-drop c.in_ok-used.used c.fronts.rest.now in
-    record {
-      ready = front.ready;
-      passed = written_more _ _ _ _ c.in_ok-used.used _ c.fronts.rest.now _ _ _ _
-          (take_rest c.fronts.rest.now c.in_ok-used.used) front.empty before.passed front.passes;
-      within = search rules;
-      few = search rules;
-      load = search rules;
-      unfailed = (front.unfailed.0 ∙ before.unfailed.0, front.unfailed.1 ∙ before.unfailed.1);
-    }
+    let passed = written_more _ _ _ _ c.in_ok-used.used _ c.fronts.rest.now _ _ _ _ (take_rest c.fronts.rest.now c.in_ok-used.used) front.empty c.fronts.invariant.passed front.passes in
+    search rules
 
 pub returns-in_err-used-clause-stops : goal.returns-in_err-used-clause-stops
 returns-in_err-used-clause-stops g c =

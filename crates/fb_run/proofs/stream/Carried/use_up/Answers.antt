@@ -6,21 +6,15 @@ use Rattle.fb_run.proofs.StreamLemmas.{gathers_front, gathers_halts, halts_after
 use Rattle.fb_run.proofs.stream.Carried.use_up.Goals as goal
 
 pub loop-rest-init : goal.loop-rest-init
-loop-rest-init g c = record { ready = c.requires.ready; passed = passed_none _ (standing c.args.self.now) _; within = search rules; few = search rules; written = search rules; noted = search rules }
+loop-rest-init g c =
+    let passed = passed_none c.args.checker.now (standing c.args.self.now) c.args.piece.now in
+    search rules
 
 pub loop-rest-preserved : goal.loop-rest-preserved
 loop-rest-preserved g c =
-    let before = c.loop-rest.invariant in
-    let some = c.in_ok-used.ensures in
-    record {
-      ready = some.ready;
-      passed = passed_more _ (standing c.args.self.now) (standing c.loop-rest.self) (standing c.pass_some.new.self) c.in_ok-used.used _ c.loop-rest.rest.now _
-          (take_rest c.loop-rest.rest.now c.in_ok-used.used) before.passed some.onward;
-      within = search rules;
-      few = search rules;
-      written = search rules;
-      noted = search rules;
-    }
+    let passed = passed_more _ (standing c.args.self.now) (standing c.loop-rest.self) (standing c.pass_some.new.self) c.in_ok-used.used c.args.piece.now c.loop-rest.rest.now _
+    (take_rest c.loop-rest.rest.now c.in_ok-used.used) c.loop-rest.invariant.passed c.in_ok-used.ensures.onward in
+    search rules
 
 pub returns-in_err-used-clause-halts : goal.returns-in_err-used-clause-halts
 returns-in_err-used-clause-halts g c =
