@@ -6,7 +6,7 @@ use borrow.Author.Count.{below_more, below_none}
 use Rattle.json.specs.Json.{object, Members, no_members, member}
 use Rattle.json.specs.Print.{escape_byte, quoted}
 use Rattle.fb_run.specs.Json.{count_json, following, json_text}
-use Rattle.fb_run.specs.JsonSums.{json_summary, reasons_members, summary_in}
+use Rattle.fb_run.specs.JsonSums.{reasons_members, summary_in}
 use Rattle.fb_run.specs.Sums.{count_of, counts_part, in_form, reasons_from, summary_part, verdicts_part}
 use Rattle.fb_run.specs.declared.options.Form.{Form}
 use Rattle.fb_run.specs.declared.options.Form.TheVariants as form
@@ -66,14 +66,11 @@ tail_text : (tally : Tally)
 unfolding escape_byte
 tail_text tally = simp (next_member, no_more, number_text, append_assoc)
 
-json_parts : (tally : Tally) → length tally.reasons ≡ 13 → summary_part form.Json tally ≡ json_summary tally
-json_parts tally places =
+-- the line in either form
+pub summary_parts : (f : Form) (tally : Tally) → length tally.reasons ≡ 13 → summary_part f tally ≡ summary_in f tally
+summary_parts form.Plain tally places = refl
+summary_parts form.Json tally places =
     sym (
     head_text tally (reasons_members 1 tally.reasons (member (codes "bytes") (count_json tally.bytes) (member (codes "tables") (count_json tally.tables) (member (codes "reads") (count_json tally.reads) no_members))))
     ∙ ap (λ l. verdicts_part form.Json tally l) (reasons_text 1 tally.reasons _ (omega (arith, places)) ∙ ap (λ l. reasons_from form.Json 1 tally.reasons l) (tail_text tally))
     )
-
--- the line in either form
-pub summary_parts : (f : Form) (tally : Tally) → length tally.reasons ≡ 13 → summary_part f tally ≡ summary_in f tally
-summary_parts form.Plain tally places = refl
-summary_parts form.Json tally places = json_parts tally places

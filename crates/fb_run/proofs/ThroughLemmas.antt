@@ -161,9 +161,7 @@ module _ (job : Job) (before : Standing) (piece : List ℕ) (a c : Outs) where
       → Writes between.text a c before.written after.written → PassesPiece job before piece after a c
   passes_flushed between after counted hs onward writes = record {
     text = between.text;
-    onward = λ bytes written tells.
-        subst (λ (t : Tally). Tells job (bytes ++ piece) (followed written between.text) t after.held) (sym counted)
-        (subst (λ (l : List ℕ). Tells job (bytes ++ piece) (followed written between.text) between.tally l) (sym hs) (onward bytes written tells));
+    onward = λ bytes written tells. rw (counted, hs) (onward bytes written tells);
     writes = writes;
   }
 
