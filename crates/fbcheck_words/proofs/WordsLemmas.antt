@@ -19,7 +19,7 @@ use Rattle.fbcheck_words.specs.Refusal.{Refuses}
 use Rattle.fbcheck_words.specs.Values.{IsGiven, IsNumberIn, IsNumberOf, text_of, texts_of}
 use Rattle.fbcheck_words.specs.declared.choices.Settings.{Settings}
 use Rattle.fbcheck_words.specs.declared.choices.SettingsFault.{SettingsFault}
-use Rattle.fbcheck_words.specs.declared.choices.SettingsFault.TheVariants.{Usage, BadIdent, PathInFilter, TwoIdents, TooManyPaths, BareDelimited, OutOfMemory}
+use Rattle.fbcheck_words.specs.declared.choices.SettingsFault.TheVariants.{PathInFilter, TwoIdents, TooManyPaths, BareDelimited}
 
 simple : (is_simple program ≡ true) × (is_simple_and_free program ≡ true)
 unfolding clap_on_literals
