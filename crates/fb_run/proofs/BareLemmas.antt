@@ -74,14 +74,20 @@ pub fails_through : (job : Job) (bytes : List ℕ) (text : Texts) (tally tally' 
     → FailsBare job (beside before (record { writer = writer; notes = notes })) (beside after (record { writer = writer'; notes = notes })) tally' fault
 fails_through job bytes text tally tally' size before after writer writer' notes run.OutOfMemory read within none zero c0 (verdict, line, told, keeps, counted) =
     (bytes, read, (within, ((keeps, Keeps-refl notes.bytes), counted ∙ zero)))
-fails_through job bytes text tally tally' size before after writer writer' notes (run.WriteFault written) read within none zero c0 (verdict, line, told, front, counted) =
-    (bytes, read, (within, record {
+fails_through job bytes text tally tally' size before after writer writer' notes (run.WriteFault written) read within none zero c0 (verdict, line, told, front, counted) = (
+  bytes,
+  read,
+  (
+    within,
+    record {
       verdict = verdict;
       line = line;
       is_line = first_of job bytes verdict line tally zero told;
       wrote = (rw (none, c0) at front, Keeps-refl notes.bytes);
       tally_is = counted ∙ counts_first bytes verdict tally zero;
-    }))
+    },
+  ),
+)
 fails_through job bytes text tally tally' size before after writer writer' notes _ read within none zero c0 (verdict, line, told, never, counted) = absurd never
 
 -- nothing was told
