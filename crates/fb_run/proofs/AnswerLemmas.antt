@@ -1,8 +1,6 @@
 -- The text of values.
-use Rattle.std.proofs.Common.{◌≡◌, ℕ, ◌+◌, ◌<◌, List, [], ◌∷◌, ◌++◌, length, take, get_or, map, refl, sym, ap, ◌∙◌, append_assoc, append-nil}
+use Rattle.std.proofs.Common.{◌≡◌, ℕ, List, [], ◌∷◌, ◌++◌, map, refl, sym, ap, ◌∙◌, append_assoc, append-nil}
 use Rattle.std.specs.List.{flat_map}
-use Rattle.std.proofs.lemmas.Grind.{flat_map-append}
-use Rattle.std.proofs.lemmas.List.{take_more}
 use Rattle.fb_access.specs.Denotes.{shown}
 use Rattle.fb_access.specs.declared.answer.Answer.{Answer}
 use Rattle.fb_run.specs.AnswerText.{answers_text, byte_text, spaced_answer}
@@ -16,10 +14,3 @@ texts_more (x ∷ xs) b = ap (λ l. byte_text x ++ l) (texts_more xs b) ∙ sym 
 pub answers_each : (answers : List Answer) → flat_map spaced_answer answers ≡ answers_text (map shown answers)
 answers_each [] = refl
 answers_each (answer ∷ answers) = ap (λ l. spaced_answer answer ++ l) (answers_each answers)
-
--- one answer more
-pub answers_more : (answers : List Answer) (i : ℕ) (answer : Answer) → i < length answers → get_or answers i answer ≡ answer
-    → flat_map spaced_answer (take (i + 1) answers) ≡ flat_map spaced_answer (take i answers) ++ spaced_answer answer
-answers_more answers i answer inside is =
-    ap (flat_map spaced_answer) (take_more answers i answer inside ∙ ap (λ a. take i answers ++ a ∷ []) is)
-    ∙ flat_map-append spaced_answer (take i answers) (answer ∷ []) ∙ ap (λ l. flat_map spaced_answer (take i answers) ++ l) (append-nil (spaced_answer answer))

@@ -6,7 +6,7 @@ use Rattle.fb_run.specs.Ends.{Ends, Reader, Takes, Writer, beside}
 use Rattle.fb_run.specs.Job.{Job, Verdict}
 use Rattle.fb_run.specs.Texts.{Sizes, Texts, followed, no_bytes, silent}
 use Rattle.fb_run.specs.Line.{IsTold}
-use Rattle.fb_run.specs.Lines.{AddsTold, AddsThrough, StopsBehind, WritesFront, WritesFronts}
+use Rattle.fb_run.specs.Lines.{AddsTold, AddsThrough, StopsBehind, WritesFronts}
 use Rattle.fb_run.specs.Sums.{no_tally, tally_with}
 use Rattle.fb_run.specs.declared.tally.Tally.{Tally}
 use Rattle.fb_run.specs.Bare.{FailsBare, PassesBare, WritesPart}
@@ -33,8 +33,7 @@ module _ (job : Job) (bytes : List ℕ) (text : Texts) (tally : Tally) (size : S
         verdict = adds.verdict;
         line = adds.line;
         is_line = first_of job bytes adds.verdict adds.line tally zero adds.is_line;
-        wrote = subst (λ (k : Sizes). WritesFronts adds.line before.outs after.outs k fault) start
-            (subst (λ (t : Texts). WritesFronts t before.outs after.outs size fault) whole front);
+        wrote = rw (whole, start) at front;
         tally_is = adds.tally_is ∙ counts_first bytes adds.verdict tally zero;
       }
 
@@ -84,11 +83,7 @@ fails_through job bytes text tally tally' size before after writer writer' notes
       verdict = verdict;
       line = line;
       is_line = first_of job bytes verdict line tally zero told;
-      wrote = (
-        subst (λ (c : ℕ). WritesFront line.out writer.bytes writer'.bytes c written) c0
-            (subst (λ (t : Texts). WritesFront (t.out ++ line.out) writer.bytes writer'.bytes size written) none front),
-        Keeps-refl notes.bytes,
-      );
+      wrote = (rw (none, c0) at front, Keeps-refl notes.bytes);
       tally_is = counted ∙ counts_first bytes verdict tally zero;
     },
   ),

@@ -5,24 +5,16 @@ use Rattle.std.proofs.lemmas.Grind.{flat_map-append}
 use Rattle.std.proofs.lemmas.List.{take-append-le, take_more}
 use Rattle.std.specs.List.{flat_map}
 use Rattle.std.specs.Io.KnownBytes.{Appends}
-use Rattle.std.proofs.KnownBytes.{Appends-nil, Appends-trans}
+use Rattle.std.proofs.KnownBytes.{Appends-trans}
 use Rattle.fb_run.specs.Lines.{ComesBehind, WritesFront, WritesFronts}
 use Rattle.fb_run.specs.Ends.{Outs, Writer}
 use Rattle.fb_run.specs.Texts.{Sizes, Texts, followed, to_out}
 use Rattle.fb_run.specs.declared.fault.RunFault.{RunFault}
 use Rattle.fb_run.specs.declared.fault.RunFault.TheVariants as run
 
--- nothing came
-pub behind_none : (w : List ℕ) (s : Option (List ℕ)) (b : ℕ) → ComesBehind w [] w s s b b
-behind_none w s b = record { front = []; whole = append-nil w; wrote = Appends-nil s; written_is = omega arith }
-
--- what came waits
-pub behind_waits : (w a w' : List ℕ) (s : Option (List ℕ)) (b b' : ℕ) → w' ≡ w ++ a → b' ≡ b → ComesBehind w a w' s s b b'
-behind_waits w a w' s b b' is same = record { front = []; whole = sym is; wrote = Appends-nil s; written_is = omega (arith, same) }
-
 -- nothing waited, and what came was written
-pub behind_written : (w a w' : List ℕ) (s s' : Option (List ℕ)) (b b' : ℕ) → w ≡ [] → w' ≡ [] → Appends s s' a → b' ≡ b + length a → ComesBehind w a w' s s' b b'
-behind_written w a w' s s' b b' none none' wrote count = record {
+pub behind_written : {w a w' : List ℕ} {s s' : Option (List ℕ)} {b b' : ℕ} → w ≡ [] → w' ≡ [] → Appends s s' a → b' ≡ b + length a → ComesBehind w a w' s s' b b'
+behind_written {a = a} none none' wrote count = record {
   front = a;
   whole = ap (λ l. l ++ a) none ∙ sym (append-nil a) ∙ ap (λ l. a ++ l) (sym none');
   wrote = wrote;
@@ -30,8 +22,8 @@ behind_written w a w' s s' b b' none none' wrote count = record {
 }
 
 -- what waited was written
-pub behind_flushed : (w w0 w' : List ℕ) (s s' : Option (List ℕ)) (b b' : ℕ) → w0 ≡ w → w' ≡ [] → Appends s s' w0 → b' ≡ b + length w0 → ComesBehind w [] w' s s' b b'
-behind_flushed w w0 w' s s' b b' same none wrote count = record {
+pub behind_flushed : {w w0 w' : List ℕ} {s s' : Option (List ℕ)} {b b' : ℕ} → w0 ≡ w → w' ≡ [] → Appends s s' w0 → b' ≡ b + length w0 → ComesBehind w [] w' s s' b b'
+behind_flushed {w0 = w0} same none wrote count = record {
   front = w0;
   whole = ap (λ l. l ++ []) (sym same) ∙ ap (λ l. w0 ++ l) (sym none);
   wrote = wrote;
@@ -39,9 +31,9 @@ behind_flushed w w0 w' s s' b b' same none wrote count = record {
 }
 
 -- two texts
-pub behind_more : (w a w' c w'' : List ℕ) (s s' s'' : Option (List ℕ)) (b b' b'' : ℕ) → ComesBehind w a w' s s' b b' → ComesBehind w' c w'' s' s'' b' b''
+pub behind_more : {w a w' c w'' : List ℕ} {s s' s'' : Option (List ℕ)} {b b' b'' : ℕ} → ComesBehind w a w' s s' b b' → ComesBehind w' c w'' s' s'' b' b''
     → ComesBehind w (a ++ c) w'' s s'' b b''
-behind_more w a w' c w'' s s' s'' b b' b'' first second = record {
+behind_more {w} {a} {w'} {c} {w''} {s} {s'} {s''} first second = record {
   front = first.front ++ second.front;
   whole =
       sym (append_assoc w a c) ∙ ap (λ l. l ++ c) first.whole ∙ append_assoc first.front w' c ∙ ap (λ l. first.front ++ l) second.whole
@@ -51,9 +43,9 @@ behind_more w a w' c w'' s s' s'' b b' b'' first second = record {
 }
 
 -- a write came to rest in the second of two texts
-pub front_behind : (w a w' c : List ℕ) (s s' s'' : Option (List ℕ)) (b b' n : ℕ) → ComesBehind w a w' s s' b b' → WritesFront (w' ++ c) s' s'' b' n
+pub front_behind : {w a w' : List ℕ} (c : List ℕ) {s s' s'' : Option (List ℕ)} {b b' n : ℕ} → ComesBehind w a w' s s' b b' → WritesFront (w' ++ c) s' s'' b' n
     → WritesFront (w ++ (a ++ c)) s s'' b n
-front_behind w a w' c s s' s'' b b' n first second =
+front_behind {w} {a} {w'} c {s} {s'} {s''} first second =
     let whole : w ++ (a ++ c) ≡ first.front ++ (w' ++ c) = sym (append_assoc w a c) ∙ ap (λ l. l ++ c) first.whole ∙ append_assoc first.front w' c in
     record {
       taken = length first.front + second.taken;
@@ -65,8 +57,8 @@ front_behind w a w' c s s' s'' b b' n first second =
     }
 
 -- or in the first
-pub front_more : (w a c : List ℕ) (s s' : Option (List ℕ)) (b n : ℕ) → WritesFront (w ++ a) s s' b n → WritesFront (w ++ (a ++ c)) s s' b n
-front_more w a c s s' b n front =
+pub front_more : (w a c : List ℕ) {s s' : Option (List ℕ)} {b n : ℕ} → WritesFront (w ++ a) s s' b n → WritesFront (w ++ (a ++ c)) s s' b n
+front_more w a c {s} {s'} front =
     let whole = append_assoc w a c in
     record {
       taken = front.taken;
@@ -82,30 +74,27 @@ module _ {A : Type 0} (f : A → List ℕ) (bytes : List A) (i : ℕ) (d : A) (i
       ∙ ap (λ l. flat_map f (take i bytes) ++ l) (append-nil (f (get_or bytes i d)))
 
   -- the next of many came behind the first ones
-  pub each_more : (w w' w'' x : List ℕ) (s s' s'' : Option (List ℕ)) (b b' b'' : ℕ) → x ≡ f (get_or bytes i d)
+  pub each_more : {w w' w'' x : List ℕ} {s s' s'' : Option (List ℕ)} {b b' b'' : ℕ} → x ≡ f (get_or bytes i d)
       → ComesBehind w (flat_map f (take i bytes)) w' s s' b b' → ComesBehind w' x w'' s' s'' b' b'' → ComesBehind w (flat_map f (take (i + 1) bytes)) w'' s s'' b b''
-  each_more w w' w'' x s s' s'' b b' b'' is first second =
-      subst (λ l. ComesBehind w l w'' s s'' b b'') (ap (λ l. flat_map f (take i bytes) ++ l) is ∙ sym one_more)
-      (behind_more w (flat_map f (take i bytes)) w' x w'' s s' s'' b b' b'' first second)
+  each_more {w} {w'' = w''} {s = s} {s'' = s''} {b = b} {b'' = b''} is first second =
+      subst (λ l. ComesBehind w l w'' s s'' b b'') (ap (λ l. flat_map f (take i bytes) ++ l) is ∙ sym one_more) (behind_more first second)
 
   -- a write came to rest in it
-  pub each_fails : (w w' x : List ℕ) (s s' s'' : Option (List ℕ)) (b b' n : ℕ) → x ≡ f (get_or bytes i d)
+  pub each_fails : {w w' : List ℕ} (x : List ℕ) {s s' s'' : Option (List ℕ)} {b b' n : ℕ} → x ≡ f (get_or bytes i d)
       → ComesBehind w (flat_map f (take i bytes)) w' s s' b b' → WritesFront (w' ++ x) s' s'' b' n → WritesFront (w ++ flat_map f bytes) s s'' b n
-  each_fails w w' x s s' s'' b b' n is first second =
+  each_fails {w} x {s} {s'' = s''} {b = b} {n = n} is first second =
       let rest = flat_map f (drop (i + 1) bytes) in
-      let front = front_more w (flat_map f (take i bytes) ++ x) rest s s'' b n (front_behind w (flat_map f (take i bytes)) w' x s s' s'' b b' n first second) in
       let all : (flat_map f (take i bytes) ++ x) ++ rest ≡ flat_map f bytes =
       ap (λ l. l ++ rest) (ap (λ l. flat_map f (take i bytes) ++ l) is ∙ sym one_more) ∙ sym (flat_map-append f (take (i + 1) bytes) (drop (i + 1) bytes))
       ∙ ap (flat_map f) (take-append-drop (i + 1) bytes) in
-      subst (λ l. WritesFront (w ++ l) s s'' b n) all front
+      subst (λ l. WritesFront (w ++ l) s s'' b n) all (front_more w _ rest (front_behind x first second))
 
 -- a write that came to rest behind a front came to rest within the whole
 pub fronts_behind : (front : List ℕ) (text : Texts) (a c : Outs) (between : Writer) (size size' : Sizes) (fault : RunFault) → Appends a.writer.bytes between.bytes front
     → size'.out ≡ size.out + length front → size'.notes ≡ size.notes → WritesFronts text (record { writer = between; notes = a.notes }) c size' fault
     → WritesFronts (followed (to_out front) text) a c size fault
 fronts_behind front text a c between size size' (run.WriteFault written) wrote count same (within, keeps) = (
-  front_behind [] front [] text.out a.writer.bytes between.bytes c.writer.bytes size.out size'.out written
-      (behind_written [] front [] a.writer.bytes between.bytes size.out size'.out refl refl wrote count) within,
+  front_behind text.out (behind_written {w = []} {w' = []} refl refl wrote count) within,
   keeps,
 )
 fronts_behind front text a c between size size' (run.NoteFault written) wrote count same (more, within) = (

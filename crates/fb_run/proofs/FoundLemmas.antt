@@ -1,5 +1,5 @@
 -- The values at the ends of paths.
-use Rattle.std.proofs.Common.{◌≡◌, ℕ, ◌+◌, ◌<◌, List, [], ◌∷◌, ◌++◌, length, take, get_or, map, sym, ap, subst, ◌∙◌}
+use Rattle.std.proofs.Common.{◌≡◌, ℕ, ◌+◌, ◌<◌, List, [], ◌∷◌, ◌++◌, length, take, get_or, map, sym, ap, ◌∙◌}
 use Rattle.std.specs.List.{AllZip}
 use Rattle.std.proofs.lemmas.List.{map-append, take_more}
 use Rattle.fb_access.specs.Denotes.{Denotes, Shown, shown}
@@ -23,6 +23,4 @@ pub found_more : (bytes : List ℕ) (rows : Rows) (start : Start) (root : ℕ) (
 found_more bytes rows start root paths i wanted answers answers' answer inside is found denotes added =
     let more : take (i + 1) paths ≡ take i paths ++ wanted ∷ [] = take_more paths i wanted inside ∙ ap (λ w. take i paths ++ w ∷ []) (sym is) in
     let values : map shown answers' ≡ map shown answers ++ shown answer ∷ [] = ap (map shown) added ∙ map-append shown answers (answer ∷ []) in
-    let pushed = both_more (λ (w : Wanted) (value : Shown). Denotes bytes rows start root w.steps value) (take i paths) (map shown answers) wanted (shown answer) found denotes in
-    subst (λ (l : List Wanted). AreAnswers bytes rows start root l (map shown answers')) (sym more)
-    (subst (λ (l : List Shown). AreAnswers bytes rows start root (take i paths ++ wanted ∷ []) l) (sym values) pushed)
+    rw (more, values) (both_more (λ (w : Wanted) (value : Shown). Denotes bytes rows start root w.steps value) (take i paths) (map shown answers) wanted (shown answer) found denotes)

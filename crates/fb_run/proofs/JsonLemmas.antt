@@ -1,10 +1,13 @@
 -- The text of JSON by its parts.
-use Rattle.std.proofs.Common.{◌≡◌, ℕ, zero, suc, ◌+◌, ◌<◌, ◌≤◌, ◌/◌, ◌%◌, ◌^◌, Bool, true, false, cond, List, [], ◌∷◌, ◌++◌, Option}
-use Rattle.std.proofs.Common.{Some, None, codes, decimal, length, fold, get_or, drop, Fits, w8, refl, sym, ap, ◌∙◌, arith, append_assoc, append-nil, ◌⊎◌, inl, inr}
+use Rattle.std.proofs.Common.{◌≡◌, ℕ, suc, ◌+◌, ◌<◌, ◌≤◌, ◌/◌, ◌%◌, ◌^◌, Bool, true, false, cond, List, [], ◌∷◌, ◌++◌, Option}
+use Rattle.std.proofs.Common.{Some, None, codes, decimal, length, fold, get_or, drop, Fits, w8, refl, sym, ap, ◌∙◌, arith, rules, append_assoc, append-nil, inl, inr, min}
 use Rattle.std.specs.Prelude.{nat_lt}
 use Rattle.std.specs.Str.{is_utf8, IsUtf8}
+use Rattle.std.proofs.lemmas.Bool.{cases_lt, false_from_ne_true}
 use Rattle.std.proofs.lemmas.Bool.Decides.{nat_tests}
+use Rattle.std.specs.List.{All}
 use Rattle.std.proofs.lemmas.List.{drop_more, drop_all}
+use Rattle.std.proofs.lemmas.List.Elements.{All-get_or}
 use Rattle.std.proofs.lemmas.Str.{IsUtf8-from_is_utf8, is_utf8-from_IsUtf8}
 use Rattle.std.proofs.lemmas.List.Sums.{fold-append}
 use Rattle.std.proofs.lemmas.Grind.{flat_map-append}
@@ -111,17 +114,12 @@ object_text ms = refl
 pub first_member : (key : List ℕ) (j : Json) (ms : Members) → json_text (object (member key j ms)) ≡ 123 ∷ (quoted key ++ (58 ∷ (json_text j ++ following ms)))
 first_member key j ms = object_text (member key j ms) ∙ ap (λ l. 123 ∷ l) (member_then false key j ms)
 
-pub true_text : json_text (boolean true) ≡ codes "true"
-unfolding print_from json_text
-true_text = refl
-
-pub false_text : json_text (boolean false) ≡ codes "false"
-unfolding print_from json_text
-false_text = refl
-
-pub null_text : json_text null ≡ codes "null"
-unfolding print_from json_text
-null_text = refl
+-- what is always told alike
+pub fixed_texts : (json_text null ≡ codes "null") × (json_text (boolean true) ≡ codes "true") × (json_text (boolean false) ≡ codes "false")
+    × (json_text (value_json no_element) ≡ codes "{\"absent\":\"no-element\"}") × (json_text (value_json other_member) ≡ codes "{\"absent\":\"other-member\"}")
+    × (json_text (value_json table) ≡ codes "{\"table\":true}")
+unfolding print_from json_text escape_byte
+fixed_texts = (refl, refl, refl, refl, refl, refl)
 
 -- an object of one member
 pub labelled_text : (key : List ℕ) (j : Json) → json_text (labelled key j) ≡ 123 ∷ (quoted key ++ (58 ∷ (json_text j ++ codes "}")))
@@ -131,26 +129,17 @@ labelled_text key j = first_member key j no_members ∙ ap (λ l. 123 ∷ (quote
 abbrev StaysAs : ℕ → Type 0
 StaysAs b = escape_byte b ≡ b ∷ []
 
-abbrev Each : List ℕ → Type 0
-Each [] = Unit {0}
-Each (b ∷ bytes) = StaysAs b × Each bytes
-
-each_at : (bytes : List ℕ) (k : ℕ) → Each bytes → k < length bytes → StaysAs (get_or bytes k 0)
-each_at [] k each h = absurd (omega arith)
-each_at (b ∷ bytes) zero each h = each.0
-each_at (b ∷ bytes) (suc k) each h = each_at bytes k each.1 (omega arith)
-
-sixteen : Each lower_digits
+sixteen : All StaysAs lower_digits
 unfolding escape_byte
-sixteen = (refl, (refl, (refl, (refl, (refl, (refl, (refl, (refl, (refl, (refl, (refl, (refl, (refl, (refl, (refl, (refl, tt))))))))))))))))
+sixteen = search rules
 
 digits_stay : (bytes : List ℕ) → ((k : ℕ) → Fits w8 (get_or bytes k 0)) → escape (encode_lower bytes) ≡ encode_lower bytes
 unfolding encode_with
 digits_stay [] h = refl
 digits_stay (b ∷ bytes) h =
     let small : b < 2 ^ 8 = Fits-lt-pow (h 0) in
-    let high = each_at lower_digits (b / 16) sixteen (omega arith) in
-    let low = each_at lower_digits (b % 16) sixteen (omega arith) in
+    let high = All-get_or StaysAs lower_digits (b / 16) 0 (omega arith) sixteen in
+    let low = All-get_or StaysAs lower_digits (b % 16) 0 (omega arith) sixteen in
     λ i. high i ++ (low i ++ digits_stay bytes (λ k. h (suc k)) i)
 
 -- an object of one member whose value is digits
@@ -161,10 +150,6 @@ labelled_digits key bytes h =
     ∙ ap (λ l. 123 ∷ (quoted key ++ (58 ∷ (l ++ codes "}")))) (string_text (encode_lower bytes))
     ∙ ap (λ l. 123 ∷ (quoted key ++ (58 ∷ 34 ∷ ((l ++ codes "\"") ++ codes "}")))) (digits_stay bytes h)
     ∙ ap (λ l. 123 ∷ (quoted key ++ (58 ∷ 34 ∷ l))) (append_assoc (encode_lower bytes) (codes "\"") (codes "}"))
-
-not_true : (b : Bool) → (b ≡ true → ⊥) → b ≡ false
-not_true true h = absurd (h refl)
-not_true false h = refl
 
 -- and by its key's text
 pub labelled_parts : (key bytes text text' : List ℕ) → ((k : ℕ) → Fits w8 (get_or bytes k 0))
@@ -181,21 +166,12 @@ labelled_number key s text text' is =
     ∙ sym (labelled_text key (number s) ∙ ap (λ l. 123 ∷ (quoted key ++ (58 ∷ (l ++ codes "}")))) (number_text s))
     )
 
--- those of absent values and of tables
-pub absent_texts : (json_text (value_json no_element) ≡ codes "{\"absent\":\"no-element\"}") × (json_text (value_json other_member) ≡ codes "{\"absent\":\"other-member\"}")
-unfolding print_from json_text escape_byte
-absent_texts = (refl, refl)
-
-pub table_text : json_text (value_json table) ≡ codes "{\"table\":true}"
-unfolding print_from json_text escape_byte
-table_text = refl
-
 -- a text that is UTF-8, and one that isn't
 pub text_is_string : (bytes : List ℕ) → IsUtf8 bytes → text_json bytes ≡ string bytes
 text_is_string bytes h = rw (is_utf8-from_IsUtf8 bytes h)
 
 pub text_is_bytes : (bytes : List ℕ) → (IsUtf8 bytes → ⊥) → text_json bytes ≡ labelled (codes "bytes") (digits_json bytes)
-text_is_bytes bytes h = rw (not_true (is_utf8 bytes) (λ e. h (IsUtf8-from_is_utf8 bytes e)))
+text_is_bytes bytes h = rw (false_from_ne_true (is_utf8 bytes) (λ e. h (IsUtf8-from_is_utf8 bytes e)))
 
 -- one byte more of a string
 pub escape_more : (xs : List ℕ) (b : ℕ) → escape (xs ++ b ∷ []) ≡ escape xs ++ escape_byte b
@@ -236,20 +212,19 @@ one_value_more paths values i text text' whole few enough before more =
     ∙ before
 
 -- where paths or values end, so do members
-none_over : (paths : List (List ℕ)) (values : List Shown) → (paths ≡ []) ⊎ (values ≡ []) → values_members paths values ≡ no_members
-none_over paths values (inl e) = ap (λ l. values_members l values) e
-none_over [] values (inr e) = refl
-none_over (path ∷ paths) values (inr e) = ap (λ l. values_members (path ∷ paths) l) e
-
-all_over : (paths : List (List ℕ)) (values : List Shown) (i : ℕ) → (length paths ≤ i) ⊎ (length values ≤ i) → values_members (drop i paths) (drop i values) ≡ no_members
-all_over paths values i (inl h) = none_over (drop i paths) (drop i values) (inl (drop_all i paths h))
-all_over paths values i (inr h) = none_over (drop i paths) (drop i values) (inr (drop_all i values h))
+none_valued : (paths : List (List ℕ)) → values_members paths [] ≡ no_members
+none_valued [] = refl
+none_valued (path ∷ paths) = refl
 
 -- and the object is closed
-pub values_end : (paths : List (List ℕ)) (values : List Shown) (i : ℕ) (text text' whole : List ℕ) → (length paths ≤ i) ⊎ (length values ≤ i)
+pub values_end : (paths : List (List ℕ)) (values : List Shown) (i : ℕ) (text text' whole : List ℕ) → min (length paths) (length values) ≤ i
     → text ++ members_text (nat_lt 0 i) (values_members (drop i paths) (drop i values)) ≡ whole → text' ≡ text ++ codes "}" → text' ≡ whole
 values_end paths values i text text' whole over before more =
-    more ∙ ap (λ l. text ++ l) (sym (ap (λ l. members_text (nat_lt 0 i) l) (all_over paths values i over) ∙ none_left (nat_lt 0 i))) ∙ before
+    let ended : values_members (drop i paths) (drop i values) ≡ no_members = elim (cases_lt i (length paths)) [
+      | inl fewer ↦ rw (drop_all i values (omega arith)) (none_valued (drop i paths))
+      | inr few ↦ rw (drop_all i paths few)
+    ] in
+    more ∙ ap (λ l. text ++ l) (sym (ap (λ l. members_text (nat_lt 0 i) l) ended ∙ none_left (nat_lt 0 i))) ∙ before
 
 -- what a line has of values, where paths are asked for
 values_parts : (path : List ℕ) (paths : List (List ℕ)) (values : List Shown)
@@ -277,26 +252,22 @@ none_asked (path ∷ paths) values text text' none is = absurd (omega arith)
 pub yes_parts : (report : Report) (paths : List (List ℕ)) (values : List Shown)
     → following (yes_members report paths values) ≡ counts_part report ++ following (values_member paths values)
 unfolding escape_byte
-yes_parts report paths values = simp (next_member, true_text, number_text, append_assoc)
+yes_parts report paths values = simp (next_member, fixed_texts.1, number_text, append_assoc)
 
 -- what a no has behind that
 pub no_parts : (rows : Rows) (fault : Fault) (place : Option (List ℕ))
     → following (no_members_of rows fault place)
     ≡ reason_part fault.reason ++ ((codes ",\"at\":" ++ decimal fault.at) ++ (names_part rows fault ++ end_part fault.reads place))
 unfolding escape_byte
-no_parts rows fault place = simp (next_member, false_text, number_text, append_assoc)
+no_parts rows fault place = simp (next_member, fixed_texts.2, number_text, append_assoc)
 
 -- the lines by what is written
-three : (a b c d : List ℕ) → (a ++ (b ++ c)) ++ d ≡ a ++ (b ++ (c ++ d))
-three a b c d = simp append_assoc
-
 pub yes_line : (file : Option (List ℕ)) (k : ℕ) (report : Report) (paths : List (List ℕ)) (values : List Shown) (text text' : List ℕ)
     → text' ≡ text ++ (begin_part file k ++ (counts_part report ++ (following (values_member paths values) ++ codes "\n")))
     → text' ≡ text ++ json_yes file k report paths values
 yes_line file k report paths values text text' is =
     is ∙ ap (λ l. text ++ l) (sym (
-    ap (λ l. l ++ codes "\n") (begun file k (yes_members report paths values) ∙ ap (λ l. begin_part file k ++ l) (yes_parts report paths values))
-    ∙ three (begin_part file k) (counts_part report) (following (values_member paths values)) (codes "\n")
+    ap (λ l. l ++ codes "\n") (begun file k (yes_members report paths values) ∙ ap (λ l. begin_part file k ++ l) (yes_parts report paths values)) ∙ simp append_assoc
     ))
 
 six : (a b c d e f : List ℕ) → (a ++ (b ++ (c ++ (d ++ e)))) ++ f ≡ a ++ (b ++ (c ++ (d ++ (e ++ f))))

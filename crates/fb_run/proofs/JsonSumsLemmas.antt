@@ -1,12 +1,12 @@
 -- The summary as JSON by its parts.
-use Rattle.std.proofs.Common.{◌≡◌, ℕ, zero, suc, ◌+◌, ◌<◌, ◌≤◌, ◌==◌, Bool, true, false, List, [], ◌∷◌, ◌++◌, codes, decimal, length, refl, sym, ap, subst, ◌∙◌, arith, append_assoc, inl, inr}
+use Rattle.std.proofs.Common.{◌≡◌, ℕ, ◌+◌, ◌<◌, ◌≤◌, ◌==◌, Bool, true, false, List, [], ◌∷◌, ◌++◌, codes, decimal, length, refl, sym, ap, ◌∙◌, arith, append_assoc}
 use Rattle.std.specs.Prelude.{if◌then◌else◌}
 use Rattle.std.specs.Fmt.{digits}
-use Rattle.std.proofs.Math.Nat.{eq-or-lt_of_le}
+use borrow.Author.Count.{below_more, below_none}
 use Rattle.json.specs.Json.{object, Members, no_members, member}
 use Rattle.json.specs.Print.{escape_byte, quoted}
 use Rattle.fb_run.specs.Json.{count_json, following, json_text}
-use Rattle.fb_run.specs.JsonSums.{json_summary, reasons_members, summary_in}
+use Rattle.fb_run.specs.JsonSums.{reasons_members, summary_in}
 use Rattle.fb_run.specs.Sums.{count_of, counts_part, in_form, reasons_from, summary_part, verdicts_part}
 use Rattle.fb_run.specs.declared.options.Form.{Form}
 use Rattle.fb_run.specs.declared.options.Form.TheVariants as form
@@ -17,25 +17,12 @@ use Rattle.fb_run.proofs.JsonLemmas.{first_member, next_member, no_more, number_
 abbrev IsKey : ℕ → Type 0
 IsKey n = quoted (codes "V" ++ decimal n) ≡ codes "\"V" ++ (decimal n ++ codes "\"")
 
-abbrev KeysBelow : ℕ → Type 0
-KeysBelow zero = Unit {0}
-KeysBelow (suc n) = IsKey n × KeysBelow n
-
-keys : KeysBelow 14
-unfolding digits escape_byte
-keys = (refl, (refl, (refl, (refl, (refl, (refl, (refl, (refl, (refl, (refl, (refl, (refl, (refl, (refl, tt))))))))))))))
-
-key_below : (n most : ℕ) → n < most → KeysBelow most → IsKey n
-key_below n zero less below = absurd (omega (arith, less))
-key_below n (suc most) less below =
-    let within : n ≤ most = omega (arith, less) in
-    elim (eq-or-lt_of_le within) [
-      | inl same ↦ subst IsKey (sym same) below.0
-      | inr fewer ↦ key_below n most fewer below.1
-    ]
-
 key_text : (n : ℕ) → n < 14 → IsKey n
-key_text n few = key_below n 14 few keys
+unfolding digits escape_byte
+key_text =
+    let m = below_more IsKey in
+    m 13 (m 12 (m 11 (m 10 (m 9 (m 8 (m 7 (m 6 (m 5 (m 4 (m 3 (m 2 (m 1 (m 0 (below_none IsKey)
+    refl) refl) refl) refl) refl) refl) refl) refl) refl) refl) refl) refl) refl) refl
 
 -- the count of a reason, before what is written of the other members
 abbrev given_part : ℕ → ℕ → List ℕ
@@ -79,14 +66,11 @@ tail_text : (tally : Tally)
 unfolding escape_byte
 tail_text tally = simp (next_member, no_more, number_text, append_assoc)
 
-json_parts : (tally : Tally) → length tally.reasons ≡ 13 → summary_part form.Json tally ≡ json_summary tally
-json_parts tally places =
+-- the line in either form
+pub summary_parts : (f : Form) (tally : Tally) → length tally.reasons ≡ 13 → summary_part f tally ≡ summary_in f tally
+summary_parts form.Plain tally places = refl
+summary_parts form.Json tally places =
     sym (
     head_text tally (reasons_members 1 tally.reasons (member (codes "bytes") (count_json tally.bytes) (member (codes "tables") (count_json tally.tables) (member (codes "reads") (count_json tally.reads) no_members))))
     ∙ ap (λ l. verdicts_part form.Json tally l) (reasons_text 1 tally.reasons _ (omega (arith, places)) ∙ ap (λ l. reasons_from form.Json 1 tally.reasons l) (tail_text tally))
     )
-
--- the line in either form
-pub summary_parts : (f : Form) (tally : Tally) → length tally.reasons ≡ 13 → summary_part f tally ≡ summary_in f tally
-summary_parts form.Plain tally places = refl
-summary_parts form.Json tally places = json_parts tally places

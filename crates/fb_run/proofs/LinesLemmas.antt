@@ -48,4 +48,4 @@ pub lines_more : (job : Job) (messages : List (List ℕ)) (message : List ℕ) (
 lines_more job ms m text line tally tally' v sums lines is =
     let count = lines_count job 1 ms text tally lines in
     let is' : IsTold job (1 + length ms) m v line = subst (λ (n : ℕ). IsTold job n m v line) (omega arith) is in
-    subst (λ (t : Tally). AreTold job 1 (ms ++ m ∷ []) (followed text line) t) (sym sums) (lines_then job 1 ms m text line tally v lines is')
+    rw sums (lines_then job 1 ms m text line tally v lines is')

@@ -89,18 +89,13 @@ fails_write job bytes gone waits tally first now between written _ read writes s
 -- where no call failed before, the cause of a fault of the writer and the notes is that of the run
 pub caused_then : (reads reads' left : ℕ) (ended : Bool) (a b c : Outs) (fault : RunFault) → reads' ≡ reads → IsUnfailedOut a b
     → IsCausedOut b c fault → IsCaused (failed reads a) (failed reads' c) left ended fault
-caused_then reads reads' left ended a b c fault sr (sw, sn) caused =
-    subst (λ (x : ℕ). IsCaused (failed reads a) (failed x c) left ended fault) (sym sr)
-    (subst (λ (x : ℕ). IsCaused (record { reads = reads; writes = x; notes = a.notes.failures }) (failed reads c) left ended fault) sw
-    (subst (λ (x : ℕ). IsCaused (record { reads = reads; writes = b.writer.failures; notes = x }) (failed reads c) left ended fault) sn (caused reads left ended)))
+caused_then reads reads' left ended a b c fault sr (sw, sn) caused = rw (sr, ← sw, ← sn) (caused reads left ended)
 
 -- a run that told the whole of its input ends as that did
 pub ends_told : (first now : Ends) (turns : ℕ) (end : End) → now.reader.failures ≡ first.reader.failures → now.reader.ended ≡ true
     → ((reads left : ℕ) → EndsWith (failed reads first.outs) (failed reads now.outs) left true end) → EndsBeside first now turns end
 ends_told first now turns end same ended told =
-    let left = first.reader.calls + turns - now.reader.calls in
-    subst (λ (b : Bool). EndsWith (failed first.reader.failures first.outs) (failed now.reader.failures now.outs) left b end) (sym ended)
-    (subst (λ (x : ℕ). EndsWith (failed first.reader.failures first.outs) (failed x now.outs) left true end) (sym same) (told first.reader.failures left))
+    rw (ended, same) (told first.reader.failures (first.reader.calls + turns - now.reader.calls))
 
 -- what is so of one bare buffer, or of a stream, is so of the input that a job says
 at_input : (P : Bool → Type 0) (from says which : Bool) → from ≡ says → from ≡ which → P which → P says
@@ -147,3 +142,6 @@ ends_answer first now turns tally end answer is ends = subst (λ (e : End). Ends
 pub err_exit : {A E : Type 0} (answer : Result A E) (x : E) (P : Result A E → Type 0) → IsErrAnd answer (λ e. e ≡ x) → P (Err x) → P answer
 err_exit (Ok a) x P h p = absurd h
 err_exit (Err e) x P h p = subst (λ e. P (Err e)) (sym h) p
+
+pub err_is : {A E : Type 0} (answer : Result A E) (x : E) → IsErrAnd answer (λ e. e ≡ x) → answer ≡ Err x
+err_is answer x h = err_exit answer x (λ a. a ≡ Err x) h refl

@@ -16,21 +16,7 @@ lines_shown = record { yes = refl; value = refl; values = refl; no = refl; no_fi
 
 pub values_shown : Values
 unfolding digits encode_with
-values_shown = record {
-  absent = refl;
-  past_the_end = refl;
-  another_member = refl;
-  yes = refl;
-  no = refl;
-  below_zero = refl;
-  above_zero = refl;
-  unsigned_number = refl;
-  float_bytes = refl;
-  struct_bytes = refl;
-  elements = refl;
-  a_table = refl;
-  a_union = refl;
-}
+values_shown = refl
 
 pub names_shown : Names
 unfolding encode_with

@@ -22,37 +22,11 @@ lines_shown = record { yes = refl; values = refl; of_a_file = refl; no = refl; n
 
 pub values_shown : JsonValues
 unfolding computing
-values_shown = record {
-  absent = refl;
-  past_the_end = refl;
-  another_member = refl;
-  yes = refl;
-  no = refl;
-  below_zero = refl;
-  above_zero = refl;
-  unsigned_number = refl;
-  float_bytes = refl;
-  struct_bytes = refl;
-  elements = refl;
-  a_table = refl;
-  a_union = refl;
-}
+values_shown = refl
 
 pub texts_shown : JsonTexts
 unfolding computing
-texts_shown = record {
-  empty = refl;
-  quote = refl;
-  backslash = refl;
-  below_a_space = refl;
-  a_line = refl;
-  delete = refl;
-  two_bytes = refl;
-  no_such_byte = refl;
-  cut_off = refl;
-  too_long = refl;
-  half_a_pair = refl;
-}
+texts_shown = refl
 
 pub summaries_shown : Summaries
 unfolding computing

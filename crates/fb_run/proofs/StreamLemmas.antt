@@ -52,19 +52,12 @@ splits_one limit m is = record {
 pub tells_nothing : (job : Job) → Tells job [] silent no_tally []
 tells_nothing job = ([], splits_rest job.limit [] (inl (empty_partial job.limit)), (refl, refl))
 
--- more bytes are held
-tells_held : (job : Job) (tally : Tally) (bytes more held held' : List ℕ) (text : Texts) → held' ≡ held ++ more → IsPartial job.limit held'
-    → Tells job bytes text tally held → Tells job (bytes ++ more) text tally held'
-tells_held job tally bytes more held held' text is part (xs, splits, lines) =
-    let behind : Splits job.limit (held ++ more) [] held' = subst (λ (l : List ℕ). Splits job.limit l [] held') is (splits_rest job.limit held' (inl part)) in
-    (xs, subst (λ (l : List (List ℕ)). Splits job.limit (bytes ++ more) l held') (append-nil xs) (splits_then job.limit bytes more held held' xs [] splits behind), lines)
-
 -- a message was whole and got its line
 pub tells_line : (job : Job) (tally tally' : Tally) (bytes more held message : List ℕ) (text text' : Texts) → message ≡ held ++ more → IsMessage job.limit message
     → AddsTold job (1 + (tally.yes + tally.no)) message text tally text' tally' → (written : Texts)
     → Tells job bytes (followed written text) tally held → Tells job (bytes ++ more) (followed written text') tally' []
 tells_line job tally tally' bytes more held message text text' at is adds written (xs, splits, lines) =
-    let one : Splits job.limit (held ++ more) (message ∷ []) [] = subst (λ (l : List ℕ). Splits job.limit l (message ∷ []) []) at (splits_one job.limit message is) in
+    let one : Splits job.limit (held ++ more) (message ∷ []) [] = rw (← at) (splits_one job.limit message is) in
     let whole : text' ≡ followed text adds.line = same_texts _ _ _ _ adds.out_is adds.notes_are in
     let grown : followed (followed written text) adds.line ≡ followed written text' = followed_assoc written text adds.line ∙ ap (λ l. followed written l) (sym whole) in (
       xs ++ message ∷ [],
@@ -89,18 +82,13 @@ rests_memory job tally bytes more held text tells =
 pub halts_feed : (job : Job) (before : Standing) (old new : Framing) (piece : List ℕ) (fault : StreamFault) (told : RunFault) → old.limit ≡ job.limit → old.held ≡ before.held
     → told ≡ feed_fault fault → FeedFails old new piece fault → Halts job before piece before.text before.tally told
 halts_feed job before old new piece (stream.Oversize number) told limit held is refused bytes written (xs, splits, lines) =
-    let over : IsOversize job.limit (before.held ++ piece) =
-    subst (λ (n : ℕ). IsOversize n (before.held ++ piece)) limit (subst (λ (l : List ℕ). IsOversize old.limit (l ++ piece)) held refused.oversize) in
+    let over : IsOversize job.limit (before.held ++ piece) = rw (limit, held) at refused.oversize in
     let whole : Splits job.limit (bytes ++ piece) xs (before.held ++ piece) =
-    subst (λ (l : List (List ℕ)). Splits job.limit (bytes ++ piece) l (before.held ++ piece)) (append-nil xs)
-    (splits_then job.limit bytes piece before.held (before.held ++ piece) xs [] splits (splits_rest job.limit (before.held ++ piece) (inr over))) in
-    subst (Rests job (bytes ++ piece) (followed written before.text) before.tally) (sym is)
-    (xs, before.held ++ piece, whole, (over, refused.number ∙ ap (λ l. declared (l ++ piece)) held, lines))
+    rw (append-nil xs) at (splits_then job.limit bytes piece before.held (before.held ++ piece) xs [] splits (splits_rest job.limit (before.held ++ piece) (inr over))) in
+    rw is (xs, before.held ++ piece, whole, (over, refused.number ∙ ap (λ l. declared (l ++ piece)) held, lines))
 halts_feed job before old new piece stream.OutOfMemory told limit held is starved bytes written tells =
-    subst (Rests job (bytes ++ piece) (followed written before.text) before.tally) (sym is)
-    (rests_memory job before.tally bytes piece before.held (followed written before.text) tells)
-halts_feed job before old new piece (stream.Truncated held) told limit same is never bytes written tells = absurd never
-halts_feed job before old new piece stream.Failed told limit held is never bytes written tells = absurd never
+    rw is (rests_memory job before.tally bytes piece before.held (followed written before.text) tells)
+halts_feed job before old new piece _ told limit held is never bytes written tells = absurd never
 
 pub feed_kind : (old new : Framing) (piece : List ℕ) (fault : StreamFault) (told : RunFault) → told ≡ feed_fault fault → FeedFails old new piece fault → IsFeedFault told
 feed_kind old new piece (stream.Oversize number) told is refused = subst IsFeedFault (sym is) tt
@@ -110,27 +98,13 @@ feed_kind old new piece _ told is never = absurd never
 -- there was no memory for a line
 pub halts_memory : (job : Job) (before : Standing) (piece : List ℕ) (text : Texts) (tally : Tally) → text ≡ before.text → tally ≡ before.tally → Halts job before piece text tally run.OutOfMemory
 halts_memory job before piece text tally same counted bytes written tells =
-    rests_memory job tally bytes piece before.held (followed written text)
-    (subst (λ (l : Texts). Tells job bytes (followed written l) tally before.held) (sym same)
-    (subst (λ (t : Tally). Tells job bytes (followed written before.text) t before.held) (sym counted) tells))
-
--- the front of a piece was fed, and no message was whole
-pub onward_partial : (job : Job) (before after : Standing) (old new : Framing) (piece : List ℕ) (used : ℕ) (whole : Bool) → old.limit ≡ job.limit → old.held ≡ before.held
-    → Feeds old new piece used whole → IsPartial new.limit new.held → new.held ≡ after.held → after.text ≡ before.text → after.tally ≡ before.tally
-    → Onward job before (take used piece) after
-onward_partial job before after old new piece used whole limit held feeds part is same counted bytes written tells =
-    let grown : after.held ≡ before.held ++ take used piece = sym is ∙ feeds.held ∙ ap (λ l. l ++ take used piece) held in
-    let part' : IsPartial job.limit after.held = subst (IsPartial job.limit) is (subst (λ (n : ℕ). IsPartial n new.held) (feeds.limit ∙ limit) part) in
-    let more = tells_held job before.tally bytes (take used piece) before.held after.held (followed written before.text) grown part' tells in
-    subst (λ (l : Texts). Tells job (bytes ++ take used piece) (followed written l) after.tally after.held) (sym same)
-    (subst (λ (t : Tally). Tells job (bytes ++ take used piece) (followed written before.text) t after.held) (sym counted) more)
+    rw (same, counted) (rests_memory job before.tally bytes piece before.held (followed written before.text) tells)
 
 -- bytes came by which a message was whole, and it got its line
 pub onward_message : (job : Job) (before after : Standing) (piece message : List ℕ) → message ≡ before.held ++ piece → IsMessage job.limit message → after.held ≡ []
     → AddsTold job (1 + (before.tally.yes + before.tally.no)) message before.text before.tally after.text after.tally → Onward job before piece after
 onward_message job before after piece message at is gone adds bytes written tells =
-    subst (λ (l : List ℕ). Tells job (bytes ++ piece) (followed written after.text) after.tally l) (sym gone)
-    (tells_line job before.tally after.tally bytes piece before.held message before.text after.text at is adds written tells)
+    rw gone (tells_line job before.tally after.tally bytes piece before.held message before.text after.text at is adds written tells)
 
 -- the framer came to hold it
 pub onward_line : (job : Job) (before after : Standing) (old new : Framing) (piece message : List ℕ) (used : ℕ) (whole : Bool) → old.limit ≡ job.limit → old.held ≡ before.held
@@ -140,14 +114,17 @@ onward_line job before after old new piece message used whole limit held feeds a
     let is' : IsMessage job.limit message = subst (λ (n : ℕ). IsMessage n message) (feeds.limit ∙ limit) (subst (IsMessage new.limit) (sym at) is) in
     onward_message job before after (take used piece) message (at ∙ feeds.held ∙ ap (λ l. l ++ take used piece) held) is' gone adds
 
+-- no byte was passed
+pub onward_none : (job : Job) (stand : Standing) → Onward job stand [] stand
+onward_none job stand bytes written tells = rw (append-nil bytes) tells
+
 -- a piece of which the front was passed, and the rest is still to come
 abbrev pub HasPassed : Job → Standing → List ℕ → List ℕ → Standing → Type 0
 HasPassed job before piece rest after = (front : List ℕ) × (piece ≡ front ++ rest) × Onward job before front after
 
 -- at first nothing was
 pub passed_none : (job : Job) (before : Standing) (piece : List ℕ) → HasPassed job before piece piece before
-passed_none job before piece =
-    ([], refl, λ bytes written tells. subst (λ (l : List ℕ). Tells job l (followed written before.text) before.tally before.held) (sym (append-nil bytes)) tells)
+passed_none job before piece = ([], refl, onward_none job before)
 
 -- n bytes more
 pub passed_more : (job : Job) (before between after : Standing) (n : ℕ) (piece rest rest' : List ℕ) → rest' ≡ drop n rest
@@ -155,8 +132,7 @@ pub passed_more : (job : Job) (before between after : Standing) (n : ℕ) (piece
 passed_more job before between after n piece rest rest' is (front, whole, first) second = (
   front ++ take n rest,
   front-more piece front rest rest' n whole is,
-  λ bytes written tells. subst (λ (l : List ℕ). Tells job l (followed written after.text) after.tally after.held) (append_assoc bytes front (take n rest))
-      (second (bytes ++ front) written (first bytes written tells)),
+  λ bytes written tells. rw (← append_assoc bytes front (take n rest)) (second (bytes ++ front) written (first bytes written tells)),
 )
 
 -- that front is as long as the rest leaves of the piece

@@ -1,8 +1,10 @@
 -- Sums over messages, in any order.
-use Rattle.std.proofs.Common.{All, rules, zero, suc, ◌≡◌, ℕ, ◌+◌, ◌<◌, ◌≤◌, List, [], ◌∷◌, ◌++◌, Ok, Err, length, drop, get_or, refl, sym, ap, subst, ◌∙◌, arith, append_assoc, drop-cons, length-append}
+use Rattle.std.proofs.Common.{All, rules, zero, suc, ◌≡◌, ℕ, ◌+◌, ◌<◌, ◌≤◌, List, [], ◌∷◌, ◌++◌, Ok, Err, length, drop, get_or, refl, sym, ap, subst, ◌∙◌, arith, inl, inr, append_assoc, drop-cons, length-append}
 use Rattle.std.specs.Prelude.{decimal, slice_index}
 use Rattle.std.proofs.lemmas.Fmt.{length-decimal-le}
-use Rattle.std.proofs.lemmas.List.Elements.{All-cons, All-head, All-nil, All-tail}
+use Rattle.std.proofs.lemmas.Bool.{cases_lt}
+use Rattle.std.proofs.lemmas.List.{get_or_past}
+use Rattle.std.proofs.lemmas.List.Elements.{All-set, All-weaker}
 use Rattle.fb_run.specs.Job.{Verdict}
 use Rattle.fb_run.specs.declared.options.Form.{Form}
 use Rattle.fb_run.specs.Sums.{IsBounded, no_tally, one_more, reason_part, reasons_from, sum_of_reads, tally_with}
@@ -43,25 +45,13 @@ pub nothing_bounded : IsBounded no_tally
 nothing_bounded = record { places = refl; reasons = search rules; bytes = omega arith; tables = omega arith }
 
 -- every count is at most that of the noes, also with one more here
-no_more : (k : ℕ) (l : List ℕ) → All (λ n. n ≤ k) l → All (λ n. n ≤ k + 1) l
-no_more k [] each = All-nil (λ n. n ≤ k + 1)
-no_more k (x ∷ l) each =
-    let first = All-head (λ n. n ≤ k) x l each in
-    All-cons (λ n. n ≤ k + 1) x l (omega arith) (no_more k l (All-tail (λ n. n ≤ k) x l each))
+pub count_at : (i k : ℕ) (l : List ℕ) → All (λ n. n ≤ k) l → i < length l → slice_index l i ≤ k
+count_at i k l each under = each i 0 under
 
 pub one_no_more : (i k : ℕ) (l : List ℕ) → All (λ n. n ≤ k) l → All (λ n. n ≤ k + 1) (one_more i l)
-one_no_more i k [] each = All-nil (λ n. n ≤ k + 1)
-one_no_more zero k (x ∷ l) each =
-    let first = All-head (λ n. n ≤ k) x l each in
-    All-cons (λ n. n ≤ k + 1) (x + 1) l (omega arith) (no_more k l (All-tail (λ n. n ≤ k) x l each))
-one_no_more (suc i) k (x ∷ l) each =
-    let first = All-head (λ n. n ≤ k) x l each in
-    All-cons (λ n. n ≤ k + 1) x (one_more i l) (omega arith) (one_no_more i k l (All-tail (λ n. n ≤ k) x l each))
-
-pub count_at : (i k : ℕ) (l : List ℕ) → All (λ n. n ≤ k) l → i < length l → slice_index l i ≤ k
-count_at i k [] each under = absurd (omega arith)
-count_at zero k (x ∷ l) each under = All-head (λ n. n ≤ k) x l each
-count_at (suc i) k (x ∷ l) each under = count_at i k l (All-tail (λ n. n ≤ k) x l each) (omega arith)
+one_no_more i k l each =
+    let small : slice_index l i ≤ k = elim (cases_lt i (length l)) [ inl under ↦ each i 0 under | inr over ↦ rw (get_or_past l i 0 over) (omega arith) ] in
+    All-set (λ n. n ≤ k + 1) l i (slice_index l i + 1) (omega arith) (All-weaker (λ n. n ≤ k) (λ n. n ≤ k + 1) (λ n few. omega arith) l each)
 
 -- a reason's number and how often it was given stand in front of the rest
 pub in_front : (letter number sign count rest : List ℕ) → letter ++ (number ++ (sign ++ (count ++ rest))) ≡ (letter ++ (number ++ (sign ++ count))) ++ rest

@@ -1,11 +1,11 @@
 -- A piece of which a front was passed, and what is told in it was written.
-use Rattle.std.proofs.Common.{◌≡◌, ℕ, ◌+◌, ◌≤◌, Bool, List, [], ◌++◌, Option, length, take, drop, refl, sym, ap, subst, ◌∙◌, arith, append-nil, append_assoc, take-append-drop}
+use Rattle.std.proofs.Common.{◌≡◌, ℕ, ◌+◌, ◌≤◌, Bool, List, [], ◌++◌, Option, length, take, drop, refl, sym, ap, subst, ◌∙◌, arith, append_assoc, take-append-drop}
 use Rattle.std.specs.Io.KnownBytes.{Consumes, Keeps}
 use Rattle.std.proofs.KnownBytes.{Appends-nil, Consumes-trans}
 use mathlib.Core.Logic.{inl, inr}
 use Rattle.std.proofs.lemmas.List.{take_all}
 use Rattle.fb_bytes.specs.Framing.{Framing, Feeds}
-use Rattle.fb_bytes.specs.Messages.{IsMessage, IsPartial}
+use Rattle.fb_bytes.specs.Messages.{IsMessage}
 use Rattle.fb_bytes.specs.declared.stream_fault.StreamFault.TheVariants as stream
 use Rattle.fb_run.specs.Ends.{Ends, Outs, Reader, Takes, Writer, beside}
 use Rattle.fb_run.specs.Faults.{IsCausedWriting}
@@ -18,27 +18,9 @@ use Rattle.fb_run.specs.declared.fault.RunFault.{RunFault}
 use Rattle.fb_run.specs.declared.fault.RunFault.TheVariants as run
 use Rattle.fb_run.proofs.Pieces.{front-more}
 use Rattle.fb_run.proofs.RunLemmas.{Sofar, fails_write, told_empty}
-use Rattle.fb_run.proofs.StreamLemmas.{gathers_front, halts_memory, onward_line, onward_partial}
+use Rattle.fb_run.proofs.StreamLemmas.{gathers_front, halts_memory, onward_line, onward_none}
 use Rattle.fb_run.proofs.TakesLemmas.{takes_none, takes_nothing, takes_then, writes_nothing, writes_then}
 use Rattle.fb_run.proofs.TextsLemmas.{followed_assoc, followed_silent}
-
--- nothing was written at once
-pub through_waiting : (job : Job) (before after : Standing) (piece : List ℕ) (s : Option (List ℕ)) → after.written.out ≡ before.written.out → Onward job before piece after
-    → OnwardThrough job before piece after s s
-through_waiting job before after piece s same onward = record { front = []; onward = onward; wrote = Appends-nil s; written_is = omega (arith, same) }
-
--- no byte was passed
-pub through_none : (job : Job) (stand : Standing) (s : Option (List ℕ)) → OnwardThrough job stand [] stand s s
-through_none job stand s =
-    through_waiting job stand stand [] s refl
-    (λ bytes written tells. subst (λ (l : List ℕ). Tells job l (followed written stand.text) stand.tally stand.held) (sym (append-nil bytes)) tells)
-
--- a part of a message was passed
-pub through_partial : (job : Job) (before after : Standing) (old new : Framing) (piece : List ℕ) (used : ℕ) (whole : Bool) (s : Option (List ℕ))
-    → after.written.out ≡ before.written.out → old.limit ≡ job.limit → old.held ≡ before.held → Feeds old new piece used whole → IsPartial new.limit new.held → new.held ≡ after.held
-    → after.text ≡ before.text → after.tally ≡ before.tally → OnwardThrough job before (take used piece) after s s
-through_partial job before after old new piece used whole s same limit held feeds part is texts counted =
-    through_waiting job before after (take used piece) s same (onward_partial job before after old new piece used whole limit held feeds part is texts counted)
 
 -- a message was whole and its line came through
 pub through_line : (job : Job) (before after : Standing) (old new : Framing) (piece message : List ℕ) (used : ℕ) (whole : Bool) (s s' : Option (List ℕ))
@@ -101,7 +83,7 @@ written_none job before piece outs = record {
   front = [];
   text = silent;
   whole = refl;
-  onward = λ bytes written tells. subst (λ (l : List ℕ). Tells job l (followed written before.text) before.tally before.held) (sym (append-nil bytes)) tells;
+  onward = onward_none job before;
   writes = writes_nothing outs before.written;
 }
 
@@ -118,40 +100,23 @@ written_held job before after used piece rest writer writer' notes at same first
 }
 
 module _ (job : Job) (before mid : Standing) (piece rest : List ℕ) (a b c : Outs) (first : HasWritten job before piece rest mid a b) where
-  joined : (P : List ℕ → Texts → Type 0) (bytes : List ℕ) (written text : Texts)
-      → P ((bytes ++ first.front) ++ rest) (followed (followed written first.text) text) → P (bytes ++ piece) (followed written (followed first.text text))
-  joined P bytes written text p =
+  -- what comes of the rest, wherever it begins, comes of the whole piece
+  goes_on : (P : List ℕ → Texts → Type 0) (text : Texts)
+      → ((bytes : List ℕ) (written : Texts) → Tells job bytes (followed written mid.text) mid.tally mid.held → P (bytes ++ rest) (followed written text))
+      → (bytes : List ℕ) (written : Texts) → Tells job bytes (followed written before.text) before.tally before.held
+      → P (bytes ++ piece) (followed written (followed first.text text))
+  goes_on P text second bytes written tells =
       let whole : (bytes ++ first.front) ++ rest ≡ bytes ++ piece = append_assoc bytes first.front rest ∙ ap (λ l. bytes ++ l) (sym first.whole) in
+      let begun : Tells job (bytes ++ first.front) (followed (followed written first.text) mid.text) mid.tally mid.held =
+      subst (λ (t : Texts). Tells job (bytes ++ first.front) t mid.tally mid.held) (sym (followed_assoc written first.text mid.text)) (first.onward bytes written tells) in
       subst (P (bytes ++ piece)) (followed_assoc written first.text text)
-      (subst (λ (l : List ℕ). P l (followed (followed written first.text) text)) whole p)
-
-  begun : (bytes : List ℕ) (written : Texts) → Tells job bytes (followed written before.text) before.tally before.held
-      → Tells job (bytes ++ first.front) (followed (followed written first.text) mid.text) mid.tally mid.held
-  begun bytes written tells =
-      subst (λ (t : Texts). Tells job (bytes ++ first.front) t mid.tally mid.held) (sym (followed_assoc written first.text mid.text))
-      (first.onward bytes written tells)
-
-  -- and then the rest of the piece
-  onward_then : (after : Standing) → Onward job mid rest after → Onward job before piece (with_written first.text after)
-  onward_then after second bytes written tells =
-      joined (λ l t. Tells job l t after.tally after.held) bytes written after.text
-      (second (bytes ++ first.front) (followed written first.text) (begun bytes written tells))
-
-  halts_then : (text : Texts) (tally : Tally) (fault : RunFault) → Halts job mid rest text tally fault → Halts job before piece (followed first.text text) tally fault
-  halts_then text tally fault second bytes written tells =
-      joined (λ l t. Rests job l t tally fault) bytes written text
-      (second (bytes ++ first.front) (followed written first.text) (begun bytes written tells))
-
-  gathers_then : (text : Texts) (tally : Tally) → Gathers job mid rest text tally → Gathers job before piece (followed first.text text) tally
-  gathers_then text tally second bytes written tells =
-      joined (λ l t. TellsSome job l t tally) bytes written text
-      (second (bytes ++ first.front) (followed written first.text) (begun bytes written tells))
+      (subst (λ (l : List ℕ). P l (followed (followed written first.text) text)) whole (second (bytes ++ first.front) (followed written first.text) begun))
 
   -- the rest of the piece was passed too
   pub passes_rest : (after : Standing) → PassesPiece job mid rest after b c → PassesPiece job before piece after a c
   passes_rest after second = record {
     text = followed first.text second.text;
-    onward = onward_then (record after { text = second.text }) second.onward;
+    onward = goes_on (λ l t. Tells job l t after.tally after.held) second.text second.onward;
     writes = writes_then first.text second.text a b c before.written mid.written after.written first.writes second.writes;
   }
 
@@ -165,14 +130,14 @@ module _ (job : Job) (before mid : Standing) (piece rest : List ℕ) (a b c : Ou
         front = followed first.text amid.front;
         text = amid.text;
         gathers = subst (λ (t : Texts). Gathers job before piece t tally) (sym (followed_assoc first.text amid.front amid.text))
-            (gathers_then (followed amid.front amid.text) tally amid.gathers);
+            (goes_on (λ l t. TellsSome job l t tally) (followed amid.front amid.text) amid.gathers);
         between = amid.between;
         written = amid.written;
         writes = writes_then first.text amid.front a b amid.between before.written mid.written amid.written first.writes amid.writes;
         within = amid.within;
       }
   stops_rest tally fault (inr (text, halts, takes)) =
-      inr (followed first.text text, halts_then text tally fault halts, takes_then a b c first.text text first.writes.takes takes)
+      inr (followed first.text text, goes_on (λ l t. Rests job l t tally fault) text halts, takes_then a b c first.text text first.writes.takes takes)
 
 -- n bytes more were passed, and all that is told of them is written
 pub written_more : (job : Job) (before mid after : Standing) (k : ℕ) (piece rest rest' : List ℕ) (a b c : Outs) → rest' ≡ drop k rest → after.text ≡ silent
@@ -196,9 +161,7 @@ module _ (job : Job) (before : Standing) (piece : List ℕ) (a c : Outs) where
       → Writes between.text a c before.written after.written → PassesPiece job before piece after a c
   passes_flushed between after counted hs onward writes = record {
     text = between.text;
-    onward = λ bytes written tells.
-        subst (λ (t : Tally). Tells job (bytes ++ piece) (followed written between.text) t after.held) (sym counted)
-        (subst (λ (l : List ℕ). Tells job (bytes ++ piece) (followed written between.text) between.tally l) (sym hs) (onward bytes written tells));
+    onward = λ bytes written tells. rw (counted, hs) (onward bytes written tells);
     writes = writes;
   }
 

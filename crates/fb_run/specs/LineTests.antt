@@ -1,6 +1,6 @@
 -- Lines of verdicts by example.
-use Rattle.std.specs.Prelude.{◌≡◌, pos, negsuc, true, false, [], ◌∷◌, codes, Some, None, Ok, Err}
-use Rattle.fb_access.specs.Denotes.{nothing, no_element, other_member, truth, signed, unsigned, float, text, structure, vector, table, union}
+use Rattle.std.specs.Prelude.{◌≡◌, ℕ, pos, negsuc, true, false, List, [], ◌∷◌, map, codes, Some, None, Ok, Err}
+use Rattle.fb_access.specs.Denotes.{Shown, nothing, no_element, other_member, truth, signed, unsigned, float, text, structure, vector, table, union}
 use Rattle.fb_verify.specs.declared.fault.Fault.{Fault}
 use Rattle.fb_verify.specs.declared.fault.Reason.TheVariants.{Misaligned, NoTerminator}
 use Rattle.fb_verify.specs.declared.fault.Report.{Report}
@@ -23,20 +23,21 @@ pub record Lines : Type 0 where
   pub no_field : verdict_line 100 (Err (record { fault = record unended { field = None; reason = Misaligned }; place = None })) ≡ codes "100 bad V3 Misaligned at=314 object=1 field=- reads=63\n"
   pub place : verdict_line 5 (Err (record { fault = unended; place = Some (codes "in tags[0] [Parcel.tags]") })) ≡ codes "5 bad V10 NoTerminator at=314 object=1 field=6 reads=63 in tags[0] [Parcel.tags]\n"
 
-pub record Values : Type 0 where
-  pub absent : answer_text nothing ≡ codes "absent"
-  pub past_the_end : answer_text no_element ≡ codes "no-element"
-  pub another_member : answer_text other_member ≡ codes "other-member"
-  pub yes : answer_text (truth true) ≡ codes "true"
-  pub no : answer_text (truth false) ≡ codes "false"
-  pub below_zero : answer_text (signed (negsuc 299)) ≡ codes "-300"
-  pub above_zero : answer_text (signed (pos 40)) ≡ codes "40"
-  pub unsigned_number : answer_text (unsigned 65535) ≡ codes "65535"
-  pub float_bytes : answer_text (float (0 ∷ 0 ∷ 128 ∷ 63 ∷ [])) ≡ codes "float:0000803f"
-  pub struct_bytes : answer_text (structure (1 ∷ 171 ∷ [])) ≡ codes "struct:01ab"
-  pub elements : answer_text (vector 3) ≡ codes "vector:3"
-  pub a_table : answer_text table ≡ codes "table"
-  pub a_union : answer_text (union 2) ≡ codes "union:2"
+-- a value of each kind, with its text and its JSON
+abbrev pub of_each_kind : List (Shown × List ℕ × List ℕ)
+of_each_kind =
+    (nothing, codes "absent", codes "null") ∷ (no_element, codes "no-element", codes "{\"absent\":\"no-element\"}")
+    ∷ (other_member, codes "other-member", codes "{\"absent\":\"other-member\"}")
+    ∷ (truth true, codes "true", codes "true") ∷ (truth false, codes "false", codes "false") ∷ (unsigned 65535, codes "65535", codes "65535")
+    ∷ (signed (negsuc 299), codes "-300", codes "-300") ∷ (signed (pos 40), codes "40", codes "40")
+    ∷ (float (0 ∷ 0 ∷ 128 ∷ 63 ∷ []), codes "float:0000803f", codes "{\"float\":\"0000803f\"}")
+    ∷ (float (0 ∷ 0 ∷ 192 ∷ 63 ∷ []), codes "float:0000c03f", codes "{\"float\":\"0000c03f\"}")
+    ∷ (structure (1 ∷ 171 ∷ []), codes "struct:01ab", codes "{\"struct\":\"01ab\"}")
+    ∷ (vector 3, codes "vector:3", codes "{\"vector\":3}") ∷ (table, codes "table", codes "{\"table\":true}") ∷ (union 2, codes "union:2", codes "{\"union\":2}") ∷ []
+
+-- these are their texts
+abbrev pub Values : Type 0
+Values = map (λ row. answer_text row.0) of_each_kind ≡ map (λ row. row.1) of_each_kind
 
 -- the name of an input, with a byte that would break the line
 pub record Names : Type 0 where

@@ -193,7 +193,7 @@ fn put_names<A: Allocator>(
 }
 
 /// Adds a name, or null where there is none.
-#[tactic(auto, using(crate::proofs::JsonLemmas::null_text))]
+#[tactic(auto, using(crate::proofs::JsonLemmas::fixed_texts))]
 fn put_name<A: Allocator>(text: &mut Vec<u8, A>, name: Option<&[u8]>) -> Result<(), AllocError>
     ensures { OnOk result (text.new.items ≡ text.old.items ++ json_text (name_json (option_map (λ n. n.now) name.entry))) }
 {
@@ -245,7 +245,7 @@ fn put_comma<A: Allocator>(text: &mut Vec<u8, A>, behind: bool) -> Result<(), Al
 }
 
 /// Adds a value at the end of a path.
-#[tactic(auto, using(crate::proofs::JsonLemmas::null_text, crate::proofs::JsonLemmas::true_text, crate::proofs::JsonLemmas::false_text, crate::proofs::JsonLemmas::number_text, crate::proofs::JsonLemmas::absent_texts, crate::proofs::JsonLemmas::table_text))]
+#[tactic(auto, using(crate::proofs::JsonLemmas::fixed_texts, crate::proofs::JsonLemmas::number_text))]
 pub fn put_value<A: Allocator>(text: &mut Vec<u8, A>, answer: &Answer<'_>) -> Result<(), AllocError>
     ensures { OnOk result (text.new.items ≡ text.old.items ++ json_text (value_json (shown answer.now))) }
 {

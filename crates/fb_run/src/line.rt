@@ -144,6 +144,7 @@ impl Line {
     }
 
     /// Puts a number in front.
+    #[tactic(auto, using(crate::proofs::LineLemmas::digits_more))]
     #[inline]
     pub fn put_number(&mut self, number: u64)
         requires room { length self.old + 20 ≤ ROOM }

@@ -23,6 +23,7 @@ const TOO_MANY: usize = 1 << 40;
 
 /// The values that the line of this verdict ends with, where it is told to the writer and one of them has more than
 /// 65,536 bytes.
+#[tactic(auto, using(crate::proofs::LongLemmas::told_with))]
 pub fn long_answers<'v, 'b>(
     mode: Mode,
     verdict: &'v Result<Found<'b>, Wrong<'_>>,

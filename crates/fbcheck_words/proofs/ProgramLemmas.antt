@@ -1,6 +1,7 @@
 -- The number options of the program's command hold a number after each parse.
 use Rattle.std.proofs.Common.{zero, suc, not, ◌&&◌, ◌≡◌, ◌∙◌, ap, ℕ, Bool, true, false, List, [], ◌∷◌, ◌<◌, ◌≤◌, length, map, Option, Some, None, codes, refl, sym, subst, inl, inr, arith}
 use Rattle.std.proofs.lemmas.List.{length-map}
+use Rattle.std.proofs.lemmas.List.Folds.{list_all_at}
 use Rattle.std.proofs.lemmas.Slice.Eq.{bytes_eq-Decides}
 use Rattle.std.specs.List.{All, slice_index_or, list_all}
 use Rattle.std.specs.Prelude.{pos}
@@ -31,8 +32,7 @@ rule_at (x ∷ xs) (suc k) d = rule_at xs k d
 
 -- whether no rule has this id, and whether there is a rule at k and no other has it
 abbrev is_free_id : Text → List Rule → Bool
-is_free_id id [] = true
-is_free_id id (r ∷ rs) = not (bytes_eq r.id id) && is_free_id id rs
+is_free_id id = list_all (λ r. not (bytes_eq r.id id))
 
 abbrev is_id_of : Text → ℕ → List Rule → Bool
 is_id_of id k [] = false
@@ -44,9 +44,7 @@ not_both true denied holds = cc
 not_both false denied holds = cc
 
 free_at : (id : Text) (rs : List Rule) (j : ℕ) (e : Rule) → is_free_id id rs ≡ true → j < length rs → bytes_eq (slice_index_or rs j e).id id ≡ true → ⊥
-free_at id [] j e free lt same = omega arith
-free_at id (r ∷ rs) zero e free lt same = not_both (bytes_eq r.id id) (both _ _ free).0 same
-free_at id (r ∷ rs) (suc j) e free lt same = free_at id rs j e (both _ _ free).1 (omega arith) same
+free_at id rs j e free lt same = let taken = list_all_at (λ (r : Rule). not (bytes_eq r.id id)) rs j e lt (ap not same) in cc
 
 alone_at : (id : Text) (k : ℕ) (rs : List Rule) (j : ℕ) (e : Rule) → is_id_of id k rs ≡ true → j < length rs → bytes_eq (slice_index_or rs j e).id id ≡ true → j ≡ k
 alone_at id k [] j e one lt same = cc

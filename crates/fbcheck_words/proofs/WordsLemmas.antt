@@ -19,23 +19,19 @@ use Rattle.fbcheck_words.specs.Refusal.{Refuses}
 use Rattle.fbcheck_words.specs.Values.{IsGiven, IsNumberIn, IsNumberOf, text_of, texts_of}
 use Rattle.fbcheck_words.specs.declared.choices.Settings.{Settings}
 use Rattle.fbcheck_words.specs.declared.choices.SettingsFault.{SettingsFault}
-use Rattle.fbcheck_words.specs.declared.choices.SettingsFault.TheVariants.{Usage, BadIdent, PathInFilter, TwoIdents, TooManyPaths, BareDelimited, OutOfMemory}
+use Rattle.fbcheck_words.specs.declared.choices.SettingsFault.TheVariants.{PathInFilter, TwoIdents, TooManyPaths, BareDelimited}
 
-simple : is_simple program ≡ true
+simple : (is_simple program ≡ true) × (is_simple_and_free program ≡ true)
 unfolding clap_on_literals
-simple = refl
-
-simple_and_free : is_simple_and_free program ≡ true
-unfolding clap_on_literals
-simple_and_free = refl
+simple = (refl, refl)
 
 -- words that are read have no fault
 no_fault : (app : App) (words : List Text) → app ≡ program → (is_simple_and_free app ≡ true → fault_of app words ≡ []) → fault_of program words ≡ []
-no_fault app words is read = ap (λ (a : App). fault_of a words) (sym is) ∙ read (ap is_simple_and_free is ∙ simple_and_free)
+no_fault app words is read = ap (λ (a : App). fault_of a words) (sym is) ∙ read (ap is_simple_and_free is ∙ simple.1)
 
 -- words that are refused have a fault of that kind
 pub refused_by : (app : App) (words : List Text) (error : Error) → app ≡ program → (is_simple_and_free app ≡ true → HasKind (fault_of app words) error) → HasKind (fault_of program words) error
-refused_by app words error is refused = subst (λ (a : App). HasKind (fault_of a words) error) is (refused (ap is_simple_and_free is ∙ simple_and_free))
+refused_by app words error is refused = subst (λ (a : App). HasKind (fault_of a words) error) is (refused (ap is_simple_and_free is ∙ simple.1))
 
 -- what the program's command reads is what clap reads of the words
 pub is_read : (c : Command) (words : List Text) (m : ArgMatches) → (is_simple_and_free (app_of c) ≡ true → fault_of (app_of c) words ≡ []) → IsParsedFrom c m → app_of c ≡ program → HasMatchesOf (app_of c) words m
@@ -50,11 +46,11 @@ is_read c words m faultless parsed is has = record {
 
 -- an option's text in the matches is that of the words
 pub text_of_words : (words : List Text) (m : ArgMatches) (id : Text) → IsReadOf words m → first_value (found_of m) id ≡ text_of id words
-text_of_words words m id read = first_value-rows (found_of m) id ∙ ap (first_of id) (read.matches simple).0
+text_of_words words m id read = first_value-rows (found_of m) id ∙ ap (first_of id) (read.matches simple.0).0
 
 -- the same of all its texts
 pub texts_of_words : (words : List Text) (m : ArgMatches) (id : Text) → IsReadOf words m → all_values (found_of m) id ≡ texts_of id words
-texts_of_words words m id read = ap (λ (o : Option (List Text)). unwrap_or o []) (raw_values-rows (found_of m) id ∙ ap (all_of id) (read.matches simple).0)
+texts_of_words words m id read = ap (λ (o : Option (List Text)). unwrap_or o []) (raw_values-rows (found_of m) id ∙ ap (all_of id) (read.matches simple.0).0)
 
 -- what holds where an option's text is "true" holds where the words give it
 pub given_by_words : (words : List Text) (m : ArgMatches) (id : Text) (P : Type 0) → IsReadOf words m
@@ -66,7 +62,7 @@ given_by_words words m id P read told =
 pub number_by_words : (words : List Text) (m : ArgMatches) (id : Text) (least most n : ℕ) → IsReadOf words m
     → IsNumberIn (one_text (found_of m) id) least most n → IsNumberOf id least most words n
 number_by_words words m id least most n read told =
-    subst (λ (o : Option Text). IsNumberIn o least most n) (one_text-rows (found_of m) id ∙ ap (one_of id) (read.matches simple).0) told
+    subst (λ (o : Option Text). IsNumberIn o least most n) (one_text-rows (found_of m) id ∙ ap (one_of id) (read.matches simple.0).0) told
 
 -- the same of a number that may be left out
 pub reads_by_words : (words : List Text) (m : ArgMatches) (reads : Option ℕ) → IsReadOf words m
@@ -78,29 +74,20 @@ reads_by_words words m None read told = absurd told
 abbrev broken : Bool → Bool → Bool → Bool → Option SettingsFault
 broken a b c d = if a then Some PathInFilter else if b then Some TwoIdents else if c then Some TooManyPaths else if d then Some BareDelimited else None
 
-not_usage : (a b c d : Bool) (error : Error) → broken a b c d ≡ Some (Usage error) → ⊥
-not_usage true b c d error is = cc
-not_usage false true c d error is = cc
-not_usage false false true d error is = cc
-not_usage false false false true error is = cc
-not_usage false false false false error is = cc
+-- what holds of each of these four holds of the one that is broken
+any_broken : (P : SettingsFault → Type 0) (a b c d : Bool) (fault : SettingsFault) → broken a b c d ≡ Some fault
+    → P PathInFilter → P TwoIdents → P TooManyPaths → P BareDelimited → P fault
+any_broken P true b c d fault is first second third fourth = let e : PathInFilter ≡ fault = cc in subst P e first
+any_broken P false true c d fault is first second third fourth = let e : TwoIdents ≡ fault = cc in subst P e second
+any_broken P false false true d fault is first second third fourth = let e : TooManyPaths ≡ fault = cc in subst P e third
+any_broken P false false false true fault is first second third fourth = let e : BareDelimited ≡ fault = cc in subst P e fourth
+any_broken P false false false false fault is first second third fourth = cc
 
-not_ident : (a b c d : Bool) → broken a b c d ≡ Some BadIdent → ⊥
-not_ident true b c d is = cc
-not_ident false true c d is = cc
-not_ident false false true d is = cc
-not_ident false false false true is = cc
-not_ident false false false false is = cc
-
--- what is refused of settings that the words say
+-- what is refused of settings that words say
 pub contradicted : (words : List Text) (settings : Settings) (fault : SettingsFault) → Say words settings → contradiction settings ≡ Some fault → Refuses words fault
-contradicted words settings (Usage error) said is = absurd (not_usage _ _ _ _ error is)
-contradicted words settings BadIdent said is = absurd (not_ident _ _ _ _ is)
-contradicted words settings OutOfMemory said is = tt
-contradicted words settings PathInFilter said is = (settings, said, is)
-contradicted words settings TwoIdents said is = (settings, said, is)
-contradicted words settings TooManyPaths said is = (settings, said, is)
-contradicted words settings BareDelimited said is = (settings, said, is)
+contradicted words settings fault said is =
+    any_broken (λ f. contradiction settings ≡ Some f → Refuses words f) _ _ _ _ fault is
+    (λ e. (settings, said, e)) (λ e. (settings, said, e)) (λ e. (settings, said, e)) (λ e. (settings, said, e)) is
 
 -- a flag that is turned round
 pub turned : (b : Bool) (P : Type 0) → IsTrue b ↔ P → (not b ≡ false) ↔ P
@@ -108,23 +95,12 @@ turned true P told = (λ off. told.0 refl, λ given. refl)
 turned false P told = (λ off. absurd cc, λ given. let on : false ≡ true = told.1 given in cc)
 
 -- the clauses' words, at a command line that is written out
-default_depth : one_of (codes "max-depth") (matches_of program (codes "fbcheck" ∷ [])) ≡ Some (codes "64")
-unfolding clap_on_literals
-default_depth = refl
-
-given_depth : one_of (codes "max-depth") (matches_of program (codes "fbcheck" ∷ codes "--max-depth" ∷ codes "7" ∷ codes "--bare" ∷ [])) ≡ Some (codes "7")
-unfolding clap_on_literals
-given_depth = refl
-
-given_flag : (first_of (codes "bare") (matches_of program (codes "fbcheck" ∷ codes "--bare" ∷ [])) ≡ Some (codes "true")) × (first_of (codes "bare") (matches_of program (codes "fbcheck" ∷ [])) ≡ Some (codes "false"))
-unfolding clap_on_literals
-given_flag = (refl, refl)
-
-given_paths : texts_of (codes "path") (codes "fbcheck" ∷ codes "--path" ∷ codes "b" ∷ codes "--path=a" ∷ []) ≡ codes "b" ∷ codes "a" ∷ []
-unfolding clap_on_literals
-given_paths = refl
-
-given_files : (texts_of (codes "files") (codes "fbcheck" ∷ codes "a.bin" ∷ codes "-" ∷ codes "--json" ∷ codes "b.bin" ∷ []) ≡ codes "a.bin" ∷ codes "-" ∷ codes "b.bin" ∷ [])
+examples : (one_of (codes "max-depth") (matches_of program (codes "fbcheck" ∷ [])) ≡ Some (codes "64"))
+    × (one_of (codes "max-depth") (matches_of program (codes "fbcheck" ∷ codes "--max-depth" ∷ codes "7" ∷ codes "--bare" ∷ [])) ≡ Some (codes "7"))
+    × (first_of (codes "bare") (matches_of program (codes "fbcheck" ∷ codes "--bare" ∷ [])) ≡ Some (codes "true"))
+    × (first_of (codes "bare") (matches_of program (codes "fbcheck" ∷ [])) ≡ Some (codes "false"))
+    × (texts_of (codes "path") (codes "fbcheck" ∷ codes "--path" ∷ codes "b" ∷ codes "--path=a" ∷ []) ≡ codes "b" ∷ codes "a" ∷ [])
+    × (texts_of (codes "files") (codes "fbcheck" ∷ codes "a.bin" ∷ codes "-" ∷ codes "--json" ∷ codes "b.bin" ∷ []) ≡ codes "a.bin" ∷ codes "-" ∷ codes "b.bin" ∷ [])
     × (texts_of (codes "files") (codes "fbcheck" ∷ codes "--json" ∷ []) ≡ [])
 unfolding clap_on_literals
-given_files = (refl, refl)
+examples = (refl, refl, refl, refl, refl, refl, refl)

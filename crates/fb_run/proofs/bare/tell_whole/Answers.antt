@@ -1,29 +1,21 @@
 use Rattle.std.proofs.Common.{ap, refl, subst, sym, true}
 use Rattle.fb_run.specs.Bare.{FailsBare}
 use Rattle.fb_run.specs.Ends.{beside, outs_of, writer_of}
-use Rattle.fb_run.specs.Faults.{EndsWith, failed}
-use Rattle.fb_run.specs.Run.{IsBareRun}
 use Rattle.fb_run.specs.Texts.{Sizes, written_by}
 use Rattle.fb_run.specs.declared.tally.Tally.{Tally}
 use Rattle.fb_run.proofs.BareLemmas.{fails_part, fails_through, passes_through}
 use Rattle.fb_run.proofs.BehindLemmas.{fronts_behind}
-use Rattle.fb_run.proofs.RunLemmas.{caused_then, err_exit}
+use Rattle.fb_run.proofs.RunLemmas.{caused_then, err_is}
 use Rattle.fb_run.proofs.bare.tell_whole.Goals as goal
 
 pub returns-in_err-add_through-clause-run : goal.returns-in_err-add_through-clause-run
 returns-in_err-add_through-clause-run g c before after read =
-    err_exit c.from_residual.result _
-    (IsBareRun c.args.checker.now (beside before (outs_of g.K.Sink g.N.Sink c.args.writer.now c.args.notes.now))
-    (beside after (outs_of g.K.Sink g.N.Sink c.add_through.new.writer c.args.notes.now)) c.add_through.new.self.counter)
-    c.from_residual.ensures.1
-    (fails_through _ _ _ _ _ _ before after (writer_of g.K.Sink c.args.writer.now) (writer_of g.K.Sink c.add_through.new.writer) (writer_of g.N.Sink c.args.notes.now)
+    rw (err_is _ _ c.from_residual.ensures.1) (fails_through _ _ _ _ _ _ before after (writer_of g.K.Sink c.args.writer.now) (writer_of g.K.Sink c.add_through.new.writer) (writer_of g.N.Sink c.args.notes.now)
     c.in_err-add_through.field-0.0 read c.requires.within c.requires.empty c.requires.counted (ap (λ (s : Sizes). s.out) c.requires.written) c.in_err-add_through.ensures.err)
 
 pub returns-in_err-add_through-clause-end : goal.returns-in_err-add_through-clause-end
 returns-in_err-add_through-clause-end g c reads left =
-    err_exit c.from_residual.result _
-    (EndsWith (failed reads (outs_of g.K.Sink g.N.Sink c.args.writer.now c.args.notes.now)) (failed reads (outs_of g.K.Sink g.N.Sink c.add_through.new.writer c.args.notes.now)) left true)
-    c.from_residual.ensures.1 (c.in_err-add_through.ensures.failed (writer_of g.N.Sink c.args.notes.now) reads left true)
+    rw (err_is _ _ c.from_residual.ensures.1) (c.in_err-add_through.ensures.failed (writer_of g.N.Sink c.args.notes.now) reads left true)
 
 pub returns-in_err-flush-clause-run : goal.returns-in_err-flush-clause-run
 returns-in_err-flush-clause-run g c before after read =
@@ -31,9 +23,7 @@ returns-in_err-flush-clause-run g c before after read =
     let a = outs_of g.K.Sink g.N.Sink c.args.writer.now c.args.notes.now in
     let z = outs_of g.K.Sink g.N.Sink c.flush.new.writer c.flush.new.notes in
     let cause = c.in_err-flush.field-0.0 in
-    err_exit c.from_residual-in_err-flush.result _ (IsBareRun c.args.checker.now (beside before a) (beside after z) c.flush.new.self.counter)
-    c.from_residual-in_err-flush.ensures.1
-    (subst (λ (t : Tally). FailsBare c.args.checker.now (beside before a) (beside after z) t cause) (sym c.flush.ensures.counted)
+    rw (err_is _ _ c.from_residual-in_err-flush.ensures.1) (subst (λ (t : Tally). FailsBare c.args.checker.now (beside before a) (beside after z) t cause) (sym c.flush.ensures.counted)
     (fails_part _ _ _ _ (written_by c.args.output.now) (beside before a) (beside after z) read c.requires.within c.requires.empty c.requires.counted c.requires.written _ _ cause through.adds
     (fronts_behind through.front _ a z (writer_of g.K.Sink c.add_through.new.writer) (written_by c.args.output.now) (written_by c.add_through.new.self) cause
     through.wrote through.written_is c.add_through.ensures.noted c.in_err-flush.ensures.err)))
@@ -43,8 +33,7 @@ returns-in_err-flush-clause-end g c reads left =
     let a = outs_of g.K.Sink g.N.Sink c.args.writer.now c.args.notes.now in
     let between = outs_of g.K.Sink g.N.Sink c.add_through.new.writer c.args.notes.now in
     let z = outs_of g.K.Sink g.N.Sink c.flush.new.writer c.flush.new.notes in
-    err_exit c.from_residual-in_err-flush.result _ (EndsWith (failed reads a) (failed reads z) left true) c.from_residual-in_err-flush.ensures.1
-    (caused_then reads reads left true a between z c.in_err-flush.field-0.0 refl (c.in_ok-add_through.ensures.unfailed, refl) c.in_err-flush.ensures.failed)
+    rw (err_is _ _ c.from_residual-in_err-flush.ensures.1) (caused_then reads reads left true a between z c.in_err-flush.field-0.0 refl (c.in_ok-add_through.ensures.unfailed, refl) c.in_err-flush.ensures.failed)
 
 pub returns-clause-run : goal.returns-clause-run
 returns-clause-run g c before after read =

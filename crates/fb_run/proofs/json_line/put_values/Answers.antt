@@ -1,5 +1,4 @@
-use Rattle.std.proofs.Common.{◌<◌, ◌≤◌, ◌⊎◌, inl, inr, min, ◌++◌, ℕ, List, [], map, length, get_or, arith, ap, sym, ◌∙◌}
-use Rattle.std.proofs.lemmas.Bool.{cases_lt}
+use Rattle.std.proofs.Common.{◌<◌, ◌≤◌, min, ◌++◌, ℕ, List, [], map, length, get_or, arith, ap, sym, ◌∙◌}
 use Rattle.std.proofs.lemmas.List.{length-map, get_or-map}
 use Rattle.std.specs.Prelude.{nat_lt}
 use Rattle.fb_access.specs.Denotes.{Shown, nothing, shown}
@@ -26,16 +25,9 @@ loop-index-preserved g c =
     (c.in_ok-put_member.ensures ∙ ap (λ (l : List ℕ). c.loop-index.text.items ++ member_part (nat_lt 0 i) l (value_json (shown (get_or answers i Absent)))) path
     ∙ ap (λ (v : Shown). c.loop-index.text.items ++ member_part (nat_lt 0 i) (get_or (map text_of paths) i []) (value_json v)) value)
 
-one_over : (a b i : ℕ) → min a b ≤ i → (a ≤ i) ⊎ (b ≤ i)
-one_over a b i h = go (cases_lt i a)
-  where
-    go : (i < a) ⊎ (a ≤ i) → (a ≤ i) ⊎ (b ≤ i)
-    go (inl less) = inr (omega arith)
-    go (inr over) = inl over
-
 pub returns : goal.returns
 returns g c =
     let paths = map text_of c.args.paths.now in
     let values = map shown c.args.answers.now in
     let ended : min (length paths) (length values) ≤ c.loop-index.index = rw (length-map c.args.paths.now text_of, length-map c.args.answers.now shown) (omega arith) in
-    values_end paths values c.loop-index.index c.loop-index.text.items _ _ (one_over _ _ _ ended) c.loop-index.invariant c.in_ok-put.ensures
+    values_end paths values c.loop-index.index c.loop-index.text.items _ _ ended c.loop-index.invariant c.in_ok-put.ensures

@@ -1,26 +1,15 @@
-use Rattle.std.proofs.Common.{◌++◌, rules}
-use Rattle.std.specs.List.{flat_map}
+use Rattle.std.proofs.Common.{rules}
 use Rattle.fb_verify.proofs.Frames.{if_err_exit}
 use Rattle.fb_run.specs.AnswerText.{spelled}
-use Rattle.fb_run.specs.Lines.{WritesFront}
 use Rattle.fb_run.proofs.BehindLemmas.{each_fails, each_more}
 use Rattle.fb_run.proofs.long_line.put_bytes.Goals as goal
 
 pub loop-byte-preserved : goal.loop-byte-preserved
 loop-byte-preserved g c =
-    record {
-      told = each_more (spelled c.args.spelling) c.args.bytes.now c.loop-byte.byte-index 0 (search rules) _ _ _ _ _ _ _ _ _ _
-          c.spell-length.ensures.text c.loop-byte.invariant.told c.in_ok-put.ensures.ok;
-      calls = search rules;
-      count = search rules;
-      failures = search rules;
-    }
+    let told = each_more (spelled c.args.spelling) c.args.bytes.now c.loop-byte.byte-index 0 (search rules) c.spell-length.ensures.text c.loop-byte.invariant.told c.in_ok-put.ensures.ok in
+    search rules
 
 pub returns-in_err-put-clause-err : goal.returns-in_err-put-clause-err
 returns-in_err-put-clause-err g c =
-    if_err_exit c.from_residual.result _
-    (λ cause. WritesFront (c.args.out.now.bytes.items ++ flat_map (spelled c.args.spelling) c.args.bytes.now) (g.K.Sink.contents c.args.sink.now)
-    (g.K.Sink.contents c.put.new.sink) c.args.out.now.written cause.written)
-    c.from_residual.ensures.1
-    (each_fails (spelled c.args.spelling) c.args.bytes.now c.loop-byte.byte-index 0 (search rules) _ _ _ _ _ _ _ _ _
-    c.spell-length.ensures.text c.loop-byte.invariant.told c.in_err-put.ensures.err)
+    if_err_exit _ _ _ c.from_residual.ensures.1
+    (each_fails (spelled c.args.spelling) c.args.bytes.now c.loop-byte.byte-index 0 (search rules) _ c.spell-length.ensures.text c.loop-byte.invariant.told c.in_err-put.ensures.err)

@@ -1,13 +1,10 @@
-use Rattle.std.proofs.Common.{rules, ap, refl, subst, sym}
-use mathlib.Core.Logic.{inl, inr}
+use Rattle.std.proofs.Common.{rules, ap, subst, sym}
 use Rattle.std.specs.Io.KnownBytes.{Consumes}
-use Rattle.fb_run.specs.Faults.{EndsBeside}
 use Rattle.fb_run.specs.Prompt.{IsBarePrompt}
-use Rattle.fb_run.specs.Run.{IsRunBeside}
 use Rattle.fb_run.specs.Ends.{ends_of, outs_of, reader_of}
 use Rattle.fb_run.specs.Stream.{Standing, standing}
 use Rattle.fb_run.proofs.BareLemmas.{fails_untold}
-use Rattle.fb_run.proofs.RunLemmas.{caused_then, ends_told, err_exit, prompt_bare, prompt_stream, runs_bare, runs_stream, sofar_nothing}
+use Rattle.fb_run.proofs.RunLemmas.{caused_then, ends_told, err_is, prompt_bare, prompt_stream, runs_bare, runs_stream, sofar_nothing}
 use Rattle.fb_run.proofs.ThroughLemmas.{fails_piece, sofar_piece}
 use Rattle.fb_run.proofs.stream.Carried.pass_all.Goals as goal
 
@@ -20,15 +17,14 @@ pub returns-in_err-whole-clause-run : goal.returns-in_err-whole-clause-run
 returns-in_err-whole-clause-run g c =
     let first = ends_of g.S.Input g.K.Sink g.N.Sink c.args.reader.now c.args.writer.now c.args.notes.now in
     let now = ends_of g.S.Input g.K.Sink g.N.Sink c.read_whole.new.source c.args.writer.now c.args.notes.now in
-    err_exit c.from_residual.result _ (IsRunBeside c.args.checker.now first now c.args.self.now.output.counter) c.from_residual.ensures.1
-    (runs_bare _ _ first now c.is_bare.ensures _ _ c.if-is_bare.true
+    rw (err_is _ _ c.from_residual.ensures.1) (runs_bare _ _ first now c.is_bare.ensures _ _ c.if-is_bare.true
     (fails_untold _ first now _ _ (ap (λ (s : Standing). s.tally) c.requires.start) (c.in_err-whole.ensures.fault c.args.checker.now (sym c.limit-limit.ensures.value))))
 
 pub returns-in_err-whole-clause-end : goal.returns-in_err-whole-clause-end
 returns-in_err-whole-clause-end g c =
     let first = ends_of g.S.Input g.K.Sink g.N.Sink c.args.reader.now c.args.writer.now c.args.notes.now in
     let now = ends_of g.S.Input g.K.Sink g.N.Sink c.read_whole.new.source c.args.writer.now c.args.notes.now in
-    err_exit c.from_residual.result _ (EndsBeside first now c.args.turns) c.from_residual.ensures.1 c.in_err-whole.ensures.cause
+    rw (err_is _ _ c.from_residual.ensures.1) c.in_err-whole.ensures.cause
 
 pub returns-then-is_bare-clause-run : goal.returns-then-is_bare-clause-run
 returns-then-is_bare-clause-run g c =
@@ -50,40 +46,19 @@ pull_piece-requires-clause-leave g c =
     c.requires.leave now (prompt_stream _ _ (ends_of g.S.Input g.K.Sink g.N.Sink c.args.reader.now c.args.writer.now c.args.notes.now) now c.is_bare.ensures c.if-is_bare.false (search rules)) before.asks
 
 pub loop-left-init : goal.loop-left-init
-loop-left-init g c = record {
-  room = search rules;
-  ready = c.requires.ready;
-  empty = ap (λ (s : Standing). s.text) c.requires.start;
-  told = sofar_nothing _ (standing c.args.self.now) (ends_of g.S.Input g.K.Sink g.N.Sink c.args.reader.now c.args.writer.now c.args.notes.now) c.requires.start;
-  fewer = search rules;
-  calls = search rules;
-  few = search rules;
-  load = search rules;
-  tells = search rules;
-  asks = (refl, inr (refl, refl));
-  unfailed = (refl, refl);
-}
+loop-left-init g c =
+    let empty = ap (λ (s : Standing). s.text) c.requires.start in
+    let told = sofar_nothing c.args.checker.now (standing c.args.self.now) (ends_of g.S.Input g.K.Sink g.N.Sink c.args.reader.now c.args.writer.now c.args.notes.now) c.requires.start in
+    search rules
 
 pub loop-left-preserved : goal.loop-left-preserved
 loop-left-preserved g c =
     let before = c.loop-left.invariant in
-    let passed = c.in_ok-pass_piece.ensures in
     let first = ends_of g.S.Input g.K.Sink g.N.Sink c.args.reader.now c.args.writer.now c.args.notes.now in
     let now = ends_of g.S.Input g.K.Sink g.N.Sink c.loop-left.reader c.loop-left.writer c.loop-left.notes in
-    record {
-      room = search rules;
-      ready = passed.ready;
-      empty = passed.empty;
-      told = sofar_piece _ (standing c.loop-left.self) _ _ _ first now (reader_of g.S.Input c.pull_piece.new.source) (outs_of g.K.Sink g.N.Sink c.pass_piece.new.writer c.pass_piece.new.notes)
-          c.as_slice-in-loop-left.ensures.value before.empty before.told c.in-Ok.ensures.ok _ passed.passes;
-      fewer = search rules;
-      calls = search rules;
-      few = search rules;
-      load = search rules;
-      tells = search rules;
-      asks = (search rules, inl (c.in-Ok.ensures.unended (search rules)));
-      unfailed = search rules;
-    }
+    let told = sofar_piece _ (standing c.loop-left.self) _ _ _ first now (reader_of g.S.Input c.pull_piece.new.source) (outs_of g.K.Sink g.N.Sink c.pass_piece.new.writer c.pass_piece.new.notes)
+    c.as_slice-in-loop-left.ensures.value before.empty before.told c.in-Ok.ensures.ok _ c.in_ok-pass_piece.ensures.passes in
+    search rules
 
 pub returns-in_err-pass_piece-clause-run : goal.returns-in_err-pass_piece-clause-run
 returns-in_err-pass_piece-clause-run g c =
@@ -91,9 +66,7 @@ returns-in_err-pass_piece-clause-run g c =
     let first = ends_of g.S.Input g.K.Sink g.N.Sink c.args.reader.now c.args.writer.now c.args.notes.now in
     let between = ends_of g.S.Input g.K.Sink g.N.Sink c.loop-left.reader c.loop-left.writer c.loop-left.notes in
     let now = ends_of g.S.Input g.K.Sink g.N.Sink c.pull_piece.new.source c.pass_piece.new.writer c.pass_piece.new.notes in
-    err_exit c.from_residual-in_err-pass_piece.result _ (IsRunBeside c.args.checker.now first now c.pass_piece.new.self.output.counter)
-    c.from_residual-in_err-pass_piece.ensures.1
-    (runs_stream _ _ first now c.is_bare.ensures _ _ c.if-is_bare.false
+    rw (err_is _ _ c.from_residual-in_err-pass_piece.ensures.1) (runs_stream _ _ first now c.is_bare.ensures _ _ c.if-is_bare.false
     (fails_piece _ (standing c.loop-left.self) _ _ _ first between now.reader now.outs c.as_slice-in-loop-left.ensures.value before.empty before.told c.in-Ok.ensures.ok _ _ c.in_err-pass_piece.ensures.stops))
 
 pub returns-in_err-pass_piece-clause-end : goal.returns-in_err-pass_piece-clause-end
@@ -101,6 +74,5 @@ returns-in_err-pass_piece-clause-end g c =
     let before = c.loop-left.invariant in
     let first = ends_of g.S.Input g.K.Sink g.N.Sink c.args.reader.now c.args.writer.now c.args.notes.now in
     let now = ends_of g.S.Input g.K.Sink g.N.Sink c.pull_piece.new.source c.pass_piece.new.writer c.pass_piece.new.notes in
-    err_exit c.from_residual-in_err-pass_piece.result _ (EndsBeside first now c.args.turns) c.from_residual-in_err-pass_piece.ensures.1
-    (caused_then first.reader.failures now.reader.failures _ _ first.outs (outs_of g.K.Sink g.N.Sink c.loop-left.writer c.loop-left.notes) now.outs c.in_err-pass_piece.field-0.0
+    rw (err_is _ _ c.from_residual-in_err-pass_piece.ensures.1) (caused_then first.reader.failures now.reader.failures _ _ first.outs (outs_of g.K.Sink g.N.Sink c.loop-left.writer c.loop-left.notes) now.outs c.in_err-pass_piece.field-0.0
     (search rules) before.unfailed c.in_err-pass_piece.ensures.failed)

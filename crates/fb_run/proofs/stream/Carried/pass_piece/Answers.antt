@@ -2,23 +2,19 @@ use Rattle.std.proofs.KnownBytes.{Keeps-refl}
 use Rattle.std.proofs.lemmas.List.{take_rest}
 use Rattle.std.proofs.lemmas.Result.{IfErr-weaker, on_ok_weaker}
 use Rattle.fb_verify.proofs.Frames.{if_err_exit}
-use Rattle.fb_run.specs.Faults.{IsCausedOut}
-use Rattle.fb_run.specs.Ends.{outs_of, writer_of}
-use Rattle.fb_run.specs.Stream.{StopsAmid, standing}
+use Rattle.fb_run.specs.Ends.{writer_of}
+use Rattle.fb_run.specs.Stream.{standing}
 use Rattle.fb_run.proofs.ThroughLemmas.{passes_rest, stops_held, stops_rest, written_held}
 use Rattle.fb_run.proofs.stream.Carried.pass_piece.Goals as goal
 
 pub returns-in_err-held-clause-stops : goal.returns-in_err-held-clause-stops
 returns-in_err-held-clause-stops g c =
-    if_err_exit c.from_residual.result _ (StopsAmid c.args.checker.now (standing c.args.self.now) _ _ _ _) c.from_residual.ensures.1
-    (stops_held _ (standing c.args.self.now) _ _ _ _ (Keeps-refl _) c.in_err-held.field-0.0 c.in_err-held.ensures.halts)
+    if_err_exit _ _ _ c.from_residual.ensures.1 (stops_held _ (standing c.args.self.now) _ _ _ _ (Keeps-refl _) c.in_err-held.field-0.0 c.in_err-held.ensures.halts)
 
 pub returns-in_err-held-clause-failed : goal.returns-in_err-held-clause-failed
 returns-in_err-held-clause-failed g c =
     let notes = writer_of g.N.Sink c.args.notes.now in
-    if_err_exit c.from_residual.result _
-    (IsCausedOut (outs_of g.K.Sink g.N.Sink c.args.writer.now c.args.notes.now) (outs_of g.K.Sink g.N.Sink c.pass_held.new.writer c.args.notes.now))
-    c.from_residual.ensures.1 (c.in_err-held.ensures.failed notes)
+    if_err_exit _ _ _ c.from_residual.ensures.1 (c.in_err-held.ensures.failed notes)
 
 pub returns-clause-passes : goal.returns-clause-passes
 returns-clause-passes g c =

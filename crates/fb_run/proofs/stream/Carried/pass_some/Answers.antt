@@ -4,15 +4,14 @@ use Rattle.std.proofs.lemmas.List.{nil_from_length}
 use Rattle.fb_bytes.specs.Framing.{Framing}
 use Rattle.fb_bytes.specs.Messages.{IsMessage}
 use Rattle.fb_verify.proofs.Frames.{if_err_exit}
-use Rattle.fb_run.specs.Stream.{Halts, standing}
+use Rattle.fb_run.specs.Stream.{standing}
 use Rattle.fb_run.specs.Texts.{no_bytes}
 use Rattle.fb_run.proofs.StreamLemmas.{halts_feed, halts_memory, onward_line, onward_message}
 use Rattle.fb_run.proofs.stream.Carried.pass_some.Goals as goal
 
 pub returns-in_err-add-clause-halts : goal.returns-in_err-add-clause-halts
 returns-in_err-add-clause-halts g c =
-    if_err_exit c.from_residual.result _ (Halts _ (standing c.args.self.now) _ _ _) c.from_residual.ensures.1
-    (halts_memory _ (standing c.args.self.now) _ _ _ c.in_err-add.ensures.err_text c.in_err-add.ensures.err_counted)
+    if_err_exit _ _ _ c.from_residual.ensures.1 (halts_memory _ (standing c.args.self.now) _ _ _ c.in_err-add.ensures.err_text c.in_err-add.ensures.err_counted)
 
 pub returns-in-Some-clause-onward : goal.returns-in-Some-clause-onward
 returns-in-Some-clause-onward g c =
@@ -24,14 +23,12 @@ returns-in-Some-clause-onward g c =
 
 pub returns-in_err-taken-clause-halts : goal.returns-in_err-taken-clause-halts
 returns-in_err-taken-clause-halts g c =
-    if_err_exit c.from_residual-in_err-taken.result _ (Halts _ (standing c.args.self.now) _ _ _) c.from_residual-in_err-taken.ensures.1
-    (halts_feed _ (standing c.args.self.now) c.args.self.now.framer c.feed.new.self c.args.rest.now c.in_err-taken.field-0.0 _ c.requires.ready.limit refl refl
+    if_err_exit _ _ _ c.from_residual-in_err-taken.ensures.1 (halts_feed _ (standing c.args.self.now) c.args.self.now.framer c.feed.new.self c.args.rest.now c.in_err-taken.field-0.0 _ c.requires.ready.limit refl refl
     (c.in_err-taken.ensures.fault c.requires.ready.fine))
 
 pub returns-in_err-add-2-clause-halts : goal.returns-in_err-add-2-clause-halts
 returns-in_err-add-2-clause-halts g c =
-    if_err_exit c.from_residual-in_err-add-2.result _ (Halts _ (standing c.args.self.now) _ _ _) c.from_residual-in_err-add-2.ensures.1
-    (halts_memory _ (standing c.args.self.now) _ _ _ c.in_err-add-2.ensures.err_text c.in_err-add-2.ensures.err_counted)
+    if_err_exit _ _ _ c.from_residual-in_err-add-2.ensures.1 (halts_memory _ (standing c.args.self.now) _ _ _ c.in_err-add-2.ensures.err_text c.in_err-add-2.ensures.err_counted)
 
 pub returns-clause-onward : goal.returns-clause-onward
 returns-clause-onward g c =

@@ -1,31 +1,24 @@
 use Rattle.std.proofs.Common.{refl, rules}
 use Rattle.std.proofs.lemmas.List.{take_rest}
 use Rattle.fb_verify.proofs.Frames.{if_err_exit}
-use Rattle.fb_run.specs.Stream.{Halts, standing}
+use Rattle.fb_run.specs.Stream.{standing}
 use Rattle.fb_run.proofs.StreamLemmas.{gathers_front, gathers_halts, halts_after, onward_front, passed_more, passed_none}
 use Rattle.fb_run.proofs.stream.Carried.use_up.Goals as goal
 
 pub loop-rest-init : goal.loop-rest-init
-loop-rest-init g c = record { ready = c.requires.ready; passed = passed_none _ (standing c.args.self.now) _; within = search rules; few = search rules; written = search rules; noted = search rules }
+loop-rest-init g c =
+    let passed = passed_none c.args.checker.now (standing c.args.self.now) c.args.piece.now in
+    search rules
 
 pub loop-rest-preserved : goal.loop-rest-preserved
 loop-rest-preserved g c =
-    let before = c.loop-rest.invariant in
-    let some = c.in_ok-used.ensures in
-    record {
-      ready = some.ready;
-      passed = passed_more _ (standing c.args.self.now) (standing c.loop-rest.self) (standing c.pass_some.new.self) c.in_ok-used.used _ c.loop-rest.rest.now _
-          (take_rest c.loop-rest.rest.now c.in_ok-used.used) before.passed some.onward;
-      within = search rules;
-      few = search rules;
-      written = search rules;
-      noted = search rules;
-    }
+    let passed = passed_more _ (standing c.args.self.now) (standing c.loop-rest.self) (standing c.pass_some.new.self) c.in_ok-used.used c.args.piece.now c.loop-rest.rest.now _
+    (take_rest c.loop-rest.rest.now c.in_ok-used.used) c.loop-rest.invariant.passed c.in_ok-used.ensures.onward in
+    search rules
 
 pub returns-in_err-used-clause-halts : goal.returns-in_err-used-clause-halts
 returns-in_err-used-clause-halts g c =
-    if_err_exit c.from_residual.result _ (Halts _ (standing c.args.self.now) _ _ _) c.from_residual.ensures.1
-    (halts_after _ (standing c.args.self.now) (standing c.loop-rest.self) _ c.loop-rest.rest.now _ _ _ c.loop-rest.invariant.passed c.in_err-used.ensures.halts)
+    if_err_exit _ _ _ c.from_residual.ensures.1 (halts_after _ (standing c.args.self.now) (standing c.loop-rest.self) _ c.loop-rest.rest.now _ _ _ c.loop-rest.invariant.passed c.in_err-used.ensures.halts)
 
 pub returns-in_err-used-clause-gathers : goal.returns-in_err-used-clause-gathers
 returns-in_err-used-clause-gathers g c =
