@@ -106,13 +106,7 @@ module _ (b : List ℕ) (S : Rows) where
   member_here p Text is = text_here p
   member_here p (Table k) is = table_here k p
   member_here p (Struct k) is = goes_here (Struct k) (member_spot b p (Struct k)) p (lead_of S (Some (Struct k))) (k, refl, refl, refl) (λ j e. absurd (struct_is_no_table _ _ j e))
-  member_here p (Scalar s) is = absurd is
-  member_here p (Union e) is = absurd is
-  member_here p (Scalars s) is = absurd is
-  member_here p Texts is = absurd is
-  member_here p (Structs k) is = absurd is
-  member_here p (Tables k) is = absurd is
-  member_here p (Unions e) is = absurd is
+  member_here p kind is = absurd is
 
   same_type : (y : ℕ) {X : Type 0} (q r : X) → (if y == y then q else r) ≡ q
   same_type y q r = go (y == y) ((Decides-eqb y y).1 refl) where
@@ -180,10 +174,6 @@ module _ (b : List ℕ) (S : Rows) where
 
       entry_goes : (kind : Kind) (x : Entry) → KindHolds S g kind → j < 2 ^ 32 → slice_get (entries_of b S t g p kind) j ≡ Some x → Behind kind x
       unfolding present_spot
-      entry_goes (Scalar s) x holds small h = absurd cc
-      entry_goes (Struct k) x holds small h = absurd cc
-      entry_goes (Scalars s) x holds small h = absurd cc
-      entry_goes (Structs k) x holds small h = absurd cc
       entry_goes Text x holds small h = subst (GoesBy Text (AtText (target b p)) []) (one_entry (entry to_string p 0) x j h) (text_here p)
       entry_goes (Table k) x holds small h = subst (GoesBy (Table k) (AtTable k (target b p)) []) (one_entry (entry (to_table k) p 0) x j h) (table_here k p)
       entry_goes (Union e) x holds small h =
@@ -196,6 +186,7 @@ module _ (b : List ℕ) (S : Rows) where
       entry_goes (Unions e) x holds small h =
           let y = types_begin b (type_place b t g.slot) in
           union_element_goes x e y (target b p) holds small (union_row_get b S e y (target b p + 4) (word b (target b p) 4) j x h)
+      entry_goes kind x holds small h = absurd cc
 
     -- a field's offset words are not more than the buffer has room for
     module _ (c : Checks) (short : length b < 2 ^ 31) (t j : ℕ) (g : Live) where
@@ -213,16 +204,13 @@ module _ (b : List ℕ) (S : Rows) where
       in_union p (Some kind) x h = alone (entry (lead_of S (Some kind)) p 0) x h
 
       few_of : (p : ℕ) (kind : Kind) (x : Entry) → IsPresent c b S t g p kind → slice_get (entries_of b S t g p kind) j ≡ Some x → j < 2 ^ 32
-      few_of p (Scalar s) x h e = absurd cc
-      few_of p (Struct k) x h e = absurd cc
-      few_of p (Scalars s) x h e = absurd cc
-      few_of p (Structs k) x h e = absurd cc
       few_of p Text x h e = alone (entry to_string p 0) x e
       few_of p (Table k) x h e = alone (entry (to_table k) p 0) x e
       few_of p (Union u) x h e = in_union p (member_of S u (union_type b (type_place b t g.slot))) x e
       few_of p Texts x h e = in_vector p h (row_get to_string (target b p + 4) (word b (target b p) 4) j x e).0
       few_of p (Tables k) x h e = in_vector p h (row_get (to_table k) (target b p + 4) (word b (target b p) 4) j x e).0
       few_of p (Unions u) x h e = in_vector p h.field (union_row_get b S u (types_begin b (type_place b t g.slot)) (target b p + 4) (word b (target b p) 4) j x e).0
+      few_of p kind x h e = absurd cc
 
       -- past a field, where it stands somewhere
       field_goes : (place : Option ℕ) (x : Entry) → IsPresentOrAbsent c b S t g place → KindHolds S g g.kind → slice_get (entries_at b S t g place) j ≡ Some x → GoesBy g.kind (spot_at b t g place) (parts_behind t 0 j g g.kind) x

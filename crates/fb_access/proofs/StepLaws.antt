@@ -141,20 +141,17 @@ module _ (b : List ℕ) (S : Rows) (t o p j : ℕ) where
 
   follows : (f : Live) (kind : Kind) (x : Entry) → f.slot ≡ o → slice_get (entries_of b S t f p kind) j ≡ Some x → Follows kind x
   unfolding present_spot
-  follows f (AScalar s) x s_is h = absurd cc
-  follows f (Struct k) x s_is h = absurd cc
   follows f Text x s_is h = subst (Follows Text) (one_entry (entry to_string p 0) x j h) (AtText (target b p), refl, refl)
   follows f (Table k) x s_is h = subst (Follows (Table k)) (one_entry (entry (to_table k) p 0) x j h) (AtTable k (target b p), refl, refl)
   follows f (Union e) x s_is h =
       let y = union_type b (type_place b t o) in
       (AtUnion e y p, refl, in_union e y (member_of S e y) x refl (rw s_is at h))
-  follows f (Scalars s) x s_is h = absurd cc
-  follows f (Structs k) x s_is h = absurd cc
   follows f Texts x s_is h = text_element x (target b p) (row_get to_string (target b p + 4) (word b (target b p) 4) j x h)
   follows f (Tables k) x s_is h = table_element x k (target b p) (row_get (to_table k) (target b p + 4) (word b (target b p) 4) j x h)
   follows f (Unions e) x s_is h =
       let y = types_begin b (type_place b t o) in
       union_element x e y (target b p) (union_row_get b S e y (target b p + 4) (word b (target b p) 4) j x (rw s_is at h))
+  follows f kind x s_is h = absurd cc
 
   -- an element step from a vector of offset words that has no such word
   no_element : (f : Live) (kind : Kind) (q : Spot) → AreOffsets kind → slice_get (entries_of b S t f p kind) j ≡ None → Reaches b S (present_spot b t o p kind) (Element j ∷ []) q → position_of q ≡ None
@@ -175,13 +172,7 @@ module _ (b : List ℕ) (S : Rows) (t o p j : ℕ) where
       let past = union_row_end b S u (types_begin b (type_place b t f.slot)) (c + 4) (word b c 4) j h in
       let e : AtNoElement ≡ r.0 = some_same (sym (ap Some (element_past b c j (AtUnion u (word b (y + j) 1) (c + 4 + 4 * j)) past)) ∙ r.1) in
       subst (λ z. position_of z ≡ None) (e ∙ r.2) refl
-  no_element f (AScalar s) q v h r = absurd v
-  no_element f Text q v h r = absurd v
-  no_element f (Struct k) q v h r = absurd v
-  no_element f (Table k) q v h r = absurd v
-  no_element f (Union e) q v h r = absurd v
-  no_element f (Scalars s) q v h r = absurd v
-  no_element f (Structs k) q v h r = absurd v
+  no_element f kind q v h r = absurd v
 
 module _ (b : List ℕ) (S : Rows) (t j : ℕ) (f : Live) where
   follows_at : (place : Option ℕ) (x : Entry) → slice_get (entries_at b S t f place) j ≡ Some x → (q : Spot) × Reaches b S (spot_at b t f place) (steps_on j f.kind) q × IsOfEntry b S x q
@@ -191,17 +182,8 @@ module _ (b : List ℕ) (S : Rows) (t j : ℕ) (f : Live) where
   -- an absent vector of offset words has no element
   absent_element : (optional : Bool) (d : ℤ) (kind : Kind) (q : Spot) → AreOffsets kind → Reaches b S (absent_spot optional d kind) (Element j ∷ []) q → position_of q ≡ None
   unfolding absent_spot next_spot
-  absent_element true d kind q v r = let e : AtAbsent ≡ r.0 = some_same r.1 in subst (λ z. position_of z ≡ None) (e ∙ r.2) refl
-  absent_element false d Texts q v r = let e : AtAbsent ≡ r.0 = some_same r.1 in subst (λ z. position_of z ≡ None) (e ∙ r.2) refl
-  absent_element false d (Tables k) q v r = let e : AtAbsent ≡ r.0 = some_same r.1 in subst (λ z. position_of z ≡ None) (e ∙ r.2) refl
-  absent_element false d (Unions u) q v r = let e : AtAbsent ≡ r.0 = some_same r.1 in subst (λ z. position_of z ≡ None) (e ∙ r.2) refl
   absent_element false d (AScalar s) q v r = absurd v
-  absent_element false d Text q v r = absurd v
-  absent_element false d (Struct k) q v r = absurd v
-  absent_element false d (Table k) q v r = absurd v
-  absent_element false d (Union u) q v r = absurd v
-  absent_element false d (Scalars s) q v r = absurd v
-  absent_element false d (Structs k) q v r = absurd v
+  absent_element optional d kind q v r = let e : AtAbsent ≡ r.0 = some_same r.1 in subst (λ z. position_of z ≡ None) (e ∙ r.2) refl
 
   no_element_at : (place : Option ℕ) (q : Spot) → AreOffsets f.kind → slice_get (entries_at b S t f place) j ≡ None → Reaches b S (spot_at b t f place) (Element j ∷ []) q → position_of q ≡ None
   no_element_at None q v h r = absent_element f.optional f.default f.kind q v r
@@ -222,16 +204,8 @@ no_other_elements b S k t n j f q e v h r =
 
 member_led : (b : List ℕ) (S : Rows) (p : ℕ) (kind : Kind) → IsLedTo b S p (lead_of S (Some kind)) (member_spot b p kind)
 unfolding member_spot
-member_led b S p (Table k) = refl
 member_led b S p (Struct k) = (k, refl, refl, refl)
-member_led b S p Text = refl
-member_led b S p (AScalar s) = refl
-member_led b S p (Union e) = refl
-member_led b S p (Scalars s) = refl
-member_led b S p Texts = refl
-member_led b S p (Structs k) = refl
-member_led b S p (Tables k) = refl
-member_led b S p (Unions e) = refl
+member_led b S p kind = refl
 
 module _ (b : List ℕ) (S : Rows) (e y p m : ℕ) (q : Spot) where
   abbrev IsFollowed : Type 0
@@ -270,14 +244,7 @@ module _ (b : List ℕ) (S : Rows) (t o p j : ℕ) (lt : j < word b (target b p)
       let x = AtStruct k (c + 4 + struct_size S k * j) in
       let e : x ≡ r.0 = some_same (sym (ap Some (element_there b c j x lt)) ∙ r.1) in
       rw is (subst (λ z. position_of z ≡ Some (c + 4 + struct_size S k * j)) (e ∙ r.2) refl)
-  in_row size (AScalar s) q is v r = absurd v
-  in_row size Text q is v r = absurd v
-  in_row size (Struct k) q is v r = absurd v
-  in_row size (Table k) q is v r = absurd v
-  in_row size (Union e) q is v r = absurd v
-  in_row size Texts q is v r = absurd v
-  in_row size (Tables k) q is v r = absurd v
-  in_row size (Unions e) q is v r = absurd v
+  in_row size kind q is v r = absurd v
 
 pub elements_stand_in_row : ElementsStandInRow
 elements_stand_in_row b S k t n j p f q e v place lt r =
