@@ -1,8 +1,8 @@
 -- What a text begins with, where parts are left.
 use Rattle.std.proofs.Common.{◌≡◌, ℕ, List, [], ◌∷◌, ◌++◌, ◌==◌, take, drop, refl, sym, ◌∙◌, ap, inl, inr, false}
+use Rattle.std.proofs.lemmas.Bool.{false≢true, eqb-false}
 use Rattle.fb_access.specs.Grammar.{begins_name, IsName, IsNumber, Part, field, element, member, IsPart, spelling}
 use Rattle.fb_access.specs.Cutting.{word_length, AreLeft}
-use Rattle.fb_access.proofs.ScanSteps.{false≢true, not_equal}
 use Rattle.fb_access.proofs.Words.{parts_stop, name_word, number_word, word_is, after_word}
 
 pub tail_is : (c d : ℕ) (t u : List ℕ) → c ∷ t ≡ d ∷ u → t ≡ u
@@ -12,7 +12,7 @@ head_is : (c d : ℕ) (t u : List ℕ) → c ∷ t ≡ d ∷ u → c ≡ d
 head_is c d t u e = cc
 
 pub marks_differ : (c d : ℕ) (t u : List ℕ) → (c == d) ≡ false → c ∷ t ≡ d ∷ u → ⊥
-marks_differ c d t u h e = not_equal c d h (head_is c d t u e)
+marks_differ c d t u h e = eqb-false c d h (head_is c d t u e)
 
 -- a name is no mark
 no_mark : (c : ℕ) (n t u : List ℕ) → begins_name c ≡ false → IsName n → c ∷ t ≡ n ++ u → ⊥

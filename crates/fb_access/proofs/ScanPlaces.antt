@@ -1,12 +1,12 @@
 -- Where a text stops being the beginning of a path.
 use Rattle.std.proofs.Common.{◌≡◌, ℕ, zero, suc, ◌+◌, ◌<◌, ◌≤◌, true, false, List, [], ◌∷◌, ◌++◌, length, take, drop, get_or, refl, sym, ◌∙◌, ap, subst, arith, Option, Some, None}
+use Rattle.std.proofs.lemmas.Bool.{false≢true}
 use Rattle.std.proofs.lemmas.List.{take_more, take-append-drop}
 use Rattle.std.proofs.Math.Seq.{take-length}
 use Rattle.fb_access.specs.declared.scan.Seen.{Seen}
 use Rattle.fb_access.specs.declared.scan.Seen.TheVariants.{Mark}
 use Rattle.fb_access.specs.Grammar.{IsPath, BeginsPath, IsWrongAt}
 use Rattle.fb_access.specs.Scanned.{next_seen, seen, is_end}
-use Rattle.fb_access.proofs.ScanSteps.{false≢true}
 use Rattle.fb_access.proofs.ScanAccepts.{scanned_ends, path_ends}
 use Rattle.fb_access.proofs.ScanReads.{path_accepted, completed}
 

@@ -1,5 +1,6 @@
 -- Some answer applies to each text.
 use Rattle.std.proofs.Common.{◌≡◌, ℕ, zero, suc, ◌+◌, ◌⊎◌, inl, inr, List, [], ◌∷◌, ◌++◌, length, take, get_or, Option, Some, None, Result, Ok, Err, refl, sym, ◌∙◌, subst, arith}
+use Rattle.std.proofs.lemmas.Bool.{cases_Bool}
 use Rattle.fb_schema.specs.declared.kinds.Kind.{Kind}
 use Rattle.fb_schema.specs.declared.kinds.Kind.TheVariants.{Table}
 use Rattle.fb_schema.specs.Rows.{Rows}
@@ -15,14 +16,13 @@ use Rattle.fb_access.specs.Grammar.{Part, field, IsPath, IsReading, IsWrongAt}
 use Rattle.fb_access.specs.Resolving.{fitting, fault_of, Follows, Misfits, IsAnswer}
 use Rattle.fb_access.specs.Scanned.{next_seen, seen, is_end}
 use Rattle.fb_access.proofs.ScanPlaces.{seen_more, wrong_at, wrong_at_end, right_at_end}
-use Rattle.fb_access.proofs.ScanSteps.{either}
 use Rattle.fb_access.proofs.Following.{follows_more, append_assoc, append_nil}
 
 -- A text is a path, or is wrong at some place.
 scanned_from : (text : List ℕ) (more i : ℕ) (s : Seen) → i + more ≡ length text → seen (Some Mark) (take i text) ≡ Some s → IsPath text ⊎ ((at : ℕ) × IsWrongAt text at)
 scanned_from text zero i s e h =
     let l : i ≡ length text = omega arith in
-    elim (either (is_end s)) [
+    elim (cases_Bool (is_end s)) [
       | inl w ↦ inl (right_at_end text i s l h w)
       | inr w ↦ inr (i, wrong_at_end text i i s l l h w)
     ]

@@ -1,5 +1,6 @@
 -- Wherever steps lead in a buffer that unfolds, what is there lies in the buffer.
 use Rattle.std.proofs.Common.{◌≡◌, ℕ, suc, ◌+◌, ◌*◌, ◌<◌, ◌≤◌, ◌==◌, nat_lt, if◌then◌else◌, Bool, true, false, List, [], ◌∷◌, length, refl, subst, ap, ◌∙◌, arith, Option, Some, None}
+use Rattle.std.proofs.lemmas.Bool.{eqb-true}
 use Rattle.std.specs.Prelude.{option_map}
 use Rattle.std.proofs.Math.Nat.{mul-le-mul_right, suc-mul, mul_comm}
 use Rattle.std.proofs.lemmas.Bool.Decides.{nat_tests}
@@ -31,7 +32,6 @@ use Rattle.fb_access.specs.Inside.{OffsetLies, LiesInside, ValuesLieInside}
 use Rattle.fb_access.proofs.FieldSpots.{field_spot_holds}
 use Rattle.fb_access.proofs.Leading.{led_to_table, led_to_string, led_to_struct}
 use Rattle.fb_access.proofs.TableFields.{table_has_vtable}
-use Rattle.fb_access.proofs.ScanSteps.{is_equal}
 use Rattle.fb_access.proofs.StepLaws.{some_same}
 use Rattle.fb_access.proofs.Walks.{root_placed}
 
@@ -119,7 +119,7 @@ module _ (b : List ℕ) (S : Rows) where
   unfolding IsSpot
   member_of_union e y p m None q holds h i l = absurd cc
   member_of_union e y p m (Some kind) q holds h i l =
-      let led = λ (t : (y == m) ≡ true). subst (λ x. IsLed b S p (lead_of S x)) (ap (member_of S e) (is_equal y m t) ∙ i) h.led in
+      let led = λ (t : (y == m) ≡ true). subst (λ x. IsLed b S p (lead_of S x)) (ap (member_of S e) (eqb-true y m t) ∙ i) h.led in
       subst (IsSpot b S) (some_same l) (one_of (y == m) (member_spot b p kind) AtOtherMember (λ t. member_lies p kind holds (led t)) tt)
 
   from_union : (p : Spot) (m : ℕ) (q : Spot) → IsServed S → IsSpot b S p → spot_of_member b S p m ≡ Some q → IsSpot b S q
