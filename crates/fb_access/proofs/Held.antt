@@ -2,8 +2,8 @@
 use Rattle.std.proofs.Common.{◌≡◌, ℕ, List}
 use Rattle.fb_schema.specs.Rows.{Rows}
 use Rattle.fb_access.specs.declared.spot.Spot.{Spot}
-use Rattle.fb_access.specs.declared.spot.Spot.TheVariants.{AtTable, AtStruct, AtTexts, AtTables, AtUnion}
-use Rattle.fb_access.specs.Held.{IsSpot, IsTableAt, IsStructAt, AreTextsAt, AreTablesAt, IsUnionAt}
+use Rattle.fb_access.specs.declared.spot.Spot.TheVariants.{AtTable, AtStruct, AtTexts, AtTables}
+use Rattle.fb_access.specs.Held.{IsSpot, IsTableAt, IsStructAt, AreTextsAt, AreTablesAt}
 
 module _ (b : List ℕ) (S : Rows) (q : Spot) where
   pub at_table : (k t : ℕ) → q ≡ AtTable k t → IsSpot b S q → IsTableAt b S k t
@@ -21,7 +21,3 @@ module _ (b : List ℕ) (S : Rows) (q : Spot) where
   pub at_tables : (k c : ℕ) → q ≡ AtTables k c → IsSpot b S q → AreTablesAt b S k c
   unfolding IsSpot
   at_tables k c e h = rw e at h
-
-  pub at_union : (e y p : ℕ) → q ≡ AtUnion e y p → IsSpot b S q → IsUnionAt b S e y p
-  unfolding IsSpot
-  at_union e y p i h = rw i at h

@@ -1,5 +1,5 @@
 -- Some answer applies to each text.
-use Rattle.std.proofs.Common.{◌≡◌, ℕ, zero, suc, ◌+◌, ◌⊎◌, inl, inr, List, [], ◌∷◌, ◌++◌, length, take, get_or, Option, Some, None, Result, Ok, Err, refl, sym, ◌∙◌, subst, arith}
+use Rattle.std.proofs.Common.{◌≡◌, ℕ, zero, suc, ◌+◌, ◌⊎◌, inl, inr, List, [], ◌∷◌, ◌++◌, length, take, get_or, Option, Some, None, Result, Ok, Err, refl, sym, ◌∙◌, subst, arith, append_assoc, append-nil}
 use Rattle.std.proofs.lemmas.Bool.{cases_Bool}
 use Rattle.fb_schema.specs.declared.kinds.Kind.{Kind}
 use Rattle.fb_schema.specs.declared.kinds.Kind.TheVariants.{Table}
@@ -16,7 +16,7 @@ use Rattle.fb_access.specs.Grammar.{Part, field, IsPath, IsReading, IsWrongAt}
 use Rattle.fb_access.specs.Resolving.{fitting, fault_of, Follows, Misfits, IsAnswer}
 use Rattle.fb_access.specs.Scanned.{next_seen, seen, is_end}
 use Rattle.fb_access.proofs.ScanPlaces.{seen_more, wrong_at, wrong_at_end, right_at_end}
-use Rattle.fb_access.proofs.Following.{follows_more, append_assoc, append_nil}
+use Rattle.fb_access.proofs.Following.{follows_more}
 
 -- A text is a path, or is wrong at some place.
 scanned_from : (text : List ℕ) (more i : ℕ) (s : Seen) → i + more ≡ length text → seen (Some Mark) (take i text) ≡ Some s → IsPath text ⊎ ((at : ℕ) × IsWrongAt text at)
@@ -50,7 +50,7 @@ module _ (S : Rows) (root : ℕ) (text name : List ℕ) (parts : List Part) (rea
 
   followed : (done left : List Part) (steps : List Step) (kind : Kind) → field name ∷ parts ≡ done ++ left → Follows S (Table root) done steps kind → Answer
   unfolding Answer
-  followed done [] steps kind e f = (Ok steps, record { name = name; parts = parts; last = kind; reading = reading; follows = subst (λ ps. Follows S (Table root) ps steps kind) (sym (e ∙ append_nil done)) f })
+  followed done [] steps kind e f = (Ok steps, record { name = name; parts = parts; last = kind; reading = reading; follows = subst (λ ps. Follows S (Table root) ps steps kind) (sym (e ∙ append-nil done)) f })
   followed done (p ∷ left) steps kind e f = go (fitting S kind p) refl (λ x h. followed (done ++ p ∷ []) left (steps ++ x.step ∷ []) x.kind (e ∙ sym (append_assoc done (p ∷ []) left)) (follows_more S (Table root) kind done steps p x f h)) where
     go : (r : Result Fitted Misfit) → fitting S kind p ≡ r → ((x : Fitted) → fitting S kind p ≡ Ok x → Answer) → Answer
     go (Ok x) h later = later x h
