@@ -7,10 +7,10 @@ use Rattle.fb_schema.specs.Rows.{Rows}
 use Rattle.fb_schema.specs.Served.{IsServed}
 use Rattle.fb_access.specs.declared.step.Step.{Step}
 use Rattle.fb_access.specs.declared.misfit.Misfit.{Misfit}
-use Rattle.fb_access.specs.declared.misfit.Misfit.TheVariants.{NoSuchField, NotIndexable, NotAUnion, NoSuchMember, NotATable}
+use Rattle.fb_access.specs.declared.misfit.Misfit.TheVariants.{NoSuchField}
 use Rattle.fb_access.specs.declared.misfit.Fitted.{Fitted}
 use Rattle.fb_access.specs.declared.pieces.Piece.{Piece}
-use Rattle.fb_access.specs.Cutting.{IsPieceOf, AreLeft, IsCuttable, IsCut}
+use Rattle.fb_access.specs.Cutting.{IsPieceOf, AreLeft, IsCut}
 use Rattle.fb_access.specs.Fitting.{StepsFit}
 use Rattle.fb_access.specs.Grammar.{Part, field, element, member, IsName, IsPart, IsPath, IsReading, spelling}
 use Rattle.fb_access.specs.Kept.{IsThere}
@@ -59,9 +59,6 @@ begins S root text p = record {
   are_left = record { are_parts = (p.reading.is_name, p.reading.are_parts); spelled = inr (ap (λ t. 46 ∷ t) p.reading.spelled) };
 }
 
-pub cuttable : (S : Rows) (root : ℕ) (text rest : List ℕ) (steps : List Step) (kind : Kind) → IsWalked S root text rest steps kind → IsCuttable rest
-cuttable S root text rest steps kind w = record { parts = w.left; left = w.are_left }
-
 -- a text of which parts are left is longer than those after the first
 longer : (text : List ℕ) (p : Part) (ps : List Part) → AreLeft text (p ∷ ps) → length (spelling ps) < length text
 longer text p ps h = elim h.spelled [ inl e ↦ subst (λ n. length (spelling ps) < n) (sym (ap length e)) (whole p) | inr e ↦ named p h.are_parts.0 e ] where
@@ -77,6 +74,11 @@ longer text p ps h = elim h.spelled [ inl e ↦ subst (λ n. length (spelling ps
   named : (p : Part) → IsPart p → 46 ∷ text ≡ spelling (p ∷ ps) → length (spelling ps) < length text
   named (field n) g e = subst (λ t. length (spelling ps) < length t) (sym (tail_is 46 46 text _ e)) (more n g)
   named p g e = absurd (marks_differ 46 _ text _ refl e)
+
+-- a step that misfits is a fault
+pub misfit_fault : (S : Rows) (root : ℕ) (text : List ℕ) (m : Misfit) (n : ℕ) → Misfits S root text m n → IsFault S root text (fault_of m n)
+misfit_fault S root text NoSuchField n h = h
+misfit_fault S root text m n h = h
 
 -- What is cut off.
 record Split (S : Rows) (root : ℕ) (text rest : List ℕ) (steps : List Step) (kind : Kind) (piece : Piece) (after : List ℕ) : Type 0 where
@@ -145,11 +147,7 @@ module _ (S : Rows) (root : ℕ) (text rest : List ℕ) (steps : List Step) (kin
   stands_at n same m f = (misfits n same m f, refl)
 
   pub is_fault : (n : ℕ) → n ≡ length steps → (m : Misfit) → ((p : Part) → IsPieceOf p piece → Err m ≡ fitting S kind p) → IsFault S root text (fault_of m n)
-  is_fault n same NoSuchField f = misfits n same NoSuchField f
-  is_fault n same NotIndexable f = misfits n same NotIndexable f
-  is_fault n same NotAUnion f = misfits n same NotAUnion f
-  is_fault n same NoSuchMember f = misfits n same NoSuchMember f
-  is_fault n same NotATable f = misfits n same NotATable f
+  is_fault n same m f = misfit_fault S root text m n (misfits n same m f)
 
 -- no parts are left of no text
 nothing_left : (text : List ℕ) (ps : List Part) → text ≡ [] → AreLeft text ps → ps ≡ []

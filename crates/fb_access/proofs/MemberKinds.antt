@@ -7,9 +7,9 @@ use Rattle.std.specs.Ordering.{int_eq}
 use Rattle.std.specs.Str.{bytes_eq}
 use Rattle.fb_schema.specs.declared.kinds.Kind.{Kind}
 use Rattle.fb_schema.specs.declared.kinds.Kind.TheVariants.{Text, Struct, Table}
-use Rattle.fb_schema.specs.declared.kinds.Element.TheVariants.{Scalar as OfScalar, Text as OfText, Object as OfObject, Union as OfUnion}
+use Rattle.fb_schema.specs.declared.kinds.Element.TheVariants.{Text as OfText, Object as OfObject}
 use Rattle.fb_schema.specs.declared.kinds.Shape.{Shape}
-use Rattle.fb_schema.specs.declared.kinds.Shape.TheVariants.{One, Vector, Array}
+use Rattle.fb_schema.specs.declared.kinds.Shape.TheVariants.{One}
 use Rattle.fb_schema.specs.Demands.{IsLegal, first_code, member_demands, members_asked, demands_of_enum, demands_of_member, is_for_member, is_object, names_no_object}
 use Rattle.fb_schema.specs.Kinds.{kind_of, shape_of, shape_kind, object_kind}
 use Rattle.fb_schema.specs.Members.{is_member_value, member_of, member_named, members_in, members_of}
@@ -81,11 +81,7 @@ kind_of_shape rows (pos n) (Some (One OfObject)) h e = go (slice_get rows.object
   go (Some o) e = record { is = if o.is_struct then Struct n else Table n; kept = object_kept rows n o.is_struct; fits = object_fits n o.is_struct; has = refl }
 kind_of_shape rows (negsuc n) (Some (One OfObject)) h e = absurd (false≢true (sym e))
 kind_of_shape rows index (Some (One OfText)) h e = record { is = Text; kept = λ h. tt; fits = tt; has = refl }
-kind_of_shape rows index None h e = absurd (false≢true h)
-kind_of_shape rows index (Some (One (OfScalar s))) h e = absurd (false≢true h)
-kind_of_shape rows index (Some (One OfUnion)) h e = absurd (false≢true h)
-kind_of_shape rows index (Some (Vector s)) h e = absurd (false≢true h)
-kind_of_shape rows index (Some (Array s)) h e = absurd (false≢true h)
+kind_of_shape rows index s h e = absurd (false≢true h)
 
 -- a member that breaks no demand has a kind
 member_has_kind : (rows : Rows) (m : Member) (taken named : Bool) → first_code (member_demands rows m taken named) ≡ None → is_member_value m.value ≡ true → HasKind rows (kind_of rows m.ty)

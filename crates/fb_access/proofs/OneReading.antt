@@ -19,8 +19,7 @@ one_word v w s t a b c d e = record {
 
 some_spelling : (p : Part) (ps : List Part) → spelling (p ∷ ps) ≡ [] → ⊥
 some_spelling (field n) ps e = cc
-some_spelling (element n) ps e = cc
-some_spelling (member n) ps e = cc
+some_spelling p ps e = cc
 
 one_spelling : (ps qs : List Part) → AllByRecursion IsPart ps → AllByRecursion IsPart qs → spelling ps ≡ spelling qs → ps ≡ qs
 one_spelling [] [] a b e = refl

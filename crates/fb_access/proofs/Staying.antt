@@ -144,30 +144,23 @@ module _ (b : List ℕ) (S : Rows) where
   -- an offset word that leads to something
   offset_lies : (c : Checks) (y : Found) (p : ℕ) (lead : Lead) → ElementUnfolds y c b S p lead → OffsetLies b p lead
   unfolding ElementUnfolds
+  offset_lies c y p to_nothing u = tt
   offset_lies c leaf p (to_table k) u = absurd u
-  offset_lies c leaf p (to_struct size align) u = u.0.within
-  offset_lies c leaf p to_string u = u.0.within
-  offset_lies c leaf p to_nothing u = tt
-  offset_lies c (table y) p (to_table k) u = u.0.within
   offset_lies c (table y) p (to_struct size align) u = absurd u
   offset_lies c (table y) p to_string u = absurd u
-  offset_lies c (table y) p to_nothing u = absurd u
+  offset_lies c y p lead u = u.0.within
 
   lies : (q : Spot) → IsSpot b S q → LiesInside b S q
   unfolding IsSpot
   lies (AtTable k t) h = table_has_vtable b S k t h
-  lies (AtInline s p) h = h
   lies (AtStruct k p) h = h.within
-  lies (AtText c) h = h
-  lies (AtScalars s c) h = h
   lies (AtStructs k c) h = h.counted
-  lies (AtScalarArray s n p) h = h
   lies (AtStructArray k n p) h = h.within
   lies (AtTexts c) h = h.counted
   lies (AtTables k c) h = h.counted
   lies (AtUnions e y c) h = (h.types, h.counted)
   lies (AtUnion e y p) h = offset_lies h.led.checks h.led.found p (lead_of S (member_of S e y)) h.led.unfolds
-  lies q h = tt
+  lies q h = h
 
 pub values_lie_inside : ValuesLieInside
 values_lie_inside v steps q served h r =

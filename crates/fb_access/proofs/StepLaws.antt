@@ -50,9 +50,8 @@ default_nowhere d s = refl
 
 absent_nowhere : (optional : Bool) (d : ℤ) (kind : Kind) → position_of (absent_spot optional d kind) ≡ None
 unfolding absent_spot
-absent_nowhere true d kind = refl
 absent_nowhere false d (AScalar s) = default_nowhere d s
-absent_nowhere false d kind = refl
+absent_nowhere optional d kind = refl
 
 field_in_place : (b : List ℕ) (t : ℕ) (f : Live) → IsFieldOf b t f (field_spot b t f)
 field_in_place b t f = record {

@@ -1,8 +1,7 @@
 -- Steps that fit lead on from the root.
-use Rattle.std.proofs.Common.{◌≡◌, ℕ, ◌+◌, ◌<◌, suc, get_or, add-one, List, [], ◌∷◌, ◌++◌, length, take, drop, refl, sym, subst, IsTrue, inl}
+use Rattle.std.proofs.Common.{◌≡◌, ℕ, ◌+◌, ◌<◌, suc, get_or, add-one, List, [], ◌∷◌, ◌++◌, length, take, drop, refl, sym, subst, IsTrue}
 use Rattle.std.proofs.Math.Seq.{drop-cons}
 use Rattle.std.proofs.lemmas.List.{take_more}
-use Rattle.fb_schema.specs.declared.kinds.Kind.{Kind}
 use Rattle.fb_schema.specs.Rows.{Rows}
 use Rattle.fb_verify.specs.Places.{target}
 use Rattle.fb_verify.specs.WellFormed.{base}
@@ -10,10 +9,8 @@ use Rattle.fb_verify.specs.Sealed.{Sealed, IsUnfolded}
 use Rattle.fb_access.specs.declared.step.Step.{Step}
 use Rattle.fb_access.specs.declared.spot.Spot.{Spot}
 use Rattle.fb_access.specs.declared.spot.Spot.TheVariants.{AtTable}
-use Rattle.fb_access.specs.Fitting.{StepsFit}
 use Rattle.fb_access.specs.Denotes.{Leads, allows, Reaches}
 use Rattle.fb_access.specs.Held.{IsSpot, IsPlaced}
-use Rattle.fb_access.specs.Here.{IsHere}
 use Rattle.fb_access.specs.Underway.{IsWalked}
 use Rattle.fb_access.proofs.StepKinds.{kind_allows, kinds_go_on}
 
@@ -28,10 +25,6 @@ module _ (b : List ℕ) (S : Rows) where
   reaches_more p (x ∷ ss) q s m r l = (r.0, r.1, reaches_more r.0 ss q s m r.2 l)
 
   module _ (first : Spot) where
-    -- before the first step
-    pub walked_none : (kind : Kind) (ss : List Step) → IsHere first kind → StepsFit S kind ss → IsWalked b S first [] ss first
-    walked_none kind ss h fits = record { reached = refl; kind = kind; is = inl h; fits = fits }
-
     walked_allows : (taken left : List Step) (s : Step) (q : Spot) → IsWalked b S first taken (s ∷ left) q → IsTrue (allows S q s)
     walked_allows taken left s q w = kind_allows S q s w.kind w.fits.0 w.is w.fits.1
 

@@ -1,9 +1,9 @@
 -- A word of letters, `_` and digits, and the text after it.
 use Rattle.std.proofs.Common.{◌≡◌, ℕ, suc, ◌+◌, ◌-◌, ◌*◌, ◌<◌, ◌≤◌, inl, inr, List, [], ◌∷◌, ◌++◌, length, take, drop, get_or, refl, ◌∙◌, ap, subst, arith, add-one, true, false}
 use Rattle.std.proofs.lemmas.Bool.{cond-true, cond-false, or_left, or_right}
-use Rattle.std.proofs.Math.Seq.{drop-cons, drop-length}
+use Rattle.std.proofs.Math.Seq.{drop-cons, drop-length, take-append_seam, drop-append_seam}
 use Rattle.std.proofs.lemmas.Bool.Decides.{nat_tests}
-use Rattle.fb_access.specs.Grammar.{is_digit, begins_name, goes_on, IsName, IsNumber, number_from, Part, field, element, member, spelling}
+use Rattle.fb_access.specs.Grammar.{is_digit, begins_name, goes_on, IsName, IsNumber, number_from, Part, field, spelling}
 use Rattle.fb_access.specs.Cutting.{word_length}
 use Rattle.fb_access.proofs.ScanAccepts.{Most, GoOn, AreDigits}
 use Rattle.fb_access.proofs.ScanReads.{number_grows}
@@ -16,8 +16,7 @@ Stops (c ∷ cs) = goes_on c ≡ false
 pub parts_stop : (ps : List Part) → Stops (spelling ps)
 parts_stop [] = tt
 parts_stop (field n ∷ ps) = refl
-parts_stop (element ds ∷ ps) = refl
-parts_stop (member n ∷ ps) = refl
+parts_stop (p ∷ ps) = refl
 
 stops_length : (t : List ℕ) → Stops t → word_length t ≡ 0
 unfolding word_length
@@ -30,19 +29,11 @@ unfolding word_length
 length_of_word [] t h s = stops_length t s
 length_of_word (c ∷ cs) t h s = cond-true (goes_on c) _ _ h.0 ∙ ap suc (length_of_word cs t h.1 s)
 
-take_front : (w t : List ℕ) → take (length w) (w ++ t) ≡ w
-take_front [] t = refl
-take_front (c ∷ cs) t = ap (λ x. c ∷ x) (take_front cs t)
-
-drop_front : (w t : List ℕ) → drop (length w) (w ++ t) ≡ t
-drop_front [] t = refl
-drop_front (c ∷ cs) t = drop_front cs t
-
 pub word_is : (text w t : List ℕ) → GoOn w → Stops t → text ≡ w ++ t → take (word_length text) text ≡ w
-word_is text w t h s e = rw (e, length_of_word w t h s) (take_front w t)
+word_is text w t h s e = rw (e, length_of_word w t h s) (take-append_seam w t)
 
 pub after_word : (text w t : List ℕ) → GoOn w → Stops t → text ≡ w ++ t → drop (word_length text) text ≡ t
-after_word text w t h s e = rw (e, length_of_word w t h s) (drop_front w t)
+after_word text w t h s e = rw (e, length_of_word w t h s) (drop-append_seam w t)
 
 -- Names and numbers are words.
 pub name_word : (n : List ℕ) → IsName n → GoOn n
