@@ -1,5 +1,5 @@
 -- The examples, by computing.
-use Rattle.std.proofs.Common.{◌≡◌, ℕ, ◌<◌, ◌≤◌, refl, arith, rules, List, [], ◌∷◌, Option, Some, None, option_map, option_and_then}
+use Rattle.std.proofs.Common.{◌≡◌, ℕ, refl, rules, List, [], ◌∷◌, Option, Some, None, option_map, option_and_then}
 use Rattle.fb_verify.specs.declared.start.Start.TheVariants.{Bare}
 use Rattle.fb_bytes.specs.Word.{word}
 use Rattle.fb_schema.specs.Live.{live_fields}
@@ -79,13 +79,4 @@ prefixed_values = record {
 -- what lies inside
 pub inside_values : InsideValues
 unfolding computing
-inside_values = record {
-  a_text = record { counted = record { count = omega arith; within = omega arith }; ends = omega arith; terminated = refl };
-  a_text_that_goes_on = λ h. (let e : 1 ≡ 0 = h.terminated in omega arith);
-  a_text_up_to_the_end = λ h. (let e : 6 < 6 = h.ends in omega arith);
-  an_empty_text = record { counted = record { count = omega arith; within = omega arith }; ends = omega arith; terminated = refl };
-  a_union = omega arith;
-  a_union_past_the_end = λ h. (let e : 4 ≤ 3 = h in omega arith);
-  a_union_of_an_unknown_type = tt;
-  a_union_without_a_value = tt;
-}
+inside_values = search rules
