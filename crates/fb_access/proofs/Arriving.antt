@@ -38,6 +38,7 @@ use Rattle.fb_access.proofs.MemberKinds.{member_there, IsOfMember}
 use Rattle.fb_access.proofs.NumberedFields.{found_by_number}
 use Rattle.fb_access.proofs.StepLaws.{field_step, one_entry, row_get, union_row_get, element_there}
 use Rattle.fb_access.proofs.UniqueNames.{found_by_name, named_again, has_name}
+use Rattle.fb_access.proofs.Walks.{reaches_on}
 use Rattle.fb_access.proofs.Ways.{read_back}
 
 -- a step, and the kind to which it leads
@@ -52,10 +53,6 @@ module _ (b : List ℕ) (S : Rows) where
   follows_on : (kind mid last : Kind) (ps qs : List Part) (ss rs : List Step) → Follows S kind ps ss mid → Follows S mid qs rs last → Follows S kind (ps ++ qs) (ss ++ rs) last
   follows_on kind mid last [] qs ss rs h g = subst (λ k. Follows S k qs (ss ++ rs) last) (sym h.1) (subst (λ xs. Follows S mid qs (xs ++ rs) last) (sym h.0) g)
   follows_on kind mid last (p ∷ ps) qs ss rs h g = (h.0, h.1, h.2 ++ rs, ap (λ xs. xs ++ rs) h.3, follows_on (h.0).kind mid last ps qs h.2 rs h.4 g)
-
-  reaches_on : (p m q : Spot) (ss rs : List Step) → Reaches b S p ss m → Reaches b S m rs q → Reaches b S p (ss ++ rs) q
-  reaches_on p m q [] rs h g = subst (λ x. Reaches b S x rs q) (sym h) g
-  reaches_on p m q (s ∷ ss) rs h g = (h.0, h.1, reaches_on h.0 m q ss rs h.2 g)
 
   -- By parts from a kind at a spot to what is behind an offset word.
   record GoesTo (kind : Kind) (from : Spot) (parts : List Part) (place : ℕ) (lead : Lead) : Type 0 where
@@ -217,7 +214,7 @@ module _ (b : List ℕ) (S : Rows) where
           last = r.last;
           follows = follows_on kind g.last r.last (link_parts S link) (parts_of S links) g.steps r.steps g.follows (subst (λ z. Follows S z (parts_of S links) r.steps r.last) (sym to.0) r.follows);
           end = r.end;
-          reaches = reaches_on from g.end r.end g.steps r.steps g.reaches (subst (λ z. Reaches b S z r.steps r.end) (sym to.1) r.reaches);
+          reaches = reaches_on b S from g.end r.end g.steps r.steps g.reaches (subst (λ z. Reaches b S z r.steps r.end) (sym to.1) r.reaches);
           place = r.place;
           way = r.way;
           fails = r.fails;

@@ -22,10 +22,6 @@ use Rattle.fb_access.specs.Spots.{kind_at, present_spot, default_spot, absent_sp
 use Rattle.fb_access.specs.Denotes.{next_spot, Leads, allows}
 use Rattle.fb_access.specs.Here.{IsHere, MayBeHere, IsOfKind, KindsGoOn}
 
-map_same : {A B C : Type 0} (f : A → B) (g : A → C) (o : Option A) → is_some (option_map f o) ≡ is_some (option_map g o)
-map_same f g None = refl
-map_same f g (Some x) = refl
-
 map_some : {A B : Type 0} (f : A → B) (o : Option A) → is_some (option_map f o) ≡ is_some o
 map_some f None = refl
 map_some f (Some x) = refl
@@ -33,8 +29,8 @@ map_some f (Some x) = refl
 -- a step leads on exactly where it is allowed
 pub leads_where_allowed : (b : List ℕ) (S : Rows) (p : Spot) (s : Step) → is_some (next_spot b S p s) ≡ allows S p s
 unfolding next_spot spot_of_element next_kind
-leads_where_allowed b S (AtTable k t) (Field n) = map_same (field_spot b t) (λ f. f.kind) (numbered S k n)
-leads_where_allowed b S (AtStruct k p) (Field n) = map_same (part_spot p) (λ (part : PartView). part.kind) (part_at S k n)
+leads_where_allowed b S (AtTable k t) (Field n) = map_some (field_spot b t) (numbered S k n) ∙ sym (map_some (λ f. f.kind) (numbered S k n))
+leads_where_allowed b S (AtStruct k p) (Field n) = map_some (part_spot p) (part_at S k n) ∙ sym (map_some (λ (part : PartView). part.kind) (part_at S k n))
 leads_where_allowed b S (AtUnion e y p) (Member m) = map_some (λ kind. if y == m then member_spot b p kind else AtOtherMember) (member_of S e m)
 leads_where_allowed b S p (Field n) = refl
 leads_where_allowed b S p (Element j) = refl

@@ -20,9 +20,10 @@ unfolding IsSpot
 root_placed v k t h i e = record { unfolds = h; spot = rw (i, e) (record { object = h.root_is_table; checks = v.checks; found = h.found; unfolds = h.well_formed.unfolds }) }
 
 module _ (b : List ℕ) (S : Rows) where
-  reaches_more : (p : Spot) (ss : List Step) (q : Spot) (s : Step) (m : Spot) → Reaches b S p ss q → Leads b S q s m → Reaches b S p (ss ++ s ∷ []) m
-  reaches_more p [] q s m e l = (m, rw (sym e) at l, refl)
-  reaches_more p (x ∷ ss) q s m r l = (r.0, r.1, reaches_more r.0 ss q s m r.2 l)
+  -- steps behind other steps
+  pub reaches_on : (p m q : Spot) (ss rs : List Step) → Reaches b S p ss m → Reaches b S m rs q → Reaches b S p (ss ++ rs) q
+  reaches_on p m q [] rs h g = subst (λ x. Reaches b S x rs q) (sym h) g
+  reaches_on p m q (s ∷ ss) rs h g = (h.0, h.1, reaches_on h.0 m q ss rs h.2 g)
 
   module _ (first : Spot) where
     walked_allows : (taken left : List Step) (s : Step) (q : Spot) → IsWalked b S first taken (s ∷ left) q → IsTrue (allows S q s)
@@ -30,7 +31,7 @@ module _ (b : List ℕ) (S : Rows) where
 
     walked_more : (taken left : List Step) (s : Step) (q m : Spot) → IsWalked b S first taken (s ∷ left) q → Leads b S q s m → IsWalked b S first (taken ++ s ∷ []) left m
     walked_more taken left s q m w l = record {
-      reached = reaches_more first taken q s m w.reached l;
+      reached = reaches_on first q m taken (s ∷ []) w.reached (m, l, refl);
       kind = w.fits.0;
       is = kinds_go_on b S q s m l w.kind w.fits.0 w.is w.fits.1;
       fits = w.fits.2;
