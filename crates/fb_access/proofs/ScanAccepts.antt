@@ -105,7 +105,7 @@ scanned_ends (c ∷ cs) Bracket r l h w =
       | inr e ↦
         let (d, g) = digit_ends 0 c cs r (rw (e, seen) at h) in
         let q = scanned_ends cs (Digits (10 * 0 + (c - 48))) r d.small g w in
-        record { word = c ∷ q.word; completes = inr (eqb-false c 48 e, (d.digit, q.completes.0), q.completes.1); parts = q.parts; are_parts = q.are_parts; spelled = ap (λ t. c ∷ t) q.spelled }
+        record { word = c ∷ q.word; completes = inr (eqb-false c 48 e, (d.digit, q.completes.0), q.completes.1); parts = q.parts; are_parts = q.are_parts; spelled = ap (λ t. c ∷ t) {y = q.word ++ 93 ∷ spelling q.parts} q.spelled }
     ]
 scanned_ends (c ∷ cs) Zero r l h w =
     elim (cases_Bool (c == 93)) [
@@ -118,7 +118,7 @@ scanned_ends (c ∷ cs) (Digits v) r l h w =
       | inr e ↦
         let (d, g) = digit_ends v c cs r (rw (e, seen) at h) in
         let q = scanned_ends cs (Digits (10 * v + (c - 48))) r d.small g w in
-        record { word = c ∷ q.word; completes = ((d.digit, q.completes.0), q.completes.1); parts = q.parts; are_parts = q.are_parts; spelled = ap (λ t. c ∷ t) q.spelled }
+        record { word = c ∷ q.word; completes = ((d.digit, q.completes.0), q.completes.1); parts = q.parts; are_parts = q.are_parts; spelled = ap (λ t. c ∷ t) {y = q.word ++ 93 ∷ spelling q.parts} q.spelled }
     ]
 scanned_ends (c ∷ cs) Index r l h w = let q = part_ends c cs r (λ s m g. scanned_ends cs s r m g w) h in record { word = []; completes = refl; parts = q.parts; are_parts = q.are_parts; spelled = q.spelled }
 
