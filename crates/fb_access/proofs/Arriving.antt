@@ -1,9 +1,11 @@
 -- The links to a fault lead to what is under check.
-use Rattle.std.proofs.Common.{◌≡◌, ℕ, zero, suc, ◌+◌, ◌*◌, ◌<◌, ◌^◌, ◌==◌, if◌then◌else◌, Bool, true, false, List, [], ◌∷◌, ◌++◌, length, slice_get, decimal, option_map, option_and_then, IsTrue, Option, Some, None, Ok, append-nil, refl, sym, ◌∙◌, ap, subst, arith, inl, inr}
+use Rattle.std.proofs.Common.{◌≡◌, ℕ, ◌+◌, ◌*◌, ◌<◌, ◌^◌, ◌==◌, if◌then◌else◌, List, [], ◌∷◌, ◌++◌, length, slice_get, decimal, option_map, option_and_then, IsTrue, Option, Some, None, Ok, append-nil, refl, sym, ◌∙◌, ap, subst, arith, inl, inr}
+use Rattle.std.proofs.lemmas.Bool.{cond-true}
 use Rattle.std.proofs.lemmas.Bool.Decides.{Decides-eqb}
+use Rattle.std.proofs.lemmas.Option.{slice_get_within}
 use Rattle.fb_bytes.specs.Word.{word}
 use Rattle.fb_schema.specs.declared.kinds.Kind.{Kind}
-use Rattle.fb_schema.specs.declared.kinds.Kind.TheVariants.{Scalar, Text, Struct, Table, Union, Scalars, Texts, Structs, Tables, Unions}
+use Rattle.fb_schema.specs.declared.kinds.Kind.TheVariants.{Text, Struct, Table, Union, Texts, Tables, Unions}
 use Rattle.fb_schema.specs.Demands.{IsLegal}
 use Rattle.fb_schema.specs.Live.{Live, live_fields}
 use Rattle.fb_schema.specs.Members.{member_of, member_name}
@@ -14,7 +16,7 @@ use Rattle.fb_verify.specs.declared.fault.Fault.{Fault}
 use Rattle.fb_verify.specs.declared.links.Link.{Link}
 use Rattle.fb_verify.specs.Bounds.{Bounds}
 use Rattle.fb_verify.specs.Places.{target, field_place}
-use Rattle.fb_verify.specs.Fields.{type_place, union_type, types_begin, IsVectorField, IsPresent, IsPresentOrAbsent, IsField, Lead, to_table, to_struct, to_string, to_nothing, lead_of, Entry, entry, union_entry, entries_of, entries_at, entries}
+use Rattle.fb_verify.specs.Fields.{type_place, union_type, types_begin, IsVectorField, IsPresent, IsPresentOrAbsent, IsField, Lead, to_table, to_string, to_nothing, lead_of, Entry, entry, union_entry, entries_of, entries_at, entries}
 use Rattle.fb_verify.specs.Tree.{kids_length, elements_length}
 use Rattle.fb_verify.specs.WellFormed.{base}
 use Rattle.fb_verify.specs.Way.{Way, way_to_start, way_to_root, way_to_field, way_to_element, way_to_table}
@@ -23,7 +25,7 @@ use Rattle.fb_verify.specs.Links.{element_of, type_of, field_link, element_link,
 use Rattle.fb_access.specs.declared.step.Step.{Step}
 use Rattle.fb_access.specs.declared.step.Step.TheVariants.{Field, Element, Member}
 use Rattle.fb_access.specs.declared.spot.Spot.{Spot}
-use Rattle.fb_access.specs.declared.spot.Spot.TheVariants.{AtTable, AtText, AtTexts, AtTables, AtUnions, AtUnion, AtOtherMember}
+use Rattle.fb_access.specs.declared.spot.Spot.TheVariants.{AtTable, AtText, AtUnion, AtOtherMember}
 use Rattle.fb_access.specs.declared.misfit.Fitted.{Fitted}
 use Rattle.fb_access.specs.Denotes.{next_spot, Leads, Reaches}
 use Rattle.fb_access.specs.Fitting.{element_kind}
@@ -31,26 +33,17 @@ use Rattle.fb_access.specs.Grammar.{Part, field, element, member, number_of}
 use Rattle.fb_access.specs.Location.{member_of_kind}
 use Rattle.fb_access.specs.LocationLaws.{field_parts, element_parts, member_parts, link_parts, parts_of, IsBehind, Arrives, LinksArrive}
 use Rattle.fb_access.specs.Resolving.{to_field, to_element, to_kind, to_member, fitting, Follows}
-use Rattle.fb_access.specs.Spots.{present_spot, spot_at, field_spot, spot_of_element, member_spot}
+use Rattle.fb_access.specs.Spots.{if_element, present_spot, spot_at, field_spot, spot_of_element, member_spot}
 use Rattle.fb_access.proofs.MemberKinds.{member_there, IsOfMember}
 use Rattle.fb_access.proofs.NumberedFields.{found_by_number}
 use Rattle.fb_access.proofs.StepLaws.{field_step, one_entry, row_get, union_row_get, element_there}
 use Rattle.fb_access.proofs.UniqueNames.{found_by_name, named_again, has_name}
+use Rattle.fb_access.proofs.Walks.{reaches_on}
 use Rattle.fb_access.proofs.Ways.{read_back}
 
 -- a step, and the kind to which it leads
 abbrev fitted : Step → Kind → Fitted
 fitted step kind = record { step = step; kind = kind }
-
--- no table is led to by another lead
-string_is_no_table : (k : ℕ) → to_string ≡ to_table k → ⊥
-string_is_no_table k e = cc
-
-nothing_is_no_table : (k : ℕ) → to_nothing ≡ to_table k → ⊥
-nothing_is_no_table k e = cc
-
-struct_is_no_table : (size align k : ℕ) → to_struct size align ≡ to_table k → ⊥
-struct_is_no_table size align k e = cc
 
 same_table : {k j : ℕ} → to_table k ≡ to_table j → k ≡ j
 same_table h = cc
@@ -60,10 +53,6 @@ module _ (b : List ℕ) (S : Rows) where
   follows_on : (kind mid last : Kind) (ps qs : List Part) (ss rs : List Step) → Follows S kind ps ss mid → Follows S mid qs rs last → Follows S kind (ps ++ qs) (ss ++ rs) last
   follows_on kind mid last [] qs ss rs h g = subst (λ k. Follows S k qs (ss ++ rs) last) (sym h.1) (subst (λ xs. Follows S mid qs (xs ++ rs) last) (sym h.0) g)
   follows_on kind mid last (p ∷ ps) qs ss rs h g = (h.0, h.1, h.2 ++ rs, ap (λ xs. xs ++ rs) h.3, follows_on (h.0).kind mid last ps qs h.2 rs h.4 g)
-
-  reaches_on : (p m q : Spot) (ss rs : List Step) → Reaches b S p ss m → Reaches b S m rs q → Reaches b S p (ss ++ rs) q
-  reaches_on p m q [] rs h g = subst (λ x. Reaches b S x rs q) (sym h) g
-  reaches_on p m q (s ∷ ss) rs h g = (h.0, h.1, reaches_on h.0 m q ss rs h.2 g)
 
   -- By parts from a kind at a spot to what is behind an offset word.
   record GoesTo (kind : Kind) (from : Spot) (parts : List Part) (place : ℕ) (lead : Lead) : Type 0 where
@@ -95,7 +84,7 @@ module _ (b : List ℕ) (S : Rows) where
   goes_here kind from place lead behind table = record { steps = []; last = kind; end = from; follows = (refl, refl); reaches = refl; behind = behind; table = table }
 
   text_here : (p : ℕ) → GoesTo Text (AtText (target b p)) [] p to_string
-  text_here p = goes_here Text (AtText (target b p)) p to_string refl (λ k e. absurd (string_is_no_table k e))
+  text_here p = goes_here Text (AtText (target b p)) p to_string refl (λ k e. absurd cc)
 
   table_here : (k p : ℕ) → GoesTo (Table k) (AtTable k (target b p)) [] p (to_table k)
   table_here k p = goes_here (Table k) (AtTable k (target b p)) p (to_table k) refl (λ j e. (ap Table (same_table e), ap (λ n. AtTable n (target b p)) (same_table e)))
@@ -105,20 +94,11 @@ module _ (b : List ℕ) (S : Rows) where
   unfolding member_spot
   member_here p Text is = text_here p
   member_here p (Table k) is = table_here k p
-  member_here p (Struct k) is = goes_here (Struct k) (member_spot b p (Struct k)) p (lead_of S (Some (Struct k))) (k, refl, refl, refl) (λ j e. absurd (struct_is_no_table _ _ j e))
-  member_here p (Scalar s) is = absurd is
-  member_here p (Union e) is = absurd is
-  member_here p (Scalars s) is = absurd is
-  member_here p Texts is = absurd is
-  member_here p (Structs k) is = absurd is
-  member_here p (Tables k) is = absurd is
-  member_here p (Unions e) is = absurd is
+  member_here p (Struct k) is = goes_here (Struct k) (member_spot b p (Struct k)) p (lead_of S (Some (Struct k))) (k, refl, refl, refl) (λ j e. absurd cc)
+  member_here p kind is = absurd is
 
   same_type : (y : ℕ) {X : Type 0} (q r : X) → (if y == y then q else r) ≡ q
-  same_type y q r = go (y == y) ((Decides-eqb y y).1 refl) where
-    go : (t : Bool) → t ≡ true → (if t then q else r) ≡ q
-    go true e = refl
-    go false e = absurd cc
+  same_type y q r = cond-true (y == y) q r ((Decides-eqb y y).1 refl)
 
   module _ (legal : IsLegal S) where
     -- a union, and its member if the type has one
@@ -126,7 +106,7 @@ module _ (b : List ℕ) (S : Rows) where
     unfolding next_spot
     union_goes e y p there = named (member_name S e y) refl where
       nameless : (kind : Option Kind) → member_of S e y ≡ kind → member_name S e y ≡ None → GoesTo (Union e) (AtUnion e y p) [] p (lead_of S kind)
-      nameless None h none = goes_here (Union e) (AtUnion e y p) p to_nothing (e, y, refl) (λ k i. absurd (nothing_is_no_table k i))
+      nameless None h none = goes_here (Union e) (AtUnion e y p) p to_nothing (e, y, refl) (λ k i. absurd cc)
       nameless (Some kind) h none = absurd (has_name S e y kind h none)
 
       named : (name : Option (List ℕ)) → member_name S e y ≡ name → GoesTo (Union e) (AtUnion e y p) (member_parts name) p (lead_of S (member_of S e y))
@@ -138,11 +118,12 @@ module _ (b : List ℕ) (S : Rows) where
           subst (λ o. GoesTo (Union e) (AtUnion e y p) (member name ∷ []) p (lead_of S o)) (sym k.1)
           (goes_after (Union e) k.0 (AtUnion e y p) (member_spot b p k.0) (member name) [] (Member y) p (lead_of S (Some k.0)) (ap (to_member S e) v ∙ ap (to_kind y) k.1) leads (member_here p k.0 k.3))
 
-    -- an element of a vector
-    element_goes : (kind next : Kind) (from at : Spot) (j : ℕ) (ps : List Part) (place : ℕ) (lead : Lead) → j < 2 ^ 32 → element_kind kind ≡ Some next → Leads b S from (Element j) at → GoesTo next at ps place lead → GoesTo kind from (element (decimal j) ∷ ps) place lead
-    element_goes kind next from at j ps place lead small is leads g =
+    -- an element of a vector that is its j-th offset word
+    element_goes : (kind next : Kind) (from q : Spot) (j c : ℕ) (ps : List Part) (x y : Entry) → j < 2 ^ 32 → element_kind kind ≡ Some next → next_spot b S from (Element j) ≡ Some (if_element b c j q)
+        → (j < word b c 4) × (y ≡ x) → GoesBy next q ps y → GoesBy kind from (element (decimal j) ∷ ps) x
+    element_goes kind next from q j c ps x y small is leads h g =
         let fit : fitting S kind (element (decimal j)) ≡ Ok (fitted (Element j) next) = ap (to_element (number_of (decimal j))) is ∙ ap (λ n. Ok (fitted (Element n) next)) (read_back j small) in
-        goes_after kind next from at (element (decimal j)) ps (Element j) place lead fit leads g
+        subst (GoesBy kind from (element (decimal j) ∷ ps)) h.1 (goes_after kind next from q (element (decimal j)) ps (Element j) y.place y.lead fit (leads ∙ ap Some (element_there b c j q h.0)) g)
 
     module _ (t p j : ℕ) (g : Live) where
       -- what a link has behind its field's name
@@ -156,34 +137,8 @@ module _ (b : List ℕ) (S : Rows) where
       one_union None x h = absurd cc
       one_union (Some kind) x h = let e = one_entry (entry (lead_of S (Some kind)) p 0) x j h in (ap (λ (y : Entry). y.place) (sym e), ap (λ (y : Entry). y.lead) (sym e))
 
-      text_goes : (x : Entry) (c : ℕ) → j < 2 ^ 32 → (j < word b c 4) × (entry to_string (c + 4 + 4 * j) 0 ≡ x) → GoesBy Texts (AtTexts c) (element (decimal j) ∷ []) x
-      unfolding next_spot spot_of_element
-      text_goes x c small h =
-          let q = AtText (target b (c + 4 + 4 * j)) in
-          subst (GoesBy Texts (AtTexts c) (element (decimal j) ∷ [])) h.1 (element_goes Texts Text (AtTexts c) q j [] (c + 4 + 4 * j) to_string small refl (ap Some (element_there b c j q h.0)) (text_here (c + 4 + 4 * j)))
-
-      table_goes : (x : Entry) (k c : ℕ) → j < 2 ^ 32 → (j < word b c 4) × (entry (to_table k) (c + 4 + 4 * j) 0 ≡ x) → GoesBy (Tables k) (AtTables k c) (element (decimal j) ∷ []) x
-      unfolding next_spot spot_of_element
-      table_goes x k c small h =
-          let q = AtTable k (target b (c + 4 + 4 * j)) in
-          subst (GoesBy (Tables k) (AtTables k c) (element (decimal j) ∷ [])) h.1 (element_goes (Tables k) (Table k) (AtTables k c) q j [] (c + 4 + 4 * j) (to_table k) small refl (ap Some (element_there b c j q h.0)) (table_here k (c + 4 + 4 * j)))
-
-      union_element_goes : (x : Entry) (e y c : ℕ) → IsTrue (is_union S e) → j < 2 ^ 32 → (j < word b c 4) × (entry (lead_of S (member_of S e (word b (y + j) 1))) (c + 4 + 4 * j) 1 ≡ x)
-          → GoesBy (Unions e) (AtUnions e y c) (element (decimal j) ∷ member_parts (member_name S e (word b (y + j) 1))) x
-      unfolding next_spot spot_of_element
-      union_element_goes x e y c there small h =
-          let z = word b (y + j) 1 in
-          let q = AtUnion e z (c + 4 + 4 * j) in
-          let ps = member_parts (member_name S e z) in
-          subst (GoesBy (Unions e) (AtUnions e y c) (element (decimal j) ∷ ps)) h.1
-          (element_goes (Unions e) (Union e) (AtUnions e y c) q j ps (c + 4 + 4 * j) (lead_of S (member_of S e z)) small refl (ap Some (element_there b c j q h.0)) (union_goes e z (c + 4 + 4 * j) there))
-
       entry_goes : (kind : Kind) (x : Entry) → KindHolds S g kind → j < 2 ^ 32 → slice_get (entries_of b S t g p kind) j ≡ Some x → Behind kind x
-      unfolding present_spot
-      entry_goes (Scalar s) x holds small h = absurd cc
-      entry_goes (Struct k) x holds small h = absurd cc
-      entry_goes (Scalars s) x holds small h = absurd cc
-      entry_goes (Structs k) x holds small h = absurd cc
+      unfolding present_spot next_spot spot_of_element
       entry_goes Text x holds small h = subst (GoesBy Text (AtText (target b p)) []) (one_entry (entry to_string p 0) x j h) (text_here p)
       entry_goes (Table k) x holds small h = subst (GoesBy (Table k) (AtTable k (target b p)) []) (one_entry (entry (to_table k) p 0) x j h) (table_here k p)
       entry_goes (Union e) x holds small h =
@@ -191,11 +146,12 @@ module _ (b : List ℕ) (S : Rows) where
           let i = one_union (member_of S e y) x h in
           let ps = member_parts (member_name S e y) in
           subst (λ lead. GoesTo (Union e) (AtUnion e y p) ps x.place lead) (sym i.1) (subst (λ place. GoesTo (Union e) (AtUnion e y p) ps place (lead_of S (member_of S e y))) (sym i.0) (union_goes e y p holds))
-      entry_goes Texts x holds small h = text_goes x (target b p) small (row_get to_string (target b p + 4) (word b (target b p) 4) j x h)
-      entry_goes (Tables k) x holds small h = table_goes x k (target b p) small (row_get (to_table k) (target b p + 4) (word b (target b p) 4) j x h)
+      entry_goes Texts x holds small h = element_goes _ _ _ _ j (target b p) [] x _ small refl refl (row_get to_string (target b p + 4) (word b (target b p) 4) j x h) (text_here (target b p + 4 + 4 * j))
+      entry_goes (Tables k) x holds small h = element_goes _ _ _ _ j (target b p) [] x _ small refl refl (row_get (to_table k) (target b p + 4) (word b (target b p) 4) j x h) (table_here k (target b p + 4 + 4 * j))
       entry_goes (Unions e) x holds small h =
           let y = types_begin b (type_place b t g.slot) in
-          union_element_goes x e y (target b p) holds small (union_row_get b S e y (target b p + 4) (word b (target b p) 4) j x h)
+          element_goes _ _ _ _ j (target b p) _ x _ small refl refl (union_row_get b S e y (target b p + 4) (word b (target b p) 4) j x h) (union_goes e (word b (y + j) 1) (target b p + 4 + 4 * j) holds)
+      entry_goes kind x holds small h = absurd cc
 
     -- a field's offset words are not more than the buffer has room for
     module _ (c : Checks) (short : length b < 2 ^ 31) (t j : ℕ) (g : Live) where
@@ -203,26 +159,20 @@ module _ (b : List ℕ) (S : Rows) where
       in_vector p h lt = omega (arith, h.vector.within, lt)
 
       alone : (y x : Entry) → slice_get (y ∷ []) j ≡ Some x → j < 2 ^ 32
-      alone y x h = go j h where
-        go : (i : ℕ) → slice_get (y ∷ []) i ≡ Some x → i < 2 ^ 32
-        go zero h = omega arith
-        go (suc i) h = absurd cc
+      alone y x h = let one = slice_get_within (y ∷ []) j x h in omega arith
 
       in_union : (p : ℕ) (member : Option Kind) (x : Entry) → slice_get (union_entry S p member) j ≡ Some x → j < 2 ^ 32
       in_union p None x h = absurd cc
       in_union p (Some kind) x h = alone (entry (lead_of S (Some kind)) p 0) x h
 
       few_of : (p : ℕ) (kind : Kind) (x : Entry) → IsPresent c b S t g p kind → slice_get (entries_of b S t g p kind) j ≡ Some x → j < 2 ^ 32
-      few_of p (Scalar s) x h e = absurd cc
-      few_of p (Struct k) x h e = absurd cc
-      few_of p (Scalars s) x h e = absurd cc
-      few_of p (Structs k) x h e = absurd cc
       few_of p Text x h e = alone (entry to_string p 0) x e
       few_of p (Table k) x h e = alone (entry (to_table k) p 0) x e
       few_of p (Union u) x h e = in_union p (member_of S u (union_type b (type_place b t g.slot))) x e
       few_of p Texts x h e = in_vector p h (row_get to_string (target b p + 4) (word b (target b p) 4) j x e).0
       few_of p (Tables k) x h e = in_vector p h (row_get (to_table k) (target b p + 4) (word b (target b p) 4) j x e).0
       few_of p (Unions u) x h e = in_vector p h.field (union_row_get b S u (types_begin b (type_place b t g.slot)) (target b p + 4) (word b (target b p) 4) j x e).0
+      few_of p kind x h e = absurd cc
 
       -- past a field, where it stands somewhere
       field_goes : (place : Option ℕ) (x : Entry) → IsPresentOrAbsent c b S t g place → KindHolds S g g.kind → slice_get (entries_at b S t g place) j ≡ Some x → GoesBy g.kind (spot_at b t g place) (parts_behind t 0 j g g.kind) x
@@ -264,7 +214,7 @@ module _ (b : List ℕ) (S : Rows) where
           last = r.last;
           follows = follows_on kind g.last r.last (link_parts S link) (parts_of S links) g.steps r.steps g.follows (subst (λ z. Follows S z (parts_of S links) r.steps r.last) (sym to.0) r.follows);
           end = r.end;
-          reaches = reaches_on from g.end r.end g.steps r.steps g.reaches (subst (λ z. Reaches b S z r.steps r.end) (sym to.1) r.reaches);
+          reaches = reaches_on b S from g.end r.end g.steps r.steps g.reaches (subst (λ z. Reaches b S z r.steps r.end) (sym to.1) r.reaches);
           place = r.place;
           way = r.way;
           fails = r.fails;

@@ -71,13 +71,6 @@ module _ (b : List ℕ) (S : Rows) where
   element_is_here (AtUnions u t c) j n kind onward q h e v l d = let i : kind ≡ Unions u = cc in let w : word b c 4 ≡ n = cc in if_below j (word b c 4) (AtUnion u (word b (t + j) 1) (c + 4 + 4 * j)) q (Union u) onward refl (rw i at e) (rw w l) d
   element_is_here p j n kind onward q h e v l d = absurd cc
 
-  -- what is shown here, and past a step
-  pub shows_here : (p : Spot) → Shows b S p [] (value b S p)
-  shows_here p = (p, refl, refl)
-
-  pub shows_after : (p q : Spot) (s : Step) (steps : List Step) (x : Shown) → Leads b S p s q → Shows b S q steps x → Shows b S p (s ∷ steps) x
-  shows_after p q s steps x l h = (h.0, (q, l, h.1), h.2)
-
   -- a path shows one value
   reaches_one : (p : Spot) (steps : List Step) (q r : Spot) → Reaches b S p steps q → Reaches b S p steps r → q ≡ r
   reaches_one p [] q r h i = sym h ∙ i

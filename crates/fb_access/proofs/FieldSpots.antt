@@ -1,10 +1,10 @@
 -- A field of a table leads to a spot where what is to hold holds.
-use Rattle.std.proofs.Common.{◌≡◌, ℕ, zero, suc, ◌+◌, ◌≤◌, ◌<◌, ℤ, List, [], ◌∷◌, length, refl, subst, arith, Option, Some, None, Bool, true, false}
+use Rattle.std.proofs.Common.{◌≡◌, ℕ, zero, suc, ◌+◌, ◌≤◌, ◌<◌, ℤ, List, [], ◌∷◌, length, refl, subst, arith, Option, Some, None, Bool, false}
 use Rattle.std.proofs.lemmas.Nat.{pow_pos}
 use Rattle.std.specs.Prelude.{slice_get, IfSome}
 use Rattle.fb_bytes.specs.Word.{word}
 use Rattle.fb_schema.specs.declared.kinds.Scalar.{Scalar}
-use Rattle.fb_schema.specs.declared.kinds.Scalar.TheVariants.{Float, Double}
+use Rattle.fb_schema.specs.declared.kinds.Scalar.TheVariants.{Float}
 use Rattle.fb_schema.specs.declared.kinds.Kind.{Kind}
 use Rattle.fb_schema.specs.declared.kinds.Kind.TheVariants.{Scalar as AScalar, Text, Struct, Table, Union, Scalars, Texts, Structs, Tables, Unions}
 use Rattle.fb_schema.specs.Rows.{Rows, Object}
@@ -67,24 +67,19 @@ module _ (c : Checks) (b : List ℕ) (S : Rows) (t : ℕ) (f : Live) (p : ℕ) w
   present_readable ys (Struct o) h u k typed = tt
   present_readable ys (Table o) h u k typed = (led_to_table b S p o k (one_led c b S ys (to_table o) p 0 u)).0
   present_readable ys (Union e) h u k typed = typed
-  present_readable ys (Scalars s) h u k typed = h.offset.within
-  present_readable ys Texts h u k typed = h.offset.within
-  present_readable ys (Structs o) h u k typed = h.offset.within
-  present_readable ys (Tables o) h u k typed = h.offset.within
   present_readable ys (Unions e) h u k typed = (h.field.offset.within, typed)
+  present_readable ys kind h u k typed = h.offset.within
 
 module _ (b : List ℕ) (S : Rows) where
   default_holds : (d : ℤ) (s : Scalar) → IsSpot b S (default_spot d s)
   unfolding IsSpot default_spot
   default_holds d Float = tt
-  default_holds d Double = tt
   default_holds d s = tt
 
   absent_holds : (optional : Bool) (d : ℤ) (kind : Kind) → IsSpot b S (absent_spot optional d kind)
   unfolding IsSpot absent_spot
-  absent_holds true d kind = tt
   absent_holds false d (AScalar s) = default_holds d s
-  absent_holds false d kind = tt
+  absent_holds optional d kind = tt
 
   module _ (c : Checks) (t : ℕ) (f : Live) where
     spot_holds : (place : Option ℕ) (ys : Elements) → IsPresentOrAbsent c b S t f place → ElementsUnfold ys c b S (entries_at b S t f place) → KindHolds S f f.kind → f.size ≡ kind_size S f.kind → f.align ≡ kind_align S f.kind → IsTyped b t f.slot f.kind → IsSpot b S (spot_at b t f place)

@@ -33,22 +33,17 @@ filled_name before mark name =
     let there : List ℕ = filled before mark in
     ap (λ (l : List ℕ). there ++ l) (sym (take-map name_byte (4097 - length there) name)) ∙ filled_twice before mark (map name_byte name)
 
--- a short text stays, and a longer one is cut
-cut_short : (most : ℕ) (text : List ℕ) → length text ≤ most → cut_to most text ≡ text
-cut_short most text h = grind (arith, nat_tests)
-
-cut_long : (most : ℕ) (text : List ℕ) → most < length text → cut_to most text ≡ take most text ++ codes ".."
-cut_long most text h = grind (arith, nat_tests)
-
 -- where the byte beyond what is told doesn't come, the whole is told; else all but that byte is, and `..`
 pub told_whole : (whole : List ℕ) → length (filled [] whole) ≤ 4096 → filled [] whole ≡ cut_to 4096 whole
 unfolding filled
 told_whole whole h =
     let n : length whole ≤ 4096 = omega (arith, length-take 4097 whole) in
-    take_all 4097 whole (omega arith) ∙ sym (cut_short 4096 whole n)
+    let same : cut_to 4096 whole ≡ whole = grind (arith, nat_tests) in
+    take_all 4097 whole (omega arith) ∙ sym same
 
 pub told_cut : (whole : List ℕ) → 4096 < length (filled [] whole) → take 4096 (filled [] whole) ++ codes ".." ≡ cut_to 4096 whole
 unfolding filled
 told_cut whole h =
     let n : 4096 < length whole = omega (arith, length-take 4097 whole) in
-    ap (λ (l : List ℕ). l ++ codes "..") (take-take 4096 4097 whole (omega arith)) ∙ sym (cut_long 4096 whole n)
+    let same : cut_to 4096 whole ≡ take 4096 whole ++ codes ".." = grind (arith, nat_tests) in
+    ap (λ (l : List ℕ). l ++ codes "..") (take-take 4096 4097 whole (omega arith)) ∙ sym same

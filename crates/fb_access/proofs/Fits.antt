@@ -1,8 +1,8 @@
 -- The steps that parts are, and the kinds to which they lead.
-use Rattle.std.proofs.Common.{◌≡◌, ℕ, ◌^◌, nat_lt, Bool, true, false, if◌then◌else◌, List, slice_get, Option, Some, None, Ok, Err, IsTrue, IsSome, refl, sym, ◌∙◌, ap, subst}
+use Rattle.std.proofs.Common.{◌≡◌, ℕ, ◌^◌, nat_lt, Bool, true, false, if◌then◌else◌, List, slice_get, Option, Some, None, Ok, Err, IsTrue, IsSome, IfSome, refl, sym, ◌∙◌, ap, subst}
 use Rattle.std.specs.Str.{bytes_eq}
 use Rattle.fb_schema.specs.declared.kinds.Kind.{Kind}
-use Rattle.fb_schema.specs.declared.kinds.Kind.TheVariants.{Scalar, Text, Struct, Table, Union, Scalars, Texts, Structs, Tables, Unions}
+use Rattle.fb_schema.specs.declared.kinds.Kind.TheVariants.{Scalar, Struct, Table, Union, Scalars, Structs, Tables, Unions}
 use Rattle.fb_schema.specs.declared.views.FieldView.{FieldView}
 use Rattle.fb_schema.specs.Demands.{IsLegal}
 use Rattle.fb_schema.specs.Live.{Live, live_fields, live_of_view, field_named}
@@ -97,30 +97,17 @@ module _ (S : Rows) (legal : IsLegal S) (served : IsServed S) where
       let same : fitted (Member v) k.0 ≡ x = cc in
       subst (Leads S (Union e)) same (record { next = k.1; there = k.2 (subst (MemberHolds S) k.1 (served.members e v)) })
 
-  element_leads : (kind : Kind) (j : ℕ) (o : Option Kind) (x : Fitted) → element_kind kind ≡ o → ((to : Kind) → element_kind kind ≡ Some to → IsThere S to) → to_element j o ≡ Ok x → Leads S kind x
+  element_leads : (kind : Kind) (j : ℕ) (o : Option Kind) (x : Fitted) → element_kind kind ≡ o → IfSome o (IsThere S) → to_element j o ≡ Ok x → Leads S kind x
   unfolding next_kind
   element_leads kind j None x e t h = absurd cc
   element_leads kind j (Some to) x e t h =
       let same : fitted (Element j) to ≡ x = cc in
-      subst (Leads S kind) same (record { next = e; there = t to e })
+      subst (Leads S kind) same (record { next = e; there = t })
 
-  some_there : (from to : Kind) → Some from ≡ Some to → IsThere S from → IsThere S to
-  some_there from to e h = let same : from ≡ to = cc in subst (IsThere S) same h
-
-  none_there : (to : Kind) → None ≡ Some to → IsThere S to
-  none_there to e = absurd cc
-
-  element_there : (kind to : Kind) → IsThere S kind → element_kind kind ≡ Some to → IsThere S to
-  element_there (Scalar s) to h e = none_there to e
-  element_there Text to h e = none_there to e
-  element_there (Struct k) to h e = none_there to e
-  element_there (Table k) to h e = none_there to e
-  element_there (Union u) to h e = none_there to e
-  element_there (Scalars s) to h e = some_there (Scalar s) to e tt
-  element_there Texts to h e = some_there Text to e tt
-  element_there (Structs k) to h e = some_there (Struct k) to e tt
-  element_there (Tables k) to h e = some_there (Table k) to e h
-  element_there (Unions u) to h e = some_there (Union u) to e h
+  element_there : (kind : Kind) → IsThere S kind → IfSome (element_kind kind) (IsThere S)
+  element_there (Tables k) h = h
+  element_there (Unions u) h = h
+  element_there kind h = tt
 
   named_leads : (kind : Kind) (name : List ℕ) (x : Fitted) → field_step S kind name ≡ Ok x → Leads S kind x
   named_leads (Table k) name x h = field_leads k name (field_with_name S k name) x refl h
@@ -134,5 +121,5 @@ module _ (S : Rows) (legal : IsLegal S) (served : IsServed S) where
   -- a part that fits leads to a kind that is there
   pub leads : (kind : Kind) (p : Part) (x : Fitted) → IsThere S kind → fitting S kind p ≡ Ok x → Leads S kind x
   leads kind (field name) x t h = named_leads kind name x h
-  leads kind (element digits) x t h = element_leads kind (number_of digits) (element_kind kind) x refl (λ to e. element_there kind to t e) h
+  leads kind (element digits) x t h = element_leads kind (number_of digits) (element_kind kind) x refl (element_there kind t) h
   leads kind (member name) x t h = chosen_leads kind name x t h

@@ -1,5 +1,5 @@
 -- How far a path has been followed.
-use Rattle.std.proofs.Common.{◌≡◌, ℕ, suc, ◌<◌, List, [], ◌∷◌, ◌++◌, length, Ok, Err, refl, sym, ◌∙◌, ap, subst, arith, inl, inr}
+use Rattle.std.proofs.Common.{◌≡◌, ℕ, suc, ◌<◌, List, [], ◌∷◌, ◌++◌, length, Ok, Err, refl, sym, ◌∙◌, ap, subst, arith, inl, inr, append_assoc, append-nil}
 use Rattle.fb_schema.specs.declared.kinds.Kind.{Kind}
 use Rattle.fb_schema.specs.declared.kinds.Kind.TheVariants.{Table}
 use Rattle.fb_schema.specs.Demands.{IsLegal}
@@ -7,16 +7,16 @@ use Rattle.fb_schema.specs.Rows.{Rows}
 use Rattle.fb_schema.specs.Served.{IsServed}
 use Rattle.fb_access.specs.declared.step.Step.{Step}
 use Rattle.fb_access.specs.declared.misfit.Misfit.{Misfit}
-use Rattle.fb_access.specs.declared.misfit.Misfit.TheVariants.{NoSuchField, NotIndexable, NotAUnion, NoSuchMember, NotATable}
+use Rattle.fb_access.specs.declared.misfit.Misfit.TheVariants.{NoSuchField}
 use Rattle.fb_access.specs.declared.misfit.Fitted.{Fitted}
 use Rattle.fb_access.specs.declared.pieces.Piece.{Piece}
-use Rattle.fb_access.specs.Cutting.{IsPieceOf, AreLeft, IsCuttable, IsCut}
+use Rattle.fb_access.specs.Cutting.{IsPieceOf, AreLeft, IsCut}
 use Rattle.fb_access.specs.Fitting.{StepsFit}
 use Rattle.fb_access.specs.Grammar.{Part, field, element, member, IsName, IsPart, IsPath, IsReading, spelling}
 use Rattle.fb_access.specs.Kept.{IsThere}
 use Rattle.fb_access.specs.Resolving.{fitting, fault_of, Follows, Resolves, Misfits, IsFault}
 use Rattle.std.proofs.lemmas.List.{length-append}
-use Rattle.fb_access.proofs.Cuts.{marks_differ}
+use Rattle.fb_access.proofs.Cuts.{tail_is, marks_differ}
 use Rattle.fb_access.proofs.Fits.{leads}
 
 -- One more step.
@@ -59,27 +59,6 @@ begins S root text p = record {
   are_left = record { are_parts = (p.reading.is_name, p.reading.are_parts); spelled = inr (ap (λ t. 46 ∷ t) p.reading.spelled) };
 }
 
-pub cuttable : (S : Rows) (root : ℕ) (text rest : List ℕ) (steps : List Step) (kind : Kind) → IsWalked S root text rest steps kind → IsCuttable rest
-cuttable S root text rest steps kind w = record { parts = w.left; left = w.are_left }
-
-pub append_assoc : {X : Type 0} (xs ys zs : List X) → (xs ++ ys) ++ zs ≡ xs ++ (ys ++ zs)
-append_assoc [] ys zs = refl
-append_assoc (x ∷ xs) ys zs = ap (λ t. x ∷ t) (append_assoc xs ys zs)
-
-pub append_nil : {X : Type 0} (xs : List X) → xs ++ [] ≡ xs
-append_nil [] = refl
-append_nil (x ∷ xs) = ap (λ t. x ∷ t) (append_nil xs)
-
-not_nil : (c : ℕ) (t : List ℕ) → c ∷ t ≡ [] → ⊥
-not_nil c t e = cc
-
-tail_is : (c d : ℕ) (t u : List ℕ) → c ∷ t ≡ d ∷ u → t ≡ u
-tail_is c d t u e = cc
-
-name_not_nil : (n t : List ℕ) → IsName n → n ++ t ≡ [] → ⊥
-name_not_nil [] t h e = absurd h
-name_not_nil (c ∷ cs) t h e = not_nil c (cs ++ t) e
-
 -- a text of which parts are left is longer than those after the first
 longer : (text : List ℕ) (p : Part) (ps : List Part) → AreLeft text (p ∷ ps) → length (spelling ps) < length text
 longer text p ps h = elim h.spelled [ inl e ↦ subst (λ n. length (spelling ps) < n) (sym (ap length e)) (whole p) | inr e ↦ named p h.are_parts.0 e ] where
@@ -94,8 +73,12 @@ longer text p ps h = elim h.spelled [ inl e ↦ subst (λ n. length (spelling ps
 
   named : (p : Part) → IsPart p → 46 ∷ text ≡ spelling (p ∷ ps) → length (spelling ps) < length text
   named (field n) g e = subst (λ t. length (spelling ps) < length t) (sym (tail_is 46 46 text _ e)) (more n g)
-  named (element ds) g e = absurd (marks_differ 46 91 text _ refl e)
-  named (member n) g e = absurd (marks_differ 46 64 text _ refl e)
+  named p g e = absurd (marks_differ 46 _ text _ refl e)
+
+-- a step that misfits is a fault
+pub misfit_fault : (S : Rows) (root : ℕ) (text : List ℕ) (m : Misfit) (n : ℕ) → Misfits S root text m n → IsFault S root text (fault_of m n)
+misfit_fault S root text NoSuchField n h = h
+misfit_fault S root text m n h = h
 
 -- What is cut off.
 record Split (S : Rows) (root : ℕ) (text rest : List ℕ) (steps : List Step) (kind : Kind) (piece : Piece) (after : List ℕ) : Type 0 where
@@ -111,7 +94,7 @@ record Split (S : Rows) (root : ℕ) (text rest : List ℕ) (steps : List Step) 
 split : (S : Rows) (root : ℕ) (text rest : List ℕ) (steps : List Step) (kind : Kind) (piece : Piece) (after : List ℕ) → IsWalked S root text rest steps kind → (rest ≡ [] → ⊥) → IsCut rest piece after → Split S root text rest steps kind piece after
 split S root text rest steps kind piece after w some c = go w.left refl w.are_left where
   go : (ps : List Part) → w.left ≡ ps → AreLeft rest ps → Split S root text rest steps kind piece after
-  go [] e h = absurd (some (elim h.spelled [ inl e ↦ e | inr e ↦ absurd (not_nil 46 rest e) ]))
+  go [] e h = absurd (some (elim h.spelled [ inl e ↦ e | inr e ↦ absurd cc ]))
   go (p ∷ ps) e h = record { part = p; parts = ps; walked = w; left_is = e; is_piece = c.first p ps h; after_is = c.after p ps h; left = h }
 
 pub shorter : (S : Rows) (root : ℕ) (text rest : List ℕ) (steps : List Step) (kind : Kind) (piece : Piece) (after : List ℕ) → IsWalked S root text rest steps kind → (rest ≡ [] → ⊥) → IsCut rest piece after → length after < length rest
@@ -164,11 +147,7 @@ module _ (S : Rows) (root : ℕ) (text rest : List ℕ) (steps : List Step) (kin
   stands_at n same m f = (misfits n same m f, refl)
 
   pub is_fault : (n : ℕ) → n ≡ length steps → (m : Misfit) → ((p : Part) → IsPieceOf p piece → Err m ≡ fitting S kind p) → IsFault S root text (fault_of m n)
-  is_fault n same NoSuchField f = misfits n same NoSuchField f
-  is_fault n same NotIndexable f = misfits n same NotIndexable f
-  is_fault n same NotAUnion f = misfits n same NotAUnion f
-  is_fault n same NoSuchMember f = misfits n same NoSuchMember f
-  is_fault n same NotATable f = misfits n same NotATable f
+  is_fault n same m f = misfit_fault S root text m n (misfits n same m f)
 
 -- no parts are left of no text
 nothing_left : (text : List ℕ) (ps : List Part) → text ≡ [] → AreLeft text ps → ps ≡ []
@@ -181,7 +160,7 @@ resolves S root text rest steps kind w e = record {
   parts = w.parts;
   last = kind;
   reading = w.reading;
-  follows = subst (λ ps. Follows S (Table root) ps steps kind) (sym (w.all ∙ ap (λ ps. w.done ++ ps) (nothing_left rest w.left e w.are_left) ∙ append_nil w.done)) w.follows;
+  follows = subst (λ ps. Follows S (Table root) ps steps kind) (sym (w.all ∙ ap (λ ps. w.done ++ ps) (nothing_left rest w.left e w.are_left) ∙ append-nil w.done)) w.follows;
 }
 
 pub resolved_fits : (S : Rows) (root : ℕ) (text : List ℕ) (steps : List Step) → IsLegal S → IsServed S → IsThere S (Table root) → Resolves S root text steps → StepsFit S (Table root) steps

@@ -2,8 +2,8 @@
 use Rattle.std.proofs.Common.{◌≡◌, ℕ, List}
 use Rattle.fb_schema.specs.Rows.{Rows}
 use Rattle.fb_access.specs.declared.spot.Spot.{Spot}
-use Rattle.fb_access.specs.declared.spot.Spot.TheVariants.{AtTable, AtStruct, AtTexts, AtTables, AtUnion}
-use Rattle.fb_access.specs.Held.{IsSpot, IsTableAt, IsStructAt, AreTextsAt, AreTablesAt, IsUnionAt}
+use Rattle.fb_access.specs.declared.spot.Spot.TheVariants.{AtTable, AtStruct}
+use Rattle.fb_access.specs.Held.{IsSpot, IsTableAt, IsStructAt}
 
 module _ (b : List ℕ) (S : Rows) (q : Spot) where
   pub at_table : (k t : ℕ) → q ≡ AtTable k t → IsSpot b S q → IsTableAt b S k t
@@ -13,15 +13,3 @@ module _ (b : List ℕ) (S : Rows) (q : Spot) where
   pub at_struct : (k p : ℕ) → q ≡ AtStruct k p → IsSpot b S q → IsStructAt b S k p
   unfolding IsSpot
   at_struct k p e h = rw e at h
-
-  pub at_texts : (c : ℕ) → q ≡ AtTexts c → IsSpot b S q → AreTextsAt b S c
-  unfolding IsSpot
-  at_texts c e h = rw e at h
-
-  pub at_tables : (k c : ℕ) → q ≡ AtTables k c → IsSpot b S q → AreTablesAt b S k c
-  unfolding IsSpot
-  at_tables k c e h = rw e at h
-
-  pub at_union : (e y p : ℕ) → q ≡ AtUnion e y p → IsSpot b S q → IsUnionAt b S e y p
-  unfolding IsSpot
-  at_union e y p i h = rw i at h

@@ -8,7 +8,6 @@ pub mod Walks
 pub mod Callers
 pub mod Shapes
 pub mod Counted
-pub mod ScanSteps
 pub mod ScanAccepts
 pub mod ScanReads
 pub mod ScanPlaces

@@ -1,14 +1,15 @@
 -- A member of a union that has a name has a kind too.
 use Rattle.std.proofs.Common.{◌≡◌, ℕ, suc, ℤ, pos, negsuc, Bool, true, false, not, ◌&&◌, List, [], slice_get, filter, Option, Some, None, option_map, unsigned_abs, IsTrue, refl, sym, ◌∙◌, ap, find, is_none, if◌then◌else◌}
+use Rattle.std.proofs.lemmas.Bool.{false≢true, not-false, false_from_ne_true, cond-true, and_parts, and_from}
 use Rattle.std.specs.Cmp.{signed_Decides}
 use Rattle.std.specs.Option.{option_and_then}
 use Rattle.std.specs.Ordering.{int_eq}
 use Rattle.std.specs.Str.{bytes_eq}
 use Rattle.fb_schema.specs.declared.kinds.Kind.{Kind}
 use Rattle.fb_schema.specs.declared.kinds.Kind.TheVariants.{Text, Struct, Table}
-use Rattle.fb_schema.specs.declared.kinds.Element.TheVariants.{Scalar as OfScalar, Text as OfText, Object as OfObject, Union as OfUnion}
+use Rattle.fb_schema.specs.declared.kinds.Element.TheVariants.{Text as OfText, Object as OfObject}
 use Rattle.fb_schema.specs.declared.kinds.Shape.{Shape}
-use Rattle.fb_schema.specs.declared.kinds.Shape.TheVariants.{One, Vector, Array}
+use Rattle.fb_schema.specs.declared.kinds.Shape.TheVariants.{One}
 use Rattle.fb_schema.specs.Demands.{IsLegal, first_code, member_demands, members_asked, demands_of_enum, demands_of_member, is_for_member, is_object, names_no_object}
 use Rattle.fb_schema.specs.Kinds.{kind_of, shape_of, shape_kind, object_kind}
 use Rattle.fb_schema.specs.Members.{is_member_value, member_of, member_named, members_in, members_of}
@@ -19,54 +20,32 @@ use Rattle.fb_schema.proofs.FindLemmas.{find_filter}
 use Rattle.fb_schema.proofs.LegalLemmas.{legal_clear}
 use Rattle.fb_access.specs.Kept.{IsThere}
 use Rattle.fb_access.proofs.Found.{found_there, some_found}
-use Rattle.fb_access.proofs.ScanSteps.{false≢true}
 
 -- Tests.
 not_and : (a b : Bool) → (not a && not b) ≡ false → a ≡ false → b ≡ true
-not_and true b h e = absurd (false≢true (sym e))
-not_and false true h e = refl
-not_and false false h e = absurd (false≢true (sym h))
+not_and a b h e = not-false b (rw e at h)
 
 and_false : (a b : Bool) → (not a && b) ≡ false → a ≡ false → b ≡ false
-and_false true b h e = absurd (false≢true (sym e))
-and_false false b h e = h
-
-pub first : (a b : Bool) → (a && b) ≡ true → a ≡ true
-first true b h = refl
-first false b h = h
-
-pub both : (a b : Bool) → a ≡ true → b ≡ true → (a && b) ≡ true
-both true b e h = h
-both false b e h = e
+and_false a b h e = rw e at h
 
 -- Values.
 pub real_not_zero : (z : ℤ) → is_member_value z ≡ true → int_eq z (pos 0) ≡ false
-real_not_zero z h = go (int_eq z (pos 0)) refl where
-  zero_not_real : (z : ℤ) → z ≡ pos 0 → is_member_value z ≡ true → ⊥
-  zero_not_real z e h = false≢true (ap is_member_value (sym e) ∙ h)
-
-  go : (b : Bool) → int_eq z (pos 0) ≡ b → int_eq z (pos 0) ≡ false
-  go true e = absurd (zero_not_real z ((signed_Decides z (pos 0)).0 e) h)
-  go false e = e
+real_not_zero z h = false_from_ne_true (int_eq z (pos 0)) (λ e. false≢true (ap is_member_value (sym ((signed_Decides z (pos 0)).0 e)) ∙ h))
 
 real_value : (z : ℤ) (v : ℕ) → is_member_value z ≡ true → unsigned_abs z ≡ v → int_eq z (pos v) ≡ true
 real_value (pos n) v h e = (signed_Decides (pos n) (pos v)).1 (ap pos e)
 real_value (negsuc n) v h e = absurd (false≢true h)
 
 -- the members of a union, by its row
-chosen : (b : Bool) {X : Type 0} (xs ys : List X) → b ≡ true → (if b then xs else ys) ≡ xs
-chosen true xs ys e = refl
-chosen false xs ys e = absurd (false≢true e)
-
 module _ (rows : Rows) (e : ℕ) (row : Enum) (at : slice_get rows.enums e ≡ Some row) (union : row.is_union ≡ true) where
   members_are : members_of rows e ≡ filter (λ m. is_member_value m.value) row.members
-  members_are = ap members_in at ∙ chosen row.is_union (filter (λ m. is_member_value m.value) row.members) [] union
+  members_are = ap members_in at ∙ cond-true row.is_union (filter (λ m. is_member_value m.value) row.members) [] union
 
   pub found_among : (p : Member → Bool) → find p (members_of rows e) ≡ find (λ m. is_member_value m.value && p m) row.members
   found_among p = ap (find p) members_are ∙ find_filter p (λ m. is_member_value m.value) row.members
 
   pub clear : IsLegal rows → (q : ℕ) → first_code (members_asked rows row.members q) ≡ None
-  clear legal q = sym (ap first_code (ap (demands_of_enum rows (suc q)) at ∙ chosen row.is_union (members_asked rows row.members q) [] union)) ∙ legal_clear rows legal 1 e (suc q)
+  clear legal q = sym (ap first_code (ap (demands_of_enum rows (suc q)) at ∙ cond-true row.is_union (members_asked rows row.members q) [] union)) ∙ legal_clear rows legal 1 e (suc q)
 
 -- a member of this kind is there, where what holds of members holds of it
 abbrev pub IsKept : Rows → Kind → Type 0
@@ -102,11 +81,7 @@ kind_of_shape rows (pos n) (Some (One OfObject)) h e = go (slice_get rows.object
   go (Some o) e = record { is = if o.is_struct then Struct n else Table n; kept = object_kept rows n o.is_struct; fits = object_fits n o.is_struct; has = refl }
 kind_of_shape rows (negsuc n) (Some (One OfObject)) h e = absurd (false≢true (sym e))
 kind_of_shape rows index (Some (One OfText)) h e = record { is = Text; kept = λ h. tt; fits = tt; has = refl }
-kind_of_shape rows index None h e = absurd (false≢true h)
-kind_of_shape rows index (Some (One (OfScalar s))) h e = absurd (false≢true h)
-kind_of_shape rows index (Some (One OfUnion)) h e = absurd (false≢true h)
-kind_of_shape rows index (Some (Vector s)) h e = absurd (false≢true h)
-kind_of_shape rows index (Some (Array s)) h e = absurd (false≢true h)
+kind_of_shape rows index s h e = absurd (false≢true h)
 
 -- a member that breaks no demand has a kind
 member_has_kind : (rows : Rows) (m : Member) (taken named : Bool) → first_code (member_demands rows m taken named) ≡ None → is_member_value m.value ≡ true → HasKind rows (kind_of rows m.ty)
@@ -134,14 +109,14 @@ named_value (Some m) v e = (m, refl, (let w : unsigned_abs m.value ≡ v = cc in
 value_found : (members : List Member) (v : ℕ) (p : Member → Bool) (m : Member) → find (λ m. is_member_value m.value && p m) members ≡ Some m → unsigned_abs m.value ≡ v → (y : Member) × (find (λ m. is_member_value m.value && int_eq m.value (pos v)) members ≡ Some y)
 value_found members v p m found e =
     let t = found_there (λ m. is_member_value m.value && p m) members m found in
-    let real = first (is_member_value m.value) (p m) t.2 in
-    some_found (λ m. is_member_value m.value && int_eq m.value (pos v)) members t.0 m t.1 (both (is_member_value m.value) (int_eq m.value (pos v)) real (real_value m.value v real e))
+    let real = (and_parts (is_member_value m.value) (p m) t.2).0 in
+    some_found (λ m. is_member_value m.value && int_eq m.value (pos v)) members t.0 m t.1 (and_from (is_member_value m.value) (int_eq m.value (pos v)) real (real_value m.value v real e))
 
 -- and what is found by its value has a kind
 kind_found : (rows : Rows) (members : List Member) (v : ℕ) (y : Member) → ((q : ℕ) → first_code (members_asked rows members q) ≡ None) → find (λ m. is_member_value m.value && int_eq m.value (pos v)) members ≡ Some y → HasKind rows (kind_of rows y.ty)
 kind_found rows members v y clear found =
     let t = found_there (λ m. is_member_value m.value && int_eq m.value (pos v)) members y found in
-    asked_at rows members t.0 y t.1 (clear t.0) (first (is_member_value y.value) (int_eq y.value (pos v)) t.2)
+    asked_at rows members t.0 y t.1 (clear t.0) ((and_parts (is_member_value y.value) (int_eq y.value (pos v)) t.2).0)
 
 looked_up : (rows : Rows) (e v : ℕ) (y : Member) (kind : Kind) → find (λ m. int_eq m.value (pos v)) (members_of rows e) ≡ Some y → kind_of rows y.ty ≡ Some kind → member_of rows e v ≡ Some kind
 unfolding member_of

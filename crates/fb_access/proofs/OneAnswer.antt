@@ -14,53 +14,40 @@ use Rattle.fb_access.specs.Grammar.{Part, field, IsPath, IsReading, IsWrongAt}
 use Rattle.fb_access.specs.Resolving.{fitting, fault_of, Follows, Resolves, Misfits, IsFault, IsAnswer}
 use Rattle.fb_access.proofs.OneReading.{one_reading}
 
-ok_not_err : (x : Fitted) (m : Misfit) (r : Result Fitted Misfit) → r ≡ Ok x → r ≡ Err m → ⊥
-ok_not_err x m r e f = let w : Ok x ≡ Err m = sym e ∙ f in cc
-
-same_fitted : (x y : Fitted) (r : Result Fitted Misfit) → r ≡ Ok x → r ≡ Ok y → x ≡ y
-same_fitted x y r e f = let w : Ok x ≡ Ok y = sym e ∙ f in cc
-
-same_misfit : (m n : Misfit) (r : Result Fitted Misfit) → r ≡ Err m → r ≡ Err n → m ≡ n
-same_misfit m n r e f = let w : Err m ≡ Err n = sym e ∙ f in cc
-
-first_part : (p q : Part) (ps qs : List Part) → p ∷ ps ≡ q ∷ qs → p ≡ q
-first_part p q ps qs e = cc
-
-other_parts : (p q : Part) (ps qs : List Part) → p ∷ ps ≡ q ∷ qs → ps ≡ qs
-other_parts p q ps qs e = cc
-
 module _ (S : Rows) where
   -- parts give one list of steps
   one_list : (kind last other : Kind) (ps : List Part) (steps others : List Step) → Follows S kind ps steps last → Follows S kind ps others other → steps ≡ others
   one_list kind last other [] steps others h g = h.0 ∙ sym g.0
   one_list kind last other (p ∷ ps) steps others h g =
-      let x = same_fitted h.0 g.0 (fitting S kind p) h.1 g.1 in
+      let k = h.1 in
+      let l = g.1 in
+      let x : h.0 ≡ g.0 = cc in
       let later = one_list h.0.kind last other ps h.2 g.2 h.4 (subst (λ (x : Fitted). Follows S x.kind ps g.2 other) (sym x) g.4) in
       h.3 ∙ ap (λ (x : Fitted). x.step ∷ h.2) x ∙ ap (λ rest. g.0.step ∷ rest) later ∙ sym g.3
 
   -- the same parts don't follow whole and misfit too
   not_both : (kind last other : Kind) (ps before after : List Part) (p : Part) (steps others : List Step) (m : Misfit) → ps ≡ before ++ p ∷ after → Follows S kind ps steps last → Follows S kind before others other → fitting S other p ≡ Err m → ⊥
-  not_both kind last other [] [] after p steps others m e h g f = let w : [] ≡ p ∷ after = e in cc
-  not_both kind last other [] (b ∷ before) after p steps others m e h g f = let w : [] ≡ b ∷ before ++ p ∷ after = e in cc
-  not_both kind last other (q ∷ ps) [] after p steps others m e h g f =
-      ok_not_err h.0 m (fitting S kind q) h.1 (subst (λ k. fitting S k q ≡ Err m) (sym g.1) (subst (λ r. fitting S other r ≡ Err m) (sym (first_part q p ps after e)) f))
+  not_both kind last other [] [] after p steps others m e h g f = cc
+  not_both kind last other [] (b ∷ before) after p steps others m e h g f = cc
+  not_both kind last other (q ∷ ps) [] after p steps others m e h g f = let i = h.1 in let k = g.1 in cc
   not_both kind last other (q ∷ ps) (b ∷ before) after p steps others m e h g f =
-      let same = first_part q b ps (before ++ p ∷ after) e in
-      let x = same_fitted h.0 g.0 (fitting S kind q) h.1 (subst (λ r. fitting S kind r ≡ Ok g.0) (sym same) g.1) in
-      not_both h.0.kind last other ps before after p h.2 g.2 m (other_parts q b ps (before ++ p ∷ after) e) h.4 (subst (λ (x : Fitted). Follows S x.kind before g.2 other) (sym x) g.4) f
+      let i = h.1 in
+      let k = g.1 in
+      let x : h.0 ≡ g.0 = cc in
+      let rest : ps ≡ before ++ p ∷ after = cc in
+      not_both h.0.kind last other ps before after p h.2 g.2 m rest h.4 (subst (λ (x : Fitted). Follows S x.kind before g.2 other) (sym x) g.4) f
 
   -- one part is the first that misfits
   one_misfit : (kind last other : Kind) (b c a d : List Part) (p q : Part) (steps others : List Step) (m n : Misfit) → b ++ p ∷ a ≡ c ++ q ∷ d → Follows S kind b steps last → fitting S last p ≡ Err m → Follows S kind c others other → fitting S other q ≡ Err n → (length b ≡ length c) × (m ≡ n)
-  one_misfit kind last other [] [] a d p q steps others m n e h f g i =
-      (refl, same_misfit m n (fitting S kind p) (subst (λ k. fitting S k p ≡ Err m) (sym h.1) f) (subst (λ k. fitting S k p ≡ Err n) (sym g.1) (subst (λ r. fitting S other r ≡ Err n) (sym (first_part p q a d e)) i)))
-  one_misfit kind last other [] (y ∷ c) a d p q steps others m n e h f g i =
-      absurd (ok_not_err g.0 m (fitting S kind p) (subst (λ r. fitting S kind r ≡ Ok g.0) (sym (first_part p y a (c ++ q ∷ d) e)) g.1) (subst (λ k. fitting S k p ≡ Err m) (sym h.1) f))
-  one_misfit kind last other (x ∷ b) [] a d p q steps others m n e h f g i =
-      absurd (ok_not_err h.0 n (fitting S kind x) h.1 (subst (λ k. fitting S k x ≡ Err n) (sym g.1) (subst (λ r. fitting S other r ≡ Err n) (sym (first_part x q (b ++ p ∷ a) d e)) i)))
+  one_misfit kind last other [] [] a d p q steps others m n e h f g i = let k = h.1 in let l = g.1 in (refl, cc)
+  one_misfit kind last other [] (y ∷ c) a d p q steps others m n e h f g i = absurd (let k = h.1 in let l = g.1 in cc)
+  one_misfit kind last other (x ∷ b) [] a d p q steps others m n e h f g i = absurd (let k = h.1 in let l = g.1 in cc)
   one_misfit kind last other (x ∷ b) (y ∷ c) a d p q steps others m n e h f g i =
-      let same = first_part x y (b ++ p ∷ a) (c ++ q ∷ d) e in
-      let z = same_fitted h.0 g.0 (fitting S kind x) h.1 (subst (λ r. fitting S kind r ≡ Ok g.0) (sym same) g.1) in
-      let later = one_misfit h.0.kind last other b c a d p q h.2 g.2 m n (other_parts x y (b ++ p ∷ a) (c ++ q ∷ d) e) h.4 f (subst (λ (x : Fitted). Follows S x.kind c g.2 other) (sym z) g.4) i in
+      let k = h.1 in
+      let l = g.1 in
+      let z : h.0 ≡ g.0 = cc in
+      let rest : b ++ p ∷ a ≡ c ++ q ∷ d = cc in
+      let later = one_misfit h.0.kind last other b c a d p q h.2 g.2 m n rest h.4 f (subst (λ (x : Fitted). Follows S x.kind c g.2 other) (sym z) g.4) i in
       (ap suc later.0, later.1)
 
 -- one place is the longest beginning

@@ -17,17 +17,14 @@ one_word v w s t a b c d e = record {
   rests = sym (after_word (v ++ s) v s a b refl) ∙ after_word (v ++ s) w t c d e;
 }
 
-not_empty : (c : ℕ) (t : List ℕ) → c ∷ t ≡ [] → ⊥
-not_empty c t e = cc
+some_spelling : (p : Part) (ps : List Part) → spelling (p ∷ ps) ≡ [] → ⊥
+some_spelling (field n) ps e = cc
+some_spelling p ps e = cc
 
 one_spelling : (ps qs : List Part) → AllByRecursion IsPart ps → AllByRecursion IsPart qs → spelling ps ≡ spelling qs → ps ≡ qs
 one_spelling [] [] a b e = refl
-one_spelling [] (field m ∷ qs) a b e = absurd (not_empty 46 (m ++ spelling qs) (sym e))
-one_spelling [] (element m ∷ qs) a b e = absurd (not_empty 91 (m ++ 93 ∷ spelling qs) (sym e))
-one_spelling [] (member m ∷ qs) a b e = absurd (not_empty 64 (m ++ spelling qs) (sym e))
-one_spelling (field n ∷ ps) [] a b e = absurd (not_empty 46 (n ++ spelling ps) e)
-one_spelling (element n ∷ ps) [] a b e = absurd (not_empty 91 (n ++ 93 ∷ spelling ps) e)
-one_spelling (member n ∷ ps) [] a b e = absurd (not_empty 64 (n ++ spelling ps) e)
+one_spelling [] (q ∷ qs) a b e = absurd (some_spelling q qs (sym e))
+one_spelling (p ∷ ps) [] a b e = absurd (some_spelling p ps e)
 one_spelling (field n ∷ ps) (field m ∷ qs) a b e =
     let w = one_word n m (spelling ps) (spelling qs) (name_word n a.0) (parts_stop ps) (name_word m b.0) (parts_stop qs) (tail_is 46 46 _ _ e) in
     let later = one_spelling ps qs a.1 b.1 w.rests in
@@ -40,12 +37,7 @@ one_spelling (member n ∷ ps) (member m ∷ qs) a b e =
     let w = one_word n m (spelling ps) (spelling qs) (name_word n a.0) (parts_stop ps) (name_word m b.0) (parts_stop qs) (tail_is 64 64 _ _ e) in
     let later = one_spelling ps qs a.1 b.1 w.rests in
     ap (λ x. member x ∷ ps) w.words ∙ ap (λ x. member m ∷ x) later
-one_spelling (field n ∷ ps) (element m ∷ qs) a b e = absurd (marks_differ 46 91 _ _ refl e)
-one_spelling (field n ∷ ps) (member m ∷ qs) a b e = absurd (marks_differ 46 64 _ _ refl e)
-one_spelling (element n ∷ ps) (field m ∷ qs) a b e = absurd (marks_differ 91 46 _ _ refl e)
-one_spelling (element n ∷ ps) (member m ∷ qs) a b e = absurd (marks_differ 91 64 _ _ refl e)
-one_spelling (member n ∷ ps) (field m ∷ qs) a b e = absurd (marks_differ 64 46 _ _ refl e)
-one_spelling (member n ∷ ps) (element m ∷ qs) a b e = absurd (marks_differ 64 91 _ _ refl e)
+one_spelling (p ∷ ps) (q ∷ qs) a b e = absurd (marks_differ _ _ _ _ refl e)
 
 pub one_reading : (text name other : List ℕ) (parts others : List Part) → IsReading text name parts → IsReading text other others → (name ≡ other) × (parts ≡ others)
 one_reading text name other parts others a b =

@@ -1,12 +1,12 @@
 -- Where a text stops being the beginning of a path.
-use Rattle.std.proofs.Common.{◌≡◌, ℕ, zero, suc, ◌+◌, ◌<◌, ◌≤◌, true, false, List, [], ◌∷◌, ◌++◌, length, take, drop, get_or, refl, sym, ◌∙◌, ap, subst, arith, Option, Some, None}
-use Rattle.std.proofs.lemmas.List.{take_more, take-append-drop}
+use Rattle.std.proofs.Common.{◌≡◌, ℕ, ◌+◌, ◌<◌, true, false, List, [], ◌∷◌, ◌++◌, length, take, drop, get_or, refl, sym, ◌∙◌, subst, arith, Option, Some, None}
+use Rattle.std.proofs.lemmas.Bool.{false≢true}
+use Rattle.std.proofs.lemmas.List.{take_more, take-append-drop, take-take}
 use Rattle.std.proofs.Math.Seq.{take-length}
 use Rattle.fb_access.specs.declared.scan.Seen.{Seen}
 use Rattle.fb_access.specs.declared.scan.Seen.TheVariants.{Mark}
 use Rattle.fb_access.specs.Grammar.{IsPath, BeginsPath, IsWrongAt}
 use Rattle.fb_access.specs.Scanned.{next_seen, seen, is_end}
-use Rattle.fb_access.proofs.ScanSteps.{false≢true}
 use Rattle.fb_access.proofs.ScanAccepts.{scanned_ends, path_ends}
 use Rattle.fb_access.proofs.ScanReads.{path_accepted, completed}
 
@@ -21,10 +21,6 @@ unfolding seen
 seen_nothing None = refl
 seen_nothing (Some s) = refl
 
-seen_one : (s : Seen) (c : ℕ) → seen (Some s) (c ∷ []) ≡ next_seen s c
-unfolding seen
-seen_one s c = seen_nothing (next_seen s c)
-
 -- what is scanned begins a path
 begins : (p : List ℕ) (s : Seen) → seen (Some Mark) p ≡ Some s → BeginsPath p
 begins p s h =
@@ -32,32 +28,24 @@ begins p s h =
     let e : seen (Some Mark) (p ++ q.0) ≡ Some q.1.last = seen_append (Some Mark) p q.0 ∙ rw h q.1.scanned in
     record { rest = q.0; path = path_ends (p ++ q.0) (scanned_ends (p ++ q.0) Mark q.1.last tt e q.1.end) }
 
-none_some : (s : Seen) → None ≡ Some s → ⊥
-none_some s h = cc
-
 -- what can't be scanned begins none
 stays_dead : (p q : List ℕ) → seen (Some Mark) p ≡ None → seen (Some Mark) (p ++ q) ≡ None
 unfolding seen
 stays_dead p q h = seen_append (Some Mark) p q ∙ rw h refl
 
 dead_no_path : (t : List ℕ) → seen (Some Mark) t ≡ None → IsPath t → ⊥
-dead_no_path t e h = let a = path_accepted t h in none_some a.last (sym e ∙ a.scanned)
+dead_no_path t e h = let a = path_accepted t h in let w : None ≡ Some a.last = sym e ∙ a.scanned in cc
 
 dead_begins_none : (p : List ℕ) → seen (Some Mark) p ≡ None → BeginsPath p → ⊥
 dead_begins_none p e h = dead_no_path (p ++ h.rest) (stays_dead p h.rest e) h.path
-
-take_take : (i m : ℕ) (t : List ℕ) → i ≤ m → take i (take m t) ≡ take i t
-take_take zero m t h = refl
-take_take (suc i) zero t h = absurd (omega arith)
-take_take (suc i) (suc m) [] h = refl
-take_take (suc i) (suc m) (c ∷ t) h = ap (λ r. c ∷ r) (take_take i m t (omega arith))
 
 -- a text of which a beginning can't be scanned
 dead_from : (i : ℕ) (t : List ℕ) → seen (Some Mark) (take i t) ≡ None → seen (Some Mark) t ≡ None
 dead_from i t h = subst (λ u. seen (Some Mark) u ≡ None) (take-append-drop i t) (stays_dead (take i t) (drop i t) h)
 
 one_more : (text : List ℕ) (i d : ℕ) (s : Seen) → i < length text → seen (Some Mark) (take i text) ≡ Some s → seen (Some Mark) (take (i + 1) text) ≡ next_seen s (get_or text i d)
-one_more text i d s l h = rw (take_more text i d l, seen_append, h) (seen_one s (get_or text i d))
+unfolding seen
+one_more text i d s l h = rw (take_more text i d l, seen_append, h) (seen_nothing (next_seen s (get_or text i d)))
 
 pub seen_more : (text : List ℕ) (i d : ℕ) (s r : Seen) → i < length text → seen (Some Mark) (take i text) ≡ Some s → next_seen s (get_or text i d) ≡ Some r → seen (Some Mark) (take (i + 1) text) ≡ Some r
 seen_more text i d s r l h e = one_more text i d s l h ∙ e
@@ -68,7 +56,7 @@ wrong_at text i d s l h e =
     record {
       within = omega arith;
       begins = begins (take i text) s h;
-      longest = λ m k n b. dead_begins_none (take m text) (dead_from (i + 1) (take m text) (rw (take_take (i + 1) m text (omega arith)) dead)) b;
+      longest = λ m k n b. dead_begins_none (take m text) (dead_from (i + 1) (take m text) (rw (take-take (i + 1) m text (omega arith)) dead)) b;
       wrong = λ p. dead_no_path text (dead_from (i + 1) text dead) p;
     }
 

@@ -1,12 +1,12 @@
 -- What completes a path is scanned to an end.
-use Rattle.std.proofs.Common.{◌≡◌, ℕ, ◌+◌, ◌-◌, ◌*◌, ◌≤◌, ◌==◌, true, false, List, [], ◌∷◌, ◌++◌, refl, ◌∙◌, ap, arith, inl, inr, Some}
+use Rattle.std.proofs.Common.{◌≡◌, ℕ, ◌+◌, ◌-◌, ◌*◌, ◌≤◌, ◌==◌, nat_le, true, false, List, [], ◌∷◌, ◌++◌, refl, ◌∙◌, arith, inl, inr, Some}
+use Rattle.std.proofs.lemmas.Bool.{false≢true}
 use Rattle.std.proofs.lemmas.Bool.Decides.{nat_tests}
 use Rattle.std.specs.List.{AllByRecursion}
 use Rattle.fb_access.specs.declared.scan.Seen.{Seen}
 use Rattle.fb_access.specs.declared.scan.Seen.TheVariants.{Mark, Name, Bracket, Zero, Digits, Index}
 use Rattle.fb_access.specs.Grammar.{is_digit, IsName, number_from, IsNumber, Part, field, element, member, IsPart, spelling, IsPath}
-use Rattle.fb_access.specs.Scanned.{next_part, next_seen, seen, is_end}
-use Rattle.fb_access.proofs.ScanSteps.{false≢true, name_begins, name_goes_on, zero_begins, digits_begin, zero_closes, digits_close, digits_go_on, one_digit}
+use Rattle.fb_access.specs.Scanned.{next_part, next_digit, next_seen, seen, is_end}
 use Rattle.fb_access.proofs.ScanAccepts.{Most, GoOn, AreDigits}
 
 -- a text that is scanned to an end
@@ -19,40 +19,40 @@ along : (s r : Seen) (t u : List ℕ) → seen (Some s) t ≡ seen (Some r) u �
 along s r t u e h = record { last = h.last; scanned = e ∙ h.scanned; end = h.end }
 
 rest_of_name : (cs q : List ℕ) → GoOn cs → seen (Some Name) (cs ++ q) ≡ seen (Some Name) q
-unfolding seen
+unfolding seen next_seen
 rest_of_name [] q h = refl
-rest_of_name (c ∷ cs) q h = ap (λ o. seen o (cs ++ q)) (name_goes_on c h.0) ∙ rest_of_name cs q h.1
+rest_of_name (c ∷ cs) q h = rw (h.0, seen) (rest_of_name cs q h.1)
 
 whole_name : (n q : List ℕ) → IsName n → seen (Some Mark) (n ++ q) ≡ seen (Some Name) q
-unfolding seen
+unfolding seen next_seen
 whole_name [] q h = absurd h
-whole_name (c ∷ cs) q h = ap (λ o. seen o (cs ++ q)) (name_begins c h.0) ∙ rest_of_name cs q h.1
+whole_name (c ∷ cs) q h = rw (h.0, seen) (rest_of_name cs q h.1)
 
 pub number_grows : (v : ℕ) (ds : List ℕ) → v ≤ number_from v ds
 number_grows v [] = omega arith
 number_grows v (c ∷ ds) = let h = number_grows (10 * v + (c - 48)) ds in omega arith
 
 rest_of_number : (v : ℕ) (ds q : List ℕ) → AreDigits ds → number_from v ds ≤ Most → seen (Some (Digits v)) (ds ++ 93 ∷ q) ≡ seen (Some Index) q
-unfolding seen
-rest_of_number v [] q h l = ap (λ o. seen o q) (digits_close v 93 refl)
+unfolding seen next_seen next_digit
+rest_of_number v [] q h l = refl
 rest_of_number v (c ∷ ds) q h l =
     let d : is_digit c ≡ true = h.0 in
     let e : (c == 93) ≡ false = grind (arith, nat_tests) in
     let m = number_grows (10 * v + (c - 48)) ds in
-    let small : 10 * v + (c - 48) ≤ Most = omega arith in
-    ap (λ o. seen o (ds ++ 93 ∷ q)) (digits_go_on v c e ∙ one_digit v c d small) ∙ rest_of_number (10 * v + (c - 48)) ds q h.1 l
+    let small : nat_le (10 * v + (c - 48)) Most ≡ true = grind (arith, nat_tests) in
+    rw (e, d, small, seen) (rest_of_number (10 * v + (c - 48)) ds q h.1 l)
 
 whole_number : (ds q : List ℕ) → IsNumber ds → seen (Some Bracket) (ds ++ 93 ∷ q) ≡ seen (Some Index) q
-unfolding seen
+unfolding seen next_seen next_digit
 whole_number [] q h = absurd h
-whole_number (c ∷ cs) q (inl h) = rw (h.0, h.1) (ap (λ o. seen o (93 ∷ q)) (zero_begins 48 refl) ∙ ap (λ o. seen o q) (zero_closes 93 refl))
+whole_number (c ∷ cs) q (inl h) = rw (h.0, h.1) refl
 whole_number (c ∷ cs) q (inr h) =
     let d : is_digit c ≡ true = h.1.0 in
     let n = h.0 in
     let e : (c == 48) ≡ false = grind (arith, nat_tests) in
     let m = number_grows (10 * 0 + (c - 48)) cs in
-    let small : 10 * 0 + (c - 48) ≤ Most = omega (arith, h.2) in
-    ap (λ o. seen o (cs ++ 93 ∷ q)) (digits_begin c e ∙ one_digit 0 c d small) ∙ rest_of_number (10 * 0 + (c - 48)) cs q h.1.1 h.2
+    let small : nat_le (10 * 0 + (c - 48)) Most ≡ true = grind (arith, nat_tests, h.2) in
+    rw (e, d, small, seen) (rest_of_number (10 * 0 + (c - 48)) cs q h.1.1 h.2)
 
 -- what follows a whole part
 record PartBegins (s : Seen) (q : List ℕ) : Type 0 where

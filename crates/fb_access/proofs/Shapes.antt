@@ -76,18 +76,14 @@ no h = absurd h
 -- each scalar's numbers are shown as the scalar is
 ways : (s : Scalar) → (IsTruth s → IsShown Bool truth s) × (IsSigned s → IsShown ℤ signed s) × (IsUnsigned s → IsShown ℕ unsigned s)
 unfolding number
-ways UType = (no, no, λ h. record { is_number = refl; at = λ n. (_, refl) })
 ways AsBool = (λ h. record { is_number = refl; at = λ n. (_, refl) }, no, no)
 ways Byte = (no, λ h. record { is_number = refl; at = λ n. (_, refl) }, no)
-ways UByte = (no, no, λ h. record { is_number = refl; at = λ n. (_, refl) })
 ways Short = (no, λ h. record { is_number = refl; at = λ n. (_, refl) }, no)
-ways UShort = (no, no, λ h. record { is_number = refl; at = λ n. (_, refl) })
 ways AsInt = (no, λ h. record { is_number = refl; at = λ n. (_, refl) }, no)
-ways AsUInt = (no, no, λ h. record { is_number = refl; at = λ n. (_, refl) })
 ways Long = (no, λ h. record { is_number = refl; at = λ n. (_, refl) }, no)
-ways ULong = (no, no, λ h. record { is_number = refl; at = λ n. (_, refl) })
 ways AsFloat = (no, no, no)
 ways Double = (no, no, no)
+ways s = (no, no, λ h. record { is_number = refl; at = λ n. (_, refl) })
 
 -- what an answer is that shows this
 abbrev pub Form : Shown → Answer → Type 0

@@ -1,5 +1,5 @@
 -- The examples of where faults are, by computing.
-use Rattle.std.proofs.Common.{ℕ, refl}
+use Rattle.std.proofs.Common.{ℕ, rules}
 use Rattle.std.specs.Fmt.{digits}
 use Rattle.fb_schema.specs.Kinds.{base_types, shape_of, kind_of}
 use Rattle.fb_schema.specs.Live.{live_fields}
@@ -14,49 +14,20 @@ computing = 0
 
 pub told_shown : Told
 unfolding computing
-told_shown = record {
-  the_root = refl;
-  a_field = refl;
-  behind_a_deprecated_field = refl;
-  a_table = refl;
-  of_a_table = refl;
-  an_element = refl;
-  the_last_element = refl;
-  a_member = refl;
-  of_a_member = refl;
-}
+told_shown = search rules
 
 pub nameless_shown : Nameless
 unfolding computing
-nameless_shown = record {
-  no_type = refl;
-  unknown_member = refl;
-  no_union = refl;
-  a_deprecated_field = refl;
-  a_struct = refl;
-  no_object = refl;
-}
+nameless_shown = search rules
 
 pub masked_shown : Masked
 unfolding computing
-masked_shown = record { beside = refl; in_a_line = refl }
+masked_shown = search rules
 
 pub ways_shown : Ways
 unfolding computing
-ways_shown = record {
-  to_the_root = refl;
-  to_a_type = refl;
-  to_a_vector = refl;
-  to_a_third_table = refl;
-  to_its_field = refl;
-  to_one_too_many = refl;
-}
+ways_shown = search rules
 
 pub long_shown : Long
 unfolding computing
-long_shown = record {
-  whole = refl;
-  a_byte_more = refl;
-  a_whole_place = refl;
-  a_place_of_a_byte_more = refl;
-}
+long_shown = search rules

@@ -1,5 +1,5 @@
 -- The examples of texts of paths, by computing.
-use Rattle.std.proofs.Common.{◌≡◌, ℕ, List, [], ◌∷◌, ◌++◌, length, Err, codes, refl, inl, inr, arith}
+use Rattle.std.proofs.Common.{◌≡◌, ℕ, List, [], ◌∷◌, ◌++◌, length, Err, codes, refl, inl, inr, arith, rules}
 use Rattle.std.specs.List.{AllByRecursion}
 use Rattle.std.proofs.lemmas.Bool.{false≢true}
 use Rattle.fb_schema.specs.declared.kinds.Kind.{Kind}
@@ -40,25 +40,10 @@ ten : IsNumber (codes "10")
 ten = inr (λ e. absurd (omega (arith, e)), (refl, (refl, tt)), omega arith)
 
 pub words_shown : Words
-words_shown = record {
-  letters = (refl, (refl, (refl, (refl, (refl, (refl, (refl, tt)))))));
-  underscore = (refl, tt);
-  digit_first = λ h. false≢true h.0;
-  before_a_letter = λ h. false≢true h.1.0;
-  before_a_small_letter = λ h. false≢true h.1.0;
-  behind_a_small_letter = λ h. false≢true h.1.0;
-  zero = inl (refl, refl);
-  zero_first = begins_with_zero;
-  digits = refl;
-}
+words_shown = search (rules, false≢true, begins_with_zero)
 
 pub spellings_shown : Spellings
-spellings_shown = record {
-  field_in_a_table = refl;
-  element_of_a_vector = refl;
-  member_of_a_union = refl;
-  reading = reads (codes "us") (element (codes "10") ∷ member (codes "A") ∷ field (codes "byte") ∷ []) (refl, (refl, tt)) (ten, ((refl, tt), ((refl, (refl, (refl, (refl, tt)))), tt)));
-}
+spellings_shown = search (rules, ten)
 
 pub resolved_shown : Resolved
 unfolding computing

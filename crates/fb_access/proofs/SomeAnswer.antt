@@ -1,28 +1,27 @@
 -- Some answer applies to each text.
-use Rattle.std.proofs.Common.{◌≡◌, ℕ, zero, suc, ◌+◌, ◌⊎◌, inl, inr, List, [], ◌∷◌, ◌++◌, length, take, get_or, Option, Some, None, Result, Ok, Err, refl, sym, ◌∙◌, subst, arith}
+use Rattle.std.proofs.Common.{◌≡◌, ℕ, zero, suc, ◌+◌, ◌⊎◌, inl, inr, List, [], ◌∷◌, ◌++◌, length, take, get_or, Option, Some, None, Result, Ok, Err, refl, sym, ◌∙◌, subst, arith, append_assoc, append-nil}
+use Rattle.std.proofs.lemmas.Bool.{cases_Bool}
 use Rattle.fb_schema.specs.declared.kinds.Kind.{Kind}
 use Rattle.fb_schema.specs.declared.kinds.Kind.TheVariants.{Table}
 use Rattle.fb_schema.specs.Rows.{Rows}
 use Rattle.fb_access.specs.declared.step.Step.{Step}
 use Rattle.fb_access.specs.declared.misfit.Misfit.{Misfit}
-use Rattle.fb_access.specs.declared.misfit.Misfit.TheVariants.{NoSuchField, NotIndexable, NotAUnion, NoSuchMember, NotATable}
 use Rattle.fb_access.specs.declared.misfit.Fitted.{Fitted}
 use Rattle.fb_access.specs.declared.path_fault.PathFault.{PathFault}
 use Rattle.fb_access.specs.declared.path_fault.PathFault.TheVariants.{BadText}
 use Rattle.fb_access.specs.declared.scan.Seen.{Seen}
 use Rattle.fb_access.specs.declared.scan.Seen.TheVariants.{Mark}
 use Rattle.fb_access.specs.Grammar.{Part, field, IsPath, IsReading, IsWrongAt}
-use Rattle.fb_access.specs.Resolving.{fitting, fault_of, Follows, Misfits, IsAnswer}
+use Rattle.fb_access.specs.Resolving.{fitting, fault_of, Follows, IsAnswer}
 use Rattle.fb_access.specs.Scanned.{next_seen, seen, is_end}
 use Rattle.fb_access.proofs.ScanPlaces.{seen_more, wrong_at, wrong_at_end, right_at_end}
-use Rattle.fb_access.proofs.ScanSteps.{either}
-use Rattle.fb_access.proofs.Following.{follows_more, append_assoc, append_nil}
+use Rattle.fb_access.proofs.Following.{follows_more, misfit_fault}
 
 -- A text is a path, or is wrong at some place.
 scanned_from : (text : List ℕ) (more i : ℕ) (s : Seen) → i + more ≡ length text → seen (Some Mark) (take i text) ≡ Some s → IsPath text ⊎ ((at : ℕ) × IsWrongAt text at)
 scanned_from text zero i s e h =
     let l : i ≡ length text = omega arith in
-    elim (either (is_end s)) [
+    elim (cases_Bool (is_end s)) [
       | inl w ↦ inl (right_at_end text i s l h w)
       | inr w ↦ inr (i, wrong_at_end text i i s l l h w)
     ]
@@ -40,21 +39,13 @@ module _ (S : Rows) (root : ℕ) (text name : List ℕ) (parts : List Part) (rea
   Answer : Type 0
   Answer = (answer : Result (List Step) PathFault) × IsAnswer S root text answer
 
-  fault_answer : (m : Misfit) (n : ℕ) → Misfits S root text m n → Answer
-  unfolding Answer
-  fault_answer NoSuchField n h = (Err (fault_of NoSuchField n), h)
-  fault_answer NotIndexable n h = (Err (fault_of NotIndexable n), h)
-  fault_answer NotAUnion n h = (Err (fault_of NotAUnion n), h)
-  fault_answer NoSuchMember n h = (Err (fault_of NoSuchMember n), h)
-  fault_answer NotATable n h = (Err (fault_of NotATable n), h)
-
   followed : (done left : List Part) (steps : List Step) (kind : Kind) → field name ∷ parts ≡ done ++ left → Follows S (Table root) done steps kind → Answer
   unfolding Answer
-  followed done [] steps kind e f = (Ok steps, record { name = name; parts = parts; last = kind; reading = reading; follows = subst (λ ps. Follows S (Table root) ps steps kind) (sym (e ∙ append_nil done)) f })
+  followed done [] steps kind e f = (Ok steps, record { name = name; parts = parts; last = kind; reading = reading; follows = subst (λ ps. Follows S (Table root) ps steps kind) (sym (e ∙ append-nil done)) f })
   followed done (p ∷ left) steps kind e f = go (fitting S kind p) refl (λ x h. followed (done ++ p ∷ []) left (steps ++ x.step ∷ []) x.kind (e ∙ sym (append_assoc done (p ∷ []) left)) (follows_more S (Table root) kind done steps p x f h)) where
     go : (r : Result Fitted Misfit) → fitting S kind p ≡ r → ((x : Fitted) → fitting S kind p ≡ Ok x → Answer) → Answer
     go (Ok x) h later = later x h
-    go (Err m) h later = fault_answer m (length done) (record { name = name; parts = parts; reading = reading; before = done; part = p; after = left; all = e; number = refl; steps = steps; last = kind; follows = f; unfit = h })
+    go (Err m) h later = (Err (fault_of m (length done)), misfit_fault S root text m (length done) (record { name = name; parts = parts; reading = reading; before = done; part = p; after = left; all = e; number = refl; steps = steps; last = kind; follows = f; unfit = h }))
 
 pub some_answer : (S : Rows) (root : ℕ) (text : List ℕ) → (answer : Result (List Step) PathFault) × IsAnswer S root text answer
 unfolding Answer

@@ -1,5 +1,6 @@
 -- Wherever steps lead in a buffer that unfolds, what is there lies in the buffer.
 use Rattle.std.proofs.Common.{◌≡◌, ℕ, suc, ◌+◌, ◌*◌, ◌<◌, ◌≤◌, ◌==◌, nat_lt, if◌then◌else◌, Bool, true, false, List, [], ◌∷◌, length, refl, subst, ap, ◌∙◌, arith, Option, Some, None}
+use Rattle.std.proofs.lemmas.Bool.{eqb-true}
 use Rattle.std.specs.Prelude.{option_map}
 use Rattle.std.proofs.Math.Nat.{mul-le-mul_right, suc-mul, mul_comm}
 use Rattle.std.proofs.lemmas.Bool.Decides.{nat_tests}
@@ -31,7 +32,6 @@ use Rattle.fb_access.specs.Inside.{OffsetLies, LiesInside, ValuesLieInside}
 use Rattle.fb_access.proofs.FieldSpots.{field_spot_holds}
 use Rattle.fb_access.proofs.Leading.{led_to_table, led_to_string, led_to_struct}
 use Rattle.fb_access.proofs.TableFields.{table_has_vtable}
-use Rattle.fb_access.proofs.ScanSteps.{is_equal}
 use Rattle.fb_access.proofs.StepLaws.{some_same}
 use Rattle.fb_access.proofs.Walks.{root_placed}
 
@@ -119,7 +119,7 @@ module _ (b : List ℕ) (S : Rows) where
   unfolding IsSpot
   member_of_union e y p m None q holds h i l = absurd cc
   member_of_union e y p m (Some kind) q holds h i l =
-      let led = λ (t : (y == m) ≡ true). subst (λ x. IsLed b S p (lead_of S x)) (ap (member_of S e) (is_equal y m t) ∙ i) h.led in
+      let led = λ (t : (y == m) ≡ true). subst (λ x. IsLed b S p (lead_of S x)) (ap (member_of S e) (eqb-true y m t) ∙ i) h.led in
       subst (IsSpot b S) (some_same l) (one_of (y == m) (member_spot b p kind) AtOtherMember (λ t. member_lies p kind holds (led t)) tt)
 
   from_union : (p : Spot) (m : ℕ) (q : Spot) → IsServed S → IsSpot b S p → spot_of_member b S p m ≡ Some q → IsSpot b S q
@@ -144,30 +144,23 @@ module _ (b : List ℕ) (S : Rows) where
   -- an offset word that leads to something
   offset_lies : (c : Checks) (y : Found) (p : ℕ) (lead : Lead) → ElementUnfolds y c b S p lead → OffsetLies b p lead
   unfolding ElementUnfolds
+  offset_lies c y p to_nothing u = tt
   offset_lies c leaf p (to_table k) u = absurd u
-  offset_lies c leaf p (to_struct size align) u = u.0.within
-  offset_lies c leaf p to_string u = u.0.within
-  offset_lies c leaf p to_nothing u = tt
-  offset_lies c (table y) p (to_table k) u = u.0.within
   offset_lies c (table y) p (to_struct size align) u = absurd u
   offset_lies c (table y) p to_string u = absurd u
-  offset_lies c (table y) p to_nothing u = absurd u
+  offset_lies c y p lead u = u.0.within
 
   lies : (q : Spot) → IsSpot b S q → LiesInside b S q
   unfolding IsSpot
   lies (AtTable k t) h = table_has_vtable b S k t h
-  lies (AtInline s p) h = h
   lies (AtStruct k p) h = h.within
-  lies (AtText c) h = h
-  lies (AtScalars s c) h = h
   lies (AtStructs k c) h = h.counted
-  lies (AtScalarArray s n p) h = h
   lies (AtStructArray k n p) h = h.within
   lies (AtTexts c) h = h.counted
   lies (AtTables k c) h = h.counted
   lies (AtUnions e y c) h = (h.types, h.counted)
   lies (AtUnion e y p) h = offset_lies h.led.checks h.led.found p (lead_of S (member_of S e y)) h.led.unfolds
-  lies q h = tt
+  lies q h = h
 
 pub values_lie_inside : ValuesLieInside
 values_lie_inside v steps q served h r =

@@ -22,10 +22,6 @@ use Rattle.fb_access.specs.Spots.{kind_at, present_spot, default_spot, absent_sp
 use Rattle.fb_access.specs.Denotes.{next_spot, Leads, allows}
 use Rattle.fb_access.specs.Here.{IsHere, MayBeHere, IsOfKind, KindsGoOn}
 
-map_same : {A B C : Type 0} (f : A → B) (g : A → C) (o : Option A) → is_some (option_map f o) ≡ is_some (option_map g o)
-map_same f g None = refl
-map_same f g (Some x) = refl
-
 map_some : {A B : Type 0} (f : A → B) (o : Option A) → is_some (option_map f o) ≡ is_some o
 map_some f None = refl
 map_some f (Some x) = refl
@@ -33,15 +29,12 @@ map_some f (Some x) = refl
 -- a step leads on exactly where it is allowed
 pub leads_where_allowed : (b : List ℕ) (S : Rows) (p : Spot) (s : Step) → is_some (next_spot b S p s) ≡ allows S p s
 unfolding next_spot spot_of_element next_kind
-leads_where_allowed b S (AtTable k t) (Field n) = map_same (field_spot b t) (λ f. f.kind) (numbered S k n)
-leads_where_allowed b S (AtStruct k p) (Field n) = map_same (part_spot p) (λ (part : PartView). part.kind) (part_at S k n)
+leads_where_allowed b S (AtTable k t) (Field n) = map_some (field_spot b t) (numbered S k n) ∙ sym (map_some (λ f. f.kind) (numbered S k n))
+leads_where_allowed b S (AtStruct k p) (Field n) = map_some (part_spot p) (part_at S k n) ∙ sym (map_some (λ (part : PartView). part.kind) (part_at S k n))
 leads_where_allowed b S (AtUnion e y p) (Member m) = map_some (λ kind. if y == m then member_spot b p kind else AtOtherMember) (member_of S e m)
-leads_where_allowed b S AtAbsent s = refl
-leads_where_allowed b S AtNoElement s = refl
-leads_where_allowed b S AtOtherMember s = refl
 leads_where_allowed b S p (Field n) = refl
 leads_where_allowed b S p (Element j) = refl
-leads_where_allowed b S p (Member m) = refl
+leads_where_allowed b S p s = refl
 
 pub allowed_leads : (b : List ℕ) (S : Rows) (p : Spot) (s : Step) → IsTrue (allows S p s) → next_spot b S p s ≡ None → ⊥
 allowed_leads b S p s h e = let i : is_some (next_spot b S p s) ≡ false = rw e refl in let j = leads_where_allowed b S p s in absurd cc
@@ -60,9 +53,8 @@ default_kind d s = inl refl
 
 absent_kind : (optional : Bool) (d : ℤ) (kind : Kind) → MayBeHere (absent_spot optional d kind) kind
 unfolding absent_spot
-absent_kind true d kind = inr refl
 absent_kind false d (AScalar s) = default_kind d s
-absent_kind false d kind = inr refl
+absent_kind optional d kind = inr refl
 
 place_kind : (b : List ℕ) (t : ℕ) (f : Live) (place : Option ℕ) → MayBeHere (spot_at b t f place) f.kind
 place_kind b t f None = absent_kind f.optional f.default f.kind
@@ -129,12 +121,9 @@ module _ (b : List ℕ) (S : Rows) where
   own_kinds (AtTables k c) (Element j) q kind onward h e l = let i : kind ≡ Tables k = cc in along _ q (Table k) onward (if_kind (nat_lt j (word b c 4)) (AtTable k (target b (c + 4 + 4 * j))) (Table k) refl) l (rw i at e)
   own_kinds (AtUnions u t c) (Element j) q kind onward h e l = let i : kind ≡ Unions u = cc in along _ q (Union u) onward (if_kind (nat_lt j (word b c 4)) (AtUnion u (word b (t + j) 1) (c + 4 + 4 * j)) (Union u) refl) l (rw i at e)
   own_kinds (AtUnion u y p) (Member m) q kind onward h e l = let i : kind ≡ Union u = cc in valued_kind p y m (member_of S u m) q onward (rw i at e) l
-  own_kinds AtAbsent s q kind onward h e l = absurd cc
-  own_kinds AtNoElement s q kind onward h e l = absurd cc
-  own_kinds AtOtherMember s q kind onward h e l = absurd cc
   own_kinds p (Field n) q kind onward h e l = absurd cc
   own_kinds p (Element j) q kind onward h e l = absurd cc
-  own_kinds p (Member m) q kind onward h e l = absurd cc
+  own_kinds p s q kind onward h e l = absurd cc
 
   -- where nothing is, every step stays
   pub stays : (p : Spot) (s : Step) → kind_at p ≡ None → Leads b S p s p

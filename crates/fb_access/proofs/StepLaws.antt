@@ -18,7 +18,7 @@ use Rattle.fb_verify.specs.Places.{target, field_place}
 use Rattle.fb_verify.specs.Fields.{type_place, union_type, types_begin, Lead, to_table, to_string, lead_of, Entry, entry, row, union_row, union_entry, entries_of, entries_at, entries}
 use Rattle.fb_access.specs.declared.step.Step.TheVariants.{Field, Element}
 use Rattle.fb_access.specs.declared.spot.Spot.{Spot}
-use Rattle.fb_access.specs.declared.spot.Spot.TheVariants.{AtTable, AtInline, AtStruct, AtText, AtTexts, AtTables, AtUnions, AtUnion, AtAbsent, AtNoElement, AtOtherMember}
+use Rattle.fb_access.specs.declared.spot.Spot.TheVariants.{AtTable, AtInline, AtStruct, AtText, AtTexts, AtTables, AtUnions, AtUnion, AtNoElement, AtOtherMember}
 use Rattle.fb_access.specs.Fitting.{numbered}
 use Rattle.fb_access.specs.Spots.{kind_at, present_spot, default_spot, absent_spot, spot_at, field_spot, if_element, spot_of_element, member_spot}
 use Rattle.fb_access.specs.Denotes.{next_spot, Leads, Reaches}
@@ -50,9 +50,8 @@ default_nowhere d s = refl
 
 absent_nowhere : (optional : Bool) (d : ℤ) (kind : Kind) → position_of (absent_spot optional d kind) ≡ None
 unfolding absent_spot
-absent_nowhere true d kind = refl
 absent_nowhere false d (AScalar s) = default_nowhere d s
-absent_nowhere false d kind = refl
+absent_nowhere optional d kind = refl
 
 field_in_place : (b : List ℕ) (t : ℕ) (f : Live) → IsFieldOf b t f (field_spot b t f)
 field_in_place b t f = record {
@@ -121,67 +120,34 @@ module _ (b : List ℕ) (S : Rows) (t o p j : ℕ) where
   in_union e y None x m h = absurd cc
   in_union e y (Some kind) x m h = subst (λ z. IsOfEntry b S z (AtUnion e y p)) (one_entry (entry (lead_of S (Some kind)) p 0) x j h) (refl, ap (lead_of S) m)
 
-  text_element : (x : Entry) (c : ℕ) → (j < word b c 4) × (entry to_string (c + 4 + 4 * j) 0 ≡ x) → (q : Spot) × Reaches b S (AtTexts c) (Element j ∷ []) q × IsOfEntry b S x q
-  unfolding next_spot spot_of_element
-  text_element x c h =
-      let q = AtText (target b (c + 4 + 4 * j)) in
-      subst (λ z. (q : Spot) × Reaches b S (AtTexts c) (Element j ∷ []) q × IsOfEntry b S z q) h.1 (q, (q, ap Some (element_there b c j q h.0), refl), refl)
-
-  table_element : (x : Entry) (k c : ℕ) → (j < word b c 4) × (entry (to_table k) (c + 4 + 4 * j) 0 ≡ x) → (q : Spot) × Reaches b S (AtTables k c) (Element j ∷ []) q × IsOfEntry b S x q
-  unfolding next_spot spot_of_element
-  table_element x k c h =
-      let q = AtTable k (target b (c + 4 + 4 * j)) in
-      subst (λ z. (q : Spot) × Reaches b S (AtTables k c) (Element j ∷ []) q × IsOfEntry b S z q) h.1 (q, (q, ap Some (element_there b c j q h.0), refl), refl)
-
-  union_element : (x : Entry) (e y c : ℕ) → (j < word b c 4) × (entry (lead_of S (member_of S e (word b (y + j) 1))) (c + 4 + 4 * j) 1 ≡ x) → (q : Spot) × Reaches b S (AtUnions e y c) (Element j ∷ []) q × IsOfEntry b S x q
-  unfolding next_spot spot_of_element
-  union_element x e y c h =
-      let q = AtUnion e (word b (y + j) 1) (c + 4 + 4 * j) in
-      subst (λ z. (q : Spot) × Reaches b S (AtUnions e y c) (Element j ∷ []) q × IsOfEntry b S z q) h.1 (q, (q, ap Some (element_there b c j q h.0), refl), (refl, refl))
+  -- an element step from a vector to its j-th offset word
+  by_element : (from q : Spot) (c : ℕ) (x y : Entry) → next_spot b S from (Element j) ≡ Some (if_element b c j q) → (j < word b c 4) × (y ≡ x) → IsOfEntry b S y q → (q : Spot) × Reaches b S from (Element j ∷ []) q × IsOfEntry b S x q
+  by_element from q c x y next h is = (q, (q, next ∙ ap Some (element_there b c j q h.0), refl), subst (λ z. IsOfEntry b S z q) h.1 is)
 
   follows : (f : Live) (kind : Kind) (x : Entry) → f.slot ≡ o → slice_get (entries_of b S t f p kind) j ≡ Some x → Follows kind x
-  unfolding present_spot
-  follows f (AScalar s) x s_is h = absurd cc
-  follows f (Struct k) x s_is h = absurd cc
+  unfolding present_spot next_spot spot_of_element
   follows f Text x s_is h = subst (Follows Text) (one_entry (entry to_string p 0) x j h) (AtText (target b p), refl, refl)
   follows f (Table k) x s_is h = subst (Follows (Table k)) (one_entry (entry (to_table k) p 0) x j h) (AtTable k (target b p), refl, refl)
   follows f (Union e) x s_is h =
       let y = union_type b (type_place b t o) in
       (AtUnion e y p, refl, in_union e y (member_of S e y) x refl (rw s_is at h))
-  follows f (Scalars s) x s_is h = absurd cc
-  follows f (Structs k) x s_is h = absurd cc
-  follows f Texts x s_is h = text_element x (target b p) (row_get to_string (target b p + 4) (word b (target b p) 4) j x h)
-  follows f (Tables k) x s_is h = table_element x k (target b p) (row_get (to_table k) (target b p + 4) (word b (target b p) 4) j x h)
+  follows f Texts x s_is h = by_element (AtTexts (target b p)) (AtText (target b (target b p + 4 + 4 * j))) (target b p) x _ refl (row_get to_string (target b p + 4) (word b (target b p) 4) j x h) refl
+  follows f (Tables k) x s_is h = by_element (AtTables k (target b p)) (AtTable k (target b (target b p + 4 + 4 * j))) (target b p) x _ refl (row_get (to_table k) (target b p + 4) (word b (target b p) 4) j x h) refl
   follows f (Unions e) x s_is h =
       let y = types_begin b (type_place b t o) in
-      union_element x e y (target b p) (union_row_get b S e y (target b p + 4) (word b (target b p) 4) j x (rw s_is at h))
+      by_element (AtUnions e y (target b p)) (AtUnion e (word b (y + j) 1) (target b p + 4 + 4 * j)) (target b p) x _ refl (union_row_get b S e y (target b p + 4) (word b (target b p) 4) j x (rw s_is at h)) (refl, refl)
+  follows f kind x s_is h = absurd cc
 
   -- an element step from a vector of offset words that has no such word
+  past_end : (c : ℕ) (x q : Spot) → word b c 4 ≤ j → (m : Spot) × (Some (if_element b c j x) ≡ Some m) × (m ≡ q) → position_of q ≡ None
+  past_end c x q past r = ap position_of (sym (some_same (sym (ap Some (element_past b c j x past)) ∙ r.1) ∙ r.2))
+
   no_element : (f : Live) (kind : Kind) (q : Spot) → AreOffsets kind → slice_get (entries_of b S t f p kind) j ≡ None → Reaches b S (present_spot b t o p kind) (Element j ∷ []) q → position_of q ≡ None
   unfolding present_spot next_spot spot_of_element
-  no_element f Texts q v h r =
-      let c = target b p in
-      let past = row_end to_string (c + 4) (word b c 4) j h in
-      let e : AtNoElement ≡ r.0 = some_same (sym (ap Some (element_past b c j (AtText (target b (c + 4 + 4 * j))) past)) ∙ r.1) in
-      subst (λ z. position_of z ≡ None) (e ∙ r.2) refl
-  no_element f (Tables k) q v h r =
-      let c = target b p in
-      let past = row_end (to_table k) (c + 4) (word b c 4) j h in
-      let e : AtNoElement ≡ r.0 = some_same (sym (ap Some (element_past b c j (AtTable k (target b (c + 4 + 4 * j))) past)) ∙ r.1) in
-      subst (λ z. position_of z ≡ None) (e ∙ r.2) refl
-  no_element f (Unions u) q v h r =
-      let c = target b p in
-      let y = types_begin b (type_place b t o) in
-      let past = union_row_end b S u (types_begin b (type_place b t f.slot)) (c + 4) (word b c 4) j h in
-      let e : AtNoElement ≡ r.0 = some_same (sym (ap Some (element_past b c j (AtUnion u (word b (y + j) 1) (c + 4 + 4 * j)) past)) ∙ r.1) in
-      subst (λ z. position_of z ≡ None) (e ∙ r.2) refl
-  no_element f (AScalar s) q v h r = absurd v
-  no_element f Text q v h r = absurd v
-  no_element f (Struct k) q v h r = absurd v
-  no_element f (Table k) q v h r = absurd v
-  no_element f (Union e) q v h r = absurd v
-  no_element f (Scalars s) q v h r = absurd v
-  no_element f (Structs k) q v h r = absurd v
+  no_element f Texts q v h r = past_end (target b p) _ q (row_end to_string (target b p + 4) (word b (target b p) 4) j h) r
+  no_element f (Tables k) q v h r = past_end (target b p) _ q (row_end (to_table k) (target b p + 4) (word b (target b p) 4) j h) r
+  no_element f (Unions u) q v h r = past_end (target b p) _ q (union_row_end b S u (types_begin b (type_place b t f.slot)) (target b p + 4) (word b (target b p) 4) j h) r
+  no_element f kind q v h r = absurd v
 
 module _ (b : List ℕ) (S : Rows) (t j : ℕ) (f : Live) where
   follows_at : (place : Option ℕ) (x : Entry) → slice_get (entries_at b S t f place) j ≡ Some x → (q : Spot) × Reaches b S (spot_at b t f place) (steps_on j f.kind) q × IsOfEntry b S x q
@@ -191,17 +157,8 @@ module _ (b : List ℕ) (S : Rows) (t j : ℕ) (f : Live) where
   -- an absent vector of offset words has no element
   absent_element : (optional : Bool) (d : ℤ) (kind : Kind) (q : Spot) → AreOffsets kind → Reaches b S (absent_spot optional d kind) (Element j ∷ []) q → position_of q ≡ None
   unfolding absent_spot next_spot
-  absent_element true d kind q v r = let e : AtAbsent ≡ r.0 = some_same r.1 in subst (λ z. position_of z ≡ None) (e ∙ r.2) refl
-  absent_element false d Texts q v r = let e : AtAbsent ≡ r.0 = some_same r.1 in subst (λ z. position_of z ≡ None) (e ∙ r.2) refl
-  absent_element false d (Tables k) q v r = let e : AtAbsent ≡ r.0 = some_same r.1 in subst (λ z. position_of z ≡ None) (e ∙ r.2) refl
-  absent_element false d (Unions u) q v r = let e : AtAbsent ≡ r.0 = some_same r.1 in subst (λ z. position_of z ≡ None) (e ∙ r.2) refl
   absent_element false d (AScalar s) q v r = absurd v
-  absent_element false d Text q v r = absurd v
-  absent_element false d (Struct k) q v r = absurd v
-  absent_element false d (Table k) q v r = absurd v
-  absent_element false d (Union u) q v r = absurd v
-  absent_element false d (Scalars s) q v r = absurd v
-  absent_element false d (Structs k) q v r = absurd v
+  absent_element optional d kind q v r = ap position_of (sym (some_same r.1 ∙ r.2))
 
   no_element_at : (place : Option ℕ) (q : Spot) → AreOffsets f.kind → slice_get (entries_at b S t f place) j ≡ None → Reaches b S (spot_at b t f place) (Element j ∷ []) q → position_of q ≡ None
   no_element_at None q v h r = absent_element f.optional f.default f.kind q v r
@@ -222,16 +179,8 @@ no_other_elements b S k t n j f q e v h r =
 
 member_led : (b : List ℕ) (S : Rows) (p : ℕ) (kind : Kind) → IsLedTo b S p (lead_of S (Some kind)) (member_spot b p kind)
 unfolding member_spot
-member_led b S p (Table k) = refl
 member_led b S p (Struct k) = (k, refl, refl, refl)
-member_led b S p Text = refl
-member_led b S p (AScalar s) = refl
-member_led b S p (Union e) = refl
-member_led b S p (Scalars s) = refl
-member_led b S p Texts = refl
-member_led b S p (Structs k) = refl
-member_led b S p (Tables k) = refl
-member_led b S p (Unions e) = refl
+member_led b S p kind = refl
 
 module _ (b : List ℕ) (S : Rows) (e y p m : ℕ) (q : Spot) where
   abbrev IsFollowed : Type 0
@@ -258,26 +207,14 @@ numbered_size : (S : Rows) (k n : ℕ) (f : Live) → numbered S k n ≡ Some f 
 numbered_size S k n f e = (field_sized S k (position_or_len (λ g. g.number == n) (live_fields S k)) f (sym (find_at (λ g. g.number == n) (live_fields S k)) ∙ e)).size
 
 module _ (b : List ℕ) (S : Rows) (t o p j : ℕ) (lt : j < word b (target b p) 4) where
+  below : (x q : Spot) → (m : Spot) × (Some (if_element b (target b p) j x) ≡ Some m) × (m ≡ q) → x ≡ q
+  below x q r = some_same (sym (ap Some (element_there b (target b p) j x lt)) ∙ r.1) ∙ r.2
+
   in_row : (size : ℕ) (kind : Kind) (q : Spot) → size ≡ kind_size S kind → AreInline kind → Reaches b S (present_spot b t o p kind) (Element j ∷ []) q → position_of q ≡ Some (target b p + 4 + size * j)
   unfolding present_spot next_spot spot_of_element
-  in_row size (Scalars s) q is v r =
-      let c = target b p in
-      let x = AtInline s (c + 4 + scalar_size s * j) in
-      let e : x ≡ r.0 = some_same (sym (ap Some (element_there b c j x lt)) ∙ r.1) in
-      rw is (subst (λ z. position_of z ≡ Some (c + 4 + scalar_size s * j)) (e ∙ r.2) refl)
-  in_row size (Structs k) q is v r =
-      let c = target b p in
-      let x = AtStruct k (c + 4 + struct_size S k * j) in
-      let e : x ≡ r.0 = some_same (sym (ap Some (element_there b c j x lt)) ∙ r.1) in
-      rw is (subst (λ z. position_of z ≡ Some (c + 4 + struct_size S k * j)) (e ∙ r.2) refl)
-  in_row size (AScalar s) q is v r = absurd v
-  in_row size Text q is v r = absurd v
-  in_row size (Struct k) q is v r = absurd v
-  in_row size (Table k) q is v r = absurd v
-  in_row size (Union e) q is v r = absurd v
-  in_row size Texts q is v r = absurd v
-  in_row size (Tables k) q is v r = absurd v
-  in_row size (Unions e) q is v r = absurd v
+  in_row size (Scalars s) q is v r = rw is (ap position_of (sym (below (AtInline s (target b p + 4 + scalar_size s * j)) q r)))
+  in_row size (Structs k) q is v r = rw is (ap position_of (sym (below (AtStruct k (target b p + 4 + struct_size S k * j)) q r)))
+  in_row size kind q is v r = absurd v
 
 pub elements_stand_in_row : ElementsStandInRow
 elements_stand_in_row b S k t n j p f q e v place lt r =

@@ -2,7 +2,7 @@
 use Rattle.std.proofs.Common.{◌≡◌, ℕ, ◌||◌, if◌then◌else◌, ℤ, Bool, true, false, IsFalse, List, refl, ◌∙◌, ap, subst, Option, Some, None}
 use Rattle.std.specs.Prelude.{option_and_then}
 use Rattle.fb_schema.specs.declared.kinds.Scalar.{Scalar}
-use Rattle.fb_schema.specs.declared.kinds.Scalar.TheVariants.{UType, Bool as AsBool, Byte, UByte, Short, UShort, Int, UInt, Long, ULong, Float, Double}
+use Rattle.fb_schema.specs.declared.kinds.Scalar.TheVariants.{Float, Double}
 use Rattle.fb_schema.specs.declared.kinds.Kind.{Kind}
 use Rattle.fb_schema.specs.declared.kinds.Kind.TheVariants.{Scalar as AScalar, Table}
 use Rattle.fb_schema.specs.Rows.{Rows}
@@ -59,18 +59,9 @@ sure_kind_of f onward e = (sure_same (f.required || defaults f.optional f.kind) 
 
 default_here : (d : ℤ) (s : Scalar) → has_default s ≡ true → IsHere (default_spot d s) (AScalar s)
 unfolding default_spot
-default_here d UType h = refl
-default_here d AsBool h = refl
-default_here d Byte h = refl
-default_here d UByte h = refl
-default_here d Short h = refl
-default_here d UShort h = refl
-default_here d Int h = refl
-default_here d UInt h = refl
-default_here d Long h = refl
-default_here d ULong h = refl
 default_here d Float h = absurd cc
 default_here d Double h = absurd cc
+default_here d s h = refl
 
 absent_here : (required optional : Bool) (d : ℤ) (kind : Kind) → IsFalse required → (required || defaults optional kind) ≡ true → IsHere (absent_spot optional d kind) kind
 unfolding absent_spot

@@ -1,5 +1,7 @@
 -- The live fields and the members of legal rows are found by their names.
-use Rattle.std.proofs.Common.{◌≡◌, ℕ, zero, suc, ◌<◌, inl, inr, ◌&&◌, ◌||◌, pos, Bool, true, false, not, List, [], ◌∷◌, get_or, slice_get, find, option_map, option_and_then, unsigned_abs, IsTrue, Option, Some, None, refl, sym, ◌∙◌, ap, subst, arith}
+use Rattle.std.proofs.Common.{◌≡◌, ℕ, zero, suc, ◌<◌, inl, inr, ◌&&◌, pos, Bool, true, List, [], ◌∷◌, get_or, slice_get, find, option_map, option_and_then, unsigned_abs, IsTrue, Option, Some, None, refl, sym, ◌∙◌, ap, subst, arith}
+use Rattle.fb_access.proofs.StepLaws.{some_same}
+use Rattle.std.proofs.lemmas.Bool.{false≢true, and_parts, and_from, or_left, or_right}
 use Rattle.std.specs.Cmp.{signed_Decides}
 use Rattle.std.specs.Ordering.{int_eq}
 use Rattle.std.specs.Str.{bytes_eq}
@@ -19,31 +21,16 @@ use Rattle.fb_schema.proofs.Numbers.{le_or_lt, lt_or_eq}
 use Rattle.fb_schema.proofs.RowLemmas.{IsRowOf, asked}
 use Rattle.fb_access.specs.Resolving.{field_with_name}
 use Rattle.fb_access.proofs.Found.{found_there}
-use Rattle.fb_access.proofs.MemberKinds.{real_not_zero, both, first, union_row, found_among, clear}
-use Rattle.fb_access.proofs.ScanSteps.{false≢true}
+use Rattle.fb_access.proofs.MemberKinds.{real_not_zero, union_row, found_among, clear}
 
 -- Lists.
-some_same : {X : Type 0} {x y : X} → Some x ≡ Some y → x ≡ y
-some_same h = cc
-
-later : (a b : Bool) → b ≡ true → (a || b) ≡ true
-later true b h = refl
-later false b h = h
-
-now : (a b : Bool) → a ≡ true → (a || b) ≡ true
-now true b h = refl
-now false b h = absurd (false≢true h)
-
-second : (a b : Bool) → (a && b) ≡ true → b ≡ true
-second true b h = h
-second false b h = absurd (false≢true h)
 
 -- an item that is like this one stands before its place
 stands : {X : Type 0} (same : X → X → Bool) (xs : List X) (p q : ℕ) (x y : X) → slice_get xs p ≡ Some x → p < q → same x y ≡ true → stands_before same xs q y ≡ true
 stands same [] p q x y a lt h = absurd (let w : None ≡ Some x = a in cc)
 stands same (z ∷ zs) p zero x y a lt h = absurd (omega arith)
-stands same (z ∷ zs) zero (suc q) x y a lt h = now (same z y) (stands_before same zs q y) (ap (λ v. same v y) (some_same a) ∙ h)
-stands same (z ∷ zs) (suc p) (suc q) x y a lt h = later (same z y) (stands_before same zs q y) (stands same zs p q x y a (omega arith) h)
+stands same (z ∷ zs) zero (suc q) x y a lt h = or_left (same z y) (stands_before same zs q y) (ap (λ v. same v y) (some_same a) ∙ h)
+stands same (z ∷ zs) (suc p) (suc q) x y a lt h = or_right (same z y) (stands_before same zs q y) (stands same zs p q x y a (omega arith) h)
 
 -- one of two numbers is below the other, or they are one
 apart : (P : Type 0) (m n : ℕ) → (m < n → P) → (n < m → P) → (m ≡ n → P) → P
@@ -92,12 +79,8 @@ module _ (S : Rows) (legal : IsLegal S) (e : ℕ) (row : Enum) (at : slice_get S
   no_name_before i j m n a b real_m real_n same lt =
       let asked : first_code (member_demands S n _ _) ≡ None = sym (ap (λ x. first_code (demands_of_member S row.members j x)) b) ∙ clear S e row at union legal j in
       let none = clear_line (member_demands S n _ _) asked 1 _ refl in
-      let here : same_member_name m n ≡ true = both_not (int_eq m.value (pos 0)) (int_eq n.value (pos 0)) (bytes_eq m.name n.name) (real_not_zero m.value real_m) (real_not_zero n.value real_n) (alike m.name n.name same) in
-      false≢true (sym none ∙ stands same_member_name row.members i j m n a lt here) where
-        both_not : (a b c : Bool) → a ≡ false → b ≡ false → c ≡ true → (not a && not b && c) ≡ true
-        both_not true b c h i j = absurd (false≢true (sym h))
-        both_not false true c h i j = absurd (false≢true (sym i))
-        both_not false false c h i j = j
+      let here : same_member_name m n ≡ true = rw (real_not_zero m.value real_m, real_not_zero n.value real_n, alike m.name n.name same) refl in
+      false≢true (sym none ∙ stands same_member_name row.members i j m n a lt here)
 
   -- the member of this place is found by its name
   found_member : (i : ℕ) (m : Member) → slice_get row.members i ≡ Some m → is_member_value m.value ≡ true → find (λ n. bytes_eq n.name m.name) (members_of S e) ≡ Some m
@@ -106,11 +89,11 @@ module _ (S : Rows) (legal : IsLegal S) (e : ℕ) (row : Enum) (at : slice_get S
       let p : Member → Bool = λ n. is_member_value n.value && bytes_eq n.name m.name in
       let here : get_or ms i m ≡ m = get_or_from_slice_get ms i m m a in
       found_among S e row at union (λ n. bytes_eq n.name m.name)
-      ∙ found_item p ms i m (slice_get_within ms i m a) (ap p here ∙ both (is_member_value m.value) (bytes_eq m.name m.name) real (alike m.name m.name refl)) (λ j within h.
+      ∙ found_item p ms i m (slice_get_within ms i m a) (ap p here ∙ and_from (is_member_value m.value) (bytes_eq m.name m.name) real (alike m.name m.name refl)) (λ j within h.
       let n = get_or ms j m in
       let b = slice_get-get_or ms j m within in
-      let real_n = first (is_member_value n.value) (bytes_eq n.name m.name) h in
-      let same = (bytes_eq-Decides n.name m.name).0 (second (is_member_value n.value) (bytes_eq n.name m.name) h) in
+      let real_n = (and_parts (is_member_value n.value) (bytes_eq n.name m.name) h).0 in
+      let same = (bytes_eq-Decides n.name m.name).0 (and_parts (is_member_value n.value) (bytes_eq n.name m.name) h).1 in
       apart (j ≡ i) j i (λ lt. absurd (no_name_before j i n m b a real_n real same lt)) (λ lt. absurd (no_name_before i j m n a b real real_n (sym same) lt)) (λ e. e))
       ∙ ap Some here
 
@@ -118,8 +101,8 @@ module _ (S : Rows) (legal : IsLegal S) (e : ℕ) (row : Enum) (at : slice_get S
   value_again : (y : ℕ) (m : Member) → find (λ n. int_eq n.value (pos y)) (members_of S e) ≡ Some m → (find (λ n. bytes_eq n.name m.name) (members_of S e) ≡ Some m) × (unsigned_abs m.value ≡ y)
   value_again y m h =
       let t = found_there (λ n. is_member_value n.value && int_eq n.value (pos y)) row.members m (sym (found_among S e row at union (λ n. int_eq n.value (pos y))) ∙ h) in
-      let real = first (is_member_value m.value) (int_eq m.value (pos y)) t.2 in
-      (found_member t.0 m t.1 real, ap unsigned_abs ((signed_Decides m.value (pos y)).0 (second (is_member_value m.value) (int_eq m.value (pos y)) t.2)))
+      let real = (and_parts (is_member_value m.value) (int_eq m.value (pos y)) t.2).0 in
+      (found_member t.0 m t.1 real, ap unsigned_abs ((signed_Decides m.value (pos y)).0 (and_parts (is_member_value m.value) (int_eq m.value (pos y)) t.2).1))
 
 -- the value of a member that has a name is found by this name
 pub named_again : (S : Rows) (e y : ℕ) (name : List ℕ) → IsLegal S → IsTrue (is_union S e) → member_name S e y ≡ Some name → member_named S e name ≡ Some y

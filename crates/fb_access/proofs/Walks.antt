@@ -1,8 +1,7 @@
 -- Steps that fit lead on from the root.
-use Rattle.std.proofs.Common.{◌≡◌, ℕ, ◌+◌, ◌<◌, suc, get_or, add-one, List, [], ◌∷◌, ◌++◌, length, take, drop, refl, sym, subst, IsTrue, inl}
+use Rattle.std.proofs.Common.{◌≡◌, ℕ, ◌+◌, ◌<◌, suc, get_or, add-one, List, [], ◌∷◌, ◌++◌, length, take, drop, refl, sym, subst, IsTrue}
 use Rattle.std.proofs.Math.Seq.{drop-cons}
 use Rattle.std.proofs.lemmas.List.{take_more}
-use Rattle.fb_schema.specs.declared.kinds.Kind.{Kind}
 use Rattle.fb_schema.specs.Rows.{Rows}
 use Rattle.fb_verify.specs.Places.{target}
 use Rattle.fb_verify.specs.WellFormed.{base}
@@ -10,10 +9,8 @@ use Rattle.fb_verify.specs.Sealed.{Sealed, IsUnfolded}
 use Rattle.fb_access.specs.declared.step.Step.{Step}
 use Rattle.fb_access.specs.declared.spot.Spot.{Spot}
 use Rattle.fb_access.specs.declared.spot.Spot.TheVariants.{AtTable}
-use Rattle.fb_access.specs.Fitting.{StepsFit}
 use Rattle.fb_access.specs.Denotes.{Leads, allows, Reaches}
 use Rattle.fb_access.specs.Held.{IsSpot, IsPlaced}
-use Rattle.fb_access.specs.Here.{IsHere}
 use Rattle.fb_access.specs.Underway.{IsWalked}
 use Rattle.fb_access.proofs.StepKinds.{kind_allows, kinds_go_on}
 
@@ -23,21 +20,18 @@ unfolding IsSpot
 root_placed v k t h i e = record { unfolds = h; spot = rw (i, e) (record { object = h.root_is_table; checks = v.checks; found = h.found; unfolds = h.well_formed.unfolds }) }
 
 module _ (b : List ℕ) (S : Rows) where
-  reaches_more : (p : Spot) (ss : List Step) (q : Spot) (s : Step) (m : Spot) → Reaches b S p ss q → Leads b S q s m → Reaches b S p (ss ++ s ∷ []) m
-  reaches_more p [] q s m e l = (m, rw (sym e) at l, refl)
-  reaches_more p (x ∷ ss) q s m r l = (r.0, r.1, reaches_more r.0 ss q s m r.2 l)
+  -- steps behind other steps
+  pub reaches_on : (p m q : Spot) (ss rs : List Step) → Reaches b S p ss m → Reaches b S m rs q → Reaches b S p (ss ++ rs) q
+  reaches_on p m q [] rs h g = subst (λ x. Reaches b S x rs q) (sym h) g
+  reaches_on p m q (s ∷ ss) rs h g = (h.0, h.1, reaches_on h.0 m q ss rs h.2 g)
 
   module _ (first : Spot) where
-    -- before the first step
-    pub walked_none : (kind : Kind) (ss : List Step) → IsHere first kind → StepsFit S kind ss → IsWalked b S first [] ss first
-    walked_none kind ss h fits = record { reached = refl; kind = kind; is = inl h; fits = fits }
-
     walked_allows : (taken left : List Step) (s : Step) (q : Spot) → IsWalked b S first taken (s ∷ left) q → IsTrue (allows S q s)
     walked_allows taken left s q w = kind_allows S q s w.kind w.fits.0 w.is w.fits.1
 
     walked_more : (taken left : List Step) (s : Step) (q m : Spot) → IsWalked b S first taken (s ∷ left) q → Leads b S q s m → IsWalked b S first (taken ++ s ∷ []) left m
     walked_more taken left s q m w l = record {
-      reached = reaches_more first taken q s m w.reached l;
+      reached = reaches_on first q m taken (s ∷ []) w.reached (m, l, refl);
       kind = w.fits.0;
       is = kinds_go_on b S q s m l w.kind w.fits.0 w.is w.fits.1;
       fits = w.fits.2;

@@ -1,5 +1,6 @@
 -- The text of a way is read back as the parts of its links.
-use Rattle.std.proofs.Common.{◌≡◌, ℕ, zero, suc, ◌<◌, ◌≤◌, ◌^◌, Bool, true, false, ◌||◌, ◌==◌, if◌then◌else◌, IsTrue, List, [], ◌∷◌, ◌++◌, length, get_or, Option, Some, None, codes, decimal, refl, sym, ◌∙◌, ap, subst, arith, append_assoc, append-nil, inl, inr}
+use Rattle.std.proofs.Common.{◌≡◌, ℕ, zero, suc, ◌<◌, ◌≤◌, ◌^◌, Bool, true, ◌||◌, ◌==◌, if◌then◌else◌, IsTrue, List, [], ◌∷◌, ◌++◌, length, get_or, Option, Some, None, codes, decimal, refl, sym, ◌∙◌, ap, subst, arith, append_assoc, append-nil, inl, inr}
+use Rattle.std.proofs.lemmas.Bool.{or_left}
 use Rattle.std.specs.Int.{IsInRange}
 use Rattle.std.specs.List.{AllByRecursion, flat_map}
 use Rattle.std.proofs.lemmas.Bool.Decides.{nat_tests}
@@ -17,12 +18,7 @@ use Rattle.fb_access.specs.LocationLaws.{field_parts, element_parts, member_part
 
 -- Names of the grammar are written as they are.
 kept_if : (b x : Bool) (c : ℕ) → b ≡ true → (if b || x then c else 63) ≡ c
-kept_if true x c e = refl
-kept_if false x c e = absurd (let w : false ≡ true = e in cc)
-
-begun : (a b : Bool) → a ≡ true → (a || b) ≡ true
-begun true b e = refl
-begun false b e = absurd (let w : false ≡ true = e in cc)
+kept_if b x c e = rw e refl
 
 kept_rest : (cs : List ℕ) → AllByRecursion (λ x. IsTrue (goes_on x)) cs → name_text cs ≡ cs
 kept_rest [] h = refl
@@ -30,7 +26,7 @@ kept_rest (c ∷ cs) h = λ i. kept_if (goes_on c) (c == 46) c h.0 i ∷ kept_re
 
 kept_name : (name : List ℕ) → IsName name → name_text name ≡ name
 kept_name [] h = absurd h
-kept_name (c ∷ cs) h = λ i. kept_if (goes_on c) (c == 46) c (begun (begins_name c) (is_digit c) h.0) i ∷ kept_rest cs h.1 i
+kept_name (c ∷ cs) h = λ i. kept_if (goes_on c) (c == 46) c (or_left (begins_name c) (is_digit c) h.0) i ∷ kept_rest cs h.1 i
 
 -- Numbers are read back.
 in_range : (c : ℕ) → is_digit c ≡ true → IsInRange 48 57 c

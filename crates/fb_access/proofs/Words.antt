@@ -1,10 +1,10 @@
 -- A word of letters, `_` and digits, and the text after it.
-use Rattle.std.proofs.Common.{◌≡◌, ℕ, suc, ◌+◌, ◌-◌, ◌*◌, ◌<◌, ◌≤◌, ◌||◌, inl, inr, List, [], ◌∷◌, ◌++◌, length, take, drop, get_or, refl, ◌∙◌, ap, subst, arith, add-one, true, false, Bool}
-use Rattle.std.proofs.Math.Seq.{drop-cons, drop-length}
+use Rattle.std.proofs.Common.{◌≡◌, ℕ, suc, ◌+◌, ◌-◌, ◌*◌, ◌<◌, ◌≤◌, inl, inr, List, [], ◌∷◌, ◌++◌, length, take, drop, get_or, refl, ◌∙◌, ap, subst, arith, add-one, true, false}
+use Rattle.std.proofs.lemmas.Bool.{cond-true, cond-false, or_left, or_right}
+use Rattle.std.proofs.Math.Seq.{drop-cons, drop-length, take-append_seam, drop-append_seam}
 use Rattle.std.proofs.lemmas.Bool.Decides.{nat_tests}
-use Rattle.fb_access.specs.Grammar.{is_digit, begins_name, goes_on, IsName, IsNumber, number_from, Part, field, element, member, spelling}
+use Rattle.fb_access.specs.Grammar.{is_digit, begins_name, goes_on, IsName, IsNumber, number_from, Part, field, spelling}
 use Rattle.fb_access.specs.Cutting.{word_length}
-use Rattle.fb_access.proofs.ScanSteps.{false≢true, if_true, if_false}
 use Rattle.fb_access.proofs.ScanAccepts.{Most, GoOn, AreDigits}
 use Rattle.fb_access.proofs.ScanReads.{number_grows}
 
@@ -16,50 +16,33 @@ Stops (c ∷ cs) = goes_on c ≡ false
 pub parts_stop : (ps : List Part) → Stops (spelling ps)
 parts_stop [] = tt
 parts_stop (field n ∷ ps) = refl
-parts_stop (element ds ∷ ps) = refl
-parts_stop (member n ∷ ps) = refl
+parts_stop (p ∷ ps) = refl
 
 stops_length : (t : List ℕ) → Stops t → word_length t ≡ 0
 unfolding word_length
 stops_length [] h = refl
-stops_length (c ∷ cs) h = if_false (goes_on c) _ _ h
+stops_length (c ∷ cs) h = cond-false (goes_on c) _ _ h
 
 -- a word is as long as it is, whatever stops it
 pub length_of_word : (w t : List ℕ) → GoOn w → Stops t → word_length (w ++ t) ≡ length w
 unfolding word_length
 length_of_word [] t h s = stops_length t s
-length_of_word (c ∷ cs) t h s = if_true (goes_on c) _ _ h.0 ∙ ap suc (length_of_word cs t h.1 s)
-
-take_front : (w t : List ℕ) → take (length w) (w ++ t) ≡ w
-take_front [] t = refl
-take_front (c ∷ cs) t = ap (λ x. c ∷ x) (take_front cs t)
-
-drop_front : (w t : List ℕ) → drop (length w) (w ++ t) ≡ t
-drop_front [] t = refl
-drop_front (c ∷ cs) t = drop_front cs t
+length_of_word (c ∷ cs) t h s = cond-true (goes_on c) _ _ h.0 ∙ ap suc (length_of_word cs t h.1 s)
 
 pub word_is : (text w t : List ℕ) → GoOn w → Stops t → text ≡ w ++ t → take (word_length text) text ≡ w
-word_is text w t h s e = rw (e, length_of_word w t h s) (take_front w t)
+word_is text w t h s e = rw (e, length_of_word w t h s) (take-append_seam w t)
 
 pub after_word : (text w t : List ℕ) → GoOn w → Stops t → text ≡ w ++ t → drop (word_length text) text ≡ t
-after_word text w t h s e = rw (e, length_of_word w t h s) (drop_front w t)
+after_word text w t h s e = rw (e, length_of_word w t h s) (drop-append_seam w t)
 
 -- Names and numbers are words.
-first_or : (a b : Bool) → a ≡ true → (a || b) ≡ true
-first_or true b h = refl
-first_or false b h = absurd (false≢true h)
-
-second_or : (a b : Bool) → b ≡ true → (a || b) ≡ true
-second_or true b h = refl
-second_or false b h = h
-
 pub name_word : (n : List ℕ) → IsName n → GoOn n
 name_word [] h = absurd h
-name_word (c ∷ cs) h = (first_or (begins_name c) (is_digit c) h.0, h.1)
+name_word (c ∷ cs) h = (or_left (begins_name c) (is_digit c) h.0, h.1)
 
 digits_word : (ds : List ℕ) → AreDigits ds → GoOn ds
 digits_word [] h = tt
-digits_word (c ∷ cs) h = (second_or (begins_name c) (is_digit c) h.0, digits_word cs h.1)
+digits_word (c ∷ cs) h = (or_right (begins_name c) (is_digit c) h.0, digits_word cs h.1)
 
 pub number_digits : (ds : List ℕ) → IsNumber ds → AreDigits ds
 number_digits [] h = absurd h
@@ -78,14 +61,14 @@ number_small (c ∷ cs) (inr h) = h.2
 pub length_goes_on : (text : List ℕ) (i d : ℕ) → i < length text → goes_on (get_or text i d) ≡ true → i + word_length (drop i text) ≡ i + 1 + word_length (drop (i + 1) text)
 unfolding word_length
 length_goes_on text i d l h =
-    let e : word_length (drop i text) ≡ suc (word_length (drop (suc i) text)) = ap word_length (drop-cons text i d l) ∙ if_true (goes_on (get_or text i d)) _ _ h in
+    let e : word_length (drop i text) ≡ suc (word_length (drop (suc i) text)) = ap word_length (drop-cons text i d l) ∙ cond-true (goes_on (get_or text i d)) _ _ h in
     let s : suc i ≡ i + 1 = omega arith in
     let f = rw s at e in
     omega arith
 
 pub length_ends : (text : List ℕ) (i d : ℕ) → i < length text → goes_on (get_or text i d) ≡ false → word_length (drop i text) ≡ 0
 unfolding word_length
-length_ends text i d l h = ap word_length (drop-cons text i d l) ∙ if_false (goes_on (get_or text i d)) _ _ h
+length_ends text i d l h = ap word_length (drop-cons text i d l) ∙ cond-false (goes_on (get_or text i d)) _ _ h
 
 pub length_at_end : (text : List ℕ) (i : ℕ) → i ≡ length text → word_length (drop i text) ≡ 0
 unfolding word_length

@@ -3,7 +3,7 @@ use Rattle.std.specs.Prelude.{◌≡◌, ℕ, ℤ, ◌+◌, ◌%◌, ◌^◌, �
 use Rattle.std.specs.Int.{cast_signed, cast_unsigned, w8, w16, w32, w64}
 use Rattle.fb_bytes.specs.Word.{word}
 use Rattle.fb_schema.specs.declared.kinds.Scalar.{Scalar}
-use Rattle.fb_schema.specs.declared.kinds.Scalar.TheVariants.{UType, Bool as AsBool, Byte, UByte, Short, UShort, Int as AsInt, UInt as AsUInt, Long, ULong, Float as AsFloat, Double}
+use Rattle.fb_schema.specs.declared.kinds.Scalar.TheVariants.{Bool as AsBool, Byte, Short, Int as AsInt, Long, Float as AsFloat, Double}
 use Rattle.fb_schema.specs.declared.kinds.Kind.{Kind}
 use Rattle.fb_schema.specs.Rows.{Rows}
 use Rattle.fb_schema.specs.Kinds.{scalar_size, struct_size}
@@ -78,18 +78,14 @@ shown (answer.Union y) = union y
 
 -- the number of a scalar whose bytes are n, the lowest first; a float is shown by its bytes and has none
 unfoldable pub number : Scalar → ℕ → Shown
-number UType n = unsigned n
 number AsBool n = truth (not (n == 0))
 number Byte n = signed (cast_signed w8 n)
-number UByte n = unsigned n
 number Short n = signed (cast_signed w16 n)
-number UShort n = unsigned n
 number AsInt n = signed (cast_signed w32 n)
-number AsUInt n = unsigned n
 number Long n = signed (cast_signed w64 n)
-number ULong n = unsigned n
 number AsFloat n = nothing
 number Double n = nothing
+number _ n = unsigned n
 
 -- the n bytes at p
 abbrev pub bytes_at : List ℕ → ℕ → ℕ → List ℕ

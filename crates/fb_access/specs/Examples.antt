@@ -12,8 +12,8 @@ use Rattle.fb_access.specs.Inside.{LiesInside}
 use Rattle.fb_access.specs.Samples.{rows, bytes, prefixed_monster}
 
 -- in the sample these steps from the root table lead to this value
-abbrev pub Holds : List Step → Shown → Type 0
-Holds steps x = Denotes bytes rows Bare 0 steps x
+pub record Holds (steps : List Step) (x : Shown) : Type 0 where
+  pub denotes : Denotes bytes rows Bare 0 steps x
 
 -- the fields of the root table, of each kind
 pub record FieldValues : Type 0 where

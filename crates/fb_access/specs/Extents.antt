@@ -7,7 +7,7 @@ use Rattle.fb_schema.specs.Rows.{Rows}
 use Rattle.fb_schema.specs.Kinds.{scalar_size, struct_size}
 use Rattle.fb_access.specs.declared.extent.Extent.{Extent}
 use Rattle.fb_access.specs.declared.spot.Spot.{Spot}
-use Rattle.fb_access.specs.declared.spot.Spot.TheVariants.{AtTable, AtInline, AtStruct, AtText, AtScalars, AtStructs, AtScalarArray, AtStructArray, AtTexts, AtTables, AtUnions, AtUnion, AtDefault, AtAbsent, AtNoElement, AtOtherMember}
+use Rattle.fb_access.specs.declared.spot.Spot.TheVariants.{AtInline, AtStruct, AtText, AtScalars, AtStructs, AtScalarArray, AtStructArray}
 
 -- so many bytes from p on
 abbrev pub bytes_from : ℕ → ℕ → Extent
@@ -26,7 +26,6 @@ scalar_extent _ p = None
 -- the bytes of a float, a struct, a string without its terminator, and of the elements of a vector or array of scalars
 -- or structs; nothing else has bytes of its own
 unfoldable pub extent : List ℕ → Rows → Spot → Option Extent
-extent b S (AtTable k t) = None
 extent b S (AtInline s p) = scalar_extent s p
 extent b S (AtStruct k p) = Some (bytes_from p (struct_size S k))
 extent b S (AtText c) = Some (elements_at b c 1)
@@ -34,11 +33,4 @@ extent b S (AtScalars s c) = Some (elements_at b c (scalar_size s))
 extent b S (AtStructs k c) = Some (elements_at b c (struct_size S k))
 extent b S (AtScalarArray s n p) = Some (bytes_from p (n * scalar_size s))
 extent b S (AtStructArray k n p) = Some (bytes_from p (n * struct_size S k))
-extent b S (AtTexts c) = None
-extent b S (AtTables k c) = None
-extent b S (AtUnions e q c) = None
-extent b S (AtUnion e y p) = None
-extent b S (AtDefault s d) = None
-extent b S AtAbsent = None
-extent b S AtNoElement = None
-extent b S AtOtherMember = None
+extent b S _ = None

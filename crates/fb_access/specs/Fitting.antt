@@ -16,16 +16,12 @@ numbered S k n = find (λ f. f.number == n) (live_fields S k)
 
 -- the kind of the elements of a vector
 abbrev pub element_kind : Kind → Option Kind
-element_kind (Scalar s) = None
-element_kind Text = None
-element_kind (Struct k) = None
-element_kind (Table k) = None
-element_kind (Union e) = None
 element_kind (Scalars s) = Some (Scalar s)
 element_kind Texts = Some Text
 element_kind (Structs k) = Some (Struct k)
 element_kind (Tables k) = Some (Table k)
 element_kind (Unions e) = Some (Union e)
+element_kind _ = None
 
 -- the kind of the field with this number of a table, or at this place of a struct, where an array is of a vector's
 abbrev pub field_kind : Rows → Kind → ℕ → Option Kind

@@ -3,7 +3,7 @@
 use Rattle.std.specs.Prelude.{◌≡◌, ℕ, ◌+◌, ◌*◌, ◌<◌, ◌≤◌, List, length, IsTrue}
 use Rattle.fb_bytes.specs.Word.{word}
 use Rattle.fb_schema.specs.declared.kinds.Kind.{Kind}
-use Rattle.fb_schema.specs.declared.kinds.Kind.TheVariants.{Scalar, Text, Struct, Table, Union, Scalars, Texts, Structs, Tables, Unions}
+use Rattle.fb_schema.specs.declared.kinds.Kind.TheVariants.{Scalar, Struct, Union, Unions}
 use Rattle.fb_schema.specs.Rows.{Rows, is_table, is_union}
 use Rattle.fb_schema.specs.Kinds.{scalar_size, struct_size}
 use Rattle.fb_schema.specs.Members.{member_of}
@@ -15,7 +15,7 @@ use Rattle.fb_verify.specs.Unfolds.{Unfolds, ElementUnfolds}
 use Rattle.fb_verify.specs.OffsetRows.{TypeFits, TypesFit}
 use Rattle.fb_verify.specs.Sealed.{Sealed, IsUnfolded}
 use Rattle.fb_access.specs.declared.spot.Spot.{Spot}
-use Rattle.fb_access.specs.declared.spot.Spot.TheVariants.{AtTable, AtInline, AtStruct, AtText, AtScalars, AtStructs, AtScalarArray, AtStructArray, AtTexts, AtTables, AtUnions, AtUnion, AtDefault, AtAbsent, AtNoElement, AtOtherMember}
+use Rattle.fb_access.specs.declared.spot.Spot.TheVariants.{AtTable, AtInline, AtStruct, AtText, AtScalars, AtStructs, AtScalarArray, AtStructArray, AtTexts, AtTables, AtUnions, AtUnion}
 
 -- a table of the object k stands at t and unfolds, whatever was checked
 pub record IsTableAt (b : List ℕ) (S : Rows) (k t : ℕ) : Type 0 where
@@ -95,10 +95,7 @@ IsSpot b S (AtTexts c) = AreTextsAt b S c
 IsSpot b S (AtTables k c) = AreTablesAt b S k c
 IsSpot b S (AtUnions e q c) = AreUnionsAt b S e q c
 IsSpot b S (AtUnion e y p) = IsUnionAt b S e y p
-IsSpot b S (AtDefault s d) = Unit {0}
-IsSpot b S AtAbsent = Unit {0}
-IsSpot b S AtNoElement = Unit {0}
-IsSpot b S AtOtherMember = Unit {0}
+IsSpot b S _ = Unit {0}
 
 -- a place: a spot of a buffer that was verified
 pub record Placed : Type 0 where
@@ -119,12 +116,7 @@ pub record HasVtable (b : List ℕ) (t : ℕ) : Type 0 where
 -- what following a field of this kind needs, which has the slot o and is present at p
 abbrev pub IsReadable : List ℕ → ℕ → ℕ → ℕ → Kind → Type 0
 IsReadable b t o p (Scalar s) = Unit {0}
-IsReadable b t o p Text = p + 4 ≤ length b
 IsReadable b t o p (Struct k) = Unit {0}
-IsReadable b t o p (Table k) = p + 4 ≤ length b
 IsReadable b t o p (Union e) = TypeFits b t o
-IsReadable b t o p (Scalars s) = p + 4 ≤ length b
-IsReadable b t o p Texts = p + 4 ≤ length b
-IsReadable b t o p (Structs k) = p + 4 ≤ length b
-IsReadable b t o p (Tables k) = p + 4 ≤ length b
 IsReadable b t o p (Unions e) = (p + 4 ≤ length b) × TypesFit b t o
+IsReadable b t o p _ = p + 4 ≤ length b

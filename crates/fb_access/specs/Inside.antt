@@ -10,7 +10,7 @@ use Rattle.fb_verify.specs.Fields.{Lead, to_nothing, lead_of}
 use Rattle.fb_verify.specs.Sealed.{Sealed, IsUnfolded}
 use Rattle.fb_access.specs.declared.step.Step.{Step}
 use Rattle.fb_access.specs.declared.spot.Spot.{Spot}
-use Rattle.fb_access.specs.declared.spot.Spot.TheVariants.{AtTable, AtInline, AtStruct, AtText, AtScalars, AtStructs, AtScalarArray, AtStructArray, AtTexts, AtTables, AtUnions, AtUnion, AtDefault, AtAbsent, AtNoElement, AtOtherMember}
+use Rattle.fb_access.specs.declared.spot.Spot.TheVariants.{AtTable, AtInline, AtStruct, AtText, AtScalars, AtStructs, AtScalarArray, AtStructArray, AtTexts, AtTables, AtUnions, AtUnion}
 use Rattle.fb_access.specs.Denotes.{Reaches, root_spot}
 use Rattle.fb_access.specs.Held.{IsCounted, IsTextAt, HasVtable}
 
@@ -36,10 +36,7 @@ LiesInside b S (AtTexts c) = IsCounted b c 4
 LiesInside b S (AtTables k c) = IsCounted b c 4
 LiesInside b S (AtUnions e q c) = (q + word b c 4 ≤ length b) × IsCounted b c 4
 LiesInside b S (AtUnion e y p) = OffsetLies b p (lead_of S (member_of S e y))
-LiesInside b S (AtDefault s d) = Unit {0}
-LiesInside b S AtAbsent = Unit {0}
-LiesInside b S AtNoElement = Unit {0}
-LiesInside b S AtOtherMember = Unit {0}
+LiesInside b S _ = Unit {0}
 
 -- whatever steps lead to in a buffer that was verified lies in it
 abbrev pub ValuesLieInside : Type 0

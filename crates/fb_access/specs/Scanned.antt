@@ -29,9 +29,6 @@ seen (Some s) (c ∷ cs) = seen (next_seen s c) cs
 
 -- a path may end here
 abbrev pub is_end : Seen → Bool
-is_end Mark = false
 is_end Name = true
-is_end Bracket = false
-is_end Zero = false
-is_end (Digits v) = false
 is_end Index = true
+is_end _ = false

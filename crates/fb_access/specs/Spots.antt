@@ -32,9 +32,7 @@ kind_at (AtTables k c) = Some (Tables k)
 kind_at (AtUnions e q c) = Some (Unions e)
 kind_at (AtUnion e y p) = Some (Union e)
 kind_at (AtDefault s d) = Some (AScalar s)
-kind_at AtAbsent = None
-kind_at AtNoElement = None
-kind_at AtOtherMember = None
+kind_at _ = None
 
 -- a field of the table at t with the slot o that is present at p: an offset word there leads to all but scalars,
 -- structs and unions

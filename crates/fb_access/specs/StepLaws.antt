@@ -12,7 +12,7 @@ use Rattle.fb_verify.specs.Fields.{Lead, to_table, to_struct, to_string, to_noth
 use Rattle.fb_access.specs.declared.step.Step.{Step}
 use Rattle.fb_access.specs.declared.step.Step.TheVariants.{Field, Element, Member}
 use Rattle.fb_access.specs.declared.spot.Spot.{Spot}
-use Rattle.fb_access.specs.declared.spot.Spot.TheVariants.{AtTable, AtInline, AtStruct, AtText, AtScalars, AtStructs, AtScalarArray, AtStructArray, AtTexts, AtTables, AtUnions, AtUnion, AtDefault, AtAbsent, AtNoElement, AtOtherMember}
+use Rattle.fb_access.specs.declared.spot.Spot.TheVariants.{AtTable, AtInline, AtStruct, AtText, AtScalars, AtStructs, AtScalarArray, AtStructArray, AtTexts, AtTables, AtUnions, AtUnion, AtOtherMember}
 use Rattle.fb_access.specs.Fitting.{numbered}
 use Rattle.fb_access.specs.Spots.{kind_at}
 use Rattle.fb_access.specs.Denotes.{Leads, Reaches}
@@ -31,10 +31,7 @@ position_of (AtTexts c) = Some c
 position_of (AtTables k c) = Some c
 position_of (AtUnions e q c) = Some c
 position_of (AtUnion e y p) = Some p
-position_of (AtDefault s d) = None
-position_of AtAbsent = None
-position_of AtNoElement = None
-position_of AtOtherMember = None
+position_of _ = None
 
 -- where the value of a field of this kind is that stands at p: there, or where the offset word there leads
 abbrev pub value_place : List ℕ → ℕ → Kind → ℕ

@@ -110,6 +110,7 @@ fn put_path(text: &mut LocationText, schema: &Schema<'_>, links: &[Link])
 }
 
 /// Adds links, each behind a dot, up to where a place is cut.
+#[tactic(auto, using(crate::proofs::Filling::filled_twice, crate::proofs::Filling::filled_nothing, std::proofs::lemmas::Grind::common_steps))]
 fn put_links(text: &mut LocationText, schema: &Schema<'_>, links: &[Link])
     ensures { text.new.items ≡ filled text.old.items (flat_map (λ l. codes "." ++ link_text schema.now l) links.now) }
 {
@@ -214,6 +215,7 @@ pub fn object_name<'n>(schema: &Schema<'n>, object: u32) -> Option<&'n [u8]>
 }
 
 /// The live field with this number of the object with this number, none where that is no table.
+#[tactic(auto, using(crate::proofs::LiveFields::none_numbered))]
 fn live_field<'s, 'n>(schema: &'s Schema<'n>, object: u32, number: u16) -> Option<&'s FieldView<'n>>
     ensures { option_map (λ f. live_of_view f.now) result ≡ numbered schema.now object number }
 {

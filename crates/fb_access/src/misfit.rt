@@ -34,6 +34,7 @@ pub struct Fitted {
     pub kind: Kind,
 }
 
+#[tactic(auto, using(crate::proofs::Fits::no_field, crate::proofs::Fits::a_field))]
 fn field_step(schema: &Schema<'_>, table: u32, name: &[u8]) -> Result<Fitted, Misfit>
     requires { IsTrue (is_table schema.now table) }
     ensures { result ≡ field_step schema.now (Kind.Table table) name.now }
@@ -91,6 +92,7 @@ fn element_step(kind: Kind, number: u32) -> Result<Fitted, Misfit>
     }
 }
 
+#[tactic(auto, using(crate::proofs::Fits::has_kind))]
 fn member_step(schema: &Schema<'_>, union: u32, name: &[u8]) -> Result<Fitted, Misfit>
     requires { IsTrue (is_union schema.now union) }
     ensures { result ≡ member_step schema.now (Kind.Union union) name.now }

@@ -13,11 +13,13 @@ pub fn text_has_one_reading()
 {}
 
 /// At most one answer applies to a text: one list of steps, or one fault of P1 to P6.
+#[tactic(auto, using(crate::proofs::OneAnswer::one_answer))]
 pub fn one_answer_applies()
     ensures { (rows : Rows) (root : ℕ) (text : List ℕ) (a b : Result (List Step) PathFault) → IsAnswer rows root text a → IsAnswer rows root text b → a ≡ b }
 {}
 
 /// And one applies.
+#[tactic(auto, using(crate::proofs::SomeAnswer::some_answer))]
 pub fn some_answer_applies()
     ensures { (rows : Rows) (root : ℕ) (text : List ℕ) → (answer : Result (List Step) PathFault) × IsAnswer rows root text answer }
 {}

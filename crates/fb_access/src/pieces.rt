@@ -26,6 +26,7 @@ pub struct Cut<'t> {
 }
 
 /// How many letters, digits and `_` the text begins with.
+#[tactic(auto, using(crate::proofs::Words::length_goes_on, crate::proofs::Words::length_ends, crate::proofs::Words::length_at_end))]
 fn word_length(text: &[u8]) -> usize
     ensures value { result ≡ word_length text.now }
     ensures within { result ≤ length text.now }

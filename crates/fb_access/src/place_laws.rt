@@ -4,6 +4,7 @@
 ghost use Rattle.fb_access.specs.PlaceLaws.{LeadsWhereAllowed, HasOneValue};
 
 /// A step leads on from a spot exactly where it is allowed there, whatever the bytes are.
+#[tactic(auto, using(crate::proofs::StepKinds::leads_where_allowed))]
 pub fn leads_where_allowed()
     ensures { LeadsWhereAllowed }
 {}

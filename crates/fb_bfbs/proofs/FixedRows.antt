@@ -1,29 +1,29 @@
--- The rows of the fixed table are few and legal.
+-- The rows of the fixed table are few, and legal.
 use Rattle.std.proofs.Common.{◌≡◌, ◌<◌, ◌^◌, zero, suc, true, nat_lt, inl, inr, List, [], ◌∷◌, map, length, vec_len, All, refl, sym, ◌∙◌, ap, subst, arith}
 use Rattle.std.proofs.lemmas.List.{length-map}
-use Rattle.std.proofs.lemmas.Bool.{ltb-true}
+use Rattle.std.proofs.lemmas.Bool.{ltb-true, and_parts}
 use Rattle.std.specs.List.{list_all}
 use Rattle.fb_schema.specs.declared.rows.ObjectRow.{ObjectRow}
 use Rattle.fb_schema.specs.declared.rows.EnumRow.{EnumRow}
 use Rattle.fb_schema.specs.declared.fault.Code.TheVariants.{OutOfMemory}
 use Rattle.fb_schema.specs.declared.fault.SchemaFault.{SchemaFault}
 use Rattle.fb_schema.specs.Rows.{Rows, AreFew, field_of, object_of, enum_of, rows_of}
-use Rattle.fb_schema.specs.Kinds.{base_types, shape_of}
+use Rattle.fb_schema.specs.Kinds.{base_types, shape_of, kind_of}
 use Rattle.fb_schema.specs.Demands.{IsLegal, Refuses, names_no_object, names_table, names_no_union, inline_bytes}
-use Rattle.fb_schema.proofs.DemandLaws.{no_first_if_legal}
+use Rattle.fb_schema.proofs.DemandLaws.{no_first_if_legal, levels_end, owners_end, places_end, object_end, enum_end}
+use Rattle.fb_schema.proofs.Judged.{first_below, or_at, in_owner, in_level, in_rows, first_fault, legal}
 use Rattle.fb_bfbs.specs.Fixed.{fixed}
-use Rattle.fb_bfbs.proofs.Legal.{both, tables_legal}
 
 -- the fixed table is a schema
 pub fixed_legal : IsLegal fixed
-unfolding fixed base_types shape_of names_no_object names_table names_no_union inline_bytes
-fixed_legal = tables_legal fixed refl refl
+unfolding fixed base_types shape_of kind_of names_no_object names_table names_no_union inline_bytes levels_end owners_end places_end object_end enum_end first_below or_at in_owner in_level in_rows first_fault
+fixed_legal = legal refl
 
 -- an object in memory has as many fields as its row
 fields_few : (objects : List ObjectRow) → list_all (λ o. nat_lt (length o.fields) (2 ^ 31)) (map object_of objects) ≡ true → All (λ o. vec_len o.fields < 2 ^ 31) objects
 fields_few [] e k d lt = absurd (omega arith)
-fields_few (o ∷ objects) e zero d lt = let few : length (map field_of o.fields.items) < 2 ^ 31 = ltb-true _ _ (both _ _ e).0 in rw (o.fields.ok.0) (rw length-map at few)
-fields_few (o ∷ objects) e (suc k) d lt = fields_few objects (both _ _ e).1 k d (omega arith)
+fields_few (o ∷ objects) e zero d lt = let few : length (map field_of o.fields.items) < 2 ^ 31 = ltb-true _ _ (and_parts _ _ e).0 in rw (o.fields.ok.0) (rw length-map at few)
+fields_few (o ∷ objects) e (suc k) d lt = fields_few objects (and_parts _ _ e).1 k d (omega arith)
 
 -- the objects of the fixed table are few, and so are their fields
 pub fixed_few : (objects : List ObjectRow) (enums : List EnumRow) → map object_of objects ≡ fixed.objects → enums ≡ [] → AreFew objects enums

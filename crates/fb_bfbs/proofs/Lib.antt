@@ -1,4 +1,3 @@
-pub mod Legal
 pub mod FixedRows
 pub mod Sure
 pub mod Composed

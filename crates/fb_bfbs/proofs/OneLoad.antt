@@ -23,7 +23,7 @@ use Rattle.fb_bfbs.specs.Fixed.{fixed}
 use Rattle.fb_bfbs.specs.Says.{text_or_nothing}
 use Rattle.fb_bfbs.specs.Describes.{Describes, NamesRoot, IsRoot, HasStrayRoot}
 use Rattle.fb_bfbs.specs.Loads.{asked_within, ArePaidFor, SharesTooMuch, IsSchemaFile, IsBadSchema, IsLoaded, told, schema_number}
-use Rattle.fb_bfbs.specs.LoadLaws.{ident_bytes, IsSameLoad, IsSameAnswer, Applies}
+use Rattle.fb_bfbs.specs.LoadLaws.{DescribesOnce, ident_bytes, IsSameLoad, IsSameAnswer, Applies}
 use Rattle.fb_bfbs.specs.Sums.{IsOver, names_length}
 use Rattle.fb_bfbs.proofs.Counts.{counted}
 use Rattle.fb_bfbs.proofs.OneFile.{IsSingle, describes_once, one_text, text_is_something}
@@ -32,7 +32,7 @@ use Rattle.fb_bfbs.proofs.OneFile.{IsSingle, describes_once, one_text, text_is_s
 pub file_is_single : (b : List ℕ) → IsSingle (told b)
 file_is_single b = λ steps x y h i. shows_one b fixed (root_spot b Bare schema_number) steps x y h i
 
-pub one_description : (b : List ℕ) (rows others : Rows) → Describes (told b) rows → Describes (told b) others → rows ≡ others
+pub one_description : DescribesOnce
 one_description b rows others x y = describes_once (told b) rows others (file_is_single b) x y
 
 -- where nothing is, no field is a text
@@ -119,29 +119,19 @@ module _ (b : List ℕ) (L : Bounds) where
   one_fault f OutOfMemory h i = absurd i
   one_fault TooLong TooLong h i = refl
   one_fault TooLong (NotWellFormed g) h i = absurd (too_long_and_short h i.0)
-  one_fault TooLong (BadSchema g) h i = absurd (too_long_and_short h i.file.short)
-  one_fault TooLong RootNotListed h i = absurd (too_long_and_short h i.file.short)
   one_fault (NotWellFormed f) TooLong h i = absurd (too_long_and_short i h.0)
+  one_fault TooLong g h i = absurd (too_long_and_short h i.file.short)
+  one_fault f TooLong h i = absurd (too_long_and_short i h.file.short)
   one_fault (NotWellFormed f) (NotWellFormed g) h i = ap NotWellFormed (stops_once (asked_within L) b f g h.1 i.1)
-  one_fault (NotWellFormed f) (BadSchema g) h i = absurd (file_and_stop f i.file h.1)
-  one_fault (NotWellFormed f) RootNotListed h i = absurd (file_and_stop f i.file h.1)
-  one_fault (BadSchema f) TooLong h i = absurd (too_long_and_short i h.file.short)
-  one_fault (BadSchema f) (NotWellFormed g) h i = absurd (file_and_stop g h.file i.1)
+  one_fault (NotWellFormed f) g h i = absurd (file_and_stop f i.file h.1)
+  one_fault f (NotWellFormed g) h i = absurd (file_and_stop g h.file i.1)
   one_fault (BadSchema f) (BadSchema g) h i = ap BadSchema (one_first i.rows f g (subst (λ r. IsFirstIllegal r f) (one_description b h.rows i.rows h.described i.described) h.first) i.first)
   one_fault (BadSchema f) RootNotListed h i = absurd (legal_and_bad i.rows f i.described i.legal h)
-  one_fault RootNotListed TooLong h i = absurd (too_long_and_short i h.file.short)
-  one_fault RootNotListed (NotWellFormed g) h i = absurd (file_and_stop g h.file i.1)
   one_fault RootNotListed (BadSchema g) h i = absurd (legal_and_bad h.rows g h.described h.legal i)
   one_fault RootNotListed RootNotListed h i = refl
   one_fault TooMuchShared TooMuchShared h i = refl
-  one_fault TooMuchShared TooLong h i = absurd (too_long_and_short i h.file.short)
-  one_fault TooMuchShared (NotWellFormed g) h i = absurd (file_and_stop g h.file i.1)
-  one_fault TooMuchShared (BadSchema g) h i = absurd (paid_and_over i.rows i.described i.paid h)
-  one_fault TooMuchShared RootNotListed h i = absurd (paid_and_over i.rows i.described i.paid h)
-  one_fault TooLong TooMuchShared h i = absurd (too_long_and_short h i.file.short)
-  one_fault (NotWellFormed f) TooMuchShared h i = absurd (file_and_stop f i.file h.1)
-  one_fault (BadSchema f) TooMuchShared h i = absurd (paid_and_over h.rows h.described h.paid i)
-  one_fault RootNotListed TooMuchShared h i = absurd (paid_and_over h.rows h.described h.paid i)
+  one_fault TooMuchShared g h i = absurd (paid_and_over i.rows i.described i.paid h)
+  one_fault f TooMuchShared h i = absurd (paid_and_over h.rows h.described h.paid i)
 
   pub one_answer : (x y : Result Loaded LoadFault) → Applies b L x → Applies b L y → IsSameAnswer x y
   one_answer (Ok x) (Ok y) h i = one_load x y h i

@@ -14,6 +14,7 @@ use Rattle.fb_access.specs.declared.spot.Spot.TheVariants.{AtTable, AtTables}
 use Rattle.fb_access.specs.Spots.{present_spot, default_spot, absent_spot, spot_of_element, member_spot}
 use Rattle.fb_access.specs.Denotes.{Shown, Leads, next_spot, truth, signed, unsigned, text, vector, number, inline_value, default_value, value}
 use Rattle.fb_access.specs.Here.{Shows}
+use Rattle.fb_access.proofs.StepLaws.{some_same}
 use Rattle.fb_bfbs.specs.Fixed.{fixed}
 use Rattle.fb_bfbs.specs.Says.{Says, after, AreRows}
 use Rattle.fb_bfbs.specs.Describes.{IsTypeRow, IsFieldRow, IsObjectRow, IsMemberRow, IsEnumRow, Describes}
@@ -39,9 +40,6 @@ onward Is carries b p q s r l h = carries (From b q) (after (From b p) s) r (λ 
 abbrev AllAt : {Row : Type 0} → (ℕ → Row → Type 0) → List Row → Type 0
 AllAt P [] = Unit {0}
 AllAt P (r ∷ rows) = P 0 r × AllAt (λ j. P (suc j)) rows
-
-some_same : {A : Type 0} {x y : A} → Some x ≡ Some y → x ≡ y
-some_same h = cc
 
 each_of : {Row : Type 0} (P : ℕ → Row → Type 0) (rows : List Row) → AllAt P rows → (j : ℕ) (r : Row) → slice_get rows j ≡ Some r → P j r
 each_of P [] a j r e = absurd cc
@@ -123,15 +121,11 @@ unfolding computing
 plain_objects = one_object plain 44 60 monster_object refl refl (object_row plain 60 80 monster_object refl (two_rows IsFieldRow field_within plain 4 80 112 172 hp_field name_field refl refl refl
     (field_row plain 112 152 hp_field refl (type_row plain 152 hp_field.ty (refl, refl, refl, refl)) (refl, refl, refl) (refl, refl, refl, refl)) (field_row plain 172 200 name_field refl (type_row plain 200 name_field.ty (refl, refl, refl, refl)) (refl, refl, refl) (refl, refl, refl, refl))) (refl, refl, refl, refl))
 
-plain_enums : AreRows IsEnumRow (From plain (AtTables 3 40)) []
-unfolding computing
-plain_enums = no_rows IsEnumRow plain 3 40 refl
-
 pub plain_described : Describes (told plain) plain_rows
 unfolding computing
 plain_described = record {
   objects = onward (AreRows IsObjectRow) (rows_within IsObjectRow object_within) plain (AtTable 9 24) (AtTables 5 44) (ToField 0) plain_rows.objects refl plain_objects;
-  enums = onward (AreRows IsEnumRow) (rows_within IsEnumRow enum_within) plain (AtTable 9 24) (AtTables 3 40) (ToField 1) plain_rows.enums refl plain_enums;
+  enums = onward (AreRows IsEnumRow) (rows_within IsEnumRow enum_within) plain (AtTable 9 24) (AtTables 3 40) (ToField 1) plain_rows.enums refl (no_rows IsEnumRow plain 3 40 refl);
 }
 
 -- The detailed file.
@@ -140,10 +134,6 @@ detailed_objects : AreRows IsObjectRow (From detailed (AtTables 5 36)) (struct_o
 unfolding computing
 detailed_objects = one_object detailed 36 84 struct_object refl refl (object_row detailed 84 116 struct_object refl (two_rows IsFieldRow field_within detailed 4 116 160 260 old_field far_field refl refl refl
     (field_row detailed 160 216 old_field refl (type_row detailed 216 old_field.ty (refl, refl, refl, refl)) (refl, refl, refl) (refl, refl, refl, refl)) (field_row detailed 260 296 far_field refl (type_row detailed 296 far_field.ty (refl, refl, refl, refl)) (refl, refl, refl) (refl, refl, refl, refl))) (refl, refl, refl, refl))
-
-member_type : IsTypeRow (From detailed (AtTable 0 432)) one_member.ty
-unfolding computing
-member_type = type_row detailed 432 one_member.ty (refl, refl, refl, refl)
 
 no_member_row : IsMemberRow (From detailed (AtTable 2 360)) no_member
 unfolding computing
@@ -154,24 +144,14 @@ unfolding computing
 one_member_row = record {
   name = (_, (_, refl, refl), refl);
   value = (_, (_, refl, refl), refl);
-  ty = inl ((_, (_, refl, refl), refl), onward IsTypeRow type_within detailed (AtTable 2 392) (AtTable 0 432) (ToField 3) one_member.ty refl member_type);
+  ty = inl ((_, (_, refl, refl), refl), onward IsTypeRow type_within detailed (AtTable 2 392) (AtTable 0 432) (ToField 3) one_member.ty refl (type_row detailed 432 one_member.ty (refl, refl, refl, refl)));
 }
-
-union_members : AreRows IsMemberRow (From detailed (AtTables 2 340)) (no_member ∷ one_member ∷ [])
-unfolding computing
-union_members = two_rows IsMemberRow member_within detailed 2 340 360 392 no_member one_member refl refl refl no_member_row one_member_row
-
-union_enum : IsEnumRow (From detailed (AtTable 3 316)) a_union
-unfolding computing
-union_enum = enum_row detailed 316 340 a_union refl union_members (refl, refl)
-
-plain_enum : IsEnumRow (From detailed (AtTable 3 452)) an_enum
-unfolding computing
-plain_enum = enum_row detailed 452 472 an_enum refl (no_rows IsMemberRow detailed 2 472 refl) (refl, refl)
 
 detailed_enums : AreRows IsEnumRow (From detailed (AtTables 3 44)) (a_union ∷ an_enum ∷ [])
 unfolding computing
-detailed_enums = two_rows IsEnumRow enum_within detailed 3 44 316 452 a_union an_enum refl refl refl union_enum plain_enum
+detailed_enums = two_rows IsEnumRow enum_within detailed 3 44 316 452 a_union an_enum refl refl refl
+    (enum_row detailed 316 340 a_union refl (two_rows IsMemberRow member_within detailed 2 340 360 392 no_member one_member refl refl refl no_member_row one_member_row) (refl, refl))
+    (enum_row detailed 452 472 an_enum refl (no_rows IsMemberRow detailed 2 472 refl) (refl, refl))
 
 pub detailed_described : Describes (told detailed) detailed_rows
 unfolding computing

@@ -11,6 +11,7 @@ pub fn a_file_describes_once()
 /// At most one answer applies to bytes: what is loaded of them, or one fault of L1, L2, L3, L5 and
 /// L6. So `load`, whose
 /// answers apply wherever they aren't L4, gives each exactly where it applies.
+#[tactic(auto, using(crate::proofs::OneLoad::one_answer))]
 pub fn one_answer_applies()
     ensures { HasOneAnswer }
 {}

@@ -14,6 +14,7 @@ use fb_access::{Answer, Place, Step};
 use fb_schema::Kind;
 
 /// A Bool.
+#[tactic(auto, using(crate::proofs::Composed::seen_in))]
 pub fn bool_in(place: &Place, number: u16) -> bool
     requires { HasField place.now number (Kind.Scalar scalar.Bool) }
     ensures { seen place.now (ToField number ∷ []) (truth result) }
@@ -26,6 +27,7 @@ pub fn bool_in(place: &Place, number: u16) -> bool
 }
 
 /// A UShort.
+#[tactic(auto, using(crate::proofs::Composed::seen_in))]
 pub fn ushort_in(place: &Place, number: u16) -> u16
     requires { HasField place.now number (Kind.Scalar scalar.UShort) }
     ensures { seen place.now (ToField number ∷ []) (unsigned result) }
@@ -51,6 +53,7 @@ pub fn int_in(place: &Place, number: u16) -> i64
 }
 
 /// A text, which is lent by the bytes.
+#[tactic(auto, using(crate::proofs::Sure::field_here, crate::proofs::Composed::seen_in, fb_access::proofs::Shapes::answers_text))]
 pub fn text_in<'b>(place: &Place<'_, 'b, '_, '_>, number: u16) -> &'b [u8]
     requires { HasField place.now number Kind.Text }
     ensures { seen place.now (ToField number ∷ []) (text result.now) }
@@ -75,6 +78,7 @@ pub fn count_at(place: &Place) -> u32
 }
 
 /// A text that may be absent.
+#[tactic(auto, using(crate::proofs::Sure::maybe_allowed, crate::proofs::Composed::seen_in))]
 pub fn text_or_none<'b>(place: &Place<'_, 'b, '_, '_>, number: u16) -> Option<&'b [u8]>
     requires { MayHaveField place.now number Kind.Text }
     ensures { seen place.now (ToField number ∷ []) (text_or_nothing result) }

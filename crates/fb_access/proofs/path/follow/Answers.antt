@@ -1,6 +1,6 @@
 use Rattle.std.proofs.Common.{inl, refl, arith, sym, ◌∙◌, subst}
+use Rattle.std.proofs.lemmas.Bool.{false≢true}
 use Rattle.fb_access.specs.Resolving.{IsFault}
-use Rattle.fb_access.proofs.ScanSteps.{false≢true}
 use Rattle.fb_access.proofs.Following.{shorter, goes_on, leads_on, is_fault, resolves, resolved_fits}
 use Rattle.fb_access.proofs.path.follow.Goals as goal
 

@@ -1,5 +1,5 @@
 use Rattle.std.proofs.Common.{◌≡◌, [], refl, sym, ◌∙◌}
-use Rattle.fb_access.proofs.ScanSteps.{false≢true}
+use Rattle.std.proofs.lemmas.Bool.{false≢true}
 use Rattle.fb_access.proofs.Following.{begins, goes_on, leads_on, resolves, shorter, stands_at}
 use Rattle.fb_access.proofs.OneAnswer.{steps_or_step}
 use Rattle.fb_access.proofs.path.misfit_at.Goals as goal

@@ -1,7 +1,6 @@
 use Rattle.fb_schema.specs.declared.kinds.Scalar.TheVariants as scalar
 use Rattle.fb_bfbs.proofs.Sure.{field_allowed, field_here}
 use Rattle.fb_access.proofs.Shapes.{answers_truth}
-use Rattle.fb_bfbs.proofs.Composed.{seen_in}
 use Rattle.fb_bfbs.proofs.values.bool_in.Goals as goal
 
 pub go-field-requires : goal.go-field-requires
@@ -9,6 +8,3 @@ go-field-requires c = field_allowed _ _ _ c.requires
 
 pub unreachable-requires : goal.unreachable-requires
 unreachable-requires c = answers_truth _ _ _ _ c.answer.ensures.shown scalar.Bool tt (field_here _ _ _ _ c.requires c.go-field.ensures.here) c.in_default.not-Bool
-
-pub returns : goal.returns
-returns c = seen_in _ _ _ _ c.go-field.ensures.same c.go-field.ensures.leads c.in-Bool.ensures.shown

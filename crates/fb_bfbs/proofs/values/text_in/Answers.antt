@@ -1,13 +1,5 @@
-use Rattle.fb_bfbs.proofs.Sure.{field_allowed, field_here}
-use Rattle.fb_access.proofs.Shapes.{answers_text}
-use Rattle.fb_bfbs.proofs.Composed.{seen_in}
+use Rattle.fb_bfbs.proofs.Sure.{field_allowed}
 use Rattle.fb_bfbs.proofs.values.text_in.Goals as goal
 
 pub go-field-requires : goal.go-field-requires
 go-field-requires c = field_allowed _ _ _ c.requires
-
-pub unreachable-requires : goal.unreachable-requires
-unreachable-requires c = answers_text _ _ _ _ c.answer.ensures.shown (field_here _ _ _ _ c.requires c.go-field.ensures.here) c.in_default.not-Text
-
-pub returns : goal.returns
-returns c = seen_in _ _ _ _ c.go-field.ensures.same c.go-field.ensures.leads c.in-Text.ensures.shown

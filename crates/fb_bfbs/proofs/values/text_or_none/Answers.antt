@@ -1,15 +1,9 @@
 use Rattle.std.proofs.Common.{sym}
 use Rattle.fb_schema.specs.declared.kinds.Kind.TheVariants.{Text}
 use Rattle.fb_access.proofs.Shapes.{answers_text, shows_nothing}
-use Rattle.fb_bfbs.proofs.Sure.{maybe_allowed, maybe_here}
+use Rattle.fb_bfbs.proofs.Sure.{maybe_here}
 use Rattle.fb_bfbs.proofs.Composed.{seen_in}
 use Rattle.fb_bfbs.proofs.values.text_or_none.Goals as goal
-
-pub go-field-requires : goal.go-field-requires
-go-field-requires c = maybe_allowed _ _ _ c.requires
-
-pub returns-in-Text : goal.returns-in-Text
-returns-in-Text c = seen_in _ _ _ _ c.go-field.ensures.same c.go-field.ensures.leads c.in-Text.ensures.shown
 
 pub returns-in_default : goal.returns-in_default
 returns-in_default c =

@@ -1,7 +1,6 @@
 use Rattle.fb_schema.specs.declared.kinds.Scalar.TheVariants as scalar
 use Rattle.fb_bfbs.proofs.Sure.{field_allowed, field_here}
 use Rattle.fb_access.proofs.Shapes.{answers_unsigned}
-use Rattle.fb_bfbs.proofs.Composed.{seen_in}
 use Rattle.fb_bfbs.proofs.values.ushort_in.Goals as goal
 
 pub go-field-requires : goal.go-field-requires
@@ -12,6 +11,3 @@ unreachable-requires c = answers_unsigned _ _ _ _ c.answer.ensures.shown scalar.
 
 pub overflow_cast-result : goal.overflow_cast-result
 overflow_cast-result c = record { fits = c.in-UInt.ensures.narrow scalar.UShort (field_here _ _ _ _ c.requires c.go-field.ensures.here) }
-
-pub returns : goal.returns
-returns c = seen_in _ _ _ _ c.go-field.ensures.same c.go-field.ensures.leads c.in-UInt.ensures.shown

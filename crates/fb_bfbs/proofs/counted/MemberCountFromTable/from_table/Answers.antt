@@ -3,23 +3,19 @@ use Rattle.fb_schema.specs.declared.kinds.Kind.TheVariants.{Tables}
 use Rattle.fb_access.specs.declared.step.Step.TheVariants.{Field as ToField}
 use Rattle.fb_access.specs.Denotes.{vector}
 use Rattle.fb_bfbs.specs.declared.counted.MemberCount.{MemberCount}
-use Rattle.fb_bfbs.specs.Seen.{HasField}
 use Rattle.fb_bfbs.specs.Sums.{Lists}
 use Rattle.fb_bfbs.proofs.FixedFields.{computing, always}
 use Rattle.fb_bfbs.proofs.Composed.{row_here, seen_in}
 use Rattle.fb_bfbs.proofs.Sure.{field_allowed, at_field}
 use Rattle.fb_bfbs.proofs.counted.MemberCountFromTable.from_table.Goals as goal
-use Rattle.fb_bfbs.proofs.counted.MemberCountFromTable.from_table.Goals.{Start}
-
-listed : (c : Start) → HasField c.args.place.now 1 (Tables 2)
-unfolding computing
-listed c = always c.requires refl
 
 pub go-members-requires : goal.go-members-requires
-go-members-requires c = field_allowed _ _ _ (listed c)
+unfolding computing
+go-members-requires c = field_allowed _ _ (Tables 2) (always c.requires refl)
 
 pub count_at-requires : goal.count_at-requires
-count_at-requires c = (2, at_field _ _ _ _ (listed (goal.at.count_at-requires c).Start) c.go-members.ensures.same c.go-members.ensures.here)
+unfolding computing
+count_at-requires c = (2, at_field _ _ _ (Tables 2) (always c.requires refl) c.go-members.ensures.same c.go-members.ensures.here)
 
 pub returns-clause-row : goal.returns-clause-row
 returns-clause-row c = row_here (λ D (r : MemberCount). Lists D r.count) (λ D E r h a. h _ _ a) c.args.place.now _
