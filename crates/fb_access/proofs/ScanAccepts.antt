@@ -103,9 +103,9 @@ scanned_ends (c ∷ cs) Bracket r l h w =
     elim (cases_Bool (c == 48)) [
       | inl e ↦ let q = scanned_ends cs Zero r tt (rw (e, seen) at h) w in record { word = c ∷ []; completes = inl (eqb-true c 48 e, refl); parts = q.parts; are_parts = q.are_parts; spelled = ap (λ t. c ∷ t) (rw q.completes at q.spelled) }
       | inr e ↦
-        let (d, g) = digit_ends 0 c cs r (rw (e, seen) at h) in
-        let q = scanned_ends cs (Digits (10 * 0 + (c - 48))) r d.small g w in
-        record { word = c ∷ q.word; completes = inr (eqb-false c 48 e, (d.digit, q.completes.0), q.completes.1); parts = q.parts; are_parts = q.are_parts; spelled = ap (λ t. c ∷ t) {y = q.word ++ 93 ∷ spelling q.parts} q.spelled }
+          let (d, g) = digit_ends 0 c cs r (rw (e, seen) at h) in
+          let q = scanned_ends cs (Digits (10 * 0 + (c - 48))) r d.small g w in
+          record { word = c ∷ q.word; completes = inr (eqb-false c 48 e, (d.digit, q.completes.0), q.completes.1); parts = q.parts; are_parts = q.are_parts; spelled = ap (λ t. c ∷ t) {y = q.word ++ 93 ∷ spelling q.parts} q.spelled }
     ]
 scanned_ends (c ∷ cs) Zero r l h w =
     elim (cases_Bool (c == 93)) [
@@ -116,9 +116,9 @@ scanned_ends (c ∷ cs) (Digits v) r l h w =
     elim (cases_Bool (c == 93)) [
       | inl e ↦ let q = scanned_ends cs Index r tt (rw (e, seen) at h) w in record { word = []; completes = (tt, l); parts = q.parts; are_parts = q.are_parts; spelled = first_is c 93 cs _ e (rw q.completes at q.spelled) }
       | inr e ↦
-        let (d, g) = digit_ends v c cs r (rw (e, seen) at h) in
-        let q = scanned_ends cs (Digits (10 * v + (c - 48))) r d.small g w in
-        record { word = c ∷ q.word; completes = ((d.digit, q.completes.0), q.completes.1); parts = q.parts; are_parts = q.are_parts; spelled = ap (λ t. c ∷ t) {y = q.word ++ 93 ∷ spelling q.parts} q.spelled }
+          let (d, g) = digit_ends v c cs r (rw (e, seen) at h) in
+          let q = scanned_ends cs (Digits (10 * v + (c - 48))) r d.small g w in
+          record { word = c ∷ q.word; completes = ((d.digit, q.completes.0), q.completes.1); parts = q.parts; are_parts = q.are_parts; spelled = ap (λ t. c ∷ t) {y = q.word ++ 93 ∷ spelling q.parts} q.spelled }
     ]
 scanned_ends (c ∷ cs) Index r l h w = let q = part_ends c cs r (λ s m g. scanned_ends cs s r m g w) h in record { word = []; completes = refl; parts = q.parts; are_parts = q.are_parts; spelled = q.spelled }
 
